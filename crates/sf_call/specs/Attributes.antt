@@ -1,0 +1,62 @@
+-- What is kept of a directory or a file, and what is sent of it.
+use Rattle.std.specs.Prelude.{ℕ, ◌+◌, ◌%◌, ◌^◌, Some, unwrap_or, List, length}
+use Rattle.std.specs.Option.{option_map_or}
+use Rattle.sf_wire.specs.declared.attrs.Attrs.{Attrs}
+use Rattle.sf_wire.specs.declared.attrs.Owner.{Owner}
+use Rattle.sf_wire.specs.declared.attrs.Times.{Times}
+use Rattle.sf_call.specs.declared.metadata.FileType.{FileType}
+use Rattle.sf_call.specs.declared.metadata.FileType.TheVariants as file_type
+pub use Rattle.sf_call.specs.declared.metadata.Metadata.{Metadata}
+
+-- a directory, or a file with its bytes
+pub data Object : Type 0 where
+  Directory : (metadata : Metadata) → Object
+  File : (metadata : Metadata) → (contents : List ℕ) → Object
+
+-- of an object made at a moment: user 0, group 0, and the moment as both times
+abbrev pub made_at : ℕ → ℕ → Metadata
+made_at permissions moment = record {
+  owner = record { uid = 0; gid = 0 };
+  permissions = permissions;
+  times = record { atime = moment; mtime = moment };
+}
+
+-- modified at a moment (POSIX: the last data modification timestamp)
+abbrev pub modified_at : ℕ → Metadata → Metadata
+modified_at moment m = record {
+  owner = m.owner;
+  permissions = m.permissions;
+  times = record { atime = m.times.atime; mtime = moment };
+}
+
+-- The parts that are given replace those that were kept (draft, section 5). Of the permissions the lowest twelve bits
+-- count; a size is not kept here.
+abbrev pub with_parts : Metadata → Attrs → Metadata
+with_parts m attrs = record {
+  owner = unwrap_or attrs.owner m.owner;
+  permissions = option_map_or (λ bits. bits % 0o10000) attrs.permissions m.permissions;
+  times = unwrap_or attrs.times m.times;
+}
+
+-- of a new object, as a request's attributes ask for it
+abbrev pub new_metadata : ℕ → ℕ → Attrs → Metadata
+new_metadata permissions moment attrs = with_parts (made_at permissions moment) attrs
+
+-- the bits of `st_mode` (POSIX) that tell a directory from a file
+abbrev pub type_bits : FileType → ℕ
+type_bits file_type.Directory = 0o040000
+type_bits file_type.File = 0o100000
+
+-- what is sent (draft, section 5): all four parts
+abbrev pub sent : FileType → ℕ → Metadata → Attrs
+sent kind size m = record {
+  size = Some size;
+  owner = Some m.owner;
+  permissions = Some (type_bits kind + m.permissions % 0o10000);
+  times = Some m.times;
+}
+
+-- a directory's size is 0
+abbrev pub attrs_of : Object → Attrs
+attrs_of (Directory m) = sent file_type.Directory 0 m
+attrs_of (File m contents) = sent file_type.File (length contents) m

@@ -1,0 +1,42 @@
+-- What a call changes, as data, and the tree after it.
+use Rattle.std.specs.Prelude.{ℕ, List, [], ◌∷◌, fold, Option, Some, None}
+use Rattle.std.specs.Ordering.{nat_cmp}
+use Rattle.std.specs.Map.{remove_entry, set_value}
+use Rattle.std.specs.BTreeMap.{insert_entry, is_at}
+use Rattle.sf_path.specs.Order.{path_cmp}
+use Rattle.sf_call.specs.Attributes.{Metadata, Object, modified_at}
+use Rattle.sf_call.specs.Attributes.Object.{Directory}
+use Rattle.sf_call.specs.Tree.{Path, Tree, Handle, with_names, with_objects, with_handles, directory_at, kept}
+use Rattle.sf_call.specs.Moves.{moved}
+
+pub data Change : Type 0 where
+  SetObject : (label : ℕ) → (object : Object) → Change
+  NewPath : (path : Path) → (label : ℕ) → (object : Object) → Change
+  GonePath : (path : Path) → Change
+  Move : (old : Path) → (new : Path) → Change
+  OpenHandle : (number : ℕ) → (handle : Handle) → Change
+  SetHandle : (number : ℕ) → (handle : Handle) → Change
+  CloseHandle : (number : ℕ) → Change
+
+-- Where a name or a handle goes, the objects go that nothing names or opens any more.
+abbrev pub changed : Tree → Change → Tree
+changed tree (SetObject label object) = with_objects tree (set_value (is_at (nat_cmp label)) tree.objects object)
+changed tree (NewPath path label object) =
+    with_objects (with_names tree (insert_entry path_cmp tree.names path label)) (insert_entry nat_cmp tree.objects label object)
+changed tree (GonePath path) = kept (with_names tree (remove_entry (is_at (path_cmp path)) tree.names))
+changed tree (Move old new) = kept (with_names tree (moved tree.names old new))
+changed tree (OpenHandle number handle) = with_handles tree (insert_entry nat_cmp tree.handles number handle)
+changed tree (SetHandle number handle) = with_handles tree (set_value (is_at (nat_cmp number)) tree.handles handle)
+changed tree (CloseHandle number) = kept (with_handles tree (remove_entry (is_at (nat_cmp number)) tree.handles))
+
+-- the tree after all of them
+abbrev pub done : Tree → List Change → Tree
+done tree changes = fold changed tree changes
+
+-- A change of a directory's entries marks the directory as modified at the moment (POSIX, mkdir and others).
+abbrev pub touch : ℕ → Option (ℕ × Metadata) → List Change
+touch moment None = []
+touch moment (Some e) = SetObject e.0 (Directory (modified_at moment e.1)) ∷ []
+
+abbrev pub touched : Tree → ℕ → Path → List Change
+touched tree moment path = touch moment (directory_at tree path)

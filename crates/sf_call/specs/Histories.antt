@@ -1,0 +1,79 @@
+-- Histories: the calls that were made, in one order, with their replies, and the leavings of sessions.
+use Rattle.std.specs.Prelude.{◌≡◌, ◌≢◌, ◌<◌, ◌⊎◌, ℕ, nat_eq, Bool, false, List, [], ◌∷◌, ◌++◌, fold, Option}
+use Rattle.std.specs.List.{AllByRecursion, find}
+use Rattle.sf_wire.specs.declared.reply.Reply.{Reply}
+use Rattle.sf_wire.specs.declared.reply.Reply.TheVariants as reply
+use Rattle.sf_call.specs.declared.request.Request.{Request}
+use Rattle.sf_call.specs.declared.record.Record.{Record}
+use Rattle.sf_call.specs.declared.record.Record.TheVariants.{Did, Left}
+use Rattle.sf_call.specs.Tree.{Tree, empty_tree}
+use Rattle.sf_call.specs.Calls.{Applied, apply, leave}
+
+-- the tree after a call that had this reply: want of memory leaves it as it was
+abbrev pub after_reply : Tree → Tree → Reply → Tree
+after_reply tree next reply.NoMemory = tree
+after_reply tree next given = next
+
+-- the tree after a record
+abbrev pub after : Tree → Record → Tree
+after tree (Did number session moment request given) = after_reply tree (apply tree session number moment request).tree given
+after tree (Left session) = leave tree session
+
+-- the tree at the end of a history
+unfoldable pub replay : List Record → Tree
+replay history = fold after empty_tree history
+
+-- the record is not of the call with this number
+abbrev pub IsOther : ℕ → Record → Type 0
+IsOther number (Did n session moment request given) = n ≢ number
+IsOther number (Left session) = Unit {0}
+
+-- no record is of the call with this number
+abbrev pub IsNewNumber : ℕ → List Record → Type 0
+IsNewNumber number history = AllByRecursion (IsOther number) history
+
+-- the record is not the session's leaving
+abbrev pub IsStay : ℕ → Record → Type 0
+IsStay session (Did number s moment request given) = Unit {0}
+IsStay session (Left s) = s ≢ session
+
+-- the session has not left
+abbrev pub IsPresent : ℕ → List Record → Type 0
+IsPresent session history = AllByRecursion (IsStay session) history
+
+-- a call may come next: its number is above 0 and new, its session has not left, and its reply is the tree's or want of memory
+pub record CallMayFollow (history : List Record) (number session moment : ℕ) (request : Request) (given : Reply) : Type 0 where
+  pub above_zero : 0 < number
+  pub new_number : IsNewNumber number history
+  pub present : IsPresent session history
+  pub answered : (given ≡ (apply (replay history) session number moment request).reply) ⊎ (given ≡ reply.NoMemory)
+
+-- a record may come next; nothing of a session follows its leaving
+abbrev pub MayFollow : List Record → Record → Type 0
+MayFollow history (Did number session moment request given) = CallMayFollow history number session moment request given
+MayFollow history (Left session) = IsPresent session history
+
+-- each of the records may follow those before it
+unfoldable pub IsLegalAfter : List Record → List Record → Type 0
+IsLegalAfter before [] = Unit {0}
+IsLegalAfter before (r ∷ rs) = MayFollow before r × IsLegalAfter (before ++ r ∷ []) rs
+
+unfoldable pub IsLegal : List Record → Type 0
+IsLegal history = IsLegalAfter [] history
+
+-- the record is one of these
+unfoldable pub IsAmong : Record → List Record → Type 0
+IsAmong record' [] = ⊥
+IsAmong record' (r ∷ rs) = (r ≡ record') ⊎ IsAmong record' rs
+
+-- after some legal history a record of this call, with this reply, may come
+abbrev pub IsGiven : ℕ → ℕ → Reply → Type 0
+IsGiven number session given = (before : List Record) × (moment : ℕ) × (request : Request) × IsLegal before × CallMayFollow before number session moment request given
+
+-- whether the record is of the call with this number, and the first such record
+abbrev pub is_of : ℕ → Record → Bool
+is_of number (Did n session moment request given) = nat_eq n number
+is_of number (Left session) = false
+
+abbrev pub record_of : ℕ → List Record → Option Record
+record_of number history = find (is_of number) history

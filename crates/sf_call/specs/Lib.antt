@@ -1,0 +1,6 @@
+pub mod Attributes
+pub mod Tree
+pub mod Moves
+pub mod Changes
+pub mod Calls
+pub mod Histories

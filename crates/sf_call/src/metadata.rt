@@ -1,0 +1,88 @@
+//! What is kept of a directory or a file, beside a file's bytes.
+
+ghost use Rattle.std.specs.Prelude.{◌≡◌};
+ghost use Rattle.sf_call.specs.Attributes.{new_metadata, modified_at, with_parts, sent, type_bits};
+
+use sf_wire::{Attrs, Owner, Times};
+
+/// Of the permissions the lowest twelve bits count.
+#[derive(Clone, Copy, Debug, PartialEq, Eq)]
+pub struct Metadata {
+    pub owner: Owner,
+    pub permissions: u32,
+    pub times: Times,
+}
+
+#[derive(Clone, Copy, Debug, PartialEq, Eq)]
+pub enum FileType {
+    Directory,
+    File,
+}
+
+impl FileType {
+    /// The bits that mark the type among the permissions (POSIX, `st_mode`).
+    pub fn bits(self) -> u32
+        ensures { result ≡ type_bits self }
+    {
+        match self {
+            FileType::Directory => 0o040000,
+            FileType::File => 0o100000,
+        }
+    }
+}
+
+impl Metadata {
+    /// Of an object made at a moment, in seconds since 1970. The parts of `attrs` that are given take the place of
+    /// user 0, group 0, the permissions and the moment; a size is ignored.
+    pub fn new_object(permissions: u32, moment: u32, attrs: &Attrs) -> Metadata
+        ensures { result ≡ new_metadata permissions moment attrs.now }
+    {
+        let made = Metadata {
+            owner: Owner { uid: 0, gid: 0 },
+            permissions,
+            times: Times {
+                atime: moment,
+                mtime: moment,
+            },
+        };
+        made.with_parts(attrs)
+    }
+
+    /// With the parts of `attrs` that are given; a size is ignored.
+    pub fn with_parts(self, attrs: &Attrs) -> Metadata
+        ensures { result ≡ with_parts self attrs.now }
+    {
+        Metadata {
+            owner: attrs.owner.unwrap_or(self.owner),
+            permissions: attrs
+                .permissions
+                .map_or(self.permissions, |bits| bits % 0o10000),
+            times: attrs.times.unwrap_or(self.times),
+        }
+    }
+
+    /// Modified at a moment, in seconds since 1970.
+    pub fn modified_at(self, moment: u32) -> Metadata
+        ensures { result ≡ modified_at moment self }
+    {
+        Metadata {
+            times: Times {
+                mtime: moment,
+                ..self.times
+            },
+            ..self
+        }
+    }
+
+    /// As it is sent: all four parts (draft-ietf-secsh-filexfer-02, section 5).
+    pub fn sent(self, file_type: FileType, size: u64) -> Attrs
+        ensures { result ≡ sent file_type size self }
+    {
+        Attrs {
+            size: Some(size),
+            owner: Some(self.owner),
+            permissions: Some(file_type.bits() + self.permissions % 0o10000),
+            times: Some(self.times),
+        }
+    }
+}
