@@ -1,15 +1,15 @@
 -- A stream is cut in one way, packet by packet, whatever pieces it comes in.
-use Rattle.std.proofs.Common.{◌≡◌, ℕ, zero, suc, ◌+◌, ◌<◌, ◌≤◌, List, [], ◌∷◌, ◌++◌, length, get_or, drop, refl, sym, ap, subst, ◌∙◌, append_assoc, arith, inl, inr}
+use Rattle.std.proofs.Common.{◌≡◌, ℕ, zero, suc, ◌+◌, ◌<◌, ◌≤◌, List, [], ◌∷◌, ◌++◌, length, get_or, take, drop, refl, sym, ap, subst, ◌∙◌, append_assoc, arith, inl, inr}
 use Rattle.std.specs.Prelude.{◌↔◌, ◌⊎◌}
 use Rattle.std.proofs.lemmas.Bool.{cases_lt}
-use Rattle.std.proofs.lemmas.List.{drop_at, length-append, get_or-drop, get_or_past}
+use Rattle.std.proofs.lemmas.List.{take_at, drop_at, length-append, get_or-drop, get_or_past}
 use Rattle.sf_wire.specs.declared.cutting.Cut.{Cut}
 use Rattle.sf_wire.specs.declared.cutting.Cut.TheVariants as cut
 use Rattle.sf_wire.specs.declared.cutting.BadCut.{BadCut}
 use Rattle.sf_wire.specs.declared.cutting.BadCut.TheVariants.{ZeroLength, TooLong}
 use Rattle.sf_wire.specs.Fields.{be32}
 use Rattle.sf_wire.specs.Packets.{packet, IsBody, IsCut, End, More, Bad, Cuts}
-use Rattle.sf_wire.specs.Streams.{AreBytes, CutsAfter, Stays, GrowsTo}
+use Rattle.sf_wire.specs.Streams.{AreBytes, IfWhole, HasBody, CutsAfter, Stays, GrowsTo}
 use Rattle.sf_wire.specs.Reading.{cut_of}
 use Rattle.sf_wire.proofs.FieldLaws.{IsBytes}
 use Rattle.sf_wire.proofs.Cuts.{cut_found, cut_only}
@@ -25,6 +25,23 @@ IsBytes-of bytes all i =
 -- what follows a packet
 pub after_packet : (bytes body rest : List ℕ) → bytes ≡ packet body ++ rest → rest ≡ drop (length (packet body)) bytes
 after_packet bytes body rest e = sym (drop_at (packet body) rest (length (packet body)) refl) ∙ ap (drop (length (packet body))) (sym e)
+
+has_body : (bytes : List ℕ) (len : ℕ) → IsCut bytes (cut.Whole len) → HasBody bytes len
+has_body bytes len h =
+    let front : take len bytes ≡ packet h.0 = ap (take len) h.3 ∙ take_at (packet h.0) h.1 len (sym h.4) in
+    let body : drop 4 (take len bytes) ≡ h.0 = ap (drop 4) front in
+    let rest : drop len bytes ≡ h.1 = ap (drop len) h.3 ∙ drop_at (packet h.0) h.1 len (sym h.4) in
+    record {
+      long = omega (arith, h.4, h.2.some);
+      within = omega (arith, h.4, ap length h.3, length-append (packet h.0) h.1);
+      is_body = subst IsBody (sym body) h.2;
+      parts = h.3 ∙ ap (λ (b : List ℕ). packet b ++ h.1) (sym body) ∙ ap (λ (r : List ℕ). packet (drop 4 (take len bytes)) ++ r) (sym rest);
+    }
+
+pub whole_has_body : (bytes : List ℕ) (found : Cut) → IsCut bytes found → IfWhole found (λ len. HasBody bytes len)
+whole_has_body bytes (cut.Whole len) h = has_body bytes len h
+whole_has_body bytes cut.More h = tt
+whole_has_body bytes (cut.Bad cause) h = tt
 
 IsBytes-after : (bytes body rest : List ℕ) → IsBytes bytes → bytes ≡ packet body ++ rest → IsBytes rest
 IsBytes-after bytes body rest fits e = subst IsBytes (sym (after_packet bytes body rest e)) (λ i. rw get_or-drop (fits (length (packet body) + i)))

@@ -9,4 +9,4 @@ abbrev pub writer_of : {R W : Type 0} → StreamLine R W → W
 writer_of l = l.writer
 
 abbrev pub failures_of : {R W : Type 0} → StreamLine R W → ℕ
-failures_of l = l.failures
+failures_of l = l.failures.count

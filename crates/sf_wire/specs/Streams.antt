@@ -1,5 +1,5 @@
 -- How a stream is cut piece by piece.
-use Rattle.std.specs.Prelude.{◌≡◌, ℕ, ◌<◌, ◌≤◌, List, [], ◌∷◌, ◌++◌, length, drop}
+use Rattle.std.specs.Prelude.{◌≡◌, ℕ, ◌<◌, ◌≤◌, List, [], ◌∷◌, ◌++◌, length, take, drop}
 use Rattle.std.specs.List.{All}
 use Rattle.sf_wire.specs.declared.cutting.Cut.{Cut}
 use Rattle.sf_wire.specs.declared.cutting.Cut.TheVariants as cut
@@ -7,6 +7,18 @@ use Rattle.sf_wire.specs.Packets.{packet, IsBody, IsCut, End, More, Bad, Cuts}
 
 abbrev pub AreBytes : List ℕ → Type 0
 AreBytes bytes = All (λ b. b < 256) bytes
+
+abbrev pub IfWhole : Cut → (ℕ → Type 0) → Type 0
+IfWhole (cut.Whole len) P = P len
+IfWhole cut.More P = Unit {0}
+IfWhole (cut.Bad cause) P = Unit {0}
+
+-- The bytes begin with a packet of len bytes, whose first four are its length.
+pub record HasBody (bytes : List ℕ) (len : ℕ) : Type 0 where
+  pub long : 4 < len
+  pub within : len ≤ length bytes
+  pub is_body : IsBody (drop 4 (take len bytes))
+  pub parts : bytes ≡ packet (drop 4 (take len bytes)) ++ drop len bytes
 
 -- The cutting of bytes, known what stands at their front: a first body, and the cutting of what follows its packet; or only an end.
 abbrev pub CutsAfter : List ℕ → Cut → List (List ℕ) → End → Type 0

@@ -2,7 +2,7 @@
 
 ghost use Rattle.std.specs.Prelude.{◌≡◌, ◌<◌, []};
 
-use crate::line::{Line, LineFault};
+use crate::line::{Failures, Line, LineFault};
 use std::alloc::Global;
 
 /// How many bytes a call moves at most: the first call, and each later one.
@@ -41,7 +41,7 @@ pub struct MemoryLine<'a> {
     output: Vec<u8>,
     reads: Pieces,
     writes: Pieces,
-    failures: u64,
+    failures: Failures,
 }
 
 impl<'a> MemoryLine<'a> {
@@ -57,7 +57,7 @@ impl<'a> MemoryLine<'a> {
             output: Vec::new(alloc),
             reads,
             writes,
-            failures: 0,
+            failures: Failures::none(),
         }
     }
 
@@ -90,13 +90,12 @@ impl<'a> Line for MemoryLine<'a> {
     fn write(&mut self, bytes: &[u8]) -> Result<usize, LineFault> {
         let n = bytes.len().min(self.writes.take());
         if self.output.extend_from_slice(&bytes[..n]).is_err() {
-            self.failures = self.failures.saturating_add(1);
-            return Err(LineFault);
+            return Err(self.failures.add());
         }
         Ok(n)
     }
 
     fn failures(&self) -> u64 {
-        self.failures
+        self.failures.count()
     }
 }

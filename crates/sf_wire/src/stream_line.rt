@@ -3,7 +3,7 @@
 ghost use Rattle.std.specs.Prelude.{◌≡◌, ◌<◌, ◌≤◌, length, take, IfSome, IfNone};
 ghost use Rattle.std.specs.Io.KnownBytes.{Consumes, Appends, Keeps, IsAtEnd};
 
-use crate::line::{Line, LineFault};
+use crate::line::{Failures, Line, LineFault};
 use std::io::{ErrorKind, Read, Write};
 
 /// How often a call is made again that a signal interrupted.
@@ -50,7 +50,7 @@ fn write_some<W: Write>(writer: &mut W, bytes: &[u8]) -> Option<usize>
 pub struct StreamLine<R, W> {
     reader: R,
     writer: W,
-    failures: u64,
+    failures: Failures,
 }
 
 impl<R, W> StreamLine<R, W> {
@@ -64,7 +64,7 @@ impl<R, W> StreamLine<R, W> {
         StreamLine {
             reader,
             writer,
-            failures: 0,
+            failures: Failures::none(),
         }
     }
 }
@@ -79,24 +79,20 @@ impl<R: Read, W: Write> Line for StreamLine<R, W> {
     ghost failed = { λ l. failures_of l };
 
     fn read(&mut self, buffer: &mut [u8]) -> Result<usize, LineFault> {
-        let Some(n) = read_some(&mut self.reader, buffer) else {
-            self.failures = self.failures.saturating_add(1);
-            return Err(LineFault);
-        };
-        Ok(n)
+        match read_some(&mut self.reader, buffer) {
+            Some(n) => Ok(n),
+            None => Err(self.failures.add()),
+        }
     }
 
     fn write(&mut self, bytes: &[u8]) -> Result<usize, LineFault> {
         match write_some(&mut self.writer, bytes) {
             Some(n) if n > 0 || bytes.is_empty() => Ok(n),
-            _ => {
-                self.failures = self.failures.saturating_add(1);
-                Err(LineFault)
-            }
+            _ => Err(self.failures.add()),
         }
     }
 
     fn failures(&self) -> u64 {
-        self.failures
+        self.failures.count()
     }
 }
