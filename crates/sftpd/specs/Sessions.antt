@@ -1,0 +1,95 @@
+-- What a session's calls do.
+use Rattle.std.specs.Prelude.{◌≡◌, ℕ, ◌≤◌, ◌⊎◌, List, [], ◌++◌, length, drop, Bool, true, false, Option, Some, None}
+use Rattle.sf_wire.specs.declared.cutting.Cut.TheVariants as cut
+use Rattle.sf_wire.specs.declared.cutting.BadCut.TheVariants as bad
+use Rattle.sf_wire.specs.Packets.{packet, IsBody, IsCut}
+use Rattle.sf_wire.specs.Replies.{reply_body, version_body}
+use Rattle.sf_wire.specs.declared.reply.Reply.{Reply}
+use Rattle.sf_wire.specs.declared.reply.Reply.TheVariants as reply
+use Rattle.sf_wire.specs.declared.reply.StatusCode.TheVariants.{Failure}
+use Rattle.sf_call.specs.declared.fault.CoreFault.{CoreFault}
+use Rattle.sf_call.specs.declared.fault.CoreFault.TheVariants as fault
+use Rattle.sf_call.specs.declared.request.Request.{Request}
+use Rattle.sftpd.specs.declared.asking.Ask.{Ask}
+use Rattle.sftpd.specs.declared.asking.Ask.TheVariants as ask
+use Rattle.sftpd.specs.declared.cause.Cause.{Cause}
+use Rattle.sftpd.specs.declared.cause.Cause.TheVariants.{ZeroLength, TooLong}
+use Rattle.sftpd.specs.declared.front.Front.{Front}
+use Rattle.sftpd.specs.declared.front.Front.TheVariants as front
+use Rattle.sftpd.specs.declared.session.Next.{Next}
+use Rattle.sftpd.specs.declared.session.Next.TheVariants as next
+use Rattle.sftpd.specs.Asking.{AsksFor, FitsPacket}
+
+-- What a session shows: the bytes that were fed and not yet asked for, those to be sent, whether its first
+-- packet was answered, the id of the request that it waits for, and why it ended.
+pub record SessionView : Type 0 where
+  pub unread : List ℕ
+  pub output : List ℕ
+  pub begun : Bool
+  pub waiting : Option ℕ
+  pub ended : Option Cause
+
+abbrev pub new_session : SessionView
+new_session = record { unread = []; output = []; begun = false; waiting = None; ended = None }
+
+-- the bytes begin with the body's packet, and go on so
+pub record Begins (bytes body rest : List ℕ) : Type 0 where
+  pub is_body : IsBody body
+  pub whole : bytes ≡ packet body ++ rest
+
+-- a wrong length stands at the front
+abbrev pub BeginsWrong : List ℕ → Cause → Type 0
+BeginsWrong bytes cause =
+    (IsCut bytes (cut.Bad bad.ZeroLength) × (cause ≡ ZeroLength)) ⊎ (IsCut bytes (cut.Bad bad.TooLong) × (cause ≡ TooLong))
+
+-- what stands at the front of the unread bytes, and of how many bytes its packet is
+abbrev pub Fronts : Bool → List ℕ → Front → Type 0
+Fronts begun bytes front.More = IsCut bytes cut.More
+Fronts begun bytes (front.Wrong cause) = BeginsWrong bytes cause
+Fronts begun bytes (front.Asks a len) = (body : List ℕ) × Begins bytes body (drop len bytes) × AsksFor begun body a × FitsPacket a × (len ≤ length bytes)
+
+-- the packet that answers a body with no call
+abbrev pub LocalPacket : Ask → List ℕ → Type 0
+LocalPacket ask.Version text = text ≡ packet version_body
+LocalPacket (ask.Local id reply) text = text ≡ packet (reply_body id reply)
+LocalPacket _ text = ⊥
+
+-- a body was answered with no call
+pub record AnswersLocally (v w : SessionView) : Type 0 where
+  pub body : List ℕ
+  pub rest : List ℕ
+  pub asked : Ask
+  pub text : List ℕ
+  pub begins : Begins v.unread body rest
+  pub asks : AsksFor v.begun body asked
+  pub local_packet : LocalPacket asked text
+  pub now : w ≡ record { unread = rest; output = v.output ++ text; begun = true; waiting = None; ended = None }
+
+-- a body asked for a call
+pub record Calls (v : SessionView) (request : Request) (w : SessionView) : Type 0 where
+  pub body : List ℕ
+  pub rest : List ℕ
+  pub id : ℕ
+  pub begins : Begins v.unread body rest
+  pub asks : AsksFor v.begun body (ask.Call id request)
+  pub now : w ≡ record { unread = rest; output = v.output; begun = true; waiting = Some id; ended = None }
+
+-- a wrong length or an ending body stands at the front
+abbrev pub EndsBy : SessionView → Cause → Type 0
+EndsBy v cause = BeginsWrong v.unread cause
+    ⊎ ((body : List ℕ) × (rest : List ℕ) × Begins v.unread body rest × AsksFor v.begun body (ask.End cause))
+
+-- an ended session answers its cause again
+abbrev pub NextGives : SessionView → Next → SessionView → Type 0
+NextGives v next.More w = (v.ended ≡ None) × IsCut v.unread cut.More × (w ≡ v)
+NextGives v next.Local w = (v.ended ≡ None) × AnswersLocally v w
+NextGives v (next.Call request) w = (v.ended ≡ None) × Calls v request w
+NextGives v (next.Ended cause) w = ((v.ended ≡ Some cause) × (w ≡ v))
+    ⊎ ((v.ended ≡ None) × EndsBy v cause × (w ≡ record { unread = []; output = v.output; begun = v.begun; waiting = None; ended = Some cause }))
+
+-- the reply of a call that could not be made
+abbrev pub refusal_of : CoreFault → Reply
+refusal_of fault.OutOfMemory = reply.NoMemory
+refusal_of fault.Sessions = reply.Status Failure
+refusal_of fault.NumbersSpent = reply.Status Failure
+refusal_of fault.Stranger = reply.Status Failure

@@ -1,0 +1,134 @@
+//! What a body asks of a session.
+
+ghost use Rattle.std.specs.Prelude.{◌≡◌, ℕ, ◌≤◌, length, IfOk, IfSome};
+ghost use Rattle.sf_path.specs.Names.{text_of};
+ghost use Rattle.sf_wire.specs.Replies.{reply_body};
+ghost use Rattle.sftpd.specs.Asking.{AsksFor, FitsPacket, first_ask, later_ask, request_ask, is_init, path_at, real_path_reply};
+
+use crate::cause::Cause;
+use sf_call::Request;
+use sf_path::{Path, PathFault};
+use sf_wire::{Asked, Attrs, ByteString, Entry, Listing, Reply, StatusCode, WireRequest, read_request, reply_lengths};
+use std::alloc::{AllocError, Global};
+
+/// What a packet asks for.
+#[derive(Debug, Drop)]
+pub enum Ask {
+    /// The packet VERSION, as the answer to INIT.
+    Version,
+    /// A reply that needs no tree, under the request's id.
+    Local(u32, Reply),
+    /// A call on the tree, under the request's id.
+    Call(u32, Request),
+    /// The session's end, with no reply.
+    End(Cause),
+}
+
+/// What a body asks of a session, whose first packet was answered if it has begun.
+///
+/// A path that is refused is answered FAILURE, whatever the request.
+pub fn ask_of(alloc: Global, begun: bool, body: &[u8]) -> Result<Ask, AllocError>
+    ensures asks { IfOk result (λ ask. AsksFor begun body.now ask) }
+    ensures fits { IfOk result (λ ask. FitsPacket ask) }
+{
+    let init = is_init(body);
+    let asked = read_request(alloc, body)?;
+    if begun {
+        later_ask(alloc, init, asked)
+    } else {
+        Ok(first_ask(init, asked))
+    }
+}
+
+fn is_init(body: &[u8]) -> bool
+    ensures { result ≡ is_init body.now }
+{
+    match body {
+        [] => false,
+        [kind, ..] => *kind == 1,
+    }
+}
+
+fn first_ask(init: bool, asked: Asked) -> Ask
+    ensures ask { result ≡ first_ask init asked }
+    ensures fits { FitsPacket result }
+{
+    if !init {
+        return Ask::End(Cause::NotInit);
+    }
+    match asked {
+        Asked::Init(version) if version < 3 => Ask::End(Cause::OldVersion),
+        Asked::Init(_) => Ask::Version,
+        _ => Ask::End(Cause::NoId),
+    }
+}
+
+fn later_ask(alloc: Global, init: bool, asked: Asked) -> Result<Ask, AllocError>
+    ensures ask { IfOk result (λ ask. ask ≡ later_ask init asked) }
+    ensures fits { IfOk result (λ ask. FitsPacket ask) }
+{
+    if init {
+        return Ok(Ask::End(Cause::SecondInit));
+    }
+    match asked {
+        Asked::Init(_) => Ok(Ask::End(Cause::SecondInit)),
+        Asked::NoId => Ok(Ask::End(Cause::NoId)),
+        Asked::Unknown(id) => Ok(Ask::Local(id, Reply::Status(StatusCode::OpUnsupported))),
+        Asked::BadFields(id) => Ok(Ask::Local(id, Reply::Status(StatusCode::BadMessage))),
+        Asked::Request(id, request) => request_ask(alloc, id, request),
+    }
+}
+
+fn request_ask(alloc: Global, id: u32, request: WireRequest) -> Result<Ask, AllocError>
+    ensures ask { IfOk result (λ ask. ask ≡ request_ask id request) }
+    ensures fits { IfOk result (λ ask. FitsPacket ask) }
+{
+    let text = match &request {
+        WireRequest::Mkdir { path, .. } => path,
+        WireRequest::Stat { path } => path,
+        WireRequest::RealPath { path } => path,
+    };
+    let Some(path) = path_of(alloc, text.as_slice())? else {
+        return Ok(Ask::Local(id, Reply::Status(StatusCode::Failure)));
+    };
+    match request {
+        WireRequest::Mkdir { attrs, .. } => Ok(Ask::Call(id, Request::Mkdir(path, attrs))),
+        WireRequest::Stat { .. } => Ok(Ask::Call(id, Request::Stat(path))),
+        WireRequest::RealPath { .. } => Ok(Ask::Local(id, real_path_reply(alloc, &path)?)),
+    }
+}
+
+/// The path that a text stands for, if it has no fault.
+fn path_of(alloc: Global, text: &[u8]) -> Result<Option<Path>, AllocError>
+    ensures path { IfOk result (λ found. found ≡ path_at text.now) }
+    ensures short { IfOk result (λ found. IfSome found (λ path. length (text_of path) ≤ 4097)) }
+{
+    match Path::parse(alloc, text) {
+        Ok(path) => Ok(Some(path)),
+        Err(PathFault::OutOfMemory) => Err(AllocError),
+        Err(PathFault::TooLong | PathFault::NameTooLong | PathFault::NulByte) => Ok(None),
+    }
+}
+
+fn real_path_reply(alloc: Global, path: &Path) -> Result<Reply, AllocError>
+    requires { length (text_of path.now) ≤ 4097 }
+    ensures reply { IfOk result (λ reply. reply ≡ real_path_reply path.now) }
+    ensures fits { (id : ℕ) → length (reply_body id (real_path_reply path.now)) ≤ 262144 }
+{
+    reply_lengths();
+    let text = path.text(alloc)?;
+    let filename = ByteString::from_slice(alloc, &text)?;
+    let longname = ByteString::from_vec(text);
+    let attrs = Attrs {
+        size: None,
+        owner: None,
+        permissions: None,
+        times: None,
+    };
+    let entry = Entry {
+        filename,
+        longname,
+        attrs,
+    };
+    Ok(Reply::Names(Listing::from_vec(vec![in alloc; entry]?)))
+}

@@ -1,0 +1,43 @@
+//! Why a session ends.
+
+ghost use Rattle.std.specs.Prelude.{◌≡◌};
+ghost use Rattle.sftpd.specs.Causes.{words_of};
+
+use std::fmt;
+
+/// Why a session ended, found when the packet's turn came.
+#[derive(Clone, Copy, Debug, PartialEq, Eq)]
+pub enum Cause {
+    NotInit = 1,
+    OldVersion = 2,
+    SecondInit = 3,
+    ZeroLength = 4,
+    TooLong = 5,
+    /// The packet ends before its id, or INIT before its version.
+    NoId = 6,
+    /// The input ended, or the session was closed.
+    Closed = 7,
+}
+
+impl Cause {
+    /// What is told of a session that ended so.
+    pub fn words(self) -> &'static str
+        ensures { result.now ≡ words_of self }
+    {
+        match self {
+            Cause::NotInit => "first packet is not INIT",
+            Cause::OldVersion => "client version below 3",
+            Cause::SecondInit => "second INIT",
+            Cause::ZeroLength => "length 0",
+            Cause::TooLong => "length above 262144",
+            Cause::NoId => "no room for an id",
+            Cause::Closed => "closed",
+        }
+    }
+}
+
+impl fmt::Display for Cause {
+    fn fmt<W: fmt::Write>(&self, f: &mut fmt::Formatter<W>) -> fmt::Result {
+        f.write_str(self.words())
+    }
+}

@@ -1,0 +1,33 @@
+//! What stands at the front of the bytes that a session was fed.
+
+ghost use Rattle.std.specs.Prelude.{◌≡◌, ◌≤◌, length, IfOk};
+ghost use Rattle.sf_wire.specs.Replies.{reply_body};
+ghost use Rattle.sftpd.specs.Sessions.{Fronts};
+
+use crate::asking::{Ask, ask_of};
+use crate::cause::Cause;
+use sf_wire::{BadCut, Cut, cut};
+use std::alloc::{AllocError, Global};
+
+/// What the bytes begin with.
+#[derive(Debug, Drop)]
+pub enum Front {
+    /// Less than a packet.
+    More,
+    /// A wrong length, which ends the session.
+    Wrong(Cause),
+    /// A packet of that many bytes, its length field counted, and what it asks for.
+    Asks(Ask, usize),
+}
+
+/// What the bytes begin with, of a session whose first packet was answered if it has begun.
+pub fn front_of(alloc: Global, begun: bool, bytes: &[u8]) -> Result<Front, AllocError>
+    ensures { IfOk result (λ front. Fronts begun bytes.now front) }
+{
+    match cut(bytes) {
+        Cut::More => Ok(Front::More),
+        Cut::Bad(BadCut::ZeroLength) => Ok(Front::Wrong(Cause::ZeroLength)),
+        Cut::Bad(BadCut::TooLong) => Ok(Front::Wrong(Cause::TooLong)),
+        Cut::Whole(len) => Ok(Front::Asks(ask_of(alloc, begun, &bytes[4..len])?, len)),
+    }
+}

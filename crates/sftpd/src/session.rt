@@ -1,0 +1,251 @@
+//! One session: the bytes of its packets to requests, replies to bytes.
+
+ghost use Rattle.std.specs.Prelude.{◌≡◌, ◌≢◌, ◌≤◌, ◌++◌, ◌↔◌, [], length, drop, true, Err, Some, None, IsSome, IfSome, IfOk, OnOk, OnErr};
+ghost use Rattle.sf_wire.specs.Replies.{reply_body, version_body};
+ghost use Rattle.sf_wire.specs.Packets.{packet};
+ghost use Rattle.sftpd.specs.Sessions.{Fronts, new_session, NextGives, refusal_of};
+
+use crate::asking::Ask;
+use crate::cause::Cause;
+use crate::front::{Front, front_of};
+use bytes::BytesMut;
+use sf_call::{CoreFault, Request};
+use sf_wire::{Reply, StatusCode, write_reply, write_version};
+use std::alloc::{AllocError, Global};
+use std::marker::Model;
+use std::mem;
+use thiserror::Error;
+
+/// The room of the longest packet that refuses a call.
+const REFUSAL: usize = 34;
+
+/// Why a call of a session was refused. The session is unchanged then.
+#[derive(Clone, Copy, Debug, PartialEq, Eq, Error)]
+pub enum SessionFault {
+    /// It may be tried again.
+    #[error("out of memory")]
+    OutOfMemory = 1,
+    #[error("the session has ended")]
+    Ended = 2,
+}
+
+/// What a session came to.
+#[derive(Debug, Drop)]
+pub enum Next {
+    /// No whole packet is unread.
+    More,
+    /// A packet was answered with no call; its reply was appended.
+    Local,
+    /// A packet asks for this call. The session waits for its answer.
+    Call(Request),
+    Ended(Cause),
+}
+
+#[derive(Debug, Drop)]
+pub struct Session {
+    alloc: Global,
+    unread: BytesMut,
+    output: BytesMut,
+    begun: bool,
+    waiting: Option<u32>,
+    ended: Option<Cause>,
+}
+
+impl Model for Session {
+    ghost use Rattle.std.specs.Prelude.{◌≢◌, ◌≤◌, None};
+    ghost use Rattle.sftpd.specs.Sessions.{SessionView};
+
+    ghost Value = { SessionView };
+
+    ghost view = { λ s. record { unread = s.unread.items; output = s.output.items; begun = s.begun; waiting = s.waiting; ended = s.ended } };
+
+    ghost invariant = { λ s. s.waiting ≢ None → 34 ≤ s.output.spare };
+}
+
+impl Session {
+    /// A session that was fed nothing.
+    pub fn new(alloc: Global) -> Session
+        ensures { result ≡ new_session }
+    {
+        Session {
+            alloc,
+            unread: BytesMut::new(alloc),
+            output: BytesMut::new(alloc),
+            begun: false,
+            waiting: None,
+            ended: None,
+        }
+    }
+
+    /// Appends to the bytes that are unread.
+    pub fn feed(&mut self, bytes: &[u8]) -> Result<(), SessionFault>
+        ensures ok { OnOk result ((self.old.ended ≡ None) × (self.new ≡ record self.old { unread = self.old.unread ++ bytes.now })) }
+        ensures err { OnErr result (self.new ≡ self.old) }
+        ensures ended { (result ≡ Err SessionFault.Ended) ↔ (self.old.ended ≢ None) }
+    {
+        if self.ended.is_some() {
+            return Err(SessionFault::Ended);
+        }
+        if self.unread.extend_from_slice(bytes).is_err() {
+            return Err(SessionFault::OutOfMemory);
+        }
+        Ok(())
+    }
+
+    /// Takes the next packet that is unread and whole.
+    pub fn next(&mut self) -> Result<Next, SessionFault>
+        requires { self.old.waiting ≡ None }
+        ensures ok { IfOk result (λ next. NextGives self.old next self.new) }
+        ensures err { OnErr result (self.new ≡ self.old) }
+        ensures fault { result ≢ Err SessionFault.Ended }
+    {
+        if let Some(cause) = self.ended {
+            return Ok(Next::Ended(cause));
+        }
+        let Ok(front) = self.front() else {
+            return Err(SessionFault::OutOfMemory);
+        };
+        match front {
+            Front::More => Ok(Next::More),
+            Front::Wrong(cause) => Ok(self.end(cause)),
+            Front::Asks(ask, len) => match ask {
+                Ask::Version => self.version(len),
+                Ask::Local(id, reply) => self.local(id, reply, len),
+                Ask::Call(id, request) => self.call(id, request, len),
+                Ask::End(cause) => Ok(self.end(cause)),
+            },
+        }
+    }
+
+    fn front(&self) -> Result<Front, AllocError>
+        ensures { IfOk result (λ front. Fronts self.now.begun self.now.unread front) }
+    {
+        front_of(self.alloc, self.begun, self.unread.as_slice())
+    }
+
+    fn end(&mut self, cause: Cause) -> Next
+        requires { self.old.waiting ≡ None }
+        ensures next { result ≡ Next.Ended cause }
+        ensures session { self.new ≡ record self.old { unread = []; ended = Some cause } }
+    {
+        self.unread = BytesMut::new(self.alloc);
+        self.ended = Some(cause);
+        Next::Ended(cause)
+    }
+
+    /// Passes over the packet at the front.
+    fn pass(&mut self, len: usize)
+        requires { len ≤ length self.old.unread }
+        ensures { self.new ≡ record self.old { unread = drop len self.old.unread; begun = true } }
+    {
+        self.unread.advance(len);
+        self.begun = true;
+    }
+
+    fn version(&mut self, len: usize) -> Result<Next, SessionFault>
+        requires len { len ≤ length self.old.unread }
+        requires free { self.old.waiting ≡ None }
+        ensures ok { OnOk result (self.new ≡ record self.old { unread = drop len self.old.unread; output = self.old.output ++ packet version_body; begun = true }) }
+        ensures next { IfOk result (λ next. next ≡ Next.Local) }
+        ensures err { OnErr result (self.new ≡ self.old) }
+        ensures fault { result ≢ Err SessionFault.Ended }
+    {
+        if write_version(&mut self.output).is_err() {
+            return Err(SessionFault::OutOfMemory);
+        }
+        self.pass(len);
+        Ok(Next::Local)
+    }
+
+    fn local(&mut self, id: u32, reply: Reply, len: usize) -> Result<Next, SessionFault>
+        requires len { len ≤ length self.old.unread }
+        requires free { self.old.waiting ≡ None }
+        requires fits { length (reply_body id reply) ≤ 262144 }
+        ensures ok { OnOk result (self.new ≡ record self.old { unread = drop len self.old.unread; output = self.old.output ++ packet (reply_body id reply); begun = true }) }
+        ensures next { IfOk result (λ next. next ≡ Next.Local) }
+        ensures err { OnErr result (self.new ≡ self.old) }
+        ensures fault { result ≢ Err SessionFault.Ended }
+    {
+        if write_reply(id, &reply, &mut self.output).is_err() {
+            return Err(SessionFault::OutOfMemory);
+        }
+        self.pass(len);
+        Ok(Next::Local)
+    }
+
+    fn call(&mut self, id: u32, request: Request, len: usize) -> Result<Next, SessionFault>
+        requires len { len ≤ length self.old.unread }
+        ensures ok { OnOk result (self.new ≡ record self.old { unread = drop len self.old.unread; begun = true; waiting = Some id }) }
+        ensures next { IfOk result (λ next. next ≡ Next.Call request) }
+        ensures err { OnErr result (self.new ≡ self.old) }
+        ensures fault { result ≢ Err SessionFault.Ended }
+    {
+        if self.output.reserve(REFUSAL).is_err() {
+            return Err(SessionFault::OutOfMemory);
+        }
+        self.unread.advance(len);
+        self.begun = true;
+        self.waiting = Some(id);
+        Ok(Next::Call(request))
+    }
+
+    /// Appends the reply of the request that the session waits for.
+    pub fn answer(&mut self, reply: &Reply) -> Result<(), SessionFault>
+        requires waiting { IsSome self.old.waiting }
+        requires fits { length (reply_body 0 reply.now) ≤ 262144 }
+        ensures ok { OnOk result (IfSome self.old.waiting (λ id. self.new ≡ record self.old { output = self.old.output ++ packet (reply_body id reply.now); waiting = None })) }
+        ensures err { OnErr result (self.new ≡ self.old) }
+        ensures fault { result ≢ Err SessionFault.Ended }
+    {
+        let Some(id) = self.waiting else {
+            return Ok(());
+        };
+        if write_reply(id, reply, &mut self.output).is_err() {
+            return Err(SessionFault::OutOfMemory);
+        }
+        self.waiting = None;
+        Ok(())
+    }
+
+    /// Answers the request that the session waits for, where its call could not be made:
+    /// `Out of memory` for want of memory, else `Failure`. Room for it was reserved.
+    pub fn refuse(&mut self, fault: CoreFault)
+        requires { IsSome self.old.waiting }
+        ensures { IfSome self.old.waiting (λ id. self.new ≡ record self.old { output = self.old.output ++ packet (reply_body id (refusal_of fault)); waiting = None }) }
+    {
+        if let Some(id) = self.waiting {
+            if write_reply(id, &refusal(fault), &mut self.output).is_err() {
+                unreachable!();
+            }
+            self.waiting = None;
+        }
+    }
+
+    /// The bytes to be sent.
+    pub fn output(&self) -> &[u8]
+        ensures { result.now ≡ self.now.output }
+    {
+        self.output.as_slice()
+    }
+
+    /// Takes the bytes to be sent away.
+    pub fn take_output(&mut self) -> BytesMut
+        requires { self.old.waiting ≡ None }
+        ensures output { result.items ≡ self.old.output }
+        ensures session { self.new ≡ record self.old { output = [] } }
+    {
+        mem::replace(&mut self.output, BytesMut::new(self.alloc))
+    }
+}
+
+/// The reply of a call that could not be made.
+fn refusal(fault: CoreFault) -> Reply
+    ensures { result ≡ refusal_of fault }
+{
+    match fault {
+        CoreFault::OutOfMemory => Reply::NoMemory,
+        CoreFault::Sessions | CoreFault::NumbersSpent | CoreFault::Stranger => {
+            Reply::Status(StatusCode::Failure)
+        }
+    }
+}
