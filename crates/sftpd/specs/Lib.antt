@@ -1,3 +1,5 @@
 pub mod Causes
 pub mod Asking
 pub mod Sessions
+pub mod Transcripts
+pub mod Serving

@@ -75,9 +75,9 @@ pub record Calls (v : SessionView) (request : Request) (w : SessionView) : Type 
   pub now : w ≡ record { unread = rest; output = v.output; begun = true; waiting = Some id; ended = None }
 
 -- a wrong length or an ending body stands at the front
-abbrev pub EndsBy : SessionView → Cause → Type 0
-EndsBy v cause = BeginsWrong v.unread cause
-    ⊎ ((body : List ℕ) × (rest : List ℕ) × Begins v.unread body rest × AsksFor v.begun body (ask.End cause))
+abbrev pub EndsBy : Bool → List ℕ → Cause → Type 0
+EndsBy begun bytes cause = BeginsWrong bytes cause
+    ⊎ ((body : List ℕ) × (rest : List ℕ) × Begins bytes body rest × AsksFor begun body (ask.End cause))
 
 -- an ended session answers its cause again
 abbrev pub NextGives : SessionView → Next → SessionView → Type 0
@@ -85,7 +85,7 @@ NextGives v next.More w = (v.ended ≡ None) × IsCut v.unread cut.More × (w �
 NextGives v next.Local w = (v.ended ≡ None) × AnswersLocally v w
 NextGives v (next.Call request) w = (v.ended ≡ None) × Calls v request w
 NextGives v (next.Ended cause) w = ((v.ended ≡ Some cause) × (w ≡ v))
-    ⊎ ((v.ended ≡ None) × EndsBy v cause × (w ≡ record { unread = []; output = v.output; begun = v.begun; waiting = None; ended = Some cause }))
+    ⊎ ((v.ended ≡ None) × EndsBy v.begun v.unread cause × (w ≡ record { unread = []; output = v.output; begun = v.begun; waiting = None; ended = Some cause }))
 
 -- the reply of a call that could not be made
 abbrev pub refusal_of : CoreFault → Reply

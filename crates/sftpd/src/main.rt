@@ -3,7 +3,9 @@
 
 pub mod asking;
 pub mod cause;
+pub mod clock;
 pub mod front;
+pub mod service;
 pub mod session;
 
 fn main(_rt: HostRuntime) {}

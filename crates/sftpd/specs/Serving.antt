@@ -1,0 +1,120 @@
+-- How far a session on a line was served.
+use Rattle.std.specs.Prelude.{◌≡◌, ◌<◌, ◌≤◌, ◌+◌, ◌⊎◌, ℕ, List, [], ◌∷◌, ◌++◌, length, Bool, true, false, Option, Some, None, IfSome}
+use Rattle.std.specs.List.{flat_map, AllByRecursion}
+use Rattle.std.specs.Io.KnownBytes.{Appends, Consumes}
+use Rattle.sf_wire.specs.declared.cutting.Cut.TheVariants as cut
+use Rattle.sf_wire.specs.declared.reply.Reply.TheVariants as reply
+use Rattle.sf_wire.specs.Packets.{packet, IsBody, IsCut}
+use Rattle.sf_call.specs.declared.record.Record.{Record}
+use Rattle.sf_call.specs.declared.record.Record.TheVariants.{Did, Left}
+use Rattle.sf_call.specs.Tree.{Tree, empty_tree}
+use Rattle.sf_call.specs.Calls.{apply}
+use Rattle.sf_call.specs.Histories.{IsLegal, replay}
+use Rattle.sf_call.specs.declared.request.Request.{Request}
+use Rattle.sftpd.specs.declared.asking.Ask.TheVariants as ask
+use Rattle.sftpd.specs.declared.cause.Cause.{Cause}
+use Rattle.sftpd.specs.declared.service.Turn.{Turn}
+use Rattle.sftpd.specs.declared.service.Turn.TheVariants as turn
+use Rattle.sftpd.specs.Asking.{AsksFor}
+use Rattle.sftpd.specs.Sessions.{SessionView, new_session, Begins, EndsBy}
+use Rattle.sftpd.specs.Transcripts.{Answered, Version, Locally, ByCall, Refused, asked_by, packet_for, transcript, moments_of, history_of, has_begun, AreAnswers, MayAnswer, last_number, IsServed}
+
+-- a session, its tree, and how many calls it made
+pub record ServiceView : Type 0 where
+  pub session : SessionView
+  pub tree : Tree
+  pub calls : ℕ
+
+abbrev pub new_service : ServiceView
+new_service = record { session = new_session; tree = empty_tree; calls = 0 }
+
+-- what a line still has to give, what it has taken, and the moments that a clock told, where they tell it
+pub record Edges : Type 0 where
+  pub incoming : Option (List ℕ)
+  pub outgoing : Option (List ℕ)
+  pub told : Option (List ℕ)
+
+abbrev pub edges : Option (List ℕ) → Option (List ℕ) → Option (List ℕ) → Edges
+edges incoming outgoing told = record { incoming = incoming; outgoing = outgoing; told = told }
+
+-- what an answer does to the tree, the number of calls and the clock's moments
+abbrev pub Leaves : Tree → ℕ → Option (List ℕ) → Tree → ℕ → Option (List ℕ) → Type 0
+Leaves tree calls told tree' calls' told' = (tree' ≡ tree) × (calls' ≡ calls) × (told' ≡ told)
+
+abbrev pub HasEffect : Tree → ℕ → Option (List ℕ) → Answered → Tree → ℕ → Option (List ℕ) → Type 0
+HasEffect tree calls told Version tree' calls' told' = Leaves tree calls told tree' calls' told'
+HasEffect tree calls told (Locally id given) tree' calls' told' = Leaves tree calls told tree' calls' told'
+HasEffect tree calls told (ByCall id moment request given) tree' calls' told' =
+    (calls < last_number) × (calls' ≡ calls + 1) × Appends told told' (moment ∷ [])
+    × (((given ≡ (apply tree 1 (calls + 1) moment request).reply) × (tree' ≡ (apply tree 1 (calls + 1) moment request).tree))
+      ⊎ ((given ≡ reply.NoMemory) × (tree' ≡ tree)))
+HasEffect tree calls told (Refused id request) tree' calls' told' = (calls ≡ last_number) × Leaves tree calls told tree' calls' told'
+
+-- The call that a session waits for was answered.
+pub record MakesCall (v : ServiceView) (told : Option (List ℕ)) (id : ℕ) (request : Request) (w : ServiceView) (told' : Option (List ℕ)) : Type 0 where
+  pub answer : Answered
+  pub asked : asked_by answer ≡ ask.Call id request
+  pub session : w.session ≡ record v.session { output = v.session.output ++ packet_for answer; waiting = None }
+  pub effect : HasEffect v.tree v.calls told answer w.tree w.calls told'
+
+-- the packet at the front was answered
+pub record Answers (v : ServiceView) (told : Option (List ℕ)) (w : ServiceView) (told' : Option (List ℕ)) : Type 0 where
+  pub body : List ℕ
+  pub rest : List ℕ
+  pub answer : Answered
+  pub begins : Begins v.session.unread body rest
+  pub asks : AsksFor v.session.begun body (asked_by answer)
+  pub session : w.session ≡ record { unread = rest; output = v.session.output ++ packet_for answer; begun = true; waiting = None; ended = None }
+  pub effect : HasEffect v.tree v.calls told answer w.tree w.calls told'
+
+-- what a turn came to
+abbrev pub TurnGives : ServiceView → Option (List ℕ) → Turn → ServiceView → Option (List ℕ) → Type 0
+TurnGives v told turn.More w told' = IsCut v.session.unread cut.More × (w ≡ v) × (told' ≡ told)
+TurnGives v told turn.Answered w told' = Answers v told w told'
+TurnGives v told (turn.Ended cause) w told' = EndsBy v.session.begun v.session.unread cause
+    × (w ≡ record { session = record { unread = []; output = v.session.output; begun = v.session.begun; waiting = None; ended = Some cause }; tree = v.tree; calls = v.calls })
+    × (told' ≡ told)
+
+-- the record of a call, numbered up to n
+abbrev pub IsNumbered : ℕ → Record → Type 0
+IsNumbered n (Did number session moment request given) = number ≤ n
+IsNumbered n (Left session) = ⊥
+
+-- What was read since the start is packets, each answered, and a rest; the answers' packets were written or are output.
+pub record Progress (start now : Edges) (rest output : List ℕ) (begun : Bool) (calls : ℕ) (tree : Tree) : Type 0 where
+  pub bodies : List (List ℕ)
+  pub answers : List Answered
+  pub sent : List ℕ
+  pub are_bodies : AllByRecursion IsBody bodies
+  pub read : Consumes start.incoming now.incoming (flat_map packet bodies ++ rest)
+  pub wrote : Appends start.outgoing now.outgoing sent
+  pub told : Appends start.told now.told (moments_of answers)
+  pub asked : AreAnswers false [] bodies answers
+  pub has_begun : has_begun answers ≡ begun
+  pub packets : sent ++ output ≡ transcript answers
+  pub legal : IsLegal (history_of answers)
+  pub replayed : tree ≡ replay (history_of answers)
+  pub counted : calls ≡ length (history_of answers)
+  pub numbered : AllByRecursion (IsNumbered (length (history_of answers))) (history_of answers)
+
+-- the session goes on
+pub record Serves (start now : Edges) (v : ServiceView) : Type 0 where
+  pub open_session : (v.session.waiting ≡ None) × (v.session.ended ≡ None)
+  pub progress : Progress start now v.session.unread v.session.output v.session.begun v.calls v.tree
+
+-- the session has ended
+pub record HasEnded (start now : Edges) (v : ServiceView) (cause : Cause) : Type 0 where
+  pub rest : List ℕ
+  pub idle : v.session.waiting ≡ None
+  pub progress : Progress start now rest v.session.output v.session.begun v.calls v.tree
+  pub ends : EndsBy v.session.begun rest cause
+
+-- no whole packet is left, or the session has ended
+abbrev pub IsDrained : Edges → Edges → ServiceView → Option Cause → Type 0
+IsDrained start now v None = Serves start now v × IsCut v.session.unread cut.More
+IsDrained start now v (Some cause) = HasEnded start now v cause
+
+-- What a whole session did to a line and a clock.
+abbrev pub ServesLine : Edges → Edges → Cause → Type 0
+ServesLine start now cause = (output moments : List ℕ) × Appends start.outgoing now.outgoing output × Appends start.told now.told moments
+    × IfSome start.incoming (λ input. IsServed input output moments cause)
