@@ -71,7 +71,7 @@ module _ (number session moment : ℕ) (request : Request) (reply : Reply) where
       elim among [
         | inl same ↦ rw same (rw (eq-eqb number number refl))
         | inr later ↦
-          rw (is_of_other x (last_other number before x (new_before (before ++ x ∷ []) rs legal.1 later))) (found_after (before ++ x ∷ []) rs legal.1 later)
+            rw (is_of_other x (last_other number before x (new_before (before ++ x ∷ []) rs legal.1 later))) (found_after (before ++ x ∷ []) rs legal.1 later)
       ]
 
   -- the number of a call leads to its record

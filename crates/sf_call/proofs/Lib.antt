@@ -1,2 +1,4 @@
 pub mod Orders
+pub mod Ways
+pub mod Used
 pub mod Growth

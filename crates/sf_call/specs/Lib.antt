@@ -4,3 +4,4 @@ pub mod Moves
 pub mod Changes
 pub mod Calls
 pub mod Histories
+pub mod Examples

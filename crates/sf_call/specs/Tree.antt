@@ -53,14 +53,15 @@ object_of objects label = lookup (is_at (nat_cmp label)) objects
 abbrev pub handle_of : List (ℕ × Handle) → ℕ → Option Handle
 handle_of handles number = lookup (is_at (nat_cmp number)) handles
 
--- the label of the directory that a path names, and its metadata
-abbrev pub directory_object : ℕ → Option Object → Option (ℕ × Metadata)
-directory_object label None = None
-directory_object label (Some (Directory m)) = Some (label, m)
-directory_object label (Some (File m contents)) = None
+-- the metadata of a directory
+abbrev pub directory_metadata : Object → Option Metadata
+directory_metadata (Directory m) = Some m
+directory_metadata (File m contents) = None
 
+-- the label of the directory that a path names, and its metadata
 abbrev pub directory_at : Tree → Path → Option (ℕ × Metadata)
-directory_at tree path = option_and_then (λ label. directory_object label (object_of tree.objects label)) (label_at tree.names path)
+directory_at tree path =
+    option_and_then (λ label. option_map (λ m. (label, m)) (option_and_then directory_metadata (object_of tree.objects label))) (label_at tree.names path)
 
 abbrev pub is_directory : Tree → Path → Bool
 is_directory tree path = is_some (directory_at tree path)

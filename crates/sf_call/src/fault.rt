@@ -32,6 +32,6 @@ impl<T: Drop> From<AllocFailed<T>> for CoreFault {
     ghost from_gives = { λ _ e. e ≡ OutOfMemory };
 
     fn from(_e: AllocFailed<T>) -> CoreFault {
-        CoreFault::OutOfMemory
+        CoreFault::from(AllocError)
     }
 }

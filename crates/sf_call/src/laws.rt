@@ -1,16 +1,35 @@
 //! Laws of the tree and of histories, which no call needs.
 
-ghost use Rattle.std.specs.Prelude.{◌≡◌, ℕ, List, [], ◌∷◌, ◌++◌, Some};
+ghost use Rattle.std.specs.Prelude.{◌≡◌, ◌<◌, ◌↔◌, ℕ, true, false, List, [], ◌∷◌, ◌++◌, length, take, Some};
+ghost use Rattle.sf_wire.specs.declared.attrs.Attrs.{Attrs};
 ghost use Rattle.sf_wire.specs.declared.reply.Reply.{Reply};
 ghost use Rattle.sf_call.specs.declared.request.Request.{Request};
+ghost use Rattle.sf_call.specs.declared.request.Request.TheVariants.{Mkdir, Stat};
 ghost use Rattle.sf_call.specs.declared.record.Record.{Record};
 ghost use Rattle.sf_call.specs.declared.record.Record.TheVariants.{Did};
-ghost use Rattle.sf_call.specs.Tree.{Tree, IsOrderedTree, MapsAlike};
+ghost use Rattle.sf_call.specs.Tree.{Tree, Path, IsOrderedTree, MapsAlike, is_directory, is_faulty_way, kept};
+ghost use Rattle.sf_call.specs.Calls.{apply, IsStatus, IsStatusOrAttrs};
 ghost use Rattle.sf_call.specs.Histories.{after, replay, IsLegal, MayFollow, IsAmong, IsGiven, record_of};
 
 /// Trees are compared by what they map.
 pub fn ordered_trees()
     ensures { (s t : Tree) → IsOrderedTree s → IsOrderedTree t → MapsAlike s t → s ≡ t }
+{}
+
+/// A way is open where each proper front of the path is a directory.
+pub fn open_ways()
+    ensures { (tree : Tree) (path : Path) → (is_faulty_way tree path ≡ false) ↔ ((n : ℕ) → n < length path → is_directory tree (take n path) ≡ true) }
+{}
+
+/// What MKDIR and STAT may answer.
+pub fn kinds_of_replies()
+    ensures mkdir { (tree : Tree) (session number moment : ℕ) (path : Path) (attrs : Attrs) → IsStatus (apply tree session number moment (Mkdir path attrs)).reply }
+    ensures stat { (tree : Tree) (session number moment : ℕ) (path : Path) → IsStatusOrAttrs (apply tree session number moment (Stat path)).reply }
+{}
+
+/// After a legal history each object is named or open.
+pub fn nothing_unused()
+    ensures { (history : List Record) → IsLegal history → kept (replay history) ≡ replay history }
 {}
 
 /// A history goes on by one record.

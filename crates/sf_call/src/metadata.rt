@@ -65,13 +65,11 @@ impl Metadata {
     pub fn modified_at(self, moment: u32) -> Metadata
         ensures { result ≡ modified_at moment self }
     {
-        Metadata {
-            times: Times {
-                mtime: moment,
-                ..self.times
-            },
-            ..self
-        }
+        let times = Times {
+            mtime: moment,
+            ..self.times
+        };
+        Metadata { times, ..self }
     }
 
     /// As it is sent: all four parts (draft-ietf-secsh-filexfer-02, section 5).

@@ -1,0 +1,34 @@
+-- What is put at a key that was free and removed again leaves the map as it was.
+use Rattle.std.proofs.Common.{◌≡◌, ℕ, Bool, true, false, cond, refl, sym, ap, ◌∙◌, Some, None, Option, List, [], ◌∷◌}
+use Rattle.std.specs.BTreeMap.{BTreeMap, get, is_at, IsOrdered}
+use Rattle.std.specs.declared.cmp.Ordering.{Ordering}
+use Rattle.std.specs.declared.cmp.Ordering.TheVariants.{Less, Equal, Greater}
+use Rattle.std.specs.Cmp.{IsTotalOrder}
+use Rattle.std.specs.Ordering.{is_eq}
+use Rattle.std.specs.Map.{lookup, set_value}
+use Rattle.std.proofs.lemmas.Map.Lookups.{CmpEqualImpliesEq, btree_map_from_get}
+use Rattle.sf_call.specs.Tree.{Tree}
+
+module _ {K X : Type 0} {R : K → K → Ordering} where
+  nothing_there : (f : K → Option X) (k q : K) (v : X) → CmpEqualImpliesEq R → f k ≡ None → (r : Ordering) → R k q ≡ r → cond (is_eq r) None (cond (is_eq r) (Some v) (f q)) ≡ f q
+  nothing_there f k q v exact free Less e = refl
+  nothing_there f k q v exact free Equal e = sym free ∙ ap f (exact k q e)
+  nothing_there f k q v exact free Greater e = refl
+
+  pub undone : IsTotalOrder R → CmpEqualImpliesEq R → (m n r : BTreeMap K X) (k : K) (v : X) → IsOrdered R m → IsOrdered R r → get R m k ≡ None
+      → ((q : K) → get R n q ≡ cond (is_at (R k) q) (Some v) (get R m q)) → ((q : K) → get R r q ≡ cond (is_at (R k) q) None (get R n q)) → r.entries ≡ m.entries
+  undone o exact m n r k v sm sr free put gone =
+      btree_map_from_get o r m sr sm (λ q. gone q ∙ ap (cond (is_at (R k) q) None) (put q) ∙ nothing_there (get R m) k q v exact free (R k q) refl) exact
+
+-- trees with the same maps are one
+pub same_tree : (s t : Tree) → s.names ≡ t.names → s.objects ≡ t.objects → s.handles ≡ t.handles → s ≡ t
+same_tree s t n o h = λ i. record { names = n i; objects = o i; handles = h i }
+
+-- where nothing stands, nothing is set
+pub set_nowhere : {K X : Type 0} (test : K → Bool) (es : List (K × X)) (v : X) → lookup test es ≡ None → set_value test es v ≡ es
+set_nowhere test [] v none = refl
+set_nowhere test (e ∷ es) v none =
+    elim (test e.0) as (λ b. cond b (Some e.1) (lookup test es) ≡ None → cond b ((e.0, v) ∷ es) (e ∷ set_value test es v) ≡ e ∷ es) [
+      | true ↦ λ some. cc
+      | false ↦ λ gone. ap (λ fs. e ∷ fs) (set_nowhere test es v gone)
+    ] none
