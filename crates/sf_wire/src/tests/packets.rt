@@ -15,10 +15,11 @@ fn asks(rt: &impl Abort, alloc: Global, packet: &[u8], fields: usize, want: &Ask
     let Some(body) = packet.get(4..) else {
         panic!(rt; "no body");
     };
+    let no_id = Asked::NoId;
     for len in 0..=body.len() {
         let asked = read_request(alloc, &body[..len])?;
         let want = if len < 5 {
-            &Asked::NoId
+            &no_id
         } else if len < fields {
             bad
         } else {
