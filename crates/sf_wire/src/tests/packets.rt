@@ -113,7 +113,6 @@ fn stat(rt: HostRuntime) -> Result<(), Fail> {
 
 /// The path is empty, and the body as long as one may be.
 #[test]
-#[tactic(auto, unfolding(crate::specs::Replies::entry_text))]
 fn realpath_of_empty_path(rt: HostRuntime) -> Result<(), Fail> {
     let alloc = rt.alloc();
     let short = hex_bytes(alloc, "00000009 10 00000005 00000000")?;
