@@ -1,1 +1,5 @@
 pub mod Turns
+pub mod Faults
+pub mod Writing
+pub mod Progressing
+pub mod ServingLemmas

@@ -13,6 +13,9 @@ use Rattle.sf_call.specs.Histories.{IsLegal, replay}
 use Rattle.sf_call.specs.declared.request.Request.{Request}
 use Rattle.sftpd.specs.declared.asking.Ask.TheVariants as ask
 use Rattle.sftpd.specs.declared.cause.Cause.{Cause}
+use Rattle.sf_wire.specs.Lines.{Rose}
+use Rattle.sftpd.specs.declared.service.ServeFault.{ServeFault}
+use Rattle.sftpd.specs.declared.service.ServeFault.TheVariants as fault
 use Rattle.sftpd.specs.declared.service.Turn.{Turn}
 use Rattle.sftpd.specs.declared.service.Turn.TheVariants as turn
 use Rattle.sftpd.specs.Asking.{AsksFor}
@@ -118,3 +121,17 @@ IsDrained start now v (Some cause) = HasEnded start now v cause
 abbrev pub ServesLine : Edges → Edges → Cause → Type 0
 ServesLine start now cause = (output moments : List ℕ) × Appends start.outgoing now.outgoing output × Appends start.told now.told moments
     × IfSome start.incoming (λ input. IsServed input output moments cause)
+
+-- After a round: what there was to send was sent, and no whole packet is left; at the end of input, or where the session
+-- has ended, the cause is told.
+abbrev pub IsRounded : Edges → Edges → ServiceView → Option Cause → Type 0
+IsRounded start now v None = Serves start now v × IsCut v.session.unread cut.More × (v.session.output ≡ [])
+IsRounded start now v (Some cause) = ServesLine start now cause
+
+-- serving stops early where the line's failures rose, for want of memory, or where the numbers are spent
+abbrev pub IsServeFault : ServeFault → ℕ → ℕ → Type 0
+IsServeFault fault.Line failed failed' = Rose failed failed'
+IsServeFault fault.OutOfMemory failed failed' = Unit {0}
+IsServeFault fault.Sessions failed failed' = ⊥
+IsServeFault fault.Stranger failed failed' = ⊥
+IsServeFault fault.NumbersSpent failed failed' = Unit {0}

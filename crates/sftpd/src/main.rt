@@ -6,6 +6,7 @@ pub mod cause;
 pub mod clock;
 pub mod front;
 pub mod service;
+pub mod serving;
 pub mod session;
 
 fn main(_rt: HostRuntime) {}

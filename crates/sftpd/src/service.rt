@@ -1,13 +1,16 @@
 //! A session with a tree of its own.
 
-ghost use Rattle.std.specs.Prelude.{◌≡◌, ◌++◌, None, IsSome, IfSome, IfOk, IfErr, OnOk, OnErr};
+ghost use Rattle.std.specs.Prelude.{◌≡◌, ◌++◌, [], None, IsSome, IfSome, IfOk, IfErr, OnOk, OnErr};
+ghost use Rattle.sftpd.specs.declared.service.ServeFault.TheVariants.{Line, OutOfMemory};
 ghost use Rattle.sftpd.specs.Serving.{new_service, TurnGives, MakesCall};
 
 use crate::cause::Cause;
 use crate::clock::Clock;
-use crate::session::{Next, Session, SessionFault};
+use crate::session::{Next, Session};
+use bytes::BytesMut;
 use sf_call::{CoreFault, Request};
 use sf_plain::PlainTree;
+use sf_wire::LineFault;
 use std::alloc::{AllocError, Global};
 use std::marker::Model;
 use thiserror::Error;
@@ -33,6 +36,22 @@ pub enum ServeFault {
     NumbersSpent = 5,
 }
 
+impl From<LineFault> for ServeFault {
+    ghost from_gives = { λ _ fault. fault ≡ Line };
+
+    fn from(_fault: LineFault) -> ServeFault {
+        ServeFault::Line
+    }
+}
+
+impl From<AllocError> for ServeFault {
+    ghost from_gives = { λ _ fault. fault ≡ OutOfMemory };
+
+    fn from(_error: AllocError) -> ServeFault {
+        ServeFault::OutOfMemory
+    }
+}
+
 /// What a turn came to.
 #[derive(Clone, Copy, Debug, PartialEq, Eq)]
 pub enum Turn {
@@ -44,7 +63,7 @@ pub enum Turn {
 }
 
 /// A session with a tree of its own, whose calls are numbered from 1 on.
-#[derive(Debug, Drop)]
+#[derive(Drop)]
 pub struct Service {
     session: Session,
     tree: PlainTree,
@@ -74,11 +93,31 @@ impl Service {
     }
 
     /// Appends to the bytes that are unread.
-    pub fn feed(&mut self, bytes: &[u8]) -> Result<(), SessionFault>
+    pub fn feed(&mut self, bytes: &[u8]) -> Result<(), AllocError>
+        requires { self.old.session.ended ≡ None }
         ensures ok { OnOk result (self.new ≡ record self.old { session = record self.old.session { unread = self.old.session.unread ++ bytes.now } }) }
         ensures err { OnErr result (self.new ≡ self.old) }
     {
-        self.session.feed(bytes)
+        if self.session.feed(bytes).is_err() {
+            return Err(AllocError);
+        }
+        Ok(())
+    }
+
+    /// The bytes to be sent.
+    pub fn output(&self) -> &[u8]
+        ensures { result.now ≡ self.now.session.output }
+    {
+        self.session.output()
+    }
+
+    /// Takes the bytes to be sent away.
+    pub fn take_output(&mut self) -> BytesMut
+        requires { self.old.session.waiting ≡ None }
+        ensures output { result.items ≡ self.old.session.output }
+        ensures service { self.new ≡ record self.old { session = record self.old.session { output = [] } } }
+    {
+        self.session.take_output()
     }
 
     /// Answers the next packet that is unread and whole.

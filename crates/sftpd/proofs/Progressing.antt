@@ -1,0 +1,220 @@
+-- How far a session was served: after what it was fed, what was answered, what was sent.
+use Rattle.std.proofs.Common.{◌≡◌, ◌+◌, ◌-◌, ◌<◌, ◌≤◌, ◌^◌, ◌⊎◌, ℕ, List, [], ◌∷◌, ◌++◌, length, take, drop, Bool, true, false, Option, Some, None, refl, sym, ap, subst, ◌∙◌, inl, inr, arith, append_assoc, append-nil, length-append}
+use Rattle.std.specs.Prelude.{fold, IfSome}
+use Rattle.std.specs.List.{flat_map, AllByRecursion}
+use Rattle.std.specs.Io.KnownBytes.{Appends, Consumes, IsAtEnd}
+use Rattle.std.proofs.KnownBytes.{Appends-nil, Appends-trans, Consumes-trans}
+use Rattle.std.proofs.lemmas.List.{flat_map_more}
+use Rattle.std.proofs.lemmas.List.Sums.{fold-append}
+use Rattle.sf_wire.specs.declared.reply.Reply.{Reply}
+use Rattle.sf_wire.specs.declared.reply.Reply.TheVariants as reply
+use Rattle.sf_wire.specs.Packets.{packet, IsBody}
+use Rattle.sf_call.specs.declared.request.Request.{Request}
+use Rattle.sf_call.specs.declared.request.Request.TheVariants.{Mkdir, Stat}
+use Rattle.sf_call.specs.declared.record.Record.{Record}
+use Rattle.sf_call.specs.declared.record.Record.TheVariants.{Did, Left}
+use Rattle.sf_wire.specs.declared.attrs.Attrs.{Attrs}
+use Rattle.sf_call.specs.Tree.{Tree, Path}
+use Rattle.sf_call.specs.Calls.{apply, IsStatus, IsStatusOrAttrs}
+use Rattle.sf_call.specs.Histories.{after, after_reply, replay, IsLegal, MayFollow, IsNewNumber, IsPresent}
+use Rattle.sftpd.specs.Asking.{AsksFor}
+use Rattle.sftpd.specs.Sessions.{SessionView}
+use Rattle.sftpd.specs.Transcripts.{Answered, Version, Locally, ByCall, Refused, asked_by, packet_for, transcript, moment_of, moments_of, with_record, history_of, has_begun, AreAnswers, MayAnswer, last_number}
+use Rattle.sftpd.specs.Serving.{ServiceView, Edges, edges, HasEffect, Answers, IsNumbered, Progress, Serves}
+
+-- what the tree's definitions promise
+pub record Laws : Type 0 where
+  pub replayed : (history : List Record) (r : Record) → replay (history ++ r ∷ []) ≡ after (replay history) r
+  pub legal : (history : List Record) (r : Record) → IsLegal history → MayFollow history r → IsLegal (history ++ r ∷ [])
+  pub mkdir : (tree : Tree) (session number moment : ℕ) (path : Path) (attrs : Attrs) → IsStatus (apply tree session number moment (Mkdir path attrs)).reply
+  pub stat : (tree : Tree) (session number moment : ℕ) (path : Path) → IsStatusOrAttrs (apply tree session number moment (Stat path)).reply
+
+-- one more at the end
+all_push : {A : Type 0} (P : A → Type 0) (xs : List A) (x : A) → AllByRecursion P xs → P x → AllByRecursion P (xs ++ x ∷ [])
+all_push P [] x h p = (p, tt)
+all_push P (y ∷ xs) x h p = (h.0, all_push P xs x h.1 p)
+
+flat_push : {A : Type 0} (f : A → List ℕ) (xs : List A) (x : A) → flat_map f xs ++ f x ≡ flat_map f (xs ++ x ∷ [])
+flat_push f xs x = flat_map_more f [] xs x
+
+-- whether a session has begun after these answers
+abbrev begun_by : Bool → List Answered → Bool
+begun_by begun [] = begun
+begun_by begun (a ∷ answers) = true
+
+begun_is : (answers : List Answered) → begun_by false answers ≡ has_begun answers
+begun_is [] = refl
+begun_is (a ∷ answers) = refl
+
+begun_stays : (answers : List Answered) → begun_by true answers ≡ true
+begun_stays [] = refl
+begun_stays (a ∷ answers) = refl
+
+begun_push : (answers : List Answered) (a : Answered) → has_begun (answers ++ a ∷ []) ≡ true
+begun_push [] a = refl
+begun_push (b ∷ answers) a = refl
+
+answers_push : (begun : Bool) (history : List Record) (bodies : List (List ℕ)) (answers : List Answered) (body : List ℕ) (a : Answered)
+    → AreAnswers begun history bodies answers → AsksFor (begun_by begun answers) body (asked_by a) → MayAnswer (fold with_record history answers) a
+    → AreAnswers begun history (bodies ++ body ∷ []) (answers ++ a ∷ [])
+unfolding AreAnswers
+answers_push begun history [] [] body a h asks may = ((asks, may), tt)
+answers_push begun history [] (b ∷ answers) body a h asks may = absurd h
+answers_push begun history (c ∷ bodies) [] body a h asks may = absurd h
+answers_push begun history (c ∷ bodies) (b ∷ answers) body a h asks may =
+    (h.0, answers_push true (with_record history b) bodies answers body a h.1 (subst (λ g. AsksFor g body (asked_by a)) (sym (begun_stays answers)) asks) may)
+
+told_by : (tree tree' : Tree) (calls calls' : ℕ) (told told' : Option (List ℕ)) (a : Answered) → HasEffect tree calls told a tree' calls' told' → Appends told told' (moment_of a)
+told_by tree tree' calls calls' told told' Version h = subst (λ t. Appends told t []) (sym h.2) (Appends-nil told)
+told_by tree tree' calls calls' told told' (Locally id given) h = subst (λ t. Appends told t []) (sym h.2) (Appends-nil told)
+told_by tree tree' calls calls' told told' (ByCall id moment request given) h = h.2
+told_by tree tree' calls calls' told told' (Refused id request) h = subst (λ t. Appends told t []) (sym h.1.2) (Appends-nil told)
+
+-- numbered up to n, a record is not of a later call, and no session has left
+numbers_new : (n : ℕ) (history : List Record) → AllByRecursion (IsNumbered n) history → IsNewNumber (n + 1) history
+numbers_new n [] h = tt
+numbers_new n (Did number session moment request given ∷ history) h = ((λ e. omega (arith, h.0)), numbers_new n history h.1)
+numbers_new n (Left session ∷ history) h = absurd h.0
+
+numbers_stay : (n : ℕ) (history : List Record) → AllByRecursion (IsNumbered n) history → IsPresent 1 history
+numbers_stay n [] h = tt
+numbers_stay n (Did number session moment request given ∷ history) h = (tt, numbers_stay n history h.1)
+numbers_stay n (Left session ∷ history) h = absurd h.0
+
+numbers_more : (n : ℕ) (history : List Record) → AllByRecursion (IsNumbered n) history → AllByRecursion (IsNumbered (n + 1)) history
+numbers_more n [] h = tt
+numbers_more n (Did number session moment request given ∷ history) h = (omega (arith, h.0), numbers_more n history h.1)
+numbers_more n (Left session ∷ history) h = absurd h.0
+
+-- a reply that is no want of memory leaves the next tree
+next_by_status : (tree next : Tree) (given : Reply) → IsStatus given → after_reply tree next given ≡ next
+next_by_status tree next (reply.Status code) h = refl
+next_by_status tree next reply.NoMemory h = absurd h
+next_by_status tree next (reply.Names es) h = absurd h
+next_by_status tree next (reply.Attrs a) h = absurd h
+
+next_by_attrs : (tree next : Tree) (given : Reply) → IsStatusOrAttrs given → after_reply tree next given ≡ next
+next_by_attrs tree next (reply.Status code) h = refl
+next_by_attrs tree next reply.NoMemory h = absurd h
+next_by_attrs tree next (reply.Names es) h = absurd h
+next_by_attrs tree next (reply.Attrs a) h = refl
+
+after_call : Laws → (tree : Tree) (number moment : ℕ) (request : Request) → after tree (Did number 1 moment request (apply tree 1 number moment request).reply) ≡ (apply tree 1 number moment request).tree
+after_call laws tree number moment (Mkdir path attrs) = next_by_status tree _ _ (laws.mkdir tree 1 number moment path attrs)
+after_call laws tree number moment (Stat path) = next_by_attrs tree _ _ (laws.stat tree 1 number moment path)
+
+-- the tree, the number of calls and the history belong together
+record Grown (history : List Record) (tree : Tree) (calls : ℕ) : Type 0 where
+  pub legal : IsLegal history
+  pub replayed : tree ≡ replay history
+  pub counted : calls ≡ length history
+  pub numbered : AllByRecursion (IsNumbered (length history)) history
+
+-- a call's record comes next
+recorded : Laws → (history : List Record) (tree tree' : Tree) (calls moment : ℕ) (request : Request) (given : Reply) → Grown history tree calls
+    → ((given ≡ (apply tree 1 (calls + 1) moment request).reply) × (tree' ≡ (apply tree 1 (calls + 1) moment request).tree)) ⊎ ((given ≡ reply.NoMemory) × (tree' ≡ tree))
+    → Grown (history ++ Did (length history + 1) 1 moment request given ∷ []) tree' (calls + 1)
+recorded laws history tree tree' calls moment request given grown does =
+    let n = length history in
+    let r = Did (n + 1) 1 moment request given in
+    let counted : length (history ++ r ∷ []) ≡ n + 1 = omega (arith, length-append history (r ∷ [])) in
+    let does' : ((given ≡ (apply (replay history) 1 (n + 1) moment request).reply) × (tree' ≡ (apply (replay history) 1 (n + 1) moment request).tree)) ⊎ ((given ≡ reply.NoMemory) × (tree' ≡ replay history)) =
+      subst (λ (t : Tree). ((given ≡ (apply t 1 (n + 1) moment request).reply) × (tree' ≡ (apply t 1 (n + 1) moment request).tree)) ⊎ ((given ≡ reply.NoMemory) × (tree' ≡ t))) grown.replayed
+      (subst (λ (k : ℕ). ((given ≡ (apply tree 1 (k + 1) moment request).reply) × (tree' ≡ (apply tree 1 (k + 1) moment request).tree)) ⊎ ((given ≡ reply.NoMemory) × (tree' ≡ tree))) grown.counted does) in
+    record {
+      legal = laws.legal history r grown.legal (record {
+        above_zero = omega arith;
+        new_number = numbers_new n history grown.numbered;
+        present = numbers_stay n history grown.numbered;
+        answered = elim does' [ inl e ↦ inl e.0 | inr e ↦ inr e.0 ];
+      });
+      replayed = elim does' [
+        | inl e ↦ e.1 ∙ sym (after_call laws (replay history) (n + 1) moment request) ∙ ap (λ (g : Reply). after (replay history) (Did (n + 1) 1 moment request g)) (sym e.0) ∙ sym (laws.replayed history r)
+        | inr e ↦ e.1 ∙ ap (λ (g : Reply). after (replay history) (Did (n + 1) 1 moment request g)) (sym e.0) ∙ sym (laws.replayed history r)
+      ];
+      counted = omega (arith, counted, grown.counted);
+      numbered = subst (λ (k : ℕ). AllByRecursion (IsNumbered k) (history ++ r ∷ [])) (sym counted)
+        (all_push (IsNumbered (n + 1)) history r (numbers_more n history grown.numbered) (omega arith));
+    }
+
+unchanged : (history : List Record) (tree tree' : Tree) (calls calls' : ℕ) → Grown history tree calls → tree' ≡ tree → calls' ≡ calls → Grown history tree' calls'
+unchanged history tree tree' calls calls' grown t n = record { legal = grown.legal; replayed = t ∙ grown.replayed; counted = n ∙ grown.counted; numbered = grown.numbered }
+
+grows : Laws → (history : List Record) (tree tree' : Tree) (calls calls' : ℕ) (told told' : Option (List ℕ)) (a : Answered) → Grown history tree calls
+    → HasEffect tree calls told a tree' calls' told' → MayAnswer history a × Grown (with_record history a) tree' calls'
+grows laws history tree tree' calls calls' told told' Version grown h = (tt, unchanged history tree tree' calls calls' grown h.0 h.1)
+grows laws history tree tree' calls calls' told told' (Locally id given) grown h = (tt, unchanged history tree tree' calls calls' grown h.0 h.1)
+grows laws history tree tree' calls calls' told told' (ByCall id moment request given) grown h =
+    (subst (λ n. n < last_number) grown.counted h.0,
+      subst (λ n. Grown (history ++ Did (length history + 1) 1 moment request given ∷ []) tree' n) (sym h.1) (recorded laws history tree tree' calls moment request given grown h.3))
+grows laws history tree tree' calls calls' told told' (Refused id request) grown h =
+    (sym grown.counted ∙ h.0, unchanged history tree tree' calls calls' grown h.1.0 h.1.1)
+
+grown_by : {start now : Edges} {rest output : List ℕ} {begun : Bool} {calls : ℕ} {tree : Tree} → (p : Progress start now rest output begun calls tree) → Grown (history_of p.answers) tree calls
+grown_by p = record { legal = p.legal; replayed = p.replayed; counted = p.counted; numbered = p.numbered }
+
+-- one packet more is answered
+pub serves_answered : Laws → (start : Edges) (i o t t' : Option (List ℕ)) (v w : ServiceView) → Serves start (edges i o t) v → Answers v t w t' → Serves start (edges i o t') w
+serves_answered laws start i o t t' v w s h =
+    let p = s.progress in
+    let more = fold-append with_record [] p.answers (h.answer ∷ []) in
+    let grown = grows laws (history_of p.answers) v.tree w.tree v.calls w.calls t t' h.answer (grown_by p) h.effect in
+    let g = subst (λ (history : List Record). Grown history w.tree w.calls) (sym more) grown.1 in
+    record {
+      open_session = (ap (λ (x : SessionView). x.waiting) h.session, ap (λ (x : SessionView). x.ended) h.session);
+      progress = rw h.session (record {
+        bodies = p.bodies ++ h.body ∷ [];
+        answers = p.answers ++ h.answer ∷ [];
+        sent = p.sent;
+        are_bodies = all_push IsBody p.bodies h.body p.are_bodies h.begins.is_body;
+        read = subst (Consumes start.incoming i) (ap (λ (bytes : List ℕ). flat_map packet p.bodies ++ bytes) h.begins.whole ∙ sym (append_assoc (flat_map packet p.bodies) (packet h.body) h.rest)
+          ∙ ap (λ (front : List ℕ). front ++ h.rest) (flat_push packet p.bodies h.body)) p.read;
+        wrote = p.wrote;
+        told = subst (Appends start.told t') (flat_push moment_of p.answers h.answer)
+          (Appends-trans start.told t t' (moments_of p.answers) (moment_of h.answer) p.told (told_by v.tree w.tree v.calls w.calls t t' h.answer h.effect));
+        asked = answers_push false [] p.bodies p.answers h.body h.answer p.asked (subst (λ g. AsksFor g h.body (asked_by h.answer)) (sym (begun_is p.answers ∙ p.has_begun)) h.asks) grown.0;
+        has_begun = begun_push p.answers h.answer;
+        packets = sym (append_assoc p.sent v.session.output (packet_for h.answer)) ∙ ap (λ (bytes : List ℕ). bytes ++ packet_for h.answer) p.packets ∙ flat_push packet_for p.answers h.answer;
+        legal = g.legal;
+        replayed = g.replayed;
+        counted = g.counted;
+        numbered = g.numbered;
+      });
+    }
+
+-- the line moved on, and no packet was answered
+line_moved : (start : Edges) (i i' o o' t : Option (List ℕ)) (rest rest' output output' : List ℕ) (begun : Bool) (calls : ℕ) (tree : Tree) (sent : List ℕ)
+    → (p : Progress start (edges i o t) rest output begun calls tree) → Consumes start.incoming i' (flat_map packet p.bodies ++ rest')
+    → Appends start.outgoing o' sent → sent ++ output' ≡ transcript p.answers → Progress start (edges i' o' t) rest' output' begun calls tree
+line_moved start i i' o o' t rest rest' output output' begun calls tree sent p read wrote packets = record {
+    bodies = p.bodies;
+    answers = p.answers;
+    sent = sent;
+    are_bodies = p.are_bodies;
+    read = read;
+    wrote = wrote;
+    told = p.told;
+    asked = p.asked;
+    has_begun = p.has_begun;
+    packets = packets;
+    legal = p.legal;
+    replayed = p.replayed;
+    counted = p.counted;
+    numbered = p.numbered;
+  }
+
+-- what waited was sent
+pub sends_all : (start : Edges) (i o o' t : Option (List ℕ)) (rest output : List ℕ) (begun : Bool) (calls : ℕ) (tree : Tree) → Progress start (edges i o t) rest output begun calls tree
+    → Appends o o' output → Progress start (edges i o' t) rest [] begun calls tree
+sends_all start i o o' t rest output begun calls tree p sent =
+    line_moved start i i o o' t rest rest output [] begun calls tree (p.sent ++ output) p p.read
+    (Appends-trans start.outgoing o o' p.sent output p.wrote sent) (append-nil (p.sent ++ output) ∙ p.packets)
+
+-- a piece was read
+pub reads_piece : (start : Edges) (i i' o t : Option (List ℕ)) (rest output : List ℕ) (begun : Bool) (calls : ℕ) (tree : Tree) (piece : List ℕ) → Progress start (edges i o t) rest output begun calls tree
+    → Consumes i i' piece → Progress start (edges i' o t) (rest ++ piece) output begun calls tree
+reads_piece start i i' o t rest output begun calls tree piece p consumed =
+    line_moved start i i' o o t rest (rest ++ piece) output output begun calls tree p.sent p
+    (subst (Consumes start.incoming i') (append_assoc (flat_map packet p.bodies) rest piece)
+      (Consumes-trans start.incoming i i' (flat_map packet p.bodies ++ rest) piece p.read consumed))
+    p.wrote p.packets
