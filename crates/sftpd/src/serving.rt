@@ -1,15 +1,16 @@
 //! Serving one session over a line.
 
-ghost use Rattle.std.specs.Prelude.{◌≡◌, ◌≤◌, ℕ, List, [], Option, None, IfOk, IfErr, OnOk, OnErr};
-ghost use Rattle.std.specs.Io.KnownBytes.{Appends};
+ghost use Rattle.std.specs.Prelude.{◌≡◌, ◌≢◌, ◌<◌, ◌≤◌, ℕ, List, [], length, Option, Some, None, Ok, IfOk, IfErr, OnOk, OnErr, vec_len};
+ghost use Rattle.std.specs.Io.KnownBytes.{Appends, IsAtEnd};
 ghost use Rattle.sf_wire.specs.Lines.{Rose};
-ghost use Rattle.sftpd.specs.Serving.{Edges, edges, IsDrained, IsServeFault, Serves};
+ghost use Rattle.sftpd.specs.Serving.{Edges, edges, IsDrained, IsRounded, IsServeFault, Serves, ServesLine};
 
 use crate::cause::Cause;
 use crate::clock::Clock;
 use crate::service::{ServeFault, Service, Turn};
 use sf_call::{kinds_of_replies, one_record_more};
 use sf_wire::{Line, LineFault};
+use std::alloc::{AllocError, Global};
 
 /// How many bytes a read asks for.
 const PIECE: usize = 65536;
@@ -70,6 +71,8 @@ fn drain<L: Line, C: Clock>(
     requires idle { service.old.session.waiting ≡ None }
     ensures drained { IfOk result (λ ended. (start : Edges) → Serves start (edges (L.incoming line.old) (L.outgoing line.old) (C.told clock.old)) service.old
         → IsDrained start (edges (L.incoming line.new) (L.outgoing line.new) (C.told clock.new)) service.new ended) }
+    ensures cause { result ≢ Ok (Some Cause.Closed) }
+    ensures idle { OnOk result (service.new.session.waiting ≡ None) }
     ensures failures { L.failed line.old ≤ L.failed line.new }
     ensures fault { IfErr result (λ fault. IsServeFault fault (L.failed line.old) (L.failed line.new)) }
 {
@@ -82,4 +85,60 @@ fn drain<L: Line, C: Clock>(
             Turn::Ended(cause) => return Ok(Some(cause)),
         }
     }
+}
+
+/// Reads a piece, answers each packet that is whole then, and sends the replies.
+/// `Closed` at the end of the input.
+fn round<L: Line, C: Clock>(
+    service: &mut Service,
+    line: &mut L,
+    clock: &mut C,
+    piece: &mut [u8],
+) -> Result<Option<Cause>, ServeFault>
+    requires room { 0 < length piece.old }
+    requires open_session { service.old.session.ended ≡ None }
+    requires idle { service.old.session.waiting ≡ None }
+    ensures rounded { IfOk result (λ ended. (start : Edges) → IsRounded start (edges (L.incoming line.old) (L.outgoing line.old) (C.told clock.old)) service.old None
+        → IsRounded start (edges (L.incoming line.new) (L.outgoing line.new) (C.told clock.new)) service.new ended) }
+    ensures end { result ≡ Ok (Some Cause.Closed) → IsAtEnd (L.incoming line.new) }
+    ensures failures { L.failed line.old ≤ L.failed line.new }
+    ensures fault { IfErr result (λ fault. IsServeFault fault (L.failed line.old) (L.failed line.new)) }
+{
+    let n = line.read(piece)?;
+    if n == 0 {
+        return Ok(Some(Cause::Closed));
+    }
+    service.feed(&piece[..n])?;
+    let ended = drain(service, line, clock)?;
+    send(service, line)?;
+    Ok(ended)
+}
+
+fn zeros(alloc: Global, len: usize) -> Result<Vec<u8>, AllocError>
+    ensures { IfOk result (λ bytes. vec_len bytes ≡ len) }
+{
+    vec![in alloc; 0u8; len]
+}
+
+/// Serves one session over a line, on a tree of its own, to the end of the input or of the session.
+///
+/// Calls are numbered from 1 on in the order of their arrival, each at the clock's next moment.
+pub fn serve_one<L: Line, C: Clock>(
+    alloc: Global,
+    line: &mut L,
+    clock: &mut C,
+) -> Result<Cause, ServeFault>
+    ensures served { IfOk result (λ cause. ServesLine (edges (L.incoming line.old) (L.outgoing line.old) (C.told clock.old))
+        (edges (L.incoming line.new) (L.outgoing line.new) (C.told clock.new)) cause) }
+    ensures end { result ≡ Ok Cause.Closed → IsAtEnd (L.incoming line.new) }
+    ensures fault { IfErr result (λ fault. IsServeFault fault (L.failed line.old) (L.failed line.new)) }
+{
+    let mut service = Service::new(alloc)?;
+    let mut piece = zeros(alloc, PIECE)?;
+    for _ in 0..u64::MAX {
+        if let Some(cause) = round(&mut service, line, clock, &mut piece)? {
+            return Ok(cause);
+        }
+    }
+    Err(ServeFault::NumbersSpent)
 }

@@ -1,0 +1,21 @@
+use Rattle.std.proofs.Common.{◌≡◌, ◌≤◌, arith, rules}
+use Rattle.sftpd.specs.Serving.{edges}
+use Rattle.sftpd.proofs.ServingLemmas.{starts, going_on}
+use Rattle.sftpd.proofs.serving.serve_one.Goals as goal
+
+pub loop-init : goal.loop-init
+loop-init g c =
+    let start = edges (g.L.Line.incoming c.args.line.now) (g.L.Line.outgoing c.args.line.now) (g.C.Clock.told c.args.clock.now) in
+    (rw c.in_ok-service.ensures (starts start), omega (arith, c.in_ok-piece.ensures), omega arith)
+
+pub returns-in-Some-clause-served : goal.returns-in-Some-clause-served
+returns-in-Some-clause-served g c =
+    let start = edges (g.L.Line.incoming c.args.line.now) (g.L.Line.outgoing c.args.line.now) (g.C.Clock.told c.args.clock.now) in
+    rw c.in-Some.is at (c.in_ok-cause.ensures.rounded start c.loop.invariant.0)
+
+pub loop-preserved : goal.loop-preserved
+loop-preserved g c =
+    let start = edges (g.L.Line.incoming c.args.line.now) (g.L.Line.outgoing c.args.line.now) (g.C.Clock.told c.args.clock.now) in
+    (going_on start _ _ c.in_ok-cause.field-0 c.in_default.not-Some (c.in_ok-cause.ensures.rounded start c.loop.invariant.0),
+      c.loop.invariant.1,
+      omega (arith, c.in_ok-cause.ensures.failures, c.loop.invariant.2))
