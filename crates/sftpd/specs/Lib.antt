@@ -3,3 +3,4 @@ pub mod Asking
 pub mod Sessions
 pub mod Transcripts
 pub mod Serving
+pub mod Statuses

@@ -1,7 +1,9 @@
 //! Clocks.
 
-ghost use Rattle.std.specs.Prelude.{ℕ, List, [], ◌∷◌, Option};
+ghost use Rattle.std.specs.Prelude.{◌≡◌, ◌-◌, ◌/◌, ◌^◌, ℕ, List, [], ◌∷◌, min, Option, IfSome, IfNone, None};
 ghost use Rattle.std.specs.Io.KnownBytes.{Appends};
+
+use std::time::Duration;
 
 /// Tells moments, in seconds since 1970.
 pub trait Clock {
@@ -11,4 +13,33 @@ pub trait Clock {
     /// The moment now.
     fn now(&mut self) -> u32
         ensures { Appends (told self.old) (told self.new) (result ∷ []) };
+}
+
+/// The clock of the system that the program runs on. It keeps no moments.
+#[derive(Debug, Drop)]
+pub struct SystemClock<'a, R> {
+    runtime: &'a R,
+}
+
+impl<'a, R> SystemClock<'a, R> {
+    pub fn new(runtime: &'a R) -> SystemClock<'a, R> {
+        SystemClock { runtime }
+    }
+}
+
+impl<R: std::rt::Clock> Clock for SystemClock<'_, R> {
+    ghost told = { λ _. None };
+
+    fn now(&mut self) -> u32 {
+        moment(self.runtime.since_1970().ok())
+    }
+}
+
+/// The moment that lies so long after the beginning of 1970, in whole seconds: 0 where the clock
+/// stands before it, and 4294967295 where the seconds don't fit.
+fn moment(since_1970: Option<Duration>) -> u32 {
+    let Some(since_1970) = since_1970 else {
+        return 0;
+    };
+    u32::try_from(since_1970.as_secs()).unwrap_or(u32::MAX)
 }
