@@ -144,6 +144,31 @@ cut_spelling bytes rest (body ∷ bodies) end e all ends =
 pub cut_is_spelled : (bytes : List ℕ) (bodies : List (List ℕ)) (end : End) → Cuts bytes bodies end ↔ IsSpelled bytes bodies end
 cut_is_spelled bytes bodies end = (spelled bytes bodies end, λ s. cut_spelling bytes s.rest bodies end s.parts s.are_bodies s.ends)
 
+-- ---- packets that were taken
+
+pub cut_after : (taken : List (List ℕ)) (left : List ℕ) → AllByRecursion IsBody taken → (bodies : List (List ℕ)) (end : End) → Cuts left bodies end → Cuts (flat_map packet taken ++ left) (taken ++ bodies) end
+cut_after [] left all bodies end h = h
+cut_after (body ∷ taken) left all bodies end h =
+    (flat_map packet taken ++ left, all.0, append_assoc (packet body) (flat_map packet taken) left, cut_after taken left all.1 bodies end h)
+
+left_at : (taken : List (List ℕ)) (left bytes : List ℕ) → AllByRecursion IsBody taken → bytes ≡ flat_map packet taken ++ left → (all : List (List ℕ)) (end : End) → Cuts bytes all end
+    → (bodies : List (List ℕ)) × (all ≡ taken ++ bodies) × Cuts left bodies end
+left_at [] left bytes are e all end h = (all, refl, subst (λ (t : List ℕ). Cuts t all end) e h)
+left_at (body ∷ taken) left bytes are e all end h =
+    let after : List ℕ = flat_map packet taken ++ left in
+    let parts : bytes ≡ packet body ++ after = e ∙ append_assoc (packet body) (flat_map packet taken) left in
+    let a = after_whole bytes (length (packet body)) all end (body, after, are.0, parts, refl) h in
+    let same = one_packet body a.0 after (drop (length (packet body)) bytes) are.0 a.3 (sym parts ∙ a.4) in
+    let r = left_at taken left (drop (length (packet body)) bytes) are.1 (sym same.1) a.1 end a.6 in
+    let heads : body ≡ a.0 = same.0 in
+    let tails : a.1 ≡ taken ++ r.0 = r.1 in
+    let whole : all ≡ a.0 ∷ a.1 = a.2 in
+    let joined : all ≡ body ∷ (taken ++ r.0) = cc in
+    (r.0, joined, r.2)
+
+pub cut_left : (taken : List (List ℕ)) (left : List ℕ) → AllByRecursion IsBody taken → (all : List (List ℕ)) (end : End) → Cuts (flat_map packet taken ++ left) all end → (bodies : List (List ℕ)) × (all ≡ taken ++ bodies) × Cuts left bodies end
+cut_left taken left are all end h = left_at taken left (flat_map packet taken ++ left) are refl all end h
+
 -- ---- bytes that are added
 
 pub cut_stays : (bytes : List ℕ) (found : Cut) → IsCut bytes found → Stays bytes found

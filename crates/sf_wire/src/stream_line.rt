@@ -56,6 +56,7 @@ pub struct StreamLine<R, W> {
 impl<R, W> StreamLine<R, W> {
     ghost use Rattle.sf_wire.specs.StreamLines.{reader_of, writer_of, failures_of};
 
+    /// A line that has moved nothing yet.
     pub fn new(reader: R, writer: W) -> StreamLine<R, W>
         ensures reader { reader_of result ≡ reader }
         ensures writer { writer_of result ≡ writer }

@@ -124,10 +124,9 @@ fn realpath_of_empty_path(rt: HostRuntime) -> Result<(), Fail> {
     );
     asks(&rt, alloc, &short, 9, &want, &Asked::BadFields(5))?;
     let mut long = hex_bytes(alloc, "00040000 10 00000005 00000000")?;
-    long.extend_from_slice(&vec![in alloc; 0u8; 262134]?)?;
-    assert_eq!(rt; cut(&long), Cut::More);
-    long.push(0)?;
-    assert_eq!(rt; cut(&long), Cut::Whole(262148));
+    long.extend_from_slice(&vec![in alloc; 0u8; 262135]?)?;
+    assert_eq!(rt; long.len(), 262148);
+    is_one_packet(&rt, &long);
     assert_eq!(rt; read_request(alloc, &long[4..])?, want);
     let mut out = BytesMut::new(alloc);
     write_reply(5, &Reply::Names(root_listing(alloc)?), &mut out)?;
@@ -139,15 +138,22 @@ fn realpath_of_empty_path(rt: HostRuntime) -> Result<(), Fail> {
     )
 }
 
+/// Four bytes tell a wrong length, and no fewer do.
+fn is_bad(rt: &impl Abort, length: [u8; 4], cause: BadCut) {
+    for len in 0..4 {
+        assert_eq!(rt; cut(&length[..len]), Cut::More);
+    }
+    assert_eq!(rt; cut(&length), Cut::Bad(cause));
+    let [a, b, c, d] = length;
+    assert_eq!(rt; cut(&[a, b, c, d, 14]), Cut::Bad(cause));
+}
+
 #[test]
 fn wrong_lengths(rt: HostRuntime) {
-    assert_eq!(rt; cut(&[0, 0, 0]), Cut::More);
-    assert_eq!(rt; cut(&[0, 0, 0, 0]), Cut::Bad(BadCut::ZeroLength));
-    assert_eq!(rt; cut(&[0, 0, 0, 0, 1]), Cut::Bad(BadCut::ZeroLength));
-    assert_eq!(rt; cut(&[0, 4, 0]), Cut::More);
+    is_bad(&rt, [0, 0, 0, 0], BadCut::ZeroLength);
+    is_bad(&rt, [0, 4, 0, 1], BadCut::TooLong);
+    is_bad(&rt, [255, 255, 255, 255], BadCut::TooLong);
     assert_eq!(rt; cut(&[0, 4, 0, 0]), Cut::More);
-    assert_eq!(rt; cut(&[0, 4, 0, 1]), Cut::Bad(BadCut::TooLong));
-    assert_eq!(rt; cut(&[255, 255, 255, 255, 1]), Cut::Bad(BadCut::TooLong));
 }
 
 #[test]
