@@ -9,9 +9,10 @@ use Rattle.sf_path.specs.Order.{parent}
 use Rattle.sf_call.specs.declared.request.Request.{Request}
 use Rattle.sf_call.specs.declared.request.Request.TheVariants.{Mkdir, Stat}
 use Rattle.sf_call.specs.declared.place.Place.TheVariants.{NoWay, Absent, At}
-use Rattle.sf_call.specs.Attributes.{Object, new_metadata, attrs_of}
+use Rattle.sf_call.specs.Attributes.{new_metadata, attrs_of}
 use Rattle.sf_call.specs.Attributes.Object.{Directory, File}
-use Rattle.sf_call.specs.Tree.{Path, Tree, Place, Found, place_at, found_at, kept, with_handles}
+use Rattle.sf_path.specs.Names.{Path}
+use Rattle.sf_call.specs.Tree.{Tree, Place, Found, place_at, found_at, kept, with_handles}
 use Rattle.sf_call.specs.Tree.Found.{Nowhere, Nothing, DirectoryAt, FileAt}
 use Rattle.sf_call.specs.Changes.{Change, done, touched}
 use Rattle.sf_call.specs.Changes.Change.{NewPath}

@@ -6,7 +6,8 @@ use Rattle.std.specs.BTreeMap.{insert_entry, is_at}
 use Rattle.sf_path.specs.Order.{path_cmp}
 use Rattle.sf_call.specs.Attributes.{Metadata, Object, modified_at}
 use Rattle.sf_call.specs.Attributes.Object.{Directory}
-use Rattle.sf_call.specs.Tree.{Path, Tree, Handle, with_names, with_objects, with_handles, directory_at, kept}
+use Rattle.sf_path.specs.Names.{Path}
+use Rattle.sf_call.specs.Tree.{Tree, Handle, with_names, with_objects, with_handles, directory_at, kept}
 use Rattle.sf_call.specs.Moves.{moved}
 
 pub data Change : Type 0 where

@@ -7,7 +7,7 @@ use Rattle.sf_call.specs.declared.request.Request.{Request}
 use Rattle.sf_call.specs.declared.record.Record.{Record}
 use Rattle.sf_call.specs.declared.record.Record.TheVariants.{Did, Left}
 use Rattle.sf_call.specs.Tree.{Tree, empty_tree}
-use Rattle.sf_call.specs.Calls.{Applied, apply, leave}
+use Rattle.sf_call.specs.Calls.{apply, leave}
 
 -- the tree after a call that had this reply: want of memory leaves it as it was
 abbrev pub after_reply : Tree → Tree → Reply → Tree

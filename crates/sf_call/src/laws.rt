@@ -7,7 +7,8 @@ ghost use Rattle.sf_call.specs.declared.request.Request.{Request};
 ghost use Rattle.sf_call.specs.declared.request.Request.TheVariants.{Mkdir, Stat};
 ghost use Rattle.sf_call.specs.declared.record.Record.{Record};
 ghost use Rattle.sf_call.specs.declared.record.Record.TheVariants.{Did};
-ghost use Rattle.sf_call.specs.Tree.{Tree, Path, IsOrderedTree, MapsAlike, is_directory, is_faulty_way, kept};
+ghost use Rattle.sf_path.specs.Names.{Path};
+ghost use Rattle.sf_call.specs.Tree.{Tree, IsOrderedTree, MapsAlike, is_directory, is_faulty_way, kept};
 ghost use Rattle.sf_call.specs.Calls.{apply, IsStatus, IsStatusOrAttrs};
 ghost use Rattle.sf_call.specs.Histories.{after, replay, IsLegal, MayFollow, IsAmong, IsGiven, record_of};
 

@@ -7,7 +7,7 @@ use sf_wire::Attrs;
 use std::alloc::{AllocError, Global};
 
 /// LSTAT is `Stat` too: the tree has no links.
-#[derive(Debug, Drop)]
+#[derive(Debug, PartialEq, Eq, Drop)]
 pub enum Request {
     Mkdir(Path, Attrs),
     Stat(Path),

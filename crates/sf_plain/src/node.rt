@@ -2,7 +2,7 @@
 
 ghost use Rattle.std.specs.Prelude.{◌≡◌};
 ghost use Rattle.sf_call.specs.Attributes.{attrs_of};
-ghost use Rattle.sf_call.specs.Attributes.Object.{Directory};
+ghost use Rattle.sf_call.specs.Attributes.Object.{Directory, File};
 ghost use Rattle.sf_call.specs.Tree.{directory_metadata};
 
 use sf_call::{FileType, Metadata};
@@ -36,6 +36,14 @@ impl Node {
     {
         Node {
             kind: Kind::Directory(metadata),
+        }
+    }
+
+    pub fn file(metadata: Metadata, contents: ByteString) -> Node
+        ensures { result ≡ File metadata contents }
+    {
+        Node {
+            kind: Kind::File(metadata, contents),
         }
     }
 

@@ -14,6 +14,9 @@ use std::alloc::{AllocError, Global};
 use std::collections::BTreeMap;
 use std::marker::Model;
 
+#[cfg(test)]
+mod tests;
+
 /// A tree of files.
 #[derive(Drop)]
 pub struct PlainTree {
