@@ -66,7 +66,7 @@ carry_out tree answer = record { reply = answer.reply; tree = done tree answer.c
 abbrev pub apply : Tree → ℕ → ℕ → ℕ → Request → Applied
 apply tree session number moment request = carry_out tree (answer_to tree session number moment request)
 
--- what the replies are like: a status, or attributes with all four parts
+-- what the tree may reply to a request: a status, or to STAT attributes with all four parts
 abbrev pub IsStatus : Reply → Type 0
 IsStatus (reply.Status code) = Unit {0}
 IsStatus reply.NoMemory = ⊥
@@ -84,6 +84,10 @@ IsStatusOrAttrs (reply.Status code) = Unit {0}
 IsStatusOrAttrs reply.NoMemory = ⊥
 IsStatusOrAttrs (reply.Names entries) = ⊥
 IsStatusOrAttrs (reply.Attrs attrs) = HasAllParts attrs
+
+abbrev pub IsReplyTo : Request → Reply → Type 0
+IsReplyTo (Mkdir path attrs) given = IsStatus given
+IsReplyTo (Stat path) given = IsStatusOrAttrs given
 
 -- the tree after a session left: its handles are closed
 abbrev pub leave : Tree → ℕ → Tree
