@@ -133,8 +133,8 @@ impl PlainTree {
         Some((label, metadata))
     }
 
-    #[tactic(auto, using(sf_call::proofs::Ways::one_front_more))]
     /// Whether a proper front of the path is absent or names a file.
+    #[tactic(auto, using(sf_call::proofs::Ways::one_front_more))]
     fn is_faulty_way(&self, path: &Path) -> Result<bool, AllocError>
         ensures { IfOk result (λ faulty. faulty ≡ is_faulty_way self.now path.now) }
     {
