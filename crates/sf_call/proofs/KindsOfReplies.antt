@@ -46,9 +46,12 @@ reply_plain : (request : Request) (given : Reply) → IsReplyTo request given �
 reply_plain (Mkdir path attrs) given kind = status_plain given kind
 reply_plain (Stat path) given kind = attrs_plain given kind
 
+pub apply_plain : (tree : Tree) (session number moment : ℕ) (request : Request) → IsPlain (apply tree session number moment request).reply
+apply_plain tree session number moment request = reply_plain request _ (applied tree session number moment request)
+
 pub given_plain : (number session : ℕ) (given : Reply) → IsGiven number session given → IsPlain given
 given_plain number session given (before, moment, request, legal, may) =
     elim may.answered [
-      | inl same ↦ subst (λ (r : Reply). IsPlain r) (sym same) (reply_plain request _ (applied (replay before) session number moment request))
+      | inl same ↦ subst (λ (r : Reply). IsPlain r) (sym same) (apply_plain (replay before) session number moment request)
       | inr none ↦ subst (λ (r : Reply). IsPlain r) (sym none) tt
     ]

@@ -36,10 +36,11 @@ pub fn fronts()
     ensures front { (front path rest : Path) → after_front front path ≡ Some rest → path ≡ front ++ rest }
 {}
 
-/// What a request may be answered, and that the reply of a call is short.
+/// What a request may be answered. No reply of the tree or of a legal history holds a list.
 pub fn kinds_of_replies()
-    ensures applied { (tree : Tree) (session number moment : ℕ) (request : Request) → IsReplyTo request (apply tree session number moment request).reply }
-    ensures plain { (number session : ℕ) (reply : Reply) → IsGiven number session reply → IsPlain reply }
+    ensures kind { (tree : Tree) (session number moment : ℕ) (request : Request) → IsReplyTo request (apply tree session number moment request).reply }
+    ensures plain { (tree : Tree) (session number moment : ℕ) (request : Request) → IsPlain (apply tree session number moment request).reply }
+    ensures given { (number session : ℕ) (reply : Reply) → IsGiven number session reply → IsPlain reply }
 {}
 
 /// After a legal history each object is named or open.

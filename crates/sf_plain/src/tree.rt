@@ -1,6 +1,7 @@
 //! The tree.
 
 ghost use Rattle.std.specs.Prelude.{◌≡◌, ℕ, None, IfOk, OnOk, OnErr};
+ghost use Rattle.sf_wire.specs.Replies.{IsPlain};
 ghost use Rattle.sf_call.specs.Tree.{empty_tree, label_at, directory_at, is_faulty_way, place_at, found_at};
 ghost use Rattle.sf_call.specs.Changes.{changed, done, touch};
 ghost use Rattle.sf_call.specs.Changes.Change.{NewPath, SetObject};
@@ -56,7 +57,8 @@ impl PlainTree {
         })
     }
 
-    /// Answers a call of this session and number, at a moment in seconds since 1970. After an `Err` nothing has changed.
+    /// Answers a call of this session and number, at a moment in seconds since 1970.
+    #[tactic(auto, using(sf_call::proofs::KindsOfReplies::apply_plain))]
     pub fn apply(
         &mut self,
         session: u64,
@@ -66,6 +68,7 @@ impl PlainTree {
     ) -> Result<Reply, AllocError>
         ensures reply { IfOk result (λ reply. reply ≡ (apply self.old session number moment request.now).reply) }
         ensures tree { OnOk result (self.new ≡ (apply self.old session number moment request.now).tree) }
+        ensures plain { IfOk result IsPlain }
         ensures err { OnErr result (self.new ≡ self.old) }
     {
         match request {
