@@ -11,7 +11,8 @@ use Rattle.sf_call.specs.declared.place.Place.{Place}
 use Rattle.sf_call.specs.declared.place.Place.TheVariants.{NoWay, Absent, At}
 use Rattle.sf_call.specs.Tree.{Tree, Found, place_at, found_at}
 use Rattle.sf_call.specs.Tree.Found.{Nowhere, Nothing, DirectoryAt, FileAt}
-use Rattle.sf_call.specs.Calls.{apply, make_directory, stat, IsStatus, IsStatusOrAttrs, IsReplyTo}
+use Rattle.sf_call.specs.Calls.{apply, make_directory, stat}
+use Rattle.sf_call.specs.ReplyKinds.{IsStatus, IsStatusOrAttrs, IsReplyTo}
 use Rattle.sf_call.specs.Histories.{replay, IsGiven}
 
 made : (tree : Tree) (number moment : ℕ) (path : Path) (attrs : Attrs) (place : Place) → IsStatus (make_directory tree number moment path attrs place).reply

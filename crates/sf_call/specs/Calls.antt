@@ -1,5 +1,5 @@
 -- What the tree answers to each request, and what the request changes. Cases are tried in order; the first that fits answers.
-use Rattle.std.specs.Prelude.{ℕ, not, nat_eq, List, [], ◌∷◌, filter, IsSome}
+use Rattle.std.specs.Prelude.{ℕ, not, nat_eq, List, [], ◌∷◌, filter}
 use Rattle.sf_wire.specs.declared.attrs.Attrs.{Attrs}
 use Rattle.sf_wire.specs.declared.reply.Reply.{Reply}
 use Rattle.sf_wire.specs.declared.reply.Reply.TheVariants as reply
@@ -17,6 +17,7 @@ use Rattle.sf_call.specs.Tree.Found.{Nowhere, Nothing, DirectoryAt, FileAt}
 use Rattle.sf_call.specs.Changes.{Change, done, touched}
 use Rattle.sf_call.specs.Changes.Change.{NewPath}
 
+-- what a request is answered, and what it changes
 pub record Answer : Type 0 where
   pub reply : Reply
   pub changes : List Change
@@ -65,29 +66,6 @@ carry_out tree answer = record { reply = answer.reply; tree = done tree answer.c
 
 abbrev pub apply : Tree → ℕ → ℕ → ℕ → Request → Applied
 apply tree session number moment request = carry_out tree (answer_to tree session number moment request)
-
--- what the tree may reply to a request: a status, or to STAT attributes with all four parts
-abbrev pub IsStatus : Reply → Type 0
-IsStatus (reply.Status code) = Unit {0}
-IsStatus reply.NoMemory = ⊥
-IsStatus (reply.Names entries) = ⊥
-IsStatus (reply.Attrs attrs) = ⊥
-
-pub record HasAllParts (attrs : Attrs) : Type 0 where
-  pub size : IsSome attrs.size
-  pub owner : IsSome attrs.owner
-  pub permissions : IsSome attrs.permissions
-  pub times : IsSome attrs.times
-
-abbrev pub IsStatusOrAttrs : Reply → Type 0
-IsStatusOrAttrs (reply.Status code) = Unit {0}
-IsStatusOrAttrs reply.NoMemory = ⊥
-IsStatusOrAttrs (reply.Names entries) = ⊥
-IsStatusOrAttrs (reply.Attrs attrs) = HasAllParts attrs
-
-abbrev pub IsReplyTo : Request → Reply → Type 0
-IsReplyTo (Mkdir path attrs) given = IsStatus given
-IsReplyTo (Stat path) given = IsStatusOrAttrs given
 
 -- the tree after a session left: its handles are closed
 abbrev pub leave : Tree → ℕ → Tree

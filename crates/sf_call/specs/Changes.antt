@@ -10,6 +10,8 @@ use Rattle.sf_path.specs.Names.{Path}
 use Rattle.sf_call.specs.Tree.{Tree, Handle, with_names, with_objects, with_handles, directory_at, kept}
 use Rattle.sf_call.specs.Moves.{moved}
 
+-- another object at a label; a new path, with its label and its object; a path gone; a move of what begins with a path;
+-- a handle opened, changed or closed
 pub data Change : Type 0 where
   SetObject : (label : ℕ) → (object : Object) → Change
   NewPath : (path : Path) → (label : ℕ) → (object : Object) → Change

@@ -9,7 +9,8 @@ ghost use Rattle.sf_call.specs.declared.record.Record.TheVariants.{Did};
 ghost use Rattle.sf_path.specs.Names.{Path};
 ghost use Rattle.sf_call.specs.Tree.{Tree, IsOrderedTree, MapsAlike, label_at, is_directory, is_faulty_way, after_front, kept};
 ghost use Rattle.sf_call.specs.Moves.{moved};
-ghost use Rattle.sf_call.specs.Calls.{apply, IsReplyTo};
+ghost use Rattle.sf_call.specs.Calls.{apply};
+ghost use Rattle.sf_call.specs.ReplyKinds.{IsReplyTo};
 ghost use Rattle.sf_call.specs.Histories.{after, replay, IsLegal, MayFollow, IsAmong, IsGiven, record_of};
 
 /// Trees are compared by what they map: each tree that a history leads to is in order, and two such trees that map alike are equal.

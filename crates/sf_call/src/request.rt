@@ -14,6 +14,7 @@ pub enum Request {
 }
 
 impl Request {
+    /// Takes memory for the path's names.
     pub fn try_copy(&self, alloc: Global) -> Result<Request, AllocError>
         ensures { IfOk result (λ copy. copy ≡ self.now) }
     {

@@ -11,7 +11,7 @@ use std::marker::Model;
 
 /// A directory, or a file with its bytes.
 #[derive(Debug, Drop)]
-pub struct Node {
+pub(crate) struct Node {
     kind: Kind,
 }
 
@@ -31,7 +31,7 @@ impl Model for Node {
 }
 
 impl Node {
-    pub fn directory(metadata: Metadata) -> Node
+    pub(crate) fn directory(metadata: Metadata) -> Node
         ensures { result ≡ Directory metadata }
     {
         Node {
@@ -39,7 +39,7 @@ impl Node {
         }
     }
 
-    pub fn file(metadata: Metadata, contents: ByteString) -> Node
+    pub(crate) fn file(metadata: Metadata, contents: ByteString) -> Node
         ensures { result ≡ File metadata contents }
     {
         Node {
@@ -48,7 +48,7 @@ impl Node {
     }
 
     /// The metadata, if it is a directory.
-    pub fn as_directory(&self) -> Option<Metadata>
+    pub(crate) fn as_directory(&self) -> Option<Metadata>
         ensures { result ≡ directory_metadata self.now }
     {
         match &self.kind {
@@ -58,7 +58,7 @@ impl Node {
     }
 
     /// As they are sent.
-    pub fn attrs(&self) -> Attrs
+    pub(crate) fn attrs(&self) -> Attrs
         ensures { result ≡ attrs_of self.now }
     {
         match &self.kind {
