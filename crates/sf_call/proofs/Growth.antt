@@ -37,11 +37,11 @@ pub given : (history : List Record) (r : Record) → IsLegal history → IsAmong
 unfolding IsLegal IsLegalAfter
 given history r legal among = given_after [] history r tt legal among
 
-front_new : (number : ℕ) (before : List Record) (x : Record) → IsNewNumber number (before ++ x ∷ []) → IsNewNumber number before
+pub front_new : (number : ℕ) (before : List Record) (x : Record) → IsNewNumber number (before ++ x ∷ []) → IsNewNumber number before
 front_new number [] x new = tt
 front_new number (y ∷ before) x new = (new.0, front_new number before x new.1)
 
-last_other : (number : ℕ) (before : List Record) (x : Record) → IsNewNumber number (before ++ x ∷ []) → IsOther number x
+pub last_other : (number : ℕ) (before : List Record) (x : Record) → IsNewNumber number (before ++ x ∷ []) → IsOther number x
 last_other number [] x new = new.0
 last_other number (y ∷ before) x new = last_other number before x new.1
 

@@ -5,3 +5,4 @@ pub mod Growth
 pub mod MovedNames
 pub mod Ordered
 pub mod KindsOfReplies
+pub mod Labels

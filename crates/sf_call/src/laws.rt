@@ -1,6 +1,6 @@
 //! Laws of the tree and of histories, which no call needs.
 
-ghost use Rattle.std.specs.Prelude.{◌≡◌, ◌<◌, ◌↔◌, ℕ, true, false, List, [], ◌∷◌, ◌++◌, length, take, Some, None};
+ghost use Rattle.std.specs.Prelude.{◌≡◌, ◌≢◌, ◌<◌, ◌↔◌, ℕ, true, false, List, [], ◌∷◌, ◌++◌, length, take, Some, None};
 ghost use Rattle.sf_wire.specs.declared.reply.Reply.{Reply};
 ghost use Rattle.sf_wire.specs.Replies.{IsPlain};
 ghost use Rattle.sf_call.specs.declared.request.Request.{Request};
@@ -11,7 +11,7 @@ ghost use Rattle.sf_call.specs.Tree.{Tree, IsOrderedTree, MapsAlike, label_at, i
 ghost use Rattle.sf_call.specs.Moves.{moved};
 ghost use Rattle.sf_call.specs.Calls.{apply};
 ghost use Rattle.sf_call.specs.ReplyKinds.{IsReplyTo};
-ghost use Rattle.sf_call.specs.Histories.{after, replay, IsLegal, MayFollow, IsAmong, IsGiven, record_of};
+ghost use Rattle.sf_call.specs.Histories.{after, replay, IsNewNumber, IsLegal, MayFollow, IsAmong, IsGiven, record_of};
 
 /// Trees are compared by what they map: each tree that a history leads to is in order, and two such trees that map alike are equal.
 pub fn ordered_trees()
@@ -47,6 +47,13 @@ pub fn kinds_of_replies()
 /// After a legal history each object is named or open.
 pub fn nothing_unused()
     ensures { (history : List Record) → IsLegal history → kept (replay history) ≡ replay history }
+{}
+
+/// After a legal history a label is 0, the root's, or the number of a call, and one path at most has it.
+pub fn labels_of_paths()
+    ensures unused { (history : List Record) (number : ℕ) (path : Path) → IsLegal history → 0 < number → IsNewNumber number history → label_at (replay history).names path ≢ Some number }
+    ensures one_path { (history : List Record) (path other : Path) (label : ℕ) → IsLegal history
+        → label_at (replay history).names path ≡ Some label → label_at (replay history).names other ≡ Some label → path ≡ other }
 {}
 
 /// A history goes on by one record.
