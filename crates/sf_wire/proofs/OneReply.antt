@@ -3,7 +3,6 @@ use Rattle.std.proofs.Common.{◌≡◌, ℕ, ◌<◌, ◌^◌, List, [], ◌∷
 use Rattle.std.specs.Prelude.{◌==◌, if◌then◌else◌}
 use Rattle.std.specs.List.{flat_map, AllByRecursion}
 use Rattle.std.specs.Int.{w32}
-use Rattle.std.proofs.lemmas.List.{append-nil}
 use Rattle.std.proofs.lemmas.Option.{some_pair_parts}
 use Rattle.sf_wire.specs.declared.attrs.Attrs.{Attrs}
 use Rattle.sf_wire.specs.declared.reply.StatusCode.{StatusCode}
@@ -11,7 +10,7 @@ use Rattle.sf_wire.specs.declared.reply.StatusCode.TheVariants as status
 use Rattle.sf_wire.specs.declared.reply.Entry.{Entry}
 use Rattle.sf_wire.specs.declared.reply.Reply.{Reply}
 use Rattle.sf_wire.specs.declared.reply.Reply.TheVariants as reply
-use Rattle.sf_wire.specs.Fields.{be32, string}
+use Rattle.sf_wire.specs.Fields.{string}
 use Rattle.sf_wire.specs.Attributes.{attrs_text, AttrsFit}
 use Rattle.sf_wire.specs.Replies.{entry_text, fields_of, kind_of_reply, reply_body, EntryFits, ReplyFits}
 use Rattle.sf_wire.specs.Reading.{number_at, string_at, attrs_at}

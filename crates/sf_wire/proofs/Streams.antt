@@ -1,6 +1,7 @@
 -- A stream is cut in one way, packet by packet, whatever pieces it comes in.
-use Rattle.std.proofs.Common.{◌≡◌, ℕ, zero, suc, ◌+◌, ◌<◌, ◌≤◌, List, [], ◌∷◌, ◌++◌, length, get_or, take, drop, refl, sym, ap, subst, ◌∙◌, append_assoc, arith, inl, inr}
-use Rattle.std.specs.Prelude.{◌↔◌, ◌⊎◌}
+use Rattle.std.proofs.Common.{◌≡◌, ℕ, zero, suc, ◌+◌, ◌≤◌, List, [], ◌∷◌, ◌++◌, length, take, drop, refl, sym, ap, subst, ◌∙◌, append_assoc, arith, inl, inr}
+use Rattle.std.specs.Prelude.{◌↔◌}
+use Rattle.std.specs.List.{flat_map, AllByRecursion}
 use Rattle.std.proofs.lemmas.Bool.{cases_lt}
 use Rattle.std.proofs.lemmas.List.{take_at, drop_at, length-append, get_or-drop, get_or_past}
 use Rattle.sf_wire.specs.declared.cutting.Cut.{Cut}
@@ -8,8 +9,8 @@ use Rattle.sf_wire.specs.declared.cutting.Cut.TheVariants as cut
 use Rattle.sf_wire.specs.declared.cutting.BadCut.{BadCut}
 use Rattle.sf_wire.specs.declared.cutting.BadCut.TheVariants.{ZeroLength, TooLong}
 use Rattle.sf_wire.specs.Fields.{be32}
-use Rattle.sf_wire.specs.Packets.{packet, IsBody, IsCut, End, More, Bad, Cuts}
-use Rattle.sf_wire.specs.Streams.{AreBytes, IfWhole, HasBody, CutsAfter, Stays, GrowsTo}
+use Rattle.sf_wire.specs.Packets.{packet, IsBody, IsCut, End, More, Bad, Ends, Cuts}
+use Rattle.sf_wire.specs.Streams.{AreBytes, IfWhole, HasBody, CutsAfter, IsSpelled, Stays, GrowsTo}
 use Rattle.sf_wire.specs.Reading.{cut_of}
 use Rattle.sf_wire.proofs.FieldLaws.{IsBytes}
 use Rattle.sf_wire.proofs.Cuts.{cut_found, cut_only}
@@ -120,6 +121,53 @@ one_cutting bytes (body ∷ bodies) others end other h k =
     let tails : bodies ≡ a.1 = r.0 in
     let whole : others ≡ a.0 ∷ a.1 = a.2 in
     (cc, r.1)
+
+-- ---- a cutting is a spelling
+
+spelled : (bytes : List ℕ) (bodies : List (List ℕ)) (end : End) → Cuts bytes bodies end → IsSpelled bytes bodies end
+spelled bytes [] end h = record { rest = bytes; parts = refl; are_bodies = tt; ends = h }
+spelled bytes (body ∷ bodies) end h =
+    let s = spelled h.0 bodies end h.3 in
+    record {
+      rest = s.rest;
+      parts = h.2 ∙ ap (λ (t : List ℕ). packet body ++ t) s.parts ∙ sym (append_assoc (packet body) (flat_map packet bodies) s.rest);
+      are_bodies = (h.1, s.are_bodies);
+      ends = s.ends;
+    }
+
+cut_spelling : (bytes rest : List ℕ) (bodies : List (List ℕ)) (end : End) → bytes ≡ flat_map packet bodies ++ rest → AllByRecursion IsBody bodies → Ends rest end → Cuts bytes bodies end
+cut_spelling bytes rest [] end e all ends = subst (λ (t : List ℕ). Ends t end) (sym e) ends
+cut_spelling bytes rest (body ∷ bodies) end e all ends =
+    let after : List ℕ = flat_map packet bodies ++ rest in
+    (after, all.0, e ∙ append_assoc (packet body) (flat_map packet bodies) rest, cut_spelling after rest bodies end refl all.1 ends)
+
+pub cut_is_spelled : (bytes : List ℕ) (bodies : List (List ℕ)) (end : End) → Cuts bytes bodies end ↔ IsSpelled bytes bodies end
+cut_is_spelled bytes bodies end = (spelled bytes bodies end, λ s. cut_spelling bytes s.rest bodies end s.parts s.are_bodies s.ends)
+
+-- ---- packets that were taken
+
+pub cut_after : (taken : List (List ℕ)) (left : List ℕ) → AllByRecursion IsBody taken → (bodies : List (List ℕ)) (end : End) → Cuts left bodies end → Cuts (flat_map packet taken ++ left) (taken ++ bodies) end
+cut_after [] left all bodies end h = h
+cut_after (body ∷ taken) left all bodies end h =
+    (flat_map packet taken ++ left, all.0, append_assoc (packet body) (flat_map packet taken) left, cut_after taken left all.1 bodies end h)
+
+left_at : (taken : List (List ℕ)) (left bytes : List ℕ) → AllByRecursion IsBody taken → bytes ≡ flat_map packet taken ++ left → (all : List (List ℕ)) (end : End) → Cuts bytes all end
+    → (bodies : List (List ℕ)) × (all ≡ taken ++ bodies) × Cuts left bodies end
+left_at [] left bytes are e all end h = (all, refl, subst (λ (t : List ℕ). Cuts t all end) e h)
+left_at (body ∷ taken) left bytes are e all end h =
+    let after : List ℕ = flat_map packet taken ++ left in
+    let parts : bytes ≡ packet body ++ after = e ∙ append_assoc (packet body) (flat_map packet taken) left in
+    let a = after_whole bytes (length (packet body)) all end (body, after, are.0, parts, refl) h in
+    let same = one_packet body a.0 after (drop (length (packet body)) bytes) are.0 a.3 (sym parts ∙ a.4) in
+    let r = left_at taken left (drop (length (packet body)) bytes) are.1 (sym same.1) a.1 end a.6 in
+    let heads : body ≡ a.0 = same.0 in
+    let tails : a.1 ≡ taken ++ r.0 = r.1 in
+    let whole : all ≡ a.0 ∷ a.1 = a.2 in
+    let joined : all ≡ body ∷ (taken ++ r.0) = cc in
+    (r.0, joined, r.2)
+
+pub cut_left : (taken : List (List ℕ)) (left : List ℕ) → AllByRecursion IsBody taken → (all : List (List ℕ)) (end : End) → Cuts (flat_map packet taken ++ left) all end → (bodies : List (List ℕ)) × (all ≡ taken ++ bodies) × Cuts left bodies end
+cut_left taken left are all end h = left_at taken left (flat_map packet taken ++ left) are refl all end h
 
 -- ---- bytes that are added
 

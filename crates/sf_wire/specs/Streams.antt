@@ -1,9 +1,9 @@
 -- How a stream is cut piece by piece.
 use Rattle.std.specs.Prelude.{◌≡◌, ℕ, ◌<◌, ◌≤◌, List, [], ◌∷◌, ◌++◌, length, take, drop}
-use Rattle.std.specs.List.{All}
+use Rattle.std.specs.List.{All, AllByRecursion, flat_map}
 use Rattle.sf_wire.specs.declared.cutting.Cut.{Cut}
 use Rattle.sf_wire.specs.declared.cutting.Cut.TheVariants as cut
-use Rattle.sf_wire.specs.Packets.{packet, IsBody, IsCut, End, More, Bad, Cuts}
+use Rattle.sf_wire.specs.Packets.{packet, IsBody, IsCut, End, More, Bad, Ends, Cuts}
 
 abbrev pub AreBytes : List ℕ → Type 0
 AreBytes bytes = All (λ b. b < 256) bytes
@@ -25,6 +25,13 @@ abbrev pub CutsAfter : List ℕ → Cut → List (List ℕ) → End → Type 0
 CutsAfter bytes (cut.Whole len) bodies end = (body : List ℕ) × (others : List (List ℕ)) × (bodies ≡ body ∷ others) × IsBody body × (bytes ≡ packet body ++ drop len bytes) × (len ≡ length (packet body)) × Cuts (drop len bytes) others end
 CutsAfter bytes cut.More bodies end = (bodies ≡ []) × (end ≡ More bytes)
 CutsAfter bytes (cut.Bad cause) bodies end = (bodies ≡ []) × (end ≡ Bad cause)
+
+-- The stream is the packets of the bodies, one after the other, and then the bytes that end it.
+pub record IsSpelled (bytes : List ℕ) (bodies : List (List ℕ)) (end : End) : Type 0 where
+  pub rest : List ℕ
+  pub parts : bytes ≡ flat_map packet bodies ++ rest
+  pub are_bodies : AllByRecursion IsBody bodies
+  pub ends : Ends rest end
 
 -- The cut stays when bytes are added: a packet is whole, and four bytes tell a wrong length.
 abbrev pub Stays : List ℕ → Cut → Type 0

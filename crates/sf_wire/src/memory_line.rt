@@ -15,6 +15,7 @@ pub struct Pieces {
 }
 
 impl Pieces {
+    /// Sizes in bytes.
     pub fn new(first: usize, later: usize) -> Pieces
         requires first { 0 < first }
         requires later { 0 < later }
@@ -24,6 +25,7 @@ impl Pieces {
         Pieces { first, later }
     }
 
+    /// The size of the next piece.
     fn take(&mut self) -> usize
         ensures { 0 < result }
     {
@@ -45,11 +47,14 @@ pub struct MemoryLine<'a> {
 }
 
 impl<'a> MemoryLine<'a> {
-    ghost use Rattle.sf_wire.specs.MemoryLines.{input_of, output_of, failures_of};
+    ghost use Rattle.sf_wire.specs.MemoryLines.{input_of, output_of, reads_of, writes_of, failures_of};
 
+    /// A line that has moved nothing yet. It takes memory only as bytes are written.
     pub fn new(alloc: Global, input: &'a [u8], reads: Pieces, writes: Pieces) -> MemoryLine<'a>
         ensures input { input_of result ≡ input.now }
         ensures output { output_of result ≡ [] }
+        ensures reads { reads_of result ≡ reads }
+        ensures writes { writes_of result ≡ writes }
         ensures failures { failures_of result ≡ 0 }
     {
         MemoryLine {

@@ -44,7 +44,7 @@ fn write_some<W: Write>(writer: &mut W, bytes: &[u8]) -> Option<usize>
 
 /// A line over any reader and any writer. It tells their bytes where they do.
 ///
-/// A call that a signal interrupts is made again. Nothing is flushed: sockets and standard output
+/// A call that a signal interrupts is made again, some thousand times. Nothing is flushed: sockets and standard output
 /// keep nothing back, and whoever gives a writer that does flushes it.
 #[derive(Debug, Drop)]
 pub struct StreamLine<R, W> {
@@ -56,6 +56,7 @@ pub struct StreamLine<R, W> {
 impl<R, W> StreamLine<R, W> {
     ghost use Rattle.sf_wire.specs.StreamLines.{reader_of, writer_of, failures_of};
 
+    /// A line that has moved nothing yet.
     pub fn new(reader: R, writer: W) -> StreamLine<R, W>
         ensures reader { reader_of result ≡ reader }
         ensures writer { writer_of result ≡ writer }

@@ -25,7 +25,10 @@ fn memory_line(rt: HostRuntime) -> Result<(), Fail> {
     let alloc = rt.alloc();
     let pieces = Pieces::new(1, 3);
     let mut line = MemoryLine::new(alloc, b"abcdefg", pieces, Pieces::new(1, 2));
-    assert_eq!(rt; echo(alloc, &mut line)?.as_slice(), [1usize, 3, 3, 0].as_slice());
+    assert_eq!(rt;
+        echo(alloc, &mut line)?.as_slice(),
+        [1usize, 3, 3, 0].as_slice()
+    );
     assert_eq!(rt; line.output(), b"abcdefg".as_slice());
     assert_eq!(rt; line.failures(), 0);
     Ok(())
@@ -36,7 +39,10 @@ fn stream_line(rt: HostRuntime) -> Result<(), Fail> {
     let alloc = rt.alloc();
     let mut output: Vec<u8> = Vec::new(alloc);
     let mut line = StreamLine::new(b"abcdefg".as_slice(), &mut output);
-    assert_eq!(rt; echo(alloc, &mut line)?.as_slice(), [4usize, 3, 0].as_slice());
+    assert_eq!(rt;
+        echo(alloc, &mut line)?.as_slice(),
+        [4usize, 3, 0].as_slice()
+    );
     assert_eq!(rt; line.failures(), 0);
     assert_eq!(rt; output.as_slice(), b"abcdefg".as_slice());
     Ok(())
