@@ -1,6 +1,5 @@
 -- Histories with one record more.
-use Rattle.std.proofs.Common.{◌≡◌, ◌≢◌, ℕ, ◌⊎◌, nat_eq, Bool, true, false, cond, List, [], ◌∷◌, ◌++◌, Option, Some, None, refl, sym, ap, ◌∙◌, subst, inl, inr, append_assoc, ne_eqb, eq-eqb}
-use Rattle.std.specs.List.{AllByRecursion, find}
+use Rattle.std.proofs.Common.{◌≡◌, ℕ, false, List, [], ◌∷◌, ◌++◌, Some, refl, sym, subst, inl, inr, append_assoc, ne_eqb, eq-eqb}
 use Rattle.std.proofs.lemmas.List.{append-nil}
 use Rattle.std.proofs.lemmas.List.Sums.{fold-append}
 use Rattle.sf_wire.specs.declared.reply.Reply.{Reply}
@@ -8,7 +7,7 @@ use Rattle.sf_call.specs.declared.request.Request.{Request}
 use Rattle.sf_call.specs.declared.record.Record.{Record}
 use Rattle.sf_call.specs.declared.record.Record.TheVariants.{Did, Left}
 use Rattle.sf_call.specs.Tree.{empty_tree}
-use Rattle.sf_call.specs.Histories.{after, replay, IsOther, IsNewNumber, MayFollow, CallMayFollow, IsLegalAfter, IsLegal, IsAmong, IsGiven, is_of, record_of}
+use Rattle.sf_call.specs.Histories.{after, replay, IsOther, IsNewNumber, MayFollow, IsLegalAfter, IsLegal, IsAmong, is_of, record_of}
 
 pub replay-push : (history : List Record) (r : Record) → replay (history ++ r ∷ []) ≡ after (replay history) r
 unfolding replay
@@ -38,11 +37,11 @@ pub given : (history : List Record) (r : Record) → IsLegal history → IsAmong
 unfolding IsLegal IsLegalAfter
 given history r legal among = given_after [] history r tt legal among
 
-front_new : (number : ℕ) (before : List Record) (x : Record) → IsNewNumber number (before ++ x ∷ []) → IsNewNumber number before
+pub front_new : (number : ℕ) (before : List Record) (x : Record) → IsNewNumber number (before ++ x ∷ []) → IsNewNumber number before
 front_new number [] x new = tt
 front_new number (y ∷ before) x new = (new.0, front_new number before x new.1)
 
-last_other : (number : ℕ) (before : List Record) (x : Record) → IsNewNumber number (before ++ x ∷ []) → IsOther number x
+pub last_other : (number : ℕ) (before : List Record) (x : Record) → IsNewNumber number (before ++ x ∷ []) → IsOther number x
 last_other number [] x new = new.0
 last_other number (y ∷ before) x new = last_other number before x new.1
 

@@ -1,18 +1,20 @@
 -- Ordered lists of entries that answer alike are one.
-use Rattle.std.proofs.Common.{◌≡◌, T, cond, List, [], ◌∷◌, Option, Some, refl, sym, ap, ◌∙◌}
+use Rattle.std.proofs.Common.{◌≡◌, T, cond, List, [], ◌∷◌, Some, refl, sym, ap, ◌∙◌}
 use Rattle.std.specs.declared.cmp.Ordering.{Ordering}
-use Rattle.std.specs.Ordering.{nat_cmp}
 use Rattle.std.specs.Cmp.{IsTotalOrder, nat_cmp_total}
 use Rattle.std.specs.Map.{lookup}
 use Rattle.std.specs.BTreeMap.{is_at}
 use Rattle.std.specs.FinMap.{IsAntisymmetric, nat_cmp-IsAntisymmetric, slice_cmp-IsAntisymmetric, find, is_sorted}
 use Rattle.std.specs.FinMap.Entries as entries
-use Rattle.sf_path.specs.Order.{path_cmp, path_total}
+use Rattle.sf_path.specs.Order.{name_cmp, path_cmp, path_total}
 use Rattle.sf_call.specs.Tree.{Tree, IsOrderedTree, MapsAlike}
 
--- paths that compare alike are one
+-- names and paths that compare alike are one
+pub exact_names : IsAntisymmetric name_cmp
+exact_names = slice_cmp-IsAntisymmetric nat_cmp-IsAntisymmetric
+
 pub exact_paths : IsAntisymmetric path_cmp
-exact_paths = slice_cmp-IsAntisymmetric (slice_cmp-IsAntisymmetric nat_cmp-IsAntisymmetric)
+exact_paths = slice_cmp-IsAntisymmetric exact_names
 
 find_is : {K X : Type 0} (R : K → K → Ordering) (es : List (K × X)) (q : K) → lookup (is_at (R q)) es ≡ find R q es
 find_is R [] q = refl

@@ -1,5 +1,5 @@
 -- No call leaves an object that nothing names or opens.
-use Rattle.std.proofs.Common.{◌≡◌, ℕ, Bool, true, false, cond, nat_eq, not, ◌||◌, List, [], ◌∷◌, filter, fold, Option, Some, None, refl, sym, ap, ◌∙◌, subst, eq-eqb}
+use Rattle.std.proofs.Common.{◌≡◌, ℕ, Bool, true, false, cond, nat_eq, not, ◌||◌, List, [], ◌∷◌, filter, fold, Option, Some, None, refl, ap, eq-eqb}
 use Rattle.std.specs.List.{AllByRecursion, list_any}
 use Rattle.std.specs.declared.cmp.Ordering.{Ordering}
 use Rattle.std.specs.declared.cmp.Ordering.TheVariants.{Less, Equal, Greater}
@@ -16,12 +16,13 @@ use Rattle.sf_call.specs.declared.record.Record.{Record}
 use Rattle.sf_call.specs.declared.record.Record.TheVariants.{Did, Left}
 use Rattle.sf_call.specs.Attributes.{Metadata, Object, new_metadata}
 use Rattle.sf_call.specs.Attributes.Object.{Directory}
-use Rattle.sf_call.specs.Tree.{Path, Tree, Handle, Found, label_at, directory_at, is_faulty_way, place_of, place_at, found_at, is_used, kept, with_handles, empty_tree}
+use Rattle.sf_path.specs.Names.{Path}
+use Rattle.sf_call.specs.Tree.{Tree, Found, label_at, directory_at, is_faulty_way, place_of, found_at, is_used, kept, with_handles, empty_tree}
 use Rattle.sf_call.specs.Tree.Found.{Nowhere, Nothing, DirectoryAt, FileAt}
 use Rattle.sf_call.specs.declared.place.Place.TheVariants.{NoWay}
-use Rattle.sf_call.specs.Changes.{Change, done, changed, touch}
+use Rattle.sf_call.specs.Changes.{done, changed, touch}
 use Rattle.sf_call.specs.Changes.Change.{NewPath}
-use Rattle.sf_call.specs.Calls.{apply, make_directory, stat, leave}
+use Rattle.sf_call.specs.Calls.{apply, make_directory, stat}
 use Rattle.sf_call.specs.Histories.{after, after_reply, replay}
 
 or_true : (a b : Bool) → b ≡ true → a || b ≡ true

@@ -1,9 +1,10 @@
 -- The fronts of a path.
-use Rattle.std.proofs.Common.{◌≡◌, ℕ, zero, suc, ◌+◌, ◌<◌, ◌≤◌, ◌↔◌, Bool, true, false, not, ◌||◌, List, [], ◌∷◌, length, take, get_or, map, refl, sym, ap, ◌∙◌, arith}
+use Rattle.std.proofs.Common.{◌≡◌, ℕ, zero, suc, ◌+◌, ◌<◌, ◌↔◌, Bool, true, false, not, ◌||◌, List, [], ◌∷◌, length, take, get_or, refl, sym, ap, ◌∙◌, arith}
 use Rattle.std.specs.List.{list_any}
 use Rattle.std.proofs.lemmas.List.{length-map, get_or-map}
 use Rattle.std.proofs.lemmas.List.Folds.{list_any_more, list_any_none, list_any_at}
-use Rattle.sf_call.specs.Tree.{Name, Path, Tree, is_directory, proper_fronts, is_faulty_way}
+use Rattle.sf_path.specs.Names.{Path}
+use Rattle.sf_call.specs.Tree.{Tree, is_directory, proper_fronts, is_faulty_way}
 
 pub length-proper_fronts : (path : Path) → length (proper_fronts path) ≡ length path
 length-proper_fronts [] = refl

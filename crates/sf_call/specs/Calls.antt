@@ -1,5 +1,5 @@
 -- What the tree answers to each request, and what the request changes. Cases are tried in order; the first that fits answers.
-use Rattle.std.specs.Prelude.{ℕ, not, nat_eq, List, [], ◌∷◌, filter, IsSome}
+use Rattle.std.specs.Prelude.{ℕ, not, nat_eq, List, [], ◌∷◌, filter}
 use Rattle.sf_wire.specs.declared.attrs.Attrs.{Attrs}
 use Rattle.sf_wire.specs.declared.reply.Reply.{Reply}
 use Rattle.sf_wire.specs.declared.reply.Reply.TheVariants as reply
@@ -9,13 +9,15 @@ use Rattle.sf_path.specs.Order.{parent}
 use Rattle.sf_call.specs.declared.request.Request.{Request}
 use Rattle.sf_call.specs.declared.request.Request.TheVariants.{Mkdir, Stat}
 use Rattle.sf_call.specs.declared.place.Place.TheVariants.{NoWay, Absent, At}
-use Rattle.sf_call.specs.Attributes.{Object, new_metadata, attrs_of}
+use Rattle.sf_call.specs.Attributes.{new_metadata, attrs_of}
 use Rattle.sf_call.specs.Attributes.Object.{Directory, File}
-use Rattle.sf_call.specs.Tree.{Path, Tree, Place, Found, place_at, found_at, kept, with_handles}
+use Rattle.sf_path.specs.Names.{Path}
+use Rattle.sf_call.specs.Tree.{Tree, Place, Found, place_at, found_at, kept, with_handles}
 use Rattle.sf_call.specs.Tree.Found.{Nowhere, Nothing, DirectoryAt, FileAt}
 use Rattle.sf_call.specs.Changes.{Change, done, touched}
 use Rattle.sf_call.specs.Changes.Change.{NewPath}
 
+-- what a request is answered, and what it changes
 pub record Answer : Type 0 where
   pub reply : Reply
   pub changes : List Change
@@ -64,25 +66,6 @@ carry_out tree answer = record { reply = answer.reply; tree = done tree answer.c
 
 abbrev pub apply : Tree → ℕ → ℕ → ℕ → Request → Applied
 apply tree session number moment request = carry_out tree (answer_to tree session number moment request)
-
--- what the replies are like: a status, or attributes with all four parts
-abbrev pub IsStatus : Reply → Type 0
-IsStatus (reply.Status code) = Unit {0}
-IsStatus reply.NoMemory = ⊥
-IsStatus (reply.Names entries) = ⊥
-IsStatus (reply.Attrs attrs) = ⊥
-
-pub record HasAllParts (attrs : Attrs) : Type 0 where
-  pub size : IsSome attrs.size
-  pub owner : IsSome attrs.owner
-  pub permissions : IsSome attrs.permissions
-  pub times : IsSome attrs.times
-
-abbrev pub IsStatusOrAttrs : Reply → Type 0
-IsStatusOrAttrs (reply.Status code) = Unit {0}
-IsStatusOrAttrs reply.NoMemory = ⊥
-IsStatusOrAttrs (reply.Names entries) = ⊥
-IsStatusOrAttrs (reply.Attrs attrs) = HasAllParts attrs
 
 -- the tree after a session left: its handles are closed
 abbrev pub leave : Tree → ℕ → Tree

@@ -6,9 +6,12 @@ use Rattle.std.specs.BTreeMap.{insert_entry, is_at}
 use Rattle.sf_path.specs.Order.{path_cmp}
 use Rattle.sf_call.specs.Attributes.{Metadata, Object, modified_at}
 use Rattle.sf_call.specs.Attributes.Object.{Directory}
-use Rattle.sf_call.specs.Tree.{Path, Tree, Handle, with_names, with_objects, with_handles, directory_at, kept}
+use Rattle.sf_path.specs.Names.{Path}
+use Rattle.sf_call.specs.Tree.{Tree, Handle, with_names, with_objects, with_handles, directory_at, kept}
 use Rattle.sf_call.specs.Moves.{moved}
 
+-- another object at a label; a new path, with its label and its object; a path gone; a move of what begins with a path;
+-- a handle opened, changed or closed
 pub data Change : Type 0 where
   SetObject : (label : ℕ) → (object : Object) → Change
   NewPath : (path : Path) → (label : ℕ) → (object : Object) → Change

@@ -1,5 +1,5 @@
 -- Small trees and requests on which the definitions are worked out.
-use Rattle.std.specs.Prelude.{ℕ, List, [], ◌∷◌, codes, Some, None, true, false}
+use Rattle.std.specs.Prelude.{ℕ, List, [], ◌∷◌, codes, Some, None}
 use Rattle.sf_wire.specs.declared.attrs.Attrs.{Attrs}
 use Rattle.sf_wire.specs.declared.reply.Reply.TheVariants as reply
 use Rattle.sf_wire.specs.declared.reply.StatusCode.{StatusCode}
@@ -8,9 +8,10 @@ use Rattle.sf_call.specs.declared.request.Request.{Request}
 use Rattle.sf_call.specs.declared.request.Request.TheVariants.{Mkdir, Stat}
 use Rattle.sf_call.specs.declared.record.Record.{Record}
 use Rattle.sf_call.specs.declared.record.Record.TheVariants.{Did, Left}
-use Rattle.sf_call.specs.Attributes.{Metadata, Object, made_at}
+use Rattle.sf_call.specs.Attributes.{Metadata, Object}
 use Rattle.sf_call.specs.Attributes.Object.{Directory, File}
-use Rattle.sf_call.specs.Tree.{Name, Path, Tree, empty_tree}
+use Rattle.sf_path.specs.Names.{Name}
+use Rattle.sf_call.specs.Tree.{Tree}
 use Rattle.sf_call.specs.Calls.{Applied, apply}
 
 abbrev pub a : Name

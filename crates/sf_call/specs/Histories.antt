@@ -7,7 +7,7 @@ use Rattle.sf_call.specs.declared.request.Request.{Request}
 use Rattle.sf_call.specs.declared.record.Record.{Record}
 use Rattle.sf_call.specs.declared.record.Record.TheVariants.{Did, Left}
 use Rattle.sf_call.specs.Tree.{Tree, empty_tree}
-use Rattle.sf_call.specs.Calls.{Applied, apply, leave}
+use Rattle.sf_call.specs.Calls.{apply, leave}
 
 -- the tree after a call that had this reply: want of memory leaves it as it was
 abbrev pub after_reply : Tree → Tree → Reply → Tree
@@ -33,13 +33,13 @@ abbrev pub IsNewNumber : ℕ → List Record → Type 0
 IsNewNumber number history = AllByRecursion (IsOther number) history
 
 -- the record is not the session's leaving
-abbrev pub IsStay : ℕ → Record → Type 0
-IsStay session (Did number s moment request given) = Unit {0}
-IsStay session (Left s) = s ≢ session
+abbrev pub IsNoLeaving : ℕ → Record → Type 0
+IsNoLeaving session (Did number s moment request given) = Unit {0}
+IsNoLeaving session (Left s) = s ≢ session
 
 -- the session has not left
 abbrev pub IsPresent : ℕ → List Record → Type 0
-IsPresent session history = AllByRecursion (IsStay session) history
+IsPresent session history = AllByRecursion (IsNoLeaving session) history
 
 -- a call may come next: its number is above 0 and new, its session has not left, and its reply is the tree's or want of memory
 pub record CallMayFollow (history : List Record) (number session moment : ℕ) (request : Request) (given : Reply) : Type 0 where

@@ -2,7 +2,8 @@
 use Rattle.std.specs.Prelude.{ℕ, Bool, ◌&&◌, List, [], ◌∷◌, ◌++◌, filter, filter_map, Option, option_map, is_none}
 use Rattle.std.specs.BTreeMap.{insert_entry}
 use Rattle.sf_path.specs.Order.{path_cmp}
-use Rattle.sf_call.specs.Tree.{Path, after_front}
+use Rattle.sf_path.specs.Names.{Path}
+use Rattle.sf_call.specs.Tree.{after_front}
 
 -- whether a path begins with neither
 abbrev pub is_outside : Path → Path → Path → Bool

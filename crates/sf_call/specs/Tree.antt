@@ -1,24 +1,18 @@
 -- The tree of files: what each path names, the directories and files, and the open handles.
 -- Each map is the list of its entries in the order of the keys, so trees that map alike are equal.
-use Rattle.std.specs.Prelude.{◌≡◌, ℕ, Bool, true, false, not, ◌||◌, if◌then◌else◌, T, List, [], ◌∷◌, ◌++◌, map, filter, filter_map, Option, Some, None, option_map, option_and_then, is_some, nat_eq}
+use Rattle.std.specs.Prelude.{◌≡◌, ℕ, Bool, true, false, not, ◌||◌, if◌then◌else◌, T, List, [], ◌∷◌, map, filter, filter_map, Option, Some, None, option_map, option_and_then, is_some, nat_eq}
 use Rattle.std.specs.List.{list_any}
-use Rattle.std.specs.Ordering.{nat_cmp, eq_by_cmp}
+use Rattle.std.specs.Ordering.{nat_cmp}
 use Rattle.std.specs.Map.{lookup}
 use Rattle.std.specs.BTreeMap.{is_at}
 use Rattle.std.specs.FinMap.{is_sorted}
-use Rattle.sf_path.specs.Order.{name_cmp, path_cmp}
+use Rattle.sf_path.specs.Names.{Name, Path}
+use Rattle.sf_path.specs.Order.{same_name, path_cmp}
 pub use Rattle.sf_call.specs.declared.handle.Handle.{Handle}
 pub use Rattle.sf_call.specs.declared.place.Place.{Place}
 use Rattle.sf_call.specs.declared.place.Place.TheVariants.{NoWay, Absent, At}
 use Rattle.sf_call.specs.Attributes.{Metadata, Object, made_at}
 use Rattle.sf_call.specs.Attributes.Object.{Directory, File}
-
-abbrev pub Name : Type 0
-Name = List ℕ
-
--- the names from the root on; the root is the empty list
-abbrev pub Path : Type 0
-Path = List Name
 
 -- names lead to labels, labels to objects, and numbers to handles
 pub record Tree : Type 0 where
@@ -104,9 +98,6 @@ abbrev pub found_at : Tree → Path → Found
 found_at tree path = found_place tree.objects (place_at tree path)
 
 -- what follows the front of a path, if the path begins with it
-abbrev pub same_name : Name → Name → Bool
-same_name = eq_by_cmp name_cmp
-
 abbrev pub after_front : Path → Path → Option Path
 after_front [] path = Some path
 after_front (n ∷ front) [] = None

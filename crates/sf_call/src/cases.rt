@@ -25,7 +25,6 @@ pub fn mkdir_cases()
 /// STAT.
 pub fn stat_cases()
     ensures directory { call with_directory (Stat (a ∷ [])) ≡ told with_directory (all_attrs 0 0 0 0o40755 100 100) }
-    ensures root { call with_directory (Stat []) ≡ told with_directory (all_attrs 0 0 0 0o40755 0 100) }
     ensures file { call with_file (Stat (a ∷ [])) ≡ told with_file (all_attrs 3 5 6 0o100644 100 200) }
     ensures absent { call with_directory (Stat (b ∷ [])) ≡ refused with_directory NoSuchFile }
     ensures below_file { call with_file (Stat (a ∷ b ∷ [])) ≡ refused with_file NoSuchFile }

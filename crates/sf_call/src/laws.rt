@@ -1,19 +1,22 @@
 //! Laws of the tree and of histories, which no call needs.
 
-ghost use Rattle.std.specs.Prelude.{◌≡◌, ◌<◌, ◌↔◌, ℕ, true, false, List, [], ◌∷◌, ◌++◌, length, take, Some};
-ghost use Rattle.sf_wire.specs.declared.attrs.Attrs.{Attrs};
+ghost use Rattle.std.specs.Prelude.{◌≡◌, ◌≢◌, ◌<◌, ◌↔◌, ℕ, true, false, List, [], ◌∷◌, ◌++◌, length, take, Some, None};
 ghost use Rattle.sf_wire.specs.declared.reply.Reply.{Reply};
+ghost use Rattle.sf_wire.specs.Replies.{IsPlain};
 ghost use Rattle.sf_call.specs.declared.request.Request.{Request};
-ghost use Rattle.sf_call.specs.declared.request.Request.TheVariants.{Mkdir, Stat};
 ghost use Rattle.sf_call.specs.declared.record.Record.{Record};
 ghost use Rattle.sf_call.specs.declared.record.Record.TheVariants.{Did};
-ghost use Rattle.sf_call.specs.Tree.{Tree, Path, IsOrderedTree, MapsAlike, is_directory, is_faulty_way, kept};
-ghost use Rattle.sf_call.specs.Calls.{apply, IsStatus, IsStatusOrAttrs};
-ghost use Rattle.sf_call.specs.Histories.{after, replay, IsLegal, MayFollow, IsAmong, IsGiven, record_of};
+ghost use Rattle.sf_path.specs.Names.{Path};
+ghost use Rattle.sf_call.specs.Tree.{Tree, IsOrderedTree, MapsAlike, label_at, is_directory, is_faulty_way, after_front, kept};
+ghost use Rattle.sf_call.specs.Moves.{moved};
+ghost use Rattle.sf_call.specs.Calls.{apply};
+ghost use Rattle.sf_call.specs.ReplyKinds.{IsReplyTo};
+ghost use Rattle.sf_call.specs.Histories.{after, replay, IsNewNumber, IsLegal, MayFollow, IsAmong, IsGiven, record_of};
 
-/// Trees are compared by what they map.
+/// Trees are compared by what they map: each tree that a history leads to is in order, and two such trees that map alike are equal.
 pub fn ordered_trees()
-    ensures { (s t : Tree) → IsOrderedTree s → IsOrderedTree t → MapsAlike s t → s ≡ t }
+    ensures alike { (s t : Tree) → IsOrderedTree s → IsOrderedTree t → MapsAlike s t → s ≡ t }
+    ensures replayed { (history : List Record) → IsOrderedTree (replay history) }
 {}
 
 /// A way is open where each proper front of the path is a directory.
@@ -21,15 +24,36 @@ pub fn open_ways()
     ensures { (tree : Tree) (path : Path) → (is_faulty_way tree path ≡ false) ↔ ((n : ℕ) → n < length path → is_directory tree (take n path) ≡ true) }
 {}
 
-/// What MKDIR and STAT may answer.
+/// A move brings what stood below the old path below the new one, in the place of what stood there, and nothing else changes.
+pub fn moved_names()
+    ensures to_new { (names : List (Path × ℕ)) (old new rest : Path) → label_at (moved names old new) (new ++ rest) ≡ label_at names (old ++ rest) }
+    ensures from_old { (names : List (Path × ℕ)) (old new path rest : Path) → after_front old path ≡ Some rest → after_front new path ≡ None → label_at (moved names old new) path ≡ None }
+    ensures outside { (names : List (Path × ℕ)) (old new path : Path) → after_front old path ≡ None → after_front new path ≡ None → label_at (moved names old new) path ≡ label_at names path }
+{}
+
+/// What follows a front of a path.
+pub fn fronts()
+    ensures append { (front rest : Path) → after_front front (front ++ rest) ≡ Some rest }
+    ensures front { (front path rest : Path) → after_front front path ≡ Some rest → path ≡ front ++ rest }
+{}
+
+/// What a request may be answered. No reply of the tree or of a legal history holds a list.
 pub fn kinds_of_replies()
-    ensures mkdir { (tree : Tree) (session number moment : ℕ) (path : Path) (attrs : Attrs) → IsStatus (apply tree session number moment (Mkdir path attrs)).reply }
-    ensures stat { (tree : Tree) (session number moment : ℕ) (path : Path) → IsStatusOrAttrs (apply tree session number moment (Stat path)).reply }
+    ensures kind { (tree : Tree) (session number moment : ℕ) (request : Request) → IsReplyTo request (apply tree session number moment request).reply }
+    ensures plain { (tree : Tree) (session number moment : ℕ) (request : Request) → IsPlain (apply tree session number moment request).reply }
+    ensures given { (number session : ℕ) (reply : Reply) → IsGiven number session reply → IsPlain reply }
 {}
 
 /// After a legal history each object is named or open.
 pub fn nothing_unused()
     ensures { (history : List Record) → IsLegal history → kept (replay history) ≡ replay history }
+{}
+
+/// After a legal history a label is 0, the root's, or the number of a call, and one path at most has it.
+pub fn labels_of_paths()
+    ensures unused { (history : List Record) (number : ℕ) (path : Path) → IsLegal history → 0 < number → IsNewNumber number history → label_at (replay history).names path ≢ Some number }
+    ensures one_path { (history : List Record) (path other : Path) (label : ℕ) → IsLegal history
+        → label_at (replay history).names path ≡ Some label → label_at (replay history).names other ≡ Some label → path ≡ other }
 {}
 
 /// A history goes on by one record.

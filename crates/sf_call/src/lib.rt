@@ -14,8 +14,8 @@ pub use cases::{history_cases, mkdir_cases, stat_cases};
 pub use fault::CoreFault;
 pub use handle::Handle;
 pub use laws::{
-    found_by_number, given_by_history, kinds_of_replies, nothing_unused, one_record_more,
-    open_ways, ordered_trees,
+    found_by_number, fronts, given_by_history, kinds_of_replies, labels_of_paths, moved_names,
+    nothing_unused, one_record_more, open_ways, ordered_trees,
 };
 pub use metadata::{FileType, Metadata};
 pub use place::Place;

@@ -7,13 +7,14 @@ use sf_wire::Attrs;
 use std::alloc::{AllocError, Global};
 
 /// LSTAT is `Stat` too: the tree has no links.
-#[derive(Debug, Drop)]
+#[derive(Debug, PartialEq, Eq, Drop)]
 pub enum Request {
     Mkdir(Path, Attrs),
     Stat(Path),
 }
 
 impl Request {
+    /// Takes memory for the path's names.
     pub fn try_copy(&self, alloc: Global) -> Result<Request, AllocError>
         ensures { IfOk result (λ copy. copy ≡ self.now) }
     {

@@ -29,9 +29,11 @@ pub record IsName (name : Name) : Type 0 where
 abbrev pub IsPath : Path → Type 0
 IsPath path = All IsName path
 
+-- the first names of the path are all those of the front
 abbrev pub BeginsWith : Path → Path → Type 0
 BeginsWith path front = (rest : Path) × (path ≡ front ++ rest)
 
+-- a name with a slash before it
 abbrev pub slashed : Name → List ℕ
 slashed name = slash ∷ name
 

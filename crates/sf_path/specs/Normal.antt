@@ -21,7 +21,7 @@ with_part path part =
 abbrev pub norm : List ℕ → Path
 norm text = fold with_part [] (parts text)
 
--- the first fault of a text
+-- the lowest fault of a text: its own length; the length of a part, also of one that `..` would drop; a byte 0
 abbrev pub fault_of : List ℕ → Option PathFault
 fault_of text =
     if nat_lt 4096 (length text) then Some TooLong

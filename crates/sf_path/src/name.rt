@@ -38,6 +38,7 @@ impl Name {
         })
     }
 
+    /// The bytes of the name.
     pub fn as_slice(&self) -> &[u8]
         ensures bytes { result.now ≡ self.now }
         ensures name { IsName result.now }
@@ -52,6 +53,7 @@ impl Name {
         self.bytes.len()
     }
 
+    /// A name of the same bytes.
     pub fn try_copy(&self, alloc: Global) -> Result<Name, AllocError>
         ensures { IfOk result (λ copy. copy ≡ self.now) }
     {

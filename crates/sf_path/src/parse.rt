@@ -5,27 +5,11 @@ ghost use Rattle.std.specs.List.{list_any};
 ghost use Rattle.sf_path.specs.Names.{IsPart};
 ghost use Rattle.sf_path.specs.Normal.{parts, with_part, norm, fault_of};
 
-use crate::fault::PathFault;
 use crate::name::Name;
 use std::alloc::{AllocError, Global};
 
-/// The first fault of the text.
-pub fn fault(text: &[u8]) -> Option<PathFault>
-    ensures { result ≡ fault_of text.now }
-{
-    if text.len() > 4096 {
-        return Some(PathFault::TooLong);
-    }
-    if has_long_part(text) {
-        return Some(PathFault::NameTooLong);
-    }
-    if text.contains(&0) {
-        return Some(PathFault::NulByte);
-    }
-    None
-}
-
-fn has_long_part(text: &[u8]) -> bool
+/// Whether a part between two slashes is above 255 bytes.
+pub fn has_long_part(text: &[u8]) -> bool
     ensures { result ≡ list_any (λ part. nat_lt 255 (length part)) (parts text.now) }
 {
     text.split(|b| *b == b'/').any(|part| part.len() > 255)
@@ -43,6 +27,7 @@ pub fn names_of(alloc: Global, text: &[u8]) -> Result<Vec<Name>, AllocError>
     Ok(names)
 }
 
+/// Goes from the path of these names to where a part leads.
 fn add_part(alloc: Global, names: &mut Vec<Name>, part: &[u8]) -> Result<(), AllocError>
     requires { IsPart part.now }
     ensures { OnOk result (names.new.items ≡ with_part names.old.items part.now) }

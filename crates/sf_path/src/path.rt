@@ -9,7 +9,7 @@ ghost use Rattle.sf_path.specs.Order.{parent, same_path, path_cmp, path_total};
 
 use crate::fault::PathFault;
 use crate::name::Name;
-use crate::parse::{fault, names_of};
+use crate::parse::{has_long_part, names_of};
 use std::alloc::{AllocError, Global};
 use std::cmp::Ordering;
 use std::marker::Model;
@@ -41,17 +41,25 @@ impl Path {
         }
     }
 
-    /// The path that a text stands for, from the root on: its parts between slashes, without the empty ones and `.`, and
-    /// without each `..` and the name before it. Time and memory are in proportion to the text.
+    /// The path that a text stands for: its parts between slashes, without the empty ones and `.`, and without each `..`
+    /// and the name before it (draft-ietf-secsh-filexfer-02, section 6.2, with the root as the default directory). Nothing
+    /// is looked up. Of the text's own faults the lowest is answered, before memory is asked for. Time and memory are in
+    /// proportion to the text.
     pub fn parse(alloc: Global, text: &[u8]) -> Result<Path, PathFault>
         ensures path { IfOk result (λ path. path ≡ norm text.now) }
-        ensures names { IfOk result (λ path. IsPath path) }
+        ensures names { IfOk result IsPath }
         ensures short { IfOk result (λ path. length (text_of path) ≤ length text.now + 1) }
         ensures faulty { (f : PathFault) → fault_of text.now ≡ Some f → result ≡ Err f }
         ensures good { fault_of text.now ≡ None → IsOkUnless result PathFault.OutOfMemory }
     {
-        if let Some(fault) = fault(text) {
-            return Err(fault);
+        if text.len() > 4096 {
+            return Err(PathFault::TooLong);
+        }
+        if has_long_part(text) {
+            return Err(PathFault::NameTooLong);
+        }
+        if text.contains(&0) {
+            return Err(PathFault::NulByte);
         }
         let names = names_of(alloc, text)?;
         Ok(Path { names })
@@ -64,6 +72,7 @@ impl Path {
         self.names.len()
     }
 
+    /// Whether the path has no name.
     pub fn is_root(&self) -> bool
         ensures { IsTrue result ↔ (self.now ≡ []) }
     {
@@ -83,7 +92,8 @@ impl Path {
         ensures alike { take result self.now ≡ take result other.now }
         ensures within { result ≤ length self.now }
         ensures within_other { result ≤ length other.now }
-        ensures longest { result < length self.now → result < length other.now → slice_get self.now result ≢ slice_get other.now result }
+        ensures longest { result < length self.now → result < length other.now
+            → slice_get self.now result ≢ slice_get other.now result }
     {
         let most = self.len().min(other.len());
         for i in 0..most {
@@ -120,6 +130,7 @@ impl Path {
         self.front(alloc, self.len().saturating_sub(1))
     }
 
+    /// A path of the same names.
     pub fn try_copy(&self, alloc: Global) -> Result<Path, AllocError>
         ensures { IfOk result (λ copy. copy ≡ self.now) }
     {
@@ -136,7 +147,8 @@ impl Path {
 
     /// The text of the path: a slash for the root, else each name with a slash before it.
     pub fn text(&self, alloc: Global) -> Result<Vec<u8>, AllocError>
-        ensures { IfOk result (λ text. text.items ≡ text_of self.now) }
+        ensures text { IfOk result (λ text. text.items ≡ text_of self.now) }
+        ensures again { IfOk result (λ text. norm text.items ≡ self.now) }
     {
         if self.is_root() {
             return Vec::from_slice(alloc, b"/");

@@ -1,5 +1,5 @@
 use super::*;
-use std::alloc::Global;
+use std::alloc::{AllocError, Global};
 use std::cmp::Ordering;
 use std::process::Abort;
 use std::test::*;
@@ -85,11 +85,19 @@ fn byte_zero(rt: HostRuntime) {
 }
 
 #[test]
-fn fault_numbers(rt: HostRuntime) {
-    assert_eq!(rt; PathFault::TooLong as u8, 1);
-    assert_eq!(rt; PathFault::NameTooLong as u8, 2);
-    assert_eq!(rt; PathFault::NulByte as u8, 3);
-    assert_eq!(rt; PathFault::OutOfMemory as u8, 4);
+fn fault_numbers_and_words(rt: HostRuntime) -> Result<(), Fail> {
+    let faults = [
+        (PathFault::TooLong, 1, "path above 4096 bytes"),
+        (PathFault::NameTooLong, 2, "name above 255 bytes"),
+        (PathFault::NulByte, 3, "byte 0 in a path"),
+        (PathFault::OutOfMemory, 4, "out of memory"),
+    ];
+    for (fault, number, words) in faults {
+        assert_eq!(rt; fault as u8, number);
+        assert_eq!(rt; format!(in rt.alloc(); "{fault}")?.as_str(), words);
+    }
+    assert_eq!(rt; PathFault::from(AllocError), PathFault::OutOfMemory);
+    Ok(())
 }
 
 #[test]

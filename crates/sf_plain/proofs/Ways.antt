@@ -1,11 +1,12 @@
 -- What is known of a path's way once some of its fronts were looked up.
-use Rattle.std.proofs.Common.{◌≡◌, ℕ, ◌<◌, ◌≤◌, Bool, true, false, not, length, take, List, [], Option, sym, ap, ◌∙◌}
+use Rattle.std.proofs.Common.{◌≡◌, ℕ, ◌<◌, ◌≤◌, true, false, not, length, take, List, [], Option, sym, ap, ◌∙◌}
 use Rattle.std.specs.Option.{is_some}
 use Rattle.std.specs.List.{list_any}
 use Rattle.std.proofs.lemmas.List.{take_all}
 use Rattle.std.proofs.lemmas.List.Folds.{list_any_at}
 use Rattle.sf_call.specs.declared.metadata.Metadata.{Metadata}
-use Rattle.sf_call.specs.Tree.{Path, Tree, directory_at, is_directory, proper_fronts, is_faulty_way}
+use Rattle.sf_path.specs.Names.{Path}
+use Rattle.sf_call.specs.Tree.{Tree, directory_at, is_directory, proper_fronts, is_faulty_way}
 use Rattle.sf_call.proofs.Ways.{fails_within, length-proper_fronts, get_or-proper_fronts}
 
 -- a front that is no directory makes the way faulty

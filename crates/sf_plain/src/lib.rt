@@ -5,6 +5,3 @@ mod node;
 mod tree;
 
 pub use tree::PlainTree;
-
-#[cfg(test)]
-mod tests;

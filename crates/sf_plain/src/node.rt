@@ -2,7 +2,7 @@
 
 ghost use Rattle.std.specs.Prelude.{◌≡◌};
 ghost use Rattle.sf_call.specs.Attributes.{attrs_of};
-ghost use Rattle.sf_call.specs.Attributes.Object.{Directory};
+ghost use Rattle.sf_call.specs.Attributes.Object.{Directory, File};
 ghost use Rattle.sf_call.specs.Tree.{directory_metadata};
 
 use sf_call::{FileType, Metadata};
@@ -11,7 +11,7 @@ use std::marker::Model;
 
 /// A directory, or a file with its bytes.
 #[derive(Debug, Drop)]
-pub struct Node {
+pub(crate) struct Node {
     kind: Kind,
 }
 
@@ -31,7 +31,7 @@ impl Model for Node {
 }
 
 impl Node {
-    pub fn directory(metadata: Metadata) -> Node
+    pub(crate) fn directory(metadata: Metadata) -> Node
         ensures { result ≡ Directory metadata }
     {
         Node {
@@ -39,8 +39,16 @@ impl Node {
         }
     }
 
+    pub(crate) fn file(metadata: Metadata, contents: ByteString) -> Node
+        ensures { result ≡ File metadata contents }
+    {
+        Node {
+            kind: Kind::File(metadata, contents),
+        }
+    }
+
     /// The metadata, if it is a directory.
-    pub fn as_directory(&self) -> Option<Metadata>
+    pub(crate) fn as_directory(&self) -> Option<Metadata>
         ensures { result ≡ directory_metadata self.now }
     {
         match &self.kind {
@@ -50,7 +58,7 @@ impl Node {
     }
 
     /// As they are sent.
-    pub fn attrs(&self) -> Attrs
+    pub(crate) fn attrs(&self) -> Attrs
         ensures { result ≡ attrs_of self.now }
     {
         match &self.kind {

@@ -1,6 +1,7 @@
 //! The tree.
 
 ghost use Rattle.std.specs.Prelude.{◌≡◌, ℕ, None, IfOk, OnOk, OnErr};
+ghost use Rattle.sf_wire.specs.Replies.{IsPlain};
 ghost use Rattle.sf_call.specs.Tree.{empty_tree, label_at, directory_at, is_faulty_way, place_at, found_at};
 ghost use Rattle.sf_call.specs.Changes.{changed, done, touch};
 ghost use Rattle.sf_call.specs.Changes.Change.{NewPath, SetObject};
@@ -13,6 +14,9 @@ use sf_wire::{Attrs, Owner, Reply, StatusCode, Times};
 use std::alloc::{AllocError, Global};
 use std::collections::BTreeMap;
 use std::marker::Model;
+
+#[cfg(test)]
+mod tests;
 
 /// A tree of files.
 #[derive(Drop)]
@@ -53,7 +57,8 @@ impl PlainTree {
         })
     }
 
-    /// Answers a call of this session and number, at a moment in seconds since 1970. After an `Err` nothing has changed.
+    /// Answers a call of this session and number, at a moment in seconds since 1970.
+    #[tactic(auto, using(sf_call::proofs::KindsOfReplies::apply_plain))]
     pub fn apply(
         &mut self,
         session: u64,
@@ -63,6 +68,7 @@ impl PlainTree {
     ) -> Result<Reply, AllocError>
         ensures reply { IfOk result (λ reply. reply ≡ (apply self.old session number moment request.now).reply) }
         ensures tree { OnOk result (self.new ≡ (apply self.old session number moment request.now).tree) }
+        ensures plain { IfOk result IsPlain }
         ensures err { OnErr result (self.new ≡ self.old) }
     {
         match request {
@@ -130,8 +136,8 @@ impl PlainTree {
         Some((label, metadata))
     }
 
-    #[tactic(auto, using(sf_call::proofs::Ways::one_front_more))]
     /// Whether a proper front of the path is absent or names a file.
+    #[tactic(auto, using(sf_call::proofs::Ways::one_front_more))]
     fn is_faulty_way(&self, path: &Path) -> Result<bool, AllocError>
         ensures { IfOk result (λ faulty. faulty ≡ is_faulty_way self.now path.now) }
     {

@@ -1,7 +1,8 @@
 use Rattle.std.proofs.Common.{refl, ap, ◌∙◌, Some, cond}
 use Rattle.std.specs.BTreeMap.{get, is_at}
 use Rattle.sf_path.specs.Order.{path_cmp, path_total}
-use Rattle.sf_call.specs.Tree.{Path, Tree, label_at}
+use Rattle.sf_path.specs.Names.{Path}
+use Rattle.sf_call.specs.Tree.{Tree, label_at}
 use Rattle.sf_call.proofs.Orders.{exact_paths}
 use Rattle.sf_plain.proofs.Undone.{undone, same_tree}
 use Rattle.sf_plain.proofs.tree.PlainTree.add.Goals as goal

@@ -1,0 +1,155 @@
+-- What a move leaves at each path.
+use Rattle.std.proofs.Common.{◌≡◌, ℕ, Bool, true, false, cond, ◌&&◌, List, [], ◌∷◌, ◌++◌, filter, filter_map, option_map, is_none, Option, Some, None, refl, sym, ap, ◌∙◌}
+use Rattle.std.specs.List.{cons_option}
+use Rattle.std.specs.Option.{option_or}
+use Rattle.std.specs.Ordering.{is_eq, match_ordering}
+use Rattle.std.specs.declared.cmp.Ordering.{Ordering}
+use Rattle.std.specs.declared.cmp.Ordering.TheVariants.{Less, Equal, Greater}
+use Rattle.std.specs.Cmp.{tied_itself, eq_by_cmp_equiv}
+use Rattle.std.specs.BTreeMap.{insert_entry, is_at}
+use Rattle.std.specs.FinMap.{find, put}
+use Rattle.std.specs.FinMap.Entries.{by_order, find-put}
+use Rattle.std.proofs.lemmas.Map.Entries.{lookup-filter-keys}
+use Rattle.sf_path.specs.Names.{Name, Path}
+use Rattle.sf_path.specs.Order.{name_cmp, path_cmp, same_name, same_path, name_total, path_total}
+use Rattle.sf_call.specs.Tree.{after_front, label_at}
+use Rattle.sf_call.specs.Moves.{with_entries, carried, is_outside, moved}
+use Rattle.sf_call.proofs.Orders.{exact_names, exact_paths}
+
+is_equal : (r : Ordering) → is_eq r ≡ true → r ≡ Equal
+is_equal Less e = cc
+is_equal Equal e = refl
+is_equal Greater e = cc
+
+-- a test that passes tells the paths equal
+pub same_path_is : (p q : Path) → same_path p q ≡ true → p ≡ q
+same_path_is p q e = exact_paths p q (is_equal (path_cmp p q) e)
+
+pub same_name_is : (n m : Name) → same_name n m ≡ true → n ≡ m
+same_name_is n m e = exact_names n m (is_equal (name_cmp n m) e)
+
+pub same_name_itself : (n : Name) → same_name n n ≡ true
+same_name_itself n = ap is_eq (tied_itself name_total n)
+
+-- what follows the front p of p ++ r
+pub after_front-append : (p r : Path) → after_front p (p ++ r) ≡ Some r
+after_front-append [] r = refl
+after_front-append (n ∷ p) r = ap (λ b. cond b (after_front p (p ++ r)) None) (same_name_itself n) ∙ after_front-append p r
+
+-- a path with this front is the front and what follows
+pub append-after_front : (p q r : Path) → after_front p q ≡ Some r → q ≡ p ++ r
+append-after_front [] q r = λ e. cc
+append-after_front (n ∷ p) [] r = λ e. cc
+append-after_front (n ∷ p) (m ∷ q) r =
+    elim (same_name n m) as (λ b. same_name n m ≡ b → cond b (after_front p q) None ≡ Some r → m ∷ q ≡ n ∷ (p ++ r)) [
+      | true ↦ λ t e. let head : n ≡ m = same_name_is n m t in let tail : q ≡ p ++ r = append-after_front p q r e in cc
+      | false ↦ λ t e. cc
+    ] refl
+
+path_cmp-front : (p r s : Path) → path_cmp (p ++ r) (p ++ s) ≡ path_cmp r s
+path_cmp-front [] r s = refl
+path_cmp-front (n ∷ p) r s = rw (tied_itself name_total n) (path_cmp-front p r s)
+
+put_is : (es : List (Path × ℕ)) (k : Path) (v : ℕ) → insert_entry path_cmp es k v ≡ put path_cmp k v es
+put_is [] k v = refl
+put_is (e ∷ es) k v =
+    elim (path_cmp k e.0) as (λ r. match_ordering r ((k, v) ∷ e ∷ es) ((e.0, v) ∷ es) (e ∷ insert_entry path_cmp es k v) ≡ by_order r ((k, v) ∷ e ∷ es) ((e.0, v) ∷ es) (e ∷ put path_cmp k v es)) [
+      | Less ↦ refl
+      | Equal ↦ refl
+      | Greater ↦ ap (λ (rest : List (Path × ℕ)). e ∷ rest) (put_is es k v)
+    ]
+
+find_is : (es : List (Path × ℕ)) (q : Path) → label_at es q ≡ find path_cmp q es
+find_is [] q = refl
+find_is (e ∷ es) q = ap (cond (same_path q e.0) (Some e.1)) (find_is es q)
+
+-- what the map has at q after an entry was put
+pub lookup-insert_entry : (es : List (Path × ℕ)) (k : Path) (v : ℕ) (q : Path) → label_at (insert_entry path_cmp es k v) q ≡ cond (same_path q k) (Some v) (label_at es q)
+lookup-insert_entry es k v q =
+    ap (λ (l : List (Path × ℕ)). label_at l q) (put_is es k v) ∙ find_is (put path_cmp k v es) q ∙ find-put path_cmp path_total q k v es
+    ∙ ap (cond (same_path q k) (Some v)) (sym (find_is es q))
+
+or_cond : (b : Bool) (v : ℕ) (x y : Option ℕ) → cond b (Some v) (option_or x y) ≡ option_or (cond b (Some v) x) y
+or_cond true v x y = refl
+or_cond false v x y = refl
+
+-- the entries that were put hide those below
+pub lookup-with_entries : (names es : List (Path × ℕ)) (q : Path) → label_at (with_entries names es) q ≡ option_or (label_at es q) (label_at names q)
+lookup-with_entries names [] q = refl
+lookup-with_entries names (e ∷ es) q =
+    lookup-insert_entry (with_entries names es) e.0 e.1 q ∙ ap (cond (same_path q e.0) (Some e.1)) (lookup-with_entries names es q)
+    ∙ or_cond (same_path q e.0) e.1 (label_at es q) (label_at names q)
+
+-- a path with another beginning is another path
+other_path : (p q r : Path) → after_front p q ≡ None → same_path (p ++ r) q ≡ false
+other_path p q r none =
+    elim (same_path (p ++ r) q) as (λ b. same_path (p ++ r) q ≡ b → b ≡ false) [
+      | true ↦ λ t. let e : p ++ r ≡ q = same_path_is (p ++ r) q t in let some = after_front-append p r in let same = ap (after_front p) e in cc
+      | false ↦ λ t. refl
+    ] refl
+
+other_path_back : (p q r : Path) → after_front p q ≡ None → same_path q (p ++ r) ≡ false
+other_path_back p q r none = (eq_by_cmp_equiv path_total).symm q (p ++ r) ∙ other_path p q r none
+
+-- where the new path is looked up, its old one is
+abbrev pub at_old : List (Path × ℕ) → Path → Option Path → Option ℕ
+at_old names old None = None
+at_old names old (Some r) = label_at names (old ++ r)
+
+-- among the carried entries the path new ++ r has what old ++ r had
+pub lookup-carried : (names : List (Path × ℕ)) (old new q : Path) → label_at (filter_map (carried old new) names) q ≡ at_old names old (after_front new q)
+lookup-carried [] old new q = elim (after_front new q) as (λ f. None ≡ at_old [] old f) [ None ↦ refl | Some r ↦ refl ]
+lookup-carried (e ∷ es) old new q =
+    let rest = lookup-carried es old new q in
+    elim (after_front old e.0) as (λ f. after_front old e.0 ≡ f → label_at (cons_option (option_map (λ r. (new ++ r, e.1)) f) (filter_map (carried old new) es)) q ≡ at_old (e ∷ es) old (after_front new q)) [
+      | None ↦ λ gone. rest ∙ elim (after_front new q) as (λ g. at_old es old g ≡ at_old (e ∷ es) old g) [
+        | None ↦ refl
+        | Some r ↦ ap (λ b. cond b (Some e.1) (label_at es (old ++ r))) (sym (other_path old e.0 r gone))
+      ]
+      | Some s ↦ λ there. elim (after_front new q) as (λ g. after_front new q ≡ g → label_at (filter_map (carried old new) es) q ≡ at_old es old g → cond (same_path q (new ++ s)) (Some e.1) (label_at (filter_map (carried old new) es) q) ≡ at_old (e ∷ es) old g) [
+        | None ↦ λ none r. ap (λ b. cond b (Some e.1) (label_at (filter_map (carried old new) es) q)) (other_path_back new q s none) ∙ r
+        | Some t ↦ λ some r.
+            let at_q : q ≡ new ++ t = append-after_front new q t some in
+            let at_e : e.0 ≡ old ++ s = append-after_front old e.0 s there in
+            let tests : same_path q (new ++ s) ≡ same_path (old ++ t) e.0 =
+            ap (λ (p : Path). same_path p (new ++ s)) at_q ∙ ap is_eq (path_cmp-front new t s ∙ sym (path_cmp-front old t s)) ∙ ap (same_path (old ++ t)) (sym at_e) in
+            ap (λ b. cond b (Some e.1) (label_at (filter_map (carried old new) es) q)) tests ∙ ap (cond (same_path (old ++ t) e.0) (Some e.1)) r
+      ] refl rest
+    ] refl
+
+alone : (x : Option ℕ) (b : Bool) (y : Option ℕ) → option_or x (cond (b && false) y None) ≡ x
+alone None true y = refl
+alone None false y = refl
+alone (Some n) b y = refl
+
+-- what a move leaves at each path
+abbrev pub label_after_move : List (Path × ℕ) → Path → Path → Path → Option ℕ
+label_after_move names old new q = option_or (at_old names old (after_front new q)) (cond (is_outside old new q) (label_at names q) None)
+
+pub lookup-moved : (names : List (Path × ℕ)) (old new q : Path) → label_at (moved names old new) q ≡ label_after_move names old new q
+lookup-moved names old new q =
+    lookup-with_entries (filter (λ e. is_outside old new e.0) names) (filter_map (carried old new) names) q
+    ∙ ap (λ (x : Option ℕ). option_or x (label_at (filter (λ e. is_outside old new e.0) names) q)) (lookup-carried names old new q)
+    ∙ ap (option_or (at_old names old (after_front new q)))
+    (lookup-filter-keys (is_at (path_cmp q)) (is_outside old new) (is_outside old new q) (λ k t. ap (is_outside old new) (sym (same_path_is q k t))) names)
+
+-- at new ++ rest stands what stood at old ++ rest
+pub moved_to_new : (names : List (Path × ℕ)) (old new rest : Path) → label_at (moved names old new) (new ++ rest) ≡ label_at names (old ++ rest)
+moved_to_new names old new rest =
+    lookup-moved names old new (new ++ rest)
+    ∙ ap (λ (f : Option Path). option_or (at_old names old f) (cond (is_none (after_front old (new ++ rest)) && is_none f) (label_at names (new ++ rest)) None)) (after_front-append new rest)
+    ∙ alone (label_at names (old ++ rest)) (is_none (after_front old (new ++ rest))) (label_at names (new ++ rest))
+
+-- a path that begins with neither keeps its label
+pub moved_outside : (names : List (Path × ℕ)) (old new path : Path) → after_front old path ≡ None → after_front new path ≡ None → label_at (moved names old new) path ≡ label_at names path
+moved_outside names old new path none_old none_new =
+    lookup-moved names old new path
+    ∙ ap (λ (f : Option Path). option_or (at_old names old f) (cond (is_none (after_front old path) && is_none f) (label_at names path) None)) none_new
+    ∙ ap (λ (f : Option Path). cond (is_none f && true) (label_at names path) None) none_old
+
+-- and nothing is left at old
+pub moved_from_old : (names : List (Path × ℕ)) (old new path rest : Path) → after_front old path ≡ Some rest → after_front new path ≡ None → label_at (moved names old new) path ≡ None
+moved_from_old names old new path rest some_old none_new =
+    lookup-moved names old new path
+    ∙ ap (λ (f : Option Path). option_or (at_old names old f) (cond (is_none (after_front old path) && is_none f) (label_at names path) None)) none_new
+    ∙ ap (λ (f : Option Path). cond (is_none f && true) (label_at names path) None) some_old
