@@ -13,9 +13,9 @@ use Rattle.sf_call.specs.declared.request.Request.{Request}
 use Rattle.sf_call.specs.declared.request.Request.TheVariants.{Mkdir, Stat}
 use Rattle.sf_call.specs.declared.record.Record.{Record}
 use Rattle.sf_call.specs.declared.record.Record.TheVariants.{Did, Left}
-use Rattle.sf_wire.specs.declared.attrs.Attrs.{Attrs}
-use Rattle.sf_call.specs.Tree.{Tree, Path}
-use Rattle.sf_call.specs.Calls.{apply, IsStatus, IsStatusOrAttrs}
+use Rattle.sf_call.specs.Tree.{Tree}
+use Rattle.sf_call.specs.Calls.{apply}
+use Rattle.sf_call.specs.ReplyKinds.{IsStatus, IsStatusOrAttrs, IsReplyTo}
 use Rattle.sf_call.specs.Histories.{after, after_reply, replay, IsLegal, MayFollow, IsNewNumber, IsPresent}
 use Rattle.sftpd.specs.Asking.{AsksFor}
 use Rattle.sftpd.specs.Sessions.{SessionView}
@@ -26,8 +26,7 @@ use Rattle.sftpd.specs.Serving.{ServiceView, Edges, edges, HasEffect, Answers, I
 pub record Laws : Type 0 where
   pub replayed : (history : List Record) (r : Record) → replay (history ++ r ∷ []) ≡ after (replay history) r
   pub legal : (history : List Record) (r : Record) → IsLegal history → MayFollow history r → IsLegal (history ++ r ∷ [])
-  pub mkdir : (tree : Tree) (session number moment : ℕ) (path : Path) (attrs : Attrs) → IsStatus (apply tree session number moment (Mkdir path attrs)).reply
-  pub stat : (tree : Tree) (session number moment : ℕ) (path : Path) → IsStatusOrAttrs (apply tree session number moment (Stat path)).reply
+  pub kind : (tree : Tree) (session number moment : ℕ) (request : Request) → IsReplyTo request (apply tree session number moment request).reply
 
 -- one more at the end
 all_push : {A : Type 0} (P : A → Type 0) (xs : List A) (x : A) → AllByRecursion P xs → P x → AllByRecursion P (xs ++ x ∷ [])
@@ -100,8 +99,8 @@ next_by_attrs tree next (reply.Names es) h = absurd h
 next_by_attrs tree next (reply.Attrs a) h = refl
 
 after_call : Laws → (tree : Tree) (number moment : ℕ) (request : Request) → after tree (Did number 1 moment request (apply tree 1 number moment request).reply) ≡ (apply tree 1 number moment request).tree
-after_call laws tree number moment (Mkdir path attrs) = next_by_status tree _ _ (laws.mkdir tree 1 number moment path attrs)
-after_call laws tree number moment (Stat path) = next_by_attrs tree _ _ (laws.stat tree 1 number moment path)
+after_call laws tree number moment (Mkdir path attrs) = next_by_status tree _ _ (laws.kind tree 1 number moment (Mkdir path attrs))
+after_call laws tree number moment (Stat path) = next_by_attrs tree _ _ (laws.kind tree 1 number moment (Stat path))
 
 -- the tree, the number of calls and the history belong together
 record Grown (history : List Record) (tree : Tree) (calls : ℕ) : Type 0 where
@@ -119,8 +118,8 @@ recorded laws history tree tree' calls moment request given grown does =
     let r = Did (n + 1) 1 moment request given in
     let counted : length (history ++ r ∷ []) ≡ n + 1 = omega (arith, length-append history (r ∷ [])) in
     let does' : ((given ≡ (apply (replay history) 1 (n + 1) moment request).reply) × (tree' ≡ (apply (replay history) 1 (n + 1) moment request).tree)) ⊎ ((given ≡ reply.NoMemory) × (tree' ≡ replay history)) =
-      subst (λ (t : Tree). ((given ≡ (apply t 1 (n + 1) moment request).reply) × (tree' ≡ (apply t 1 (n + 1) moment request).tree)) ⊎ ((given ≡ reply.NoMemory) × (tree' ≡ t))) grown.replayed
-      (subst (λ (k : ℕ). ((given ≡ (apply tree 1 (k + 1) moment request).reply) × (tree' ≡ (apply tree 1 (k + 1) moment request).tree)) ⊎ ((given ≡ reply.NoMemory) × (tree' ≡ tree))) grown.counted does) in
+    subst (λ (t : Tree). ((given ≡ (apply t 1 (n + 1) moment request).reply) × (tree' ≡ (apply t 1 (n + 1) moment request).tree)) ⊎ ((given ≡ reply.NoMemory) × (tree' ≡ t))) grown.replayed
+    (subst (λ (k : ℕ). ((given ≡ (apply tree 1 (k + 1) moment request).reply) × (tree' ≡ (apply tree 1 (k + 1) moment request).tree)) ⊎ ((given ≡ reply.NoMemory) × (tree' ≡ tree))) grown.counted does) in
     record {
       legal = laws.legal history r grown.legal (record {
         above_zero = omega arith;
@@ -134,7 +133,7 @@ recorded laws history tree tree' calls moment request given grown does =
       ];
       counted = omega (arith, counted, grown.counted);
       numbered = subst (λ (k : ℕ). AllByRecursion (IsNumbered k) (history ++ r ∷ [])) (sym counted)
-        (all_push (IsNumbered (n + 1)) history r (numbers_more n history grown.numbered) (omega arith));
+          (all_push (IsNumbered (n + 1)) history r (numbers_more n history grown.numbered) (omega arith));
     }
 
 unchanged : (history : List Record) (tree tree' : Tree) (calls calls' : ℕ) → Grown history tree calls → tree' ≡ tree → calls' ≡ calls → Grown history tree' calls'
@@ -144,9 +143,10 @@ grows : Laws → (history : List Record) (tree tree' : Tree) (calls calls' : ℕ
     → HasEffect tree calls told a tree' calls' told' → MayAnswer history a × Grown (with_record history a) tree' calls'
 grows laws history tree tree' calls calls' told told' Version grown h = (tt, unchanged history tree tree' calls calls' grown h.0 h.1)
 grows laws history tree tree' calls calls' told told' (Locally id given) grown h = (tt, unchanged history tree tree' calls calls' grown h.0 h.1)
-grows laws history tree tree' calls calls' told told' (ByCall id moment request given) grown h =
-    (subst (λ n. n < last_number) grown.counted h.0,
-      subst (λ n. Grown (history ++ Did (length history + 1) 1 moment request given ∷ []) tree' n) (sym h.1) (recorded laws history tree tree' calls moment request given grown h.3))
+grows laws history tree tree' calls calls' told told' (ByCall id moment request given) grown h = (
+  subst (λ n. n < last_number) grown.counted h.0,
+  subst (λ n. Grown (history ++ Did (length history + 1) 1 moment request given ∷ []) tree' n) (sym h.1) (recorded laws history tree tree' calls moment request given grown h.3),
+)
 grows laws history tree tree' calls calls' told told' (Refused id request) grown h =
     (sym grown.counted ∙ h.0, unchanged history tree tree' calls calls' grown h.1.0 h.1.1)
 
@@ -168,10 +168,10 @@ serves_answered laws start i o t t' v w s h =
         sent = p.sent;
         are_bodies = all_push IsBody p.bodies h.body p.are_bodies h.begins.is_body;
         read = subst (Consumes start.incoming i) (ap (λ (bytes : List ℕ). flat_map packet p.bodies ++ bytes) h.begins.whole ∙ sym (append_assoc (flat_map packet p.bodies) (packet h.body) h.rest)
-          ∙ ap (λ (front : List ℕ). front ++ h.rest) (flat_push packet p.bodies h.body)) p.read;
+            ∙ ap (λ (front : List ℕ). front ++ h.rest) (flat_push packet p.bodies h.body)) p.read;
         wrote = p.wrote;
         told = subst (Appends start.told t') (flat_push moment_of p.answers h.answer)
-          (Appends-trans start.told t t' (moments_of p.answers) (moment_of h.answer) p.told (told_by v.tree w.tree v.calls w.calls t t' h.answer h.effect));
+            (Appends-trans start.told t t' (moments_of p.answers) (moment_of h.answer) p.told (told_by v.tree w.tree v.calls w.calls t t' h.answer h.effect));
         asked = answers_push false [] p.bodies p.answers h.body h.answer p.asked (subst (λ g. AsksFor g h.body (asked_by h.answer)) (sym (begun_is p.answers ∙ p.has_begun)) h.asks) grown.0;
         has_begun = begun_push p.answers h.answer;
         packets = sym (append_assoc p.sent v.session.output (packet_for h.answer)) ∙ ap (λ (bytes : List ℕ). bytes ++ packet_for h.answer) p.packets ∙ flat_push packet_for p.answers h.answer;
@@ -187,21 +187,21 @@ line_moved : (start : Edges) (i i' o o' t : Option (List ℕ)) (rest rest' outpu
     → (p : Progress start (edges i o t) rest output begun calls tree) → Consumes start.incoming i' (flat_map packet p.bodies ++ rest')
     → Appends start.outgoing o' sent → sent ++ output' ≡ transcript p.answers → Progress start (edges i' o' t) rest' output' begun calls tree
 line_moved start i i' o o' t rest rest' output output' begun calls tree sent p read wrote packets = record {
-    bodies = p.bodies;
-    answers = p.answers;
-    sent = sent;
-    are_bodies = p.are_bodies;
-    read = read;
-    wrote = wrote;
-    told = p.told;
-    asked = p.asked;
-    has_begun = p.has_begun;
-    packets = packets;
-    legal = p.legal;
-    replayed = p.replayed;
-    counted = p.counted;
-    numbered = p.numbered;
-  }
+  bodies = p.bodies;
+  answers = p.answers;
+  sent = sent;
+  are_bodies = p.are_bodies;
+  read = read;
+  wrote = wrote;
+  told = p.told;
+  asked = p.asked;
+  has_begun = p.has_begun;
+  packets = packets;
+  legal = p.legal;
+  replayed = p.replayed;
+  counted = p.counted;
+  numbered = p.numbered;
+}
 
 -- what waited was sent
 pub sends_all : (start : Edges) (i o o' t : Option (List ℕ)) (rest output : List ℕ) (begun : Bool) (calls : ℕ) (tree : Tree) → Progress start (edges i o t) rest output begun calls tree
@@ -216,5 +216,5 @@ pub reads_piece : (start : Edges) (i i' o t : Option (List ℕ)) (rest output : 
 reads_piece start i i' o t rest output begun calls tree piece p consumed =
     line_moved start i i' o o t rest (rest ++ piece) output output begun calls tree p.sent p
     (subst (Consumes start.incoming i') (append_assoc (flat_map packet p.bodies) rest piece)
-      (Consumes-trans start.incoming i i' (flat_map packet p.bodies ++ rest) piece p.read consumed))
+    (Consumes-trans start.incoming i i' (flat_map packet p.bodies ++ rest) piece p.read consumed))
     p.wrote p.packets

@@ -31,9 +31,9 @@ sent_all v = record v { session = record v.session { output = [] } }
 pub serves_sent : (start : Edges) (i i' o o' t : Option (List ℕ)) (v w : ServiceView) → i' ≡ i → Appends o o' v.session.output → w ≡ sent_all v
     → Serves start (edges i o t) v → Serves start (edges i' o' t) w
 serves_sent start i i' o o' t v w same sent now s = rw (same, now) (record {
-    open_session = s.open_session;
-    progress = sends_all start i o o' t v.session.unread v.session.output v.session.begun v.calls v.tree s.progress sent;
-  })
+  open_session = s.open_session;
+  progress = sends_all start i o o' t v.session.unread v.session.output v.session.begun v.calls v.tree s.progress sent;
+})
 
 pub batch_sent : (i i' o o' : Option (List ℕ)) (v w : ServiceView) {E : Type 0} (r : Result (Unit {0}) E) → i' ≡ i → OnOk r (Appends o o' v.session.output) → w ≡ sent_all v
     → OnOk r ((start : Edges) (told : Option (List ℕ)) → Serves start (edges i o told) v → Serves start (edges i' o' told) w)
@@ -100,32 +100,40 @@ all_read (Some input) (Some left) bytes P h end f = subst P (sym (h ∙ ap (λ (
 served_by : (start now : Edges) (rest input : List ℕ) (begun : Bool) (calls : ℕ) (tree : Tree) (cause : Cause) → (p : Progress start now rest [] begun calls tree) → (left : List ℕ)
     → input ≡ flat_map packet p.bodies ++ left → IsEnd begun left cause → IsServed input p.sent (moments_of p.answers) cause
 served_by start now rest input begun calls tree cause p left stream end = record {
-    bodies = p.bodies;
-    rest = left;
-    answers = p.answers;
-    are_bodies = p.are_bodies;
-    stream = stream;
-    end = subst (λ g. IsEnd g left cause) (sym p.has_begun) end;
-    asked = p.asked;
-    sent = sym (append-nil p.sent) ∙ p.packets;
-    told = refl;
-    legal = p.legal;
-  }
+  bodies = p.bodies;
+  rest = left;
+  answers = p.answers;
+  are_bodies = p.are_bodies;
+  stream = stream;
+  end = subst (λ g. IsEnd g left cause) (sym p.has_begun) end;
+  asked = p.asked;
+  sent = sym (append-nil p.sent) ∙ p.packets;
+  told = refl;
+  legal = p.legal;
+}
 
 -- the session has ended, and all was sent
 pub line_ended : (start now : Edges) (rest : List ℕ) (begun : Bool) (calls : ℕ) (tree : Tree) (cause : Cause) → Progress start now rest [] begun calls tree → EndsBy begun rest cause
     → ServesLine start now cause
-line_ended start now rest begun calls tree cause p ends =
-    (p.sent, moments_of p.answers, p.wrote, p.told,
-      front_read start.incoming now.incoming (flat_map packet p.bodies ++ rest) _ p.read
-      (λ more. served_by start now rest _ begun calls tree cause p (rest ++ more) (append_assoc (flat_map packet p.bodies) rest more) (inr (ends_more begun rest more cause ends))))
+line_ended start now rest begun calls tree cause p ends = (
+  p.sent,
+  moments_of p.answers,
+  p.wrote,
+  p.told,
+  front_read start.incoming now.incoming (flat_map packet p.bodies ++ rest) _ p.read
+      (λ more. served_by start now rest _ begun calls tree cause p (rest ++ more) (append_assoc (flat_map packet p.bodies) rest more) (inr (ends_more begun rest more cause ends))),
+)
 
 -- the input has ended, and all was sent
 pub line_closed : (start now : Edges) (rest : List ℕ) (begun : Bool) (calls : ℕ) (tree : Tree) → Progress start now rest [] begun calls tree → IsCut rest cut.More → IsAtEnd now.incoming
     → ServesLine start now Closed
-line_closed start now rest begun calls tree p partial end =
-    (p.sent, moments_of p.answers, p.wrote, p.told,
-      all_read start.incoming now.incoming (flat_map packet p.bodies ++ rest) _ p.read end (served_by start now rest _ begun calls tree Closed p rest refl (inl (refl, partial))))
+line_closed start now rest begun calls tree p partial end = (
+  p.sent,
+  moments_of p.answers,
+  p.wrote,
+  p.told,
+  all_read start.incoming now.incoming (flat_map packet p.bodies ++ rest) _ p.read end (served_by start now rest _ begun calls tree Closed p rest refl (inl (refl, partial))),
+)
 
 -- a round is over when what was drained is sent
 pub rounded_off : (start : Edges) (i i' o o' t : Option (List ℕ)) (v w : ServiceView) (ended : Option Cause) → i' ≡ i → Appends o o' v.session.output → w ≡ sent_all v
@@ -158,7 +166,8 @@ nothing_replayed = refl
 
 -- a new service has read and sent nothing
 pub starts : (start : Edges) → IsRounded start start new_service None
-starts start = (record {
+starts start = (
+  record {
     open_session = (refl, refl);
     progress = record {
       bodies = [];
@@ -176,15 +185,18 @@ starts start = (record {
       counted = refl;
       numbered = tt;
     };
-  }, inl (lit< tt), refl)
+  },
+  inl (lit< tt),
+  refl,
+)
 
 -- what was read is fed to the session
 pub fed : (start : Edges) (i i' o o' t : Option (List ℕ)) (v w : ServiceView) (piece : List ℕ) → Serves start (edges i o t) v → Consumes i i' piece → o' ≡ o
     → w ≡ record v { session = record v.session { unread = v.session.unread ++ piece } } → Serves start (edges i' o' t) w
 fed start i i' o o' t v w piece s consumed same now = rw (same, now) (record {
-    open_session = s.open_session;
-    progress = reads_piece start i i' o t v.session.unread v.session.output v.session.begun v.calls v.tree piece s.progress consumed;
-  })
+  open_session = s.open_session;
+  progress = reads_piece start i i' o t v.session.unread v.session.output v.session.begun v.calls v.tree piece s.progress consumed;
+})
 
 pub going_on : (start now : Edges) (v : ServiceView) (ended : Option Cause) → ((cause : Cause) → ended ≡ Some cause → ⊥) → IsRounded start now v ended → IsRounded start now v None
 going_on start now v None no_cause h = h

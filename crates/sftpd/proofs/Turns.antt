@@ -65,14 +65,14 @@ call_by : (v w : ServiceView) (told told' : Option (List ℕ)) (request : Reques
     → MakesCall (after_next v (record { unread = rest; output = v.session.output; begun = true; waiting = Some id; ended = None })) told id request w told'
     → Answers v told w told'
 call_by v w told told' request body rest id begins asks made = record {
-    body = body;
-    rest = rest;
-    answer = made.answer;
-    begins = begins;
-    asks = subst (AsksFor v.session.begun body) (sym made.asked) asks;
-    session = made.session;
-    effect = made.effect;
-  }
+  body = body;
+  rest = rest;
+  answer = made.answer;
+  begins = begins;
+  asks = subst (AsksFor v.session.begun body) (sym made.asked) asks;
+  session = made.session;
+  effect = made.effect;
+}
 
 pub answered_by_call : (v w : ServiceView) (told told' : Option (List ℕ)) (request : Request) (s : SessionView) (r : Result Turn ServeFault)
     → Calls v.session request s → IfOk r (λ t. t ≡ turn.Answered)

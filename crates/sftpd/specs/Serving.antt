@@ -50,7 +50,7 @@ HasEffect tree calls told (Locally id given) tree' calls' told' = Leaves tree ca
 HasEffect tree calls told (ByCall id moment request given) tree' calls' told' =
     (calls < last_number) × (calls' ≡ calls + 1) × Appends told told' (moment ∷ [])
     × (((given ≡ (apply tree 1 (calls + 1) moment request).reply) × (tree' ≡ (apply tree 1 (calls + 1) moment request).tree))
-      ⊎ ((given ≡ reply.NoMemory) × (tree' ≡ tree)))
+    ⊎ ((given ≡ reply.NoMemory) × (tree' ≡ tree)))
 HasEffect tree calls told (Refused id request) tree' calls' told' = (calls ≡ last_number) × Leaves tree calls told tree' calls' told'
 
 -- The call that a session waits for was answered.

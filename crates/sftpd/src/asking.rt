@@ -8,7 +8,10 @@ ghost use Rattle.sftpd.specs.Asking.{AsksFor, FitsPacket, first_ask, later_ask, 
 use crate::cause::Cause;
 use sf_call::Request;
 use sf_path::{Path, PathFault};
-use sf_wire::{Asked, Attrs, ByteString, Entry, Listing, Reply, StatusCode, WireRequest, read_request, reply_lengths};
+use sf_wire::{
+    Asked, Attrs, ByteString, Entry, Listing, Reply, StatusCode, WireRequest, read_request,
+    reply_lengths,
+};
 use std::alloc::{AllocError, Global};
 
 /// What a packet asks for.

@@ -16,3 +16,6 @@ use std::process::ExitCode;
 fn main(rt: HostRuntime) -> ExitCode {
     ExitCode::from(program::run(&rt))
 }
+
+#[cfg(test)]
+mod tests;

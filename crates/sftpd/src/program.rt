@@ -17,8 +17,9 @@ pub enum Action {
 
 /// What the words ask for, the program's own name first. The text of an error is `clap`'s.
 pub fn read_words(alloc: Global, words: &[String]) -> Result<Action, Error> {
-    let stdio = Command::new(alloc, "stdio")
-        .about("Serves one session on standard input and output, to the end of the input");
+    let stdio = Command::new(alloc, "stdio").about(
+        "Serves one session on standard input and output, to the end of the input",
+    );
     let program = Command::new(alloc, "sftpd")
         .about("An SFTP server, version 3, with its tree in memory")
         .subcommand_required(true)

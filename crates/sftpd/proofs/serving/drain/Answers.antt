@@ -8,15 +8,16 @@ packets-preserved g c =
     let laws : Laws = record {
       replayed = c.one_record_more.ensures.replayed;
       legal = c.one_record_more.ensures.legal;
-      mkdir = c.kinds_of_replies.ensures.mkdir;
-      stat = c.kinds_of_replies.ensures.stat;
+      kind = c.kinds_of_replies.ensures.kind;
     } in
     let answered = rw c.in-Answered.is at c.in_ok-turn.ensures.ok in
     let sent = c.in_ok-send_batch-in-Answered.ensures in
-    let still = stays_open _ _ _ _ _ answered sent.session in
-    (still.0, still.1,
+    let still = stays_open _ _ _ _ _ answered sent.session in (
+      still.0,
+      still.1,
       (λ start s. sent.serves start _ (serves_answered laws start _ _ _ _ _ _ (c.packets.invariant.2 start s) answered)),
-      omega (arith, sent.failures, c.packets.invariant.3))
+      omega (arith, sent.failures, c.packets.invariant.3),
+    )
 
 pub returns-in-Ended-clause-drained : goal.returns-in-Ended-clause-drained
 returns-in-Ended-clause-drained g c = λ start s.

@@ -15,7 +15,8 @@ returns-in-Some-clause-served g c =
 
 pub loop-preserved : goal.loop-preserved
 loop-preserved g c =
-    let start = edges (g.L.Line.incoming c.args.line.now) (g.L.Line.outgoing c.args.line.now) (g.C.Clock.told c.args.clock.now) in
-    (going_on start _ _ c.in_ok-cause.field-0 c.in_default.not-Some (c.in_ok-cause.ensures.rounded start c.loop.invariant.0),
+    let start = edges (g.L.Line.incoming c.args.line.now) (g.L.Line.outgoing c.args.line.now) (g.C.Clock.told c.args.clock.now) in (
+      going_on start _ _ c.in_ok-cause.field-0 c.in_default.not-Some (c.in_ok-cause.ensures.rounded start c.loop.invariant.0),
       c.loop.invariant.1,
-      omega (arith, c.in_ok-cause.ensures.failures, c.loop.invariant.2))
+      omega (arith, c.in_ok-cause.ensures.failures, c.loop.invariant.2),
+    )
