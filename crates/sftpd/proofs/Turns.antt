@@ -14,7 +14,7 @@ use Rattle.sftpd.specs.declared.asking.Ask.{Ask}
 use Rattle.sftpd.specs.declared.asking.Ask.TheVariants as ask
 use Rattle.sftpd.specs.declared.service.Turn.{Turn}
 use Rattle.sftpd.specs.declared.service.Turn.TheVariants as turn
-use Rattle.sftpd.specs.declared.service.ServeFault.{ServeFault}
+use Rattle.sftpd.specs.declared.fault.ServeFault.{ServeFault}
 use Rattle.sftpd.specs.Asking.{AsksFor}
 use Rattle.sftpd.specs.Sessions.{SessionView, Begins, LocalPacket, AnswersLocally, Calls, refusal_of}
 use Rattle.sftpd.specs.Transcripts.{Version, Locally, ByCall, Refused, last_number}

@@ -14,8 +14,8 @@ use Rattle.sf_call.specs.declared.request.Request.{Request}
 use Rattle.sftpd.specs.declared.asking.Ask.TheVariants as ask
 use Rattle.sftpd.specs.declared.cause.Cause.{Cause}
 use Rattle.sf_wire.specs.Lines.{Rose}
-use Rattle.sftpd.specs.declared.service.ServeFault.{ServeFault}
-use Rattle.sftpd.specs.declared.service.ServeFault.TheVariants as fault
+use Rattle.sftpd.specs.declared.fault.ServeFault.{ServeFault}
+use Rattle.sftpd.specs.declared.fault.ServeFault.TheVariants as fault
 use Rattle.sftpd.specs.declared.service.Turn.{Turn}
 use Rattle.sftpd.specs.declared.service.Turn.TheVariants as turn
 use Rattle.sftpd.specs.Asking.{AsksFor}

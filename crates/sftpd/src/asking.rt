@@ -16,7 +16,7 @@ use std::alloc::{AllocError, Global};
 
 /// What a packet asks for.
 #[derive(Debug, Drop)]
-pub enum Ask {
+pub(crate) enum Ask {
     /// The packet VERSION, as the answer to INIT.
     Version,
     /// A reply that needs no tree, under the request's id.
@@ -30,7 +30,7 @@ pub enum Ask {
 /// What a body asks of a session, whose first packet was answered if it has begun.
 ///
 /// A path that is refused is answered FAILURE, whatever the request.
-pub fn ask_of(alloc: Global, begun: bool, body: &[u8]) -> Result<Ask, AllocError>
+pub(crate) fn ask_of(alloc: Global, begun: bool, body: &[u8]) -> Result<Ask, AllocError>
     ensures asks { IfOk result (λ ask. AsksFor begun body.now ask) }
     ensures fits { IfOk result (λ ask. FitsPacket ask) }
 {

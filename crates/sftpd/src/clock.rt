@@ -2,6 +2,7 @@
 
 ghost use Rattle.std.specs.Prelude.{◌≡◌, ◌-◌, ◌/◌, ◌^◌, ℕ, List, [], ◌∷◌, min, Option, IfSome, IfNone, None};
 ghost use Rattle.std.specs.Io.KnownBytes.{Appends};
+ghost use Rattle.std.specs.Duration.{as_nanos};
 
 use std::time::Duration;
 
@@ -37,7 +38,10 @@ impl<R: std::rt::Clock> Clock for SystemClock<'_, R> {
 
 /// The moment that lies so long after the beginning of 1970, in whole seconds: 0 where the clock
 /// stands before it, and 4294967295 where the seconds don't fit.
-fn moment(since_1970: Option<Duration>) -> u32 {
+pub(crate) fn moment(since_1970: Option<Duration>) -> u32
+    ensures before { IfNone since_1970 (result ≡ 0) }
+    ensures after { IfSome since_1970 (λ duration. result ≡ min (as_nanos duration / 1000000000) (2 ^ 32 - 1)) }
+{
     let Some(since_1970) = since_1970 else {
         return 0;
     };

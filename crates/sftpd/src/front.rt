@@ -11,7 +11,7 @@ use std::alloc::{AllocError, Global};
 
 /// What the bytes begin with.
 #[derive(Debug, Drop)]
-pub enum Front {
+pub(crate) enum Front {
     /// Less than a packet.
     More,
     /// A wrong length, which ends the session.
@@ -21,7 +21,7 @@ pub enum Front {
 }
 
 /// What the bytes begin with, of a session whose first packet was answered if it has begun.
-pub fn front_of(alloc: Global, begun: bool, bytes: &[u8]) -> Result<Front, AllocError>
+pub(crate) fn front_of(alloc: Global, begun: bool, bytes: &[u8]) -> Result<Front, AllocError>
     ensures { IfOk result (λ front. Fronts begun bytes.now front) }
 {
     match cut(bytes) {

@@ -1,12 +1,13 @@
 //! `sftpd`, an SFTP server with its tree in memory.
 #![tactic(auto)]
 
-pub mod asking;
+mod asking;
 pub mod cause;
 pub mod clock;
-pub mod front;
-pub mod program;
-pub mod service;
+pub mod fault;
+mod front;
+mod program;
+mod service;
 pub mod serving;
 pub mod session;
 pub mod stdio;

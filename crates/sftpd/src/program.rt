@@ -10,13 +10,13 @@ use std::io::{ErrorKind, Input};
 
 /// What the program is to do.
 #[derive(Clone, Copy, Debug, PartialEq, Eq)]
-pub enum Action {
+pub(crate) enum Action {
     /// One session on standard input and output.
     Stdio,
 }
 
 /// What the words ask for, the program's own name first. The text of an error is `clap`'s.
-pub fn read_words(alloc: Global, words: &[String]) -> Result<Action, Error> {
+pub(crate) fn read_words(alloc: Global, words: &[String]) -> Result<Action, Error> {
     let stdio = Command::new(alloc, "stdio").about(
         "Serves one session on standard input and output, to the end of the input",
     );
@@ -29,7 +29,7 @@ pub fn read_words(alloc: Global, words: &[String]) -> Result<Action, Error> {
 }
 
 /// Does what the words of the command line ask for, and answers the exit status.
-pub fn run(rt: &HostRuntime) -> u8 {
+pub(crate) fn run(rt: &HostRuntime) -> u8 {
     let alloc = rt.alloc();
     let words = match env::args(rt) {
         Ok(words) => words,

@@ -1,19 +1,17 @@
 //! A session with a tree of its own.
 
 ghost use Rattle.std.specs.Prelude.{◌≡◌, ◌++◌, [], None, IsSome, IfSome, IfOk, IfErr, OnOk, OnErr};
-ghost use Rattle.sftpd.specs.declared.service.ServeFault.TheVariants.{Line, OutOfMemory};
 ghost use Rattle.sftpd.specs.Serving.{new_service, TurnGives, MakesCall};
 
 use crate::cause::Cause;
 use crate::clock::Clock;
+use crate::fault::ServeFault;
 use crate::session::{Next, Session};
 use bytes::BytesMut;
 use sf_call::{CoreFault, Request};
 use sf_plain::PlainTree;
-use sf_wire::LineFault;
 use std::alloc::{AllocError, Global};
 use std::marker::Model;
-use thiserror::Error;
 
 /// The last number of a call.
 const LAST_NUMBER: u64 = u64::MAX / 2;
@@ -21,40 +19,9 @@ const LAST_NUMBER: u64 = u64::MAX / 2;
 /// The number of the one session.
 const SESSION: u64 = 1;
 
-/// Why serving stopped before the session's end.
-#[derive(Clone, Copy, Debug, PartialEq, Eq, Error)]
-pub enum ServeFault {
-    #[error("the line failed")]
-    Line = 1,
-    #[error("out of memory")]
-    OutOfMemory = 2,
-    #[error("too many sessions")]
-    Sessions = 3,
-    #[error("not a session of this core")]
-    Stranger = 4,
-    #[error("numbers are spent")]
-    NumbersSpent = 5,
-}
-
-impl From<LineFault> for ServeFault {
-    ghost from_gives = { λ _ fault. fault ≡ Line };
-
-    fn from(_fault: LineFault) -> ServeFault {
-        ServeFault::Line
-    }
-}
-
-impl From<AllocError> for ServeFault {
-    ghost from_gives = { λ _ fault. fault ≡ OutOfMemory };
-
-    fn from(_error: AllocError) -> ServeFault {
-        ServeFault::OutOfMemory
-    }
-}
-
 /// What a turn came to.
 #[derive(Clone, Copy, Debug, PartialEq, Eq)]
-pub enum Turn {
+pub(crate) enum Turn {
     /// No whole packet is unread.
     More,
     /// A packet was answered.
@@ -64,7 +31,7 @@ pub enum Turn {
 
 /// A session with a tree of its own, whose calls are numbered from 1 on.
 #[derive(Drop)]
-pub struct Service {
+pub(crate) struct Service {
     session: Session,
     tree: PlainTree,
     calls: u64,
@@ -82,7 +49,7 @@ impl Model for Service {
 }
 
 impl Service {
-    pub fn new(alloc: Global) -> Result<Service, AllocError>
+    pub(crate) fn new(alloc: Global) -> Result<Service, AllocError>
         ensures { IfOk result (λ service. service ≡ new_service) }
     {
         Ok(Service {
@@ -93,7 +60,7 @@ impl Service {
     }
 
     /// Appends to the bytes that are unread.
-    pub fn feed(&mut self, bytes: &[u8]) -> Result<(), AllocError>
+    pub(crate) fn feed(&mut self, bytes: &[u8]) -> Result<(), AllocError>
         requires { self.old.session.ended ≡ None }
         ensures ok { OnOk result (self.new ≡ record self.old { session = record self.old.session { unread = self.old.session.unread ++ bytes.now } }) }
         ensures err { OnErr result (self.new ≡ self.old) }
@@ -105,14 +72,14 @@ impl Service {
     }
 
     /// The bytes to be sent.
-    pub fn output(&self) -> &[u8]
+    pub(crate) fn output(&self) -> &[u8]
         ensures { result.now ≡ self.now.session.output }
     {
         self.session.output()
     }
 
     /// Takes the bytes to be sent away.
-    pub fn take_output(&mut self) -> BytesMut
+    pub(crate) fn take_output(&mut self) -> BytesMut
         requires { self.old.session.waiting ≡ None }
         ensures output { result.items ≡ self.old.session.output }
         ensures service { self.new ≡ record self.old { session = record self.old.session { output = [] } } }
@@ -121,7 +88,7 @@ impl Service {
     }
 
     /// Answers the next packet that is unread and whole.
-    pub fn turn<C: Clock>(&mut self, clock: &mut C) -> Result<Turn, ServeFault>
+    pub(crate) fn turn<C: Clock>(&mut self, clock: &mut C) -> Result<Turn, ServeFault>
         requires open_session { self.old.session.ended ≡ None }
         requires idle { self.old.session.waiting ≡ None }
         ensures ok { IfOk result (λ turn. TurnGives self.old (C.told clock.old) turn self.new (C.told clock.new)) }

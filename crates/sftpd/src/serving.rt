@@ -7,7 +7,8 @@ ghost use Rattle.sftpd.specs.Serving.{Edges, edges, IsDrained, IsRounded, IsServ
 
 use crate::cause::Cause;
 use crate::clock::Clock;
-use crate::service::{ServeFault, Service, Turn};
+use crate::fault::ServeFault;
+use crate::service::{Service, Turn};
 use sf_call::{kinds_of_replies, one_record_more};
 use sf_wire::{Line, LineFault};
 use std::alloc::{AllocError, Global};

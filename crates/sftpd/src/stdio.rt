@@ -8,7 +8,7 @@ ghost use Rattle.sftpd.specs.Statuses.{status_of};
 
 use crate::cause::Cause;
 use crate::clock::Clock;
-use crate::service::ServeFault;
+use crate::fault::ServeFault;
 use crate::serving::serve_one;
 use sf_wire::Line;
 use std::alloc::Global;

@@ -3,13 +3,15 @@
 ghost use Rattle.std.specs.Prelude.{None};
 
 use crate::cause::Cause;
-use crate::clock::Clock;
+use crate::clock::{Clock, moment};
+use crate::program::{Action, read_words};
 use crate::serving::serve_one;
 use crate::stdio::run_stdio;
 use sf_wire::{MemoryLine, Pieces};
 use std::alloc::Global;
 use std::process::Abort;
 use std::test::*;
+use std::time::Duration;
 
 const INIT: &str = "00000005 01 00000003";
 
@@ -338,4 +340,39 @@ fn endings_are_told(rt: HostRuntime) -> Result<(), Fail> {
         1,
         b"sftpd: session ended: second INIT\n",
     )
+}
+
+/// Words that ask for nothing: whether their text goes to standard error.
+fn is_refused(rt: &impl Abort, alloc: Global, words: &[&str], to_errors: bool) -> Result<(), Fail> {
+    let mut texts = Vec::new(alloc);
+    for word in words {
+        texts.push(String::from_str(alloc, word)?)?;
+    }
+    match read_words(alloc, &texts) {
+        Ok(_) => panic!(rt; "the words were taken"),
+        Err(error) => assert_eq!(rt; error.use_stderr(), to_errors),
+    }
+    Ok(())
+}
+
+#[test]
+fn words(rt: HostRuntime) -> Result<(), Fail> {
+    let alloc = rt.alloc();
+    let taken = vec![in alloc;
+        String::from_str(alloc, "sftpd")?,
+        String::from_str(alloc, "stdio")?,
+    ]?;
+    assert_eq!(rt; read_words(alloc, &taken)?, Action::Stdio);
+    is_refused(&rt, alloc, &["sftpd", "--help"], false)?;
+    is_refused(&rt, alloc, &["sftpd"], true)?;
+    is_refused(&rt, alloc, &["sftpd", "serve"], true)?;
+    is_refused(&rt, alloc, &["sftpd", "stdio", "more"], true)
+}
+
+#[test]
+fn moments(rt: HostRuntime) {
+    assert_eq!(rt; moment(None), 0);
+    assert_eq!(rt; moment(Some(Duration::new(100, 999999999))), 100);
+    assert_eq!(rt; moment(Some(Duration::from_secs(4294967295))), 4294967295);
+    assert_eq!(rt; moment(Some(Duration::from_secs(4294967296))), 4294967295);
 }

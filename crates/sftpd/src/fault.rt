@@ -1,0 +1,39 @@
+//! Why serving stops early.
+
+ghost use Rattle.std.specs.Prelude.{◌≡◌};
+ghost use Rattle.sftpd.specs.declared.fault.ServeFault.TheVariants.{Line, OutOfMemory};
+
+use sf_wire::LineFault;
+use std::alloc::AllocError;
+use thiserror::Error;
+
+/// Why serving stopped before the session's end.
+#[derive(Clone, Copy, Debug, PartialEq, Eq, Error)]
+pub enum ServeFault {
+    #[error("the line failed")]
+    Line = 1,
+    #[error("out of memory")]
+    OutOfMemory = 2,
+    #[error("too many sessions")]
+    Sessions = 3,
+    #[error("not a session of this core")]
+    Stranger = 4,
+    #[error("numbers are spent")]
+    NumbersSpent = 5,
+}
+
+impl From<LineFault> for ServeFault {
+    ghost from_gives = { λ _ fault. fault ≡ Line };
+
+    fn from(_fault: LineFault) -> ServeFault {
+        ServeFault::Line
+    }
+}
+
+impl From<AllocError> for ServeFault {
+    ghost from_gives = { λ _ fault. fault ≡ OutOfMemory };
+
+    fn from(_error: AllocError) -> ServeFault {
+        ServeFault::OutOfMemory
+    }
+}
