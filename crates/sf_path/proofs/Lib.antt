@@ -1,0 +1,5 @@
+pub mod Fronts
+pub mod OrderLaws
+pub mod Parts
+pub mod Lengths
+pub mod Again

@@ -1,0 +1,29 @@
+//! Why a text is no path.
+
+ghost use Rattle.std.specs.Prelude.{◌≡◌};
+ghost use Rattle.sf_path.specs.declared.fault.PathFault.TheVariants.{OutOfMemory};
+
+use std::alloc::AllocError;
+use thiserror::Error;
+
+/// What is wrong with a text. Of the first three, which are faults of the text itself, the lowest that holds is
+/// answered, before memory is asked for.
+#[derive(Clone, Copy, Debug, PartialEq, Eq, Error)]
+pub enum PathFault {
+    #[error("path above 4096 bytes")]
+    TooLong = 1,
+    #[error("name above 255 bytes")]
+    NameTooLong = 2,
+    #[error("byte 0 in a path")]
+    NulByte = 3,
+    #[error("out of memory")]
+    OutOfMemory = 4,
+}
+
+impl From<AllocError> for PathFault {
+    ghost from_gives = { λ _ e. e ≡ OutOfMemory };
+
+    fn from(_e: AllocError) -> PathFault {
+        PathFault::OutOfMemory
+    }
+}

@@ -1,0 +1,106 @@
+//! The name of a file or a directory.
+
+ghost use Rattle.std.specs.Prelude.{◌≡◌, ◌↔◌, IsTrue, IfOk, Some, length, refl};
+ghost use Rattle.std.specs.Cmp.{eq_by_cmp_equiv, partial_equiv_from_equiv, partial_order_from_total};
+ghost use Rattle.sf_path.specs.Names.{IsName};
+ghost use Rattle.sf_path.specs.Order.{same_name, name_cmp, name_total};
+
+use std::alloc::{AllocError, Global};
+use std::cmp::Ordering;
+use std::marker::Model;
+
+/// The name of a file or a directory: 1 to 255 bytes without a slash and a byte 0, and neither `.` nor `..`.
+/// It need not be UTF-8.
+#[derive(Debug, Drop)]
+pub struct Name {
+    bytes: Vec<u8>,
+}
+
+impl Model for Name {
+    ghost use Rattle.std.specs.Prelude.{List, ℕ};
+    ghost use Rattle.sf_path.specs.Names.{IsName};
+
+    ghost Value = { List ℕ };
+
+    ghost view = { λ name. name.bytes.items };
+
+    ghost invariant = { λ name. IsName name.bytes.items };
+}
+
+impl Name {
+    /// The name of these bytes.
+    pub(crate) fn from_slice(alloc: Global, bytes: &[u8]) -> Result<Name, AllocError>
+        requires { IsName bytes.now }
+        ensures { IfOk result (λ name. name ≡ bytes.now) }
+    {
+        Ok(Name {
+            bytes: Vec::from_slice(alloc, bytes)?,
+        })
+    }
+
+    /// The bytes of the name.
+    pub fn as_slice(&self) -> &[u8]
+        ensures bytes { result.now ≡ self.now }
+        ensures name { IsName result.now }
+    {
+        self.bytes.as_slice()
+    }
+
+    /// How many bytes the name has; never 0, so there is no `is_empty`.
+    pub fn len(&self) -> usize
+        ensures { result ≡ length self.now }
+    {
+        self.bytes.len()
+    }
+
+    /// A name of the same bytes.
+    pub fn try_copy(&self, alloc: Global) -> Result<Name, AllocError>
+        ensures { IfOk result (λ copy. copy ≡ self.now) }
+    {
+        Ok(Name {
+            bytes: Vec::from_slice(alloc, &self.bytes)?,
+        })
+    }
+}
+
+impl PartialEq for Name {
+    ghost eq = { same_name };
+
+    ghost laws = { partial_equiv_from_equiv (eq_by_cmp_equiv name_total) };
+
+    fn eq(&self, other: &Name) -> bool
+        ensures value { result ≡ same_name self.now other.now }
+        ensures same { IsTrue result ↔ (self.now ≡ other.now) }
+    {
+        self.bytes == other.bytes
+    }
+}
+
+impl Eq for Name {
+    ghost laws = { eq_by_cmp_equiv name_total };
+}
+
+impl PartialOrd for Name {
+    ghost partial_cmp = { λ a b. Some (name_cmp a b) };
+
+    ghost laws = { partial_order_from_total name_total };
+
+    fn partial_cmp(&self, other: &Name) -> Option<Ordering> {
+        Some(self.cmp(other))
+    }
+}
+
+impl Ord for Name {
+    ghost cmp = { name_cmp };
+
+    ghost total = { name_total };
+
+    ghost matches_partial_cmp = { λ a b. refl };
+
+    ghost matches_eq = { λ a b. refl };
+
+    /// The order of the names' bytes.
+    fn cmp(&self, other: &Name) -> Ordering {
+        self.bytes.cmp(&other.bytes)
+    }
+}

@@ -1,0 +1,44 @@
+//! From a text to the names of its path.
+
+ghost use Rattle.std.specs.Prelude.{◌≡◌, IfOk, OnOk, nat_lt, length, None};
+ghost use Rattle.std.specs.List.{list_any};
+ghost use Rattle.sf_path.specs.Names.{IsPart};
+ghost use Rattle.sf_path.specs.Normal.{parts, with_part, norm, fault_of};
+
+use crate::name::Name;
+use std::alloc::{AllocError, Global};
+
+/// Whether a part between two slashes is above 255 bytes.
+pub fn has_long_part(text: &[u8]) -> bool
+    ensures { result ≡ list_any (λ part. nat_lt 255 (length part)) (parts text.now) }
+{
+    text.split(|b| *b == b'/').any(|part| part.len() > 255)
+}
+
+/// The names of the path that a text without a fault stands for.
+pub fn names_of(alloc: Global, text: &[u8]) -> Result<Vec<Name>, AllocError>
+    requires { fault_of text.now ≡ None }
+    ensures { IfOk result (λ names. names.items ≡ norm text.now) }
+{
+    let mut names = Vec::new(alloc);
+    for part in text.split(|b| *b == b'/') {
+        add_part(alloc, &mut names, part)?;
+    }
+    Ok(names)
+}
+
+/// Goes from the path of these names to where a part leads.
+fn add_part(alloc: Global, names: &mut Vec<Name>, part: &[u8]) -> Result<(), AllocError>
+    requires { IsPart part.now }
+    ensures { OnOk result (names.new.items ≡ with_part names.old.items part.now) }
+{
+    if part.is_empty() || part == b".".as_slice() {
+        return Ok(());
+    }
+    if part == b"..".as_slice() {
+        let _ = names.pop();
+        return Ok(());
+    }
+    names.push(Name::from_slice(alloc, part)?)?;
+    Ok(())
+}
