@@ -102,7 +102,7 @@ module _ (history : List Record) (names : List (Path × ℕ)) (h : IsLabelled hi
     ];
   }
 
-labelled_after : (history : List Record) (tree : Tree) (r : Record) → MayFollow history r → IsLabelled history tree.names → IsLabelled (history ++ r ∷ []) (after tree r).names
+pub labelled_after : (history : List Record) (tree : Tree) (r : Record) → MayFollow history r → IsLabelled history tree.names → IsLabelled (history ++ r ∷ []) (after tree r).names
 labelled_after history tree (Did number session moment request given) may h =
     elim (names_reply tree (apply tree session number moment request).tree number given (names_applied tree session number moment request)) [
       | inl same ↦ subst (λ (names : List (Path × ℕ)). IsLabelled (history ++ Did number session moment request given ∷ []) names) (sym same) (labelled_same history _ tree.names h)
@@ -119,13 +119,16 @@ labelled_from before (r ∷ rs) legal h =
     (labelled_from (before ++ r ∷ []) rs legal.1
     (subst (λ (tree : Tree). IsLabelled (before ++ r ∷ []) tree.names) (sym (replay-push before r)) (labelled_after before (replay before) r legal.0 h)))
 
-root_alone : (path : Path) (label : ℕ) → label_at empty_tree.names path ≡ Some label → (path ≡ []) × (label ≡ 0)
+pub root_alone : (path : Path) (label : ℕ) → label_at empty_tree.names path ≡ Some label → (path ≡ []) × (label ≡ 0)
 root_alone [] label e = (refl, cc)
 root_alone (n ∷ path) label e = cc
 
-pub labelled_replay : (history : List Record) → IsLegal history → IsLabelled history (replay history).names
-unfolding IsLegal replay
-labelled_replay history legal = labelled_from [] history legal (record {
+pub labelled_empty : IsLabelled [] empty_tree.names
+labelled_empty = record {
   unused = λ number above new path e. let z = root_alone path number e in omega (arith, z.1);
   one_path = λ path other label e f. (root_alone path label e).0 ∙ sym (root_alone other label f).0;
-})
+}
+
+pub labelled_replay : (history : List Record) → IsLegal history → IsLabelled history (replay history).names
+unfolding IsLegal replay
+labelled_replay history legal = labelled_from [] history legal labelled_empty

@@ -6,3 +6,4 @@ pub mod MovedNames
 pub mod Ordered
 pub mod KindsOfReplies
 pub mod Labels
+pub mod Founded

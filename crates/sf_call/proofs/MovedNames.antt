@@ -16,7 +16,7 @@ use Rattle.sf_call.specs.Tree.{after_front, label_at}
 use Rattle.sf_call.specs.Moves.{with_entries, carried, is_outside, moved}
 use Rattle.sf_call.proofs.Orders.{exact_names, exact_paths}
 
-is_equal : (r : Ordering) → is_eq r ≡ true → r ≡ Equal
+pub is_equal : (r : Ordering) → is_eq r ≡ true → r ≡ Equal
 is_equal Less e = cc
 is_equal Equal e = refl
 is_equal Greater e = cc

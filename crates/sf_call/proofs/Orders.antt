@@ -16,7 +16,7 @@ exact_names = slice_cmp-IsAntisymmetric nat_cmp-IsAntisymmetric
 pub exact_paths : IsAntisymmetric path_cmp
 exact_paths = slice_cmp-IsAntisymmetric exact_names
 
-find_is : {K X : Type 0} (R : K → K → Ordering) (es : List (K × X)) (q : K) → lookup (is_at (R q)) es ≡ find R q es
+pub find_is : {K X : Type 0} (R : K → K → Ordering) (es : List (K × X)) (q : K) → lookup (is_at (R q)) es ≡ find R q es
 find_is R [] q = refl
 find_is R (e ∷ es) q = ap (cond (is_at (R q) e.0) (Some e.1)) (find_is R es q)
 

@@ -1,13 +1,13 @@
 //! Laws of the tree and of histories, which no call needs.
 
-ghost use Rattle.std.specs.Prelude.{◌≡◌, ◌≢◌, ◌<◌, ◌↔◌, ℕ, true, false, List, [], ◌∷◌, ◌++◌, length, take, Some, None};
+ghost use Rattle.std.specs.Prelude.{◌≡◌, ◌≢◌, ◌<◌, ◌↔◌, ℕ, true, false, List, [], ◌∷◌, ◌++◌, length, take, Some, None, IsSome};
 ghost use Rattle.sf_wire.specs.declared.reply.Reply.{Reply};
 ghost use Rattle.sf_wire.specs.Replies.{IsPlain};
 ghost use Rattle.sf_call.specs.declared.request.Request.{Request};
 ghost use Rattle.sf_call.specs.declared.record.Record.{Record};
 ghost use Rattle.sf_call.specs.declared.record.Record.TheVariants.{Did};
 ghost use Rattle.sf_path.specs.Names.{Path};
-ghost use Rattle.sf_call.specs.Tree.{Tree, IsOrderedTree, MapsAlike, label_at, is_directory, is_faulty_way, after_front, kept};
+ghost use Rattle.sf_call.specs.Tree.{Tree, IsOrderedTree, MapsAlike, label_at, object_of, is_directory, is_faulty_way, after_front, kept};
 ghost use Rattle.sf_call.specs.Moves.{moved};
 ghost use Rattle.sf_call.specs.Calls.{apply};
 ghost use Rattle.sf_call.specs.ReplyKinds.{IsReplyTo};
@@ -54,6 +54,14 @@ pub fn labels_of_paths()
     ensures unused { (history : List Record) (number : ℕ) (path : Path) → IsLegal history → 0 < number → IsNewNumber number history → label_at (replay history).names path ≢ Some number }
     ensures one_path { (history : List Record) (path other : Path) (label : ℕ) → IsLegal history
         → label_at (replay history).names path ≡ Some label → label_at (replay history).names other ≡ Some label → path ≡ other }
+{}
+
+/// After a legal history each path that is named leads over directories to an object.
+pub fn ways_of_paths()
+    ensures object { (history : List Record) (path : Path) (label : ℕ) → IsLegal history
+        → label_at (replay history).names path ≡ Some label → IsSome (object_of (replay history).objects label) }
+    ensures way { (history : List Record) (path : Path) (label : ℕ) → IsLegal history
+        → label_at (replay history).names path ≡ Some label → is_faulty_way (replay history) path ≡ false }
 {}
 
 /// A history goes on by one record.

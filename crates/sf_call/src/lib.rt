@@ -15,7 +15,7 @@ pub use fault::CoreFault;
 pub use handle::Handle;
 pub use laws::{
     found_by_number, fronts, given_by_history, kinds_of_replies, labels_of_paths, moved_names,
-    nothing_unused, one_record_more, open_ways, ordered_trees,
+    nothing_unused, one_record_more, open_ways, ordered_trees, ways_of_paths,
 };
 pub use metadata::{FileType, Metadata};
 pub use place::Place;

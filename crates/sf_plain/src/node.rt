@@ -31,6 +31,7 @@ impl Model for Node {
 }
 
 impl Node {
+    /// A directory. Its entries stand in the tree's names.
     pub(crate) fn directory(metadata: Metadata) -> Node
         ensures { result ≡ Directory metadata }
     {
@@ -39,6 +40,7 @@ impl Node {
         }
     }
 
+    /// A file with its bytes.
     pub(crate) fn file(metadata: Metadata, contents: ByteString) -> Node
         ensures { result ≡ File metadata contents }
     {
