@@ -1,11 +1,11 @@
 //! The tree.
 
-ghost use Rattle.std.specs.Prelude.{◌≡◌, ℕ, None, IfOk, OnOk, OnErr};
+ghost use Rattle.std.specs.Prelude.{◌≡◌, None, IfOk, OnOk, OnErr};
 ghost use Rattle.sf_wire.specs.Replies.{IsPlain};
 ghost use Rattle.sf_call.specs.Tree.{empty_tree, label_at, directory_at, is_faulty_way, place_at, found_at};
 ghost use Rattle.sf_call.specs.Changes.{changed, done, touch};
 ghost use Rattle.sf_call.specs.Changes.Change.{NewPath, SetObject};
-ghost use Rattle.sf_call.specs.Calls.{apply, carry_out, make_directory, stat};
+ghost use Rattle.sf_call.specs.Calls.{apply, make_directory, stat};
 
 use crate::node::Node;
 use sf_call::{Handle, Metadata, Place, Request};
