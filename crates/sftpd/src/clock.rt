@@ -18,12 +18,13 @@ pub trait Clock {
 
 /// The clock of the system that the program runs on. It keeps no moments.
 #[derive(Debug, Drop)]
-pub struct SystemClock<'a, R> {
+pub(crate) struct SystemClock<'a, R> {
     runtime: &'a R,
 }
 
 impl<'a, R> SystemClock<'a, R> {
-    pub fn new(runtime: &'a R) -> SystemClock<'a, R> {
+    /// The clock of this runtime.
+    pub(crate) fn new(runtime: &'a R) -> SystemClock<'a, R> {
         SystemClock { runtime }
     }
 }

@@ -49,6 +49,7 @@ impl Model for Service {
 }
 
 impl Service {
+    /// A session that was fed nothing, and a tree with its root alone.
     pub(crate) fn new(alloc: Global) -> Result<Service, AllocError>
         ensures { IfOk result (λ service. service ≡ new_service) }
     {
