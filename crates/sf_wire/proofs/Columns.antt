@@ -1,12 +1,10 @@
 -- What a format writes in a column.
-use Rattle.std.proofs.Common.{◌≡◌, ℕ, zero, suc, ◌+◌, ◌-◌, ◌^◌, false, List, [], ◌∷◌, ◌++◌, length, refl, sym, ap, ◌∙◌, append_assoc, arith}
-use Rattle.std.specs.Prelude.{replicate}
+use Rattle.std.proofs.Common.{◌≡◌, ℕ, zero, suc, false, List, [], ◌∷◌, ◌++◌, refl, ap, arith}
 use Rattle.std.specs.List.{repeat}
 use Rattle.std.proofs.Math.Utf8.{encode}
 use Rattle.std.proofs.lemmas.List.{append-nil}
-use Rattle.std.specs.Fmt.{decimal, styled_decimal, padded_integral, format_spec, char_count}
-use Rattle.sf_wire.specs.declared.attrs.Owner.{Owner}
-use Rattle.sf_wire.specs.Longname.{spaces, left_in, right_in, columns_text}
+use Rattle.std.specs.Fmt.{padded_integral, format_spec, char_count}
+use Rattle.sf_wire.specs.Longname.{spaces, left_in, right_in}
 
 repeat_is : (n : ℕ) → repeat n (32 ∷ []) ≡ spaces n
 repeat_is zero = refl

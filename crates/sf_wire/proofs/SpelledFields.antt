@@ -1,8 +1,6 @@
 -- Fields that are read are spelled at the front of the bytes, and spelled ones are read.
-use Rattle.std.proofs.Common.{◌≡◌, ℕ, ◌^◌, List, ◌++◌, Option, Some, None, refl, sym, ap, subst, ◌∙◌, append_assoc}
-use Rattle.std.specs.Prelude.{option_map}
+use Rattle.std.proofs.Common.{◌≡◌, ℕ, List, ◌++◌, Option, Some, refl, ap, subst, ◌∙◌, append_assoc}
 use Rattle.std.specs.Int.{w32, w64}
-use Rattle.sf_wire.specs.declared.attrs.Attrs.{Attrs}
 use Rattle.sf_wire.specs.declared.open_flags.OpenFlags.{OpenFlags}
 use Rattle.sf_wire.specs.Fields.{be32, be64, string}
 use Rattle.sf_wire.specs.OpenFlags.{open_flags}

@@ -27,6 +27,7 @@ pub struct OpenFlags {
 }
 
 impl OpenFlags {
+    /// The flags whose bit is set.
     pub(crate) fn from_bits(bits: u32) -> OpenFlags
         ensures { result ≡ open_flags bits }
     {
