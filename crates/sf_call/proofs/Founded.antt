@@ -235,6 +235,8 @@ applied_founded tree session number moment (Stat path) unused f = stat_founded t
 reply_founded : (tree next : Tree) (given : Reply) → IsFounded tree → IsFounded next → IsFounded (after_reply tree next given)
 reply_founded tree next reply.NoMemory f then = f
 reply_founded tree next (reply.Status code) f then = then
+reply_founded tree next (reply.Handle handle) f then = then
+reply_founded tree next (reply.Data bytes) f then = then
 reply_founded tree next (reply.Names entries) f then = then
 reply_founded tree next (reply.Attrs attrs) f then = then
 

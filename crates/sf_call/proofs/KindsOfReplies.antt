@@ -34,12 +34,16 @@ applied tree session number moment (Stat path) = told (found_at tree path)
 status_plain : (given : Reply) → IsStatus given → IsPlain given
 status_plain (reply.Status code) s = tt
 status_plain reply.NoMemory s = absurd s
+status_plain (reply.Handle handle) s = absurd s
+status_plain (reply.Data bytes) s = absurd s
 status_plain (reply.Names entries) s = absurd s
 status_plain (reply.Attrs attrs) s = absurd s
 
 attrs_plain : (given : Reply) → IsStatusOrAttrs given → IsPlain given
 attrs_plain (reply.Status code) s = tt
 attrs_plain reply.NoMemory s = absurd s
+attrs_plain (reply.Handle handle) s = absurd s
+attrs_plain (reply.Data bytes) s = absurd s
 attrs_plain (reply.Names entries) s = absurd s
 attrs_plain (reply.Attrs attrs) s = tt
 

@@ -57,6 +57,8 @@ names_applied tree session number moment (Stat path) = names_stat tree number (f
 names_reply : (tree next : Tree) (number : ℕ) (given : Reply) → AddsOne tree.names number next.names → AddsOne tree.names number (after_reply tree next given).names
 names_reply tree next number reply.NoMemory one = inl refl
 names_reply tree next number (reply.Status code) one = one
+names_reply tree next number (reply.Handle handle) one = one
+names_reply tree next number (reply.Data bytes) one = one
 names_reply tree next number (reply.Names entries) one = one
 names_reply tree next number (reply.Attrs attrs) one = one
 

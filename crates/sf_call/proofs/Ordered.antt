@@ -154,6 +154,8 @@ ordered_done tree (c ∷ cs) o = ordered_done (changed tree c) cs (ordered_chang
 ordered_reply : (tree next : Tree) (given : Reply) → IsOrderedTree tree → IsOrderedTree next → IsOrderedTree (after_reply tree next given)
 ordered_reply tree next reply.NoMemory o then = o
 ordered_reply tree next (reply.Status code) o then = then
+ordered_reply tree next (reply.Handle handle) o then = then
+ordered_reply tree next (reply.Data bytes) o then = then
 ordered_reply tree next (reply.Names entries) o then = then
 ordered_reply tree next (reply.Attrs attrs) o then = then
 

@@ -141,6 +141,8 @@ used_applied tree session number moment (Stat path) used = used_stat tree (found
 used_reply : (tree next : Tree) (given : Reply) → AllUsed tree → AllUsed next → AllUsed (after_reply tree next given)
 used_reply tree next reply.NoMemory used then = used
 used_reply tree next (reply.Status code) used then = then
+used_reply tree next (reply.Handle handle) used then = then
+used_reply tree next (reply.Data bytes) used then = then
 used_reply tree next (reply.Names entries) used then = then
 used_reply tree next (reply.Attrs attrs) used then = then
 

@@ -9,6 +9,8 @@ use Rattle.sf_call.specs.declared.request.Request.TheVariants.{Mkdir, Stat}
 abbrev pub IsStatus : Reply → Type 0
 IsStatus (reply.Status code) = Unit {0}
 IsStatus reply.NoMemory = ⊥
+IsStatus (reply.Handle handle) = ⊥
+IsStatus (reply.Data bytes) = ⊥
 IsStatus (reply.Names entries) = ⊥
 IsStatus (reply.Attrs attrs) = ⊥
 
@@ -22,6 +24,8 @@ pub record HasAllParts (attrs : Attrs) : Type 0 where
 abbrev pub IsStatusOrAttrs : Reply → Type 0
 IsStatusOrAttrs (reply.Status code) = Unit {0}
 IsStatusOrAttrs reply.NoMemory = ⊥
+IsStatusOrAttrs (reply.Handle handle) = ⊥
+IsStatusOrAttrs (reply.Data bytes) = ⊥
 IsStatusOrAttrs (reply.Names entries) = ⊥
 IsStatusOrAttrs (reply.Attrs attrs) = HasAllParts attrs
 

@@ -2,7 +2,7 @@
 use Rattle.std.proofs.Common.{◌≡◌, ℕ, ◌<◌, ◌^◌, List, [], ◌∷◌, ◌++◌, length, get_or, drop, Option, Some, refl, sym, ap, ◌∙◌, append_assoc, arith}
 use Rattle.std.specs.Prelude.{◌==◌, if◌then◌else◌}
 use Rattle.std.specs.List.{flat_map, AllByRecursion}
-use Rattle.std.specs.Int.{w32}
+use Rattle.std.specs.Int.{w32, w64}
 use Rattle.std.proofs.lemmas.Option.{some_pair_parts}
 use Rattle.sf_wire.specs.declared.attrs.Attrs.{Attrs}
 use Rattle.sf_wire.specs.declared.reply.StatusCode.{StatusCode}
@@ -14,7 +14,7 @@ use Rattle.sf_wire.specs.Fields.{string}
 use Rattle.sf_wire.specs.Attributes.{attrs_text, AttrsFit}
 use Rattle.sf_wire.specs.Replies.{entry_text, fields_of, kind_of_reply, reply_body, EntryFits, ReplyFits}
 use Rattle.sf_wire.specs.Reading.{number_at, string_at, attrs_at}
-use Rattle.sf_wire.proofs.FieldLaws.{reads_u32, reads_string}
+use Rattle.sf_wire.proofs.FieldLaws.{reads_u32, reads_u64, reads_string}
 use Rattle.sf_wire.proofs.AttributeLaws.{attrs_again}
 use Rattle.sf_wire.proofs.OneForm.{sent_is_spelled}
 
@@ -95,22 +95,16 @@ no_memory_back = refl
 same_reply : (a b : Reply) → ReplyFits a → ReplyFits b → kind_of_reply a ≡ kind_of_reply b → fields_of a ≡ fields_of b → a ≡ b
 same_reply (reply.Status c) (reply.Status d) p q k e = sym (status_back c) ∙ ap status_of e ∙ status_back d
 same_reply (reply.Status c) reply.NoMemory p q k e = sym (status_back c) ∙ ap status_of e ∙ no_memory_back
-same_reply (reply.Status c) (reply.Names fs) p q k e = absurd (omega arith)
-same_reply (reply.Status c) (reply.Attrs b) p q k e = absurd (omega arith)
 same_reply reply.NoMemory (reply.Status d) p q k e = sym no_memory_back ∙ ap status_of e ∙ status_back d
 same_reply reply.NoMemory reply.NoMemory p q k e = refl
-same_reply reply.NoMemory (reply.Names fs) p q k e = absurd (omega arith)
-same_reply reply.NoMemory (reply.Attrs b) p q k e = absurd (omega arith)
-same_reply (reply.Names es) (reply.Status d) p q k e = absurd (omega arith)
-same_reply (reply.Names es) reply.NoMemory p q k e = absurd (omega arith)
+same_reply (reply.Handle m) (reply.Handle n) p q k e = ap reply.Handle (same_front (number_at w64) m n _ _ _ _ (reads_u64.again m [] p) (reads_u64.again n [] q) (ap (drop 4) e)).0
+same_reply (reply.Data a) (reply.Data b) p q k e = ap reply.Data (same_front string_at a b _ _ _ _ (reads_string.again a [] p) (reads_string.again b [] q) (ap (λ (t : List ℕ). t ++ []) e)).0
 same_reply (reply.Names es) (reply.Names fs) p q k e =
     let parts = same_front (number_at w32) (length es) (length fs) _ _ _ _ (reads_u32.again (length es) (flat_map entry_text es) p.0) (reads_u32.again (length fs) (flat_map entry_text fs) q.0) e in
     ap reply.Names (same_entries es fs p.1 q.1 parts.0 parts.1)
-same_reply (reply.Names es) (reply.Attrs b) p q k e = absurd (omega arith)
-same_reply (reply.Attrs a) (reply.Status d) p q k e = absurd (omega arith)
-same_reply (reply.Attrs a) reply.NoMemory p q k e = absurd (omega arith)
-same_reply (reply.Attrs a) (reply.Names fs) p q k e = absurd (omega arith)
 same_reply (reply.Attrs a) (reply.Attrs b) p q k e = ap reply.Attrs (same_attrs a b p q e)
+-- of two kinds
+same_reply _ _ p q k e = absurd (omega arith)
 
 pub one_reply : (id other_id : ℕ) (r other : Reply) → id < 2 ^ 32 → other_id < 2 ^ 32 → ReplyFits r → ReplyFits other → reply_body id r ≡ reply_body other_id other → (id ≡ other_id) × (r ≡ other)
 one_reply id other_id r other p q fits other_fits e =

@@ -3,3 +3,4 @@ pub mod Faults
 pub mod Writing
 pub mod Progressing
 pub mod ServingLemmas
+pub mod Cutting

@@ -89,12 +89,16 @@ numbers_more n (Left session ∷ history) h = absurd h.0
 next_by_status : (tree next : Tree) (given : Reply) → IsStatus given → after_reply tree next given ≡ next
 next_by_status tree next (reply.Status code) h = refl
 next_by_status tree next reply.NoMemory h = absurd h
+next_by_status tree next (reply.Handle handle) h = absurd h
+next_by_status tree next (reply.Data bytes) h = absurd h
 next_by_status tree next (reply.Names es) h = absurd h
 next_by_status tree next (reply.Attrs a) h = absurd h
 
 next_by_attrs : (tree next : Tree) (given : Reply) → IsStatusOrAttrs given → after_reply tree next given ≡ next
 next_by_attrs tree next (reply.Status code) h = refl
 next_by_attrs tree next reply.NoMemory h = absurd h
+next_by_attrs tree next (reply.Handle handle) h = absurd h
+next_by_attrs tree next (reply.Data bytes) h = absurd h
 next_by_attrs tree next (reply.Names es) h = absurd h
 next_by_attrs tree next (reply.Attrs a) h = refl
 

@@ -67,6 +67,7 @@ ask_not_closed true false (asked.BadFields id) e = cc
 ask_not_closed true false (asked.Request id (wire.Mkdir text attrs)) e = request_not_closed id (path_at text) _ (λ path e'. cc) e
 ask_not_closed true false (asked.Request id (wire.Stat text)) e = request_not_closed id (path_at text) _ (λ path e'. cc) e
 ask_not_closed true false (asked.Request id (wire.RealPath text)) e = request_not_closed id (path_at text) _ (λ path e'. cc) e
+ask_not_closed true false (asked.Request id _) e = cc
 ask_not_closed false false a e = cc
 ask_not_closed false true (asked.Init version) e = version_not_closed (nat_lt version 3) e
 ask_not_closed false true asked.NoId e = cc

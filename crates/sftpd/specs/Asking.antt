@@ -52,6 +52,7 @@ abbrev pub request_ask : ℕ → WireRequest → Ask
 request_ask id (wire.Mkdir text attrs) = with_path id (path_at text) (λ path. ask.Call id (Mkdir path attrs))
 request_ask id (wire.Stat text) = with_path id (path_at text) (λ path. ask.Call id (Stat path))
 request_ask id (wire.RealPath text) = with_path id (path_at text) (λ path. ask.Local id (real_path_reply path))
+request_ask id _ = ask.Local id (reply.Status OpUnsupported)
 
 -- a later body must not be INIT
 abbrev pub later_ask : Bool → Asked → Ask

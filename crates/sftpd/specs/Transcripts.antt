@@ -4,7 +4,8 @@ use Rattle.std.specs.List.{flat_map, AllByRecursion}
 use Rattle.std.specs.Io.KnownBytes.{Appends}
 use Rattle.sf_wire.specs.declared.cutting.Cut.TheVariants as cut
 use Rattle.sf_wire.specs.declared.reply.Reply.{Reply}
-use Rattle.sf_wire.specs.Packets.{packet, IsBody, IsCut}
+use Rattle.sf_wire.specs.declared.cutting.BadCut.TheVariants as bad
+use Rattle.sf_wire.specs.Packets.{packet, IsBody, IsCut, End, More, Bad}
 use Rattle.sf_wire.specs.Replies.{reply_body, version_body}
 use Rattle.sf_call.specs.declared.request.Request.{Request}
 use Rattle.sf_call.specs.declared.record.Record.{Record}
@@ -14,7 +15,7 @@ use Rattle.sf_call.specs.Histories.{IsLegal}
 use Rattle.sftpd.specs.declared.asking.Ask.{Ask}
 use Rattle.sftpd.specs.declared.asking.Ask.TheVariants as ask
 use Rattle.sftpd.specs.declared.cause.Cause.{Cause}
-use Rattle.sftpd.specs.declared.cause.Cause.TheVariants.{Closed}
+use Rattle.sftpd.specs.declared.cause.Cause.TheVariants.{ZeroLength, TooLong, Closed}
 use Rattle.sftpd.specs.Asking.{AsksFor}
 use Rattle.sftpd.specs.Sessions.{EndsBy, refusal_of}
 
@@ -103,3 +104,11 @@ pub record IsServed (input output moments : List ℕ) (cause : Cause) : Type 0 w
   pub sent : output ≡ transcript answers
   pub told : moments ≡ moments_of answers
   pub legal : IsLegal (history_of answers)
+
+-- A stream's end, after the bodies that were answered: the input's end, a wrong length, or a body that ends the session,
+-- after which the rest of the stream is dropped.
+abbrev pub EndsWith : Bool → List (List ℕ) → End → Cause → Type 0
+EndsWith begun [] (More rest) cause = cause ≡ Closed
+EndsWith begun [] (Bad bad.ZeroLength) cause = cause ≡ ZeroLength
+EndsWith begun [] (Bad bad.TooLong) cause = cause ≡ TooLong
+EndsWith begun (body ∷ dropped) end cause = AsksFor begun body (ask.End cause)

@@ -76,8 +76,8 @@ fn later_ask(alloc: Global, init: bool, asked: Asked) -> Result<Ask, AllocError>
     match asked {
         Asked::Init(_) => Ok(Ask::End(Cause::SecondInit)),
         Asked::NoId => Ok(Ask::End(Cause::NoId)),
-        Asked::Unknown(id) => Ok(Ask::Local(id, Reply::Status(StatusCode::OpUnsupported))),
-        Asked::BadFields(id) => Ok(Ask::Local(id, Reply::Status(StatusCode::BadMessage))),
+        Asked::Unknown(id) => Ok(status(id, StatusCode::OpUnsupported)),
+        Asked::BadFields(id) => Ok(status(id, StatusCode::BadMessage)),
         Asked::Request(id, request) => request_ask(alloc, id, request),
     }
 }
@@ -86,19 +86,28 @@ fn request_ask(alloc: Global, id: u32, request: WireRequest) -> Result<Ask, Allo
     ensures ask { IfOk result (λ ask. ask ≡ request_ask id request) }
     ensures fits { IfOk result (λ ask. FitsPacket ask) }
 {
-    let text = match &request {
-        WireRequest::Mkdir { path, .. } => path,
-        WireRequest::Stat { path } => path,
-        WireRequest::RealPath { path } => path,
-    };
-    let Some(path) = path_of(alloc, text.as_slice())? else {
-        return Ok(Ask::Local(id, Reply::Status(StatusCode::Failure)));
-    };
     match request {
-        WireRequest::Mkdir { attrs, .. } => Ok(Ask::Call(id, Request::Mkdir(path, attrs))),
-        WireRequest::Stat { .. } => Ok(Ask::Call(id, Request::Stat(path))),
-        WireRequest::RealPath { .. } => Ok(Ask::Local(id, real_path_reply(alloc, &path)?)),
+        WireRequest::Mkdir { path, attrs } => match path_of(alloc, path.as_slice())? {
+            Some(path) => Ok(Ask::Call(id, Request::Mkdir(path, attrs))),
+            None => Ok(status(id, StatusCode::Failure)),
+        },
+        WireRequest::Stat { path } => match path_of(alloc, path.as_slice())? {
+            Some(path) => Ok(Ask::Call(id, Request::Stat(path))),
+            None => Ok(status(id, StatusCode::Failure)),
+        },
+        WireRequest::RealPath { path } => match path_of(alloc, path.as_slice())? {
+            Some(path) => Ok(Ask::Local(id, real_path_reply(alloc, &path)?)),
+            None => Ok(status(id, StatusCode::Failure)),
+        },
+        _ => Ok(status(id, StatusCode::OpUnsupported)),
     }
+}
+
+/// A status that needs no tree.
+fn status(id: u32, code: StatusCode) -> Ask
+    ensures { result ≡ Ask.Local id (Reply.Status code) }
+{
+    Ask::Local(id, Reply::Status(code))
 }
 
 /// The path that a text stands for, if it has no fault.

@@ -6,6 +6,7 @@ pub mod cause;
 pub mod clock;
 pub mod fault;
 mod front;
+pub mod laws;
 mod program;
 mod service;
 pub mod serving;

@@ -1,0 +1,108 @@
+use super::packets::is_written;
+use super::*;
+
+#[test]
+fn handle_and_data(rt: HostRuntime) -> Result<(), Fail> {
+    let alloc = rt.alloc();
+    let mut out = BytesMut::new(alloc);
+    write_reply(1, &Reply::Handle(1), &mut out)?;
+    is_written(
+        &rt,
+        alloc,
+        &out,
+        "00000011 66 00000001 00000008 0000000000000001",
+    )?;
+    out.clear();
+    let hole = ByteString::from_slice(alloc, &[0, 0, 0, 0, 0, b'x'])?;
+    write_reply(3, &Reply::Data(hole), &mut out)?;
+    is_written(
+        &rt,
+        alloc,
+        &out,
+        "0000000f 67 00000003 00000006 000000000078",
+    )
+}
+
+/// The most that a READ answers.
+#[test]
+fn longest_data(rt: HostRuntime) -> Result<(), Fail> {
+    let alloc = rt.alloc();
+    let data = vec![in alloc; b'x'; 261120]?;
+    let mut out = BytesMut::new(alloc);
+    write_reply(3, &Reply::Data(ByteString::from_vec(data)), &mut out)?;
+    let bytes = out.as_slice();
+    assert_eq!(rt; bytes.len(), 261133);
+    assert_eq!(rt; cut(bytes), Cut::Whole(261133));
+    let Some((front, rest)) = bytes.split_at_checked(13) else {
+        panic!(rt; "no fields");
+    };
+    let want = hex_bytes(alloc, "0003fc09 67 00000003 0003fc00")?;
+    assert_eq!(rt; front, want.as_slice());
+    assert!(rt; rest.iter().all(|byte| *byte == b'x'));
+    Ok(())
+}
+
+#[test]
+fn single_fields(rt: HostRuntime) -> Result<(), Fail> {
+    let alloc = rt.alloc();
+    let mut out = BytesMut::new(alloc);
+    write_u32(&mut out, 0x0102_0304)?;
+    write_u64(&mut out, 5)?;
+    write_string(&mut out, b"/a")?;
+    write_attrs(&mut out, &DIRECTORY)?;
+    let want = hex_bytes(
+        alloc,
+        "01020304 0000000000000005 00000002 2f61 0000000f 0000000000000000 00000000 00000000 000041ed 00000064 00000064",
+    )?;
+    assert_eq!(rt; out.as_slice(), want.as_slice());
+    let Some((number, rest)) = u32_at(&want) else {
+        panic!(rt; "no number");
+    };
+    assert_eq!(rt; number, 0x0102_0304);
+    let Some((number, rest)) = u64_at(rest) else {
+        panic!(rt; "no long number");
+    };
+    assert_eq!(rt; number, 5);
+    let Some((text, rest)) = bytes_at(rest) else {
+        panic!(rt; "no string");
+    };
+    assert_eq!(rt; text, b"/a".as_slice());
+    let Some((attrs, rest)) = attrs_of(rest) else {
+        panic!(rt; "no attributes");
+    };
+    assert_eq!(rt; attrs, DIRECTORY);
+    assert!(rt; rest.is_empty());
+    Ok(())
+}
+
+/// A file of 6 bytes, and a directory whose numbers are wider than their columns.
+#[test]
+fn lines_of_a_listing(rt: HostRuntime) -> Result<(), Fail> {
+    let alloc = rt.alloc();
+    let file = Attrs {
+        size: Some(6),
+        permissions: Some(0o100644),
+        ..DIRECTORY
+    };
+    let line = longname(alloc, &file, 1, b"f")?;
+    assert_eq!(rt; line.len(), 56);
+    assert_eq!(rt;
+        line.as_slice(),
+        b"-rw-r--r--   1 0        0               6          100 f".as_slice()
+    );
+    let wide = Attrs {
+        size: Some(1234567890),
+        owner: Some(Owner {
+            uid: 123456789,
+            gid: 4294967295,
+        }),
+        permissions: Some(0o47531),
+        times: Some(Times { atime: 0, mtime: 1 }),
+    };
+    let line = longname(alloc, &wide, 12345, b"a b")?;
+    assert_eq!(rt;
+        line.as_slice(),
+        b"dr-x-wx--x 12345 123456789 4294967295 1234567890            1 a b".as_slice()
+    );
+    Ok(())
+}
