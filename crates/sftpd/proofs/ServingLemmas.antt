@@ -1,9 +1,10 @@
 -- What a session on a line comes to.
-use Rattle.std.proofs.Common.{◌≡◌, ◌≢◌, ◌≤◌, ◌<◌, ◌⊎◌, ℕ, List, [], ◌++◌, Bool, true, false, if◌then◌else◌, Option, Some, None, Result, Ok, Err, refl, sym, ap, subst, ◌∙◌, inl, inr, append_assoc, append-nil, lit<}
+use Rattle.std.proofs.Common.{◌≡◌, ◌≢◌, ◌≤◌, ◌<◌, ◌⊎◌, ℕ, List, [], ◌++◌, Bool, true, false, if◌then◌else◌, Option, Some, None, Result, Ok, Err, refl, sym, ap, subst, ◌∙◌, inl, inr, append_assoc, append-nil, lit<, lit≤, arith, ◌+◌, length, take, length-append}
 use Rattle.std.specs.Prelude.{OnOk, IfSome, nat_lt}
 use Rattle.std.specs.List.{flat_map}
 use Rattle.std.specs.Io.KnownBytes.{Appends, Consumes, IsAtEnd}
-use Rattle.std.proofs.KnownBytes.{Appends-nil, Consumes-nil}
+use Rattle.std.proofs.KnownBytes.{Appends-nil, Consumes-nil, Consumes-trans}
+use Rattle.std.proofs.lemmas.List.{length-take-le}
 use Rattle.sf_wire.specs.declared.cutting.Cut.TheVariants as cut
 use Rattle.sf_wire.specs.Packets.{packet, IsCut}
 use Rattle.sf_wire.specs.Fields.{be32}
@@ -22,7 +23,7 @@ use Rattle.sftpd.specs.Asking.{is_init, path_at, with_path, ask_by}
 use Rattle.sftpd.specs.declared.service.Turn.TheVariants as turn
 use Rattle.sftpd.specs.Sessions.{SessionView, EndsBy}
 use Rattle.sftpd.specs.Transcripts.{moments_of, AreAnswers, IsServed, IsEnd}
-use Rattle.sftpd.specs.Serving.{ServiceView, new_service, Edges, edges, Answers, TurnGives, Progress, Serves, HasEnded, ServesLine, IsDrained, IsRounded}
+use Rattle.sftpd.specs.Serving.{ServiceView, new_service, Edges, edges, Answers, TurnGives, Progress, Serves, HasEnded, ServesLine, IsDrained, IsRounded, ReadsAtLeast}
 use Rattle.sftpd.proofs.Progressing.{sends_all, reads_piece}
 
 abbrev pub sent_all : ServiceView → ServiceView
@@ -202,3 +203,17 @@ fed start i i' o o' t v w piece s consumed same now = rw (same, now) (record {
 pub going_on : (start now : Edges) (v : ServiceView) (ended : Option Cause) → ((cause : Cause) → ended ≡ Some cause → ⊥) → IsRounded start now v ended → IsRounded start now v None
 going_on start now v None no_cause h = h
 going_on start now v (Some cause) no_cause h = absurd (no_cause cause refl)
+
+pub none_left : (ended : Option Cause) → ((cause : Cause) → ended ≡ Some cause → ⊥) → ended ≡ None
+none_left None no_cause = refl
+none_left (Some cause) no_cause = absurd (no_cause cause refl)
+
+pub nothing_read : (a : Option (List ℕ)) → ReadsAtLeast 0 a a
+nothing_read a = ([], Consumes-nil a, lit≤ tt)
+
+-- each round reads a byte at least
+pub reads_more : (a b d : Option (List ℕ)) (n : ℕ) → ReadsAtLeast n a b → ReadsAtLeast 1 b d → ReadsAtLeast (n + 1) a d
+reads_more a b d n h k = (h.0 ++ k.0, Consumes-trans a b d h.0 k.0 h.1 k.1, omega (arith, length-append h.0 k.0, h.2, k.2))
+
+pub piece_read : (a b d : Option (List ℕ)) (buffer : List ℕ) (n : ℕ) → Consumes a b (take n buffer) → n ≤ length buffer → n ≢ 0 → d ≡ b → ReadsAtLeast 1 a d
+piece_read a b d buffer n h within some same = rw same (take n buffer, h, omega (arith, length-take-le n buffer within, some))

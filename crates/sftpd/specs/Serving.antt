@@ -135,3 +135,7 @@ IsServeFault fault.OutOfMemory failed failed' = Unit {0}
 IsServeFault fault.Sessions failed failed' = ⊥
 IsServeFault fault.Stranger failed failed' = ⊥
 IsServeFault fault.NumbersSpent failed failed' = Unit {0}
+
+-- some bytes were read, at least n of them
+abbrev pub ReadsAtLeast : ℕ → Option (List ℕ) → Option (List ℕ) → Type 0
+ReadsAtLeast n incoming incoming' = (bytes : List ℕ) × Consumes incoming incoming' bytes × (n ≤ length bytes)

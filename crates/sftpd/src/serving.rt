@@ -1,9 +1,9 @@
 //! Serving one session over a line.
 
-ghost use Rattle.std.specs.Prelude.{◌≡◌, ◌≢◌, ◌<◌, ◌≤◌, ℕ, List, [], length, Option, Some, None, Ok, IfOk, IfErr, OnOk, OnErr, vec_len};
+ghost use Rattle.std.specs.Prelude.{◌≡◌, ◌≢◌, ◌-◌, ◌^◌, ◌<◌, ◌≤◌, ℕ, List, [], length, Option, Some, None, Ok, Err, IfOk, IfErr, OnOk, OnErr, vec_len};
 ghost use Rattle.std.specs.Io.KnownBytes.{Appends, IsAtEnd};
 ghost use Rattle.sf_wire.specs.Lines.{Rose};
-ghost use Rattle.sftpd.specs.Serving.{Edges, edges, IsDrained, IsRounded, IsServeFault, Serves, ServesLine};
+ghost use Rattle.sftpd.specs.Serving.{Edges, edges, IsDrained, IsRounded, IsServeFault, ReadsAtLeast, Serves, ServesLine};
 
 use crate::cause::Cause;
 use crate::clock::Clock;
@@ -53,6 +53,7 @@ fn send_batch<L: Line>(service: &mut Service, line: &mut L) -> Result<(), LineFa
     ensures serves { OnOk result ((start : Edges) (told : Option (List ℕ)) → Serves start (edges (L.incoming line.old) (L.outgoing line.old) told) service.old
         → Serves start (edges (L.incoming line.new) (L.outgoing line.new) told) service.new) }
     ensures session { service.new ≡ record service.old { session = record service.old.session { output = service.new.session.output } } }
+    ensures incoming { L.incoming line.new ≡ L.incoming line.old }
     ensures failures { L.failed line.old ≤ L.failed line.new }
     ensures fault { OnErr result (Rose (L.failed line.old) (L.failed line.new)) }
 {
@@ -73,7 +74,9 @@ fn drain<L: Line, C: Clock>(
     ensures drained { IfOk result (λ ended. (start : Edges) → Serves start (edges (L.incoming line.old) (L.outgoing line.old) (C.told clock.old)) service.old
         → IsDrained start (edges (L.incoming line.new) (L.outgoing line.new) (C.told clock.new)) service.new ended) }
     ensures cause { result ≢ Ok (Some Cause.Closed) }
+    ensures incoming { L.incoming line.new ≡ L.incoming line.old }
     ensures idle { OnOk result (service.new.session.waiting ≡ None) }
+    ensures unspent { result ≢ Err ServeFault.NumbersSpent }
     ensures failures { L.failed line.old ≤ L.failed line.new }
     ensures fault { IfErr result (λ fault. IsServeFault fault (L.failed line.old) (L.failed line.new)) }
 {
@@ -102,6 +105,8 @@ fn round<L: Line, C: Clock>(
     ensures rounded { IfOk result (λ ended. (start : Edges) → IsRounded start (edges (L.incoming line.old) (L.outgoing line.old) (C.told clock.old)) service.old None
         → IsRounded start (edges (L.incoming line.new) (L.outgoing line.new) (C.told clock.new)) service.new ended) }
     ensures end { result ≡ Ok (Some Cause.Closed) → IsAtEnd (L.incoming line.new) }
+    ensures read { result ≡ Ok None → ReadsAtLeast 1 (L.incoming line.old) (L.incoming line.new) }
+    ensures unspent { result ≢ Err ServeFault.NumbersSpent }
     ensures failures { L.failed line.old ≤ L.failed line.new }
     ensures fault { IfErr result (λ fault. IsServeFault fault (L.failed line.old) (L.failed line.new)) }
 {
@@ -132,6 +137,8 @@ pub fn serve_one<L: Line, C: Clock>(
     ensures served { IfOk result (λ cause. ServesLine (edges (L.incoming line.old) (L.outgoing line.old) (C.told clock.old))
         (edges (L.incoming line.new) (L.outgoing line.new) (C.told clock.new)) cause) }
     ensures end { result ≡ Ok Cause.Closed → IsAtEnd (L.incoming line.new) }
+    // A read gives a byte at least.
+    ensures spent { result ≡ Err ServeFault.NumbersSpent → ReadsAtLeast (2 ^ 64 - 1) (L.incoming line.old) (L.incoming line.new) }
     ensures fault { IfErr result (λ fault. IsServeFault fault (L.failed line.old) (L.failed line.new)) }
 {
     let mut service = Service::new(alloc)?;

@@ -1,4 +1,4 @@
-use Rattle.std.proofs.Common.{◌≡◌, ◌≤◌, arith, rules}
+use Rattle.std.proofs.Common.{◌∙◌, arith}
 use Rattle.sftpd.proofs.Progressing.{Laws, serves_answered}
 use Rattle.sftpd.proofs.ServingLemmas.{has_ended, stays_open}
 use Rattle.sftpd.proofs.serving.drain.Goals as goal
@@ -17,6 +17,7 @@ packets-preserved g c =
       still.1,
       (λ start s. sent.serves start _ (serves_answered laws start _ _ _ _ _ _ (c.packets.invariant.2 start s) answered)),
       omega (arith, sent.failures, c.packets.invariant.3),
+      sent.incoming ∙ c.packets.invariant.4,
     )
 
 pub returns-in-Ended-clause-drained : goal.returns-in-Ended-clause-drained

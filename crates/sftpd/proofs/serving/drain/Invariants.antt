@@ -9,6 +9,7 @@ invariant-packets g l =
     × ((start : Edges) → Serves start (edges (g.L.Line.incoming l.initial.line) (g.L.Line.outgoing l.initial.line) (g.C.Clock.told l.initial.clock)) l.initial.service
     → Serves start (edges (g.L.Line.incoming l.line) (g.L.Line.outgoing l.line) (g.C.Clock.told l.clock)) l.service)
     × (g.L.Line.failed l.initial.line ≤ g.L.Line.failed l.line)
+    × (g.L.Line.incoming l.line ≡ g.L.Line.incoming l.initial.line)
 
 abbrev pub decreases-packets : goal.decreases-packets
 decreases-packets g l = length l.service.session.unread

@@ -1,12 +1,12 @@
-use Rattle.std.proofs.Common.{◌≡◌, ◌≤◌, arith, rules}
+use Rattle.std.proofs.Common.{arith, ap, Ok}
 use Rattle.sftpd.specs.Serving.{edges}
-use Rattle.sftpd.proofs.ServingLemmas.{starts, going_on}
+use Rattle.sftpd.proofs.ServingLemmas.{starts, going_on, none_left, nothing_read, reads_more}
 use Rattle.sftpd.proofs.serving.serve_one.Goals as goal
 
 pub loop-init : goal.loop-init
 loop-init g c =
     let start = edges (g.L.Line.incoming c.args.line.now) (g.L.Line.outgoing c.args.line.now) (g.C.Clock.told c.args.clock.now) in
-    (rw c.in_ok-service.ensures (starts start), omega (arith, c.in_ok-piece.ensures), omega arith)
+    (rw c.in_ok-service.ensures (starts start), omega (arith, c.in_ok-piece.ensures), omega arith, nothing_read _)
 
 pub returns-in-Some-clause-served : goal.returns-in-Some-clause-served
 returns-in-Some-clause-served g c =
@@ -19,4 +19,5 @@ loop-preserved g c =
       going_on start _ _ c.in_ok-cause.field-0 c.in_default.not-Some (c.in_ok-cause.ensures.rounded start c.loop.invariant.0),
       c.loop.invariant.1,
       omega (arith, c.in_ok-cause.ensures.failures, c.loop.invariant.2),
+      reads_more _ _ _ c.loop.counter c.loop.invariant.3 (c.in_ok-cause.ensures.read (ap Ok (none_left c.in_ok-cause.field-0 c.in_default.not-Some))),
     )
