@@ -1,41 +1,30 @@
 -- After a history each path that is named leads over directories to an object.
-use Rattle.std.proofs.Common.{◌≡◌, ◌≢◌, ℕ, nat_eq, Bool, true, false, cond, not, ◌||◌, List, [], ◌∷◌, ◌++◌, filter, take, Option, Some, None, option_map, option_and_then, refl, sym, ap, ◌∙◌, subst, append_assoc, eq-eqb}
+use Rattle.std.proofs.Common.{◌≡◌, ◌≢◌, ℕ, zero, suc, ◌<◌, nat_eq, Bool, true, false, cond, not, ◌||◌, List, [], ◌∷◌, ◌++◌, length, filter, take, Option, Some, None, option_map, option_and_then, refl, sym, ap, ◌∙◌, eq-eqb, arith}
 use Rattle.std.specs.List.{list_any}
 use Rattle.std.specs.Option.{is_some}
 use Rattle.std.specs.declared.cmp.Ordering.TheVariants.{Less, Equal, Greater}
 use Rattle.std.specs.Ordering.{nat_cmp, is_eq}
 use Rattle.std.specs.Cmp.{tied_itself, nat_cmp_total}
-use Rattle.std.specs.Map.{set_value}
+use Rattle.std.specs.Map.{remove_entry, set_value}
 use Rattle.std.specs.BTreeMap.{insert_entry, is_at}
 use Rattle.std.specs.FinMap.{nat_cmp-IsAntisymmetric, put}
 use Rattle.std.specs.FinMap.Entries.{find-put}
-use Rattle.std.proofs.lemmas.List.{append-nil}
 use Rattle.std.proofs.lemmas.Map.Entries.{lookup-filter-keys}
-use Rattle.sf_path.specs.Names.{Path}
-use Rattle.sf_path.specs.Order.{path_cmp, same_path, parent}
-use Rattle.sf_wire.specs.declared.attrs.Attrs.{Attrs}
-use Rattle.sf_wire.specs.declared.reply.Reply.{Reply}
-use Rattle.sf_wire.specs.declared.reply.Reply.TheVariants as reply
+use Rattle.sf_path.specs.Names.{Name, Path}
+use Rattle.sf_path.specs.Order.{path_cmp, same_path}
 use Rattle.sf_call.specs.declared.metadata.Metadata.{Metadata}
-use Rattle.sf_call.specs.declared.place.Place.TheVariants.{NoWay}
-use Rattle.sf_call.specs.declared.request.Request.{Request}
-use Rattle.sf_call.specs.declared.request.Request.TheVariants.{Mkdir, Stat}
-use Rattle.sf_call.specs.declared.record.Record.{Record}
-use Rattle.sf_call.specs.declared.record.Record.TheVariants.{Did, Left}
-use Rattle.sf_call.specs.Attributes.{Object, new_metadata, modified_at}
-use Rattle.sf_call.specs.Attributes.Object.{Directory}
-use Rattle.sf_call.specs.Tree.{Tree, Found, label_at, object_of, directory_metadata, directory_at, is_directory, is_faulty_way, place_of, found_at, is_used, kept, with_handles, empty_tree}
-use Rattle.sf_call.specs.Tree.Found.{Nowhere, Nothing, DirectoryAt, FileAt}
-use Rattle.sf_call.specs.Changes.{changed, done, touch}
-use Rattle.sf_call.specs.Changes.Change.{NewPath, SetObject}
-use Rattle.sf_call.specs.Calls.{apply, make_directory, stat}
-use Rattle.sf_call.specs.Histories.{after, after_reply, replay, MayFollow, IsLegal, IsLegalAfter}
-use Rattle.sf_call.proofs.Orders.{find_is}
+use Rattle.sf_call.specs.Attributes.{Object}
+use Rattle.sf_call.specs.Attributes.Object.{Directory, File}
+use Rattle.sf_call.specs.Tree.{Tree, IsOrderedTree, label_at, object_of, directory_metadata, is_directory, is_faulty_way, is_used, kept, with_names, with_handles, empty_tree}
+use Rattle.sf_call.specs.Changes.{Change, changed}
+use Rattle.sf_call.specs.Changes.Change.{SetObject, NewPath, GonePath, Move, OpenHandle, SetHandle, CloseHandle}
+use Rattle.sf_call.specs.Allowed.{is_file, IsSetRightly, MayChange}
+use Rattle.sf_call.proofs.Orders.{exact_paths, find_is}
 use Rattle.sf_call.proofs.Ordered.{put_is}
+use Rattle.sf_call.proofs.LookUps.{found_removed, other_removed}
 use Rattle.sf_call.proofs.Ways.{open_way}
-use Rattle.sf_call.proofs.Growth.{replay-push}
 use Rattle.sf_call.proofs.MovedNames.{is_equal, lookup-insert_entry, same_path_is}
-use Rattle.sf_call.proofs.Labels.{IsLabelled, labelled_after, labelled_empty, root_alone}
+use Rattle.sf_call.proofs.Labels.{root_alone}
 
 -- a named path leads over directories to an object
 pub record IsFounded (tree : Tree) : Type 0 where
@@ -87,6 +76,10 @@ object_set (e ∷ es) test l o h =
       ] h
     ]
 
+pub not_both : (o : Object) → is_file (Some o) ≡ true → is_directory_object (Some o) ≡ true → ⊥
+not_both (Directory m) file directory = cc
+not_both (File m contents) file directory = cc
+
 abbrev pub with_label : ℕ → Metadata → ℕ × Metadata
 with_label label m = (label, m)
 
@@ -99,7 +92,7 @@ abbrev pub is_directory_label : List (ℕ × Object) → Option ℕ → Bool
 is_directory_label objects None = false
 is_directory_label objects (Some label) = is_directory_object (object_of objects label)
 
-is_directory_is : (tree : Tree) (path : Path) → is_directory tree path ≡ is_directory_label tree.objects (label_at tree.names path)
+pub is_directory_is : (tree : Tree) (path : Path) → is_directory tree path ≡ is_directory_label tree.objects (label_at tree.names path)
 is_directory_is tree path =
     elim (label_at tree.names path) as (λ o. is_some (option_and_then (λ label. option_map (with_label label) (option_and_then directory_metadata (object_of tree.objects label))) o) ≡ is_directory_label tree.objects o) [
       | None ↦ refl
@@ -152,22 +145,6 @@ module _ (tree : Tree) (path : Path) (number : ℕ) (object : Object) (free : la
         ] refl (sym (lookup-insert_entry tree.names path number q) ∙ e));
   }
 
--- ---- a directory that is modified
-set_keeps : (tree : Tree) (label : ℕ) (m : Metadata) → KeepsDirectories tree (changed tree (SetObject label (Directory m)))
-set_keeps tree label m q h =
-    is_directory_is (changed tree (SetObject label (Directory m))) q
-    ∙ elim (label_at tree.names q) as (λ o. is_directory_label tree.objects o ≡ true → is_directory_label (set_value (is_at (nat_cmp label)) tree.objects (Directory m)) o ≡ true) [
-      | None ↦ λ k. k
-      | Some l ↦ λ k. directory_set tree.objects label l m k
-    ] (sym (is_directory_is tree q) ∙ h)
-
-touch_founded : (tree : Tree) (moment : ℕ) (at : Option (ℕ × Metadata)) → IsFounded tree → IsFounded (done tree (touch moment at))
-touch_founded tree moment None f = f
-touch_founded tree moment (Some e) f = record {
-  object = λ q label there. object_set tree.objects (is_at (nat_cmp e.0)) label (Directory (modified_at moment e.1)) (f.object q label there);
-  way = λ q label there. way_stays tree (changed tree (SetObject e.0 (Directory (modified_at moment e.1)))) (set_keeps tree e.0 (modified_at moment e.1)) q (f.way q label there);
-}
-
 -- ---- what is kept
 or_true : (a b : Bool) → b ≡ true → a || b ≡ true
 or_true true b t = refl
@@ -208,58 +185,84 @@ kept_founded tree f = record {
   way = λ q label e. way_stays tree (kept tree) (kept_keeps tree) q (f.way q label e);
 }
 
--- ---- calls and histories
-made_founded : (tree : Tree) (number moment : ℕ) (path : Path) (attrs : Attrs) (label : Option ℕ) → label_at tree.names path ≡ label → ((q : Path) → label_at tree.names q ≢ Some number)
-    → is_faulty_way tree path ≡ false → IsFounded tree → IsFounded (done tree (make_directory tree number moment path attrs (place_of label)).changes)
-made_founded tree number moment path attrs None free unused open_before f =
-    touch_founded (changed tree (NewPath path number (Directory (new_metadata 0o755 moment attrs)))) moment (directory_at tree (parent path))
-    (new_founded tree path number (Directory (new_metadata 0o755 moment attrs)) free unused open_before f)
-made_founded tree number moment path attrs (Some label) there unused open_before f = f
+-- ---- a file's object is set
+file_set : (objects : List (ℕ × Object)) (label l : ℕ) (o : Object) → is_file (object_of objects label) ≡ true → is_directory_object (object_of objects l) ≡ true → is_directory_object (object_of (set_value (is_at (nat_cmp label)) objects o) l) ≡ true
+file_set [] label l o file h = h
+file_set (e ∷ es) label l o file h =
+    elim (is_at (nat_cmp label) e.0) as (λ b. is_file (cond b (Some e.1) (object_of es label)) ≡ true → is_directory_object (object_of (cond b ((e.0, o) ∷ es) (e ∷ set_value (is_at (nat_cmp label)) es o)) l) ≡ true) [
+      | true ↦ λ here. elim (is_at (nat_cmp l) e.0) as (λ b. is_directory_object (cond b (Some e.1) (object_of es l)) ≡ true → is_directory_object (cond b (Some o) (object_of es l)) ≡ true) [
+        | true ↦ λ k. absurd (not_both e.1 here k)
+        | false ↦ λ k. k
+      ] h
+      | false ↦ λ later. elim (is_at (nat_cmp l) e.0) as (λ b. is_directory_object (cond b (Some e.1) (object_of es l)) ≡ true → is_directory_object (cond b (Some e.1) (object_of (set_value (is_at (nat_cmp label)) es o) l)) ≡ true) [
+        | true ↦ λ k. k
+        | false ↦ λ k. file_set es label l o later k
+      ] h
+    ] file
 
-stat_founded : (tree : Tree) (found : Found) → IsFounded tree → IsFounded (done tree (stat found).changes)
-stat_founded tree Nowhere f = f
-stat_founded tree Nothing f = f
-stat_founded tree (DirectoryAt label m) f = f
-stat_founded tree (FileAt label m contents) f = f
+set_rightly : (tree : Tree) (label : ℕ) (object : Object) (l : ℕ) → IsSetRightly tree label object → is_directory_object (object_of tree.objects l) ≡ true → is_directory_object (object_of (set_value (is_at (nat_cmp label)) tree.objects object) l) ≡ true
+set_rightly tree label (Directory m) l may h = directory_set tree.objects label l m h
+set_rightly tree label (File m contents) l may h = file_set tree.objects label l (File m contents) may h
 
-applied_founded : (tree : Tree) (session number moment : ℕ) (request : Request) → ((q : Path) → label_at tree.names q ≢ Some number) → IsFounded tree → IsFounded (apply tree session number moment request).tree
-applied_founded tree session number moment (Mkdir [] attrs) unused f = f
-applied_founded tree session number moment (Mkdir (n ∷ p) attrs) unused f =
-    let path : Path = n ∷ p in
-    elim (is_faulty_way tree path) as (λ b. is_faulty_way tree path ≡ b → IsFounded (done tree (make_directory tree number moment path attrs (cond b NoWay (place_of (label_at tree.names path)))).changes)) [
-      | true ↦ λ faulty. f
-      | false ↦ λ open_before. made_founded tree number moment path attrs (label_at tree.names path) refl unused open_before f
-    ] refl
-applied_founded tree session number moment (Stat path) unused f = stat_founded tree (found_at tree path) f
+object_keeps : (tree : Tree) (label : ℕ) (object : Object) → IsSetRightly tree label object → KeepsDirectories tree (changed tree (SetObject label object))
+object_keeps tree label object may q h =
+    is_directory_is (changed tree (SetObject label object)) q
+    ∙ elim (label_at tree.names q) as (λ o. is_directory_label tree.objects o ≡ true → is_directory_label (set_value (is_at (nat_cmp label)) tree.objects object) o ≡ true) [
+      | None ↦ λ k. k
+      | Some l ↦ λ k. set_rightly tree label object l may k
+    ] (sym (is_directory_is tree q) ∙ h)
 
-reply_founded : (tree next : Tree) (given : Reply) → IsFounded tree → IsFounded next → IsFounded (after_reply tree next given)
-reply_founded tree next reply.NoMemory f then = f
-reply_founded tree next (reply.Status code) f then = then
-reply_founded tree next (reply.Handle handle) f then = then
-reply_founded tree next (reply.Data bytes) f then = then
-reply_founded tree next (reply.Names entries) f then = then
-reply_founded tree next (reply.Attrs attrs) f then = then
+set_founded : (tree : Tree) (label : ℕ) (object : Object) → IsSetRightly tree label object → IsFounded tree → IsFounded (changed tree (SetObject label object))
+set_founded tree label object may f = record {
+  object = λ q l there. object_set tree.objects (is_at (nat_cmp label)) l object (f.object q l there);
+  way = λ q l there. way_stays tree (changed tree (SetObject label object)) (object_keeps tree label object may) q (f.way q l there);
+}
 
-after_founded : (history : List Record) (tree : Tree) (r : Record) → MayFollow history r → IsLabelled history tree.names → IsFounded tree → IsFounded (after tree r)
-after_founded history tree (Did number session moment request given) may labelled f =
-    reply_founded tree (apply tree session number moment request).tree given f
-    (applied_founded tree session number moment request (labelled.unused number may.above_zero may.new_number) f)
-after_founded history tree (Left session) may labelled f =
-    let closed = with_handles tree (filter (λ e. not (nat_eq e.1.session session)) tree.handles) in
-    kept_founded closed (record { object = f.object; way = f.way })
+-- ---- a path that goes
+front_stays : (tree : Tree) (gone q : Path) → q ≢ gone → is_directory tree q ≡ true → is_directory (with_names tree (remove_entry (is_at (path_cmp gone)) tree.names)) q ≡ true
+front_stays tree gone q other h =
+    is_directory_is (with_names tree (remove_entry (is_at (path_cmp gone)) tree.names)) q
+    ∙ ap (is_directory_label tree.objects) (other_removed path_cmp exact_paths gone q tree.names other)
+    ∙ sym (is_directory_is tree q) ∙ h
 
-founded_from : (before rs : List Record) → IsLegalAfter before rs → IsLabelled before (replay before).names → IsFounded (replay before) → IsFounded (replay (before ++ rs))
-unfolding IsLegalAfter
-founded_from before [] legal labelled f = subst (λ (history : List Record). IsFounded (replay history)) (sym (append-nil before)) f
-founded_from before (r ∷ rs) legal labelled f =
-    subst (λ (history : List Record). IsFounded (replay history)) (append_assoc before (r ∷ []) rs)
-    (founded_from (before ++ r ∷ []) rs legal.1
-    (subst (λ (tree : Tree). IsLabelled (before ++ r ∷ []) tree.names) (sym (replay-push before r)) (labelled_after before (replay before) r legal.0 labelled))
-    (subst (λ (tree : Tree). IsFounded tree) (sym (replay-push before r)) (after_founded before (replay before) r legal.0 labelled f)))
+-- a proper front has a name after it
+proper_rest : (path : Path) (n : ℕ) → n < length path → (name : Name) × (rest : Path) × (path ≡ take n path ++ name ∷ rest)
+proper_rest [] n lt = absurd (omega arith)
+proper_rest (name ∷ path) zero lt = (name, path, refl)
+proper_rest (name ∷ path) (suc n) lt =
+    let short : n < length path = omega arith in
+    let more = proper_rest path n short in
+    (more.0, more.1, ap (λ (p : Path). name ∷ p) more.2)
 
-pub founded_replay : (history : List Record) → IsLegal history → IsFounded (replay history)
-unfolding IsLegal replay
-founded_replay history legal = founded_from [] history legal labelled_empty (record {
+gone_founded : (tree : Tree) (gone : Path) → ((name : Name) (rest : Path) → label_at tree.names (gone ++ name ∷ rest) ≡ None) → IsOrderedTree tree → IsFounded tree
+    → IsFounded (with_names tree (remove_entry (is_at (path_cmp gone)) tree.names))
+gone_founded tree gone none o f = record {
+  object = λ q label e. f.object q label (found_removed path_cmp exact_paths (is_at (path_cmp gone)) tree.names q label o.names e);
+  way = λ q label e.
+      let was = found_removed path_cmp exact_paths (is_at (path_cmp gone)) tree.names q label o.names e in
+      (open_way (with_names tree (remove_entry (is_at (path_cmp gone)) tree.names)) q).1
+      (λ n lt. front_stays tree gone (take n q)
+      (λ same. let more = proper_rest q n lt in
+      let below : label_at tree.names q ≡ None = ap (label_at tree.names) (more.2 ∙ ap (λ (p : Path). p ++ more.0 ∷ more.1) same) ∙ none more.0 more.1 in
+      let found : label_at tree.names q ≡ Some label = was in cc)
+      ((open_way tree q).0 (f.way q label was) n lt));
+}
+
+-- ---- all changes
+pub founded_changed : (number : ℕ) (tree : Tree) (change : Change) → MayChange number tree change → IsOrderedTree tree → IsFounded tree → IsFounded (changed tree change)
+founded_changed number tree (SetObject label object) may o f = set_founded tree label object may f
+founded_changed number tree (NewPath path label object) may o f = new_founded tree path label object may.free may.unused may.way f
+founded_changed number tree (GonePath gone) may o f = kept_founded _ (gone_founded tree gone may o f)
+founded_changed number tree (Move old new) may o f = absurd may
+founded_changed number tree (OpenHandle handle opened) may o f = record { object = f.object; way = f.way }
+founded_changed number tree (SetHandle handle opened) may o f = record { object = f.object; way = f.way }
+founded_changed number tree (CloseHandle handle) may o f = kept_founded _ (record { object = f.object; way = f.way })
+
+pub founded_left : (tree : Tree) (session : ℕ) → IsFounded tree → IsFounded (kept (with_handles tree (filter (λ e. not (nat_eq e.1.session session)) tree.handles)))
+founded_left tree session f = kept_founded _ (record { object = f.object; way = f.way })
+
+pub founded_empty : IsFounded empty_tree
+founded_empty = record {
   object = λ path label e. let z = root_alone path label e in rw z.1;
   way = λ path label e. let z = root_alone path label e in ap (is_faulty_way empty_tree) z.0;
-})
+}

@@ -1,24 +1,37 @@
 -- What kinds of replies there are.
-use Rattle.std.proofs.Common.{ℕ, [], ◌∷◌, inl, inr, refl, sym, subst}
+use Rattle.std.proofs.Common.{◌≡◌, ℕ, nat_eq, nat_lt, nat_le, ◌+◌, ◌&&◌, not, Bool, true, false, cond, List, [], ◌∷◌, length, Option, Some, None, refl}
+use Rattle.std.specs.Option.{is_some}
 use Rattle.sf_path.specs.Names.{Path}
 use Rattle.sf_wire.specs.declared.attrs.Attrs.{Attrs}
+use Rattle.sf_wire.specs.declared.open_flags.OpenFlags.{OpenFlags}
+use Rattle.sf_wire.specs.declared.reply.Entry.{Entry}
 use Rattle.sf_wire.specs.declared.reply.Reply.{Reply}
 use Rattle.sf_wire.specs.declared.reply.Reply.TheVariants as reply
-use Rattle.sf_wire.specs.Replies.{IsPlain}
+use Rattle.sf_call.specs.Histories.{after_reply}
+use Rattle.sf_call.specs.declared.limits.TheConstants.{MAX_FILE_SIZE}
+use Rattle.sf_call.specs.declared.metadata.Metadata.{Metadata}
 use Rattle.sf_call.specs.declared.request.Request.{Request}
-use Rattle.sf_call.specs.declared.request.Request.TheVariants.{Mkdir, Stat}
+use Rattle.sf_call.specs.declared.request.Request.TheVariants.{Stat, SetStat, Mkdir, Rmdir, Remove, OpenDir, Open, Close, FStat, FSetStat, Read, Write, ReadDir, Rename, PosixRename}
 use Rattle.sf_call.specs.declared.place.Place.{Place}
 use Rattle.sf_call.specs.declared.place.Place.TheVariants.{NoWay, Absent, At}
-use Rattle.sf_call.specs.Tree.{Tree, Found, place_at, found_at}
+use Rattle.sf_call.specs.Attributes.{Object}
+use Rattle.sf_call.specs.Attributes.Object.{Directory, File}
+use Rattle.sf_call.specs.Tree.{Tree, Handle, Found, place_at, found_at, found_object, object_of, is_empty, is_nil}
 use Rattle.sf_call.specs.Tree.Found.{Nowhere, Nothing, DirectoryAt, FileAt}
-use Rattle.sf_call.specs.Calls.{apply, make_directory, stat}
-use Rattle.sf_call.specs.ReplyKinds.{IsStatus, IsStatusOrAttrs, IsReplyTo}
-use Rattle.sf_call.specs.Histories.{replay, IsGiven}
+use Rattle.sf_call.specs.Handles.{Opened, handle_in, opened}
+use Rattle.sf_call.specs.Handles.Opened.{NotOpen, OpenDirectory, OpenFile}
+use Rattle.sf_call.specs.Listings.{path_of, listing_of}
+use Rattle.sf_call.specs.Calls.{Answer, apply, stat, refuses_size, sets, set_stat, make_directory, remove_directory, remove_file, has_all_handles, open_directory, open_present, open_file, close, stat_opened, set_opened, read, start_of, write, lists, read_directory, unless_root}
+use Rattle.sf_call.specs.ReplyKinds.{IsStatus, IsStatusOrAttrs, IsStatusOrHandle, IsStatusOrData, IsStatusOrNames, IsReplyTo}
 
-made : (tree : Tree) (number moment : ℕ) (path : Path) (attrs : Attrs) (place : Place) → IsStatus (make_directory tree number moment path attrs place).reply
-made tree number moment path attrs NoWay = tt
-made tree number moment path attrs (At label) = tt
-made tree number moment path attrs Absent = tt
+-- a choice of two replies of a kind is of the kind
+choice : (Kind : Reply → Type 0) (b : Bool) (this that : Answer) → Kind this.reply → Kind that.reply → Kind (cond b this that).reply
+choice Kind true this that p q = p
+choice Kind false this that p q = q
+
+rooted : (Kind : Reply → Type 0) (path : Path) (answer : Answer) → Kind (unless_root [] answer).reply → Kind answer.reply → Kind (unless_root path answer).reply
+rooted Kind [] answer p q = p
+rooted Kind (n ∷ path) answer p q = q
 
 told : (found : Found) → IsStatusOrAttrs (stat found).reply
 told Nowhere = tt
@@ -26,37 +39,129 @@ told Nothing = tt
 told (DirectoryAt label m) = record { size = refl; owner = refl; permissions = refl; times = refl }
 told (FileAt label m contents) = record { size = refl; owner = refl; permissions = refl; times = refl }
 
-pub applied : (tree : Tree) (session number moment : ℕ) (request : Request) → IsReplyTo request (apply tree session number moment request).reply
-applied tree session number moment (Mkdir [] attrs) = tt
-applied tree session number moment (Mkdir (n ∷ path) attrs) = made tree number moment (n ∷ path) attrs (place_at tree (n ∷ path))
+told_opened : (o : Opened) → IsStatusOrAttrs (stat_opened o).reply
+told_opened NotOpen = tt
+told_opened (OpenDirectory h m) = record { size = refl; owner = refl; permissions = refl; times = refl }
+told_opened (OpenFile h m contents) = record { size = refl; owner = refl; permissions = refl; times = refl }
+
+parts_set : (moment label : ℕ) (attrs : Attrs) (object : Object) → IsStatus (sets moment label attrs object).reply
+parts_set moment label attrs object = choice IsStatus (refuses_size object attrs.size) _ _ tt tt
+
+set_found : (moment : ℕ) (attrs : Attrs) (found : Found) → IsStatus (set_stat moment attrs found).reply
+set_found moment attrs Nowhere = tt
+set_found moment attrs Nothing = tt
+set_found moment attrs (DirectoryAt label m) = parts_set moment label attrs (Directory m)
+set_found moment attrs (FileAt label m contents) = parts_set moment label attrs (File m contents)
+
+set_by_handle : (moment : ℕ) (attrs : Attrs) (o : Opened) → IsStatus (set_opened moment attrs o).reply
+set_by_handle moment attrs NotOpen = tt
+set_by_handle moment attrs (OpenDirectory h m) = choice IsStatus (nat_eq h.label 0) _ _ tt (parts_set moment h.label attrs (Directory m))
+set_by_handle moment attrs (OpenFile h m contents) = choice IsStatus (is_some attrs.size && not h.write) _ _ tt (parts_set moment h.label attrs (File m contents))
+
+made : (tree : Tree) (number moment : ℕ) (path : Path) (attrs : Attrs) (place : Place) → IsStatus (make_directory tree number moment path attrs place).reply
+made tree number moment path attrs NoWay = tt
+made tree number moment path attrs (At label) = tt
+made tree number moment path attrs Absent = tt
+
+directory_removed : (tree : Tree) (moment : ℕ) (path : Path) (found : Found) → IsStatus (remove_directory tree moment path found).reply
+directory_removed tree moment path Nowhere = tt
+directory_removed tree moment path Nothing = tt
+directory_removed tree moment path (FileAt label m contents) = tt
+directory_removed tree moment path (DirectoryAt label m) = choice IsStatus (is_empty tree.names path) _ _ tt tt
+
+file_removed : (tree : Tree) (moment : ℕ) (path : Path) (found : Found) → IsStatus (remove_file tree moment path found).reply
+file_removed tree moment path Nowhere = tt
+file_removed tree moment path Nothing = tt
+file_removed tree moment path (DirectoryAt label m) = tt
+file_removed tree moment path (FileAt label m contents) = tt
+
+directory_opened : (tree : Tree) (session number : ℕ) (found : Found) → IsStatusOrHandle number (open_directory tree session number found).reply
+directory_opened tree session number Nowhere = tt
+directory_opened tree session number Nothing = tt
+directory_opened tree session number (FileAt label m contents) = tt
+directory_opened tree session number (DirectoryAt label m) = choice (IsStatusOrHandle number) (has_all_handles tree session) _ _ tt refl
+
+present_opened : (tree : Tree) (session number moment : ℕ) (flags : OpenFlags) (found : Found) → IsStatusOrHandle number (open_present tree session number moment flags found).reply
+present_opened tree session number moment flags Nowhere = tt
+present_opened tree session number moment flags Nothing = tt
+present_opened tree session number moment flags (DirectoryAt label m) = tt
+present_opened tree session number moment flags (FileAt label m contents) =
+    choice (IsStatusOrHandle number) (has_all_handles tree session) _ _ tt (choice (IsStatusOrHandle number) (flags.truncate && flags.write) _ _ refl refl)
+
+file_opened : (tree : Tree) (session number moment : ℕ) (path : Path) (flags : OpenFlags) (attrs : Attrs) (place : Place) → IsStatusOrHandle number (open_file tree session number moment path flags attrs place).reply
+file_opened tree session number moment path flags attrs NoWay = tt
+file_opened tree session number moment path flags attrs (At label) =
+    choice (IsStatusOrHandle number) (flags.create && flags.exclusive) _ _ tt (present_opened tree session number moment flags (found_object label (object_of tree.objects label)))
+file_opened tree session number moment path flags attrs Absent =
+    choice (IsStatusOrHandle number) (not flags.create) _ _ tt (choice (IsStatusOrHandle number) (has_all_handles tree session) _ _ tt refl)
+
+closed : (number : ℕ) (handle : Option Handle) → IsStatus (close number handle).reply
+closed number None = tt
+closed number (Some handle) = tt
+
+was_read : (offset len : ℕ) (o : Opened) → IsStatusOrData (read offset len o).reply
+was_read offset len NotOpen = tt
+was_read offset len (OpenDirectory h m) = tt
+was_read offset len (OpenFile h m contents) = choice IsStatusOrData (not h.read) _ _ tt (choice IsStatusOrData (nat_le (length contents) offset) _ _ tt tt)
+
+was_written : (moment offset : ℕ) (bytes : List ℕ) (o : Opened) → IsStatus (write moment offset bytes o).reply
+was_written moment offset bytes NotOpen = tt
+was_written moment offset bytes (OpenDirectory h m) = tt
+was_written moment offset bytes (OpenFile h m contents) =
+    choice IsStatus (not h.write) _ _ tt (choice IsStatus (is_nil bytes) _ _ tt
+    (choice IsStatus (nat_lt MAX_FILE_SIZE (start_of h contents offset + length bytes)) _ _ tt tt))
+
+listed : (number : ℕ) (h : Handle) (entries : List Entry) → IsStatusOrNames (lists number h entries).reply
+listed number h [] = tt
+listed number h (e ∷ es) = tt
+
+directory_read : (tree : Tree) (number : ℕ) (o : Opened) → IsStatusOrNames (read_directory tree number o).reply
+directory_read tree number NotOpen = tt
+directory_read tree number (OpenFile h m contents) = tt
+directory_read tree number (OpenDirectory h m) = listed number h (listing_of tree h.listed (path_of tree.names h.label))
+
+pub applied : (tree : Tree) (session number moment : ℕ) (request : Request) → IsReplyTo number request (apply tree session number moment request).reply
 applied tree session number moment (Stat path) = told (found_at tree path)
+applied tree session number moment (SetStat path attrs) = rooted IsStatus path _ tt (set_found moment attrs (found_at tree path))
+applied tree session number moment (Mkdir path attrs) = rooted IsStatus path _ tt (made tree number moment path attrs (place_at tree path))
+applied tree session number moment (Rmdir path) = rooted IsStatus path _ tt (directory_removed tree moment path (found_at tree path))
+applied tree session number moment (Remove path) = rooted IsStatus path _ tt (file_removed tree moment path (found_at tree path))
+applied tree session number moment (OpenDir path) = directory_opened tree session number (found_at tree path)
+applied tree session number moment (Open path flags attrs) = rooted (IsStatusOrHandle number) path _ tt (file_opened tree session number moment path flags attrs (place_at tree path))
+applied tree session number moment (Close handle) = closed handle (handle_in tree session handle)
+applied tree session number moment (FStat handle) = told_opened (opened tree session handle)
+applied tree session number moment (FSetStat handle attrs) = set_by_handle moment attrs (opened tree session handle)
+applied tree session number moment (Read handle offset len) = was_read offset len (opened tree session handle)
+applied tree session number moment (Write handle offset bytes) = was_written moment offset bytes (opened tree session handle)
+applied tree session number moment (ReadDir handle) = directory_read tree handle (opened tree session handle)
+applied tree session number moment (Rename old new) = tt
+applied tree session number moment (PosixRename old new) = tt
 
-status_plain : (given : Reply) → IsStatus given → IsPlain given
-status_plain (reply.Status code) s = tt
-status_plain reply.NoMemory s = absurd s
-status_plain (reply.Handle handle) s = absurd s
-status_plain (reply.Data bytes) s = absurd s
-status_plain (reply.Names entries) s = absurd s
-status_plain (reply.Attrs attrs) s = absurd s
+never_refused : (number : ℕ) (request : Request) → IsReplyTo number request reply.NoMemory → ⊥
+never_refused number (Stat path) k = k
+never_refused number (SetStat path attrs) k = k
+never_refused number (Mkdir path attrs) k = k
+never_refused number (Rmdir path) k = k
+never_refused number (Remove path) k = k
+never_refused number (OpenDir path) k = k
+never_refused number (Open path flags attrs) k = k
+never_refused number (Close handle) k = k
+never_refused number (FStat handle) k = k
+never_refused number (FSetStat handle attrs) k = k
+never_refused number (Read handle offset len) k = k
+never_refused number (Write handle offset bytes) k = k
+never_refused number (ReadDir handle) k = k
+never_refused number (Rename old new) k = k
+never_refused number (PosixRename old new) k = k
 
-attrs_plain : (given : Reply) → IsStatusOrAttrs given → IsPlain given
-attrs_plain (reply.Status code) s = tt
-attrs_plain reply.NoMemory s = absurd s
-attrs_plain (reply.Handle handle) s = absurd s
-attrs_plain (reply.Data bytes) s = absurd s
-attrs_plain (reply.Names entries) s = absurd s
-attrs_plain (reply.Attrs attrs) s = tt
+goes_on : (tree next : Tree) (number : ℕ) (request : Request) (given : Reply) → IsReplyTo number request given → after_reply tree next given ≡ next
+goes_on tree next number request reply.NoMemory k = absurd (never_refused number request k)
+goes_on tree next number request (reply.Status code) k = refl
+goes_on tree next number request (reply.Handle handle) k = refl
+goes_on tree next number request (reply.Data bytes) k = refl
+goes_on tree next number request (reply.Names entries) k = refl
+goes_on tree next number request (reply.Attrs attrs) k = refl
 
-reply_plain : (request : Request) (given : Reply) → IsReplyTo request given → IsPlain given
-reply_plain (Mkdir path attrs) given kind = status_plain given kind
-reply_plain (Stat path) given kind = attrs_plain given kind
-
-pub apply_plain : (tree : Tree) (session number moment : ℕ) (request : Request) → IsPlain (apply tree session number moment request).reply
-apply_plain tree session number moment request = reply_plain request _ (applied tree session number moment request)
-
-pub given_plain : (number session : ℕ) (given : Reply) → IsGiven number session given → IsPlain given
-given_plain number session given (before, moment, request, legal, may) =
-    elim may.answered [
-      | inl same ↦ subst (λ (r : Reply). IsPlain r) (sym same) (apply_plain (replay before) session number moment request)
-      | inr none ↦ subst (λ (r : Reply). IsPlain r) (sym none) tt
-    ]
+-- the tree's own reply leads to the tree after it
+pub after_told : (tree : Tree) (session number moment : ℕ) (request : Request) → after_reply tree (apply tree session number moment request).tree (apply tree session number moment request).reply ≡ (apply tree session number moment request).tree
+after_told tree session number moment request = goes_on tree _ number request _ (applied tree session number moment request)

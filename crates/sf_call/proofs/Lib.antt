@@ -1,9 +1,14 @@
 pub mod Orders
 pub mod Ways
-pub mod Used
 pub mod Growth
 pub mod MovedNames
 pub mod Ordered
+pub mod LookUps
 pub mod KindsOfReplies
 pub mod Labels
 pub mod Founded
+pub mod Used
+pub mod Requests
+pub mod Refusals
+pub mod Listed
+pub mod Sound

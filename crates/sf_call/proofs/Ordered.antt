@@ -18,18 +18,18 @@ use Rattle.sf_call.specs.Tree.{Tree, IsOrderedTree, is_used, kept, empty_tree}
 use Rattle.sf_call.specs.Moves.{with_entries, carried, is_outside}
 use Rattle.sf_call.specs.Changes.{Change, changed, done}
 use Rattle.sf_call.specs.Changes.Change.{SetObject, NewPath, GonePath, Move, OpenHandle, SetHandle, CloseHandle}
-use Rattle.sf_call.specs.Calls.{answer_to, apply}
+use Rattle.sf_call.specs.Calls.{answer_to, apply, leave}
 use Rattle.sf_call.specs.Histories.{after, after_reply, replay}
 
 and_both : (a b : Bool) → T a → T b → T (a && b)
 and_both true b p q = q
 and_both false b p q = p
 
-and_first : (a b : Bool) → T (a && b) → T a
+pub and_first : (a b : Bool) → T (a && b) → T a
 and_first true b p = tt
 and_first false b p = p
 
-and_second : (a b : Bool) → T (a && b) → T b
+pub and_second : (a b : Bool) → T (a && b) → T b
 and_second true b p = p
 and_second false b p = absurd p
 
@@ -103,14 +103,14 @@ sorted_entries : (names es : List (Path × ℕ)) → T (is_sorted path_cmp names
 sorted_entries names [] h = h
 sorted_entries names (e ∷ es) h = sorted_insert path_cmp path_total (with_entries names es) e.0 e.1 (sorted_entries names es h)
 
-ordered_kept : (tree : Tree) → IsOrderedTree tree → IsOrderedTree (kept tree)
+pub ordered_kept : (tree : Tree) → IsOrderedTree tree → IsOrderedTree (kept tree)
 ordered_kept tree o = record {
   names = o.names;
   objects = sorted_filter nat_cmp (λ e. is_used tree.names tree.handles e.0) tree.objects o.objects;
   handles = o.handles;
 }
 
-ordered_changed : (tree : Tree) (c : Change) → IsOrderedTree tree → IsOrderedTree (changed tree c)
+pub ordered_changed : (tree : Tree) (c : Change) → IsOrderedTree tree → IsOrderedTree (changed tree c)
 ordered_changed tree (SetObject label object) o = record {
   names = o.names;
   objects = sorted_set nat_cmp (is_at (nat_cmp label)) object tree.objects o.objects;
@@ -147,26 +147,29 @@ ordered_changed tree (CloseHandle number) o = ordered_kept _ (record {
   handles = sorted_remove nat_cmp (is_at (nat_cmp number)) tree.handles o.handles;
 })
 
-ordered_done : (tree : Tree) (cs : List Change) → IsOrderedTree tree → IsOrderedTree (done tree cs)
+pub ordered_done : (tree : Tree) (cs : List Change) → IsOrderedTree tree → IsOrderedTree (done tree cs)
 ordered_done tree [] o = o
 ordered_done tree (c ∷ cs) o = ordered_done (changed tree c) cs (ordered_changed tree c o)
 
 ordered_reply : (tree next : Tree) (given : Reply) → IsOrderedTree tree → IsOrderedTree next → IsOrderedTree (after_reply tree next given)
 ordered_reply tree next reply.NoMemory o then = o
 ordered_reply tree next (reply.Status code) o then = then
-ordered_reply tree next (reply.Handle handle) o then = then
+ordered_reply tree next (reply.Handle number) o then = then
 ordered_reply tree next (reply.Data bytes) o then = then
 ordered_reply tree next (reply.Names entries) o then = then
 ordered_reply tree next (reply.Attrs attrs) o then = then
 
-ordered_after : (tree : Tree) (r : Record) → IsOrderedTree tree → IsOrderedTree (after tree r)
-ordered_after tree (Did number session moment request given) o =
-    ordered_reply tree (apply tree session number moment request).tree given o (ordered_done tree (answer_to tree session number moment request).changes o)
-ordered_after tree (Left session) o = ordered_kept _ (record {
+pub ordered_left : (tree : Tree) (session : ℕ) → IsOrderedTree tree → IsOrderedTree (leave tree session)
+ordered_left tree session o = ordered_kept _ (record {
   names = o.names;
   objects = o.objects;
   handles = sorted_filter nat_cmp (λ e. not (nat_eq e.1.session session)) tree.handles o.handles;
 })
+
+ordered_after : (tree : Tree) (r : Record) → IsOrderedTree tree → IsOrderedTree (after tree r)
+ordered_after tree (Did number session moment request given) o =
+    ordered_reply tree (apply tree session number moment request).tree given o (ordered_done tree (answer_to tree session number moment request).changes o)
+ordered_after tree (Left session) o = ordered_left tree session o
 
 ordered_fold : (tree : Tree) (history : List Record) → IsOrderedTree tree → IsOrderedTree (fold after tree history)
 ordered_fold tree [] o = o

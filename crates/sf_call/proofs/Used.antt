@@ -1,29 +1,18 @@
--- No call leaves an object that nothing names or opens.
-use Rattle.std.proofs.Common.{◌≡◌, ℕ, Bool, true, false, cond, nat_eq, not, ◌||◌, List, [], ◌∷◌, filter, fold, Option, Some, None, refl, ap, eq-eqb}
+-- No change leaves an object that nothing names or opens.
+use Rattle.std.proofs.Common.{◌≡◌, ℕ, Bool, true, false, cond, nat_eq, not, ◌||◌, List, [], ◌∷◌, filter, Option, Some, None, refl, sym, ap, ◌∙◌, eq-eqb}
 use Rattle.std.specs.List.{AllByRecursion, list_any}
 use Rattle.std.specs.declared.cmp.Ordering.{Ordering}
 use Rattle.std.specs.declared.cmp.Ordering.TheVariants.{Less, Equal, Greater}
 use Rattle.std.specs.Ordering.{nat_cmp, is_eq, match_ordering}
-use Rattle.std.specs.Map.{lookup, set_value}
+use Rattle.std.specs.Map.{lookup, remove_entry, set_value}
 use Rattle.std.specs.BTreeMap.{insert_entry, is_at}
-use Rattle.sf_path.specs.Order.{path_cmp, parent}
-use Rattle.sf_wire.specs.declared.attrs.Attrs.{Attrs}
-use Rattle.sf_wire.specs.declared.reply.Reply.{Reply}
-use Rattle.sf_wire.specs.declared.reply.Reply.TheVariants as reply
-use Rattle.sf_call.specs.declared.request.Request.{Request}
-use Rattle.sf_call.specs.declared.request.Request.TheVariants.{Mkdir, Stat}
-use Rattle.sf_call.specs.declared.record.Record.{Record}
-use Rattle.sf_call.specs.declared.record.Record.TheVariants.{Did, Left}
-use Rattle.sf_call.specs.Attributes.{Metadata, Object, new_metadata}
-use Rattle.sf_call.specs.Attributes.Object.{Directory}
+use Rattle.sf_path.specs.Order.{path_cmp}
 use Rattle.sf_path.specs.Names.{Path}
-use Rattle.sf_call.specs.Tree.{Tree, Found, label_at, directory_at, is_faulty_way, place_of, found_at, is_used, kept, with_handles, empty_tree}
-use Rattle.sf_call.specs.Tree.Found.{Nowhere, Nothing, DirectoryAt, FileAt}
-use Rattle.sf_call.specs.declared.place.Place.TheVariants.{NoWay}
-use Rattle.sf_call.specs.Changes.{done, changed, touch}
-use Rattle.sf_call.specs.Changes.Change.{NewPath}
-use Rattle.sf_call.specs.Calls.{apply, make_directory, stat}
-use Rattle.sf_call.specs.Histories.{after, after_reply, replay}
+use Rattle.sf_call.specs.Attributes.{Object}
+use Rattle.sf_call.specs.Tree.{Tree, Handle, label_at, handle_of, is_used, kept, with_names, with_handles, empty_tree}
+use Rattle.sf_call.specs.Changes.{Change, changed}
+use Rattle.sf_call.specs.Changes.Change.{SetObject, NewPath, GonePath, Move, OpenHandle, SetHandle, CloseHandle}
+use Rattle.sf_call.specs.Allowed.{MayChange}
 
 or_true : (a b : Bool) → b ≡ true → a || b ≡ true
 or_true true b t = refl
@@ -111,50 +100,36 @@ used_new tree path label object free used =
     (any_still path_cmp path label (λ n. nat_eq n e.0) tree.names free) t)
     used)
 
-used_touch : (tree : Tree) (moment : ℕ) (at : Option (ℕ × Metadata)) → AllUsed tree → AllUsed (done tree (touch moment at))
-used_touch tree moment None used = used
-used_touch tree moment (Some e) used = all_set (is_at (nat_cmp e.0)) _ (λ l. is_used tree.names tree.handles l ≡ true) tree.objects used
+-- a handle that is set stays with its object
+same_uses : (label number : ℕ) (before after : Handle) (handles : List (ℕ × Handle)) → handle_of handles number ≡ Some before → before.label ≡ after.label
+    → list_any (λ h. nat_eq h.1.label label) (set_value (is_at (nat_cmp number)) handles after) ≡ list_any (λ h. nat_eq h.1.label label) handles
+same_uses label number before after [] there same = refl
+same_uses label number before after (h ∷ hs) there same =
+    elim (is_at (nat_cmp number) h.0) as (λ b. cond b (Some h.1) (handle_of hs number) ≡ Some before
+    → list_any (λ h. nat_eq h.1.label label) (cond b ((h.0, after) ∷ hs) (h ∷ set_value (is_at (nat_cmp number)) hs after)) ≡ (nat_eq h.1.label label || list_any (λ h. nat_eq h.1.label label) hs)) [
+      | true ↦ λ here. let is : h.1 ≡ before = cc in
+          ap (λ (l : ℕ). nat_eq l label || list_any (λ h. nat_eq h.1.label label) hs) (sym same ∙ sym (ap (λ (x : Handle). x.label) is))
+      | false ↦ λ later. ap (λ b. nat_eq h.1.label label || b) (same_uses label number before after hs later same)
+    ] there
 
-used_made : (tree : Tree) (number moment : ℕ) (path : Path) (attrs : Attrs) (label : Option ℕ) → label_at tree.names path ≡ label → AllUsed tree
-    → AllUsed (done tree (make_directory tree number moment path attrs (place_of label)).changes)
-used_made tree number moment path attrs None free used =
-    used_touch (changed tree (NewPath path number (Directory (new_metadata 0o755 moment attrs)))) moment (directory_at tree (parent path))
-    (used_new tree path number (Directory (new_metadata 0o755 moment attrs)) free used)
-used_made tree number moment path attrs (Some label) there used = used
+pub used_changed : (number : ℕ) (tree : Tree) (change : Change) → MayChange number tree change → AllUsed tree → AllUsed (changed tree change)
+used_changed number tree (SetObject label object) may used = all_set (is_at (nat_cmp label)) _ (λ l. is_used tree.names tree.handles l ≡ true) tree.objects used
+used_changed number tree (NewPath path label object) may used = used_new tree path label object may.free used
+used_changed number tree (GonePath path) may used = used_kept (with_names tree (remove_entry (is_at (path_cmp path)) tree.names))
+used_changed number tree (Move old new) may used = absurd may
+used_changed number tree (OpenHandle handle opened) may used =
+    all_by (λ e. is_used tree.names tree.handles e.0 ≡ true) (λ e. is_used tree.names (insert_entry nat_cmp tree.handles handle opened) e.0 ≡ true) tree.objects
+    (λ e t. or_right (list_any (λ n. nat_eq n.1 e.0) tree.names) _ (list_any (λ h. nat_eq h.1.label e.0) (insert_entry nat_cmp tree.handles handle opened))
+    (any_still nat_cmp handle opened (λ h. nat_eq h.label e.0) tree.handles may.free) t)
+    used
+used_changed number tree (SetHandle handle opened) (before, there, same) used =
+    all_by (λ e. is_used tree.names tree.handles e.0 ≡ true) (λ e. is_used tree.names (set_value (is_at (nat_cmp handle)) tree.handles opened) e.0 ≡ true) tree.objects
+    (λ e t. ap (λ b. list_any (λ n. nat_eq n.1 e.0) tree.names || b) (same_uses e.0 handle before opened tree.handles there same) ∙ t)
+    used
+used_changed number tree (CloseHandle handle) may used = used_kept (with_handles tree (remove_entry (is_at (nat_cmp handle)) tree.handles))
 
-used_stat : (tree : Tree) (found : Found) → AllUsed tree → AllUsed (done tree (stat found).changes)
-used_stat tree Nowhere used = used
-used_stat tree Nothing used = used
-used_stat tree (DirectoryAt label m) used = used
-used_stat tree (FileAt label m contents) used = used
+pub used_left : (tree : Tree) (session : ℕ) → AllUsed (kept (with_handles tree (filter (λ e. not (nat_eq e.1.session session)) tree.handles)))
+used_left tree session = used_kept (with_handles tree (filter (λ e. not (nat_eq e.1.session session)) tree.handles))
 
-used_applied : (tree : Tree) (session number moment : ℕ) (request : Request) → AllUsed tree → AllUsed (apply tree session number moment request).tree
-used_applied tree session number moment (Mkdir [] attrs) used = used
-used_applied tree session number moment (Mkdir (n ∷ p) attrs) used =
-    let path : Path = n ∷ p in
-    elim (is_faulty_way tree path) as (λ b. AllUsed (done tree (make_directory tree number moment path attrs (cond b NoWay (place_of (label_at tree.names path)))).changes)) [
-      | true ↦ used
-      | false ↦ used_made tree number moment path attrs (label_at tree.names path) refl used
-    ]
-used_applied tree session number moment (Stat path) used = used_stat tree (found_at tree path) used
-
-used_reply : (tree next : Tree) (given : Reply) → AllUsed tree → AllUsed next → AllUsed (after_reply tree next given)
-used_reply tree next reply.NoMemory used then = used
-used_reply tree next (reply.Status code) used then = then
-used_reply tree next (reply.Handle handle) used then = then
-used_reply tree next (reply.Data bytes) used then = then
-used_reply tree next (reply.Names entries) used then = then
-used_reply tree next (reply.Attrs attrs) used then = then
-
-used_after : (tree : Tree) (r : Record) → AllUsed tree → AllUsed (after tree r)
-used_after tree (Did number session moment request given) used =
-    used_reply tree (apply tree session number moment request).tree given used (used_applied tree session number moment request used)
-used_after tree (Left session) used = used_kept (with_handles tree (filter (λ e. not (nat_eq e.1.session session)) tree.handles))
-
-used_fold : (tree : Tree) (history : List Record) → AllUsed tree → AllUsed (fold after tree history)
-used_fold tree [] used = used
-used_fold tree (r ∷ history) used = used_fold (after tree r) history (used_after tree r used)
-
-pub used_replay : (history : List Record) → AllUsed (replay history)
-unfolding replay
-used_replay history = used_fold empty_tree history (refl, tt)
+pub used_empty : AllUsed empty_tree
+used_empty = (refl, tt)

@@ -1,21 +1,28 @@
 -- What the tree answers to each request, and what the request changes. Cases are tried in order; the first that fits answers.
-use Rattle.std.specs.Prelude.{ℕ, not, nat_eq, List, [], ◌∷◌, filter}
+use Rattle.std.specs.Prelude.{ℕ, ◌+◌, not, nat_eq, nat_lt, nat_le, min, Bool, true, false, ◌&&◌, ◌||◌, if◌then◌else◌, List, [], ◌∷◌, length, take, drop, filter, count_by, Option, Some, None, is_some}
 use Rattle.sf_wire.specs.declared.attrs.Attrs.{Attrs}
+use Rattle.sf_wire.specs.declared.open_flags.OpenFlags.{OpenFlags}
+use Rattle.sf_wire.specs.declared.reply.Entry.{Entry}
 use Rattle.sf_wire.specs.declared.reply.Reply.{Reply}
 use Rattle.sf_wire.specs.declared.reply.Reply.TheVariants as reply
 use Rattle.sf_wire.specs.declared.reply.StatusCode.{StatusCode}
-use Rattle.sf_wire.specs.declared.reply.StatusCode.TheVariants.{Success, NoSuchFile, Failure}
+use Rattle.sf_wire.specs.declared.reply.StatusCode.TheVariants.{Success, EndOfFile, NoSuchFile, PermissionDenied, Failure, OpUnsupported}
 use Rattle.sf_path.specs.Order.{parent}
-use Rattle.sf_call.specs.declared.request.Request.{Request}
-use Rattle.sf_call.specs.declared.request.Request.TheVariants.{Mkdir, Stat}
-use Rattle.sf_call.specs.declared.place.Place.TheVariants.{NoWay, Absent, At}
-use Rattle.sf_call.specs.Attributes.{new_metadata, attrs_of}
-use Rattle.sf_call.specs.Attributes.Object.{Directory, File}
 use Rattle.sf_path.specs.Names.{Path}
-use Rattle.sf_call.specs.Tree.{Tree, Place, Found, place_at, found_at, kept, with_handles}
+use Rattle.sf_call.specs.declared.limits.TheConstants.{MAX_FILE_SIZE, MAX_READ, MAX_HANDLES}
+use Rattle.sf_call.specs.declared.request.Request.{Request}
+use Rattle.sf_call.specs.declared.request.Request.TheVariants.{Stat, SetStat, Mkdir, Rmdir, Remove, OpenDir, Open, Close, FStat, FSetStat, Read, Write, ReadDir, Rename, PosixRename}
+use Rattle.sf_call.specs.declared.place.Place.TheVariants.{NoWay, Absent, At}
+use Rattle.sf_call.specs.Attributes.{Metadata, Object, new_metadata, with_parts, modified_at, attrs_of}
+use Rattle.sf_call.specs.Attributes.Object.{Directory, File}
+use Rattle.sf_call.specs.Contents.{resized, written}
+use Rattle.sf_call.specs.Tree.{Tree, Handle, Place, Found, place_at, found_object, found_at, object_of, is_empty, is_nil, kept, with_handles}
 use Rattle.sf_call.specs.Tree.Found.{Nowhere, Nothing, DirectoryAt, FileAt}
+use Rattle.sf_call.specs.Handles.{Opened, handle_in, opened, with_listed}
+use Rattle.sf_call.specs.Handles.Opened.{NotOpen, OpenDirectory, OpenFile}
+use Rattle.sf_call.specs.Listings.{path_of, listing_of, last_name}
 use Rattle.sf_call.specs.Changes.{Change, done, touched}
-use Rattle.sf_call.specs.Changes.Change.{NewPath}
+use Rattle.sf_call.specs.Changes.Change.{SetObject, NewPath, GonePath, OpenHandle, SetHandle, CloseHandle}
 
 -- what a request is answered, and what it changes
 pub record Answer : Type 0 where
@@ -32,12 +39,7 @@ refuses code = tells (reply.Status code)
 abbrev pub succeeds : List Change → Answer
 succeeds changes = record { reply = reply.Status Success; changes = changes }
 
--- MKDIR (draft, section 6.6; POSIX, mkdir): a new directory, whose label is the call's number; its parent is modified
-abbrev pub make_directory : Tree → ℕ → ℕ → Path → Attrs → Place → Answer
-make_directory tree number moment path attrs NoWay = refuses NoSuchFile
-make_directory tree number moment path attrs (At label) = refuses Failure
-make_directory tree number moment path attrs Absent =
-    succeeds (NewPath path number (Directory (new_metadata 0o755 moment attrs)) ∷ touched tree moment (parent path))
+-- ---- calls on paths
 
 -- STAT (draft, section 6.8; POSIX, stat)
 abbrev pub stat : Found → Answer
@@ -46,15 +48,183 @@ stat Nothing = refuses NoSuchFile
 stat (DirectoryAt label m) = tells (reply.Attrs (attrs_of (Directory m)))
 stat (FileAt label m contents) = tells (reply.Attrs (attrs_of (File m contents)))
 
--- the root is neither made nor removed
+-- A directory's size can't be set, nor a file's above the limit.
+abbrev pub refuses_size : Object → Option ℕ → Bool
+refuses_size object None = false
+refuses_size (Directory m) (Some size) = true
+refuses_size (File m contents) (Some size) = nat_lt MAX_FILE_SIZE size
+
+-- A file's size is set first, and the file is modified at the moment; then the other parts (POSIX, ftruncate).
+abbrev pub with_size : ℕ → Attrs → Option ℕ → Metadata → List ℕ → Object
+with_size moment attrs None m contents = File (with_parts m attrs) contents
+with_size moment attrs (Some size) m contents = let cut = resized contents size in File (with_parts (modified_at moment m) attrs) cut
+
+abbrev pub with_attrs : ℕ → Attrs → Object → Object
+with_attrs moment attrs (Directory m) = Directory (with_parts m attrs)
+with_attrs moment attrs (File m contents) = with_size moment attrs attrs.size m contents
+
+abbrev pub sets : ℕ → ℕ → Attrs → Object → Answer
+sets moment label attrs object = if refuses_size object attrs.size then refuses Failure else succeeds (SetObject label (with_attrs moment attrs object) ∷ [])
+
+-- SETSTAT (draft, section 6.9)
+abbrev pub set_stat : ℕ → Attrs → Found → Answer
+set_stat moment attrs Nowhere = refuses NoSuchFile
+set_stat moment attrs Nothing = refuses NoSuchFile
+set_stat moment attrs (DirectoryAt label m) = sets moment label attrs (Directory m)
+set_stat moment attrs (FileAt label m contents) = sets moment label attrs (File m contents)
+
+-- MKDIR (draft, section 6.6; POSIX, mkdir): a new directory, whose label is the call's number; its parent is modified
+abbrev pub make_directory : Tree → ℕ → ℕ → Path → Attrs → Place → Answer
+make_directory tree number moment path attrs NoWay = refuses NoSuchFile
+make_directory tree number moment path attrs (At label) = refuses Failure
+make_directory tree number moment path attrs Absent =
+    succeeds (NewPath path number (Directory (new_metadata 0o755 moment attrs)) ∷ touched tree moment (parent path))
+
+-- a path is gone; its parent is modified
+abbrev pub goes : Tree → ℕ → Path → Answer
+goes tree moment path = succeeds (GonePath path ∷ touched tree moment (parent path))
+
+-- RMDIR (draft, section 6.6; POSIX, rmdir)
+abbrev pub remove_directory : Tree → ℕ → Path → Found → Answer
+remove_directory tree moment path Nowhere = refuses NoSuchFile
+remove_directory tree moment path Nothing = refuses NoSuchFile
+remove_directory tree moment path (FileAt label m contents) = refuses Failure
+remove_directory tree moment path (DirectoryAt label m) = if is_empty tree.names path then goes tree moment path else refuses Failure
+
+-- REMOVE (draft, section 6.5; POSIX, unlink)
+abbrev pub remove_file : Tree → ℕ → Path → Found → Answer
+remove_file tree moment path Nowhere = refuses NoSuchFile
+remove_file tree moment path Nothing = refuses NoSuchFile
+remove_file tree moment path (DirectoryAt label m) = refuses Failure
+remove_file tree moment path (FileAt label m contents) = goes tree moment path
+
+-- whether a session has as many handles open as it may
+abbrev pub has_all_handles : Tree → ℕ → Bool
+has_all_handles tree session = nat_le MAX_HANDLES (count_by (λ e. nat_eq e.1.session session) tree.handles)
+
+-- a handle has the number of the call that opens it
+abbrev pub opens : ℕ → Handle → List Change → Answer
+opens number handle changes = record { reply = reply.Handle number; changes = OpenHandle number handle ∷ changes }
+
+-- a directory's handle has no marks
+abbrev pub directory_handle : ℕ → ℕ → Handle
+directory_handle session label = record { session = session; label = label; read = false; write = false; append = false; listed = None }
+
+-- with neither READ nor WRITE a handle reads
+abbrev pub file_handle : ℕ → ℕ → OpenFlags → Handle
+file_handle session label flags =
+    record { session = session; label = label; read = flags.read || not flags.write; write = flags.write; append = flags.append; listed = None }
+
+-- OPENDIR (draft, section 6.7)
+abbrev pub open_directory : Tree → ℕ → ℕ → Found → Answer
+open_directory tree session number Nowhere = refuses NoSuchFile
+open_directory tree session number Nothing = refuses NoSuchFile
+open_directory tree session number (FileAt label m contents) = refuses Failure
+open_directory tree session number (DirectoryAt label m) =
+    if has_all_handles tree session then refuses Failure else opens number (directory_handle session label) []
+
+-- OPEN of a file that is there: TRUNC with WRITE cuts it
+abbrev pub open_present : Tree → ℕ → ℕ → ℕ → OpenFlags → Found → Answer
+open_present tree session number moment flags Nowhere = refuses NoSuchFile
+open_present tree session number moment flags Nothing = refuses NoSuchFile
+open_present tree session number moment flags (DirectoryAt label m) = refuses Failure
+open_present tree session number moment flags (FileAt label m contents) =
+    if has_all_handles tree session then refuses Failure
+    else if flags.truncate && flags.write then opens number (file_handle session label flags) (SetObject label (File (modified_at moment m) []) ∷ [])
+    else opens number (file_handle session label flags) []
+
+-- OPEN (draft, section 6.3; POSIX, open): a new file is empty, and its label is the call's number; its parent is modified
+abbrev pub open_file : Tree → ℕ → ℕ → ℕ → Path → OpenFlags → Attrs → Place → Answer
+open_file tree session number moment path flags attrs NoWay = refuses NoSuchFile
+open_file tree session number moment path flags attrs (At label) =
+    if flags.create && flags.exclusive then refuses Failure
+    else open_present tree session number moment flags (found_object label (object_of tree.objects label))
+open_file tree session number moment path flags attrs Absent =
+    if not flags.create then refuses NoSuchFile
+    else if has_all_handles tree session then refuses Failure
+    else opens number (file_handle session number flags)
+    (NewPath path number (File (new_metadata 0o644 moment attrs) []) ∷ touched tree moment (parent path))
+
+-- ---- calls by handle
+
+-- CLOSE (draft, section 6.3)
+abbrev pub close : ℕ → Option Handle → Answer
+close number None = refuses Failure
+close number (Some handle) = succeeds (CloseHandle number ∷ [])
+
+-- FSTAT (draft, section 6.8; POSIX, fstat)
+abbrev pub stat_opened : Opened → Answer
+stat_opened NotOpen = refuses Failure
+stat_opened (OpenDirectory handle m) = tells (reply.Attrs (attrs_of (Directory m)))
+stat_opened (OpenFile handle m contents) = tells (reply.Attrs (attrs_of (File m contents)))
+
+-- FSETSTAT (draft, section 6.9): not of the root, and a size with the mark WRITE alone
+abbrev pub set_opened : ℕ → Attrs → Opened → Answer
+set_opened moment attrs NotOpen = refuses Failure
+set_opened moment attrs (OpenDirectory handle m) = if nat_eq handle.label 0 then refuses Failure else sets moment handle.label attrs (Directory m)
+set_opened moment attrs (OpenFile handle m contents) =
+    if is_some attrs.size && not handle.write then refuses PermissionDenied else sets moment handle.label attrs (File m contents)
+
+-- READ (draft, section 6.4; POSIX, pread)
+abbrev pub read : ℕ → ℕ → Opened → Answer
+read offset len NotOpen = refuses Failure
+read offset len (OpenDirectory handle m) = refuses Failure
+read offset len (OpenFile handle m contents) =
+    if not handle.read then refuses PermissionDenied
+    else if nat_le (length contents) offset then refuses EndOfFile
+    else tells (reply.Data (take (min len MAX_READ) (drop offset contents)))
+
+-- with the mark APPEND writing starts at the file's end
+abbrev pub start_of : Handle → List ℕ → ℕ → ℕ
+start_of handle contents offset = if handle.append then length contents else offset
+
+-- WRITE (draft, section 6.4; POSIX, pwrite and O_APPEND)
+abbrev pub write : ℕ → ℕ → List ℕ → Opened → Answer
+write moment offset bytes NotOpen = refuses Failure
+write moment offset bytes (OpenDirectory handle m) = refuses Failure
+write moment offset bytes (OpenFile handle m contents) =
+    if not handle.write then refuses PermissionDenied
+    else if is_nil bytes then succeeds []
+    else if nat_lt MAX_FILE_SIZE (start_of handle contents offset + length bytes) then refuses Failure
+    else (let after = written contents (start_of handle contents offset) bytes in succeeds (SetObject handle.label (File (modified_at moment m) after) ∷ []))
+
+-- READDIR (draft, section 6.7): the names that come next, of which the last is remembered
+abbrev pub lists : ℕ → Handle → List Entry → Answer
+lists number handle [] = refuses EndOfFile
+lists number handle (e ∷ es) = record {
+  reply = reply.Names (e ∷ es);
+  changes = SetHandle number (with_listed handle (last_name (e ∷ es))) ∷ [];
+}
+
+abbrev pub read_directory : Tree → ℕ → Opened → Answer
+read_directory tree number NotOpen = refuses Failure
+read_directory tree number (OpenFile handle m contents) = refuses Failure
+read_directory tree number (OpenDirectory handle m) = lists number handle (listing_of tree handle.listed (path_of tree.names handle.label))
+
+-- ---- all calls
+
+-- the root is neither made, set nor removed
 abbrev pub unless_root : Path → Answer → Answer
 unless_root [] answer = refuses Failure
 unless_root (name ∷ path) answer = answer
 
 -- the answer to a request: of this session, by this call number, at this moment
 abbrev pub answer_to : Tree → ℕ → ℕ → ℕ → Request → Answer
-answer_to tree session number moment (Mkdir path attrs) = unless_root path (make_directory tree number moment path attrs (place_at tree path))
 answer_to tree session number moment (Stat path) = stat (found_at tree path)
+answer_to tree session number moment (SetStat path attrs) = unless_root path (set_stat moment attrs (found_at tree path))
+answer_to tree session number moment (Mkdir path attrs) = unless_root path (make_directory tree number moment path attrs (place_at tree path))
+answer_to tree session number moment (Rmdir path) = unless_root path (remove_directory tree moment path (found_at tree path))
+answer_to tree session number moment (Remove path) = unless_root path (remove_file tree moment path (found_at tree path))
+answer_to tree session number moment (OpenDir path) = open_directory tree session number (found_at tree path)
+answer_to tree session number moment (Open path flags attrs) = unless_root path (open_file tree session number moment path flags attrs (place_at tree path))
+answer_to tree session number moment (Close handle) = close handle (handle_in tree session handle)
+answer_to tree session number moment (FStat handle) = stat_opened (opened tree session handle)
+answer_to tree session number moment (FSetStat handle attrs) = set_opened moment attrs (opened tree session handle)
+answer_to tree session number moment (Read handle offset len) = read offset len (opened tree session handle)
+answer_to tree session number moment (Write handle offset bytes) = write moment offset bytes (opened tree session handle)
+answer_to tree session number moment (ReadDir handle) = read_directory tree handle (opened tree session handle)
+answer_to tree session number moment (Rename old new) = refuses OpUnsupported
+answer_to tree session number moment (PosixRename old new) = refuses OpUnsupported
 
 -- the reply, and the tree after it
 pub record Applied : Type 0 where

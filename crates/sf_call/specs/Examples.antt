@@ -1,17 +1,20 @@
 -- Small trees and requests on which the definitions are worked out.
-use Rattle.std.specs.Prelude.{ℕ, List, [], ◌∷◌, codes, Some, None}
+use Rattle.std.specs.Prelude.{ℕ, ◌+◌, ◌/◌, ◌%◌, Bool, true, false, List, [], ◌∷◌, ◌++◌, map, codes, Some, None}
 use Rattle.sf_wire.specs.declared.attrs.Attrs.{Attrs}
+use Rattle.sf_wire.specs.declared.open_flags.OpenFlags.{OpenFlags}
+use Rattle.sf_wire.specs.declared.reply.Entry.{Entry}
+use Rattle.sf_wire.specs.declared.reply.Reply.{Reply}
 use Rattle.sf_wire.specs.declared.reply.Reply.TheVariants as reply
 use Rattle.sf_wire.specs.declared.reply.StatusCode.{StatusCode}
 use Rattle.sf_wire.specs.declared.reply.StatusCode.TheVariants.{Success, NoSuchFile}
 use Rattle.sf_call.specs.declared.request.Request.{Request}
-use Rattle.sf_call.specs.declared.request.Request.TheVariants.{Mkdir, Stat}
+use Rattle.sf_call.specs.declared.request.Request.TheVariants.{Stat, SetStat, Mkdir, Rmdir, Remove, OpenDir, Open, Close, FStat, FSetStat, Read, Write, ReadDir}
 use Rattle.sf_call.specs.declared.record.Record.{Record}
 use Rattle.sf_call.specs.declared.record.Record.TheVariants.{Did, Left}
 use Rattle.sf_call.specs.Attributes.{Metadata, Object}
 use Rattle.sf_call.specs.Attributes.Object.{Directory, File}
 use Rattle.sf_path.specs.Names.{Name}
-use Rattle.sf_call.specs.Tree.{Tree}
+use Rattle.sf_call.specs.Tree.{Tree, empty_tree}
 use Rattle.sf_call.specs.Calls.{Applied, apply}
 
 abbrev pub a : Name
@@ -68,3 +71,47 @@ abbrev pub history : List Record
 history =
     Did 7 1 100 (Mkdir (a ∷ []) no_attrs) (reply.Status Success) ∷ Did 9 1 200 (Mkdir (b ∷ []) no_attrs) reply.NoMemory
     ∷ Did 8 1 300 (Stat (b ∷ [])) (reply.Status NoSuchFile) ∷ Left 1 ∷ []
+
+-- the replies to these requests of session 1, in turn, the first numbered so, at the moment 100
+abbrev pub replies_from : Tree → ℕ → List Request → List Reply
+replies_from tree number [] = []
+replies_from tree number (r ∷ rs) = let done = apply tree 1 number 100 r in done.reply ∷ replies_from done.tree (number + 1) rs
+
+-- from the root alone, numbered 1, 2 and so on
+abbrev pub replies : List Request → List Reply
+replies requests = replies_from empty_tree 1 requests
+
+abbrev pub ok : Reply
+ok = reply.Status Success
+
+abbrev pub sized : ℕ → Attrs
+sized size = record { size = Some size; owner = None; permissions = None; times = None }
+
+-- READ, WRITE, APPEND, CREAT; neither TRUNC nor EXCL
+abbrev pub flags : Bool → Bool → Bool → Bool → OpenFlags
+flags read write append create = record { read = read; write = write; append = append; create = create; truncate = false; exclusive = false }
+
+abbrev pub f : Name
+f = codes "f"
+
+abbrev pub new_file : Name → Request
+new_file name = Open (name ∷ []) (flags true true false true) no_attrs
+
+-- a file's attributes as it was made and modified at the moment 100
+abbrev pub file_attrs : ℕ → Attrs
+file_attrs size = all_attrs size 0 0 0o100644 100 100
+
+-- `n01` and so on
+abbrev pub numbered : ℕ → Name
+numbered k = 110 ∷ (48 + k / 10) ∷ (48 + k % 10) ∷ []
+
+abbrev pub up_to_32 : List ℕ
+up_to_32 = 1 ∷ 2 ∷ 3 ∷ 4 ∷ 5 ∷ 6 ∷ 7 ∷ 8 ∷ 9 ∷ 10 ∷ 11 ∷ 12 ∷ 13 ∷ 14 ∷ 15 ∷ 16 ∷ 17 ∷ 18 ∷ 19 ∷ 20 ∷ 21 ∷ 22 ∷ 23 ∷ 24 ∷ 25 ∷ 26 ∷ 27 ∷ 28 ∷ 29 ∷ 30 ∷ 31 ∷ 32 ∷ []
+
+abbrev pub names_in : Reply → List Name
+names_in (reply.Status code) = []
+names_in reply.NoMemory = []
+names_in (reply.Handle number) = []
+names_in (reply.Data bytes) = []
+names_in (reply.Names entries) = map (λ e. e.filename) entries
+names_in (reply.Attrs attrs) = []

@@ -1,8 +1,13 @@
 pub mod Attributes
+pub mod Contents
 pub mod Tree
+pub mod Handles
+pub mod Listings
 pub mod Moves
 pub mod Changes
+pub mod Allowed
 pub mod Calls
 pub mod ReplyKinds
 pub mod Histories
+pub mod Answers
 pub mod Examples

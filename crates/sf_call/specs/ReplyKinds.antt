@@ -1,15 +1,15 @@
 -- What kinds of replies a request has, beside want of memory.
-use Rattle.std.specs.Prelude.{IsSome}
+use Rattle.std.specs.Prelude.{◌≡◌, ℕ, IsSome}
 use Rattle.sf_wire.specs.declared.attrs.Attrs.{Attrs}
 use Rattle.sf_wire.specs.declared.reply.Reply.{Reply}
 use Rattle.sf_wire.specs.declared.reply.Reply.TheVariants as reply
 use Rattle.sf_call.specs.declared.request.Request.{Request}
-use Rattle.sf_call.specs.declared.request.Request.TheVariants.{Mkdir, Stat}
+use Rattle.sf_call.specs.declared.request.Request.TheVariants.{Stat, SetStat, Mkdir, Rmdir, Remove, OpenDir, Open, Close, FStat, FSetStat, Read, Write, ReadDir, Rename, PosixRename}
 
 abbrev pub IsStatus : Reply → Type 0
 IsStatus (reply.Status code) = Unit {0}
 IsStatus reply.NoMemory = ⊥
-IsStatus (reply.Handle handle) = ⊥
+IsStatus (reply.Handle number) = ⊥
 IsStatus (reply.Data bytes) = ⊥
 IsStatus (reply.Names entries) = ⊥
 IsStatus (reply.Attrs attrs) = ⊥
@@ -24,12 +24,50 @@ pub record HasAllParts (attrs : Attrs) : Type 0 where
 abbrev pub IsStatusOrAttrs : Reply → Type 0
 IsStatusOrAttrs (reply.Status code) = Unit {0}
 IsStatusOrAttrs reply.NoMemory = ⊥
-IsStatusOrAttrs (reply.Handle handle) = ⊥
+IsStatusOrAttrs (reply.Handle number) = ⊥
 IsStatusOrAttrs (reply.Data bytes) = ⊥
 IsStatusOrAttrs (reply.Names entries) = ⊥
 IsStatusOrAttrs (reply.Attrs attrs) = HasAllParts attrs
 
--- a status, or to STAT attributes with all four parts
-abbrev pub IsReplyTo : Request → Reply → Type 0
-IsReplyTo (Mkdir path attrs) given = IsStatus given
-IsReplyTo (Stat path) given = IsStatusOrAttrs given
+-- the handle that is given has this number
+abbrev pub IsStatusOrHandle : ℕ → Reply → Type 0
+IsStatusOrHandle call (reply.Status code) = Unit {0}
+IsStatusOrHandle call reply.NoMemory = ⊥
+IsStatusOrHandle call (reply.Handle number) = number ≡ call
+IsStatusOrHandle call (reply.Data bytes) = ⊥
+IsStatusOrHandle call (reply.Names entries) = ⊥
+IsStatusOrHandle call (reply.Attrs attrs) = ⊥
+
+abbrev pub IsStatusOrData : Reply → Type 0
+IsStatusOrData (reply.Status code) = Unit {0}
+IsStatusOrData reply.NoMemory = ⊥
+IsStatusOrData (reply.Handle number) = ⊥
+IsStatusOrData (reply.Data bytes) = Unit {0}
+IsStatusOrData (reply.Names entries) = ⊥
+IsStatusOrData (reply.Attrs attrs) = ⊥
+
+abbrev pub IsStatusOrNames : Reply → Type 0
+IsStatusOrNames (reply.Status code) = Unit {0}
+IsStatusOrNames reply.NoMemory = ⊥
+IsStatusOrNames (reply.Handle number) = ⊥
+IsStatusOrNames (reply.Data bytes) = ⊥
+IsStatusOrNames (reply.Names entries) = Unit {0}
+IsStatusOrNames (reply.Attrs attrs) = ⊥
+
+-- a status, or what the request asks for; a handle has the number of the call that opened it
+abbrev pub IsReplyTo : ℕ → Request → Reply → Type 0
+IsReplyTo number (Stat path) given = IsStatusOrAttrs given
+IsReplyTo number (SetStat path attrs) given = IsStatus given
+IsReplyTo number (Mkdir path attrs) given = IsStatus given
+IsReplyTo number (Rmdir path) given = IsStatus given
+IsReplyTo number (Remove path) given = IsStatus given
+IsReplyTo number (OpenDir path) given = IsStatusOrHandle number given
+IsReplyTo number (Open path flags attrs) given = IsStatusOrHandle number given
+IsReplyTo number (Close handle) given = IsStatus given
+IsReplyTo number (FStat handle) given = IsStatusOrAttrs given
+IsReplyTo number (FSetStat handle attrs) given = IsStatus given
+IsReplyTo number (Read handle offset len) given = IsStatusOrData given
+IsReplyTo number (Write handle offset bytes) given = IsStatus given
+IsReplyTo number (ReadDir handle) given = IsStatusOrNames given
+IsReplyTo number (Rename old new) given = IsStatus given
+IsReplyTo number (PosixRename old new) given = IsStatus given

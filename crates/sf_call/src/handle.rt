@@ -1,6 +1,9 @@
 //! Open handles.
 
+ghost use Rattle.std.specs.Prelude.{◌≡◌, IfOk};
+
 use sf_path::Name;
+use std::alloc::{AllocError, Global};
 
 /// What a session has opened. `label` is the opened object's.
 #[derive(Debug, Drop)]
@@ -12,4 +15,24 @@ pub struct Handle {
     pub append: bool,
     /// The last name that a listing gave.
     pub listed: Option<Name>,
+}
+
+impl Handle {
+    /// Takes memory for the last listed name.
+    pub fn try_copy(&self, alloc: Global) -> Result<Handle, AllocError>
+        ensures { IfOk result (λ copy. copy ≡ self.now) }
+    {
+        let listed = match &self.listed {
+            None => None,
+            Some(name) => Some(name.try_copy(alloc)?),
+        };
+        Ok(Handle {
+            session: self.session,
+            label: self.label,
+            read: self.read,
+            write: self.write,
+            append: self.append,
+            listed,
+        })
+    }
 }

@@ -2,15 +2,20 @@
 
 ghost use Rattle.std.specs.Prelude.{◌≡◌, ◌≢◌, ◌<◌, ◌↔◌, ℕ, true, false, List, [], ◌∷◌, ◌++◌, length, take, Some, None, IsSome};
 ghost use Rattle.sf_wire.specs.declared.reply.Reply.{Reply};
-ghost use Rattle.sf_wire.specs.Replies.{IsPlain};
 ghost use Rattle.sf_call.specs.declared.request.Request.{Request};
 ghost use Rattle.sf_call.specs.declared.record.Record.{Record};
 ghost use Rattle.sf_call.specs.declared.record.Record.TheVariants.{Did};
 ghost use Rattle.sf_path.specs.Names.{Path};
 ghost use Rattle.sf_call.specs.Tree.{Tree, IsOrderedTree, MapsAlike, label_at, object_of, is_directory, is_faulty_way, after_front, kept};
 ghost use Rattle.sf_call.specs.Moves.{moved};
-ghost use Rattle.sf_call.specs.Calls.{apply};
-ghost use Rattle.sf_call.specs.ReplyKinds.{IsReplyTo};
+ghost use Rattle.sf_call.specs.Calls.{answer_to, apply};
+ghost use Rattle.sf_call.specs.ReplyKinds.{IsReplyTo, HasAllParts};
+ghost use Rattle.sf_wire.specs.Longname.{HasType};
+ghost use Rattle.sf_wire.specs.declared.reply.Reply.TheVariants.{Status};
+ghost use Rattle.sf_wire.specs.declared.reply.StatusCode.{StatusCode};
+ghost use Rattle.sf_wire.specs.declared.reply.StatusCode.TheVariants.{Success};
+ghost use Rattle.sf_call.specs.Attributes.{Object, attrs_of};
+ghost use Rattle.sf_call.specs.Allowed.{AreAllowed};
 ghost use Rattle.sf_call.specs.Histories.{after, replay, IsNewNumber, IsLegal, MayFollow, IsAmong, IsGiven, record_of};
 
 /// Trees are compared by what they map: each tree that a history leads to is in order, and two such trees that map alike are equal.
@@ -37,11 +42,33 @@ pub fn fronts()
     ensures front { (front path rest : Path) → after_front front path ≡ Some rest → path ≡ front ++ rest }
 {}
 
-/// What a request may be answered. No reply of the tree or of a legal history holds a list.
+/// What a request may be answered.
 pub fn kinds_of_replies()
-    ensures kind { (tree : Tree) (session number moment : ℕ) (request : Request) → IsReplyTo request (apply tree session number moment request).reply }
-    ensures plain { (tree : Tree) (session number moment : ℕ) (request : Request) → IsPlain (apply tree session number moment request).reply }
-    ensures given { (number session : ℕ) (reply : Reply) → IsGiven number session reply → IsPlain reply }
+    ensures { (tree : Tree) (session number moment : ℕ) (request : Request) → IsReplyTo number request (apply tree session number moment request).reply }
+{}
+
+/// A record with the tree's own reply leads to the tree after it.
+pub fn told_replies()
+    ensures { (tree : Tree) (session number moment : ℕ) (request : Request)
+        → after tree (Did number session moment request (apply tree session number moment request).reply) ≡ (apply tree session number moment request).tree }
+{}
+
+/// The attributes that a listing shows of an object have all parts, and its type among the permissions.
+pub fn listed_attributes()
+    ensures parts { (object : Object) → HasAllParts (attrs_of object) }
+    ensures kind { (object : Object) → HasType (attrs_of object).permissions }
+{}
+
+/// What a request that may come next changes: its own objects, paths and handles, as each kind of change asks.
+pub fn allowed_changes()
+    ensures { (history : List Record) (number session moment : ℕ) (request : Request) → IsLegal history → 0 < number → IsNewNumber number history
+        → AreAllowed number (replay history) (answer_to (replay history) session number moment request).changes }
+{}
+
+/// A refused call leaves the tree as it was: a status other than OK comes with no change.
+pub fn refusals_change_nothing()
+    ensures { (tree : Tree) (session number moment : ℕ) (request : Request) (code : StatusCode)
+        → (answer_to tree session number moment request).reply ≡ Status code → code ≢ Success → (apply tree session number moment request).tree ≡ tree }
 {}
 
 /// After a legal history each object is named or open.

@@ -20,6 +20,18 @@ module _ {K X : Type 0} {R : K → K → Ordering} where
   undone o exact m n r k v sm sr free put gone =
       btree_map_from_get o r m sr sm (λ q. gone q ∙ ap (cond (is_at (R k) q) None) (put q) ∙ nothing_there (get R m) k q v exact free (R k q) refl) exact
 
+module _ {K X : Type 0} {R : K → K → Ordering} where
+  back_there : (f : K → Option X) (k q : K) (v : X) (o : Option X) → CmpEqualImpliesEq R → f k ≡ o → (r : Ordering) → R k q ≡ r → cond (is_eq r) o (cond (is_eq r) (Some v) (f q)) ≡ f q
+  back_there f k q v o exact was Less e = refl
+  back_there f k q v o exact was Equal e = sym was ∙ ap f (exact k q e)
+  back_there f k q v o exact was Greater e = refl
+
+  -- what is put at a key and replaced by what stood there
+  pub put_back : IsTotalOrder R → CmpEqualImpliesEq R → (m n r : BTreeMap K X) (k : K) (v : X) (o : Option X) → IsOrdered R m → IsOrdered R r → get R m k ≡ o
+      → ((q : K) → get R n q ≡ cond (is_at (R k) q) (Some v) (get R m q)) → ((q : K) → get R r q ≡ cond (is_at (R k) q) o (get R n q)) → r.entries ≡ m.entries
+  put_back total exact m n r k v o sm sr was put back =
+      btree_map_from_get total r m sr sm (λ q. back q ∙ ap (cond (is_at (R k) q) o) (put q) ∙ back_there (get R m) k q v o exact was (R k q) refl) exact
+
 -- trees with the same maps are one
 pub same_tree : (s t : Tree) → s.names ≡ t.names → s.objects ≡ t.objects → s.handles ≡ t.handles → s ≡ t
 same_tree s t n o h = λ i. record { names = n i; objects = o i; handles = h i }

@@ -1,12 +1,17 @@
 //! Directories and files.
 
-ghost use Rattle.std.specs.Prelude.{◌≡◌};
+ghost use Rattle.std.specs.Prelude.{◌≡◌, false, IfOk};
+ghost use Rattle.sf_wire.specs.declared.attrs.Attrs.{Attrs};
 ghost use Rattle.sf_call.specs.Attributes.{attrs_of};
 ghost use Rattle.sf_call.specs.Attributes.Object.{Directory, File};
 ghost use Rattle.sf_call.specs.Tree.{directory_metadata};
+ghost use Rattle.sf_call.specs.Calls.{refuses_size, with_attrs};
+ghost use Rattle.sf_plain.specs.Nodes.{object_of_parts};
 
-use sf_call::{FileType, Metadata};
+use crate::contents::resized;
+use sf_call::{FileType, MAX_FILE_SIZE, Metadata};
 use sf_wire::{Attrs, ByteString};
+use std::alloc::{AllocError, Global};
 use std::marker::Model;
 
 /// A directory, or a file with its bytes.
@@ -19,6 +24,13 @@ pub(crate) struct Node {
 enum Kind {
     Directory(Metadata),
     File(Metadata, ByteString),
+}
+
+/// What a node is, to look at.
+#[derive(Clone, Copy)]
+pub(crate) enum Parts<'a> {
+    Directory(Metadata),
+    File(Metadata, &'a [u8]),
 }
 
 impl Model for Node {
@@ -49,6 +61,16 @@ impl Node {
         }
     }
 
+    /// To look at.
+    pub(crate) fn parts(&self) -> Parts<'_>
+        ensures { object_of_parts result ≡ self.now }
+    {
+        match &self.kind {
+            Kind::Directory(metadata) => Parts::Directory(*metadata),
+            Kind::File(metadata, contents) => Parts::File(*metadata, contents.as_slice()),
+        }
+    }
+
     /// The metadata, if it is a directory.
     pub(crate) fn as_directory(&self) -> Option<Metadata>
         ensures { result ≡ directory_metadata self.now }
@@ -68,6 +90,50 @@ impl Node {
             Kind::File(metadata, contents) => {
                 metadata.sent(FileType::File, contents.len() as u64)
             }
+        }
+    }
+
+    /// An equal node.
+    pub(crate) fn try_copy(&self, alloc: Global) -> Result<Node, AllocError>
+        ensures { IfOk result (λ copy. copy ≡ self.now) }
+    {
+        Ok(match &self.kind {
+            Kind::Directory(metadata) => Node::directory(*metadata),
+            Kind::File(metadata, contents) => Node::file(*metadata, contents.try_copy(alloc)?),
+        })
+    }
+
+    /// Whether this size can't be set.
+    pub(crate) fn refuses_size(&self, size: Option<u64>) -> bool
+        ensures { result ≡ refuses_size self.now size }
+    {
+        match (&self.kind, size) {
+            (_, None) => false,
+            (Kind::Directory(_), Some(_)) => true,
+            (Kind::File(_, _), Some(size)) => size > MAX_FILE_SIZE,
+        }
+    }
+
+    /// With the parts of `attrs` that are given, at a moment.
+    pub(crate) fn with_attrs(
+        &self,
+        alloc: Global,
+        moment: u32,
+        attrs: &Attrs,
+    ) -> Result<Node, AllocError>
+        requires { refuses_size self.now attrs.now.size ≡ false }
+        ensures { IfOk result (λ node. node ≡ with_attrs moment attrs.now self.now) }
+    {
+        match (&self.kind, attrs.size) {
+            (Kind::Directory(metadata), _) => Ok(Node::directory(metadata.with_parts(attrs))),
+            (Kind::File(metadata, contents), None) => Ok(Node::file(
+                metadata.with_parts(attrs),
+                contents.try_copy(alloc)?,
+            )),
+            (Kind::File(metadata, contents), Some(size)) => Ok(Node::file(
+                metadata.modified_at(moment).with_parts(attrs),
+                ByteString::from_vec(resized(alloc, contents.as_slice(), size as usize)?),
+            )),
         }
     }
 }

@@ -1,20 +1,26 @@
 //! The tree.
 
+ghost use Rattle.std.specs.List.{list_any};
+ghost use Rattle.std.specs.Option.{option_copied, is_some};
 ghost use Rattle.std.specs.Prelude.{◌≡◌, None, IfOk, OnOk, OnErr};
-ghost use Rattle.sf_wire.specs.Replies.{IsPlain};
-ghost use Rattle.sf_call.specs.Tree.{empty_tree, label_at, directory_at, is_faulty_way, place_at, found_at};
+ghost use Rattle.sf_call.specs.Tree.{empty_tree, label_at, directory_at, is_faulty_way, is_empty, only_name, after_front, place_at};
 ghost use Rattle.sf_call.specs.Changes.{changed, done, touch};
-ghost use Rattle.sf_call.specs.Changes.Change.{NewPath, SetObject};
-ghost use Rattle.sf_call.specs.Calls.{apply, make_directory, stat};
+ghost use Rattle.sf_call.specs.Changes.Change.{NewPath, SetObject, GonePath};
+ghost use Rattle.sf_call.specs.Calls.{apply, leave};
 
+use crate::copies::{copy_of_handles, copy_of_names, copy_of_objects};
 use crate::node::Node;
+use crate::sweep::{close_all, sweep};
 use sf_call::{Handle, Metadata, Place, Request};
-use sf_path::Path;
+use sf_path::{Name, Path};
 use sf_wire::{Attrs, Owner, Reply, StatusCode, Times};
 use std::alloc::{AllocError, Global};
 use std::collections::BTreeMap;
 use std::marker::Model;
 
+mod handle_calls;
+mod listing;
+mod path_calls;
 #[cfg(test)]
 mod tests;
 
@@ -58,7 +64,6 @@ impl PlainTree {
     }
 
     /// Answers a call of this session and number, at a moment in seconds since 1970.
-    #[tactic(auto, using(sf_call::proofs::KindsOfReplies::apply_plain))]
     pub fn apply(
         &mut self,
         session: u64,
@@ -68,53 +73,37 @@ impl PlainTree {
     ) -> Result<Reply, AllocError>
         ensures reply { IfOk result (λ reply. reply ≡ (apply self.old session number moment request.now).reply) }
         ensures tree { OnOk result (self.new ≡ (apply self.old session number moment request.now).tree) }
-        ensures plain { IfOk result IsPlain }
         ensures err { OnErr result (self.new ≡ self.old) }
     {
         match request {
-            Request::Mkdir(path, attrs) => {
-                if path.is_root() {
-                    return Ok(Reply::Status(StatusCode::Failure));
-                }
-                self.mkdir(number, moment, path, attrs)
-            }
             Request::Stat(path) => self.stat(path),
-        }
-    }
-
-    fn mkdir(
-        &mut self,
-        number: u64,
-        moment: u32,
-        path: &Path,
-        attrs: &Attrs,
-    ) -> Result<Reply, AllocError>
-        ensures reply { IfOk result (λ reply. reply ≡ (make_directory self.old number moment path.now attrs.now (place_at self.old path.now)).reply) }
-        ensures tree { OnOk result (self.new ≡ done self.old (make_directory self.old number moment path.now attrs.now (place_at self.old path.now)).changes) }
-        ensures err { OnErr result (self.new ≡ self.old) }
-    {
-        match self.place_at(path)? {
-            Place::NoWay => Ok(Reply::Status(StatusCode::NoSuchFile)),
-            Place::At(_) => Ok(Reply::Status(StatusCode::Failure)),
-            Place::Absent => {
-                let parent = self.directory_at(&path.parent(self.alloc)?);
-                let made = Metadata::new_object(0o755, moment, attrs);
-                self.add(path, number, Node::directory(made))?;
-                self.touch(parent, moment);
-                Ok(Reply::Status(StatusCode::Success))
+            Request::SetStat(path, attrs) => self.set_stat(moment, path, attrs),
+            Request::Mkdir(path, attrs) => self.mkdir(number, moment, path, attrs),
+            Request::Rmdir(path) => self.rmdir(moment, path),
+            Request::Remove(path) => self.remove(moment, path),
+            Request::OpenDir(path) => self.open_directory(session, number, path),
+            Request::Open(path, flags, attrs) => {
+                self.open(session, number, moment, path, *flags, attrs)
             }
-        }
-    }
-
-    fn stat(&self, path: &Path) -> Result<Reply, AllocError>
-        ensures { IfOk result (λ reply. reply ≡ (stat (found_at self.now path.now)).reply) }
-    {
-        let Place::At(label) = self.place_at(path)? else {
-            return Ok(Reply::Status(StatusCode::NoSuchFile));
-        };
-        match self.objects.get(&label) {
-            Some(node) => Ok(Reply::Attrs(node.attrs())),
-            None => Ok(Reply::Status(StatusCode::NoSuchFile)),
+            Request::Close(handle) => Ok(self.close(session, *handle)),
+            Request::FStat(handle) => Ok(self.stat_handle(session, *handle)),
+            Request::FSetStat(handle, attrs) => {
+                self.set_stat_handle(session, moment, *handle, attrs)
+            }
+            Request::Read {
+                handle,
+                offset,
+                len,
+            } => self.read(session, *handle, *offset, *len),
+            Request::Write {
+                handle,
+                offset,
+                data,
+            } => self.write(session, moment, *handle, *offset, data),
+            Request::ReadDir(handle) => self.read_directory(session, *handle),
+            Request::Rename(_, _) | Request::PosixRename(_, _) => {
+                Ok(Reply::Status(StatusCode::OpUnsupported))
+            }
         }
     }
 }
@@ -150,6 +139,42 @@ impl PlainTree {
         Ok(false)
     }
 
+    /// An equal tree.
+    pub fn try_copy(&self) -> Result<PlainTree, AllocError>
+        ensures { IfOk result (λ copy. copy ≡ self.now) }
+    {
+        Ok(PlainTree {
+            alloc: self.alloc,
+            names: copy_of_names(self.alloc, &self.names)?,
+            objects: copy_of_objects(self.alloc, &self.objects)?,
+            handles: copy_of_handles(self.alloc, &self.handles)?,
+        })
+    }
+
+    /// The tree after a session left: its handles are closed, and what nothing else names or opens is let go.
+    pub fn leave(&mut self, session: u64)
+        ensures { self.new ≡ leave self.old session }
+    {
+        close_all(&mut self.handles, session);
+        sweep(&mut self.objects, &self.names, &self.handles);
+    }
+
+    /// Whether something stands directly below the path.
+    fn has_child(&self, path: &Path) -> bool
+        ensures { result ≡ list_any (λ e. is_some (only_name (after_front path.now e.0))) self.now.names }
+    {
+        self.names
+            .iter()
+            .any(|(other, _)| name_in(path, other).is_some())
+    }
+
+    #[tactic(auto, using(crate::proofs::Children::empty_names))]
+    fn is_empty(&self, path: &Path) -> bool
+        ensures { result ≡ is_empty self.now.names path.now }
+    {
+        !self.has_child(path)
+    }
+
     fn place_at(&self, path: &Path) -> Result<Place, AllocError>
         ensures { IfOk result (λ place. place ≡ place_at self.now path.now) }
     {
@@ -160,6 +185,18 @@ impl PlainTree {
             None => Ok(Place::Absent),
             Some(label) => Ok(Place::At(label)),
         }
+    }
+}
+
+/// The name that a path has in a directory, if it stands directly below it.
+#[tactic(auto, using(crate::proofs::Children::name_below, crate::proofs::Children::no_front, crate::proofs::Children::other_length))]
+pub(crate) fn name_in<'a>(directory: &Path, path: &'a Path) -> Option<&'a Name>
+    ensures { option_copied result ≡ only_name (after_front directory.now path.now) }
+{
+    if path.begins_with(directory) && path.len().saturating_sub(directory.len()) == 1 {
+        Some(path.name(directory.len()))
+    } else {
+        None
     }
 }
 
@@ -178,6 +215,14 @@ impl PlainTree {
             return Err(AllocError);
         }
         Ok(())
+    }
+
+    /// Removes a path, and the object that it was the last to name.
+    fn unname(&mut self, path: &Path)
+        ensures { self.new ≡ changed self.old (GonePath path.now) }
+    {
+        self.names.remove(path);
+        sweep(&mut self.objects, &self.names, &self.handles);
     }
 
     /// Puts another object at a label.

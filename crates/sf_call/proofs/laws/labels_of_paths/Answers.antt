@@ -1,8 +1,8 @@
-use Rattle.sf_call.proofs.Labels.{labelled_replay}
+use Rattle.sf_call.proofs.Sound.{sound_replay}
 use Rattle.sf_call.proofs.laws.labels_of_paths.Goals as goal
 
 pub returns-clause-unused : goal.returns-clause-unused
-returns-clause-unused c history number path legal above new = (labelled_replay history legal).unused number above new path
+returns-clause-unused c history number path legal above new = (sound_replay history legal).labelled.unused number (above, new) path
 
 pub returns-clause-one_path : goal.returns-clause-one_path
-returns-clause-one_path c history path other label legal = (labelled_replay history legal).one_path path other label
+returns-clause-one_path c history path other label legal = (sound_replay history legal).labelled.one_path path other label

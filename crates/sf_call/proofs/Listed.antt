@@ -1,0 +1,23 @@
+-- What is shown of an object has all parts, and its type.
+use Rattle.std.proofs.Common.{◌≡◌, ℕ, IsSome, refl, inl, inr, arith}
+use Rattle.sf_wire.specs.Longname.{HasType}
+use Rattle.sf_call.specs.Attributes.{Object, attrs_of}
+use Rattle.sf_call.specs.Attributes.Object.{Directory, File}
+use Rattle.sf_call.specs.ReplyKinds.{HasAllParts}
+
+pub all_parts : (object : Object) → HasAllParts (attrs_of object)
+all_parts (Directory m) = record { size = refl; owner = refl; permissions = refl; times = refl }
+all_parts (File m contents) = record { size = refl; owner = refl; permissions = refl; times = refl }
+
+pub has_type : (object : Object) → HasType (attrs_of object).permissions
+has_type (Directory m) = inr (omega arith)
+has_type (File m contents) = inl (omega arith)
+
+pub has_size : (object : Object) → IsSome (attrs_of object).size
+has_size object = (all_parts object).size
+
+pub has_owner : (object : Object) → IsSome (attrs_of object).owner
+has_owner object = (all_parts object).owner
+
+pub has_times : (object : Object) → IsSome (attrs_of object).times
+has_times object = (all_parts object).times

@@ -1,0 +1,267 @@
+-- What a request changes is allowed.
+use Rattle.std.proofs.Common.{◌≡◌, ◌≢◌, ◌<◌, ℕ, Bool, true, false, cond, not, nat_eq, nat_lt, nat_le, ◌+◌, ◌&&◌, List, [], ◌∷◌, ◌++◌, length, length-append, filter_map, take, Option, Some, None, option_and_then, refl, sym, ap, ◌∙◌, append_assoc, arith}
+use Rattle.std.specs.List.{cons_option}
+use Rattle.std.specs.Option.{is_some}
+use Rattle.std.proofs.lemmas.List.{take_all, take-append-le}
+use Rattle.sf_path.specs.Names.{Name, Path}
+use Rattle.sf_path.specs.Order.{same_path, path_cmp, parent}
+use Rattle.sf_wire.specs.declared.attrs.Attrs.{Attrs}
+use Rattle.sf_wire.specs.declared.open_flags.OpenFlags.{OpenFlags}
+use Rattle.sf_wire.specs.declared.reply.Entry.{Entry}
+use Rattle.sf_call.specs.declared.limits.TheConstants.{MAX_FILE_SIZE}
+use Rattle.sf_call.specs.declared.metadata.Metadata.{Metadata}
+use Rattle.sf_call.specs.declared.place.Place.{Place}
+use Rattle.sf_call.specs.declared.place.Place.TheVariants.{NoWay, Absent, At}
+use Rattle.sf_call.specs.declared.request.Request.{Request}
+use Rattle.sf_call.specs.declared.request.Request.TheVariants.{Stat, SetStat, Mkdir, Rmdir, Remove, OpenDir, Open, Close, FStat, FSetStat, Read, Write, ReadDir, Rename, PosixRename}
+use Rattle.sf_call.specs.Attributes.{Object}
+use Rattle.sf_call.specs.Attributes.Object.{Directory, File}
+use Rattle.sf_call.specs.Tree.{Tree, Handle, Found, label_at, object_of, handle_of, directory_at, is_directory, is_faulty_way, place_of, place_at, found_object, found_place, found_at, after_front, only_name, children, is_nil, is_empty}
+use Rattle.sf_call.specs.Tree.Found.{Nowhere, Nothing, DirectoryAt, FileAt}
+use Rattle.sf_call.specs.Handles.{Opened, if_of, handle_in, opened_object, opened_by, opened, with_listed}
+use Rattle.sf_call.specs.Handles.Opened.{NotOpen, OpenDirectory, OpenFile}
+use Rattle.sf_call.specs.Listings.{path_of, listing_of}
+use Rattle.sf_call.specs.Changes.{touch, touched}
+use Rattle.sf_call.specs.Allowed.{is_file, IsSetRightly, IsNewHandle, AreAllowed}
+use Rattle.sf_call.specs.Calls.{Answer, answer_to, stat, refuses_size, with_size, sets, set_stat, make_directory, goes, remove_directory, remove_file, has_all_handles, open_directory, open_present, open_file, close, stat_opened, set_opened, read, start_of, write, lists, read_directory, unless_root}
+use Rattle.sf_call.proofs.Ways.{open_way}
+use Rattle.sf_call.proofs.MovedNames.{same_path_is, after_front-append}
+use Rattle.sf_call.proofs.Founded.{IsFounded, is_directory_object, is_directory_label, is_directory_is, not_both}
+
+-- the place of a path that has a label
+place_label : (tree : Tree) (path : Path) (label : ℕ) → place_at tree path ≡ At label → label_at tree.names path ≡ Some label
+place_label tree path label e =
+    elim (is_faulty_way tree path) as (λ b. cond b NoWay (place_of (label_at tree.names path)) ≡ At label → label_at tree.names path ≡ Some label) [
+      | true ↦ λ k. cc
+      | false ↦ elim (label_at tree.names path) as (λ o. place_of o ≡ At label → o ≡ Some label) [ None ↦ λ k. cc | Some l ↦ λ k. let same : l ≡ label = cc in ap Some same ]
+    ] e
+
+-- the place of a path that is free
+place_free : (tree : Tree) (path : Path) → place_at tree path ≡ Absent → (is_faulty_way tree path ≡ false) × (label_at tree.names path ≡ None)
+place_free tree path e =
+    elim (is_faulty_way tree path) as (λ b. cond b NoWay (place_of (label_at tree.names path)) ≡ Absent → (b ≡ false) × (label_at tree.names path ≡ None)) [
+      | true ↦ λ k. cc
+      | false ↦ λ k. (refl, elim (label_at tree.names path) as (λ o. place_of o ≡ Absent → o ≡ None) [ None ↦ λ _. refl | Some l ↦ λ j. cc ] k)
+    ] e
+
+-- a name that is there is among the children
+is_nil-cons_option : (o : Option Name) (names : List Name) → is_nil names ≡ false → is_nil (cons_option o names) ≡ false
+is_nil-cons_option None names some = some
+is_nil-cons_option (Some n) names some = refl
+
+child_there : (names : List (Path × ℕ)) (path : Path) (name : Name) (label : ℕ) → label_at names (path ++ name ∷ []) ≡ Some label → is_empty names path ≡ false
+child_there [] path name label e = cc
+child_there (n ∷ names) path name label e =
+    elim (same_path (path ++ name ∷ []) n.0) as (λ b. same_path (path ++ name ∷ []) n.0 ≡ b → cond b (Some n.1) (label_at names (path ++ name ∷ [])) ≡ Some label → is_nil (cons_option (only_name (after_front path n.0)) (children names path)) ≡ false) [
+      | true ↦ λ same k.
+          ap (λ (p : Path). is_nil (cons_option (only_name (after_front path p)) (children names path))) (sym (same_path_is (path ++ name ∷ []) n.0 same))
+          ∙ ap (λ o. is_nil (cons_option (only_name o) (children names path))) (after_front-append path (name ∷ []))
+      | false ↦ λ other k. is_nil-cons_option (only_name (after_front path n.0)) (children names path) (child_there names path name label k)
+    ] refl e
+
+-- what is below a path that is named
+front_directory : (tree : Tree) (path : Path) (name : Name) (rest : Path) (label : ℕ) → IsFounded tree → label_at tree.names (path ++ name ∷ rest) ≡ Some label → is_directory tree path ≡ true
+front_directory tree path name rest label f e =
+    let lt : length path < length (path ++ name ∷ rest) = omega (arith, length-append path (name ∷ rest)) in
+    let front = (open_way tree (path ++ name ∷ rest)).0 (f.way (path ++ name ∷ rest) label e) (length path) lt in
+    ap (is_directory tree) (sym (take-append-le (length path) path (name ∷ rest) (omega arith) ∙ take_all (length path) path (omega arith))) ∙ front
+
+label_or_none : (o : Option ℕ) → ((label : ℕ) → o ≡ Some label → ⊥) → o ≡ None
+label_or_none None no_label = refl
+label_or_none (Some label) no_label = absurd (no_label label refl)
+
+is_there_directory : (tree : Tree) (path : Path) → is_directory tree path ≡ true → (label : ℕ) × (label_at tree.names path ≡ Some label)
+is_there_directory tree path h =
+    elim (label_at tree.names path) as (λ o. is_directory_label tree.objects o ≡ true → (label : ℕ) × (o ≡ Some label)) [
+      | None ↦ λ k. cc
+      | Some label ↦ λ k. (label, refl)
+    ] (sym (is_directory_is tree path) ∙ h)
+
+file_is_none : (o : Option Object) → is_file o ≡ true → is_directory_object o ≡ true → ⊥
+file_is_none None file directory = cc
+file_is_none (Some o) file directory = not_both o file directory
+
+-- a session's handle is open
+handle_there : (tree : Tree) (session handle : ℕ) (h : Handle) → handle_in tree session handle ≡ Some h → handle_of tree.handles handle ≡ Some h
+handle_there tree session handle h e =
+    elim (handle_of tree.handles handle) as (λ o. option_and_then (if_of session) o ≡ Some h → o ≡ Some h) [
+      | None ↦ λ k. cc
+      | Some g ↦ elim (nat_eq g.session session) as (λ b. cond b (Some g) None ≡ Some h → Some g ≡ Some h) [ true ↦ λ k. k | false ↦ λ k. cc ]
+    ] e
+
+module _ (tree : Tree) (number moment : ℕ) (unused : (q : Path) → label_at tree.names q ≢ Some number) (unopened : handle_of tree.handles number ≡ None) (f : IsFounded tree) where
+  abbrev pub IsRight : Answer → Type 0
+  IsRight answer = AreAllowed number tree answer.changes
+
+  either : (b : Bool) (this that : Answer) → IsRight this → IsRight that → IsRight (cond b this that)
+  either true this that p q = p
+  either false this that p q = q
+
+  either_if : (b : Bool) (this that : Answer) → (b ≡ true → IsRight this) → (b ≡ false → IsRight that) → IsRight (cond b this that)
+  either_if true this that p q = p refl
+  either_if false this that p q = q refl
+
+  allowed_touch : (t : Tree) (at : Option (ℕ × Metadata)) → AreAllowed number t (touch moment at)
+  allowed_touch t None = tt
+  allowed_touch t (Some e) = (tt, tt)
+
+  found_stat : (found : Found) → IsRight (stat found)
+  found_stat Nowhere = tt
+  found_stat Nothing = tt
+  found_stat (DirectoryAt label m) = tt
+  found_stat (FileAt label m contents) = tt
+
+  sized : (label : ℕ) (attrs : Attrs) (size : Option ℕ) (m : Metadata) (contents : List ℕ) → is_file (object_of tree.objects label) ≡ true → IsSetRightly tree label (with_size moment attrs size m contents)
+  sized label attrs None m contents file = file
+  sized label attrs (Some size) m contents file = file
+
+  parts_set : (label : ℕ) (attrs : Attrs) (object : Object) → object_of tree.objects label ≡ Some object → IsRight (sets moment label attrs object)
+  parts_set label attrs (Directory m) e = either (refuses_size (Directory m) attrs.size) _ _ tt (tt, tt)
+  parts_set label attrs (File m contents) e = either (refuses_size (File m contents) attrs.size) _ _ tt (sized label attrs attrs.size m contents (ap is_file e), tt)
+
+  set_object : (attrs : Attrs) (label : ℕ) (o : Option Object) → object_of tree.objects label ≡ o → IsRight (set_stat moment attrs (found_object label o))
+  set_object attrs label None e = tt
+  set_object attrs label (Some (Directory m)) e = parts_set label attrs (Directory m) e
+  set_object attrs label (Some (File m contents)) e = parts_set label attrs (File m contents) e
+
+  set_place : (attrs : Attrs) (place : Place) → IsRight (set_stat moment attrs (found_place tree.objects place))
+  set_place attrs NoWay = tt
+  set_place attrs Absent = tt
+  set_place attrs (At label) = set_object attrs label (object_of tree.objects label) refl
+
+  made : (path : Path) (attrs : Attrs) (place : Place) → place_at tree path ≡ place → IsRight (make_directory tree number moment path attrs place)
+  made path attrs NoWay e = tt
+  made path attrs (At label) e = tt
+  made path attrs Absent e =
+      let free = place_free tree path e in
+      (record { is_number = refl; free = free.1; way = free.0; unused = unused }, allowed_touch _ (directory_at tree (parent path)))
+
+  gone : (path : Path) → ((name : Name) (rest : Path) → label_at tree.names (path ++ name ∷ rest) ≡ None) → IsRight (goes tree moment path)
+  gone path none = (none, allowed_touch _ (directory_at tree (parent path)))
+
+  -- nothing is below an empty directory or a file
+  below_empty : (path : Path) → is_empty tree.names path ≡ true → (name : Name) (rest : Path) (label : ℕ) → label_at tree.names (path ++ name ∷ rest) ≡ Some label → ⊥
+  below_empty path none name [] label e = let some : is_empty tree.names path ≡ false = child_there tree.names path name label e in cc
+  below_empty path none name (n ∷ rest) label e =
+      let e' : label_at tree.names ((path ++ name ∷ []) ++ n ∷ rest) ≡ Some label = ap (label_at tree.names) (append_assoc path (name ∷ []) (n ∷ rest)) ∙ e in
+      let named = is_there_directory tree (path ++ name ∷ []) (front_directory tree (path ++ name ∷ []) n rest label f e') in
+      let some : is_empty tree.names path ≡ false = child_there tree.names path name named.0 named.1 in cc
+
+  below_file : (path : Path) (at : ℕ) → label_at tree.names path ≡ Some at → is_file (object_of tree.objects at) ≡ true → (name : Name) (rest : Path) (label : ℕ) → label_at tree.names (path ++ name ∷ rest) ≡ Some label → ⊥
+  below_file path at here file name rest label e =
+      let directory : is_directory_label tree.objects (Some at) ≡ true = ap (is_directory_label tree.objects) (sym here) ∙ sym (is_directory_is tree path) ∙ front_directory tree path name rest label f e in
+      file_is_none (object_of tree.objects at) file directory
+
+  directory_removed : (path : Path) (place : Place) → place_at tree path ≡ place → IsRight (remove_directory tree moment path (found_place tree.objects place))
+  directory_removed path NoWay e = tt
+  directory_removed path Absent e = tt
+  directory_removed path (At label) e = removed_object (object_of tree.objects label) where
+    removed_object : (o : Option Object) → IsRight (remove_directory tree moment path (found_object label o))
+    removed_object None = tt
+    removed_object (Some (File m contents)) = tt
+    removed_object (Some (Directory m)) =
+        either_if (is_empty tree.names path) _ _
+        (λ none. gone path (λ name rest. label_or_none (label_at tree.names (path ++ name ∷ rest)) (λ l there. below_empty path none name rest l there)))
+        (λ some. tt)
+
+  file_removed : (path : Path) (place : Place) → place_at tree path ≡ place → IsRight (remove_file tree moment path (found_place tree.objects place))
+  file_removed path NoWay e = tt
+  file_removed path Absent e = tt
+  file_removed path (At label) e = removed_object (object_of tree.objects label) refl where
+    removed_object : (o : Option Object) → object_of tree.objects label ≡ o → IsRight (remove_file tree moment path (found_object label o))
+    removed_object None is = tt
+    removed_object (Some (Directory m)) is = tt
+    removed_object (Some (File m contents)) is =
+        gone path (λ name rest. label_or_none (label_at tree.names (path ++ name ∷ rest)) (λ l there. below_file path label (place_label tree path label e) (ap is_file is) name rest l there))
+
+  new_handle : IsNewHandle number tree number
+  new_handle = record { is_number = refl; free = unopened }
+
+  directory_opened : (session : ℕ) (found : Found) → IsRight (open_directory tree session number found)
+  directory_opened session Nowhere = tt
+  directory_opened session Nothing = tt
+  directory_opened session (FileAt label m contents) = tt
+  directory_opened session (DirectoryAt label m) = either (has_all_handles tree session) _ _ tt (new_handle, tt)
+
+  present_opened : (session : ℕ) (flags : OpenFlags) (label : ℕ) (o : Option Object) → object_of tree.objects label ≡ o → IsRight (open_present tree session number moment flags (found_object label o))
+  present_opened session flags label None e = tt
+  present_opened session flags label (Some (Directory m)) e = tt
+  present_opened session flags label (Some (File m contents)) e =
+      either (has_all_handles tree session) _ _ tt (either (flags.truncate && flags.write) _ _ (new_handle, (ap is_file e, tt)) (new_handle, tt))
+
+  file_opened : (session : ℕ) (path : Path) (flags : OpenFlags) (attrs : Attrs) (place : Place) → place_at tree path ≡ place → IsRight (open_file tree session number moment path flags attrs place)
+  file_opened session path flags attrs NoWay e = tt
+  file_opened session path flags attrs (At label) e =
+      either (flags.create && flags.exclusive) _ _ tt (present_opened session flags label (object_of tree.objects label) refl)
+  file_opened session path flags attrs Absent e =
+      let free = place_free tree path e in
+      either (not flags.create) _ _ tt (either (has_all_handles tree session) _ _ tt
+      (new_handle, (record { is_number = refl; free = free.1; way = free.0; unused = unused }, allowed_touch _ (directory_at tree (parent path)))))
+
+  closed : (handle : ℕ) (o : Option Handle) → IsRight (close handle o)
+  closed handle None = tt
+  closed handle (Some h) = (tt, tt)
+
+  opened_stat : (o : Opened) → IsRight (stat_opened o)
+  opened_stat NotOpen = tt
+  opened_stat (OpenDirectory h m) = tt
+  opened_stat (OpenFile h m contents) = tt
+
+  set_by_object : (attrs : Attrs) (h : Handle) (o : Option Object) → object_of tree.objects h.label ≡ o → IsRight (set_opened moment attrs (opened_object h o))
+  set_by_object attrs h None e = tt
+  set_by_object attrs h (Some (Directory m)) e = either (nat_eq h.label 0) _ _ tt (parts_set h.label attrs (Directory m) e)
+  set_by_object attrs h (Some (File m contents)) e = either (is_some attrs.size && not h.write) _ _ tt (parts_set h.label attrs (File m contents) e)
+
+  set_by_handle : (attrs : Attrs) (o : Option Handle) → IsRight (set_opened moment attrs (opened_by tree o))
+  set_by_handle attrs None = tt
+  set_by_handle attrs (Some h) = set_by_object attrs h (object_of tree.objects h.label) refl
+
+  was_read : (offset len : ℕ) (o : Opened) → IsRight (read offset len o)
+  was_read offset len NotOpen = tt
+  was_read offset len (OpenDirectory h m) = tt
+  was_read offset len (OpenFile h m contents) = either (not h.read) _ _ tt (either (nat_le (length contents) offset) _ _ tt tt)
+
+  written_object : (offset : ℕ) (bytes : List ℕ) (h : Handle) (o : Option Object) → object_of tree.objects h.label ≡ o → IsRight (write moment offset bytes (opened_object h o))
+  written_object offset bytes h None e = tt
+  written_object offset bytes h (Some (Directory m)) e = tt
+  written_object offset bytes h (Some (File m contents)) e =
+      either (not h.write) _ _ tt (either (is_nil bytes) _ _ tt
+      (either (nat_lt MAX_FILE_SIZE (start_of h contents offset + length bytes)) _ _ tt (ap is_file e, tt)))
+
+  was_written : (offset : ℕ) (bytes : List ℕ) (o : Option Handle) → IsRight (write moment offset bytes (opened_by tree o))
+  was_written offset bytes None = tt
+  was_written offset bytes (Some h) = written_object offset bytes h (object_of tree.objects h.label) refl
+
+  listed : (handle : ℕ) (h : Handle) (entries : List Entry) → handle_of tree.handles handle ≡ Some h → IsRight (lists handle h entries)
+  listed handle h [] there = tt
+  listed handle h (e ∷ es) there = ((h, there, refl), tt)
+
+  listed_object : (handle : ℕ) (h : Handle) (o : Option Object) → handle_of tree.handles handle ≡ Some h → IsRight (read_directory tree handle (opened_object h o))
+  listed_object handle h None there = tt
+  listed_object handle h (Some (File m contents)) there = tt
+  listed_object handle h (Some (Directory m)) there = listed handle h (listing_of tree h.listed (path_of tree.names h.label)) there
+
+  directory_read : (session handle : ℕ) (o : Option Handle) → handle_in tree session handle ≡ o → IsRight (read_directory tree handle (opened_by tree o))
+  directory_read session handle None e = tt
+  directory_read session handle (Some h) e = listed_object handle h (object_of tree.objects h.label) (handle_there tree session handle h e)
+
+  rooted : (path : Path) (answer : Answer) → IsRight answer → IsRight (unless_root path answer)
+  rooted [] answer p = tt
+  rooted (n ∷ path) answer p = p
+
+  pub allowed : (session : ℕ) (request : Request) → AreAllowed number tree (answer_to tree session number moment request).changes
+  allowed session (Stat path) = found_stat (found_at tree path)
+  allowed session (SetStat path attrs) = rooted path _ (set_place attrs (place_at tree path))
+  allowed session (Mkdir path attrs) = rooted path _ (made path attrs (place_at tree path) refl)
+  allowed session (Rmdir path) = rooted path _ (directory_removed path (place_at tree path) refl)
+  allowed session (Remove path) = rooted path _ (file_removed path (place_at tree path) refl)
+  allowed session (OpenDir path) = directory_opened session (found_at tree path)
+  allowed session (Open path flags attrs) = rooted path _ (file_opened session path flags attrs (place_at tree path) refl)
+  allowed session (Close handle) = closed handle (handle_in tree session handle)
+  allowed session (FStat handle) = opened_stat (opened tree session handle)
+  allowed session (FSetStat handle attrs) = set_by_handle attrs (handle_in tree session handle)
+  allowed session (Read handle offset len) = was_read offset len (opened tree session handle)
+  allowed session (Write handle offset bytes) = was_written offset bytes (handle_in tree session handle)
+  allowed session (ReadDir handle) = directory_read session handle (handle_in tree session handle) refl
+  allowed session (Rename old new) = tt
+  allowed session (PosixRename old new) = tt

@@ -1,0 +1,46 @@
+-- What a request may change.
+use Rattle.std.specs.Prelude.{◌≡◌, ◌≢◌, ℕ, Bool, true, false, List, [], ◌∷◌, ◌++◌, Option, Some, None}
+use Rattle.sf_path.specs.Names.{Name, Path}
+use Rattle.sf_call.specs.Attributes.{Object}
+use Rattle.sf_call.specs.Attributes.Object.{Directory, File}
+use Rattle.sf_call.specs.Tree.{Tree, Handle, label_at, object_of, handle_of, is_faulty_way}
+use Rattle.sf_call.specs.Changes.{Change, changed}
+use Rattle.sf_call.specs.Changes.Change.{SetObject, NewPath, GonePath, Move, OpenHandle, SetHandle, CloseHandle}
+
+abbrev pub is_file : Option Object → Bool
+is_file None = false
+is_file (Some (Directory m)) = false
+is_file (Some (File m contents)) = true
+
+-- bytes are given to files alone
+abbrev pub IsSetRightly : Tree → ℕ → Object → Type 0
+IsSetRightly tree label (Directory m) = Unit {0}
+IsSetRightly tree label (File m contents) = is_file (object_of tree.objects label) ≡ true
+
+-- a new path was free, its way was open, and its label is the call's number, which no path had
+pub record IsNewPath (number : ℕ) (tree : Tree) (path : Path) (label : ℕ) : Type 0 where
+  pub is_number : label ≡ number
+  pub free : label_at tree.names path ≡ None
+  pub way : is_faulty_way tree path ≡ false
+  pub unused : (other : Path) → label_at tree.names other ≢ Some label
+
+-- a new handle's number is the call's, which no handle had
+pub record IsNewHandle (number : ℕ) (tree : Tree) (handle : ℕ) : Type 0 where
+  pub is_number : handle ≡ number
+  pub free : handle_of tree.handles handle ≡ None
+
+-- What a change of the call with this number asks of the tree before it. A path that goes has nothing below it, and a
+-- handle stays with its object. No request moves.
+abbrev pub MayChange : ℕ → Tree → Change → Type 0
+MayChange number tree (SetObject label object) = IsSetRightly tree label object
+MayChange number tree (NewPath path label object) = IsNewPath number tree path label
+MayChange number tree (GonePath path) = (name : Name) (rest : Path) → label_at tree.names (path ++ name ∷ rest) ≡ None
+MayChange number tree (Move old new) = ⊥
+MayChange number tree (OpenHandle handle opened) = IsNewHandle number tree handle
+MayChange number tree (SetHandle handle opened) = (before : Handle) × (handle_of tree.handles handle ≡ Some before) × (before.label ≡ opened.label)
+MayChange number tree (CloseHandle handle) = Unit {0}
+
+-- each of the changes may be made after those before it
+abbrev pub AreAllowed : ℕ → Tree → List Change → Type 0
+AreAllowed number tree [] = Unit {0}
+AreAllowed number tree (change ∷ changes) = MayChange number tree change × AreAllowed number (changed tree change) changes

@@ -1,0 +1,8 @@
+-- What an answer tells.
+use Rattle.std.specs.Prelude.{ℕ}
+use Rattle.sf_wire.specs.declared.reply.Reply.{Reply}
+
+pub record Answered : Type 0 where
+  pub number : ℕ
+  pub session : ℕ
+  pub reply : Reply

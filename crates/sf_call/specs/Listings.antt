@@ -1,0 +1,51 @@
+-- What a listing gives.
+use Rattle.std.specs.Prelude.{ℕ, nat_eq, Bool, true, List, [], ◌∷◌, ◌++◌, take, map, filter_map, Option, Some, None, option_map, option_and_then, unwrap_or, if◌then◌else◌}
+use Rattle.std.specs.List.{find, last_or}
+use Rattle.std.specs.Ordering.{is_lt}
+use Rattle.sf_path.specs.Names.{Name, Path}
+use Rattle.sf_path.specs.Order.{name_cmp}
+use Rattle.sf_wire.specs.declared.reply.Entry.{Entry}
+use Rattle.sf_wire.specs.Longname.{longname_text}
+use Rattle.sf_call.specs.declared.limits.TheConstants.{MAX_ENTRIES}
+use Rattle.sf_call.specs.Attributes.{Object, attrs_of}
+use Rattle.sf_call.specs.Tree.{Tree, object_of, after_front, only_name}
+
+-- the path of a directory's label: the first that has it
+abbrev pub path_of : List (Path × ℕ) → ℕ → Option Path
+path_of names label = option_map (λ e. e.0) (find (λ e. nat_eq e.1 label) names)
+
+-- whether the name comes after the last one that was given
+abbrev pub is_past : Option Name → Name → Bool
+is_past None name = true
+is_past (Some last) name = is_lt (name_cmp last name)
+
+-- the name of a directory's entry, if it comes after that one
+abbrev pub name_past : Path → Option Name → Path → Option Name
+name_past directory last path = option_and_then (λ name. if is_past last name then Some name else None) (only_name (after_front directory path))
+
+-- as it is listed, with the attributes that it has and one link
+abbrev pub entry_of : Name → Object → Entry
+entry_of name object = record {
+  filename = name;
+  longname = unwrap_or (longname_text (attrs_of object) 1 name) [];
+  attrs = attrs_of object;
+}
+
+abbrev pub listed_entry : Tree → Path → Option Name → Path × ℕ → Option Entry
+listed_entry tree directory last e =
+    option_and_then (λ name. option_map (entry_of name) (object_of tree.objects e.1)) (name_past directory last e.0)
+
+-- the first 32 entries of a directory, in the order of their names, after the last one that was given
+abbrev pub listing : Tree → Option Name → Path → List Entry
+listing tree last directory = take MAX_ENTRIES (filter_map (listed_entry tree directory last) tree.names)
+
+abbrev pub listing_of : Tree → Option Name → Option Path → List Entry
+listing_of tree last None = []
+listing_of tree last (Some directory) = listing tree last directory
+
+abbrev pub names_of : List Entry → List Name
+names_of entries = map (λ e. e.filename) entries
+
+-- the last name of a listing
+abbrev pub last_name : List Entry → Option Name
+last_name entries = last_or None (names_of entries)

@@ -1,0 +1,13 @@
+//! Limits of the tree.
+
+/// The most bytes that a file has.
+pub const MAX_FILE_SIZE: u64 = 16_777_216;
+
+/// The most bytes that one READ gives.
+pub const MAX_READ: u32 = 261_120;
+
+/// The most handles that a session has open.
+pub const MAX_HANDLES: usize = 128;
+
+/// The most names that one READDIR gives.
+pub const MAX_ENTRIES: usize = 32;

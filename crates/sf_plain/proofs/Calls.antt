@@ -1,0 +1,49 @@
+-- What calls answer where an object is there.
+use Rattle.std.proofs.Common.{◌≡◌, ℕ, nat_eq, not, ◌&&◌, ◌||◌, Bool, true, false, cond, List, [], Some, refl}
+use Rattle.std.specs.Option.{is_some, is_none}
+use Rattle.sf_path.specs.Names.{Path}
+use Rattle.sf_wire.specs.declared.attrs.Attrs.{Attrs}
+use Rattle.sf_wire.specs.declared.reply.StatusCode.TheVariants.{Failure, PermissionDenied}
+use Rattle.sf_wire.specs.declared.reply.Reply.TheVariants as reply
+use Rattle.sf_call.specs.Attributes.{Object, attrs_of}
+use Rattle.sf_call.specs.Attributes.Object.{Directory, File}
+use Rattle.sf_call.specs.declared.handle.Handle.{Handle}
+use Rattle.sf_call.specs.Tree.{Tree, directory_metadata, found_object, is_empty}
+use Rattle.sf_call.specs.Handles.{opened_object}
+use Rattle.sf_call.specs.Calls.{Answer, refuses, sets, set_stat, goes, remove_directory, remove_file, has_all_handles, opens, directory_handle, open_directory, set_opened, tells, stat_opened}
+
+abbrev pub is_directory_node : Object → Bool
+is_directory_node o = is_some (directory_metadata o)
+
+pub sets_object : (moment label : ℕ) (attrs : Attrs) (o : Object) → set_stat moment attrs (found_object label (Some o)) ≡ sets moment label attrs o
+sets_object moment label attrs (Directory m) = refl
+sets_object moment label attrs (File m contents) = refl
+
+negated : (b : Bool) (x y : Answer) → cond b x y ≡ cond (not b) y x
+negated true x y = refl
+negated false x y = refl
+
+pub removes_directory : (tree : Tree) (moment : ℕ) (path : Path) (label : ℕ) (o : Object)
+    → remove_directory tree moment path (found_object label (Some o)) ≡ cond (not (is_directory_node o) || not (is_empty tree.names path)) (refuses Failure) (goes tree moment path)
+removes_directory tree moment path label (Directory m) = negated (is_empty tree.names path) (goes tree moment path) (refuses Failure)
+removes_directory tree moment path label (File m contents) = refl
+
+pub removes_file : (tree : Tree) (moment : ℕ) (path : Path) (label : ℕ) (o : Object)
+    → remove_file tree moment path (found_object label (Some o)) ≡ cond (is_directory_node o) (refuses Failure) (goes tree moment path)
+removes_file tree moment path label (Directory m) = refl
+removes_file tree moment path label (File m contents) = refl
+
+pub opens_directory : (tree : Tree) (session number label : ℕ) (o : Object)
+    → open_directory tree session number (found_object label (Some o)) ≡ cond (not (is_directory_node o) || has_all_handles tree session) (refuses Failure) (opens number (directory_handle session label) [])
+opens_directory tree session number label (Directory m) = refl
+opens_directory tree session number label (File m contents) = refl
+
+pub sets_opened : (moment : ℕ) (attrs : Attrs) (h : Handle) (o : Object)
+    → set_opened moment attrs (opened_object h (Some o)) ≡ cond (is_directory_node o && nat_eq h.label 0) (refuses Failure)
+    (cond (not (is_directory_node o) && (is_some attrs.size && not h.write)) (refuses PermissionDenied) (sets moment h.label attrs o))
+sets_opened moment attrs h (Directory m) = refl
+sets_opened moment attrs h (File m contents) = refl
+
+pub tells_opened : (h : Handle) (o : Object) → stat_opened (opened_object h (Some o)) ≡ tells (reply.Attrs (attrs_of o))
+tells_opened h (Directory m) = refl
+tells_opened h (File m contents) = refl

@@ -1,0 +1,171 @@
+//! Calls by handle.
+
+ghost use Rattle.std.specs.Prelude.{◌≡◌, nat_eq, IfOk, OnOk, OnErr};
+ghost use Rattle.std.specs.Option.{option_copied};
+ghost use Rattle.sf_call.specs.Changes.{changed, done};
+ghost use Rattle.sf_call.specs.Changes.Change.{CloseHandle};
+ghost use Rattle.sf_call.specs.Handles.{handle_in, opened};
+ghost use Rattle.sf_call.specs.Calls.{close, stat_opened, set_opened, read, write};
+
+use super::PlainTree;
+use crate::contents::{ends_past_limit, part, written};
+use crate::node::{Node, Parts};
+use crate::sweep::sweep;
+use sf_call::Handle;
+use sf_wire::{Attrs, ByteString, Reply, StatusCode};
+use std::alloc::AllocError;
+
+impl PlainTree {
+    /// The handle, if it is the session's.
+    pub(super) fn handle_in(&self, session: u64, number: u64) -> Option<&Handle>
+        ensures { option_copied result ≡ handle_in self.now session number }
+    {
+        let handle = self.handles.get(&number)?;
+        if handle.session == session {
+            Some(handle)
+        } else {
+            None
+        }
+    }
+
+    /// Closes a handle, and lets go of the object that it was the last to open.
+    fn close_handle(&mut self, number: u64)
+        ensures { self.new ≡ changed self.old (CloseHandle number) }
+    {
+        self.handles.remove(&number);
+        sweep(&mut self.objects, &self.names, &self.handles);
+    }
+
+    /// CLOSE.
+    pub(super) fn close(&mut self, session: u64, number: u64) -> Reply
+        ensures reply { result ≡ (close number (handle_in self.old session number)).reply }
+        ensures tree { self.new ≡ done self.old (close number (handle_in self.old session number)).changes }
+    {
+        if self.handle_in(session, number).is_none() {
+            return Reply::Status(StatusCode::Failure);
+        }
+        self.close_handle(number);
+        Reply::Status(StatusCode::Success)
+    }
+
+    /// FSTAT.
+    #[tactic(auto, using(crate::proofs::Calls::tells_opened))]
+    pub(super) fn stat_handle(&self, session: u64, number: u64) -> Reply
+        ensures { result ≡ (stat_opened (opened self.now session number)).reply }
+    {
+        let Some(handle) = self.handle_in(session, number) else {
+            return Reply::Status(StatusCode::Failure);
+        };
+        match self.objects.get(&handle.label) {
+            Some(node) => Reply::Attrs(node.attrs()),
+            None => Reply::Status(StatusCode::Failure),
+        }
+    }
+
+    /// FSETSTAT. Takes memory for all the bytes that the file has then.
+    #[tactic(auto, using(crate::proofs::Calls::sets_opened))]
+    pub(super) fn set_stat_handle(
+        &mut self,
+        session: u64,
+        moment: u32,
+        number: u64,
+        attrs: &Attrs,
+    ) -> Result<Reply, AllocError>
+        ensures reply { IfOk result (λ reply. reply ≡ (set_opened moment attrs.now (opened self.old session number)).reply) }
+        ensures tree { OnOk result (self.new ≡ done self.old (set_opened moment attrs.now (opened self.old session number)).changes) }
+        ensures err { OnErr result (self.new ≡ self.old) }
+    {
+        let Some(handle) = self.handle_in(session, number) else {
+            return Ok(Reply::Status(StatusCode::Failure));
+        };
+        let label = handle.label;
+        let Some(node) = self.objects.get(&label) else {
+            return Ok(Reply::Status(StatusCode::Failure));
+        };
+        let is_directory = node.as_directory().is_some();
+        if is_directory && label == 0 {
+            return Ok(Reply::Status(StatusCode::Failure));
+        }
+        if !is_directory && attrs.size.is_some() && !handle.write {
+            return Ok(Reply::Status(StatusCode::PermissionDenied));
+        }
+        if node.refuses_size(attrs.size) {
+            return Ok(Reply::Status(StatusCode::Failure));
+        }
+        let set = node.with_attrs(self.alloc, moment, attrs)?;
+        self.set_object(label, set);
+        Ok(Reply::Status(StatusCode::Success))
+    }
+
+    /// READ.
+    pub(super) fn read(
+        &self,
+        session: u64,
+        number: u64,
+        offset: u64,
+        len: u32,
+    ) -> Result<Reply, AllocError>
+        ensures { IfOk result (λ reply. reply ≡ (read offset len (opened self.now session number)).reply) }
+    {
+        let Some(handle) = self.handle_in(session, number) else {
+            return Ok(Reply::Status(StatusCode::Failure));
+        };
+        let Some(node) = self.objects.get(&handle.label) else {
+            return Ok(Reply::Status(StatusCode::Failure));
+        };
+        let Parts::File(_, contents) = node.parts() else {
+            return Ok(Reply::Status(StatusCode::Failure));
+        };
+        if !handle.read {
+            return Ok(Reply::Status(StatusCode::PermissionDenied));
+        }
+        if offset >= contents.len() as u64 {
+            return Ok(Reply::Status(StatusCode::EndOfFile));
+        }
+        let bytes = ByteString::from_slice(self.alloc, part(contents, offset, len))?;
+        Ok(Reply::Data(bytes))
+    }
+
+    /// WRITE. Takes memory for all the bytes that the file has then.
+    pub(super) fn write(
+        &mut self,
+        session: u64,
+        moment: u32,
+        number: u64,
+        offset: u64,
+        bytes: &ByteString,
+    ) -> Result<Reply, AllocError>
+        ensures reply { IfOk result (λ reply. reply ≡ (write moment offset bytes.now (opened self.old session number)).reply) }
+        ensures tree { OnOk result (self.new ≡ done self.old (write moment offset bytes.now (opened self.old session number)).changes) }
+        ensures err { OnErr result (self.new ≡ self.old) }
+    {
+        let Some(handle) = self.handle_in(session, number) else {
+            return Ok(Reply::Status(StatusCode::Failure));
+        };
+        let label = handle.label;
+        let Some(node) = self.objects.get(&label) else {
+            return Ok(Reply::Status(StatusCode::Failure));
+        };
+        let Parts::File(metadata, contents) = node.parts() else {
+            return Ok(Reply::Status(StatusCode::Failure));
+        };
+        if !handle.write {
+            return Ok(Reply::Status(StatusCode::PermissionDenied));
+        }
+        if bytes.is_empty() {
+            return Ok(Reply::Status(StatusCode::Success));
+        }
+        let start = if handle.append {
+            contents.len() as u64
+        } else {
+            offset
+        };
+        if ends_past_limit(start, bytes.len()) {
+            return Ok(Reply::Status(StatusCode::Failure));
+        }
+        let after = written(self.alloc, contents, start as usize, bytes.as_slice())?;
+        let file = Node::file(metadata.modified_at(moment), ByteString::from_vec(after));
+        self.set_object(label, file);
+        Ok(Reply::Status(StatusCode::Success))
+    }
+}

@@ -1,0 +1,320 @@
+//! Calls on paths.
+
+ghost use Rattle.std.specs.Option.{is_some};
+ghost use Rattle.std.specs.Ordering.{nat_cmp};
+ghost use Rattle.std.specs.BTreeMap.{get, is_at, IsOrdered};
+ghost use Rattle.std.specs.Prelude.{◌≡◌, ℕ, true, cond, nat_eq, nat_le, count_by, IfOk, OnOk, OnErr};
+ghost use Rattle.sf_call.specs.Tree.{place_at, found_at, found_object, object_of, is_empty, label_at};
+ghost use Rattle.sf_call.specs.Changes.{changed, done};
+ghost use Rattle.sf_call.specs.Changes.Change.{GonePath, NewPath, OpenHandle};
+ghost use Rattle.sf_call.specs.Calls.{stat, set_stat, make_directory, remove_directory, remove_file, goes, has_all_handles, directory_handle, file_handle, open_directory, open_present, open_file, unless_root};
+
+use super::PlainTree;
+use crate::node::{Node, Parts};
+use sf_call::{Handle, MAX_HANDLES, Metadata, Place};
+use sf_path::Path;
+use sf_wire::{Attrs, ByteString, OpenFlags, Reply, StatusCode};
+use std::alloc::AllocError;
+use std::collections::BTreeMap;
+
+/// A directory's handle has no marks.
+fn directory_handle(session: u64, label: u64) -> Handle
+    ensures { result ≡ directory_handle session label }
+{
+    Handle {
+        session,
+        label,
+        read: false,
+        write: false,
+        append: false,
+        listed: None,
+    }
+}
+
+/// With neither READ nor WRITE a handle reads.
+fn file_handle(session: u64, label: u64, flags: OpenFlags) -> Handle
+    ensures { result ≡ file_handle session label flags }
+{
+    Handle {
+        session,
+        label,
+        read: flags.read || !flags.write,
+        write: flags.write,
+        append: flags.append,
+        listed: None,
+    }
+}
+
+/// Brings back what stood at a number before a handle was put there. What is there already takes no memory to replace.
+fn put_back(handles: &mut BTreeMap<u64, Handle>, number: u64, replaced: Option<Handle>)
+    requires { is_some (get nat_cmp handles.old number) ≡ true }
+    ensures found { (q : ℕ) → get nat_cmp handles.new q ≡ cond (is_at (nat_cmp number) q) replaced (get nat_cmp handles.old q) }
+    ensures ordered { IsOrdered nat_cmp handles.new }
+{
+    match replaced {
+        None => {
+            handles.remove(&number);
+        }
+        Some(handle) => match handles.insert(number, handle) {
+            Ok(_) | Err(_) => {}
+        },
+    }
+}
+
+impl PlainTree {
+    /// STAT.
+    pub(super) fn stat(&self, path: &Path) -> Result<Reply, AllocError>
+        ensures { IfOk result (λ reply. reply ≡ (stat (found_at self.now path.now)).reply) }
+    {
+        let Place::At(label) = self.place_at(path)? else {
+            return Ok(Reply::Status(StatusCode::NoSuchFile));
+        };
+        match self.objects.get(&label) {
+            Some(node) => Ok(Reply::Attrs(node.attrs())),
+            None => Ok(Reply::Status(StatusCode::NoSuchFile)),
+        }
+    }
+
+    /// SETSTAT. Takes memory for all the bytes that the file has then.
+    #[tactic(auto, using(crate::proofs::Calls::sets_object))]
+    pub(super) fn set_stat(
+        &mut self,
+        moment: u32,
+        path: &Path,
+        attrs: &Attrs,
+    ) -> Result<Reply, AllocError>
+        ensures reply { IfOk result (λ reply. reply ≡ (unless_root path.now (set_stat moment attrs.now (found_at self.old path.now))).reply) }
+        ensures tree { OnOk result (self.new ≡ done self.old (unless_root path.now (set_stat moment attrs.now (found_at self.old path.now))).changes) }
+        ensures err { OnErr result (self.new ≡ self.old) }
+    {
+        if path.is_root() {
+            return Ok(Reply::Status(StatusCode::Failure));
+        }
+        let Place::At(label) = self.place_at(path)? else {
+            return Ok(Reply::Status(StatusCode::NoSuchFile));
+        };
+        let Some(node) = self.objects.get(&label) else {
+            return Ok(Reply::Status(StatusCode::NoSuchFile));
+        };
+        if node.refuses_size(attrs.size) {
+            return Ok(Reply::Status(StatusCode::Failure));
+        }
+        let set = node.with_attrs(self.alloc, moment, attrs)?;
+        self.set_object(label, set);
+        Ok(Reply::Status(StatusCode::Success))
+    }
+
+    /// MKDIR. The new directory's label is the call's number.
+    pub(super) fn mkdir(
+        &mut self,
+        number: u64,
+        moment: u32,
+        path: &Path,
+        attrs: &Attrs,
+    ) -> Result<Reply, AllocError>
+        ensures reply { IfOk result (λ reply. reply ≡ (unless_root path.now (make_directory self.old number moment path.now attrs.now (place_at self.old path.now))).reply) }
+        ensures tree { OnOk result (self.new ≡ done self.old (unless_root path.now (make_directory self.old number moment path.now attrs.now (place_at self.old path.now))).changes) }
+        ensures err { OnErr result (self.new ≡ self.old) }
+    {
+        if path.is_root() {
+            return Ok(Reply::Status(StatusCode::Failure));
+        }
+        match self.place_at(path)? {
+            Place::NoWay => Ok(Reply::Status(StatusCode::NoSuchFile)),
+            Place::At(_) => Ok(Reply::Status(StatusCode::Failure)),
+            Place::Absent => {
+                let parent = self.directory_at(&path.parent(self.alloc)?);
+                let made = Metadata::new_object(0o755, moment, attrs);
+                self.add(path, number, Node::directory(made))?;
+                self.touch(parent, moment);
+                Ok(Reply::Status(StatusCode::Success))
+            }
+        }
+    }
+
+    /// Removes a path; its parent is modified at the moment.
+    fn remove_path(&mut self, moment: u32, path: &Path) -> Result<Reply, AllocError>
+        ensures reply { IfOk result (λ reply. reply ≡ (goes self.old moment path.now).reply) }
+        ensures tree { OnOk result (self.new ≡ done self.old (goes self.old moment path.now).changes) }
+        ensures err { OnErr result (self.new ≡ self.old) }
+    {
+        let parent = self.directory_at(&path.parent(self.alloc)?);
+        self.unname(path);
+        self.touch(parent, moment);
+        Ok(Reply::Status(StatusCode::Success))
+    }
+
+    /// RMDIR.
+    #[tactic(auto, using(crate::proofs::Calls::removes_directory))]
+    pub(super) fn rmdir(&mut self, moment: u32, path: &Path) -> Result<Reply, AllocError>
+        ensures reply { IfOk result (λ reply. reply ≡ (unless_root path.now (remove_directory self.old moment path.now (found_at self.old path.now))).reply) }
+        ensures tree { OnOk result (self.new ≡ done self.old (unless_root path.now (remove_directory self.old moment path.now (found_at self.old path.now))).changes) }
+        ensures err { OnErr result (self.new ≡ self.old) }
+    {
+        if path.is_root() {
+            return Ok(Reply::Status(StatusCode::Failure));
+        }
+        let Place::At(label) = self.place_at(path)? else {
+            return Ok(Reply::Status(StatusCode::NoSuchFile));
+        };
+        let Some(node) = self.objects.get(&label) else {
+            return Ok(Reply::Status(StatusCode::NoSuchFile));
+        };
+        if node.as_directory().is_none() || !self.is_empty(path) {
+            return Ok(Reply::Status(StatusCode::Failure));
+        }
+        self.remove_path(moment, path)
+    }
+
+    /// REMOVE.
+    #[tactic(auto, using(crate::proofs::Calls::removes_file))]
+    pub(super) fn remove(&mut self, moment: u32, path: &Path) -> Result<Reply, AllocError>
+        ensures reply { IfOk result (λ reply. reply ≡ (unless_root path.now (remove_file self.old moment path.now (found_at self.old path.now))).reply) }
+        ensures tree { OnOk result (self.new ≡ done self.old (unless_root path.now (remove_file self.old moment path.now (found_at self.old path.now))).changes) }
+        ensures err { OnErr result (self.new ≡ self.old) }
+    {
+        if path.is_root() {
+            return Ok(Reply::Status(StatusCode::Failure));
+        }
+        let Place::At(label) = self.place_at(path)? else {
+            return Ok(Reply::Status(StatusCode::NoSuchFile));
+        };
+        let Some(node) = self.objects.get(&label) else {
+            return Ok(Reply::Status(StatusCode::NoSuchFile));
+        };
+        if node.as_directory().is_some() {
+            return Ok(Reply::Status(StatusCode::Failure));
+        }
+        self.remove_path(moment, path)
+    }
+}
+
+// Opening.
+impl PlainTree {
+    /// Whether the session has as many handles open as it may.
+    fn has_all_handles(&self, session: u64) -> bool
+        ensures { result ≡ has_all_handles self.now session }
+    {
+        let open = self
+            .handles
+            .iter()
+            .filter(|(_, handle)| handle.session == session)
+            .count();
+        open >= MAX_HANDLES
+    }
+
+    /// OPENDIR.
+    #[tactic(auto, using(crate::proofs::Calls::opens_directory))]
+    pub(super) fn open_directory(
+        &mut self,
+        session: u64,
+        number: u64,
+        path: &Path,
+    ) -> Result<Reply, AllocError>
+        ensures reply { IfOk result (λ reply. reply ≡ (open_directory self.old session number (found_at self.old path.now)).reply) }
+        ensures tree { OnOk result (self.new ≡ done self.old (open_directory self.old session number (found_at self.old path.now)).changes) }
+        ensures err { OnErr result (self.new ≡ self.old) }
+    {
+        let Place::At(label) = self.place_at(path)? else {
+            return Ok(Reply::Status(StatusCode::NoSuchFile));
+        };
+        let Some(node) = self.objects.get(&label) else {
+            return Ok(Reply::Status(StatusCode::NoSuchFile));
+        };
+        if node.as_directory().is_none() || self.has_all_handles(session) {
+            return Ok(Reply::Status(StatusCode::Failure));
+        }
+        self.handles
+            .insert(number, directory_handle(session, label))?;
+        Ok(Reply::Handle(number))
+    }
+
+    /// OPEN of a path that is there.
+    fn open_present(
+        &mut self,
+        session: u64,
+        number: u64,
+        moment: u32,
+        label: u64,
+        flags: OpenFlags,
+    ) -> Result<Reply, AllocError>
+        ensures reply { IfOk result (λ reply. reply ≡ (open_present self.old session number moment flags (found_object label (object_of self.old.objects label))).reply) }
+        ensures tree { OnOk result (self.new ≡ done self.old (open_present self.old session number moment flags (found_object label (object_of self.old.objects label))).changes) }
+        ensures err { OnErr result (self.new ≡ self.old) }
+    {
+        let Some(node) = self.objects.get(&label) else {
+            return Ok(Reply::Status(StatusCode::NoSuchFile));
+        };
+        let Parts::File(metadata, _) = node.parts() else {
+            return Ok(Reply::Status(StatusCode::Failure));
+        };
+        if self.has_all_handles(session) {
+            return Ok(Reply::Status(StatusCode::Failure));
+        }
+        self.handles
+            .insert(number, file_handle(session, label, flags))?;
+        if flags.truncate && flags.write {
+            let nothing = ByteString::from_vec(Vec::new(self.alloc));
+            self.set_object(label, Node::file(metadata.modified_at(moment), nothing));
+        }
+        Ok(Reply::Handle(number))
+    }
+
+    /// OPEN. A new file's label is the call's number.
+    pub(super) fn open(
+        &mut self,
+        session: u64,
+        number: u64,
+        moment: u32,
+        path: &Path,
+        flags: OpenFlags,
+        attrs: &Attrs,
+    ) -> Result<Reply, AllocError>
+        ensures reply { IfOk result (λ reply. reply ≡ (unless_root path.now (open_file self.old session number moment path.now flags attrs.now (place_at self.old path.now))).reply) }
+        ensures tree { OnOk result (self.new ≡ done self.old (unless_root path.now (open_file self.old session number moment path.now flags attrs.now (place_at self.old path.now))).changes) }
+        ensures err { OnErr result (self.new ≡ self.old) }
+    {
+        if path.is_root() {
+            return Ok(Reply::Status(StatusCode::Failure));
+        }
+        match self.place_at(path)? {
+            Place::NoWay => Ok(Reply::Status(StatusCode::NoSuchFile)),
+            Place::At(_) if flags.create && flags.exclusive => {
+                Ok(Reply::Status(StatusCode::Failure))
+            }
+            Place::At(label) => self.open_present(session, number, moment, label, flags),
+            Place::Absent if !flags.create => Ok(Reply::Status(StatusCode::NoSuchFile)),
+            Place::Absent if self.has_all_handles(session) => {
+                Ok(Reply::Status(StatusCode::Failure))
+            }
+            Place::Absent => {
+                let parent = self.directory_at(&path.parent(self.alloc)?);
+                let made = Metadata::new_object(0o644, moment, attrs);
+                let file = Node::file(made, ByteString::from_vec(Vec::new(self.alloc)));
+                self.add_opened(path, number, file, file_handle(session, number, flags))?;
+                self.touch(parent, moment);
+                Ok(Reply::Handle(number))
+            }
+        }
+    }
+
+    /// Adds a path that isn't there, with its label and its object, and a handle of the same number.
+    fn add_opened(
+        &mut self,
+        path: &Path,
+        number: u64,
+        node: Node,
+        handle: Handle,
+    ) -> Result<(), AllocError>
+        requires { label_at self.old.names path.now ≡ None }
+        ensures ok { OnOk result (self.new ≡ changed (changed self.old (OpenHandle number handle)) (NewPath path.now number node)) }
+        ensures err { OnErr result (self.new ≡ self.old) }
+    {
+        let replaced = self.handles.insert(number, handle)?;
+        if let Err(error) = self.add(path, number, node) {
+            put_back(&mut self.handles, number, replaced);
+            return Err(error);
+        }
+        Ok(())
+    }
+}
