@@ -8,7 +8,7 @@ use sf_path::Path;
 use std::alloc::{AllocError, Global};
 use std::collections::BTreeMap;
 
-#[tactic(auto, using(crate::proofs::Copies::copied))]
+#[tactic(auto, using(crate::proofs::EqualMaps::copied))]
 pub(crate) fn copy_of_names(
     alloc: Global,
     names: &BTreeMap<Path, u64>,
@@ -24,7 +24,7 @@ pub(crate) fn copy_of_names(
     Ok(copy)
 }
 
-#[tactic(auto, using(crate::proofs::Copies::copied))]
+#[tactic(auto, using(crate::proofs::EqualMaps::copied))]
 pub(crate) fn copy_of_objects(
     alloc: Global,
     objects: &BTreeMap<u64, Node>,
@@ -40,7 +40,7 @@ pub(crate) fn copy_of_objects(
     Ok(copy)
 }
 
-#[tactic(auto, using(crate::proofs::Copies::copied))]
+#[tactic(auto, using(crate::proofs::EqualMaps::copied))]
 pub(crate) fn copy_of_handles(
     alloc: Global,
     handles: &BTreeMap<u64, Handle>,
