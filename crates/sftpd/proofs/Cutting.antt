@@ -6,10 +6,10 @@ use Rattle.sf_wire.specs.declared.cutting.Cut.TheVariants as cut
 use Rattle.sf_wire.specs.declared.cutting.BadCut.TheVariants as bad
 use Rattle.sf_wire.specs.Packets.{packet, IsBody, IsCut, End, More, Bad, Cuts}
 use Rattle.sf_wire.specs.Streams.{CutsAfter}
-use Rattle.sftpd.specs.declared.cause.Cause.{Cause}
-use Rattle.sftpd.specs.declared.asking.Ask.TheVariants as ask
-use Rattle.sftpd.specs.Asking.{AsksFor}
-use Rattle.sftpd.specs.Sessions.{EndsBy}
+use Rattle.sf_session.specs.declared.cause.Cause.{Cause}
+use Rattle.sf_session.specs.declared.asking.Ask.TheVariants as ask
+use Rattle.sf_session.specs.Asking.{AsksFor}
+use Rattle.sf_session.specs.Sessions.{EndsBy}
 use Rattle.sftpd.specs.Transcripts.{IsServed, IsEnd, EndsWith, has_begun}
 
 -- what the format's laws promise

@@ -17,8 +17,8 @@ use Rattle.sf_call.specs.Tree.{Tree}
 use Rattle.sf_call.specs.Calls.{apply}
 use Rattle.sf_call.specs.ReplyKinds.{IsStatus, IsStatusOrAttrs, IsReplyTo}
 use Rattle.sf_call.specs.Histories.{after, after_reply, replay, IsLegal, MayFollow, IsNewNumber, IsPresent}
-use Rattle.sftpd.specs.Asking.{AsksFor}
-use Rattle.sftpd.specs.Sessions.{SessionView}
+use Rattle.sf_session.specs.Asking.{AsksFor}
+use Rattle.sf_session.specs.Sessions.{SessionView}
 use Rattle.sftpd.specs.Transcripts.{Answered, Version, Locally, ByCall, Refused, asked_by, packet_for, transcript, moment_of, moments_of, with_record, history_of, has_begun, AreAnswers, MayAnswer, last_number}
 use Rattle.sftpd.specs.Serving.{ServiceView, Edges, edges, HasEffect, Answers, IsNumbered, Progress, Serves}
 

@@ -8,20 +8,20 @@ use Rattle.std.proofs.lemmas.List.{length-take-le}
 use Rattle.sf_wire.specs.declared.cutting.Cut.TheVariants as cut
 use Rattle.sf_wire.specs.Packets.{packet, IsCut}
 use Rattle.sf_wire.specs.Fields.{be32}
-use Rattle.sftpd.specs.declared.cause.Cause.{Cause}
-use Rattle.sftpd.specs.declared.cause.Cause.TheVariants.{Closed, OldVersion}
-use Rattle.sftpd.specs.declared.cause.Cause.TheVariants.{ZeroLength, TooLong}
-use Rattle.sftpd.specs.declared.asking.Ask.{Ask}
-use Rattle.sftpd.specs.declared.asking.Ask.TheVariants as ask
+use Rattle.sf_session.specs.declared.cause.Cause.{Cause}
+use Rattle.sf_session.specs.declared.cause.Cause.TheVariants.{Closed, OldVersion}
+use Rattle.sf_session.specs.declared.cause.Cause.TheVariants.{ZeroLength, TooLong}
+use Rattle.sf_session.specs.declared.asking.Ask.{Ask}
+use Rattle.sf_session.specs.declared.asking.Ask.TheVariants as ask
 use Rattle.sf_wire.specs.declared.request.WireRequest.TheVariants as wire
 use Rattle.sf_wire.specs.declared.request.Asked.{Asked}
 use Rattle.sf_wire.specs.declared.request.Asked.TheVariants as asked
 use Rattle.sf_path.specs.Names.{Path}
 use Rattle.sf_call.specs.Tree.{Tree, empty_tree}
 use Rattle.sf_call.specs.Histories.{IsLegal, IsLegalAfter, replay}
-use Rattle.sftpd.specs.Asking.{is_init, path_at, with_path, ask_by}
+use Rattle.sf_session.specs.Asking.{is_init, path_at, with_path, ask_by}
 use Rattle.sftpd.specs.declared.service.Turn.TheVariants as turn
-use Rattle.sftpd.specs.Sessions.{SessionView, EndsBy}
+use Rattle.sf_session.specs.Sessions.{SessionView, EndsBy}
 use Rattle.sftpd.specs.Transcripts.{moments_of, AreAnswers, IsServed, IsEnd}
 use Rattle.sftpd.specs.Serving.{ServiceView, new_service, Edges, edges, Answers, TurnGives, Progress, Serves, HasEnded, ServesLine, IsDrained, IsRounded, ReadsAtLeast}
 use Rattle.sftpd.proofs.Progressing.{sends_all, reads_piece}

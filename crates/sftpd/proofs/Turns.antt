@@ -10,13 +10,13 @@ use Rattle.sf_call.specs.declared.request.Request.{Request}
 use Rattle.sf_call.specs.declared.fault.CoreFault.TheVariants as fault
 use Rattle.sf_call.specs.Tree.{Tree}
 use Rattle.sf_call.specs.Calls.{apply}
-use Rattle.sftpd.specs.declared.asking.Ask.{Ask}
-use Rattle.sftpd.specs.declared.asking.Ask.TheVariants as ask
+use Rattle.sf_session.specs.declared.asking.Ask.{Ask}
+use Rattle.sf_session.specs.declared.asking.Ask.TheVariants as ask
 use Rattle.sftpd.specs.declared.service.Turn.{Turn}
 use Rattle.sftpd.specs.declared.service.Turn.TheVariants as turn
-use Rattle.sftpd.specs.declared.fault.ServeFault.{ServeFault}
-use Rattle.sftpd.specs.Asking.{AsksFor}
-use Rattle.sftpd.specs.Sessions.{SessionView, Begins, LocalPacket, AnswersLocally, Calls, refusal_of}
+use Rattle.sf_session.specs.declared.fault.ServeFault.{ServeFault}
+use Rattle.sf_session.specs.Asking.{AsksFor}
+use Rattle.sf_session.specs.Sessions.{SessionView, Begins, LocalPacket, AnswersLocally, Calls, refusal_of}
 use Rattle.sftpd.specs.Transcripts.{Version, Locally, ByCall, Refused, last_number}
 use Rattle.sftpd.specs.Serving.{ServiceView, MakesCall, Answers, TurnGives}
 

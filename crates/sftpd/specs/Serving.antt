@@ -11,15 +11,15 @@ use Rattle.sf_call.specs.Tree.{Tree, empty_tree}
 use Rattle.sf_call.specs.Calls.{apply}
 use Rattle.sf_call.specs.Histories.{IsLegal, replay}
 use Rattle.sf_call.specs.declared.request.Request.{Request}
-use Rattle.sftpd.specs.declared.asking.Ask.TheVariants as ask
-use Rattle.sftpd.specs.declared.cause.Cause.{Cause}
+use Rattle.sf_session.specs.declared.asking.Ask.TheVariants as ask
+use Rattle.sf_session.specs.declared.cause.Cause.{Cause}
 use Rattle.sf_wire.specs.Lines.{Rose}
-use Rattle.sftpd.specs.declared.fault.ServeFault.{ServeFault}
-use Rattle.sftpd.specs.declared.fault.ServeFault.TheVariants as fault
+use Rattle.sf_session.specs.declared.fault.ServeFault.{ServeFault}
+use Rattle.sf_session.specs.declared.fault.ServeFault.TheVariants as fault
 use Rattle.sftpd.specs.declared.service.Turn.{Turn}
 use Rattle.sftpd.specs.declared.service.Turn.TheVariants as turn
-use Rattle.sftpd.specs.Asking.{AsksFor}
-use Rattle.sftpd.specs.Sessions.{SessionView, new_session, Begins, EndsBy}
+use Rattle.sf_session.specs.Asking.{AsksFor}
+use Rattle.sf_session.specs.Sessions.{SessionView, new_session, Begins, EndsBy}
 use Rattle.sftpd.specs.Transcripts.{Answered, Version, Locally, ByCall, Refused, asked_by, packet_for, transcript, moments_of, history_of, has_begun, AreAnswers, MayAnswer, last_number, IsServed}
 
 -- a session, its tree, and how many calls it made

@@ -1,8 +1,8 @@
 -- Exit statuses.
 use Rattle.std.specs.Prelude.{ℕ, Result, Ok, Err}
-use Rattle.sftpd.specs.declared.cause.Cause.{Cause}
-use Rattle.sftpd.specs.declared.cause.Cause.TheVariants.{NotInit, OldVersion, SecondInit, ZeroLength, TooLong, NoId, Closed}
-use Rattle.sftpd.specs.declared.fault.ServeFault.{ServeFault}
+use Rattle.sf_session.specs.declared.cause.Cause.{Cause}
+use Rattle.sf_session.specs.declared.cause.Cause.TheVariants.{NotInit, OldVersion, SecondInit, ZeroLength, TooLong, NoId, Closed}
+use Rattle.sf_session.specs.declared.fault.ServeFault.{ServeFault}
 
 -- the end of the input is no fault
 abbrev pub status_of_cause : Cause → ℕ

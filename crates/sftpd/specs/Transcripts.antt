@@ -12,12 +12,12 @@ use Rattle.sf_call.specs.declared.record.Record.{Record}
 use Rattle.sf_call.specs.declared.record.Record.TheVariants.{Did}
 use Rattle.sf_call.specs.declared.fault.CoreFault.TheVariants as fault
 use Rattle.sf_call.specs.Histories.{IsLegal}
-use Rattle.sftpd.specs.declared.asking.Ask.{Ask}
-use Rattle.sftpd.specs.declared.asking.Ask.TheVariants as ask
-use Rattle.sftpd.specs.declared.cause.Cause.{Cause}
-use Rattle.sftpd.specs.declared.cause.Cause.TheVariants.{ZeroLength, TooLong, Closed}
-use Rattle.sftpd.specs.Asking.{AsksFor}
-use Rattle.sftpd.specs.Sessions.{EndsBy, refusal_of}
+use Rattle.sf_session.specs.declared.asking.Ask.{Ask}
+use Rattle.sf_session.specs.declared.asking.Ask.TheVariants as ask
+use Rattle.sf_session.specs.declared.cause.Cause.{Cause}
+use Rattle.sf_session.specs.declared.cause.Cause.TheVariants.{ZeroLength, TooLong, Closed}
+use Rattle.sf_session.specs.Asking.{AsksFor}
+use Rattle.sf_session.specs.Sessions.{EndsBy, refusal_of}
 
 -- What a body was answered: VERSION; a reply that needs no tree; the reply of a call that was made at a moment; or a
 -- refusal, since the call numbers were spent.

@@ -1,20 +1,10 @@
-//! Clocks.
+//! The clock of the system.
 
-ghost use Rattle.std.specs.Prelude.{◌≡◌, ◌-◌, ◌/◌, ◌^◌, ℕ, List, [], ◌∷◌, min, Option, IfSome, IfNone, None};
-ghost use Rattle.std.specs.Io.KnownBytes.{Appends};
+ghost use Rattle.std.specs.Prelude.{◌≡◌, ◌-◌, ◌/◌, ◌^◌, min, IfSome, IfNone, None};
 ghost use Rattle.std.specs.Duration.{as_nanos};
 
+use sf_session::Clock;
 use std::time::Duration;
-
-/// Tells moments, in seconds since 1970.
-pub trait Clock {
-    /// The moments that it told, where it keeps them. A clock that keeps them goes on keeping them.
-    ghost told: { Self → Option (List ℕ) };
-
-    /// The moment now.
-    fn now(&mut self) -> u32
-        ensures { Appends (told self.old) (told self.new) (result ∷ []) };
-}
 
 /// The clock of the system that the program runs on. It keeps no moments.
 #[derive(Debug, Drop)]

@@ -2,7 +2,7 @@
 
 ghost use Rattle.std.specs.Prelude.{◌≡◌, ℕ, List, ◌++◌};
 ghost use Rattle.sf_wire.specs.Packets.{End, Cuts};
-ghost use Rattle.sftpd.specs.declared.cause.Cause.{Cause};
+ghost use Rattle.sf_session.specs.declared.cause.Cause.{Cause};
 ghost use Rattle.sftpd.specs.Transcripts.{IsServed, EndsWith, has_begun};
 
 use sf_wire::{cut_after_packets, cut_by_packets, one_packet};

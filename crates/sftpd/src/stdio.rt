@@ -2,7 +2,7 @@
 
 ghost use Rattle.std.specs.Prelude.{◌≡◌, ◌⊎◌, Ok};
 ghost use Rattle.std.specs.Io.KnownBytes.{IsAtEnd, Keeps};
-ghost use Rattle.sftpd.specs.declared.cause.Cause.TheVariants.{Closed};
+ghost use Rattle.sf_session.specs.declared.cause.Cause.TheVariants.{Closed};
 ghost use Rattle.sftpd.specs.Serving.{edges, ServesLine};
 ghost use Rattle.sftpd.specs.Statuses.{status_of};
 

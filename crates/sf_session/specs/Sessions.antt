@@ -10,15 +10,15 @@ use Rattle.sf_wire.specs.declared.reply.StatusCode.TheVariants.{Failure}
 use Rattle.sf_call.specs.declared.fault.CoreFault.{CoreFault}
 use Rattle.sf_call.specs.declared.fault.CoreFault.TheVariants as fault
 use Rattle.sf_call.specs.declared.request.Request.{Request}
-use Rattle.sftpd.specs.declared.asking.Ask.{Ask}
-use Rattle.sftpd.specs.declared.asking.Ask.TheVariants as ask
-use Rattle.sftpd.specs.declared.cause.Cause.{Cause}
-use Rattle.sftpd.specs.declared.cause.Cause.TheVariants.{ZeroLength, TooLong}
-use Rattle.sftpd.specs.declared.front.Front.{Front}
-use Rattle.sftpd.specs.declared.front.Front.TheVariants as front
-use Rattle.sftpd.specs.declared.session.Next.{Next}
-use Rattle.sftpd.specs.declared.session.Next.TheVariants as next
-use Rattle.sftpd.specs.Asking.{AsksFor, FitsPacket}
+use Rattle.sf_session.specs.declared.asking.Ask.{Ask}
+use Rattle.sf_session.specs.declared.asking.Ask.TheVariants as ask
+use Rattle.sf_session.specs.declared.cause.Cause.{Cause}
+use Rattle.sf_session.specs.declared.cause.Cause.TheVariants.{ZeroLength, TooLong}
+use Rattle.sf_session.specs.declared.front.Front.{Front}
+use Rattle.sf_session.specs.declared.front.Front.TheVariants as front
+use Rattle.sf_session.specs.declared.session.Next.{Next}
+use Rattle.sf_session.specs.declared.session.Next.TheVariants as next
+use Rattle.sf_session.specs.Asking.{AsksFor, FitsPacket}
 
 -- What a session shows: the bytes that were fed and not yet asked for, those to be sent, whether its first
 -- packet was answered, the id of the request that it waits for, and why it ended.

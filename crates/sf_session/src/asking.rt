@@ -1,13 +1,14 @@
 //! What a body asks of a session.
 
-ghost use Rattle.std.specs.Prelude.{◌≡◌, ℕ, ◌≤◌, length, IfOk, IfSome};
+ghost use Rattle.std.specs.Prelude.{◌≡◌, ℕ, ◌≤◌, length, IfOk};
 ghost use Rattle.sf_path.specs.Names.{text_of};
 ghost use Rattle.sf_wire.specs.Replies.{reply_body};
-ghost use Rattle.sftpd.specs.Asking.{AsksFor, FitsPacket, first_ask, later_ask, request_ask, is_init, path_at, real_path_reply};
+ghost use Rattle.sf_session.specs.Asking.{AsksFor, FitsPacket, first_ask, later_ask, request_ask, call_ask, is_init, real_path_ask, real_path_reply};
 
+use crate::calling::{call_of, path_of};
 use crate::cause::Cause;
 use sf_call::Request;
-use sf_path::{Path, PathFault};
+use sf_path::Path;
 use sf_wire::{
     Asked, Attrs, ByteString, Entry, Listing, Reply, StatusCode, WireRequest, read_request,
     reply_lengths,
@@ -16,7 +17,7 @@ use std::alloc::{AllocError, Global};
 
 /// What a packet asks for.
 #[derive(Debug, Drop)]
-pub(crate) enum Ask {
+pub enum Ask {
     /// The packet VERSION, as the answer to INIT.
     Version,
     /// A reply that needs no tree, under the request's id.
@@ -87,19 +88,19 @@ fn request_ask(alloc: Global, id: u32, request: WireRequest) -> Result<Ask, Allo
     ensures fits { IfOk result (λ ask. FitsPacket ask) }
 {
     match request {
-        WireRequest::Mkdir { path, attrs } => match path_of(alloc, path.as_slice())? {
-            Some(path) => Ok(Ask::Call(id, Request::Mkdir(path, attrs))),
-            None => Ok(status(id, StatusCode::Failure)),
-        },
-        WireRequest::Stat { path } => match path_of(alloc, path.as_slice())? {
-            Some(path) => Ok(Ask::Call(id, Request::Stat(path))),
-            None => Ok(status(id, StatusCode::Failure)),
-        },
-        WireRequest::RealPath { path } => match path_of(alloc, path.as_slice())? {
-            Some(path) => Ok(Ask::Local(id, real_path_reply(alloc, &path)?)),
-            None => Ok(status(id, StatusCode::Failure)),
-        },
-        _ => Ok(status(id, StatusCode::OpUnsupported)),
+        WireRequest::RealPath { path } => real_path(alloc, id, path.as_slice()),
+        request => Ok(call_ask(id, call_of(alloc, request)?)),
+    }
+}
+
+/// A request whose path is refused, or whose handle is no number, is answered FAILURE.
+fn call_ask(id: u32, call: Option<Request>) -> Ask
+    ensures ask { result ≡ call_ask id call }
+    ensures fits { FitsPacket result }
+{
+    match call {
+        Some(call) => Ask::Call(id, call),
+        None => status(id, StatusCode::Failure),
     }
 }
 
@@ -110,15 +111,14 @@ fn status(id: u32, code: StatusCode) -> Ask
     Ask::Local(id, Reply::Status(code))
 }
 
-/// The path that a text stands for, if it has no fault.
-fn path_of(alloc: Global, text: &[u8]) -> Result<Option<Path>, AllocError>
-    ensures path { IfOk result (λ found. found ≡ path_at text.now) }
-    ensures short { IfOk result (λ found. IfSome found (λ path. length (text_of path) ≤ 4097)) }
+/// REALPATH: the tree isn't asked.
+fn real_path(alloc: Global, id: u32, text: &[u8]) -> Result<Ask, AllocError>
+    ensures ask { IfOk result (λ ask. ask ≡ real_path_ask id text.now) }
+    ensures fits { IfOk result (λ ask. FitsPacket ask) }
 {
-    match Path::parse(alloc, text) {
-        Ok(path) => Ok(Some(path)),
-        Err(PathFault::OutOfMemory) => Err(AllocError),
-        Err(PathFault::TooLong | PathFault::NameTooLong | PathFault::NulByte) => Ok(None),
+    match path_of(alloc, text)? {
+        Some(path) => Ok(Ask::Local(id, real_path_reply(alloc, &path)?)),
+        None => Ok(status(id, StatusCode::Failure)),
     }
 }
 

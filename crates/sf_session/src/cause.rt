@@ -1,7 +1,7 @@
 //! Why a session ends.
 
 ghost use Rattle.std.specs.Prelude.{◌≡◌};
-ghost use Rattle.sftpd.specs.Causes.{words_of};
+ghost use Rattle.sf_session.specs.Causes.{words_of};
 
 use std::fmt;
 

@@ -2,7 +2,7 @@
 
 ghost use Rattle.std.specs.Prelude.{◌≡◌, ◌≤◌, length, IfOk};
 ghost use Rattle.sf_wire.specs.Replies.{reply_body};
-ghost use Rattle.sftpd.specs.Sessions.{Fronts};
+ghost use Rattle.sf_session.specs.Sessions.{Fronts};
 
 use crate::asking::{Ask, ask_of};
 use crate::cause::Cause;

@@ -1,7 +1,7 @@
 -- What is told of a session that ended.
 use Rattle.std.specs.Prelude.{ℕ, List, codes}
-use Rattle.sftpd.specs.declared.cause.Cause.{Cause}
-use Rattle.sftpd.specs.declared.cause.Cause.TheVariants.{NotInit, OldVersion, SecondInit, ZeroLength, TooLong, NoId, Closed}
+use Rattle.sf_session.specs.declared.cause.Cause.{Cause}
+use Rattle.sf_session.specs.declared.cause.Cause.TheVariants.{NotInit, OldVersion, SecondInit, ZeroLength, TooLong, NoId, Closed}
 
 abbrev pub words_of : Cause → List ℕ
 words_of NotInit = codes "first packet is not INIT"

@@ -1,7 +1,7 @@
 //! Why serving stops early.
 
 ghost use Rattle.std.specs.Prelude.{◌≡◌};
-ghost use Rattle.sftpd.specs.declared.fault.ServeFault.TheVariants.{Line, OutOfMemory};
+ghost use Rattle.sf_session.specs.declared.fault.ServeFault.TheVariants.{Line, OutOfMemory};
 
 use sf_wire::LineFault;
 use std::alloc::AllocError;

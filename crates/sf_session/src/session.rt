@@ -3,13 +3,13 @@
 ghost use Rattle.std.specs.Prelude.{◌≡◌, ◌≢◌, ◌≤◌, ◌++◌, ◌↔◌, [], length, drop, true, Err, Some, None, IsSome, IfSome, IfOk, OnOk, OnErr};
 ghost use Rattle.sf_wire.specs.Replies.{reply_body, version_body};
 ghost use Rattle.sf_wire.specs.Packets.{packet};
-ghost use Rattle.sftpd.specs.Sessions.{Fronts, new_session, NextGives, refusal_of};
+ghost use Rattle.sf_session.specs.Sessions.{Fronts, new_session, NextGives, refusal_of};
 
 use crate::asking::Ask;
 use crate::cause::Cause;
 use crate::front::{Front, front_of};
 use bytes::BytesMut;
-use sf_call::{CoreFault, Request};
+use sf_call::{Answer, CoreFault, Request};
 use sf_wire::{Reply, StatusCode, write_reply, write_version};
 use std::alloc::{AllocError, Global};
 use std::marker::Model;
@@ -53,7 +53,7 @@ pub struct Session {
 
 impl Model for Session {
     ghost use Rattle.std.specs.Prelude.{◌≢◌, ◌≤◌, None};
-    ghost use Rattle.sftpd.specs.Sessions.{SessionView};
+    ghost use Rattle.sf_session.specs.Sessions.{SessionView};
 
     ghost Value = { SessionView };
 
@@ -190,17 +190,17 @@ impl Session {
     }
 
     /// Appends the reply of the request that the session waits for.
-    pub fn answer(&mut self, reply: &Reply) -> Result<(), SessionFault>
+    pub fn answer(&mut self, answer: &Answer) -> Result<(), SessionFault>
         requires waiting { IsSome self.old.waiting }
-        requires fits { length (reply_body 0 reply.now) ≤ 262144 }
-        ensures ok { OnOk result (IfSome self.old.waiting (λ id. self.new ≡ record self.old { output = self.old.output ++ packet (reply_body id reply.now); waiting = None })) }
+        requires fits { length (reply_body 0 answer.now.reply) ≤ 262144 }
+        ensures ok { OnOk result (IfSome self.old.waiting (λ id. self.new ≡ record self.old { output = self.old.output ++ packet (reply_body id answer.now.reply); waiting = None })) }
         ensures err { OnErr result (self.new ≡ self.old) }
         ensures fault { result ≢ Err SessionFault.Ended }
     {
         let Some(id) = self.waiting else {
             return Ok(());
         };
-        if write_reply(id, reply, &mut self.output).is_err() {
+        if write_reply(id, answer.reply(), &mut self.output).is_err() {
             return Err(SessionFault::OutOfMemory);
         }
         self.waiting = None;

@@ -1,0 +1,111 @@
+-- What each body of a session asks for: the cases of the session's rules, in their order.
+use Rattle.std.specs.Prelude.{◌≡◌, ℕ, ◌≤◌, length, List, [], ◌∷◌, Bool, true, false, Option, Some, None, option_map, option_and_then, nat_eq, nat_lt, ◌==◌, if◌then◌else◌}
+use Rattle.std.specs.Int.{w64, from_be_bytes}
+use Rattle.sf_path.specs.declared.fault.PathFault.{PathFault}
+use Rattle.sf_path.specs.Names.{Path, text_of}
+use Rattle.sf_path.specs.Normal.{norm, fault_of}
+use Rattle.sf_wire.specs.declared.reply.Entry.{Entry}
+use Rattle.sf_wire.specs.declared.reply.Reply.{Reply}
+use Rattle.sf_wire.specs.declared.reply.Reply.TheVariants as reply
+use Rattle.sf_wire.specs.declared.reply.StatusCode.TheVariants.{Failure, BadMessage, OpUnsupported}
+use Rattle.sf_wire.specs.declared.request.WireRequest.{WireRequest}
+use Rattle.sf_wire.specs.declared.request.WireRequest.TheVariants as wire
+use Rattle.sf_wire.specs.declared.request.Asked.{Asked}
+use Rattle.sf_wire.specs.declared.request.Asked.TheVariants as asked
+use Rattle.sf_wire.specs.Attributes.{no_attrs}
+use Rattle.sf_wire.specs.Replies.{reply_body}
+use Rattle.sf_wire.specs.Requests.{Asks}
+use Rattle.sf_call.specs.declared.request.Request.{Request}
+use Rattle.sf_call.specs.declared.request.Request.TheVariants as call
+use Rattle.sf_session.specs.declared.asking.Ask.{Ask}
+use Rattle.sf_session.specs.declared.asking.Ask.TheVariants as ask
+use Rattle.sf_session.specs.declared.cause.Cause.TheVariants.{NotInit, OldVersion, SecondInit, NoId}
+
+abbrev pub is_init : List ℕ → Bool
+is_init [] = false
+is_init (kind ∷ fields) = kind == 1
+
+-- the first body must be INIT with a version of 3 or above
+abbrev pub first_ask : Bool → Asked → Ask
+first_ask false a = ask.End NotInit
+first_ask true (asked.Init version) = if nat_lt version 3 then ask.End OldVersion else ask.Version
+first_ask true _ = ask.End NoId
+
+-- file name and longname are the normal text, and no attributes
+abbrev pub real_path_reply : Path → Reply
+real_path_reply path =
+    reply.Names (record { filename = text_of path; longname = text_of path; attrs = no_attrs } ∷ [])
+
+-- the path that a text stands for, if it has no fault
+abbrev pub path_unless : Option PathFault → Path → Option Path
+path_unless None path = Some path
+path_unless (Some fault) path = None
+
+abbrev pub path_at : List ℕ → Option Path
+path_at text = path_unless (fault_of text) (norm text)
+
+-- a handle is the 8 bytes of a number, big-endian
+abbrev pub handle_at : List ℕ → Option ℕ
+handle_at bytes = if nat_eq (length bytes) 8 then Some (from_be_bytes w64 bytes) else None
+
+-- the paths of a rename
+abbrev pub paths_at : List ℕ → List ℕ → Option (Path × Path)
+paths_at old new = option_and_then (λ from. option_map (λ to. (from, to)) (path_at new)) (path_at old)
+
+-- The call that a request asks for, if its paths have no fault and its handle is a number. LSTAT is STAT: there are no
+-- links. REALPATH asks for none.
+abbrev pub call_of : WireRequest → Option Request
+call_of (wire.Open text flags attrs) = option_map (λ path. call.Open path flags attrs) (path_at text)
+call_of (wire.Close handle) = option_map call.Close (handle_at handle)
+call_of (wire.Read handle offset len) = option_map (λ number. call.Read number offset len) (handle_at handle)
+call_of (wire.Write handle offset bytes) = option_map (λ number. call.Write number offset bytes) (handle_at handle)
+call_of (wire.LStat text) = option_map call.Stat (path_at text)
+call_of (wire.FStat handle) = option_map call.FStat (handle_at handle)
+call_of (wire.SetStat text attrs) = option_map (λ path. call.SetStat path attrs) (path_at text)
+call_of (wire.FSetStat handle attrs) = option_map (λ number. call.FSetStat number attrs) (handle_at handle)
+call_of (wire.OpenDir text) = option_map call.OpenDir (path_at text)
+call_of (wire.ReadDir handle) = option_map call.ReadDir (handle_at handle)
+call_of (wire.Remove text) = option_map call.Remove (path_at text)
+call_of (wire.Mkdir text attrs) = option_map (λ path. call.Mkdir path attrs) (path_at text)
+call_of (wire.Rmdir text) = option_map call.Rmdir (path_at text)
+call_of (wire.RealPath text) = None
+call_of (wire.Stat text) = option_map call.Stat (path_at text)
+call_of (wire.Rename old new) = option_map (λ paths. call.Rename paths.0 paths.1) (paths_at old new)
+call_of (wire.PosixRename old new) = option_map (λ paths. call.PosixRename paths.0 paths.1) (paths_at old new)
+
+-- a path that is refused, or a handle that is no number, is answered FAILURE
+abbrev pub call_ask : ℕ → Option Request → Ask
+call_ask id None = ask.Local id (reply.Status Failure)
+call_ask id (Some request) = ask.Call id request
+
+abbrev pub real_path_at : ℕ → Option Path → Ask
+real_path_at id None = ask.Local id (reply.Status Failure)
+real_path_at id (Some path) = ask.Local id (real_path_reply path)
+
+abbrev pub real_path_ask : ℕ → List ℕ → Ask
+real_path_ask id text = real_path_at id (path_at text)
+
+abbrev pub request_ask : ℕ → WireRequest → Ask
+request_ask id (wire.RealPath text) = real_path_ask id text
+request_ask id request = call_ask id (call_of request)
+
+-- a later body must not be INIT
+abbrev pub later_ask : Bool → Asked → Ask
+later_ask true a = ask.End SecondInit
+later_ask false (asked.Init version) = ask.End SecondInit
+later_ask false asked.NoId = ask.End NoId
+later_ask false (asked.Unknown id) = ask.Local id (reply.Status OpUnsupported)
+later_ask false (asked.BadFields id) = ask.Local id (reply.Status BadMessage)
+later_ask false (asked.Request id request) = request_ask id request
+
+abbrev pub ask_by : Bool → Bool → Asked → Ask
+ask_by begun init a = if begun then later_ask init a else first_ask init a
+
+-- What a body asks for; begun says that the session's first packet was answered.
+abbrev pub AsksFor : Bool → List ℕ → Ask → Type 0
+AsksFor begun body a = (packet : Asked) × Asks body packet × (a ≡ ask_by begun (is_init body) packet)
+
+-- a local reply fits into a packet
+abbrev pub FitsPacket : Ask → Type 0
+FitsPacket (ask.Local id given) = length (reply_body id given) ≤ 262144
+FitsPacket _ = Unit {0}

@@ -1,0 +1,125 @@
+//! The calls that requests ask for.
+
+ghost use Rattle.std.specs.Prelude.{◌≡◌, ◌≤◌, length, IfOk, IfSome};
+ghost use Rattle.sf_path.specs.Names.{text_of};
+ghost use Rattle.sf_session.specs.Asking.{path_at, handle_at, paths_at, call_of};
+
+use sf_call::Request;
+use sf_path::{Path, PathFault};
+use sf_wire::WireRequest;
+use std::alloc::{AllocError, Global};
+
+/// The path that a text stands for, if it has no fault.
+pub(crate) fn path_of(alloc: Global, text: &[u8]) -> Result<Option<Path>, AllocError>
+    ensures path { IfOk result (λ found. found ≡ path_at text.now) }
+    ensures short { IfOk result (λ found. IfSome found (λ path. length (text_of path) ≤ 4097)) }
+{
+    match Path::parse(alloc, text) {
+        Ok(path) => Ok(Some(path)),
+        Err(PathFault::OutOfMemory) => Err(AllocError),
+        Err(PathFault::TooLong | PathFault::NameTooLong | PathFault::NulByte) => Ok(None),
+    }
+}
+
+/// The number of a handle, if it has the 8 bytes of one.
+fn handle_of(bytes: &[u8]) -> Option<u64>
+    ensures { result ≡ handle_at bytes.now }
+{
+    let bytes: [u8; 8] = bytes.try_into().ok()?;
+    Some(u64::from_be_bytes(bytes))
+}
+
+/// The call, if the request's paths have no fault and its handle is a number. REALPATH is none.
+pub(crate) fn call_of(alloc: Global, request: WireRequest) -> Result<Option<Request>, AllocError>
+    ensures { IfOk result (λ call. call ≡ call_of request) }
+{
+    match request {
+        WireRequest::RealPath { path: _path } => Ok(None),
+        WireRequest::Stat { path } => {
+            Ok(path_of(alloc, path.as_slice())?.map(|path| Request::Stat(path)))
+        }
+        WireRequest::LStat { path } => {
+            Ok(path_of(alloc, path.as_slice())?.map(|path| Request::Stat(path)))
+        }
+        WireRequest::SetStat { path, attrs } => {
+            Ok(path_of(alloc, path.as_slice())?.map(|path| Request::SetStat(path, attrs)))
+        }
+        WireRequest::Mkdir { path, attrs } => {
+            Ok(path_of(alloc, path.as_slice())?.map(|path| Request::Mkdir(path, attrs)))
+        }
+        WireRequest::Rmdir { path } => {
+            Ok(path_of(alloc, path.as_slice())?.map(|path| Request::Rmdir(path)))
+        }
+        WireRequest::Remove { path } => {
+            Ok(path_of(alloc, path.as_slice())?.map(|path| Request::Remove(path)))
+        }
+        WireRequest::OpenDir { path } => {
+            Ok(path_of(alloc, path.as_slice())?.map(|path| Request::OpenDir(path)))
+        }
+        WireRequest::Open {
+            filename,
+            flags,
+            attrs,
+        } => {
+            Ok(path_of(alloc, filename.as_slice())?.map(|path| Request::Open(path, flags, attrs)))
+        }
+        WireRequest::Close { handle } => {
+            Ok(handle_of(handle.as_slice()).map(|handle| Request::Close(handle)))
+        }
+        WireRequest::FStat { handle } => {
+            Ok(handle_of(handle.as_slice()).map(|handle| Request::FStat(handle)))
+        }
+        WireRequest::FSetStat { handle, attrs } => {
+            Ok(handle_of(handle.as_slice()).map(|handle| Request::FSetStat(handle, attrs)))
+        }
+        WireRequest::ReadDir { handle } => {
+            Ok(handle_of(handle.as_slice()).map(|handle| Request::ReadDir(handle)))
+        }
+        WireRequest::Read {
+            handle,
+            offset,
+            len,
+        } => {
+            Ok(handle_of(handle.as_slice()).map(|handle| Request::Read {
+                handle,
+                offset,
+                len,
+            }))
+        }
+        WireRequest::Write {
+            handle,
+            offset,
+            data,
+        } => {
+            Ok(handle_of(handle.as_slice()).map(|handle| Request::Write {
+                handle,
+                offset,
+                data,
+            }))
+        }
+        WireRequest::Rename { old, new } => {
+            Ok(paths_of(alloc, old.as_slice(), new.as_slice())?.map(|(old, new)| Request::Rename(
+                old, new,
+            )))
+        }
+        WireRequest::PosixRename { old, new } => {
+            Ok(paths_of(alloc, old.as_slice(), new.as_slice())?.map(|(
+                old,
+                new,
+            )| Request::PosixRename(old, new)))
+        }
+    }
+}
+
+/// The paths of a rename.
+fn paths_of(alloc: Global, old: &[u8], new: &[u8]) -> Result<Option<(Path, Path)>, AllocError>
+    ensures { IfOk result (λ found. found ≡ paths_at old.now new.now) }
+{
+    let Some(old) = path_of(alloc, old)? else {
+        return Ok(None);
+    };
+    match path_of(alloc, new)? {
+        Some(new) => Ok(Some((old, new))),
+        None => Ok(None),
+    }
+}
