@@ -8,6 +8,7 @@ use Rattle.sf_call.specs.declared.record.Record.{Record}
 use Rattle.sf_call.specs.declared.record.Record.TheVariants.{Did, Left}
 use Rattle.sf_call.specs.Tree.{Tree, empty_tree}
 use Rattle.sf_call.specs.Calls.{apply, leave}
+use Rattle.sf_call.specs.Values.{IsCall}
 
 -- the tree after a call that had this reply: want of memory leaves it as it was
 abbrev pub after_reply : Tree → Tree → Reply → Tree
@@ -41,8 +42,10 @@ IsNoLeaving session (Left s) = s ≢ session
 abbrev pub IsPresent : ℕ → List Record → Type 0
 IsPresent session history = AllByRecursion (IsNoLeaving session) history
 
--- a call may come next: its number is above 0 and new, its session has not left, and its reply is the tree's or want of memory
+-- a call may come next: its parts are values of their types, its number is above 0 and new, its session has not left, and
+-- its reply is the tree's or want of memory
 pub record CallMayFollow (history : List Record) (number session moment : ℕ) (request : Request) (given : Reply) : Type 0 where
+  pub is_call : IsCall number session moment request
   pub above_zero : 0 < number
   pub new_number : IsNewNumber number history
   pub present : IsPresent session history

@@ -8,6 +8,7 @@ pub mod Changes
 pub mod Allowed
 pub mod Calls
 pub mod ReplyKinds
+pub mod Values
 pub mod Histories
 pub mod Answers
 pub mod Examples

@@ -1,6 +1,9 @@
 //! What a call asks of the tree.
 
 ghost use Rattle.std.specs.Prelude.{◌≡◌, IfOk};
+ghost use Rattle.sf_wire.specs.Attributes.{AttrsFit};
+ghost use Rattle.sf_wire.specs.Streams.{AreBytes};
+ghost use Rattle.sf_call.specs.Values.{IsRequest, IsCall};
 
 use sf_path::Path;
 use sf_wire::{Attrs, ByteString, OpenFlags};
@@ -37,6 +40,56 @@ pub enum Request {
 }
 
 impl Request {
+    /// A call's parts are values of their types, as a history asks: a proof takes this from a call, which does nothing.
+    pub fn is_call(&self, number: u64, session: u64, moment: u32)
+        ensures { IsCall number session moment self.now }
+    {
+        self.is_request();
+    }
+
+    fn is_request(&self)
+        ensures { IsRequest self.now }
+    {
+        match self {
+            Request::Stat(path)
+            | Request::Rmdir(path)
+            | Request::Remove(path)
+            | Request::OpenDir(path) => path.are_names(),
+            Request::SetStat(path, attrs)
+            | Request::Mkdir(path, attrs)
+            | Request::Open(path, _, attrs) => {
+                path.are_names();
+                fits(*attrs);
+            }
+            Request::Close(handle) | Request::FStat(handle) | Request::ReadDir(handle) => {
+                let _handle = *handle;
+            }
+            Request::FSetStat(handle, attrs) => {
+                let _handle = *handle;
+                fits(*attrs);
+            }
+            Request::Read {
+                handle,
+                offset,
+                len,
+            } => {
+                let (_handle, _offset, _len) = (*handle, *offset, *len);
+            }
+            Request::Write {
+                handle,
+                offset,
+                data,
+            } => {
+                let (_handle, _offset) = (*handle, *offset);
+                are_bytes(data.as_slice());
+            }
+            Request::Rename(old, new) | Request::PosixRename(old, new) => {
+                old.are_names();
+                new.are_names();
+            }
+        }
+    }
+
     /// Takes memory for the names of paths and for the bytes of a WRITE.
     pub fn try_copy(&self, alloc: Global) -> Result<Request, AllocError>
         ensures { IfOk result (λ copy. copy ≡ self.now) }
@@ -82,3 +135,13 @@ impl Request {
         })
     }
 }
+
+// The numbers of the attributes are within their widths.
+fn fits(attrs: Attrs)
+    ensures { AttrsFit attrs }
+{}
+
+// The items of a slice of bytes are bytes.
+fn are_bytes(bytes: &[u8])
+    ensures { AreBytes bytes.now }
+{}

@@ -65,6 +65,13 @@ impl Path {
         Ok(Path { names })
     }
 
+    /// The names of a path are names: a proof takes this from a call, which does nothing.
+    pub fn are_names(&self)
+        ensures { IsPath self.now }
+    {
+        let _ = &self.names;
+    }
+
     /// How many names the path has.
     pub fn len(&self) -> usize
         ensures { result ≡ length self.now }
