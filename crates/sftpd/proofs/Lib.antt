@@ -1,3 +1,4 @@
+pub mod Founding
 pub mod Turns
 pub mod Faults
 pub mod Writing

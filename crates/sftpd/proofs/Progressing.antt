@@ -10,28 +10,16 @@ use Rattle.sf_wire.specs.declared.reply.Reply.{Reply}
 use Rattle.sf_wire.specs.declared.reply.Reply.TheVariants as reply
 use Rattle.sf_wire.specs.Packets.{packet, IsBody}
 use Rattle.sf_call.specs.declared.request.Request.{Request}
-use Rattle.sf_call.specs.declared.request.Request.TheVariants.{Mkdir, Stat}
 use Rattle.sf_call.specs.declared.record.Record.{Record}
 use Rattle.sf_call.specs.declared.record.Record.TheVariants.{Did, Left}
 use Rattle.sf_call.specs.Tree.{Tree}
 use Rattle.sf_call.specs.Calls.{apply}
-use Rattle.sf_call.specs.ReplyKinds.{IsStatus, IsStatusOrAttrs, IsReplyTo}
 use Rattle.sf_call.specs.Histories.{after, after_reply, replay, IsLegal, MayFollow, IsNewNumber, IsPresent}
 use Rattle.sf_session.specs.Asking.{AsksFor}
 use Rattle.sf_session.specs.Sessions.{SessionView}
 use Rattle.sftpd.specs.Transcripts.{Answered, Version, Locally, ByCall, Refused, asked_by, packet_for, transcript, moment_of, moments_of, with_record, history_of, has_begun, AreAnswers, MayAnswer, last_number}
-use Rattle.sftpd.specs.Serving.{ServiceView, Edges, edges, HasEffect, Answers, IsNumbered, Progress, Serves}
-
--- what the tree's definitions promise
-pub record Laws : Type 0 where
-  pub replayed : (history : List Record) (r : Record) → replay (history ++ r ∷ []) ≡ after (replay history) r
-  pub legal : (history : List Record) (r : Record) → IsLegal history → MayFollow history r → IsLegal (history ++ r ∷ [])
-  pub kind : (tree : Tree) (session number moment : ℕ) (request : Request) → IsReplyTo request (apply tree session number moment request).reply
-
--- one more at the end
-all_push : {A : Type 0} (P : A → Type 0) (xs : List A) (x : A) → AllByRecursion P xs → P x → AllByRecursion P (xs ++ x ∷ [])
-all_push P [] x h p = (p, tt)
-all_push P (y ∷ xs) x h p = (h.0, all_push P xs x h.1 p)
+use Rattle.sftpd.specs.Serving.{ServiceView, Edges, edges, HasEffect, Answers, IsNumbered, Progress, Serves, IsGrown}
+use Rattle.sftpd.proofs.Founding.{Laws, all_push, recorded}
 
 flat_push : {A : Type 0} (f : A → List ℕ) (xs : List A) (x : A) → flat_map f xs ++ f x ≡ flat_map f (xs ++ x ∷ [])
 flat_push f xs x = flat_map_more f [] xs x
@@ -66,104 +54,37 @@ answers_push begun history (c ∷ bodies) (b ∷ answers) body a h asks may =
 told_by : (tree tree' : Tree) (calls calls' : ℕ) (told told' : Option (List ℕ)) (a : Answered) → HasEffect tree calls told a tree' calls' told' → Appends told told' (moment_of a)
 told_by tree tree' calls calls' told told' Version h = subst (λ t. Appends told t []) (sym h.2) (Appends-nil told)
 told_by tree tree' calls calls' told told' (Locally id given) h = subst (λ t. Appends told t []) (sym h.2) (Appends-nil told)
-told_by tree tree' calls calls' told told' (ByCall id moment request given) h = h.2
+told_by tree tree' calls calls' told told' (ByCall id moment request given) h = h.tells
 told_by tree tree' calls calls' told told' (Refused id request) h = subst (λ t. Appends told t []) (sym h.1.2) (Appends-nil told)
 
--- numbered up to n, a record is not of a later call, and no session has left
-numbers_new : (n : ℕ) (history : List Record) → AllByRecursion (IsNumbered n) history → IsNewNumber (n + 1) history
-numbers_new n [] h = tt
-numbers_new n (Did number session moment request given ∷ history) h = ((λ e. omega (arith, h.0)), numbers_new n history h.1)
-numbers_new n (Left session ∷ history) h = absurd h.0
-
-numbers_stay : (n : ℕ) (history : List Record) → AllByRecursion (IsNumbered n) history → IsPresent 1 history
-numbers_stay n [] h = tt
-numbers_stay n (Did number session moment request given ∷ history) h = (tt, numbers_stay n history h.1)
-numbers_stay n (Left session ∷ history) h = absurd h.0
-
-numbers_more : (n : ℕ) (history : List Record) → AllByRecursion (IsNumbered n) history → AllByRecursion (IsNumbered (n + 1)) history
-numbers_more n [] h = tt
-numbers_more n (Did number session moment request given ∷ history) h = (omega (arith, h.0), numbers_more n history h.1)
-numbers_more n (Left session ∷ history) h = absurd h.0
-
--- a reply that is no want of memory leaves the next tree
-next_by_status : (tree next : Tree) (given : Reply) → IsStatus given → after_reply tree next given ≡ next
-next_by_status tree next (reply.Status code) h = refl
-next_by_status tree next reply.NoMemory h = absurd h
-next_by_status tree next (reply.Handle handle) h = absurd h
-next_by_status tree next (reply.Data bytes) h = absurd h
-next_by_status tree next (reply.Names es) h = absurd h
-next_by_status tree next (reply.Attrs a) h = absurd h
-
-next_by_attrs : (tree next : Tree) (given : Reply) → IsStatusOrAttrs given → after_reply tree next given ≡ next
-next_by_attrs tree next (reply.Status code) h = refl
-next_by_attrs tree next reply.NoMemory h = absurd h
-next_by_attrs tree next (reply.Handle handle) h = absurd h
-next_by_attrs tree next (reply.Data bytes) h = absurd h
-next_by_attrs tree next (reply.Names es) h = absurd h
-next_by_attrs tree next (reply.Attrs a) h = refl
-
-after_call : Laws → (tree : Tree) (number moment : ℕ) (request : Request) → after tree (Did number 1 moment request (apply tree 1 number moment request).reply) ≡ (apply tree 1 number moment request).tree
-after_call laws tree number moment (Mkdir path attrs) = next_by_status tree _ _ (laws.kind tree 1 number moment (Mkdir path attrs))
-after_call laws tree number moment (Stat path) = next_by_attrs tree _ _ (laws.kind tree 1 number moment (Stat path))
-
--- the tree, the number of calls and the history belong together
-record Grown (history : List Record) (tree : Tree) (calls : ℕ) : Type 0 where
-  pub legal : IsLegal history
-  pub replayed : tree ≡ replay history
-  pub counted : calls ≡ length history
-  pub numbered : AllByRecursion (IsNumbered (length history)) history
-
--- a call's record comes next
-recorded : Laws → (history : List Record) (tree tree' : Tree) (calls moment : ℕ) (request : Request) (given : Reply) → Grown history tree calls
-    → ((given ≡ (apply tree 1 (calls + 1) moment request).reply) × (tree' ≡ (apply tree 1 (calls + 1) moment request).tree)) ⊎ ((given ≡ reply.NoMemory) × (tree' ≡ tree))
-    → Grown (history ++ Did (length history + 1) 1 moment request given ∷ []) tree' (calls + 1)
-recorded laws history tree tree' calls moment request given grown does =
-    let n = length history in
-    let r = Did (n + 1) 1 moment request given in
-    let counted : length (history ++ r ∷ []) ≡ n + 1 = omega (arith, length-append history (r ∷ [])) in
-    let does' : ((given ≡ (apply (replay history) 1 (n + 1) moment request).reply) × (tree' ≡ (apply (replay history) 1 (n + 1) moment request).tree)) ⊎ ((given ≡ reply.NoMemory) × (tree' ≡ replay history)) =
-    subst (λ (t : Tree). ((given ≡ (apply t 1 (n + 1) moment request).reply) × (tree' ≡ (apply t 1 (n + 1) moment request).tree)) ⊎ ((given ≡ reply.NoMemory) × (tree' ≡ t))) grown.replayed
-    (subst (λ (k : ℕ). ((given ≡ (apply tree 1 (k + 1) moment request).reply) × (tree' ≡ (apply tree 1 (k + 1) moment request).tree)) ⊎ ((given ≡ reply.NoMemory) × (tree' ≡ tree))) grown.counted does) in
-    record {
-      legal = laws.legal history r grown.legal (record {
-        above_zero = omega arith;
-        new_number = numbers_new n history grown.numbered;
-        present = numbers_stay n history grown.numbered;
-        answered = elim does' [ inl e ↦ inl e.0 | inr e ↦ inr e.0 ];
-      });
-      replayed = elim does' [
-        | inl e ↦ e.1 ∙ sym (after_call laws (replay history) (n + 1) moment request) ∙ ap (λ (g : Reply). after (replay history) (Did (n + 1) 1 moment request g)) (sym e.0) ∙ sym (laws.replayed history r)
-        | inr e ↦ e.1 ∙ ap (λ (g : Reply). after (replay history) (Did (n + 1) 1 moment request g)) (sym e.0) ∙ sym (laws.replayed history r)
-      ];
-      counted = omega (arith, counted, grown.counted);
-      numbered = subst (λ (k : ℕ). AllByRecursion (IsNumbered k) (history ++ r ∷ [])) (sym counted)
-          (all_push (IsNumbered (n + 1)) history r (numbers_more n history grown.numbered) (omega arith));
-    }
-
-unchanged : (history : List Record) (tree tree' : Tree) (calls calls' : ℕ) → Grown history tree calls → tree' ≡ tree → calls' ≡ calls → Grown history tree' calls'
+unchanged : (history : List Record) (tree tree' : Tree) (calls calls' : ℕ) → IsGrown history tree calls → tree' ≡ tree → calls' ≡ calls → IsGrown history tree' calls'
 unchanged history tree tree' calls calls' grown t n = record { legal = grown.legal; replayed = t ∙ grown.replayed; counted = n ∙ grown.counted; numbered = grown.numbered }
 
-grows : Laws → (history : List Record) (tree tree' : Tree) (calls calls' : ℕ) (told told' : Option (List ℕ)) (a : Answered) → Grown history tree calls
-    → HasEffect tree calls told a tree' calls' told' → MayAnswer history a × Grown (with_record history a) tree' calls'
+-- the record's number is one more than the records before it
+grown_more : (history : List Record) (tree' : Tree) (calls calls' moment : ℕ) (request : Request) (given : Reply) {tree : Tree} → IsGrown history tree calls → calls' ≡ calls + 1
+    → IsGrown (history ++ Did (calls + 1) 1 moment request given ∷ []) tree' (calls + 1)
+    → IsGrown (history ++ Did (length history + 1) 1 moment request given ∷ []) tree' calls'
+grown_more history tree' calls calls' moment request given grown number h =
+    rw number (subst (λ (n : ℕ). IsGrown (history ++ Did (n + 1) 1 moment request given ∷ []) tree' (calls + 1)) grown.counted h)
+
+grows : Laws → (history : List Record) (tree tree' : Tree) (calls calls' : ℕ) (told told' : Option (List ℕ)) (a : Answered) → IsGrown history tree calls
+    → HasEffect tree calls told a tree' calls' told' → MayAnswer history a × IsGrown (with_record history a) tree' calls'
 grows laws history tree tree' calls calls' told told' Version grown h = (tt, unchanged history tree tree' calls calls' grown h.0 h.1)
 grows laws history tree tree' calls calls' told told' (Locally id given) grown h = (tt, unchanged history tree tree' calls calls' grown h.0 h.1)
 grows laws history tree tree' calls calls' told told' (ByCall id moment request given) grown h = (
-  subst (λ n. n < last_number) grown.counted h.0,
-  subst (λ n. Grown (history ++ Did (length history + 1) 1 moment request given ∷ []) tree' n) (sym h.1) (recorded laws history tree tree' calls moment request given grown h.3),
+  subst (λ n. n < last_number) grown.counted h.room,
+  grown_more history tree' calls calls' moment request given grown h.number (recorded laws history tree tree' calls moment request given grown h.is_call h.does),
 )
 grows laws history tree tree' calls calls' told told' (Refused id request) grown h =
     (sym grown.counted ∙ h.0, unchanged history tree tree' calls calls' grown h.1.0 h.1.1)
-
-grown_by : {start now : Edges} {rest output : List ℕ} {begun : Bool} {calls : ℕ} {tree : Tree} → (p : Progress start now rest output begun calls tree) → Grown (history_of p.answers) tree calls
-grown_by p = record { legal = p.legal; replayed = p.replayed; counted = p.counted; numbered = p.numbered }
 
 -- one packet more is answered
 pub serves_answered : Laws → (start : Edges) (i o t t' : Option (List ℕ)) (v w : ServiceView) → Serves start (edges i o t) v → Answers v t w t' → Serves start (edges i o t') w
 serves_answered laws start i o t t' v w s h =
     let p = s.progress in
     let more = fold-append with_record [] p.answers (h.answer ∷ []) in
-    let grown = grows laws (history_of p.answers) v.tree w.tree v.calls w.calls t t' h.answer (grown_by p) h.effect in
-    let g = subst (λ (history : List Record). Grown history w.tree w.calls) (sym more) grown.1 in
+    let grown = grows laws (history_of p.answers) v.tree w.tree v.calls w.calls t t' h.answer p.grown h.effect in
+    let g = subst (λ (history : List Record). IsGrown history w.tree w.calls) (sym more) grown.1 in
     record {
       open_session = (ap (λ (x : SessionView). x.waiting) h.session, ap (λ (x : SessionView). x.ended) h.session);
       progress = rw h.session (record {
@@ -179,10 +100,7 @@ serves_answered laws start i o t t' v w s h =
         asked = answers_push false [] p.bodies p.answers h.body h.answer p.asked (subst (λ g. AsksFor g h.body (asked_by h.answer)) (sym (begun_is p.answers ∙ p.has_begun)) h.asks) grown.0;
         has_begun = begun_push p.answers h.answer;
         packets = sym (append_assoc p.sent v.session.output (packet_for h.answer)) ∙ ap (λ (bytes : List ℕ). bytes ++ packet_for h.answer) p.packets ∙ flat_push packet_for p.answers h.answer;
-        legal = g.legal;
-        replayed = g.replayed;
-        counted = g.counted;
-        numbered = g.numbered;
+        grown = g;
       });
     }
 
@@ -201,10 +119,7 @@ line_moved start i i' o o' t rest rest' output output' begun calls tree sent p r
   asked = p.asked;
   has_begun = p.has_begun;
   packets = packets;
-  legal = p.legal;
-  replayed = p.replayed;
-  counted = p.counted;
-  numbered = p.numbered;
+  grown = p.grown;
 }
 
 -- what waited was sent

@@ -19,11 +19,14 @@ use Rattle.sf_wire.specs.declared.request.Asked.TheVariants as asked
 use Rattle.sf_path.specs.Names.{Path}
 use Rattle.sf_call.specs.Tree.{Tree, empty_tree}
 use Rattle.sf_call.specs.Histories.{IsLegal, IsLegalAfter, replay}
-use Rattle.sf_session.specs.Asking.{is_init, path_at, with_path, ask_by}
+use Rattle.sf_session.specs.Asking.{is_init, path_at, call_of, call_ask, real_path_at, request_ask, ask_by}
+use Rattle.sf_call.specs.declared.request.Request.{Request}
+use Rattle.sf_wire.specs.declared.request.WireRequest.{WireRequest}
 use Rattle.sftpd.specs.declared.service.Turn.TheVariants as turn
 use Rattle.sf_session.specs.Sessions.{SessionView, EndsBy}
 use Rattle.sftpd.specs.Transcripts.{moments_of, AreAnswers, IsServed, IsEnd}
 use Rattle.sftpd.specs.Serving.{ServiceView, new_service, Edges, edges, Answers, TurnGives, Progress, Serves, HasEnded, ServesLine, IsDrained, IsRounded, ReadsAtLeast}
+use Rattle.sftpd.proofs.Founding.{founded_on_nothing}
 use Rattle.sftpd.proofs.Progressing.{sends_all, reads_piece}
 
 abbrev pub sent_all : ServiceView → ServiceView
@@ -51,9 +54,32 @@ stays_open v w x t t' h e =
     (ap (λ (z : ServiceView). z.session.ended) e ∙ ap (λ (z : SessionView). z.ended) h.session, ap (λ (z : ServiceView). z.session.waiting) e ∙ ap (λ (z : SessionView). z.waiting) h.session)
 
 -- no packet and no length closes a session
-request_not_closed : (id : ℕ) (found : Option Path) (asks : Path → Ask) → ((path : Path) → asks path ≡ ask.End Closed → ⊥) → with_path id found asks ≡ ask.End Closed → ⊥
-request_not_closed id None asks h e = cc
-request_not_closed id (Some path) asks h e = h path e
+call_not_closed : (id : ℕ) (call : Option Request) → call_ask id call ≡ ask.End Closed → ⊥
+call_not_closed id None e = cc
+call_not_closed id (Some request) e = cc
+
+real_path_not_closed : (id : ℕ) (found : Option Path) → real_path_at id found ≡ ask.End Closed → ⊥
+real_path_not_closed id None e = cc
+real_path_not_closed id (Some path) e = cc
+
+request_not_closed : (id : ℕ) (request : WireRequest) → request_ask id request ≡ ask.End Closed → ⊥
+request_not_closed id (wire.RealPath text) e = real_path_not_closed id (path_at text) e
+request_not_closed id (wire.Open text flags attrs) e = call_not_closed id (call_of (wire.Open text flags attrs)) e
+request_not_closed id (wire.Close handle) e = call_not_closed id (call_of (wire.Close handle)) e
+request_not_closed id (wire.Read handle offset len) e = call_not_closed id (call_of (wire.Read handle offset len)) e
+request_not_closed id (wire.Write handle offset bytes) e = call_not_closed id (call_of (wire.Write handle offset bytes)) e
+request_not_closed id (wire.LStat text) e = call_not_closed id (call_of (wire.LStat text)) e
+request_not_closed id (wire.FStat handle) e = call_not_closed id (call_of (wire.FStat handle)) e
+request_not_closed id (wire.SetStat text attrs) e = call_not_closed id (call_of (wire.SetStat text attrs)) e
+request_not_closed id (wire.FSetStat handle attrs) e = call_not_closed id (call_of (wire.FSetStat handle attrs)) e
+request_not_closed id (wire.OpenDir text) e = call_not_closed id (call_of (wire.OpenDir text)) e
+request_not_closed id (wire.ReadDir handle) e = call_not_closed id (call_of (wire.ReadDir handle)) e
+request_not_closed id (wire.Remove text) e = call_not_closed id (call_of (wire.Remove text)) e
+request_not_closed id (wire.Mkdir text attrs) e = call_not_closed id (call_of (wire.Mkdir text attrs)) e
+request_not_closed id (wire.Rmdir text) e = call_not_closed id (call_of (wire.Rmdir text)) e
+request_not_closed id (wire.Stat text) e = call_not_closed id (call_of (wire.Stat text)) e
+request_not_closed id (wire.Rename old new) e = call_not_closed id (call_of (wire.Rename old new)) e
+request_not_closed id (wire.PosixRename old new) e = call_not_closed id (call_of (wire.PosixRename old new)) e
 
 version_not_closed : (old : Bool) → (if old then ask.End OldVersion else ask.Version) ≡ ask.End Closed → ⊥
 version_not_closed true e = cc
@@ -65,10 +91,7 @@ ask_not_closed true false (asked.Init version) e = cc
 ask_not_closed true false asked.NoId e = cc
 ask_not_closed true false (asked.Unknown id) e = cc
 ask_not_closed true false (asked.BadFields id) e = cc
-ask_not_closed true false (asked.Request id (wire.Mkdir text attrs)) e = request_not_closed id (path_at text) _ (λ path e'. cc) e
-ask_not_closed true false (asked.Request id (wire.Stat text)) e = request_not_closed id (path_at text) _ (λ path e'. cc) e
-ask_not_closed true false (asked.Request id (wire.RealPath text)) e = request_not_closed id (path_at text) _ (λ path e'. cc) e
-ask_not_closed true false (asked.Request id _) e = cc
+ask_not_closed true false (asked.Request id request) e = request_not_closed id request e
 ask_not_closed false false a e = cc
 ask_not_closed false true (asked.Init version) e = version_not_closed (nat_lt version 3) e
 ask_not_closed false true asked.NoId e = cc
@@ -111,7 +134,7 @@ served_by start now rest input begun calls tree cause p left stream end = record
   asked = p.asked;
   sent = sym (append-nil p.sent) ∙ p.packets;
   told = refl;
-  legal = p.legal;
+  legal = p.grown.legal;
 }
 
 -- the session has ended, and all was sent
@@ -158,14 +181,6 @@ nothing_asked : AreAnswers false [] [] []
 unfolding AreAnswers
 nothing_asked = tt
 
-nothing_done : IsLegal []
-unfolding IsLegal IsLegalAfter
-nothing_done = tt
-
-nothing_replayed : empty_tree ≡ replay []
-unfolding replay
-nothing_replayed = refl
-
 -- a new service has read and sent nothing
 pub starts : (start : Edges) → IsRounded start start new_service None
 starts start = (
@@ -182,10 +197,7 @@ starts start = (
       asked = nothing_asked;
       has_begun = refl;
       packets = refl;
-      legal = nothing_done;
-      replayed = nothing_replayed;
-      counted = refl;
-      numbered = tt;
+      grown = founded_on_nothing;
     };
   },
   inl (lit< tt),

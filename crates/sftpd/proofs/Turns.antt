@@ -18,7 +18,7 @@ use Rattle.sf_session.specs.declared.fault.ServeFault.{ServeFault}
 use Rattle.sf_session.specs.Asking.{AsksFor}
 use Rattle.sf_session.specs.Sessions.{SessionView, Begins, LocalPacket, AnswersLocally, Calls, refusal_of}
 use Rattle.sftpd.specs.Transcripts.{Version, Locally, ByCall, Refused, last_number}
-use Rattle.sftpd.specs.Serving.{ServiceView, MakesCall, Answers, TurnGives}
+use Rattle.sftpd.specs.Serving.{ServiceView, IsMade, MakesCall, Answers, TurnGives}
 
 local_by : (v : ServiceView) (told : Option (List ℕ)) (s : SessionView) (body rest : List ℕ) (a : Ask) (text : List ℕ)
     → Begins v.session.unread body rest → AsksFor v.session.begun body a → LocalPacket a text
@@ -49,13 +49,11 @@ pub refused_call : (v : ServiceView) (told : Option (List ℕ)) (request : Reque
 refused_call v told request s spent sends =
     if_some v.session.waiting _ _ (λ id e. record { answer = Refused id request; asked = refl; session = e; effect = (spent, (refl, refl, refl)) }) sends
 
-pub made_call : (v : ServiceView) (told told' : Option (List ℕ)) (request : Request) (s : SessionView) (moment : ℕ) (given : Reply) (tree : Tree) → v.calls < last_number
-    → Appends told told' (moment ∷ [])
-    → ((given ≡ (apply v.tree 1 (v.calls + 1) moment request).reply) × (tree ≡ (apply v.tree 1 (v.calls + 1) moment request).tree)) ⊎ ((given ≡ reply.NoMemory) × (tree ≡ v.tree))
-    → Sends v.session given s
-    → IfSome v.session.waiting (λ id. MakesCall v told id request (record { session = s; tree = tree; calls = v.calls + 1 }) told')
-made_call v told told' request s moment given tree below tells does sends =
-    if_some v.session.waiting _ _ (λ id e. record { answer = ByCall id moment request given; asked = refl; session = e; effect = (below, refl, tells, does) }) sends
+pub made_call : (v : ServiceView) (told told' : Option (List ℕ)) (request : Request) (s : SessionView) (moment : ℕ) (given : Reply) (tree : Tree) (calls : ℕ)
+    → IsMade v.tree v.calls told moment request given tree calls told' → Sends v.session given s
+    → IfSome v.session.waiting (λ id. MakesCall v told id request (record { session = s; tree = tree; calls = calls }) told')
+made_call v told told' request s moment given tree calls made sends =
+    if_some v.session.waiting _ _ (λ id e. record { answer = ByCall id moment request given; asked = refl; session = e; effect = made }) sends
 
 abbrev pub after_next : ServiceView → SessionView → ServiceView
 after_next v s = record { session = s; tree = v.tree; calls = v.calls }

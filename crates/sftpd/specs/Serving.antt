@@ -1,8 +1,9 @@
 -- How far a session on a line was served.
-use Rattle.std.specs.Prelude.{◌≡◌, ◌<◌, ◌≤◌, ◌+◌, ◌⊎◌, ℕ, List, [], ◌∷◌, ◌++◌, length, Bool, true, false, Option, Some, None, IfSome}
+use Rattle.std.specs.Prelude.{◌≡◌, ◌<◌, ◌≤◌, ◌+◌, ◌⊎◌, ℕ, List, [], ◌∷◌, ◌++◌, length, Bool, true, false, Option, Some, None, Result, Ok, Err, IfSome}
 use Rattle.std.specs.List.{flat_map, AllByRecursion}
 use Rattle.std.specs.Io.KnownBytes.{Appends, Consumes}
 use Rattle.sf_wire.specs.declared.cutting.Cut.TheVariants as cut
+use Rattle.sf_wire.specs.declared.reply.Reply.{Reply}
 use Rattle.sf_wire.specs.declared.reply.Reply.TheVariants as reply
 use Rattle.sf_wire.specs.Packets.{packet, IsBody, IsCut}
 use Rattle.sf_call.specs.declared.record.Record.{Record}
@@ -10,6 +11,10 @@ use Rattle.sf_call.specs.declared.record.Record.TheVariants.{Did, Left}
 use Rattle.sf_call.specs.Tree.{Tree, empty_tree}
 use Rattle.sf_call.specs.Calls.{apply}
 use Rattle.sf_call.specs.Histories.{IsLegal, replay}
+use Rattle.sf_call.specs.Values.{IsCall}
+use Rattle.sf_call.specs.Answers.{Answered as Answer}
+use Rattle.sf_call.specs.declared.fault.CoreFault.{CoreFault}
+use Rattle.sf_call.specs.declared.fault.CoreFault.TheVariants as core
 use Rattle.sf_call.specs.declared.request.Request.{Request}
 use Rattle.sf_session.specs.declared.asking.Ask.TheVariants as ask
 use Rattle.sf_session.specs.declared.cause.Cause.{Cause}
@@ -21,6 +26,11 @@ use Rattle.sftpd.specs.declared.service.Turn.TheVariants as turn
 use Rattle.sf_session.specs.Asking.{AsksFor}
 use Rattle.sf_session.specs.Sessions.{SessionView, new_session, Begins, EndsBy}
 use Rattle.sftpd.specs.Transcripts.{Answered, Version, Locally, ByCall, Refused, asked_by, packet_for, transcript, moments_of, history_of, has_begun, AreAnswers, MayAnswer, last_number, IsServed}
+
+-- a tree, and how many calls were made on it
+pub record NumberedView : Type 0 where
+  pub tree : Tree
+  pub calls : ℕ
 
 -- a session, its tree, and how many calls it made
 pub record ServiceView : Type 0 where
@@ -40,6 +50,42 @@ pub record Edges : Type 0 where
 abbrev pub edges : Option (List ℕ) → Option (List ℕ) → Option (List ℕ) → Edges
 edges incoming outgoing told = record { incoming = incoming; outgoing = outgoing; told = told }
 
+-- the record of a call, numbered up to n
+abbrev pub IsNumbered : ℕ → Record → Type 0
+IsNumbered n (Did number session moment request given) = number ≤ n
+IsNumbered n (Left session) = ⊥
+
+-- The tree is that of this legal history, whose calls are numbered from 1 up to their number. So the labels of the tree and
+-- its handles, which are numbers of calls, are below the next number.
+pub record IsGrown (history : List Record) (tree : Tree) (calls : ℕ) : Type 0 where
+  pub legal : IsLegal history
+  pub replayed : tree ≡ replay history
+  pub counted : calls ≡ length history
+  pub numbered : AllByRecursion (IsNumbered (length history)) history
+
+-- the tree is that of a legal history of so many calls
+abbrev pub IsFounded : Tree → ℕ → Type 0
+IsFounded tree calls = (history : List Record) × IsGrown history tree calls
+
+-- A call was made at a moment that the clock told, under the next number: its reply is the tree's, or want of memory, which
+-- leaves the tree as it was.
+pub record IsMade (tree : Tree) (calls : ℕ) (told : Option (List ℕ)) (moment : ℕ) (request : Request) (given : Reply) (tree' : Tree) (calls' : ℕ)
+    (told' : Option (List ℕ)) : Type 0 where
+  pub room : calls < last_number
+  pub number : calls' ≡ calls + 1
+  pub tells : Appends told told' (moment ∷ [])
+  pub is_call : IsCall (calls + 1) 1 moment request
+  pub does : ((given ≡ (apply tree 1 (calls + 1) moment request).reply) × (tree' ≡ (apply tree 1 (calls + 1) moment request).tree))
+      ⊎ ((given ≡ reply.NoMemory) × (tree' ≡ tree))
+
+-- what became of a call: its reply, or why it could not be made
+abbrev pub Makes : NumberedView → Option (List ℕ) → Request → Result Answer CoreFault → NumberedView → Option (List ℕ) → Type 0
+Makes v told request (Ok answer) w told' = (moment : ℕ) × IsMade v.tree v.calls told moment request answer.reply w.tree w.calls told'
+Makes v told request (Err core.OutOfMemory) w told' = (moment : ℕ) × IsMade v.tree v.calls told moment request reply.NoMemory w.tree w.calls told'
+Makes v told request (Err core.NumbersSpent) w told' = (v.calls ≡ last_number) × (w ≡ v) × (told' ≡ told)
+Makes v told request (Err core.Sessions) w told' = ⊥
+Makes v told request (Err core.Stranger) w told' = ⊥
+
 -- what an answer does to the tree, the number of calls and the clock's moments
 abbrev pub Leaves : Tree → ℕ → Option (List ℕ) → Tree → ℕ → Option (List ℕ) → Type 0
 Leaves tree calls told tree' calls' told' = (tree' ≡ tree) × (calls' ≡ calls) × (told' ≡ told)
@@ -47,10 +93,7 @@ Leaves tree calls told tree' calls' told' = (tree' ≡ tree) × (calls' ≡ call
 abbrev pub HasEffect : Tree → ℕ → Option (List ℕ) → Answered → Tree → ℕ → Option (List ℕ) → Type 0
 HasEffect tree calls told Version tree' calls' told' = Leaves tree calls told tree' calls' told'
 HasEffect tree calls told (Locally id given) tree' calls' told' = Leaves tree calls told tree' calls' told'
-HasEffect tree calls told (ByCall id moment request given) tree' calls' told' =
-    (calls < last_number) × (calls' ≡ calls + 1) × Appends told told' (moment ∷ [])
-    × (((given ≡ (apply tree 1 (calls + 1) moment request).reply) × (tree' ≡ (apply tree 1 (calls + 1) moment request).tree))
-    ⊎ ((given ≡ reply.NoMemory) × (tree' ≡ tree)))
+HasEffect tree calls told (ByCall id moment request given) tree' calls' told' = IsMade tree calls told moment request given tree' calls' told'
 HasEffect tree calls told (Refused id request) tree' calls' told' = (calls ≡ last_number) × Leaves tree calls told tree' calls' told'
 
 -- The call that a session waits for was answered.
@@ -78,11 +121,6 @@ TurnGives v told (turn.Ended cause) w told' = EndsBy v.session.begun v.session.u
     × (w ≡ record { session = record { unread = []; output = v.session.output; begun = v.session.begun; waiting = None; ended = Some cause }; tree = v.tree; calls = v.calls })
     × (told' ≡ told)
 
--- the record of a call, numbered up to n
-abbrev pub IsNumbered : ℕ → Record → Type 0
-IsNumbered n (Did number session moment request given) = number ≤ n
-IsNumbered n (Left session) = ⊥
-
 -- What was read since the start is packets, each answered, and a rest; the answers' packets were written or are output.
 pub record Progress (start now : Edges) (rest output : List ℕ) (begun : Bool) (calls : ℕ) (tree : Tree) : Type 0 where
   pub bodies : List (List ℕ)
@@ -95,10 +133,7 @@ pub record Progress (start now : Edges) (rest output : List ℕ) (begun : Bool) 
   pub asked : AreAnswers false [] bodies answers
   pub has_begun : has_begun answers ≡ begun
   pub packets : sent ++ output ≡ transcript answers
-  pub legal : IsLegal (history_of answers)
-  pub replayed : tree ≡ replay (history_of answers)
-  pub counted : calls ≡ length (history_of answers)
-  pub numbered : AllByRecursion (IsNumbered (length (history_of answers))) (history_of answers)
+  pub grown : IsGrown (history_of answers) tree calls
 
 -- the session goes on
 pub record Serves (start now : Edges) (v : ServiceView) : Type 0 where

@@ -1,16 +1,12 @@
 //! `sftpd`, an SFTP server with its tree in memory.
 #![tactic(auto)]
 
-mod asking;
-pub mod cause;
-pub mod clock;
-pub mod fault;
-mod front;
+mod clock;
 pub mod laws;
+mod numbered;
 mod program;
 mod service;
 pub mod serving;
-pub mod session;
 pub mod stdio;
 
 use std::process::ExitCode;

@@ -3,21 +3,12 @@
 ghost use Rattle.std.specs.Prelude.{◌≡◌, ◌++◌, [], None, IsSome, IfSome, IfOk, IfErr, OnOk, OnErr};
 ghost use Rattle.sftpd.specs.Serving.{new_service, TurnGives, MakesCall};
 
-use crate::cause::Cause;
-use crate::clock::Clock;
-use crate::fault::ServeFault;
-use crate::session::{Next, Session};
+use crate::numbered::NumberedTree;
 use bytes::BytesMut;
-use sf_call::{CoreFault, Request};
-use sf_plain::PlainTree;
+use sf_call::Request;
+use sf_session::{Cause, Clock, Next, ServeFault, Session};
 use std::alloc::{AllocError, Global};
 use std::marker::Model;
-
-/// The last number of a call.
-const LAST_NUMBER: u64 = u64::MAX / 2;
-
-/// The number of the one session.
-const SESSION: u64 = 1;
 
 /// What a turn came to.
 #[derive(Clone, Copy, Debug, PartialEq, Eq)]
@@ -29,23 +20,19 @@ pub(crate) enum Turn {
     Ended(Cause),
 }
 
-/// A session with a tree of its own, whose calls are numbered from 1 on.
+/// A session with a tree of its own.
 #[derive(Drop)]
 pub(crate) struct Service {
     session: Session,
-    tree: PlainTree,
-    calls: u64,
+    tree: NumberedTree,
 }
 
 impl Model for Service {
-    ghost use Rattle.std.specs.Prelude.{◌<◌, ◌^◌};
     ghost use Rattle.sftpd.specs.Serving.{ServiceView};
 
     ghost Value = { ServiceView };
 
-    ghost view = { λ s. record { session = s.session; tree = s.tree; calls = s.calls } };
-
-    ghost invariant = { λ s. s.calls < 2 ^ 63 };
+    ghost view = { λ s. record { session = s.session; tree = s.tree.tree; calls = s.tree.calls } };
 }
 
 impl Service {
@@ -55,8 +42,7 @@ impl Service {
     {
         Ok(Service {
             session: Session::new(alloc),
-            tree: PlainTree::new(alloc)?,
-            calls: 0,
+            tree: NumberedTree::new(alloc)?,
         })
     }
 
@@ -111,20 +97,14 @@ impl Service {
         ensures ok { OnOk result (IfSome self.old.session.waiting (λ id. MakesCall self.old (C.told clock.old) id request.now self.new (C.told clock.new))) }
         ensures fault { IfErr result (λ fault. fault ≡ ServeFault.OutOfMemory) }
     {
-        if self.calls == LAST_NUMBER {
-            self.session.refuse(CoreFault::NumbersSpent);
-            return Ok(Turn::Answered);
-        }
-        self.calls += 1;
-        let moment = clock.now();
-        match self.tree.apply(SESSION, self.calls, moment, request) {
-            Ok(reply) => {
+        match self.tree.make(clock, request) {
+            Ok(answer) => {
                 // The tree has changed: without its reply the session can't go on.
-                if self.session.answer(&reply).is_err() {
+                if self.session.answer(&answer).is_err() {
                     return Err(ServeFault::OutOfMemory);
                 }
             }
-            Err(_) => self.session.refuse(CoreFault::OutOfMemory),
+            Err(fault) => self.session.refuse(fault),
         }
         Ok(Turn::Answered)
     }

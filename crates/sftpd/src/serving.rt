@@ -5,11 +5,9 @@ ghost use Rattle.std.specs.Io.KnownBytes.{Appends, IsAtEnd};
 ghost use Rattle.sf_wire.specs.Lines.{Rose};
 ghost use Rattle.sftpd.specs.Serving.{Edges, edges, IsDrained, IsRounded, IsServeFault, ReadsAtLeast, Serves, ServesLine};
 
-use crate::cause::Cause;
-use crate::clock::Clock;
-use crate::fault::ServeFault;
 use crate::service::{Service, Turn};
-use sf_call::{kinds_of_replies, one_record_more};
+use sf_call::{one_record_more, told_replies};
+use sf_session::{Cause, Clock, ServeFault};
 use sf_wire::{Line, LineFault};
 use std::alloc::{AllocError, Global};
 
@@ -81,7 +79,7 @@ fn drain<L: Line, C: Clock>(
     ensures fault { IfErr result (λ fault. IsServeFault fault (L.failed line.old) (L.failed line.new)) }
 {
     one_record_more();
-    kinds_of_replies();
+    told_replies();
     'packets: loop {
         match service.turn(clock)? {
             Turn::More => return Ok(None),

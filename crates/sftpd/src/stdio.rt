@@ -6,10 +6,8 @@ ghost use Rattle.sf_session.specs.declared.cause.Cause.TheVariants.{Closed};
 ghost use Rattle.sftpd.specs.Serving.{edges, ServesLine};
 ghost use Rattle.sftpd.specs.Statuses.{status_of};
 
-use crate::cause::Cause;
-use crate::clock::Clock;
-use crate::fault::ServeFault;
 use crate::serving::serve_one;
+use sf_session::{Cause, Clock, ServeFault};
 use sf_wire::Line;
 use std::alloc::Global;
 use std::io::{self, Write};

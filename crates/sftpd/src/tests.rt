@@ -2,11 +2,11 @@
 
 ghost use Rattle.std.specs.Prelude.{None};
 
-use crate::cause::Cause;
-use crate::clock::{Clock, moment};
+use crate::clock::moment;
 use crate::program::{Action, read_words};
 use crate::serving::serve_one;
 use crate::stdio::run_stdio;
+use sf_session::{Cause, Clock};
 use sf_wire::{MemoryLine, Pieces};
 use std::alloc::Global;
 use std::process::Abort;

@@ -1,5 +1,6 @@
 use Rattle.std.proofs.Common.{◌∙◌, arith}
-use Rattle.sftpd.proofs.Progressing.{Laws, serves_answered}
+use Rattle.sftpd.proofs.Founding.{Laws}
+use Rattle.sftpd.proofs.Progressing.{serves_answered}
 use Rattle.sftpd.proofs.ServingLemmas.{has_ended, stays_open}
 use Rattle.sftpd.proofs.serving.drain.Goals as goal
 
@@ -8,7 +9,7 @@ packets-preserved g c =
     let laws : Laws = record {
       replayed = c.one_record_more.ensures.replayed;
       legal = c.one_record_more.ensures.legal;
-      kind = c.kinds_of_replies.ensures.kind;
+      told = c.told_replies.ensures;
     } in
     let answered = rw c.in-Answered.is at c.in_ok-turn.ensures.ok in
     let sent = c.in_ok-send_batch-in-Answered.ensures in
