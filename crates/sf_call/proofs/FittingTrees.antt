@@ -106,7 +106,7 @@ rest_names (n ∷ front) (m ∷ path) names =
 
 carried_names : (old new : Path) → IsPath new → (e : Path × ℕ) → IsPath e.0 → IfSome (carried old new e) (λ f. IsPath f.0)
 carried_names old new new_names e names =
-    elim (after_front old e.0) as (λ o. IfSome o IsPath → IfSome (option_map (λ rest. (new ++ rest, e.1)) o) (λ f. IsPath f.0)) [
+    elim (after_front old e.0) as (λ o. IfSome o IsPath → IfSome {T = Path × ℕ} (option_map (λ rest. (new ++ rest, e.1)) o) (λ f. IsPath f.0)) [
       | None ↦ λ _. tt
       | Some rest ↦ λ rest_names. All-append IsName new rest new_names rest_names
     ] (rest_names old e.0 names)
