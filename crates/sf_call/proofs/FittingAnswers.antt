@@ -1,7 +1,7 @@
 -- The answers to requests whose parts are values of their types: short replies, and changes to trees of such values.
-use Rattle.std.proofs.Common.{◌≡◌, ℕ, zero, suc, refl, ◌+◌, ◌-◌, ◌%◌, ◌<◌, ◌≤◌, ◌^◌, min, Bool, true, false, cond, not, nat_eq, nat_lt, nat_le, ◌&&◌, List, [], ◌∷◌, ◌++◌, length, take, drop, replicate, filter_map, Option, Some, None, option_map, option_and_then, unwrap_or, IfSome, arith}
+use Rattle.std.proofs.Common.{◌≡◌, ℕ, zero, suc, refl, ◌+◌, ◌<◌, ◌≤◌, ◌^◌, Bool, true, false, cond, not, nat_eq, nat_lt, nat_le, ◌&&◌, List, [], ◌∷◌, length, take, filter_map, Option, Some, None, option_map, option_and_then, unwrap_or, IfSome, arith}
 use Rattle.std.specs.List.{AllByRecursion}
-use Rattle.std.specs.Option.{is_some, option_map_or}
+use Rattle.std.specs.Option.{is_some}
 use Rattle.std.specs.Ordering.{nat_cmp}
 use Rattle.std.specs.BTreeMap.{is_at}
 use Rattle.std.proofs.lemmas.Bool.{ltb-false}
@@ -29,10 +29,10 @@ use Rattle.sf_call.specs.Tree.{Tree, Handle, Found, label_at, object_of, directo
 use Rattle.sf_call.specs.Tree.Found.{Nowhere, Nothing, DirectoryAt, FileAt}
 use Rattle.sf_call.specs.Handles.{Opened, handle_in, opened_object, opened_by, opened}
 use Rattle.sf_call.specs.Handles.Opened.{NotOpen, OpenDirectory, OpenFile}
-use Rattle.sf_call.specs.Listings.{path_of, is_past, name_past, entry_of, listed_entry, listing, listing_of}
+use Rattle.sf_call.specs.Listings.{path_of, is_past, name_past, entry_of, listed_entry, listing_of}
 use Rattle.sf_call.specs.Changes.{touch, touched}
 use Rattle.sf_call.specs.Values.{IsRequest, IsCall}
-use Rattle.sf_call.specs.Calls.{Answer, answer_to, stat, refuses_size, with_size, with_attrs, sets, set_stat, make_directory, goes, remove_directory, remove_file, has_all_handles, open_directory, open_present, open_file, close, stat_opened, set_opened, read, start_of, write, lists, read_directory, unless_root}
+use Rattle.sf_call.specs.Calls.{Answer, answer_to, stat, refuses_size, with_size, sets, set_stat, make_directory, remove_directory, remove_file, has_all_handles, open_directory, open_present, open_file, close, stat_opened, set_opened, read, start_of, write, lists, read_directory, unless_root}
 use Rattle.sf_call.proofs.FittingTrees.{MetadataFits, ObjectFits, TreeFits, ChangeFits, all_made, found_value, rest_names}
 
 -- how long the line of a file with such attributes and one link is
@@ -138,9 +138,10 @@ module _ (line_short : HasShortLines) where
     listing_short : (last : Option Name) (directory : Option Path) → IsShort (reply.Names (listing_of tree last directory))
     listing_short last None = (omega arith, tt)
     listing_short last (Some directory) =
-        let entries = filter_map (listed_entry tree directory last) tree.names in
-        (simp length-take (omega arith),
-        taken_short EntryIsShort MAX_ENTRIES entries (all_made (λ e. IsPath e.0) EntryIsShort (listed_entry tree directory last) (listed_short directory last) tree.names fits.names))
+        let entries = filter_map (listed_entry tree directory last) tree.names in (
+          simp length-take (omega arith),
+          taken_short EntryIsShort MAX_ENTRIES entries (all_made (λ e. IsPath e.0) EntryIsShort (listed_entry tree directory last) (listed_short directory last) tree.names fits.names),
+        )
 
     -- ---- what a path or a handle leads to
 

@@ -1,20 +1,20 @@
 -- Trees of values that types can hold, and of files below the limit; no change leads away from them.
-use Rattle.std.proofs.Common.{◌≡◌, ℕ, ◌≤◌, Bool, true, false, cond, not, nat_eq, List, [], ◌∷◌, ◌++◌, length, filter, filter_map, Option, Some, None, option_map, option_and_then, IfSome, arith}
+use Rattle.std.proofs.Common.{ℕ, ◌≤◌, Bool, true, false, cond, not, nat_eq, List, [], ◌∷◌, ◌++◌, length, filter, filter_map, Option, Some, None, option_map, IfSome, arith}
 use Rattle.std.specs.List.{AllByRecursion, cons_option}
 use Rattle.std.specs.declared.cmp.Ordering.{Ordering}
 use Rattle.std.specs.declared.cmp.Ordering.TheVariants.{Less, Equal, Greater}
 use Rattle.std.specs.Ordering.{nat_cmp, match_ordering}
 use Rattle.std.specs.Map.{lookup, remove_entry, set_value}
 use Rattle.std.specs.BTreeMap.{insert_entry, is_at}
-use Rattle.std.proofs.lemmas.List.Elements.{All-nil, All-head, All-tail, All-append}
-use Rattle.sf_path.specs.Names.{Name, Path, IsName, IsPath}
+use Rattle.std.proofs.lemmas.List.Elements.{All-nil, All-tail, All-append}
+use Rattle.sf_path.specs.Names.{Path, IsName, IsPath}
 use Rattle.sf_path.specs.Order.{path_cmp, same_name}
 use Rattle.sf_wire.specs.Attributes.{OwnerFits, TimesFit}
 use Rattle.sf_call.specs.declared.limits.TheConstants.{MAX_FILE_SIZE}
 use Rattle.sf_call.specs.declared.metadata.Metadata.{Metadata}
 use Rattle.sf_call.specs.Attributes.{Object}
 use Rattle.sf_call.specs.Attributes.Object.{Directory, File}
-use Rattle.sf_call.specs.Tree.{Tree, Handle, is_used, kept, with_names, with_handles, after_front, empty_tree}
+use Rattle.sf_call.specs.Tree.{Tree, is_used, kept, with_names, with_handles, after_front, empty_tree}
 use Rattle.sf_call.specs.Moves.{is_outside, carried, with_entries, moved}
 use Rattle.sf_call.specs.Changes.{Change, changed, done}
 use Rattle.sf_call.specs.Changes.Change.{SetObject, NewPath, GonePath, Move, OpenHandle, SetHandle, CloseHandle}

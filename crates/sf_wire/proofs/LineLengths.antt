@@ -33,8 +33,13 @@ line_short (Some size) (Some owner) None times links name line s o t l e = cc
 line_short (Some size) (Some owner) (Some permissions) None links name line s o t l e = cc
 line_short (Some size) (Some owner) (Some permissions) (Some times) links name line s o t l e =
     let is : mode_text permissions ++ columns_text links owner size times.mtime ++ name ≡ line = cc in
-    omega (arith, ap length is, length-append (mode_text permissions) (columns_text links owner size times.mtime ++ name),
-    length-append (columns_text links owner size times.mtime) name, columns_short links owner size times.mtime l o s t.mtime)
+    omega (
+      arith,
+      ap length is,
+      length-append (mode_text permissions) (columns_text links owner size times.mtime ++ name),
+      length-append (columns_text links owner size times.mtime) name,
+      columns_short links owner size times.mtime l o s t.mtime,
+    )
 
 pub longname_short : (attrs : Attrs) (links : ℕ) (name line : List ℕ) → AttrsFit attrs → links < 2 ^ 64 → longname_text attrs links name ≡ Some line → length line ≤ 88 + length name
 longname_short attrs links name line fits l e = line_short attrs.size attrs.owner attrs.permissions attrs.times links name line fits.size fits.owner fits.times l e
