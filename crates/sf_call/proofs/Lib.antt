@@ -12,3 +12,6 @@ pub mod Requests
 pub mod Refusals
 pub mod Listed
 pub mod Sound
+pub mod FittingTrees
+pub mod FittingAnswers
+pub mod FittingReplies

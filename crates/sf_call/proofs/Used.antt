@@ -62,7 +62,7 @@ module _ {K X : Type 0} (cmp : K → K → Ordering) (k : K) (v : X) where
         | Greater ↦ λ gone. or_right (test e.1) (list_any (λ e. test e.1) es) (list_any (λ e. test e.1) (insert_entry cmp es k v)) (any_still test es gone) any
       ] none
 
-  all_inserted : (P : K → Type 0) (es : List (K × X)) → P k → AllByRecursion (λ e. P e.0) es → AllByRecursion (λ e. P e.0) (insert_entry cmp es k v)
+  pub all_inserted : (P : K → Type 0) (es : List (K × X)) → P k → AllByRecursion (λ e. P e.0) es → AllByRecursion (λ e. P e.0) (insert_entry cmp es k v)
   all_inserted P [] p all = (p, tt)
   all_inserted P (e ∷ es) p all =
       elim (cmp k e.0) as (λ r. AllByRecursion (λ e. P e.0) (match_ordering r ((k, v) ∷ e ∷ es) ((e.0, v) ∷ es) (e ∷ insert_entry cmp es k v))) [

@@ -1,6 +1,6 @@
 //! Laws of the tree and of histories, which no call needs.
 
-ghost use Rattle.std.specs.Prelude.{◌≡◌, ◌≢◌, ◌<◌, ◌↔◌, ℕ, true, false, List, [], ◌∷◌, ◌++◌, length, take, Some, None, IsSome};
+ghost use Rattle.std.specs.Prelude.{◌≡◌, ◌≢◌, ◌<◌, ◌≤◌, ◌↔◌, ℕ, true, false, List, [], ◌∷◌, ◌++◌, length, take, Some, None, IsSome};
 ghost use Rattle.sf_wire.specs.declared.reply.Reply.{Reply};
 ghost use Rattle.sf_call.specs.declared.request.Request.{Request};
 ghost use Rattle.sf_call.specs.declared.record.Record.{Record};
@@ -11,12 +11,15 @@ ghost use Rattle.sf_call.specs.Moves.{moved};
 ghost use Rattle.sf_call.specs.Calls.{answer_to, apply};
 ghost use Rattle.sf_call.specs.ReplyKinds.{IsReplyTo, HasAllParts};
 ghost use Rattle.sf_wire.specs.Longname.{HasType};
+ghost use Rattle.sf_wire.specs.Replies.{ReplyFits, reply_body};
 ghost use Rattle.sf_wire.specs.declared.reply.Reply.TheVariants.{Status};
 ghost use Rattle.sf_wire.specs.declared.reply.StatusCode.{StatusCode};
 ghost use Rattle.sf_wire.specs.declared.reply.StatusCode.TheVariants.{Success};
 ghost use Rattle.sf_call.specs.Attributes.{Object, attrs_of};
 ghost use Rattle.sf_call.specs.Allowed.{AreAllowed};
 ghost use Rattle.sf_call.specs.Histories.{after, replay, IsNewNumber, IsLegal, MayFollow, IsAmong, IsGiven, record_of};
+
+use sf_wire::{longname_lengths, reply_lengths};
 
 /// Trees are compared by what they map: each tree that a history leads to is in order, and two such trees that map alike are equal.
 pub fn ordered_trees()
@@ -109,3 +112,13 @@ pub fn found_by_number()
         → IsLegal history → IsAmong (Did number session moment request reply) history
         → record_of number history ≡ Some (Did number session moment request reply) }
 {}
+
+/// Each reply of a call that may come after a legal history fits a packet, and its numbers and its strings have a
+/// spelling.
+pub fn replies_fit()
+    ensures packet { (number session id : ℕ) (reply : Reply) → IsGiven number session reply → length (reply_body id reply) ≤ 262144 }
+    ensures spelled { (number session : ℕ) (reply : Reply) → IsGiven number session reply → ReplyFits reply }
+{
+    reply_lengths();
+    longname_lengths();
+}
