@@ -12,3 +12,5 @@ pub mod Requests
 pub mod Refusals
 pub mod Listed
 pub mod Sound
+pub mod Replies
+pub mod Idle

@@ -9,5 +9,6 @@ pub mod Allowed
 pub mod Calls
 pub mod ReplyKinds
 pub mod Histories
+pub mod SameCalls
 pub mod Answers
 pub mod Examples

@@ -3,6 +3,7 @@
 ghost use Rattle.std.specs.Prelude.{◌≡◌, ◌≢◌, ◌<◌, ◌↔◌, ℕ, true, false, List, [], ◌∷◌, ◌++◌, length, take, Some, None, IsSome};
 ghost use Rattle.sf_wire.specs.declared.reply.Reply.{Reply};
 ghost use Rattle.sf_call.specs.declared.request.Request.{Request};
+ghost use Rattle.sf_call.specs.declared.request.Request.TheVariants.{SetStat, FSetStat, Write};
 ghost use Rattle.sf_call.specs.declared.record.Record.{Record};
 ghost use Rattle.sf_call.specs.declared.record.Record.TheVariants.{Did};
 ghost use Rattle.sf_path.specs.Names.{Path};
@@ -14,9 +15,10 @@ ghost use Rattle.sf_wire.specs.Longname.{HasType};
 ghost use Rattle.sf_wire.specs.declared.reply.Reply.TheVariants.{Status};
 ghost use Rattle.sf_wire.specs.declared.reply.StatusCode.{StatusCode};
 ghost use Rattle.sf_wire.specs.declared.reply.StatusCode.TheVariants.{Success};
-ghost use Rattle.sf_call.specs.Attributes.{Object, attrs_of};
+ghost use Rattle.sf_call.specs.Attributes.{Object, attrs_of, no_parts};
 ghost use Rattle.sf_call.specs.Allowed.{AreAllowed};
 ghost use Rattle.sf_call.specs.Histories.{after, replay, IsNewNumber, IsLegal, MayFollow, IsAmong, IsGiven, record_of};
+ghost use Rattle.sf_call.specs.SameCalls.{calls_of, AreServed};
 
 /// Trees are compared by what they map: each tree that a history leads to is in order, and two such trees that map alike are equal.
 pub fn ordered_trees()
@@ -51,6 +53,19 @@ pub fn kinds_of_replies()
 pub fn told_replies()
     ensures { (tree : Tree) (session number moment : ℕ) (request : Request)
         → after tree (Did number session moment request (apply tree session number moment request).reply) ≡ (apply tree session number moment request).tree }
+{}
+
+/// Two legal histories of the same calls, none of which wanted for memory, are one: the replies are equal, call by call.
+pub fn equal_replies()
+    ensures { (history other : List Record) → IsLegal history → IsLegal other → AreServed history → AreServed other
+        → calls_of history ≡ calls_of other → history ≡ other }
+{}
+
+/// SETSTAT and FSETSTAT without a part, and WRITE of no bytes, leave the tree as it was.
+pub fn idle_calls()
+    ensures set_stat { (tree : Tree) (session number moment : ℕ) (path : Path) → (apply tree session number moment (SetStat path no_parts)).tree ≡ tree }
+    ensures f_set_stat { (tree : Tree) (session number moment handle : ℕ) → (apply tree session number moment (FSetStat handle no_parts)).tree ≡ tree }
+    ensures write { (tree : Tree) (session number moment handle offset : ℕ) → (apply tree session number moment (Write handle offset [])).tree ≡ tree }
 {}
 
 /// The attributes that a listing shows of an object have all parts, and its type among the permissions.
