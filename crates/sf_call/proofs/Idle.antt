@@ -6,7 +6,7 @@ use Rattle.std.specs.BTreeMap.{is_at}
 use Rattle.sf_path.specs.Names.{Path}
 use Rattle.sf_call.specs.declared.place.Place.{Place}
 use Rattle.sf_call.specs.declared.place.Place.TheVariants.{NoWay, Absent, At}
-use Rattle.sf_call.specs.Attributes.{Object, no_parts}
+use Rattle.sf_call.specs.Attributes.{Object, no_attrs}
 use Rattle.sf_call.specs.Attributes.Object.{Directory, File}
 use Rattle.sf_call.specs.Tree.{Tree, Handle, object_of, found_object, found_place, place_at, with_objects}
 use Rattle.sf_call.specs.Handles.{Opened, handle_in, opened_object, opened_by, opened}
@@ -28,30 +28,30 @@ module _ (tree : Tree) where
   either true this that p q = p
   either false this that p q = q
 
-  parts_set : (moment label : ℕ) (object : Object) → object_of tree.objects label ≡ Some object → done tree (sets moment label no_parts object).changes ≡ tree
+  parts_set : (moment label : ℕ) (object : Object) → object_of tree.objects label ≡ Some object → done tree (sets moment label no_attrs object).changes ≡ tree
   parts_set moment label (Directory m) there = ap (with_objects tree) (same_value (is_at (nat_cmp label)) tree.objects (Directory m) there)
   parts_set moment label (File m contents) there = ap (with_objects tree) (same_value (is_at (nat_cmp label)) tree.objects (File m contents) there)
 
-  set_object : (moment label : ℕ) (o : Option Object) → object_of tree.objects label ≡ o → done tree (set_stat moment no_parts (found_object label o)).changes ≡ tree
+  set_object : (moment label : ℕ) (o : Option Object) → object_of tree.objects label ≡ o → done tree (set_stat moment no_attrs (found_object label o)).changes ≡ tree
   set_object moment label None there = refl
   set_object moment label (Some (Directory m)) there = parts_set moment label (Directory m) there
   set_object moment label (Some (File m contents)) there = parts_set moment label (File m contents) there
 
-  set_place : (moment : ℕ) (place : Place) → done tree (set_stat moment no_parts (found_place tree.objects place)).changes ≡ tree
+  set_place : (moment : ℕ) (place : Place) → done tree (set_stat moment no_attrs (found_place tree.objects place)).changes ≡ tree
   set_place moment NoWay = refl
   set_place moment Absent = refl
   set_place moment (At label) = set_object moment label (object_of tree.objects label) refl
 
-  pub set_by_path : (moment : ℕ) (path : Path) → done tree (unless_root path (set_stat moment no_parts (found_place tree.objects (place_at tree path)))).changes ≡ tree
+  pub set_by_path : (moment : ℕ) (path : Path) → done tree (unless_root path (set_stat moment no_attrs (found_place tree.objects (place_at tree path)))).changes ≡ tree
   set_by_path moment [] = refl
   set_by_path moment (name ∷ path) = set_place moment (place_at tree (name ∷ path))
 
-  set_opened_object : (moment : ℕ) (h : Handle) (o : Option Object) → object_of tree.objects h.label ≡ o → done tree (set_opened moment no_parts (opened_object h o)).changes ≡ tree
+  set_opened_object : (moment : ℕ) (h : Handle) (o : Option Object) → object_of tree.objects h.label ≡ o → done tree (set_opened moment no_attrs (opened_object h o)).changes ≡ tree
   set_opened_object moment h None there = refl
   set_opened_object moment h (Some (Directory m)) there = either (nat_eq h.label 0) _ _ refl (parts_set moment h.label (Directory m) there)
   set_opened_object moment h (Some (File m contents)) there = parts_set moment h.label (File m contents) there
 
-  pub set_by_handle : (moment : ℕ) (o : Option Handle) → done tree (set_opened moment no_parts (opened_by tree o)).changes ≡ tree
+  pub set_by_handle : (moment : ℕ) (o : Option Handle) → done tree (set_opened moment no_attrs (opened_by tree o)).changes ≡ tree
   set_by_handle moment None = refl
   set_by_handle moment (Some h) = set_opened_object moment h (object_of tree.objects h.label) refl
 

@@ -11,7 +11,7 @@ use Rattle.sf_call.specs.SameCalls.{Call, call_of, calls_of, IsServed, AreServed
 use Rattle.sf_call.specs.SameCalls.Call.{Asked, Leaving}
 
 told : (given answered : Reply) → (given ≡ answered) ⊎ (given ≡ reply.NoMemory) → given ≢ reply.NoMemory → given ≡ answered
-told given answered may served = elim may [ | inl same ↦ same | inr none ↦ absurd (served none) ]
+told given answered may served = elim may [ inl same ↦ same | inr none ↦ absurd (served none) ]
 
 same_record : (before : List Record) (r s : Record) → MayFollow before r → MayFollow before s → IsServed r → IsServed s → call_of r ≡ call_of s → r ≡ s
 same_record before (Did number session moment request given) (Did n x m q other) may also served served_too same =
@@ -36,7 +36,7 @@ same_after before (r ∷ rs) (s ∷ ss) legal also served served_too same =
     let rests : calls_of rs ≡ calls_of ss = cc in
     let here : r ≡ s = same_record before r s legal.0 also.0 served.0 served_too.0 firsts in
     let later : rs ≡ ss = same_after (before ++ r ∷ []) rs ss legal.1
-        (subst (λ (x : Record). IsLegalAfter (before ++ x ∷ []) ss) (sym here) also.1) served.1 served_too.1 rests in
+    (subst (λ (x : Record). IsLegalAfter (before ++ x ∷ []) ss) (sym here) also.1) served.1 served_too.1 rests in
     cc
 
 pub same_history : (history other : List Record) → IsLegal history → IsLegal other → AreServed history → AreServed other → calls_of history ≡ calls_of other → history ≡ other

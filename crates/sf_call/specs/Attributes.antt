@@ -28,8 +28,8 @@ modified_at moment m = record {
 }
 
 -- no part is given
-abbrev pub no_parts : Attrs
-no_parts = record { size = None; owner = None; permissions = None; times = None }
+abbrev pub no_attrs : Attrs
+no_attrs = record { size = None; owner = None; permissions = None; times = None }
 
 -- The parts that are given replace those that were kept (draft, section 5). Of the permissions the lowest twelve bits
 -- count; a size is not kept here.

@@ -15,7 +15,7 @@ ghost use Rattle.sf_wire.specs.Longname.{HasType};
 ghost use Rattle.sf_wire.specs.declared.reply.Reply.TheVariants.{Status};
 ghost use Rattle.sf_wire.specs.declared.reply.StatusCode.{StatusCode};
 ghost use Rattle.sf_wire.specs.declared.reply.StatusCode.TheVariants.{Success};
-ghost use Rattle.sf_call.specs.Attributes.{Object, attrs_of, no_parts};
+ghost use Rattle.sf_call.specs.Attributes.{Object, attrs_of, no_attrs};
 ghost use Rattle.sf_call.specs.Allowed.{AreAllowed};
 ghost use Rattle.sf_call.specs.Histories.{after, replay, IsNewNumber, IsLegal, MayFollow, IsAmong, IsGiven, record_of};
 ghost use Rattle.sf_call.specs.SameCalls.{calls_of, AreServed};
@@ -61,10 +61,10 @@ pub fn equal_replies()
         → calls_of history ≡ calls_of other → history ≡ other }
 {}
 
-/// SETSTAT and FSETSTAT without a part, and WRITE of no bytes, leave the tree as it was.
+/// SETSTAT and FSETSTAT with no part given, and WRITE of no bytes, leave the tree as it was.
 pub fn idle_calls()
-    ensures set_stat { (tree : Tree) (session number moment : ℕ) (path : Path) → (apply tree session number moment (SetStat path no_parts)).tree ≡ tree }
-    ensures f_set_stat { (tree : Tree) (session number moment handle : ℕ) → (apply tree session number moment (FSetStat handle no_parts)).tree ≡ tree }
+    ensures set_stat { (tree : Tree) (session number moment : ℕ) (path : Path) → (apply tree session number moment (SetStat path no_attrs)).tree ≡ tree }
+    ensures set_stat_by_handle { (tree : Tree) (session number moment handle : ℕ) → (apply tree session number moment (FSetStat handle no_attrs)).tree ≡ tree }
     ensures write { (tree : Tree) (session number moment handle offset : ℕ) → (apply tree session number moment (Write handle offset [])).tree ≡ tree }
 {}
 
