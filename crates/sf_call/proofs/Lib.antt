@@ -14,3 +14,4 @@ pub mod Listed
 pub mod Sound
 pub mod Replies
 pub mod Idle
+pub mod LeftAlone

@@ -5,6 +5,7 @@ pub mod Handles
 pub mod Listings
 pub mod Moves
 pub mod Changes
+pub mod LeftAlone
 pub mod Allowed
 pub mod Calls
 pub mod ReplyKinds
