@@ -1,8 +1,10 @@
 -- What is shown of an object has all parts, and its type.
-use Rattle.std.proofs.Common.{◌≡◌, ℕ, IsSome, refl, inl, inr, arith}
-use Rattle.sf_wire.specs.Longname.{HasType}
+use Rattle.std.proofs.Common.{◌≡◌, ℕ, Some, IsSome, refl, inl, inr, arith}
+use Rattle.sf_path.specs.Names.{Name}
+use Rattle.sf_wire.specs.Longname.{HasType, longname_text}
 use Rattle.sf_call.specs.Attributes.{Object, attrs_of}
 use Rattle.sf_call.specs.Attributes.Object.{Directory, File}
+use Rattle.sf_call.specs.Listings.{entry_of}
 use Rattle.sf_call.specs.ReplyKinds.{HasAllParts}
 
 pub all_parts : (object : Object) → HasAllParts (attrs_of object)
@@ -21,3 +23,8 @@ has_owner object = (all_parts object).owner
 
 pub has_times : (object : Object) → IsSome (attrs_of object).times
 has_times object = (all_parts object).times
+
+-- the line of an entry is that of its attributes
+pub has_line : (name : Name) (object : Object) → longname_text (attrs_of object) 1 name ≡ Some (entry_of name object).longname
+has_line name (Directory m) = refl
+has_line name (File m contents) = refl

@@ -1,5 +1,5 @@
 -- What is kept of a directory or a file, and what is sent of it.
-use Rattle.std.specs.Prelude.{ℕ, ◌+◌, ◌%◌, Some, unwrap_or, List, length}
+use Rattle.std.specs.Prelude.{ℕ, ◌+◌, ◌%◌, Some, None, unwrap_or, List, length}
 use Rattle.std.specs.Option.{option_map_or}
 use Rattle.sf_wire.specs.declared.attrs.Attrs.{Attrs}
 use Rattle.sf_call.specs.declared.metadata.FileType.{FileType}
@@ -26,6 +26,10 @@ modified_at moment m = record {
   permissions = m.permissions;
   times = record { atime = m.times.atime; mtime = moment };
 }
+
+-- no part is given
+abbrev pub no_attrs : Attrs
+no_attrs = record { size = None; owner = None; permissions = None; times = None }
 
 -- The parts that are given replace those that were kept (draft, section 5). Of the permissions the lowest twelve bits
 -- count; a size is not kept here.

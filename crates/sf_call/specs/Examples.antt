@@ -12,6 +12,7 @@ use Rattle.sf_call.specs.declared.request.Request.TheVariants.{Stat, SetStat, Mk
 use Rattle.sf_call.specs.declared.record.Record.{Record}
 use Rattle.sf_call.specs.declared.record.Record.TheVariants.{Did, Left}
 use Rattle.sf_call.specs.Attributes.{Metadata, Object}
+pub use Rattle.sf_call.specs.Attributes.{no_attrs}
 use Rattle.sf_call.specs.Attributes.Object.{Directory, File}
 use Rattle.sf_path.specs.Names.{Name}
 use Rattle.sf_call.specs.Tree.{Tree, empty_tree}
@@ -22,9 +23,6 @@ a = codes "a"
 
 abbrev pub b : Name
 b = codes "b"
-
-abbrev pub no_attrs : Attrs
-no_attrs = record { size = None; owner = None; permissions = None; times = None }
 
 abbrev pub all_attrs : ℕ → ℕ → ℕ → ℕ → ℕ → ℕ → Attrs
 all_attrs size uid gid permissions atime mtime = record {

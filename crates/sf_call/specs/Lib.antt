@@ -5,10 +5,12 @@ pub mod Handles
 pub mod Listings
 pub mod Moves
 pub mod Changes
+pub mod LeftAlone
 pub mod Allowed
 pub mod Calls
 pub mod ReplyKinds
 pub mod Values
 pub mod Histories
+pub mod SameCalls
 pub mod Answers
 pub mod Examples

@@ -7,7 +7,8 @@ ghost use Rattle.sf_call.specs.Histories.{IsGiven};
 use sf_wire::Reply;
 use std::marker::Model;
 
-/// The reply to a call of a session: the tree's after some legal history, or want of memory.
+/// The reply to a call of a session. Some legal history leads to it: it is what the tree after that history answers to the
+/// call's request, or want of memory.
 #[derive(Debug, Drop)]
 pub struct Answer {
     number: u64,
@@ -27,6 +28,7 @@ impl Model for Answer {
 }
 
 impl Answer {
+    /// Whoever makes an answer owes the history that leads to it. Takes no memory.
     pub fn new(number: u64, session: u64, reply: Reply) -> Answer
         requires { IsGiven number session reply }
         ensures { result ≡ record { number = number; session = session; reply = reply } }
@@ -45,13 +47,14 @@ impl Answer {
         self.number
     }
 
-    /// The number of its session.
+    /// The number of the session that made the call.
     pub fn session(&self) -> u64
         ensures { result ≡ self.now.session }
     {
         self.session
     }
 
+    /// What the session is told.
     pub fn reply(&self) -> &Reply
         ensures reply { result.now ≡ self.now.reply }
         ensures given { IsGiven self.now.number self.now.session result.now }

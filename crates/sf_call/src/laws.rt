@@ -3,21 +3,26 @@
 ghost use Rattle.std.specs.Prelude.{◌≡◌, ◌≢◌, ◌<◌, ◌≤◌, ◌↔◌, ℕ, true, false, List, [], ◌∷◌, ◌++◌, length, take, Some, None, IsSome};
 ghost use Rattle.sf_wire.specs.declared.reply.Reply.{Reply};
 ghost use Rattle.sf_call.specs.declared.request.Request.{Request};
+ghost use Rattle.sf_call.specs.declared.request.Request.TheVariants.{SetStat, FSetStat, Write};
 ghost use Rattle.sf_call.specs.declared.record.Record.{Record};
 ghost use Rattle.sf_call.specs.declared.record.Record.TheVariants.{Did};
-ghost use Rattle.sf_path.specs.Names.{Path};
-ghost use Rattle.sf_call.specs.Tree.{Tree, IsOrderedTree, MapsAlike, label_at, object_of, is_directory, is_faulty_way, after_front, kept};
+ghost use Rattle.sf_path.specs.Names.{Name, Path};
+ghost use Rattle.sf_call.specs.Tree.{Tree, IsOrderedTree, MapsAlike, label_at, object_of, handle_of, is_used, is_directory, is_faulty_way, after_front, kept};
 ghost use Rattle.sf_call.specs.Moves.{moved};
+ghost use Rattle.sf_call.specs.Changes.{Change, changed};
+ghost use Rattle.sf_call.specs.LeftAlone.{IsOfPath, IsOfLabel, IsOfNumber};
 ghost use Rattle.sf_call.specs.Calls.{answer_to, apply};
 ghost use Rattle.sf_call.specs.ReplyKinds.{IsReplyTo, HasAllParts};
-ghost use Rattle.sf_wire.specs.Longname.{HasType};
+ghost use Rattle.sf_wire.specs.Longname.{HasType, longname_text};
 ghost use Rattle.sf_wire.specs.Replies.{ReplyFits, reply_body};
+ghost use Rattle.sf_call.specs.Listings.{entry_of};
 ghost use Rattle.sf_wire.specs.declared.reply.Reply.TheVariants.{Status};
 ghost use Rattle.sf_wire.specs.declared.reply.StatusCode.{StatusCode};
 ghost use Rattle.sf_wire.specs.declared.reply.StatusCode.TheVariants.{Success};
-ghost use Rattle.sf_call.specs.Attributes.{Object, attrs_of};
+ghost use Rattle.sf_call.specs.Attributes.{Object, attrs_of, no_attrs};
 ghost use Rattle.sf_call.specs.Allowed.{AreAllowed};
 ghost use Rattle.sf_call.specs.Histories.{after, replay, IsNewNumber, IsLegal, MayFollow, IsAmong, IsGiven, record_of};
+ghost use Rattle.sf_call.specs.SameCalls.{calls_of, AreServed};
 
 use sf_wire::{longname_lengths, reply_lengths};
 
@@ -56,10 +61,37 @@ pub fn told_replies()
         → after tree (Did number session moment request (apply tree session number moment request).reply) ≡ (apply tree session number moment request).tree }
 {}
 
-/// The attributes that a listing shows of an object have all parts, and its type among the permissions.
+/// Two legal histories of the same calls, none of which wanted for memory, are one: the replies are equal, call by call.
+pub fn equal_replies()
+    ensures { (history other : List Record) → IsLegal history → IsLegal other → AreServed history → AreServed other
+        → calls_of history ≡ calls_of other → history ≡ other }
+{}
+
+/// SETSTAT and FSETSTAT with no part given, and WRITE of no bytes, leave the tree as it was.
+pub fn idle_calls()
+    ensures set_stat { (tree : Tree) (session number moment : ℕ) (path : Path) → (apply tree session number moment (SetStat path no_attrs)).tree ≡ tree }
+    ensures set_stat_by_handle { (tree : Tree) (session number moment handle : ℕ) → (apply tree session number moment (FSetStat handle no_attrs)).tree ≡ tree }
+    ensures write { (tree : Tree) (session number moment handle offset : ℕ) → (apply tree session number moment (Write handle offset [])).tree ≡ tree }
+{}
+
+/// The attributes that a listing shows of an object have all parts, and its type among the permissions, so that its line
+/// is there.
 pub fn listed_attributes()
     ensures parts { (object : Object) → HasAllParts (attrs_of object) }
     ensures kind { (object : Object) → HasType (attrs_of object).permissions }
+    ensures shown { (name : Name) (object : Object) → (entry_of name object).attrs ≡ attrs_of object }
+    ensures line { (name : Name) (object : Object) → longname_text (attrs_of object) 1 name ≡ Some (entry_of name object).longname }
+{}
+
+/// What each kind of change leaves alone: other paths keep their labels, other numbers their handles, and other labels
+/// their objects, which go only where nothing names or opens them any more.
+pub fn left_alone()
+    ensures paths { (tree : Tree) (change : Change) (path : Path) → ¬ IsOfPath change path → label_at (changed tree change).names path ≡ label_at tree.names path }
+    ensures handles { (tree : Tree) (change : Change) (number : ℕ) → ¬ IsOfNumber change number → handle_of (changed tree change).handles number ≡ handle_of tree.handles number }
+    ensures objects { (tree : Tree) (change : Change) (label : ℕ) → ¬ IsOfLabel change label
+        → IsSome (object_of (changed tree change).objects label) → object_of (changed tree change).objects label ≡ object_of tree.objects label }
+    ensures used { (tree : Tree) (change : Change) (label : ℕ) → ¬ IsOfLabel change label
+        → is_used (changed tree change).names (changed tree change).handles label ≡ true → object_of (changed tree change).objects label ≡ object_of tree.objects label }
 {}
 
 /// What a request that may come next changes: its own objects, paths and handles, as each kind of change asks.
@@ -74,9 +106,11 @@ pub fn refusals_change_nothing()
         → (answer_to tree session number moment request).reply ≡ Status code → code ≢ Success → (apply tree session number moment request).tree ≡ tree }
 {}
 
-/// After a legal history each object is named or open.
+/// After a legal history each object is named or open, so that letting go of others changes nothing.
 pub fn nothing_unused()
-    ensures { (history : List Record) → IsLegal history → kept (replay history) ≡ replay history }
+    ensures named_or_open { (history : List Record) (label : ℕ) → IsLegal history
+        → IsSome (object_of (replay history).objects label) → is_used (replay history).names (replay history).handles label ≡ true }
+    ensures kept { (history : List Record) → IsLegal history → kept (replay history) ≡ replay history }
 {}
 
 /// After a legal history a label is 0, the root's, or the number of a call, and one path at most has it.

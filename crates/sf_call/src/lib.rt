@@ -17,9 +17,10 @@ pub use cases::{file_cases, history_cases, listing_cases, mkdir_cases, stat_case
 pub use fault::CoreFault;
 pub use handle::Handle;
 pub use laws::{
-    allowed_changes, found_by_number, fronts, given_by_history, kinds_of_replies, labels_of_paths,
-    listed_attributes, moved_names, nothing_unused, one_record_more, open_ways, ordered_trees,
-    refusals_change_nothing, replies_fit, told_replies, ways_of_paths,
+    allowed_changes, equal_replies, found_by_number, fronts, given_by_history, idle_calls,
+    kinds_of_replies, labels_of_paths, left_alone, listed_attributes, moved_names, nothing_unused,
+    one_record_more, open_ways, ordered_trees, refusals_change_nothing, replies_fit, told_replies,
+    ways_of_paths,
 };
 pub use limits::{MAX_ENTRIES, MAX_FILE_SIZE, MAX_HANDLES, MAX_READ};
 pub use metadata::{FileType, Metadata};

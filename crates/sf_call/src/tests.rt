@@ -2,8 +2,8 @@
 
 use super::*;
 use sf_path::Path;
-use sf_wire::{Attrs, Owner, Times};
-use std::alloc::AllocError;
+use sf_wire::{Attrs, ByteString, OpenFlags, Owner, Reply, StatusCode, Times};
+use std::alloc::{AllocError, Global};
 use std::test::*;
 
 const NOTHING: Attrs = Attrs {
@@ -58,20 +58,100 @@ fn parts_replace(rt: HostRuntime) {
     assert_eq!(rt; FileType::File.bits(), 0o100000);
 }
 
+/// One request of each kind. No two fields of one request are alike.
+fn one_of_each(alloc: Global) -> Result<Vec<Request>, Fail> {
+    let flags = OpenFlags {
+        read: true,
+        write: false,
+        append: true,
+        create: false,
+        truncate: true,
+        exclusive: false,
+    };
+    Ok(vec![in alloc;
+        Request::Stat(Path::parse(alloc, b"/a/b")?),
+        Request::SetStat(Path::parse(alloc, b"/c")?, ALL),
+        Request::Mkdir(Path::parse(alloc, b"/a/d")?, ALL),
+        Request::Rmdir(Path::parse(alloc, b"/a/d")?),
+        Request::Remove(Path::parse(alloc, b"/")?),
+        Request::OpenDir(Path::parse(alloc, b"/a")?),
+        Request::Open(Path::parse(alloc, b"/a/f")?, flags, NOTHING),
+        Request::Close(1),
+        Request::FStat(2),
+        Request::FSetStat(3, ALL),
+        Request::Read {
+            handle: 4,
+            offset: 5,
+            len: 6,
+        },
+        Request::Write {
+            handle: 7,
+            offset: 8,
+            data: ByteString::from_slice(alloc, b"xyz")?,
+        },
+        Request::ReadDir(9),
+        Request::Rename(Path::parse(alloc, b"/a")?, Path::parse(alloc, b"/b")?),
+        Request::PosixRename(Path::parse(alloc, b"/a")?, Path::parse(alloc, b"/b")?),
+    ]?)
+}
+
 #[test]
-fn copies(rt: HostRuntime) -> Result<(), Fail> {
-    let asked = Request::Mkdir(Path::parse(rt.alloc(), b"/a/b")?, ALL);
-    let Request::Mkdir(path, attrs) = asked.try_copy(rt.alloc())? else {
-        panic!(rt; "another request");
-    };
-    assert_eq!(rt; path.text(rt.alloc())?.as_slice(), b"/a/b".as_slice());
-    assert_eq!(rt; attrs, ALL);
-    let asked = Request::Stat(Path::parse(rt.alloc(), b"/c")?);
-    let Request::Stat(path) = asked.try_copy(rt.alloc())? else {
-        panic!(rt; "another request");
-    };
-    assert_eq!(rt; path.text(rt.alloc())?.as_slice(), b"/c".as_slice());
+fn copies_of_requests(rt: HostRuntime) -> Result<(), Fail> {
+    let requests = one_of_each(rt.alloc())?;
+    let made_apart = one_of_each(rt.alloc())?;
+    assert_eq!(rt; requests.len(), 15);
+    for (request, same) in requests.iter().zip(made_apart.iter()) {
+        assert_eq!(rt; &request.try_copy(rt.alloc())?, same);
+    }
+    for (request, next) in requests.iter().zip(made_apart.iter().skip(1)) {
+        assert_ne!(rt; request, next);
+    }
     Ok(())
+}
+
+#[test]
+fn copies_of_handles(rt: HostRuntime) -> Result<(), Fail> {
+    let listed = Handle {
+        session: 3,
+        label: 7,
+        read: true,
+        write: false,
+        append: true,
+        listed: Path::parse(rt.alloc(), b"/n05")?.into_names().pop(),
+    };
+    let copy = listed.try_copy(rt.alloc())?;
+    assert_eq!(rt; (copy.session, copy.label), (3, 7));
+    assert_eq!(rt; (copy.read, copy.write, copy.append), (true, false, true));
+    let Some(name) = copy.listed else {
+        panic!(rt; "no name");
+    };
+    assert_eq!(rt; name.as_slice(), b"n05".as_slice());
+    let writing = Handle {
+        session: 4,
+        label: 8,
+        read: false,
+        write: true,
+        append: false,
+        listed: None,
+    };
+    let copy = writing.try_copy(rt.alloc())?;
+    assert_eq!(rt; (copy.session, copy.label), (4, 8));
+    assert_eq!(rt; (copy.read, copy.write, copy.append), (false, true, false));
+    assert!(rt; copy.listed.is_none());
+    Ok(())
+}
+
+#[test]
+fn answers(rt: HostRuntime) {
+    history_cases();
+    given_by_history();
+    let absent = Answer::new(8, 1, Reply::Status(StatusCode::NoSuchFile));
+    assert_eq!(rt; absent.number(), 8);
+    assert_eq!(rt; absent.session(), 1);
+    assert!(rt; matches!(absent.reply(), Reply::Status(StatusCode::NoSuchFile)));
+    let unserved = Answer::new(9, 1, Reply::NoMemory);
+    assert_eq!(rt; unserved.number(), 9);
+    assert!(rt; matches!(unserved.reply(), Reply::NoMemory));
 }
 
 #[test]

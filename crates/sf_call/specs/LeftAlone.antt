@@ -1,0 +1,36 @@
+-- What a change is about. It leaves the rest alone.
+use Rattle.std.specs.Prelude.{◌≡◌, ◌⊎◌, ℕ, IsSome}
+use Rattle.sf_path.specs.Names.{Path}
+use Rattle.sf_call.specs.Tree.{after_front}
+use Rattle.sf_call.specs.Changes.{Change}
+use Rattle.sf_call.specs.Changes.Change.{SetObject, NewPath, GonePath, Move, OpenHandle, SetHandle, CloseHandle}
+
+-- the paths at which another label may stand
+abbrev pub IsOfPath : Change → Path → Type 0
+IsOfPath (SetObject label object) path = ⊥
+IsOfPath (NewPath new label object) path = path ≡ new
+IsOfPath (GonePath gone) path = path ≡ gone
+IsOfPath (Move old new) path = IsSome (after_front old path) ⊎ IsSome (after_front new path)
+IsOfPath (OpenHandle number handle) path = ⊥
+IsOfPath (SetHandle number handle) path = ⊥
+IsOfPath (CloseHandle number) path = ⊥
+
+-- the label whose object may be another; an object that nothing names or opens any more is let go of beside
+abbrev pub IsOfLabel : Change → ℕ → Type 0
+IsOfLabel (SetObject set object) label = label ≡ set
+IsOfLabel (NewPath path new object) label = label ≡ new
+IsOfLabel (GonePath path) label = ⊥
+IsOfLabel (Move old new) label = ⊥
+IsOfLabel (OpenHandle number handle) label = ⊥
+IsOfLabel (SetHandle number handle) label = ⊥
+IsOfLabel (CloseHandle number) label = ⊥
+
+-- the number whose handle may be another
+abbrev pub IsOfNumber : Change → ℕ → Type 0
+IsOfNumber (SetObject label object) number = ⊥
+IsOfNumber (NewPath path label object) number = ⊥
+IsOfNumber (GonePath path) number = ⊥
+IsOfNumber (Move old new) number = ⊥
+IsOfNumber (OpenHandle opened handle) number = number ≡ opened
+IsOfNumber (SetHandle set handle) number = number ≡ set
+IsOfNumber (CloseHandle closed) number = number ≡ closed

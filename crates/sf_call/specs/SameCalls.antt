@@ -1,0 +1,27 @@
+-- What was asked in a history, without what was answered.
+use Rattle.std.specs.Prelude.{◌≢◌, ℕ, List, map}
+use Rattle.std.specs.List.{AllByRecursion}
+use Rattle.sf_wire.specs.declared.reply.Reply.TheVariants as reply
+use Rattle.sf_call.specs.declared.request.Request.{Request}
+use Rattle.sf_call.specs.declared.record.Record.{Record}
+use Rattle.sf_call.specs.declared.record.Record.TheVariants.{Did, Left}
+
+-- a call that a session made at a moment, or a session's leaving
+pub data Call : Type 0 where
+  Asked : (number session moment : ℕ) → (request : Request) → Call
+  Leaving : (session : ℕ) → Call
+
+abbrev pub call_of : Record → Call
+call_of (Did number session moment request given) = Asked number session moment request
+call_of (Left session) = Leaving session
+
+abbrev pub calls_of : List Record → List Call
+calls_of history = map call_of history
+
+-- the record is no call that wanted for memory
+abbrev pub IsServed : Record → Type 0
+IsServed (Did number session moment request given) = given ≢ reply.NoMemory
+IsServed (Left session) = Unit {0}
+
+abbrev pub AreServed : List Record → Type 0
+AreServed history = AllByRecursion IsServed history
