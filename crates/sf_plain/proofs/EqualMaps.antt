@@ -24,9 +24,10 @@ module _ {K X : Type 0} (R : K → K → Ordering) where
       ∙ ap (λ (fs : List (K × X)). e ∷ fs) (at_end o es rest k v sorted.1)
 
   -- one entry more is copied
-  pub copied : IsTotalOrder R → (all copy next left rest : List (K × X)) (k : K) (v : X) → IsStrictlySortedBy R (keys_of all) → copy ++ left ≡ all → left ≡ (k, v) ∷ rest
-      → next ≡ insert_entry R copy k v → next ++ rest ≡ all
-  copied o all copy next left rest k v sorted so_far more put =
+  pub copied : IsTotalOrder R → (all copy next left rest : List (K × X)) (j k : K) (v w : X) → IsStrictlySortedBy R (keys_of all) → copy ++ left ≡ all → left ≡ (k, v) ∷ rest
+      → next ≡ insert_entry R copy j w → j ≡ k → w ≡ v → next ++ rest ≡ all
+  copied o all copy next left rest j k v w sorted so_far more put same_key same_value =
       let whole : copy ++ (k, v) ∷ rest ≡ all = ap (λ (l : List (K × X)). copy ++ l) (sym more) ∙ so_far in
       let ordered = subst (λ (es : List (K × X)). IsStrictlySortedBy R (keys_of es)) (sym whole) sorted in
-      ap (λ (es : List (K × X)). es ++ rest) (put ∙ at_end o copy rest k v ordered) ∙ append_assoc copy ((k, v) ∷ []) rest ∙ whole
+      let at_last : next ≡ copy ++ (k, v) ∷ [] = put ∙ ap (λ q. insert_entry R copy q w) same_key ∙ ap (insert_entry R copy k) same_value ∙ at_end o copy rest k v ordered in
+      ap (λ (es : List (K × X)). es ++ rest) at_last ∙ append_assoc copy ((k, v) ∷ []) rest ∙ whole

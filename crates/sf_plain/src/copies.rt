@@ -2,56 +2,50 @@
 
 ghost use Rattle.std.specs.Prelude.{◌≡◌, IfOk};
 
-use crate::node::Node;
 use sf_call::Handle;
 use sf_path::Path;
 use std::alloc::{AllocError, Global};
 use std::collections::BTreeMap;
 
-#[tactic(auto, using(crate::proofs::EqualMaps::copied))]
-pub(crate) fn copy_of_names(
-    alloc: Global,
-    names: &BTreeMap<Path, u64>,
-) -> Result<BTreeMap<Path, u64>, AllocError>
-    ensures { IfOk result (λ copy. copy.entries ≡ names.now.entries) }
-{
-    // Tells that the keys are in order.
-    let _ = names.len();
-    let mut copy = BTreeMap::new(alloc);
-    'entries: for (path, label) in names {
-        copy.insert(path.try_copy(alloc)?, *label)?;
-    }
-    Ok(copy)
+/// A key or a value of a map.
+pub(crate) trait TryCopy: Sized + Drop {
+    /// An equal one, or want of memory.
+    fn try_copy(&self, alloc: Global) -> Result<Self, AllocError>
+        ensures { IfOk result (λ copy. copy ≡ self.now) };
 }
 
-#[tactic(auto, using(crate::proofs::EqualMaps::copied))]
-pub(crate) fn copy_of_objects(
-    alloc: Global,
-    objects: &BTreeMap<u64, Node>,
-) -> Result<BTreeMap<u64, Node>, AllocError>
-    ensures { IfOk result (λ copy. copy.entries ≡ objects.now.entries) }
-{
-    // Tells that the keys are in order.
-    let _ = objects.len();
-    let mut copy = BTreeMap::new(alloc);
-    'entries: for (label, node) in objects {
-        copy.insert(*label, node.try_copy(alloc)?)?;
+impl TryCopy for u64 {
+    fn try_copy(&self, _alloc: Global) -> Result<u64, AllocError> {
+        Ok(*self)
     }
-    Ok(copy)
 }
 
-#[tactic(auto, using(crate::proofs::EqualMaps::copied))]
-pub(crate) fn copy_of_handles(
+impl TryCopy for Path {
+    fn try_copy(&self, alloc: Global) -> Result<Path, AllocError> {
+        self.try_copy(alloc)
+    }
+}
+
+impl TryCopy for Handle {
+    fn try_copy(&self, alloc: Global) -> Result<Handle, AllocError> {
+        self.try_copy(alloc)
+    }
+}
+
+/// An equal map.
+pub(crate) fn copy_of<K: Ord + TryCopy, V: TryCopy>(
     alloc: Global,
-    handles: &BTreeMap<u64, Handle>,
-) -> Result<BTreeMap<u64, Handle>, AllocError>
-    ensures { IfOk result (λ copy. copy.entries ≡ handles.now.entries) }
+    map: &BTreeMap<K, V>,
+) -> Result<BTreeMap<K, V>, AllocError>
+    ensures { IfOk result (λ copy. copy.entries ≡ map.now.entries) }
 {
     // Tells that the keys are in order.
-    let _ = handles.len();
+    let _ = map.len();
     let mut copy = BTreeMap::new(alloc);
-    'entries: for (number, handle) in handles {
-        copy.insert(*number, handle.try_copy(alloc)?)?;
+    'entries: for (key, value) in map {
+        let own_key = key.try_copy(alloc)?;
+        let own_value = value.try_copy(alloc)?;
+        copy.insert(own_key, own_value)?;
     }
     Ok(copy)
 }

@@ -9,6 +9,7 @@ ghost use Rattle.sf_call.specs.Calls.{refuses_size, with_attrs};
 ghost use Rattle.sf_plain.specs.Nodes.{object_of_parts};
 
 use crate::contents::resized;
+use crate::copies::TryCopy;
 use sf_call::{FileType, MAX_FILE_SIZE, Metadata};
 use sf_wire::{Attrs, ByteString};
 use std::alloc::{AllocError, Global};
@@ -93,16 +94,6 @@ impl Node {
         }
     }
 
-    /// An equal node.
-    pub(crate) fn try_copy(&self, alloc: Global) -> Result<Node, AllocError>
-        ensures { IfOk result (λ copy. copy ≡ self.now) }
-    {
-        Ok(match &self.kind {
-            Kind::Directory(metadata) => Node::directory(*metadata),
-            Kind::File(metadata, contents) => Node::file(*metadata, contents.try_copy(alloc)?),
-        })
-    }
-
     /// Whether this size can't be set.
     pub(crate) fn refuses_size(&self, size: Option<u64>) -> bool
         ensures { result ≡ refuses_size self.now size }
@@ -135,5 +126,14 @@ impl Node {
                 ByteString::from_vec(resized(alloc, contents.as_slice(), size as usize)?),
             )),
         }
+    }
+}
+
+impl TryCopy for Node {
+    fn try_copy(&self, alloc: Global) -> Result<Node, AllocError> {
+        Ok(match &self.kind {
+            Kind::Directory(metadata) => Node::directory(*metadata),
+            Kind::File(metadata, contents) => Node::file(*metadata, contents.try_copy(alloc)?),
+        })
     }
 }

@@ -8,7 +8,7 @@ ghost use Rattle.sf_call.specs.Changes.{changed, done, touch};
 ghost use Rattle.sf_call.specs.Changes.Change.{NewPath, SetObject, GonePath};
 ghost use Rattle.sf_call.specs.Calls.{apply, leave};
 
-use crate::copies::{copy_of_handles, copy_of_names, copy_of_objects};
+use crate::copies::copy_of;
 use crate::node::Node;
 use crate::sweep::{close_all, sweep};
 use sf_call::{Handle, Metadata, Place, Request};
@@ -106,6 +106,26 @@ impl PlainTree {
             }
         }
     }
+
+    /// The tree after a session left: its handles are closed, and what nothing else names or opens is let go.
+    pub fn leave(&mut self, session: u64)
+        ensures { self.new ≡ leave self.old session }
+    {
+        close_all(&mut self.handles, session);
+        sweep(&mut self.objects, &self.names, &self.handles);
+    }
+
+    /// An equal tree.
+    pub fn try_copy(&self) -> Result<PlainTree, AllocError>
+        ensures { IfOk result (λ copy. copy ≡ self.now) }
+    {
+        Ok(PlainTree {
+            alloc: self.alloc,
+            names: copy_of(self.alloc, &self.names)?,
+            objects: copy_of(self.alloc, &self.objects)?,
+            handles: copy_of(self.alloc, &self.handles)?,
+        })
+    }
 }
 
 // What a path leads to.
@@ -137,26 +157,6 @@ impl PlainTree {
             }
         }
         Ok(false)
-    }
-
-    /// An equal tree.
-    pub fn try_copy(&self) -> Result<PlainTree, AllocError>
-        ensures { IfOk result (λ copy. copy ≡ self.now) }
-    {
-        Ok(PlainTree {
-            alloc: self.alloc,
-            names: copy_of_names(self.alloc, &self.names)?,
-            objects: copy_of_objects(self.alloc, &self.objects)?,
-            handles: copy_of_handles(self.alloc, &self.handles)?,
-        })
-    }
-
-    /// The tree after a session left: its handles are closed, and what nothing else names or opens is let go.
-    pub fn leave(&mut self, session: u64)
-        ensures { self.new ≡ leave self.old session }
-    {
-        close_all(&mut self.handles, session);
-        sweep(&mut self.objects, &self.names, &self.handles);
     }
 
     /// Whether something stands directly below the path.
