@@ -1,5 +1,43 @@
-use super::packets::asks;
+use super::packets::is_one_packet;
 use super::*;
+
+/// A body that ends early, with a length that fits, asks for nothing before it has an id, and has
+/// bad fields until the `fields` bytes of its type, its id and its fields are there.
+fn asks(
+    rt: &impl Abort,
+    alloc: Global,
+    packet: &[u8],
+    fields: usize,
+    want: &str,
+    bad: &str,
+) -> Result<(), Fail> {
+    is_one_packet(rt, packet);
+    let Some(body) = packet.get(4..) else {
+        panic!(rt; "no body");
+    };
+    for len in 0..=body.len() {
+        let packet = fitted(rt, alloc, &body[..len])?;
+        if len > 0 {
+            assert_eq!(rt; cut(&packet), Cut::Whole(4 + len));
+        }
+        let asked = asked_text(alloc, packet.get(4..).unwrap_or(&[]))?;
+        let want = if len < 5 {
+            "NoId"
+        } else if len < fields {
+            bad
+        } else {
+            want
+        };
+        assert_eq!(rt; asked.as_str(), want);
+    }
+    Ok(())
+}
+
+/// What a body asks, as Rust writes it for debugging.
+fn asked_text(alloc: Global, body: &[u8]) -> Result<String, Fail> {
+    let asked = read_request(alloc, body)?;
+    Ok(format!(in alloc; "{asked:?}")?)
+}
 
 /// A packet of this type and these fields, and a byte more: it asks this under the id 5.
 fn is_asked(
