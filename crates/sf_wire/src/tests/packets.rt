@@ -77,10 +77,14 @@ fn mkdir(rt: HostRuntime) -> Result<(), Fail> {
         },
     );
     asks(&rt, alloc, &sent, 15, &want, &Asked::BadFields(7))?;
+    mkdir_replies(&rt, alloc)
+}
+
+fn mkdir_replies(rt: &impl Abort, alloc: Global) -> Result<(), Fail> {
     let mut out = BytesMut::new(alloc);
     write_reply(7, &Reply::Status(StatusCode::Success), &mut out)?;
     is_written(
-        &rt,
+        rt,
         alloc,
         &out,
         "00000018 65 00000007 00000000 00000007 53756363657373 00000000",
@@ -88,7 +92,7 @@ fn mkdir(rt: HostRuntime) -> Result<(), Fail> {
     out.clear();
     write_reply(7, &Reply::Status(StatusCode::Failure), &mut out)?;
     is_written(
-        &rt,
+        rt,
         alloc,
         &out,
         "00000018 65 00000007 00000004 00000007 4661696c757265 00000000",
@@ -128,15 +132,24 @@ fn realpath_of_empty_path(rt: HostRuntime) -> Result<(), Fail> {
         },
     );
     asks(&rt, alloc, &short, 9, &want, &Asked::BadFields(5))?;
+    longest_asks(&rt, alloc, &want)?;
+    realpath_reply(&rt, alloc)
+}
+
+fn longest_asks(rt: &impl Abort, alloc: Global, want: &Asked) -> Result<(), Fail> {
     let mut long = hex_bytes(alloc, "00040000 10 00000005 00000000")?;
     long.extend_from_slice(&vec![in alloc; 0u8; 262135]?)?;
     assert_eq!(rt; long.len(), 262148);
-    is_one_packet(&rt, &long);
-    assert_eq!(rt; read_request(alloc, &long[4..])?, want);
+    is_one_packet(rt, &long);
+    assert_eq!(rt; read_request(alloc, &long[4..])?, *want);
+    Ok(())
+}
+
+fn realpath_reply(rt: &impl Abort, alloc: Global) -> Result<(), Fail> {
     let mut out = BytesMut::new(alloc);
     write_reply(5, &Reply::Names(root_listing(alloc)?), &mut out)?;
     is_written(
-        &rt,
+        rt,
         alloc,
         &out,
         "00000017 68 00000005 00000001 00000001 2f 00000001 2f 00000000",
@@ -170,6 +183,10 @@ fn pairs_are_ignored(rt: HostRuntime) -> Result<(), Fail> {
     )?;
     let bad = Asked::BadFields(7);
     asks(&rt, alloc, &without, 20, &bad, &bad)?;
+    one_pair_is_ignored(&rt, alloc, &bad)
+}
+
+fn one_pair_is_ignored(rt: &impl Abort, alloc: Global, bad: &Asked) -> Result<(), Fail> {
     let with_one = hex_bytes(
         alloc,
         "0000001b 0e 00000007 00000002 2f61 80000000 00000001 00000000 00000000",
@@ -182,7 +199,7 @@ fn pairs_are_ignored(rt: HostRuntime) -> Result<(), Fail> {
             attrs: NO_ATTRS,
         },
     );
-    asks(&rt, alloc, &with_one, 27, &want, &bad)
+    asks(rt, alloc, &with_one, 27, &want, bad)
 }
 
 /// All parts, a flag of no part, and a pair.
@@ -215,6 +232,21 @@ fn unknown_types(rt: HostRuntime) -> Result<(), Fail> {
         asks(&rt, alloc, &sent, 5, &unknown, &unknown)?;
     }
     Ok(())
+}
+
+/// An extension's name is read first.
+#[test]
+fn unknown_extension(rt: HostRuntime) -> Result<(), Fail> {
+    let alloc = rt.alloc();
+    let sent = hex_bytes(alloc, "0000000b c8 00000009 00000002 2f61")?;
+    asks(
+        &rt,
+        alloc,
+        &sent,
+        11,
+        &Asked::Unknown(9),
+        &Asked::BadFields(9),
+    )
 }
 
 /// The codes and the messages of the draft's table, and those of want of memory.
