@@ -1,49 +1,40 @@
 use super::*;
 
 /// A packet is cut after all of its bytes and no sooner.
-fn is_one_packet(rt: &impl Abort, packet: &[u8]) {
+pub(super) fn is_one_packet(rt: &impl Abort, packet: &[u8]) {
     for len in 0..packet.len() {
         assert_eq!(rt; cut(&packet[..len]), Cut::More);
     }
     assert_eq!(rt; cut(packet), Cut::Whole(packet.len()));
 }
 
-/// A body that ends early, with a length that fits, asks for nothing before it has an id, and has
-/// bad fields until the `fields` bytes of its type, its id and its fields are there.
-pub(super) fn asks(
+/// A body that ends early asks for nothing before it has an id, and has bad fields until the
+/// `fields` bytes of its type, its id and its fields are there.
+fn asks(
     rt: &impl Abort,
     alloc: Global,
     packet: &[u8],
     fields: usize,
-    want: &str,
-    bad: &str,
+    want: &Asked,
+    bad: &Asked,
 ) -> Result<(), Fail> {
     is_one_packet(rt, packet);
     let Some(body) = packet.get(4..) else {
         panic!(rt; "no body");
     };
+    let no_id = Asked::NoId;
     for len in 0..=body.len() {
-        let packet = fitted(rt, alloc, &body[..len])?;
-        if len > 0 {
-            assert_eq!(rt; cut(&packet), Cut::Whole(4 + len));
-        }
-        let asked = asked_text(alloc, packet.get(4..).unwrap_or(&[]))?;
+        let asked = read_request(alloc, &body[..len])?;
         let want = if len < 5 {
-            "NoId"
+            &no_id
         } else if len < fields {
             bad
         } else {
             want
         };
-        assert_eq!(rt; asked.as_str(), want);
+        assert_eq!(rt; &asked, want);
     }
     Ok(())
-}
-
-/// What a body asks, as Rust writes it for debugging.
-fn asked_text(alloc: Global, body: &[u8]) -> Result<String, Fail> {
-    let asked = read_request(alloc, body)?;
-    Ok(format!(in alloc; "{asked:?}")?)
 }
 
 pub(super) fn is_written(
@@ -62,7 +53,7 @@ pub(super) fn is_written(
 fn version_reply(rt: HostRuntime) -> Result<(), Fail> {
     let alloc = rt.alloc();
     let sent = hex_bytes(alloc, "00000005 01 00000003")?;
-    asks(&rt, alloc, &sent, 5, "Init(3)", "NoId")?;
+    asks(&rt, alloc, &sent, 5, &Asked::Init(3), &Asked::NoId)?;
     let mut out = BytesMut::new(alloc);
     write_version(&mut out)?;
     is_written(
@@ -77,13 +68,23 @@ fn version_reply(rt: HostRuntime) -> Result<(), Fail> {
 fn mkdir(rt: HostRuntime) -> Result<(), Fail> {
     let alloc = rt.alloc();
     let sent = hex_bytes(alloc, "0000000f 0e 00000007 00000002 2f61 00000000")?;
-    let want =
-        "Request(7, Mkdir { path: ByteString { bytes: [47, 97] }, attrs: Attrs { size: None, owner: None, permissions: None, times: None } })";
-    asks(&rt, alloc, &sent, 15, want, "BadFields(7)")?;
+    let path = string(alloc, "/a")?;
+    let want = Asked::Request(
+        7,
+        WireRequest::Mkdir {
+            path,
+            attrs: NO_ATTRS,
+        },
+    );
+    asks(&rt, alloc, &sent, 15, &want, &Asked::BadFields(7))?;
+    mkdir_replies(&rt, alloc)
+}
+
+fn mkdir_replies(rt: &impl Abort, alloc: Global) -> Result<(), Fail> {
     let mut out = BytesMut::new(alloc);
     write_reply(7, &Reply::Status(StatusCode::Success), &mut out)?;
     is_written(
-        &rt,
+        rt,
         alloc,
         &out,
         "00000018 65 00000007 00000000 00000007 53756363657373 00000000",
@@ -91,7 +92,7 @@ fn mkdir(rt: HostRuntime) -> Result<(), Fail> {
     out.clear();
     write_reply(7, &Reply::Status(StatusCode::Failure), &mut out)?;
     is_written(
-        &rt,
+        rt,
         alloc,
         &out,
         "00000018 65 00000007 00000004 00000007 4661696c757265 00000000",
@@ -102,8 +103,13 @@ fn mkdir(rt: HostRuntime) -> Result<(), Fail> {
 fn stat(rt: HostRuntime) -> Result<(), Fail> {
     let alloc = rt.alloc();
     let sent = hex_bytes(alloc, "0000000b 11 00000008 00000002 2f61")?;
-    let want = "Request(8, Stat { path: ByteString { bytes: [47, 97] } })";
-    asks(&rt, alloc, &sent, 11, want, "BadFields(8)")?;
+    let want = Asked::Request(
+        8,
+        WireRequest::Stat {
+            path: string(alloc, "/a")?,
+        },
+    );
+    asks(&rt, alloc, &sent, 11, &want, &Asked::BadFields(8))?;
     let mut out = BytesMut::new(alloc);
     write_reply(8, &Reply::Attrs(DIRECTORY), &mut out)?;
     is_written(
@@ -119,17 +125,31 @@ fn stat(rt: HostRuntime) -> Result<(), Fail> {
 fn realpath_of_empty_path(rt: HostRuntime) -> Result<(), Fail> {
     let alloc = rt.alloc();
     let short = hex_bytes(alloc, "00000009 10 00000005 00000000")?;
-    let want = "Request(5, RealPath { path: ByteString { bytes: [] } })";
-    asks(&rt, alloc, &short, 9, want, "BadFields(5)")?;
+    let want = Asked::Request(
+        5,
+        WireRequest::RealPath {
+            path: string(alloc, "")?,
+        },
+    );
+    asks(&rt, alloc, &short, 9, &want, &Asked::BadFields(5))?;
+    longest_asks(&rt, alloc, &want)?;
+    realpath_reply(&rt, alloc)
+}
+
+fn longest_asks(rt: &impl Abort, alloc: Global, want: &Asked) -> Result<(), Fail> {
     let mut long = hex_bytes(alloc, "00040000 10 00000005 00000000")?;
     long.extend_from_slice(&vec![in alloc; 0u8; 262135]?)?;
     assert_eq!(rt; long.len(), 262148);
-    is_one_packet(&rt, &long);
-    assert_eq!(rt; asked_text(alloc, &long[4..])?.as_str(), want);
+    is_one_packet(rt, &long);
+    assert_eq!(rt; read_request(alloc, &long[4..])?, *want);
+    Ok(())
+}
+
+fn realpath_reply(rt: &impl Abort, alloc: Global) -> Result<(), Fail> {
     let mut out = BytesMut::new(alloc);
     write_reply(5, &Reply::Names(root_listing(alloc)?), &mut out)?;
     is_written(
-        &rt,
+        rt,
         alloc,
         &out,
         "00000017 68 00000005 00000001 00000001 2f 00000001 2f 00000000",
@@ -161,14 +181,25 @@ fn pairs_are_ignored(rt: HostRuntime) -> Result<(), Fail> {
         alloc,
         "00000013 0e 00000007 00000002 2f61 80000000 ffffffff",
     )?;
-    asks(&rt, alloc, &without, 20, "BadFields(7)", "BadFields(7)")?;
+    let bad = Asked::BadFields(7);
+    asks(&rt, alloc, &without, 20, &bad, &bad)?;
+    one_pair_is_ignored(&rt, alloc, &bad)
+}
+
+fn one_pair_is_ignored(rt: &impl Abort, alloc: Global, bad: &Asked) -> Result<(), Fail> {
     let with_one = hex_bytes(
         alloc,
         "0000001b 0e 00000007 00000002 2f61 80000000 00000001 00000000 00000000",
     )?;
-    let want =
-        "Request(7, Mkdir { path: ByteString { bytes: [47, 97] }, attrs: Attrs { size: None, owner: None, permissions: None, times: None } })";
-    asks(&rt, alloc, &with_one, 27, want, "BadFields(7)")
+    let path = string(alloc, "/a")?;
+    let want = Asked::Request(
+        7,
+        WireRequest::Mkdir {
+            path,
+            attrs: NO_ATTRS,
+        },
+    );
+    asks(rt, alloc, &with_one, 27, &want, bad)
 }
 
 /// All parts, a flag of no part, and a pair.
@@ -179,21 +210,43 @@ fn all_attributes(rt: HostRuntime) -> Result<(), Fail> {
         alloc,
         "00000038 0e 00000001 00000001 61 8000001f 0000000000000000 00000000 00000000 000041ed 00000064 00000064 00000001 00000001 6b 00000001 76",
     )?;
-    let want =
-        "Request(1, Mkdir { path: ByteString { bytes: [97] }, attrs: Attrs { size: Some(0), owner: Some(Owner { uid: 0, gid: 0 }), permissions: Some(16877), times: Some(Times { atime: 100, mtime: 100 }) } })";
-    asks(&rt, alloc, &sent, 56, want, "BadFields(1)")
+    let path = string(alloc, "a")?;
+    let want = Asked::Request(
+        1,
+        WireRequest::Mkdir {
+            path,
+            attrs: DIRECTORY,
+        },
+    );
+    asks(&rt, alloc, &sent, 56, &want, &Asked::BadFields(1))
 }
 
 #[test]
 fn unknown_types(rt: HostRuntime) -> Result<(), Fail> {
     let alloc = rt.alloc();
-    for kind in ["00", "02", "13", "14", "63", "c9", "ff"] {
+    for kind in ["00", "02", "13", "ff"] {
         let mut sent = hex_bytes(alloc, "0000000b")?;
         sent.extend_from_slice(&hex_bytes(alloc, kind)?)?;
         sent.extend_from_slice(&hex_bytes(alloc, "00000009 00000002 2f61")?)?;
-        asks(&rt, alloc, &sent, 5, "Unknown(9)", "Unknown(9)")?;
+        let unknown = Asked::Unknown(9);
+        asks(&rt, alloc, &sent, 5, &unknown, &unknown)?;
     }
     Ok(())
+}
+
+/// An extension's name is read first.
+#[test]
+fn unknown_extension(rt: HostRuntime) -> Result<(), Fail> {
+    let alloc = rt.alloc();
+    let sent = hex_bytes(alloc, "0000000b c8 00000009 00000002 2f61")?;
+    asks(
+        &rt,
+        alloc,
+        &sent,
+        11,
+        &Asked::Unknown(9),
+        &Asked::BadFields(9),
+    )
 }
 
 /// The codes and the messages of the draft's table, and those of want of memory.

@@ -1,5 +1,53 @@
-use super::packets::asks;
+use super::packets::is_one_packet;
 use super::*;
+
+/// A packet of this body.
+fn fitted(rt: &impl Abort, alloc: Global, body: &[u8]) -> Result<Vec<u8>, Fail> {
+    let Ok(len) = u32::try_from(body.len()) else {
+        panic!(rt; "too long a body");
+    };
+    let mut packet = Vec::from_slice(alloc, &len.to_be_bytes())?;
+    packet.extend_from_slice(body)?;
+    Ok(packet)
+}
+
+/// A body that ends early, with a length that fits, asks for nothing before it has an id, and has
+/// bad fields until the `fields` bytes of its type, its id and its fields are there.
+fn asks(
+    rt: &impl Abort,
+    alloc: Global,
+    packet: &[u8],
+    fields: usize,
+    want: &str,
+    bad: &str,
+) -> Result<(), Fail> {
+    is_one_packet(rt, packet);
+    let Some(body) = packet.get(4..) else {
+        panic!(rt; "no body");
+    };
+    for len in 0..=body.len() {
+        let packet = fitted(rt, alloc, &body[..len])?;
+        if len > 0 {
+            assert_eq!(rt; cut(&packet), Cut::Whole(4 + len));
+        }
+        let asked = asked_text(alloc, packet.get(4..).unwrap_or(&[]))?;
+        let want = if len < 5 {
+            "NoId"
+        } else if len < fields {
+            bad
+        } else {
+            want
+        };
+        assert_eq!(rt; asked.as_str(), want);
+    }
+    Ok(())
+}
+
+/// What a body asks, as Rust writes it for debugging.
+fn asked_text(alloc: Global, body: &[u8]) -> Result<String, Fail> {
+    let asked = read_request(alloc, body)?;
+    Ok(format!(in alloc; "{asked:?}")?)
+}
 
 /// A packet of this type and these fields, and a byte more: it asks this under the id 5.
 fn is_asked(
@@ -16,6 +64,21 @@ fn is_asked(
     let packet = fitted(rt, alloc, &body)?;
     let want = format!(in alloc; "Request(5, {request})")?;
     asks(rt, alloc, &packet, fields, &want, "BadFields(5)")
+}
+
+/// The client's version, and types that no request has.
+#[test]
+fn no_request(rt: HostRuntime) -> Result<(), Fail> {
+    let alloc = rt.alloc();
+    let sent = hex_bytes(alloc, "00000005 01 00000003")?;
+    asks(&rt, alloc, &sent, 5, "Init(3)", "NoId")?;
+    for kind in ["14", "63", "c9"] {
+        let mut sent = hex_bytes(alloc, "0000000b")?;
+        sent.extend_from_slice(&hex_bytes(alloc, kind)?)?;
+        sent.extend_from_slice(&hex_bytes(alloc, "00000009 00000002 2f61")?)?;
+        asks(&rt, alloc, &sent, 5, "Unknown(9)", "Unknown(9)")?;
+    }
+    Ok(())
 }
 
 /// READ, WRITE and CREAT, and all of them with a bit that no flag has.
@@ -95,7 +158,7 @@ fn one_string(rt: HostRuntime) -> Result<(), Fail> {
 
 /// All parts, a flag of no part, and a pair.
 #[test]
-fn set_attributes(rt: HostRuntime) -> Result<(), Fail> {
+fn attributes(rt: HostRuntime) -> Result<(), Fail> {
     let alloc = rt.alloc();
     let fields =
         "00000001 61 8000001f 0102030405060708 00000009 0000000a 000081a4 0000000b 0000000c 00000001 00000001 6b 00000001 76";
@@ -104,7 +167,9 @@ fn set_attributes(rt: HostRuntime) -> Result<(), Fail> {
     let want = format!(in alloc; "SetStat {{ path: ByteString {{ bytes: [97] }}, {attrs} }}")?;
     is_asked(&rt, alloc, 9, fields, &want)?;
     let want = format!(in alloc; "FSetStat {{ handle: ByteString {{ bytes: [97] }}, {attrs} }}")?;
-    is_asked(&rt, alloc, 10, fields, &want)
+    is_asked(&rt, alloc, 10, fields, &want)?;
+    let want = format!(in alloc; "Mkdir {{ path: ByteString {{ bytes: [97] }}, {attrs} }}")?;
+    is_asked(&rt, alloc, 14, fields, &want)
 }
 
 #[test]
@@ -119,8 +184,8 @@ fn renames(rt: HostRuntime) -> Result<(), Fail> {
     is_asked(&rt, alloc, 200, fields, &want)
 }
 
-/// The name of an extension has to fit, and nothing after it is read where it isn't known:
-/// `statvfs`, and a name that is longer than the known one.
+/// Nothing after an extension's name is read where it isn't known: `statvfs`, and a name that is
+/// longer than the known one.
 #[test]
 fn other_extensions(rt: HostRuntime) -> Result<(), Fail> {
     let alloc = rt.alloc();
