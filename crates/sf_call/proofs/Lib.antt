@@ -12,12 +12,9 @@ pub mod Requests
 pub mod Refusals
 pub mod Listed
 pub mod Sound
-<<<<<<< HEAD
 pub mod FittingTrees
 pub mod FittingAnswers
 pub mod FittingReplies
-=======
 pub mod Replies
 pub mod Idle
 pub mod LeftAlone
->>>>>>> answers

@@ -9,7 +9,7 @@ use crate::asking::Ask;
 use crate::cause::Cause;
 use crate::front::{Front, front_of};
 use bytes::BytesMut;
-use sf_call::{Answer, CoreFault, Request};
+use sf_call::{Answer, CoreFault, Request, replies_fit};
 use sf_wire::{Reply, StatusCode, write_reply, write_version};
 use std::alloc::{AllocError, Global};
 use std::marker::Model;
@@ -191,8 +191,7 @@ impl Session {
 
     /// Appends the reply of the request that the session waits for.
     pub fn answer(&mut self, answer: &Answer) -> Result<(), SessionFault>
-        requires waiting { IsSome self.old.waiting }
-        requires fits { length (reply_body 0 answer.now.reply) ≤ 262144 }
+        requires { IsSome self.old.waiting }
         ensures ok { OnOk result (IfSome self.old.waiting (λ id. self.new ≡ record self.old { output = self.old.output ++ packet (reply_body id answer.now.reply); waiting = None })) }
         ensures err { OnErr result (self.new ≡ self.old) }
         ensures fault { result ≢ Err SessionFault.Ended }
@@ -200,6 +199,7 @@ impl Session {
         let Some(id) = self.waiting else {
             return Ok(());
         };
+        replies_fit();
         if write_reply(id, answer.reply(), &mut self.output).is_err() {
             return Err(SessionFault::OutOfMemory);
         }
