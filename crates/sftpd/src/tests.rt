@@ -13,6 +13,8 @@ use std::process::Abort;
 use std::test::*;
 use std::time::Duration;
 
+mod requests;
+
 const INIT: &str = "00000005 01 00000003";
 
 const VERSION: &str =

@@ -1,0 +1,4 @@
+use Rattle.sf_session.proofs.session.Session.answer.Goals as goal
+
+pub write_reply-requires : goal.write_reply-requires
+write_reply-requires c = c.replies_fit.ensures.packet c.args.answer.now.number c.args.answer.now.session c.in-Some.id c.reply.result.now c.reply.ensures.given
