@@ -7,6 +7,7 @@ use Rattle.sf_wire.specs.declared.reply.Reply.TheVariants as reply
 use Rattle.sf_wire.specs.Packets.{packet}
 use Rattle.sf_wire.specs.Replies.{reply_body}
 use Rattle.sf_call.specs.declared.request.Request.{Request}
+use Rattle.sf_call.specs.declared.fault.CoreFault.{CoreFault}
 use Rattle.sf_call.specs.declared.fault.CoreFault.TheVariants as fault
 use Rattle.sf_call.specs.Tree.{Tree}
 use Rattle.sf_call.specs.Calls.{apply}
@@ -18,7 +19,7 @@ use Rattle.sf_session.specs.declared.fault.ServeFault.{ServeFault}
 use Rattle.sf_session.specs.Asking.{AsksFor}
 use Rattle.sf_session.specs.Sessions.{SessionView, Begins, LocalPacket, AnswersLocally, Calls, refusal_of}
 use Rattle.sftpd.specs.Transcripts.{Version, Locally, ByCall, Refused, last_number}
-use Rattle.sftpd.specs.Serving.{ServiceView, IsMade, MakesCall, Answers, TurnGives}
+use Rattle.sftpd.specs.Serving.{ServiceView, NumberedView, Makes, IsMade, MakesCall, Answers, TurnGives}
 
 local_by : (v : ServiceView) (told : Option (List ℕ)) (s : SessionView) (body rest : List ℕ) (a : Ask) (text : List ℕ)
     → Begins v.session.unread body rest → AsksFor v.session.begun body a → LocalPacket a text
@@ -54,6 +55,15 @@ pub made_call : (v : ServiceView) (told told' : Option (List ℕ)) (request : Re
     → IfSome v.session.waiting (λ id. MakesCall v told id request (record { session = s; tree = tree; calls = calls }) told')
 made_call v told told' request s moment given tree calls made sends =
     if_some v.session.waiting _ _ (λ id e. record { answer = ByCall id moment request given; asked = refl; session = e; effect = made }) sends
+
+-- why the call could not be made is told
+pub refused_by : (v : ServiceView) (w : NumberedView) (told told' : Option (List ℕ)) (request : Request) (s : SessionView) (fault : CoreFault)
+    → Makes (record { tree = v.tree; calls = v.calls }) told request (Err fault) w told' → Sends v.session (refusal_of fault) s
+    → IfSome v.session.waiting (λ id. MakesCall v told id request (record { session = s; tree = w.tree; calls = w.calls }) told')
+refused_by v w told told' request s fault.OutOfMemory made sends = made_call v told told' request s made.0 reply.NoMemory w.tree w.calls made.1 sends
+refused_by v w told told' request s fault.NumbersSpent made sends = rw (made.1, made.2) (refused_call v told request s made.0 sends)
+refused_by v w told told' request s fault.Sessions made sends = absurd made
+refused_by v w told told' request s fault.Stranger made sends = absurd made
 
 abbrev pub after_next : ServiceView → SessionView → ServiceView
 after_next v s = record { session = s; tree = v.tree; calls = v.calls }
