@@ -4,6 +4,7 @@ pub mod Growth
 pub mod MovedNames
 pub mod Ordered
 pub mod LookUps
+pub mod LeftAlone
 pub mod KindsOfReplies
 pub mod Labels
 pub mod Founded
@@ -14,4 +15,3 @@ pub mod Listed
 pub mod Sound
 pub mod Replies
 pub mod Idle
-pub mod LeftAlone

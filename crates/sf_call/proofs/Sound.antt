@@ -60,7 +60,7 @@ sound_less history r tree s = record {
 -- what a request that may follow changes is allowed
 pub allowed_by_sound : (Free : ℕ → Type 0) (tree : Tree) (session number moment : ℕ) (request : Request) → Free number → IsSound Free tree → AreAllowed number tree (answer_to tree session number moment request).changes
 allowed_by_sound Free tree session number moment request free s =
-    allowed tree number moment (s.labelled.unused number free) (s.labelled.unopened number free) s.founded session request
+    allowed tree number moment (s.labelled.unused number free) (s.labelled.no_object number free) (s.labelled.unopened number free) s.founded session request
 
 sound_after : (history : List Record) (tree : Tree) (r : Record) → MayFollow history r → IsSound (FreeAfter history) tree → IsSound (FreeAfter (history ++ r ∷ [])) (after tree r)
 sound_after history tree (Did number session moment request given) may s =
