@@ -15,3 +15,4 @@ pub mod Listed
 pub mod Sound
 pub mod Replies
 pub mod Idle
+pub mod SameKinds

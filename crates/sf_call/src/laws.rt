@@ -19,7 +19,7 @@ ghost use Rattle.sf_wire.specs.declared.reply.Reply.TheVariants.{Status};
 ghost use Rattle.sf_wire.specs.declared.reply.StatusCode.{StatusCode};
 ghost use Rattle.sf_wire.specs.declared.reply.StatusCode.TheVariants.{Success};
 ghost use Rattle.sf_call.specs.Attributes.{Object, attrs_of, no_attrs};
-ghost use Rattle.sf_call.specs.Allowed.{AreAllowed};
+ghost use Rattle.sf_call.specs.Allowed.{AreAllowed, kind_of};
 ghost use Rattle.sf_call.specs.Histories.{after, replay, IsNewNumber, IsLegal, MayFollow, IsAmong, IsGiven, record_of};
 ghost use Rattle.sf_call.specs.SameCalls.{calls_of, AreServed};
 
@@ -97,6 +97,13 @@ pub fn allowed_changes()
         → AreAllowed number (replay history) (answer_to (replay history) session number moment request).changes }
 {}
 
+/// What was a directory stays one, and what was a file: a request that may come next changes no object's kind.
+pub fn kinds_stay()
+    ensures { (history : List Record) (number session moment label : ℕ) (request : Request) (before after : Object) → IsLegal history → 0 < number → IsNewNumber number history
+        → object_of (replay history).objects label ≡ Some before → object_of (apply (replay history) session number moment request).tree.objects label ≡ Some after
+        → kind_of after ≡ kind_of before }
+{}
+
 /// A refused call leaves the tree as it was: a status other than OK comes with no change.
 pub fn refusals_change_nothing()
     ensures { (tree : Tree) (session number moment : ℕ) (request : Request) (code : StatusCode)
@@ -110,9 +117,10 @@ pub fn nothing_unused()
     ensures kept { (history : List Record) → IsLegal history → kept (replay history) ≡ replay history }
 {}
 
-/// After a legal history a label is 0, the root's, or the number of a call, and one path at most has it.
+/// After a legal history neither a path nor an object has the number of a call to come, and one path at most has a label.
 pub fn labels_of_paths()
     ensures unused { (history : List Record) (number : ℕ) (path : Path) → IsLegal history → 0 < number → IsNewNumber number history → label_at (replay history).names path ≢ Some number }
+    ensures no_object { (history : List Record) (number : ℕ) → IsLegal history → 0 < number → IsNewNumber number history → object_of (replay history).objects number ≡ None }
     ensures one_path { (history : List Record) (path other : Path) (label : ℕ) → IsLegal history
         → label_at (replay history).names path ≡ Some label → label_at (replay history).names other ≡ Some label → path ≡ other }
 {}
