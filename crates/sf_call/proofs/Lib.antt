@@ -16,3 +16,4 @@ pub mod Sound
 pub mod Replies
 pub mod Idle
 pub mod SameKinds
+pub mod OwnChanges

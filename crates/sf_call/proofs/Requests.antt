@@ -37,7 +37,7 @@ use Rattle.sf_call.proofs.LeftAlone.{other_put}
 use Rattle.sf_call.proofs.Founded.{IsFounded, is_file, kept_object, is_directory_object, is_directory_label, is_directory_is, not_both}
 
 -- the place of a path that has a label
-place_label : (tree : Tree) (path : Path) (label : ℕ) → place_at tree path ≡ At label → label_at tree.names path ≡ Some label
+pub place_label : (tree : Tree) (path : Path) (label : ℕ) → place_at tree path ≡ At label → label_at tree.names path ≡ Some label
 place_label tree path label e =
     elim (is_faulty_way tree path) as (λ b. cond b NoWay (place_of (label_at tree.names path)) ≡ At label → label_at tree.names path ≡ Some label) [
       | true ↦ λ k. cc
@@ -98,7 +98,7 @@ handle_there tree session handle h e =
     ] e
 
 -- the label of a directory, and what its object is
-directory_there : (tree : Tree) (path : Path) (d : ℕ × Metadata) → directory_at tree path ≡ Some d → (label_at tree.names path ≡ Some d.0) × (object_of tree.objects d.0 ≡ Some (Directory d.1))
+pub directory_there : (tree : Tree) (path : Path) (d : ℕ × Metadata) → directory_at tree path ≡ Some d → (label_at tree.names path ≡ Some d.0) × (object_of tree.objects d.0 ≡ Some (Directory d.1))
 directory_there tree path d e =
     elim (label_at tree.names path) as (λ o. option_and_then (λ label. option_map (λ m. (label, m)) (option_and_then directory_metadata (object_of tree.objects label))) o ≡ Some d
     → (o ≡ Some d.0) × (object_of tree.objects d.0 ≡ Some (Directory d.1))) [

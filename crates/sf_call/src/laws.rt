@@ -19,6 +19,7 @@ ghost use Rattle.sf_wire.specs.declared.reply.Reply.TheVariants.{Status};
 ghost use Rattle.sf_wire.specs.declared.reply.StatusCode.{StatusCode};
 ghost use Rattle.sf_wire.specs.declared.reply.StatusCode.TheVariants.{Success};
 ghost use Rattle.sf_call.specs.Attributes.{Object, attrs_of, no_attrs};
+ghost use Rattle.sf_call.specs.Own.{IsOwnPath, IsOwnObject, IsOwnHandle};
 ghost use Rattle.sf_call.specs.Allowed.{AreAllowed, kind_of};
 ghost use Rattle.sf_call.specs.Histories.{after, replay, IsNewNumber, IsLegal, MayFollow, IsAmong, IsGiven, record_of};
 ghost use Rattle.sf_call.specs.SameCalls.{calls_of, AreServed};
@@ -91,7 +92,19 @@ pub fn left_alone()
         → is_used (changed tree change).names (changed tree change).handles label ≡ true → object_of (changed tree change).objects label ≡ object_of tree.objects label }
 {}
 
-/// What a request that may come next changes: its own objects, paths and handles, as each kind of change asks.
+/// What is not a request's own it leaves alone: the labels of other paths, other handles, and other objects, which at most
+/// are let go of.
+pub fn own_changes()
+    ensures paths { (tree : Tree) (session number moment : ℕ) (request : Request) (path : Path) → ¬ IsOwnPath request path
+        → label_at (apply tree session number moment request).tree.names path ≡ label_at tree.names path }
+    ensures handles { (tree : Tree) (session number moment handle : ℕ) (request : Request) → ¬ IsOwnHandle tree session number request handle
+        → handle_of (apply tree session number moment request).tree.handles handle ≡ handle_of tree.handles handle }
+    ensures objects { (tree : Tree) (session number moment label : ℕ) (request : Request) → label ≢ number → ¬ IsOwnObject tree session request label
+        → IsSome (object_of (apply tree session number moment request).tree.objects label)
+        → object_of (apply tree session number moment request).tree.objects label ≡ object_of tree.objects label }
+{}
+
+/// What a request that may come next changes is allowed there, as each kind of change asks.
 pub fn allowed_changes()
     ensures { (history : List Record) (number session moment : ℕ) (request : Request) → IsLegal history → 0 < number → IsNewNumber number history
         → AreAllowed number (replay history) (answer_to (replay history) session number moment request).changes }
