@@ -1,6 +1,6 @@
 -- No number of a call to come is a label or a handle, and one path at most has a label.
-use Rattle.std.proofs.Common.{◌≡◌, ◌≢◌, ◌<◌, ◌⊎◌, ℕ, Bool, true, false, cond, not, nat_eq, List, [], ◌∷◌, filter, Option, Some, None, refl, sym, ap, ◌∙◌, subst, inl, inr, arith}
-use Rattle.std.specs.Ordering.{nat_cmp, is_eq}
+use Rattle.std.proofs.Common.{◌≡◌, ◌≢◌, ◌<◌, ◌⊎◌, ℕ, true, false, cond, not, nat_eq, List, [], ◌∷◌, filter, Some, None, refl, sym, ap, ◌∙◌, subst, inl, inr, arith}
+use Rattle.std.specs.Ordering.{nat_cmp}
 use Rattle.std.specs.Cmp.{nat_cmp_total}
 use Rattle.std.specs.Map.{lookup, remove_entry}
 use Rattle.std.specs.BTreeMap.{insert_entry, is_at}
@@ -9,10 +9,10 @@ use Rattle.sf_path.specs.Names.{Path}
 use Rattle.sf_path.specs.Order.{path_cmp, same_path}
 use Rattle.sf_call.specs.Attributes.{made_at}
 use Rattle.sf_call.specs.Attributes.Object.{Directory}
-use Rattle.sf_call.specs.Tree.{Tree, Handle, IsOrderedTree, label_at, object_of, handle_of, is_used, kept, with_names, with_handles, empty_tree}
+use Rattle.sf_call.specs.Tree.{Tree, IsOrderedTree, label_at, object_of, handle_of, is_used, kept, with_handles, empty_tree}
 use Rattle.sf_call.specs.Changes.{Change, changed}
 use Rattle.sf_call.specs.Changes.Change.{SetObject, NewPath, GonePath, Move, OpenHandle, SetHandle, CloseHandle}
-use Rattle.sf_call.specs.Allowed.{MayChange, IsNewPath, IsNewHandle}
+use Rattle.sf_call.specs.Allowed.{MayChange}
 use Rattle.sf_call.proofs.Orders.{exact_paths}
 use Rattle.sf_call.proofs.LookUps.{lookup-put, none_set, none_removed, none_filtered, found_removed}
 use Rattle.sf_call.proofs.MovedNames.{lookup-insert_entry, same_path_is, is_equal}

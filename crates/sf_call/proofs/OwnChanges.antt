@@ -23,7 +23,7 @@ use Rattle.sf_call.specs.Changes.{Change, changed, done, touch}
 use Rattle.sf_call.specs.Changes.Change.{SetObject, NewPath, GonePath, Move, OpenHandle, SetHandle, CloseHandle}
 use Rattle.sf_call.specs.LeftAlone.{IsOfPath, IsOfLabel, IsOfNumber}
 use Rattle.sf_call.specs.Own.{IsOwnPath, IsOwnObject, IsOwnHandle}
-use Rattle.sf_call.specs.Calls.{Answer, answer_to, stat, refuses_size, sets, set_stat, make_directory, goes, remove_directory, remove_file, has_all_handles, open_directory, open_present, open_file, close, stat_opened, set_opened, read, start_of, write, lists, read_directory, unless_root}
+use Rattle.sf_call.specs.Calls.{Answer, answer_to, stat, refuses_size, sets, set_stat, make_directory, remove_directory, remove_file, has_all_handles, open_directory, open_present, open_file, close, stat_opened, set_opened, read, start_of, write, lists, read_directory, unless_root}
 use Rattle.sf_call.proofs.Requests.{directory_there, place_label}
 use Rattle.sf_call.proofs.LeftAlone.{other_path, other_object, other_handle}
 
@@ -224,4 +224,4 @@ module _ (tree : Tree) (session number : ℕ) where
     other_objects [] t label all new other some = refl
     other_objects (c ∷ cs) t label all new other some =
         let later = other_objects cs (changed t c) label all.1 new other some in
-        later ∙ other_object t c label (λ of. elim (own_label c label all.0 of) [ | inl same ↦ new same | inr is ↦ other is ]) (ap (λ o. is_some o) (sym later) ∙ some)
+        later ∙ other_object t c label (λ of. elim (own_label c label all.0 of) [ inl same ↦ new same | inr is ↦ other is ]) (ap (λ o. is_some o) (sym later) ∙ some)

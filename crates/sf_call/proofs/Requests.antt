@@ -1,5 +1,5 @@
 -- What a request changes is allowed.
-use Rattle.std.proofs.Common.{◌≡◌, ◌≢◌, ◌<◌, ℕ, Bool, true, false, cond, not, nat_eq, nat_lt, nat_le, ◌+◌, ◌-◌, ◌&&◌, List, [], ◌∷◌, ◌++◌, length, length-append, length-take, filter_map, take, Option, Some, None, option_map, option_and_then, refl, sym, ap, ◌∙◌, append_assoc, arith}
+use Rattle.std.proofs.Common.{◌≡◌, ◌≢◌, ◌<◌, ℕ, Bool, true, false, cond, not, nat_eq, nat_lt, nat_le, ◌+◌, ◌-◌, ◌&&◌, List, [], ◌∷◌, ◌++◌, length, length-append, length-take, take, Option, Some, None, option_map, option_and_then, refl, sym, ap, ◌∙◌, append_assoc, arith}
 use Rattle.std.specs.List.{cons_option}
 use Rattle.std.specs.Ordering.{nat_cmp}
 use Rattle.std.specs.Cmp.{nat_cmp_total}
@@ -23,10 +23,10 @@ use Rattle.sf_call.specs.Attributes.{Object}
 use Rattle.sf_call.specs.Attributes.Object.{Directory, File}
 use Rattle.sf_call.specs.Tree.{Tree, Handle, Found, label_at, object_of, handle_of, with_names, directory_metadata, directory_at, is_directory, is_faulty_way, place_of, place_at, found_object, found_place, found_at, after_front, only_name, children, is_nil, is_empty}
 use Rattle.sf_call.specs.Tree.Found.{Nowhere, Nothing, DirectoryAt, FileAt}
-use Rattle.sf_call.specs.Handles.{Opened, if_of, handle_in, opened_object, opened_by, opened, with_listed}
+use Rattle.sf_call.specs.Handles.{Opened, if_of, handle_in, opened_object, opened_by, opened}
 use Rattle.sf_call.specs.Handles.Opened.{NotOpen, OpenDirectory, OpenFile}
 use Rattle.sf_call.specs.Listings.{path_of, listing_of}
-use Rattle.sf_call.specs.Changes.{touch, touched}
+use Rattle.sf_call.specs.Changes.{touch}
 use Rattle.sf_call.specs.Allowed.{kind_of, IsSetRightly, IsNewHandle, AreAllowed}
 use Rattle.sf_call.specs.Calls.{Answer, answer_to, stat, refuses_size, with_size, sets, set_stat, make_directory, goes, remove_directory, remove_file, has_all_handles, open_directory, open_present, open_file, close, stat_opened, set_opened, read, start_of, write, lists, read_directory, unless_root}
 use Rattle.sf_call.proofs.Ways.{open_way}
@@ -178,8 +178,8 @@ module _ (tree : Tree) (number moment : ℕ) (unused : (q : Path) → label_at t
   gone path not_root none = (
     none,
     allowed_touch _ (parent path) (directory_at tree (parent path)) refl
-    (λ label e. kept_object (with_names tree (remove_entry (is_at (path_cmp path)) tree.names)) (parent path) label
-    (other_removed path_cmp exact_paths path (parent path) tree.names (other_parent path not_root) ∙ e)),
+        (λ label e. kept_object (with_names tree (remove_entry (is_at (path_cmp path)) tree.names)) (parent path) label
+        (other_removed path_cmp exact_paths path (parent path) tree.names (other_parent path not_root) ∙ e)),
   )
 
   -- nothing is below an empty directory or a file

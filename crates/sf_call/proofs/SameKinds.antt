@@ -91,8 +91,8 @@ pub kinds_stay : (history : List Record) (number session moment label : ℕ) (re
 kinds_stay history number session moment label request before after legal above new was is =
     let sound = sound_replay history legal in
     let apart : label ≢ number = λ same.
-        let none : object_of (replay history).objects number ≡ None = sound.labelled.no_object number (above, new) in
-        let some : object_of (replay history).objects number ≡ Some before = ap (object_of (replay history).objects) (sym same) ∙ was in cc in
+    let none : object_of (replay history).objects number ≡ None = sound.labelled.no_object number (above, new) in
+    let some : object_of (replay history).objects number ≡ Some before = ap (object_of (replay history).objects) (sym same) ∙ was in cc in
     same_kind before after (object_of (apply (replay history) session number moment request).tree.objects label) is
     (kind_done number label apart (kind_of before) (replay history) (answer_to (replay history) session number moment request).changes
     (allowed_by_sound (FreeAfter history) (replay history) session number moment request (above, new) sound)

@@ -1,5 +1,5 @@
 -- What holds of the tree after every legal history.
-use Rattle.std.proofs.Common.{◌≡◌, ◌≢◌, ◌<◌, ℕ, List, [], ◌∷◌, ◌++◌, refl, sym, subst, append_assoc}
+use Rattle.std.proofs.Common.{◌<◌, ℕ, List, [], ◌∷◌, ◌++◌, refl, sym, subst, append_assoc}
 use Rattle.std.proofs.lemmas.List.{append-nil}
 use Rattle.sf_wire.specs.declared.reply.Reply.{Reply}
 use Rattle.sf_wire.specs.declared.reply.Reply.TheVariants as reply
@@ -12,7 +12,7 @@ use Rattle.sf_call.specs.Allowed.{MayChange, AreAllowed}
 use Rattle.sf_call.specs.Calls.{answer_to, apply}
 use Rattle.sf_call.specs.Histories.{after, after_reply, replay, IsNewNumber, MayFollow, IsLegal, IsLegalAfter}
 use Rattle.sf_call.proofs.Growth.{replay-push, front_new, last_other}
-use Rattle.sf_call.proofs.Ordered.{ordered_changed, ordered_left, ordered_replay}
+use Rattle.sf_call.proofs.Ordered.{ordered_changed, ordered_left}
 use Rattle.sf_call.proofs.Labels.{IsLabelled, labelled_less, labelled_changed, labelled_left, labelled_empty}
 use Rattle.sf_call.proofs.Founded.{IsFounded, founded_changed, founded_left, founded_empty}
 use Rattle.sf_call.proofs.Used.{AllUsed, used_changed, used_left, used_empty}
