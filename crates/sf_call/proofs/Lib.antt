@@ -17,3 +17,4 @@ pub mod Replies
 pub mod Idle
 pub mod SameKinds
 pub mod OwnChanges
+pub mod InOrder

@@ -1,6 +1,6 @@
 //! Laws of the tree and of histories, which no call needs.
 
-ghost use Rattle.std.specs.Prelude.{◌≡◌, ◌≢◌, ◌<◌, ◌↔◌, ℕ, true, false, List, [], ◌∷◌, ◌++◌, length, take, Some, None, IsSome};
+ghost use Rattle.std.specs.Prelude.{◌≡◌, ◌≢◌, ◌<◌, ◌↔◌, ℕ, true, false, List, [], ◌∷◌, ◌++◌, length, take, Some, None, Option, IsSome};
 ghost use Rattle.sf_wire.specs.declared.reply.Reply.{Reply};
 ghost use Rattle.sf_call.specs.declared.request.Request.{Request};
 ghost use Rattle.sf_call.specs.declared.request.Request.TheVariants.{SetStat, FSetStat, Write};
@@ -14,7 +14,10 @@ ghost use Rattle.sf_call.specs.LeftAlone.{IsOfPath, IsOfLabel, IsOfNumber};
 ghost use Rattle.sf_call.specs.Calls.{answer_to, apply};
 ghost use Rattle.sf_call.specs.ReplyKinds.{IsReplyTo, HasAllParts};
 ghost use Rattle.sf_wire.specs.Longname.{HasType, longname_text};
-ghost use Rattle.sf_call.specs.Listings.{entry_of};
+ghost use Rattle.sf_call.specs.Listings.{entry_of, is_past, listing, names_of};
+ghost use Rattle.std.specs.List.{AllByRecursion};
+ghost use Rattle.std.specs.List.Sorted.{IsStrictlySortedBy};
+ghost use Rattle.sf_path.specs.Order.{name_cmp};
 ghost use Rattle.sf_wire.specs.declared.reply.Reply.TheVariants.{Status};
 ghost use Rattle.sf_wire.specs.declared.reply.StatusCode.{StatusCode};
 ghost use Rattle.sf_wire.specs.declared.reply.StatusCode.TheVariants.{Success};
@@ -104,6 +107,12 @@ pub fn own_changes()
         → object_of (apply tree session number moment request).tree.objects label ≡ object_of tree.objects label }
 {}
 
+/// The names of a listing stand in the order of their bytes, each once, and come after the last one that was given.
+pub fn listed_in_order()
+    ensures order { (tree : Tree) (last : Option Name) (directory : Path) → IsOrderedTree tree → IsStrictlySortedBy name_cmp (names_of (listing tree last directory)) }
+    ensures past { (tree : Tree) (last : Option Name) (directory : Path) → AllByRecursion (λ name. is_past last name ≡ true) (names_of (listing tree last directory)) }
+{}
+
 /// What a request that may come next changes is allowed there, as each kind of change asks.
 pub fn allowed_changes()
     ensures { (history : List Record) (number session moment : ℕ) (request : Request) → IsLegal history → 0 < number → IsNewNumber number history
@@ -120,7 +129,7 @@ pub fn kinds_stay()
 /// A refused call leaves the tree as it was: a status other than OK comes with no change.
 pub fn refusals_change_nothing()
     ensures { (tree : Tree) (session number moment : ℕ) (request : Request) (code : StatusCode)
-        → (answer_to tree session number moment request).reply ≡ Status code → code ≢ Success → (apply tree session number moment request).tree ≡ tree }
+        → (apply tree session number moment request).reply ≡ Status code → code ≢ Success → (apply tree session number moment request).tree ≡ tree }
 {}
 
 /// After a legal history each object is named or open, so that letting go of others changes nothing.
