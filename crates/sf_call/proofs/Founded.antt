@@ -18,7 +18,8 @@ use Rattle.sf_call.specs.Attributes.Object.{Directory, File}
 use Rattle.sf_call.specs.Tree.{Tree, IsOrderedTree, label_at, object_of, directory_metadata, is_directory, is_faulty_way, is_used, kept, with_names, with_handles, empty_tree}
 use Rattle.sf_call.specs.Changes.{Change, changed}
 use Rattle.sf_call.specs.Changes.Change.{SetObject, NewPath, GonePath, Move, OpenHandle, SetHandle, CloseHandle}
-use Rattle.sf_call.specs.Allowed.{is_file, IsSetRightly, MayChange}
+use Rattle.sf_call.specs.declared.metadata.FileType.TheVariants as file_type
+use Rattle.sf_call.specs.Allowed.{kind_of, IsSetRightly, MayChange}
 use Rattle.sf_call.proofs.Orders.{exact_paths, find_is}
 use Rattle.sf_call.proofs.Ordered.{put_is}
 use Rattle.sf_call.proofs.LookUps.{found_removed, other_removed}
@@ -43,6 +44,16 @@ object_put : (objects : List (ℕ × Object)) (label : ℕ) (object : Object) (l
 object_put objects label object l =
     ap (λ (es : List (ℕ × Object)). object_of es l) (put_is nat_cmp objects label object) ∙ find_is nat_cmp (put nat_cmp label object objects) l
     ∙ find-put nat_cmp nat_cmp_total l label object objects ∙ ap (cond (is_at (nat_cmp l) label) (Some object)) (sym (find_is nat_cmp objects l))
+
+abbrev pub is_file : Option Object → Bool
+is_file None = false
+is_file (Some (Directory m)) = false
+is_file (Some (File m contents)) = true
+
+file_of_kind : (o : Option Object) → option_map kind_of o ≡ Some file_type.File → is_file o ≡ true
+file_of_kind None e = cc
+file_of_kind (Some (Directory m)) e = cc
+file_of_kind (Some (File m contents)) e = refl
 
 -- a directory or none, as a test
 abbrev pub is_directory_object : Option Object → Bool
@@ -165,7 +176,7 @@ or_first : (a b : Bool) → a ≡ true → a || b ≡ true
 or_first true b t = refl
 or_first false b t = cc
 
-kept_object : (tree : Tree) (q : Path) (label : ℕ) → label_at tree.names q ≡ Some label → object_of (kept tree).objects label ≡ object_of tree.objects label
+pub kept_object : (tree : Tree) (q : Path) (label : ℕ) → label_at tree.names q ≡ Some label → object_of (kept tree).objects label ≡ object_of tree.objects label
 kept_object tree q label e =
     lookup-filter-keys (is_at (nat_cmp label)) (is_used tree.names tree.handles) true
     (λ k t. ap (is_used tree.names tree.handles) (sym (tied label k t)) ∙ or_first (list_any (λ n. nat_eq n.1 label) tree.names) _ (named_used tree.names q label e))
@@ -202,7 +213,7 @@ file_set (e ∷ es) label l o file h =
 
 set_rightly : (tree : Tree) (label : ℕ) (object : Object) (l : ℕ) → IsSetRightly tree label object → is_directory_object (object_of tree.objects l) ≡ true → is_directory_object (object_of (set_value (is_at (nat_cmp label)) tree.objects object) l) ≡ true
 set_rightly tree label (Directory m) l may h = directory_set tree.objects label l m h
-set_rightly tree label (File m contents) l may h = file_set tree.objects label l (File m contents) may h
+set_rightly tree label (File m contents) l may h = file_set tree.objects label l (File m contents) (file_of_kind (object_of tree.objects label) may) h
 
 object_keeps : (tree : Tree) (label : ℕ) (object : Object) → IsSetRightly tree label object → KeepsDirectories tree (changed tree (SetObject label object))
 object_keeps tree label object may q h =

@@ -1,23 +1,26 @@
 -- No number of a call to come is a label or a handle, and one path at most has a label.
-use Rattle.std.proofs.Common.{◌≡◌, ◌≢◌, ◌<◌, ◌⊎◌, ℕ, Bool, true, false, cond, not, nat_eq, List, [], ◌∷◌, filter, Option, Some, None, refl, sym, ap, ◌∙◌, subst, inl, inr, arith}
-use Rattle.std.specs.Ordering.{nat_cmp, is_eq}
+use Rattle.std.proofs.Common.{◌≡◌, ◌≢◌, ◌<◌, ◌⊎◌, ℕ, true, false, cond, not, nat_eq, List, [], ◌∷◌, filter, Some, None, refl, sym, ap, ◌∙◌, subst, inl, inr, arith}
+use Rattle.std.specs.Ordering.{nat_cmp}
 use Rattle.std.specs.Cmp.{nat_cmp_total}
-use Rattle.std.specs.Map.{remove_entry}
+use Rattle.std.specs.Map.{lookup, remove_entry}
 use Rattle.std.specs.BTreeMap.{insert_entry, is_at}
 use Rattle.std.specs.FinMap.{nat_cmp-IsAntisymmetric}
 use Rattle.sf_path.specs.Names.{Path}
 use Rattle.sf_path.specs.Order.{path_cmp, same_path}
-use Rattle.sf_call.specs.Tree.{Tree, Handle, IsOrderedTree, label_at, handle_of, kept, with_names, with_handles, empty_tree}
+use Rattle.sf_call.specs.Attributes.{made_at}
+use Rattle.sf_call.specs.Attributes.Object.{Directory}
+use Rattle.sf_call.specs.Tree.{Tree, IsOrderedTree, label_at, object_of, handle_of, is_used, kept, with_handles, empty_tree}
 use Rattle.sf_call.specs.Changes.{Change, changed}
 use Rattle.sf_call.specs.Changes.Change.{SetObject, NewPath, GonePath, Move, OpenHandle, SetHandle, CloseHandle}
-use Rattle.sf_call.specs.Allowed.{MayChange, IsNewPath, IsNewHandle}
+use Rattle.sf_call.specs.Allowed.{MayChange}
 use Rattle.sf_call.proofs.Orders.{exact_paths}
 use Rattle.sf_call.proofs.LookUps.{lookup-put, none_set, none_removed, none_filtered, found_removed}
 use Rattle.sf_call.proofs.MovedNames.{lookup-insert_entry, same_path_is, is_equal}
 
--- no path and no handle has a free number, and no two paths have one label
+-- no path, no object and no handle has a free number, and no two paths have one label
 pub record IsLabelled (Free : ℕ → Type 0) (tree : Tree) : Type 0 where
   pub unused : (number : ℕ) → Free number → (path : Path) → label_at tree.names path ≢ Some number
+  pub no_object : (number : ℕ) → Free number → object_of tree.objects number ≡ None
   pub unopened : (number : ℕ) → Free number → handle_of tree.handles number ≡ None
   pub one_path : (path other : Path) (label : ℕ) → label_at tree.names path ≡ Some label → label_at tree.names other ≡ Some label → path ≡ other
 
@@ -25,6 +28,7 @@ pub record IsLabelled (Free : ℕ → Type 0) (tree : Tree) : Type 0 where
 pub labelled_less : (Free Less : ℕ → Type 0) (tree : Tree) → ((n : ℕ) → Less n → Free n) → IsLabelled Free tree → IsLabelled Less tree
 labelled_less Free Less tree less h = record {
   unused = λ n free path. h.unused n (less n free) path;
+  no_object = λ n free. h.no_object n (less n free);
   unopened = λ n free. h.unopened n (less n free);
   one_path = h.one_path;
 }
@@ -37,21 +41,27 @@ there names new_path number path label e =
       | false ↦ λ other f. inr f
     ] refl (sym (lookup-insert_entry names new_path number path) ∙ e)
 
-other_handle : (handles : List (ℕ × Handle)) (number n : ℕ) (handle : Handle) → n ≢ number → handle_of handles n ≡ None → handle_of (insert_entry nat_cmp handles number handle) n ≡ None
-other_handle handles number n handle other none =
-    lookup-put nat_cmp nat_cmp_total handles number handle n
-    ∙ elim (is_at (nat_cmp n) number) as (λ b. is_at (nat_cmp n) number ≡ b → cond b (Some handle) (handle_of handles n) ≡ None) [
+other_entry : {X : Type 0} (entries : List (ℕ × X)) (number n : ℕ) (x : X) → n ≢ number → lookup (is_at (nat_cmp n)) entries ≡ None → lookup (is_at (nat_cmp n)) (insert_entry nat_cmp entries number x) ≡ None
+other_entry entries number n x other none =
+    lookup-put nat_cmp nat_cmp_total entries number x n
+    ∙ elim (is_at (nat_cmp n) number) as (λ b. is_at (nat_cmp n) number ≡ b → cond b (Some x) (lookup (is_at (nat_cmp n)) entries) ≡ None) [
       | true ↦ λ tied. absurd (other (nat_cmp-IsAntisymmetric n number (is_equal (nat_cmp n number) tied)))
       | false ↦ λ _. none
     ] refl
 
 pub labelled_changed : (Free : ℕ → Type 0) (number : ℕ) → ¬ Free number → (tree : Tree) (change : Change) → MayChange number tree change → IsOrderedTree tree → IsLabelled Free tree → IsLabelled Free (changed tree change)
-labelled_changed Free number taken tree (SetObject label object) may o h = record { unused = h.unused; unopened = h.unopened; one_path = h.one_path }
+labelled_changed Free number taken tree (SetObject label object) may o h = record {
+  unused = h.unused;
+  no_object = λ n free. none_set (is_at (nat_cmp n)) (is_at (nat_cmp label)) tree.objects object (h.no_object n free);
+  unopened = h.unopened;
+  one_path = h.one_path;
+}
 labelled_changed Free number taken tree (NewPath new_path new_label object) may o h = record {
   unused = λ n free path e. elim (there tree.names new_path new_label path n e) [
     | inl z ↦ taken (let is : n ≡ number = z.1 ∙ may.is_number in subst Free is free)
     | inr f ↦ h.unused n free path f
   ];
+  no_object = λ n free. other_entry tree.objects new_label n object (λ same. taken (let is : n ≡ number = same ∙ may.is_number in subst Free is free)) (h.no_object n free);
   unopened = h.unopened;
   one_path = λ path other label e f. elim (there tree.names new_path new_label path label e) [
     | inl z ↦ elim (there tree.names new_path new_label other label f) [
@@ -69,22 +79,26 @@ labelled_changed Free number taken tree (GonePath gone) may o h =
     λ path label e. found_removed path_cmp exact_paths (is_at (path_cmp gone)) tree.names path label o.names e in
     record {
       unused = λ n free path e. h.unused n free path (back path n e);
+      no_object = λ n free. none_filtered (is_at (nat_cmp n)) (λ e. is_used (remove_entry (is_at (path_cmp gone)) tree.names) tree.handles e.0) tree.objects (h.no_object n free);
       unopened = h.unopened;
       one_path = λ path other label e f. h.one_path path other label (back path label e) (back other label f);
     }
 labelled_changed Free number taken tree (Move old new) may o h = absurd may
 labelled_changed Free number taken tree (OpenHandle handle opened) may o h = record {
   unused = h.unused;
-  unopened = λ n free. other_handle tree.handles handle n opened (λ same. taken (let is : n ≡ number = same ∙ may.is_number in subst Free is free)) (h.unopened n free);
+  no_object = h.no_object;
+  unopened = λ n free. other_entry tree.handles handle n opened (λ same. taken (let is : n ≡ number = same ∙ may.is_number in subst Free is free)) (h.unopened n free);
   one_path = h.one_path;
 }
 labelled_changed Free number taken tree (SetHandle handle opened) may o h = record {
   unused = h.unused;
+  no_object = h.no_object;
   unopened = λ n free. none_set (is_at (nat_cmp n)) (is_at (nat_cmp handle)) tree.handles opened (h.unopened n free);
   one_path = h.one_path;
 }
 labelled_changed Free number taken tree (CloseHandle handle) may o h = record {
   unused = h.unused;
+  no_object = λ n free. none_filtered (is_at (nat_cmp n)) (λ e. is_used tree.names (remove_entry (is_at (nat_cmp handle)) tree.handles) e.0) tree.objects (h.no_object n free);
   unopened = λ n free. none_removed (is_at (nat_cmp n)) (is_at (nat_cmp handle)) tree.handles (h.unopened n free);
   one_path = h.one_path;
 }
@@ -93,6 +107,7 @@ pub labelled_left : (Free : ℕ → Type 0) (tree : Tree) (session : ℕ) → Is
     → IsLabelled Free (kept (with_handles tree (filter (λ e. not (nat_eq e.1.session session)) tree.handles)))
 labelled_left Free tree session h = record {
   unused = h.unused;
+  no_object = λ n free. none_filtered (is_at (nat_cmp n)) (λ e. is_used tree.names (filter (λ o. not (nat_eq o.1.session session)) tree.handles) e.0) tree.objects (h.no_object n free);
   unopened = λ n free. none_filtered (is_at (nat_cmp n)) (λ e. not (nat_eq e.1.session session)) tree.handles (h.unopened n free);
   one_path = h.one_path;
 }
@@ -101,9 +116,17 @@ pub root_alone : (path : Path) (label : ℕ) → label_at empty_tree.names path 
 root_alone [] label e = (refl, cc)
 root_alone (n ∷ path) label e = cc
 
+root_label : (n : ℕ) → 0 < n → object_of empty_tree.objects n ≡ None
+root_label n over =
+    elim (is_at (nat_cmp n) 0) as (λ b. is_at (nat_cmp n) 0 ≡ b → cond b (Some (Directory (made_at 0o755 0))) None ≡ None) [
+      | true ↦ λ tied. let is : n ≡ 0 = nat_cmp-IsAntisymmetric n 0 (is_equal (nat_cmp n 0) tied) in absurd (omega arith)
+      | false ↦ λ _. refl
+    ] refl
+
 pub labelled_empty : (Free : ℕ → Type 0) → ((n : ℕ) → Free n → 0 < n) → IsLabelled Free empty_tree
 labelled_empty Free above = record {
   unused = λ number free path e. let z = root_alone path number e in let is : number ≡ 0 = z.1 in let over : 0 < number = above number free in absurd (omega arith);
+  no_object = λ n free. root_label n (above n free);
   unopened = λ n free. refl;
   one_path = λ path other label e f. (root_alone path label e).0 ∙ sym (root_alone other label f).0;
 }

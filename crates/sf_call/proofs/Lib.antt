@@ -4,6 +4,7 @@ pub mod Growth
 pub mod MovedNames
 pub mod Ordered
 pub mod LookUps
+pub mod LeftAlone
 pub mod KindsOfReplies
 pub mod Labels
 pub mod Founded
@@ -17,4 +18,6 @@ pub mod FittingAnswers
 pub mod FittingReplies
 pub mod Replies
 pub mod Idle
-pub mod LeftAlone
+pub mod SameKinds
+pub mod OwnChanges
+pub mod InOrder

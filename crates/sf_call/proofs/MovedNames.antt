@@ -46,7 +46,7 @@ append-after_front (n ∷ p) (m ∷ q) r =
       | false ↦ λ t e. cc
     ] refl
 
-path_cmp-front : (p r s : Path) → path_cmp (p ++ r) (p ++ s) ≡ path_cmp r s
+pub path_cmp-front : (p r s : Path) → path_cmp (p ++ r) (p ++ s) ≡ path_cmp r s
 path_cmp-front [] r s = refl
 path_cmp-front (n ∷ p) r s = rw (tied_itself name_total n) (path_cmp-front p r s)
 

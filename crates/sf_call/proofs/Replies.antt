@@ -1,14 +1,12 @@
 -- The same calls, all of them served, have the same replies.
-use Rattle.std.proofs.Common.{◌≡◌, ◌≢◌, ◌⊎◌, ℕ, List, [], ◌∷◌, ◌++◌, refl, sym, ap, ◌∙◌, subst, inl, inr}
+use Rattle.std.proofs.Common.{◌≡◌, ◌≢◌, ◌⊎◌, List, [], ◌∷◌, ◌++◌, refl, sym, subst, inl, inr}
 use Rattle.sf_wire.specs.declared.reply.Reply.{Reply}
 use Rattle.sf_wire.specs.declared.reply.Reply.TheVariants as reply
-use Rattle.sf_call.specs.declared.request.Request.{Request}
 use Rattle.sf_call.specs.declared.record.Record.{Record}
 use Rattle.sf_call.specs.declared.record.Record.TheVariants.{Did, Left}
 use Rattle.sf_call.specs.Calls.{apply}
 use Rattle.sf_call.specs.Histories.{replay, MayFollow, IsLegalAfter, IsLegal}
-use Rattle.sf_call.specs.SameCalls.{Call, call_of, calls_of, IsServed, AreServed}
-use Rattle.sf_call.specs.SameCalls.Call.{Asked, Leaving}
+use Rattle.sf_call.specs.SameCalls.{call_of, calls_of, IsServed, AreServed}
 
 told : (given answered : Reply) → (given ≡ answered) ⊎ (given ≡ reply.NoMemory) → given ≢ reply.NoMemory → given ≡ answered
 told given answered may served = elim may [ inl same ↦ same | inr none ↦ absurd (served none) ]

@@ -1,6 +1,11 @@
 -- What a request changes is allowed.
-use Rattle.std.proofs.Common.{◌≡◌, ◌≢◌, ◌<◌, ℕ, Bool, true, false, cond, not, nat_eq, nat_lt, nat_le, ◌+◌, ◌&&◌, List, [], ◌∷◌, ◌++◌, length, length-append, filter_map, take, Option, Some, None, option_and_then, refl, sym, ap, ◌∙◌, append_assoc, arith}
+use Rattle.std.proofs.Common.{◌≡◌, ◌≢◌, ◌<◌, ℕ, Bool, true, false, cond, not, nat_eq, nat_lt, nat_le, ◌+◌, ◌-◌, ◌&&◌, List, [], ◌∷◌, ◌++◌, length, length-append, length-take, take, Option, Some, None, option_map, option_and_then, refl, sym, ap, ◌∙◌, append_assoc, arith}
 use Rattle.std.specs.List.{cons_option}
+use Rattle.std.specs.Ordering.{nat_cmp}
+use Rattle.std.specs.Cmp.{nat_cmp_total}
+use Rattle.std.specs.Map.{remove_entry}
+use Rattle.std.specs.BTreeMap.{insert_entry, is_at}
+use Rattle.std.specs.FinMap.{nat_cmp-IsAntisymmetric}
 use Rattle.std.specs.Option.{is_some}
 use Rattle.std.proofs.lemmas.List.{take_all, take-append-le}
 use Rattle.sf_path.specs.Names.{Name, Path}
@@ -16,20 +21,23 @@ use Rattle.sf_call.specs.declared.request.Request.{Request}
 use Rattle.sf_call.specs.declared.request.Request.TheVariants.{Stat, SetStat, Mkdir, Rmdir, Remove, OpenDir, Open, Close, FStat, FSetStat, Read, Write, ReadDir, Rename, PosixRename}
 use Rattle.sf_call.specs.Attributes.{Object}
 use Rattle.sf_call.specs.Attributes.Object.{Directory, File}
-use Rattle.sf_call.specs.Tree.{Tree, Handle, Found, label_at, object_of, handle_of, directory_at, is_directory, is_faulty_way, place_of, place_at, found_object, found_place, found_at, after_front, only_name, children, is_nil, is_empty}
+use Rattle.sf_call.specs.Tree.{Tree, Handle, Found, label_at, object_of, handle_of, with_names, directory_metadata, directory_at, is_directory, is_faulty_way, place_of, place_at, found_object, found_place, found_at, after_front, only_name, children, is_nil, is_empty}
 use Rattle.sf_call.specs.Tree.Found.{Nowhere, Nothing, DirectoryAt, FileAt}
-use Rattle.sf_call.specs.Handles.{Opened, if_of, handle_in, opened_object, opened_by, opened, with_listed}
+use Rattle.sf_call.specs.Handles.{Opened, if_of, handle_in, opened_object, opened_by, opened}
 use Rattle.sf_call.specs.Handles.Opened.{NotOpen, OpenDirectory, OpenFile}
 use Rattle.sf_call.specs.Listings.{path_of, listing_of}
-use Rattle.sf_call.specs.Changes.{touch, touched}
-use Rattle.sf_call.specs.Allowed.{is_file, IsSetRightly, IsNewHandle, AreAllowed}
+use Rattle.sf_call.specs.Changes.{touch}
+use Rattle.sf_call.specs.Allowed.{kind_of, IsSetRightly, IsNewHandle, AreAllowed}
 use Rattle.sf_call.specs.Calls.{Answer, answer_to, stat, refuses_size, with_size, sets, set_stat, make_directory, goes, remove_directory, remove_file, has_all_handles, open_directory, open_present, open_file, close, stat_opened, set_opened, read, start_of, write, lists, read_directory, unless_root}
 use Rattle.sf_call.proofs.Ways.{open_way}
 use Rattle.sf_call.proofs.MovedNames.{same_path_is, after_front-append}
-use Rattle.sf_call.proofs.Founded.{IsFounded, is_directory_object, is_directory_label, is_directory_is, not_both}
+use Rattle.sf_call.proofs.Orders.{exact_paths}
+use Rattle.sf_call.proofs.LookUps.{other_removed}
+use Rattle.sf_call.proofs.LeftAlone.{other_put}
+use Rattle.sf_call.proofs.Founded.{IsFounded, is_file, kept_object, is_directory_object, is_directory_label, is_directory_is, not_both}
 
 -- the place of a path that has a label
-place_label : (tree : Tree) (path : Path) (label : ℕ) → place_at tree path ≡ At label → label_at tree.names path ≡ Some label
+pub place_label : (tree : Tree) (path : Path) (label : ℕ) → place_at tree path ≡ At label → label_at tree.names path ≡ Some label
 place_label tree path label e =
     elim (is_faulty_way tree path) as (λ b. cond b NoWay (place_of (label_at tree.names path)) ≡ At label → label_at tree.names path ≡ Some label) [
       | true ↦ λ k. cc
@@ -89,7 +97,32 @@ handle_there tree session handle h e =
       | Some g ↦ elim (nat_eq g.session session) as (λ b. cond b (Some g) None ≡ Some h → Some g ≡ Some h) [ true ↦ λ k. k | false ↦ λ k. cc ]
     ] e
 
-module _ (tree : Tree) (number moment : ℕ) (unused : (q : Path) → label_at tree.names q ≢ Some number) (unopened : handle_of tree.handles number ≡ None) (f : IsFounded tree) where
+-- the label of a directory, and what its object is
+pub directory_there : (tree : Tree) (path : Path) (d : ℕ × Metadata) → directory_at tree path ≡ Some d → (label_at tree.names path ≡ Some d.0) × (object_of tree.objects d.0 ≡ Some (Directory d.1))
+directory_there tree path d e =
+    elim (label_at tree.names path) as (λ o. option_and_then (λ label. option_map (λ m. (label, m)) (option_and_then directory_metadata (object_of tree.objects label))) o ≡ Some d
+    → (o ≡ Some d.0) × (object_of tree.objects d.0 ≡ Some (Directory d.1))) [
+      | None ↦ λ k. cc
+      | Some label ↦ λ k. directory_object label (object_of tree.objects label) refl k
+    ] e where
+      directory_object : (label : ℕ) (o : Option Object) → object_of tree.objects label ≡ o → option_map (λ m. (label, m)) (option_and_then directory_metadata o) ≡ Some d
+          → (Some label ≡ Some d.0) × (object_of tree.objects d.0 ≡ Some (Directory d.1))
+      directory_object label None is k = cc
+      directory_object label (Some (File m contents)) is k = cc
+      directory_object label (Some (Directory m)) is k =
+          let same : (label, m) ≡ d = cc in
+          let labels : label ≡ d.0 = ap (λ (x : ℕ × Metadata). x.0) same in
+          let metadata : m ≡ d.1 = ap (λ (x : ℕ × Metadata). x.1) same in
+          (ap Some labels, ap (object_of tree.objects) (sym labels) ∙ is ∙ ap (λ (x : Metadata). Some (Directory x)) metadata)
+
+-- a path but the root is not its parent
+other_parent : (path : Path) → path ≢ [] → parent path ≢ path
+other_parent [] not_root same = not_root refl
+other_parent (n ∷ path) not_root same =
+    let lengths : length (take (length (n ∷ path) - 1) (n ∷ path)) ≡ length (n ∷ path) = ap length same in
+    let short = length-take (length (n ∷ path) - 1) (n ∷ path) in omega arith
+
+module _ (tree : Tree) (number moment : ℕ) (unused : (q : Path) → label_at tree.names q ≢ Some number) (no_object : object_of tree.objects number ≡ None) (unopened : handle_of tree.handles number ≡ None) (f : IsFounded tree) where
   abbrev pub IsRight : Answer → Type 0
   IsRight answer = AreAllowed number tree answer.changes
 
@@ -101,9 +134,14 @@ module _ (tree : Tree) (number moment : ℕ) (unused : (q : Path) → label_at t
   either_if true this that p q = p refl
   either_if false this that p q = q refl
 
-  allowed_touch : (t : Tree) (at : Option (ℕ × Metadata)) → AreAllowed number t (touch moment at)
-  allowed_touch t None = tt
-  allowed_touch t (Some e) = (tt, tt)
+  -- a directory that another change left alone may be set
+  allowed_touch : (t : Tree) (path : Path) (at : Option (ℕ × Metadata)) → directory_at tree path ≡ at
+      → ((label : ℕ) → label_at tree.names path ≡ Some label → object_of t.objects label ≡ object_of tree.objects label) → AreAllowed number t (touch moment at)
+  allowed_touch t path None e same = tt
+  allowed_touch t path (Some d) e same = let there = directory_there tree path d e in (ap (option_map kind_of) (same d.0 there.0 ∙ there.1), tt)
+
+  new_leaves : (path : Path) (object : Object) (label : ℕ) → label_at tree.names path ≡ Some label → object_of (insert_entry nat_cmp tree.objects number object) label ≡ object_of tree.objects label
+  new_leaves path object label e = other_put nat_cmp nat_cmp-IsAntisymmetric nat_cmp_total tree.objects number object label (λ same. unused path (e ∙ ap Some same))
 
   found_stat : (found : Found) → IsRight (stat found)
   found_stat Nowhere = tt
@@ -111,13 +149,13 @@ module _ (tree : Tree) (number moment : ℕ) (unused : (q : Path) → label_at t
   found_stat (DirectoryAt label m) = tt
   found_stat (FileAt label m contents) = tt
 
-  sized : (label : ℕ) (attrs : Attrs) (size : Option ℕ) (m : Metadata) (contents : List ℕ) → is_file (object_of tree.objects label) ≡ true → IsSetRightly tree label (with_size moment attrs size m contents)
-  sized label attrs None m contents file = file
-  sized label attrs (Some size) m contents file = file
+  sized : (label : ℕ) (attrs : Attrs) (size : Option ℕ) (m : Metadata) (contents : List ℕ) → object_of tree.objects label ≡ Some (File m contents) → IsSetRightly tree label (with_size moment attrs size m contents)
+  sized label attrs None m contents e = ap (option_map kind_of) e
+  sized label attrs (Some size) m contents e = ap (option_map kind_of) e
 
   parts_set : (label : ℕ) (attrs : Attrs) (object : Object) → object_of tree.objects label ≡ Some object → IsRight (sets moment label attrs object)
-  parts_set label attrs (Directory m) e = either (refuses_size (Directory m) attrs.size) _ _ tt (tt, tt)
-  parts_set label attrs (File m contents) e = either (refuses_size (File m contents) attrs.size) _ _ tt (sized label attrs attrs.size m contents (ap is_file e), tt)
+  parts_set label attrs (Directory m) e = either (refuses_size (Directory m) attrs.size) _ _ tt (ap (option_map kind_of) e, tt)
+  parts_set label attrs (File m contents) e = either (refuses_size (File m contents) attrs.size) _ _ tt (sized label attrs attrs.size m contents e, tt)
 
   set_object : (attrs : Attrs) (label : ℕ) (o : Option Object) → object_of tree.objects label ≡ o → IsRight (set_stat moment attrs (found_object label o))
   set_object attrs label None e = tt
@@ -134,10 +172,15 @@ module _ (tree : Tree) (number moment : ℕ) (unused : (q : Path) → label_at t
   made path attrs (At label) e = tt
   made path attrs Absent e =
       let free = place_free tree path e in
-      (record { is_number = refl; free = free.1; way = free.0; unused = unused }, allowed_touch _ (directory_at tree (parent path)))
+      (record { is_number = refl; free = free.1; way = free.0; unused = unused; no_object = no_object }, allowed_touch _ (parent path) (directory_at tree (parent path)) refl (new_leaves (parent path) _))
 
-  gone : (path : Path) → ((name : Name) (rest : Path) → label_at tree.names (path ++ name ∷ rest) ≡ None) → IsRight (goes tree moment path)
-  gone path none = (none, allowed_touch _ (directory_at tree (parent path)))
+  gone : (path : Path) → path ≢ [] → ((name : Name) (rest : Path) → label_at tree.names (path ++ name ∷ rest) ≡ None) → IsRight (goes tree moment path)
+  gone path not_root none = (
+    none,
+    allowed_touch _ (parent path) (directory_at tree (parent path)) refl
+        (λ label e. kept_object (with_names tree (remove_entry (is_at (path_cmp path)) tree.names)) (parent path) label
+        (other_removed path_cmp exact_paths path (parent path) tree.names (other_parent path not_root) ∙ e)),
+  )
 
   -- nothing is below an empty directory or a file
   below_empty : (path : Path) → is_empty tree.names path ≡ true → (name : Name) (rest : Path) (label : ℕ) → label_at tree.names (path ++ name ∷ rest) ≡ Some label → ⊥
@@ -152,27 +195,27 @@ module _ (tree : Tree) (number moment : ℕ) (unused : (q : Path) → label_at t
       let directory : is_directory_label tree.objects (Some at) ≡ true = ap (is_directory_label tree.objects) (sym here) ∙ sym (is_directory_is tree path) ∙ front_directory tree path name rest label f e in
       file_is_none (object_of tree.objects at) file directory
 
-  directory_removed : (path : Path) (place : Place) → place_at tree path ≡ place → IsRight (remove_directory tree moment path (found_place tree.objects place))
-  directory_removed path NoWay e = tt
-  directory_removed path Absent e = tt
-  directory_removed path (At label) e = removed_object (object_of tree.objects label) where
+  directory_removed : (path : Path) → path ≢ [] → (place : Place) → place_at tree path ≡ place → IsRight (remove_directory tree moment path (found_place tree.objects place))
+  directory_removed path not_root NoWay e = tt
+  directory_removed path not_root Absent e = tt
+  directory_removed path not_root (At label) e = removed_object (object_of tree.objects label) where
     removed_object : (o : Option Object) → IsRight (remove_directory tree moment path (found_object label o))
     removed_object None = tt
     removed_object (Some (File m contents)) = tt
     removed_object (Some (Directory m)) =
         either_if (is_empty tree.names path) _ _
-        (λ none. gone path (λ name rest. label_or_none (label_at tree.names (path ++ name ∷ rest)) (λ l there. below_empty path none name rest l there)))
+        (λ none. gone path not_root (λ name rest. label_or_none (label_at tree.names (path ++ name ∷ rest)) (λ l there. below_empty path none name rest l there)))
         (λ some. tt)
 
-  file_removed : (path : Path) (place : Place) → place_at tree path ≡ place → IsRight (remove_file tree moment path (found_place tree.objects place))
-  file_removed path NoWay e = tt
-  file_removed path Absent e = tt
-  file_removed path (At label) e = removed_object (object_of tree.objects label) refl where
+  file_removed : (path : Path) → path ≢ [] → (place : Place) → place_at tree path ≡ place → IsRight (remove_file tree moment path (found_place tree.objects place))
+  file_removed path not_root NoWay e = tt
+  file_removed path not_root Absent e = tt
+  file_removed path not_root (At label) e = removed_object (object_of tree.objects label) refl where
     removed_object : (o : Option Object) → object_of tree.objects label ≡ o → IsRight (remove_file tree moment path (found_object label o))
     removed_object None is = tt
     removed_object (Some (Directory m)) is = tt
     removed_object (Some (File m contents)) is =
-        gone path (λ name rest. label_or_none (label_at tree.names (path ++ name ∷ rest)) (λ l there. below_file path label (place_label tree path label e) (ap is_file is) name rest l there))
+        gone path not_root (λ name rest. label_or_none (label_at tree.names (path ++ name ∷ rest)) (λ l there. below_file path label (place_label tree path label e) (ap is_file is) name rest l there))
 
   new_handle : IsNewHandle number tree number
   new_handle = record { is_number = refl; free = unopened }
@@ -187,7 +230,7 @@ module _ (tree : Tree) (number moment : ℕ) (unused : (q : Path) → label_at t
   present_opened session flags label None e = tt
   present_opened session flags label (Some (Directory m)) e = tt
   present_opened session flags label (Some (File m contents)) e =
-      either (has_all_handles tree session) _ _ tt (either (flags.truncate && flags.write) _ _ (new_handle, (ap is_file e, tt)) (new_handle, tt))
+      either (has_all_handles tree session) _ _ tt (either (flags.truncate && flags.write) _ _ (new_handle, (ap (option_map kind_of) e, tt)) (new_handle, tt))
 
   file_opened : (session : ℕ) (path : Path) (flags : OpenFlags) (attrs : Attrs) (place : Place) → place_at tree path ≡ place → IsRight (open_file tree session number moment path flags attrs place)
   file_opened session path flags attrs NoWay e = tt
@@ -196,7 +239,7 @@ module _ (tree : Tree) (number moment : ℕ) (unused : (q : Path) → label_at t
   file_opened session path flags attrs Absent e =
       let free = place_free tree path e in
       either (not flags.create) _ _ tt (either (has_all_handles tree session) _ _ tt
-      (new_handle, (record { is_number = refl; free = free.1; way = free.0; unused = unused }, allowed_touch _ (directory_at tree (parent path)))))
+      (new_handle, (record { is_number = refl; free = free.1; way = free.0; unused = unused; no_object = no_object }, allowed_touch _ (parent path) (directory_at tree (parent path)) refl (new_leaves (parent path) _))))
 
   closed : (handle : ℕ) (o : Option Handle) → IsRight (close handle o)
   closed handle None = tt
@@ -226,7 +269,7 @@ module _ (tree : Tree) (number moment : ℕ) (unused : (q : Path) → label_at t
   written_object offset bytes h (Some (Directory m)) e = tt
   written_object offset bytes h (Some (File m contents)) e =
       either (not h.write) _ _ tt (either (is_nil bytes) _ _ tt
-      (either (nat_lt MAX_FILE_SIZE (start_of h contents offset + length bytes)) _ _ tt (ap is_file e, tt)))
+      (either (nat_lt MAX_FILE_SIZE (start_of h contents offset + length bytes)) _ _ tt (ap (option_map kind_of) e, tt)))
 
   was_written : (offset : ℕ) (bytes : List ℕ) (o : Option Handle) → IsRight (write moment offset bytes (opened_by tree o))
   was_written offset bytes None = tt
@@ -245,18 +288,18 @@ module _ (tree : Tree) (number moment : ℕ) (unused : (q : Path) → label_at t
   directory_read session handle None e = tt
   directory_read session handle (Some h) e = listed_object handle h (object_of tree.objects h.label) (handle_there tree session handle h e)
 
-  rooted : (path : Path) (answer : Answer) → IsRight answer → IsRight (unless_root path answer)
+  rooted : (path : Path) (answer : Answer) → (path ≢ [] → IsRight answer) → IsRight (unless_root path answer)
   rooted [] answer p = tt
-  rooted (n ∷ path) answer p = p
+  rooted (n ∷ path) answer p = p (λ e. cc)
 
   pub allowed : (session : ℕ) (request : Request) → AreAllowed number tree (answer_to tree session number moment request).changes
   allowed session (Stat path) = found_stat (found_at tree path)
-  allowed session (SetStat path attrs) = rooted path _ (set_place attrs (place_at tree path))
-  allowed session (Mkdir path attrs) = rooted path _ (made path attrs (place_at tree path) refl)
-  allowed session (Rmdir path) = rooted path _ (directory_removed path (place_at tree path) refl)
-  allowed session (Remove path) = rooted path _ (file_removed path (place_at tree path) refl)
+  allowed session (SetStat path attrs) = rooted path _ (λ not_root. set_place attrs (place_at tree path))
+  allowed session (Mkdir path attrs) = rooted path _ (λ not_root. made path attrs (place_at tree path) refl)
+  allowed session (Rmdir path) = rooted path _ (λ not_root. directory_removed path not_root (place_at tree path) refl)
+  allowed session (Remove path) = rooted path _ (λ not_root. file_removed path not_root (place_at tree path) refl)
   allowed session (OpenDir path) = directory_opened session (found_at tree path)
-  allowed session (Open path flags attrs) = rooted path _ (file_opened session path flags attrs (place_at tree path) refl)
+  allowed session (Open path flags attrs) = rooted path _ (λ not_root. file_opened session path flags attrs (place_at tree path) refl)
   allowed session (Close handle) = closed handle (handle_in tree session handle)
   allowed session (FStat handle) = opened_stat (opened tree session handle)
   allowed session (FSetStat handle attrs) = set_by_handle attrs (handle_in tree session handle)

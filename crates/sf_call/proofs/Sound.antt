@@ -1,5 +1,5 @@
 -- What holds of the tree after every legal history.
-use Rattle.std.proofs.Common.{◌≡◌, ◌≢◌, ◌<◌, ℕ, List, [], ◌∷◌, ◌++◌, refl, sym, subst, append_assoc}
+use Rattle.std.proofs.Common.{◌<◌, ℕ, List, [], ◌∷◌, ◌++◌, refl, sym, subst, append_assoc}
 use Rattle.std.proofs.lemmas.List.{append-nil}
 use Rattle.sf_wire.specs.declared.reply.Reply.{Reply}
 use Rattle.sf_wire.specs.declared.reply.Reply.TheVariants as reply
@@ -12,7 +12,7 @@ use Rattle.sf_call.specs.Allowed.{MayChange, AreAllowed}
 use Rattle.sf_call.specs.Calls.{answer_to, apply}
 use Rattle.sf_call.specs.Histories.{after, after_reply, replay, IsNewNumber, MayFollow, IsLegal, IsLegalAfter}
 use Rattle.sf_call.proofs.Growth.{replay-push, front_new, last_other}
-use Rattle.sf_call.proofs.Ordered.{ordered_changed, ordered_left, ordered_replay}
+use Rattle.sf_call.proofs.Ordered.{ordered_changed, ordered_left}
 use Rattle.sf_call.proofs.Labels.{IsLabelled, labelled_less, labelled_changed, labelled_left, labelled_empty}
 use Rattle.sf_call.proofs.Founded.{IsFounded, founded_changed, founded_left, founded_empty}
 use Rattle.sf_call.proofs.Used.{AllUsed, used_changed, used_left, used_empty}
@@ -60,7 +60,7 @@ sound_less history r tree s = record {
 -- what a request that may follow changes is allowed
 pub allowed_by_sound : (Free : ℕ → Type 0) (tree : Tree) (session number moment : ℕ) (request : Request) → Free number → IsSound Free tree → AreAllowed number tree (answer_to tree session number moment request).changes
 allowed_by_sound Free tree session number moment request free s =
-    allowed tree number moment (s.labelled.unused number free) (s.labelled.unopened number free) s.founded session request
+    allowed tree number moment (s.labelled.unused number free) (s.labelled.no_object number free) (s.labelled.unopened number free) s.founded session request
 
 sound_after : (history : List Record) (tree : Tree) (r : Record) → MayFollow history r → IsSound (FreeAfter history) tree → IsSound (FreeAfter (history ++ r ∷ [])) (after tree r)
 sound_after history tree (Did number session moment request given) may s =

@@ -1,28 +1,29 @@
 -- What a request may change.
-use Rattle.std.specs.Prelude.{◌≡◌, ◌≢◌, ℕ, Bool, true, false, List, [], ◌∷◌, ◌++◌, Option, Some, None}
+use Rattle.std.specs.Prelude.{◌≡◌, ◌≢◌, ℕ, false, List, [], ◌∷◌, ◌++◌, Some, None, option_map}
 use Rattle.sf_path.specs.Names.{Name, Path}
+use Rattle.sf_call.specs.declared.metadata.FileType.{FileType}
+use Rattle.sf_call.specs.declared.metadata.FileType.TheVariants as file_type
 use Rattle.sf_call.specs.Attributes.{Object}
 use Rattle.sf_call.specs.Attributes.Object.{Directory, File}
 use Rattle.sf_call.specs.Tree.{Tree, Handle, label_at, object_of, handle_of, is_faulty_way}
 use Rattle.sf_call.specs.Changes.{Change, changed}
 use Rattle.sf_call.specs.Changes.Change.{SetObject, NewPath, GonePath, Move, OpenHandle, SetHandle, CloseHandle}
 
-abbrev pub is_file : Option Object → Bool
-is_file None = false
-is_file (Some (Directory m)) = false
-is_file (Some (File m contents)) = true
+abbrev pub kind_of : Object → FileType
+kind_of (Directory m) = file_type.Directory
+kind_of (File m contents) = file_type.File
 
--- bytes are given to files alone
+-- an object stays of its kind
 abbrev pub IsSetRightly : Tree → ℕ → Object → Type 0
-IsSetRightly tree label (Directory m) = Unit {0}
-IsSetRightly tree label (File m contents) = is_file (object_of tree.objects label) ≡ true
+IsSetRightly tree label object = option_map kind_of (object_of tree.objects label) ≡ Some (kind_of object)
 
--- a new path was free, its way was open, and its label is the call's number, which no path had
+-- a new path was free, its way was open, and its label is the call's number, which no path and no object had
 pub record IsNewPath (number : ℕ) (tree : Tree) (path : Path) (label : ℕ) : Type 0 where
   pub is_number : label ≡ number
   pub free : label_at tree.names path ≡ None
   pub way : is_faulty_way tree path ≡ false
   pub unused : (other : Path) → label_at tree.names other ≢ Some label
+  pub no_object : object_of tree.objects label ≡ None
 
 -- a new handle's number is the call's, which no handle had
 pub record IsNewHandle (number : ℕ) (tree : Tree) (handle : ℕ) : Type 0 where

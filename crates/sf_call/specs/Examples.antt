@@ -1,14 +1,13 @@
 -- Small trees and requests on which the definitions are worked out.
-use Rattle.std.specs.Prelude.{ℕ, ◌+◌, ◌/◌, ◌%◌, Bool, true, false, List, [], ◌∷◌, ◌++◌, map, codes, Some, None}
+use Rattle.std.specs.Prelude.{ℕ, ◌+◌, ◌/◌, ◌%◌, Bool, true, false, List, [], ◌∷◌, map, codes, Some, None}
 use Rattle.sf_wire.specs.declared.attrs.Attrs.{Attrs}
 use Rattle.sf_wire.specs.declared.open_flags.OpenFlags.{OpenFlags}
-use Rattle.sf_wire.specs.declared.reply.Entry.{Entry}
 use Rattle.sf_wire.specs.declared.reply.Reply.{Reply}
 use Rattle.sf_wire.specs.declared.reply.Reply.TheVariants as reply
 use Rattle.sf_wire.specs.declared.reply.StatusCode.{StatusCode}
 use Rattle.sf_wire.specs.declared.reply.StatusCode.TheVariants.{Success, NoSuchFile}
 use Rattle.sf_call.specs.declared.request.Request.{Request}
-use Rattle.sf_call.specs.declared.request.Request.TheVariants.{Stat, SetStat, Mkdir, Rmdir, Remove, OpenDir, Open, Close, FStat, FSetStat, Read, Write, ReadDir}
+use Rattle.sf_call.specs.declared.request.Request.TheVariants.{Stat, Mkdir, Open}
 use Rattle.sf_call.specs.declared.record.Record.{Record}
 use Rattle.sf_call.specs.declared.record.Record.TheVariants.{Did, Left}
 use Rattle.sf_call.specs.Attributes.{Metadata, Object}

@@ -6,6 +6,7 @@ pub mod Listings
 pub mod Moves
 pub mod Changes
 pub mod LeftAlone
+pub mod Own
 pub mod Allowed
 pub mod Calls
 pub mod ReplyKinds

@@ -44,8 +44,9 @@ pub fn file_cases()
         ≡ reply.Handle 1 ∷ ok ∷ reply.Data (0 ∷ 0 ∷ 0 ∷ 0 ∷ 0 ∷ 120 ∷ []) ∷ reply.Status EndOfFile ∷ ok ∷ ok ∷ reply.Attrs (file_attrs 6) ∷ reply.Attrs (file_attrs 6) ∷ [] }
     ensures listed { replies (new_file f ∷ Write 1 5 (codes "x") ∷ OpenDir [] ∷ ReadDir 3 ∷ ReadDir 3 ∷ [])
         ≡ reply.Handle 1 ∷ ok ∷ reply.Handle 3 ∷ reply.Names (entry_of f (File (metadata 0 0 0o644 100 100) (0 ∷ 0 ∷ 0 ∷ 0 ∷ 0 ∷ 120 ∷ [])) ∷ []) ∷ reply.Status EndOfFile ∷ [] }
-    ensures past_limit { replies (new_file f ∷ Write 1 16777216 (codes "x") ∷ Write 1 18446744073709551615 (codes "x") ∷ SetStat (f ∷ []) (sized 16777217) ∷ FSetStat 1 (sized 18446744073709551615) ∷ Stat (f ∷ []) ∷ [])
-        ≡ reply.Handle 1 ∷ reply.Status Failure ∷ reply.Status Failure ∷ reply.Status Failure ∷ reply.Status Failure ∷ reply.Attrs (file_attrs 0) ∷ [] }
+    ensures past_limit { replies (new_file f ∷ Write 1 16777216 (codes "x") ∷ Write 1 18446744073709551615 (codes "x") ∷ SetStat (f ∷ []) (sized 16777217) ∷ SetStat (f ∷ []) (sized 18446744073709551615) ∷ FSetStat 1 (sized 18446744073709551615)
+        ∷ Read 1 18446744073709551615 4294967295 ∷ Stat (f ∷ []) ∷ [])
+        ≡ reply.Handle 1 ∷ reply.Status Failure ∷ reply.Status Failure ∷ reply.Status Failure ∷ reply.Status Failure ∷ reply.Status Failure ∷ reply.Status EndOfFile ∷ reply.Attrs (file_attrs 0) ∷ [] }
     ensures denied { replies (Open (f ∷ []) (flags true false false true) no_attrs ∷ Write 1 0 (codes "x") ∷ FSetStat 1 (sized 3) ∷ FStat 1 ∷ [])
         ≡ reply.Handle 1 ∷ reply.Status PermissionDenied ∷ reply.Status PermissionDenied ∷ reply.Attrs (file_attrs 0) ∷ [] }
     ensures unlinked { replies (new_file f ∷ Write 1 0 (codes "abc") ∷ Remove (f ∷ []) ∷ Read 1 0 10 ∷ Stat (f ∷ []) ∷ Close 1 ∷ Read 1 0 10 ∷ Close 1 ∷ [])

@@ -1,6 +1,6 @@
 //! Laws of the tree and of histories, which no call needs.
 
-ghost use Rattle.std.specs.Prelude.{◌≡◌, ◌≢◌, ◌<◌, ◌≤◌, ◌↔◌, ℕ, true, false, List, [], ◌∷◌, ◌++◌, length, take, Some, None, IsSome};
+ghost use Rattle.std.specs.Prelude.{◌≡◌, ◌≢◌, ◌<◌, ◌≤◌, ◌↔◌, ℕ, true, false, List, [], ◌∷◌, ◌++◌, length, take, Some, None, Option, IsSome};
 ghost use Rattle.sf_wire.specs.declared.reply.Reply.{Reply};
 ghost use Rattle.sf_call.specs.declared.request.Request.{Request};
 ghost use Rattle.sf_call.specs.declared.request.Request.TheVariants.{SetStat, FSetStat, Write};
@@ -15,12 +15,16 @@ ghost use Rattle.sf_call.specs.Calls.{answer_to, apply};
 ghost use Rattle.sf_call.specs.ReplyKinds.{IsReplyTo, HasAllParts};
 ghost use Rattle.sf_wire.specs.Longname.{HasType, longname_text};
 ghost use Rattle.sf_wire.specs.Replies.{ReplyFits, reply_body};
-ghost use Rattle.sf_call.specs.Listings.{entry_of};
+ghost use Rattle.sf_call.specs.Listings.{entry_of, is_past, listing, names_of};
+ghost use Rattle.std.specs.List.{AllByRecursion};
+ghost use Rattle.std.specs.List.Sorted.{IsStrictlySortedBy};
+ghost use Rattle.sf_path.specs.Order.{name_cmp};
 ghost use Rattle.sf_wire.specs.declared.reply.Reply.TheVariants.{Status};
 ghost use Rattle.sf_wire.specs.declared.reply.StatusCode.{StatusCode};
 ghost use Rattle.sf_wire.specs.declared.reply.StatusCode.TheVariants.{Success};
 ghost use Rattle.sf_call.specs.Attributes.{Object, attrs_of, no_attrs};
-ghost use Rattle.sf_call.specs.Allowed.{AreAllowed};
+ghost use Rattle.sf_call.specs.Own.{IsOwnPath, IsOwnObject, IsOwnHandle};
+ghost use Rattle.sf_call.specs.Allowed.{AreAllowed, kind_of};
 ghost use Rattle.sf_call.specs.Histories.{after, replay, IsNewNumber, IsLegal, MayFollow, IsAmong, IsGiven, record_of};
 ghost use Rattle.sf_call.specs.SameCalls.{calls_of, AreServed};
 
@@ -94,16 +98,41 @@ pub fn left_alone()
         → is_used (changed tree change).names (changed tree change).handles label ≡ true → object_of (changed tree change).objects label ≡ object_of tree.objects label }
 {}
 
-/// What a request that may come next changes: its own objects, paths and handles, as each kind of change asks.
+/// What is not a request's own it leaves alone: the labels of other paths, other handles, and other objects, which at most
+/// are let go of.
+pub fn own_changes()
+    ensures paths { (tree : Tree) (session number moment : ℕ) (request : Request) (path : Path) → ¬ IsOwnPath request path
+        → label_at (apply tree session number moment request).tree.names path ≡ label_at tree.names path }
+    ensures handles { (tree : Tree) (session number moment handle : ℕ) (request : Request) → ¬ IsOwnHandle tree session number request handle
+        → handle_of (apply tree session number moment request).tree.handles handle ≡ handle_of tree.handles handle }
+    ensures objects { (tree : Tree) (session number moment label : ℕ) (request : Request) → label ≢ number → ¬ IsOwnObject tree session request label
+        → IsSome (object_of (apply tree session number moment request).tree.objects label)
+        → object_of (apply tree session number moment request).tree.objects label ≡ object_of tree.objects label }
+{}
+
+/// The names of a listing stand in the order of their bytes, each once, and come after the last one that was given.
+pub fn listed_in_order()
+    ensures order { (tree : Tree) (last : Option Name) (directory : Path) → IsOrderedTree tree → IsStrictlySortedBy name_cmp (names_of (listing tree last directory)) }
+    ensures past { (tree : Tree) (last : Option Name) (directory : Path) → AllByRecursion (λ name. is_past last name ≡ true) (names_of (listing tree last directory)) }
+{}
+
+/// What a request that may come next changes is allowed there, as each kind of change asks.
 pub fn allowed_changes()
     ensures { (history : List Record) (number session moment : ℕ) (request : Request) → IsLegal history → 0 < number → IsNewNumber number history
         → AreAllowed number (replay history) (answer_to (replay history) session number moment request).changes }
 {}
 
+/// What was a directory stays one, and what was a file: a request that may come next changes no object's kind.
+pub fn kinds_stay()
+    ensures { (history : List Record) (number session moment label : ℕ) (request : Request) (before after : Object) → IsLegal history → 0 < number → IsNewNumber number history
+        → object_of (replay history).objects label ≡ Some before → object_of (apply (replay history) session number moment request).tree.objects label ≡ Some after
+        → kind_of after ≡ kind_of before }
+{}
+
 /// A refused call leaves the tree as it was: a status other than OK comes with no change.
 pub fn refusals_change_nothing()
     ensures { (tree : Tree) (session number moment : ℕ) (request : Request) (code : StatusCode)
-        → (answer_to tree session number moment request).reply ≡ Status code → code ≢ Success → (apply tree session number moment request).tree ≡ tree }
+        → (apply tree session number moment request).reply ≡ Status code → code ≢ Success → (apply tree session number moment request).tree ≡ tree }
 {}
 
 /// After a legal history each object is named or open, so that letting go of others changes nothing.
@@ -113,9 +142,10 @@ pub fn nothing_unused()
     ensures kept { (history : List Record) → IsLegal history → kept (replay history) ≡ replay history }
 {}
 
-/// After a legal history a label is 0, the root's, or the number of a call, and one path at most has it.
+/// After a legal history neither a path nor an object has the number of a call to come, and one path at most has a label.
 pub fn labels_of_paths()
     ensures unused { (history : List Record) (number : ℕ) (path : Path) → IsLegal history → 0 < number → IsNewNumber number history → label_at (replay history).names path ≢ Some number }
+    ensures no_object { (history : List Record) (number : ℕ) → IsLegal history → 0 < number → IsNewNumber number history → object_of (replay history).objects number ≡ None }
     ensures one_path { (history : List Record) (path other : Path) (label : ℕ) → IsLegal history
         → label_at (replay history).names path ≡ Some label → label_at (replay history).names other ≡ Some label → path ≡ other }
 {}

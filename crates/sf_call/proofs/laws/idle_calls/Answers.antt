@@ -1,4 +1,3 @@
-use Rattle.sf_call.specs.Tree.{place_at}
 use Rattle.sf_call.specs.Handles.{handle_in, opened}
 use Rattle.sf_call.proofs.Idle.{set_by_path, set_by_handle, nothing_written}
 use Rattle.sf_call.proofs.laws.idle_calls.Goals as goal

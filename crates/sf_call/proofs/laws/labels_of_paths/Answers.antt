@@ -6,3 +6,6 @@ returns-clause-unused c history number path legal above new = (sound_replay hist
 
 pub returns-clause-one_path : goal.returns-clause-one_path
 returns-clause-one_path c history path other label legal = (sound_replay history legal).labelled.one_path path other label
+
+pub returns-clause-no_object : goal.returns-clause-no_object
+returns-clause-no_object c history number legal above new = (sound_replay history legal).labelled.no_object number (above, new)
