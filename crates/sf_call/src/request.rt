@@ -44,50 +44,7 @@ impl Request {
     pub fn is_call(&self, number: u64, session: u64, moment: u32)
         ensures { IsCall number session moment self.now }
     {
-        self.is_request();
-    }
-
-    fn is_request(&self)
-        ensures { IsRequest self.now }
-    {
-        match self {
-            Request::Stat(path)
-            | Request::Rmdir(path)
-            | Request::Remove(path)
-            | Request::OpenDir(path) => path.are_names(),
-            Request::SetStat(path, attrs)
-            | Request::Mkdir(path, attrs)
-            | Request::Open(path, _, attrs) => {
-                path.are_names();
-                fits(*attrs);
-            }
-            Request::Close(handle) | Request::FStat(handle) | Request::ReadDir(handle) => {
-                let _handle = *handle;
-            }
-            Request::FSetStat(handle, attrs) => {
-                let _handle = *handle;
-                fits(*attrs);
-            }
-            Request::Read {
-                handle,
-                offset,
-                len,
-            } => {
-                let (_handle, _offset, _len) = (*handle, *offset, *len);
-            }
-            Request::Write {
-                handle,
-                offset,
-                data,
-            } => {
-                let (_handle, _offset) = (*handle, *offset);
-                are_bytes(data.as_slice());
-            }
-            Request::Rename(old, new) | Request::PosixRename(old, new) => {
-                old.are_names();
-                new.are_names();
-            }
-        }
+        parts(self);
     }
 
     /// Takes memory for the names of paths and for the bytes of a WRITE.
@@ -133,6 +90,50 @@ impl Request {
                 Request::PosixRename(old.try_copy(alloc)?, new.try_copy(alloc)?)
             }
         })
+    }
+}
+
+// The parts of a request are values of their types.
+fn parts(request: &Request)
+    ensures { IsRequest request.now }
+{
+    match request {
+        Request::Stat(path)
+        | Request::Rmdir(path)
+        | Request::Remove(path)
+        | Request::OpenDir(path) => path.are_names(),
+        Request::SetStat(path, attrs)
+        | Request::Mkdir(path, attrs)
+        | Request::Open(path, _, attrs) => {
+            path.are_names();
+            fits(*attrs);
+        }
+        Request::Close(handle) | Request::FStat(handle) | Request::ReadDir(handle) => {
+            let _handle = *handle;
+        }
+        Request::FSetStat(handle, attrs) => {
+            let _handle = *handle;
+            fits(*attrs);
+        }
+        Request::Read {
+            handle,
+            offset,
+            len,
+        } => {
+            let (_handle, _offset, _len) = (*handle, *offset, *len);
+        }
+        Request::Write {
+            handle,
+            offset,
+            data,
+        } => {
+            let (_handle, _offset) = (*handle, *offset);
+            are_bytes(data.as_slice());
+        }
+        Request::Rename(old, new) | Request::PosixRename(old, new) => {
+            old.are_names();
+            new.are_names();
+        }
     }
 }
 
