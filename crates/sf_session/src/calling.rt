@@ -98,15 +98,12 @@ pub(crate) fn call_of(alloc: Global, request: WireRequest) -> Result<Option<Requ
             }))
         }
         WireRequest::Rename { old, new } => {
-            Ok(paths_of(alloc, old.as_slice(), new.as_slice())?.map(|(old, new)| Request::Rename(
-                old, new,
-            )))
+            let paths = paths_of(alloc, old.as_slice(), new.as_slice())?;
+            Ok(paths.map(|(old, new)| Request::Rename(old, new)))
         }
         WireRequest::PosixRename { old, new } => {
-            Ok(paths_of(alloc, old.as_slice(), new.as_slice())?.map(|(
-                old,
-                new,
-            )| Request::PosixRename(old, new)))
+            let paths = paths_of(alloc, old.as_slice(), new.as_slice())?;
+            Ok(paths.map(|(old, new)| Request::PosixRename(old, new)))
         }
     }
 }

@@ -183,9 +183,8 @@ impl Session {
         if self.output.reserve(REFUSAL).is_err() {
             return Err(SessionFault::OutOfMemory);
         }
-        self.unread.advance(len);
-        self.begun = true;
         self.waiting = Some(id);
+        self.pass(len);
         Ok(Next::Call(request))
     }
 
