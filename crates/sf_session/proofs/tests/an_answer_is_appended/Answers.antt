@@ -6,7 +6,7 @@ use Rattle.sf_call.specs.Histories.{IsAmong}
 use Rattle.sf_call.specs.Examples.{b, no_attrs, history}
 use Rattle.sf_session.proofs.tests.an_answer_is_appended.Goals as goal
 
-pub new-requires : goal.new-absent-requires
+pub new-requires : goal.new-requires
 unfolding IsAmong
 new-requires g c =
     c.given_by_history.ensures 8 1 300 (Stat (b ∷ [])) (reply.Status NoSuchFile) history c.history_cases.ensures.legal (inr (inr (inl refl)))
