@@ -142,10 +142,11 @@ pub fn nothing_unused()
     ensures kept { (history : List Record) → IsLegal history → kept (replay history) ≡ replay history }
 {}
 
-/// After a legal history neither a path nor an object has the number of a call to come, and one path at most has a label.
+/// After a legal history no path, no object and no handle has the number of a call to come, and one path at most has a label.
 pub fn labels_of_paths()
     ensures unused { (history : List Record) (number : ℕ) (path : Path) → IsLegal history → 0 < number → IsNewNumber number history → label_at (replay history).names path ≢ Some number }
     ensures no_object { (history : List Record) (number : ℕ) → IsLegal history → 0 < number → IsNewNumber number history → object_of (replay history).objects number ≡ None }
+    ensures no_handle { (history : List Record) (number : ℕ) → IsLegal history → 0 < number → IsNewNumber number history → handle_of (replay history).handles number ≡ None }
     ensures one_path { (history : List Record) (path other : Path) (label : ℕ) → IsLegal history
         → label_at (replay history).names path ≡ Some label → label_at (replay history).names other ≡ Some label → path ≡ other }
 {}

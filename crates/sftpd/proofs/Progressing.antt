@@ -58,7 +58,7 @@ told_by tree tree' calls calls' told told' (ByCall id moment request given) h = 
 told_by tree tree' calls calls' told told' (Refused id request) h = subst (λ t. Appends told t []) (sym h.1.2) (Appends-nil told)
 
 unchanged : (history : List Record) (tree tree' : Tree) (calls calls' : ℕ) → IsGrown history tree calls → tree' ≡ tree → calls' ≡ calls → IsGrown history tree' calls'
-unchanged history tree tree' calls calls' grown t n = record { legal = grown.legal; replayed = t ∙ grown.replayed; counted = n ∙ grown.counted; numbered = grown.numbered }
+unchanged history tree tree' calls calls' grown t n = rw (t, n) grown
 
 -- the record's number is one more than the records before it
 grown_more : (history : List Record) (tree' : Tree) (calls calls' moment : ℕ) (request : Request) (given : Reply) {tree : Tree} → IsGrown history tree calls → calls' ≡ calls + 1

@@ -26,7 +26,7 @@ use Rattle.sftpd.specs.declared.service.Turn.TheVariants as turn
 use Rattle.sf_session.specs.Sessions.{SessionView, EndsBy}
 use Rattle.sftpd.specs.Transcripts.{moments_of, AreAnswers, IsServed, IsEnd}
 use Rattle.sftpd.specs.Serving.{ServiceView, new_service, Edges, edges, Answers, TurnGives, Progress, Serves, HasEnded, ServesLine, IsDrained, IsRounded, ReadsAtLeast}
-use Rattle.sftpd.proofs.Founding.{founded_on_nothing}
+use Rattle.sftpd.proofs.Founding.{LabelLaws, founded_on_nothing}
 use Rattle.sftpd.proofs.Progressing.{sends_all, reads_piece}
 
 abbrev pub sent_all : ServiceView → ServiceView
@@ -182,8 +182,8 @@ unfolding AreAnswers
 nothing_asked = tt
 
 -- a new service has read and sent nothing
-pub starts : (start : Edges) → IsRounded start start new_service None
-starts start = (
+pub starts : LabelLaws → (start : Edges) → IsRounded start start new_service None
+starts laws start = (
   record {
     open_session = (refl, refl);
     progress = record {
@@ -197,7 +197,7 @@ starts start = (
       asked = nothing_asked;
       has_begun = refl;
       packets = refl;
-      grown = founded_on_nothing;
+      grown = founded_on_nothing laws;
     };
   },
   inl (lit< tt),

@@ -1,5 +1,5 @@
 -- How far a session on a line was served.
-use Rattle.std.specs.Prelude.{◌≡◌, ◌<◌, ◌≤◌, ◌+◌, ◌⊎◌, ℕ, List, [], ◌∷◌, ◌++◌, length, Bool, true, false, Option, Some, None, Result, Ok, Err, IfSome}
+use Rattle.std.specs.Prelude.{◌≡◌, ◌≢◌, ◌<◌, ◌≤◌, ◌+◌, ◌⊎◌, ℕ, List, [], ◌∷◌, ◌++◌, length, Bool, true, false, Option, Some, None, Result, Ok, Err, IfSome}
 use Rattle.std.specs.List.{flat_map, AllByRecursion}
 use Rattle.std.specs.Io.KnownBytes.{Appends, Consumes}
 use Rattle.sf_wire.specs.declared.cutting.Cut.TheVariants as cut
@@ -8,7 +8,8 @@ use Rattle.sf_wire.specs.declared.reply.Reply.TheVariants as reply
 use Rattle.sf_wire.specs.Packets.{packet, IsBody, IsCut}
 use Rattle.sf_call.specs.declared.record.Record.{Record}
 use Rattle.sf_call.specs.declared.record.Record.TheVariants.{Did, Left}
-use Rattle.sf_call.specs.Tree.{Tree, empty_tree}
+use Rattle.sf_path.specs.Names.{Path}
+use Rattle.sf_call.specs.Tree.{Tree, empty_tree, label_at, object_of, handle_of}
 use Rattle.sf_call.specs.Calls.{apply}
 use Rattle.sf_call.specs.Histories.{IsLegal, replay}
 use Rattle.sf_call.specs.Values.{IsCall}
@@ -55,13 +56,20 @@ abbrev pub IsNumbered : ℕ → Record → Type 0
 IsNumbered n (Did number session moment request given) = number ≤ n
 IsNumbered n (Left session) = ⊥
 
--- The tree is that of this legal history, whose calls are numbered from 1 up to their number. So the labels of the tree and
--- its handles, which are numbers of calls, are below the next number.
+-- no path, no object and no handle has the number
+pub record IsFresh (number : ℕ) (tree : Tree) : Type 0 where
+  pub no_path : (path : Path) → label_at tree.names path ≢ Some number
+  pub no_object : object_of tree.objects number ≡ None
+  pub no_handle : handle_of tree.handles number ≡ None
+
+-- The tree is that of this legal history, whose calls are numbered from 1 up to their number. No later number is a label
+-- or a handle.
 pub record IsGrown (history : List Record) (tree : Tree) (calls : ℕ) : Type 0 where
   pub legal : IsLegal history
   pub replayed : tree ≡ replay history
   pub counted : calls ≡ length history
   pub numbered : AllByRecursion (IsNumbered (length history)) history
+  pub fresh : (number : ℕ) → calls < number → IsFresh number tree
 
 -- the tree is that of a legal history of so many calls
 abbrev pub IsFounded : Tree → ℕ → Type 0

@@ -4,7 +4,7 @@ ghost use Rattle.std.specs.Prelude.{◌≡◌, IfOk};
 ghost use Rattle.sf_call.specs.Tree.{empty_tree};
 ghost use Rattle.sftpd.specs.Serving.{Makes};
 
-use sf_call::{Answer, CoreFault, Request, one_record_more, told_replies};
+use sf_call::{Answer, CoreFault, Request, labels_of_paths, one_record_more, told_replies};
 use sf_plain::PlainTree;
 use sf_session::Clock;
 use std::alloc::{AllocError, Global};
@@ -39,6 +39,7 @@ impl NumberedTree {
     pub(crate) fn new(alloc: Global) -> Result<NumberedTree, AllocError>
         ensures { IfOk result (λ new. new ≡ record { tree = empty_tree; calls = 0 }) }
     {
+        labels_of_paths();
         Ok(NumberedTree {
             tree: PlainTree::new(alloc)?,
             calls: 0,
@@ -55,6 +56,7 @@ impl NumberedTree {
     {
         one_record_more();
         told_replies();
+        labels_of_paths();
         if self.calls == LAST_NUMBER {
             return Err(CoreFault::NumbersSpent);
         }

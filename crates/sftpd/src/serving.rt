@@ -6,7 +6,7 @@ ghost use Rattle.sf_wire.specs.Lines.{Rose};
 ghost use Rattle.sftpd.specs.Serving.{Edges, edges, IsDrained, IsRounded, IsServeFault, ReadsAtLeast, Serves, ServesLine};
 
 use crate::service::{Service, Turn};
-use sf_call::{one_record_more, told_replies};
+use sf_call::{labels_of_paths, one_record_more, told_replies};
 use sf_session::{Cause, Clock, ServeFault};
 use sf_wire::{Line, LineFault};
 use std::alloc::{AllocError, Global};
@@ -80,6 +80,7 @@ fn drain<L: Line, C: Clock>(
 {
     one_record_more();
     told_replies();
+    labels_of_paths();
     'packets: loop {
         match service.turn(clock)? {
             Turn::More => return Ok(None),
@@ -139,6 +140,7 @@ pub fn serve_one<L: Line, C: Clock>(
     ensures spent { result ≡ Err ServeFault.NumbersSpent → ReadsAtLeast (2 ^ 64 - 1) (L.incoming line.old) (L.incoming line.new) }
     ensures fault { IfErr result (λ fault. IsServeFault fault (L.failed line.old) (L.failed line.new)) }
 {
+    labels_of_paths();
     let mut service = Service::new(alloc)?;
     let mut piece = zeros(alloc, PIECE)?;
     for _ in 0..u64::MAX {

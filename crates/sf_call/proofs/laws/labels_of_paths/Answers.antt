@@ -9,3 +9,6 @@ returns-clause-one_path c history path other label legal = (sound_replay history
 
 pub returns-clause-no_object : goal.returns-clause-no_object
 returns-clause-no_object c history number legal above new = (sound_replay history legal).labelled.no_object number (above, new)
+
+pub returns-clause-no_handle : goal.returns-clause-no_handle
+returns-clause-no_handle c history number legal above new = (sound_replay history legal).labelled.unopened number (above, new)

@@ -6,10 +6,12 @@ use Rattle.sftpd.proofs.serving.drain.Goals as goal
 
 pub packets-preserved : goal.packets-preserved
 packets-preserved g c =
+    let labels = c.labels_of_paths.ensures in
     let laws : Laws = record {
       replayed = c.one_record_more.ensures.replayed;
       legal = c.one_record_more.ensures.legal;
       told = c.told_replies.ensures;
+      labels = record { no_path = labels.unused; no_object = labels.no_object; no_handle = labels.no_handle };
     } in
     let answered = rw c.in-Answered.is at c.in_ok-turn.ensures.ok in
     let sent = c.in_ok-send_batch-in-Answered.ensures in

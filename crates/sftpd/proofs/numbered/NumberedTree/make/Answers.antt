@@ -6,7 +6,13 @@ use Rattle.sftpd.proofs.numbered.NumberedTree.make.Goals.{in-Ok, in-Err}
 
 pub invariant_of-self : goal.invariant_of-self
 invariant_of-self g c =
-    let laws : Laws = record { replayed = c.one_record_more.ensures.replayed; legal = c.one_record_more.ensures.legal; told = c.told_replies.ensures } in
+    let labels = c.labels_of_paths.ensures in
+    let laws : Laws = record {
+      replayed = c.one_record_more.ensures.replayed;
+      legal = c.one_record_more.ensures.legal;
+      told = c.told_replies.ensures;
+      labels = record { no_path = labels.unused; no_object = labels.no_object; no_handle = labels.no_handle };
+    } in
     let after = founded_after laws c.self.inside.tree c.apply.new.self c.self.inside.calls c.now-moment.result c.args.request.now in (
       omega (arith, c.self.invariant.0, c.if-self-eq-LAST_NUMBER.false),
       elim c.match-apply.branch [
