@@ -39,8 +39,13 @@ impl Client {
         Ok(self.tree.apply(self.session, number, moment, &request)?)
     }
 
-    fn status(&mut self, rt: &impl Abort, request: Request, want: StatusCode) -> Result<(), Fail> {
-        match self.ask(request)? {
+    fn status(
+        &mut self,
+        rt: &impl Abort,
+        request: Result<Request, Fail>,
+        want: StatusCode,
+    ) -> Result<(), Fail> {
+        match self.ask(request?)? {
             Reply::Status(code) => assert_eq!(rt; code, want, "call {}", self.number),
             reply => panic!(rt; "call {}: {reply:?}", self.number),
         }
@@ -48,32 +53,51 @@ impl Client {
     }
 
     /// A handle is the number of its call.
-    fn handle(&mut self, rt: &impl Abort, request: Request, want: u64) -> Result<(), Fail> {
-        match self.ask(request)? {
+    fn handle(
+        &mut self,
+        rt: &impl Abort,
+        request: Result<Request, Fail>,
+        want: u64,
+    ) -> Result<(), Fail> {
+        match self.ask(request?)? {
             Reply::Handle(number) => assert_eq!(rt; number, want),
             reply => panic!(rt; "call {}: {reply:?}", self.number),
         }
         Ok(())
     }
 
-    fn attrs(&mut self, rt: &impl Abort, request: Request, want: Attrs) -> Result<(), Fail> {
-        match self.ask(request)? {
+    fn attrs(
+        &mut self,
+        rt: &impl Abort,
+        request: Result<Request, Fail>,
+        want: Attrs,
+    ) -> Result<(), Fail> {
+        match self.ask(request?)? {
             Reply::Attrs(attrs) => assert_eq!(rt; attrs, want, "call {}", self.number),
             reply => panic!(rt; "call {}: {reply:?}", self.number),
         }
         Ok(())
     }
 
-    fn data(&mut self, rt: &impl Abort, request: Request, want: &[u8]) -> Result<(), Fail> {
-        match self.ask(request)? {
+    fn data(
+        &mut self,
+        rt: &impl Abort,
+        request: Result<Request, Fail>,
+        want: &[u8],
+    ) -> Result<(), Fail> {
+        match self.ask(request?)? {
             Reply::Data(bytes) => { assert_eq!(rt; bytes.as_slice(), want, "call {}", self.number) }
             reply => panic!(rt; "call {}: {reply:?}", self.number),
         }
         Ok(())
     }
 
-    fn names(&mut self, rt: &impl Abort, request: Request) -> Result<Vec<Entry>, Fail> {
-        match self.ask(request)? {
+    fn names(
+        &mut self,
+        rt: &impl Abort,
+        request: Result<Request, Fail>,
+    ) -> Result<Vec<Entry>, Fail> {
+        match self.ask(request?)? {
             Reply::Names(listing) => Ok(listing.into_vec()),
             reply => panic!(rt; "call {}: {reply:?}", self.number),
         }
@@ -121,12 +145,12 @@ fn open(alloc: Global, text: &[u8], letters: &[u8]) -> Result<Request, Fail> {
     Ok(Request::Open(path(alloc, text)?, flags, NO_ATTRS))
 }
 
-fn read(handle: u64, offset: u64, len: u32) -> Request {
-    Request::Read {
+fn read(handle: u64, offset: u64, len: u32) -> Result<Request, Fail> {
+    Ok(Request::Read {
         handle,
         offset,
         len,
-    }
+    })
 }
 
 fn write(alloc: Global, handle: u64, offset: u64, bytes: &[u8]) -> Result<Request, Fail> {
@@ -136,6 +160,22 @@ fn write(alloc: Global, handle: u64, offset: u64, bytes: &[u8]) -> Result<Reques
         offset,
         data,
     })
+}
+
+fn close(handle: u64) -> Result<Request, Fail> {
+    Ok(Request::Close(handle))
+}
+
+fn stat_handle(handle: u64) -> Result<Request, Fail> {
+    Ok(Request::FStat(handle))
+}
+
+fn set_handle(handle: u64, attrs: Attrs) -> Result<Request, Fail> {
+    Ok(Request::FSetStat(handle, attrs))
+}
+
+fn read_dir(handle: u64) -> Result<Request, Fail> {
+    Ok(Request::ReadDir(handle))
 }
 
 fn sized(size: u64) -> Attrs {
