@@ -39,16 +39,23 @@ impl Client {
         Ok(self.tree.apply(self.session, number, moment, &request)?)
     }
 
+    /// Asserts that the reply to the last call is the wanted one.
+    fn judge(&self, rt: &impl Abort, wanted: bool, reply: &Reply) {
+        assert!(rt; wanted, "call {}: {reply:?}", self.number);
+    }
+
     fn status(
         &mut self,
         rt: &impl Abort,
         request: Result<Request, Fail>,
         want: StatusCode,
     ) -> Result<(), Fail> {
-        match self.ask(request?)? {
-            Reply::Status(code) => assert_eq!(rt; code, want, "call {}", self.number),
-            reply => panic!(rt; "call {}: {reply:?}", self.number),
-        }
+        let reply = self.ask(request?)?;
+        let wanted = match &reply {
+            Reply::Status(code) => *code == want,
+            _ => false,
+        };
+        self.judge(rt, wanted, &reply);
         Ok(())
     }
 
@@ -59,10 +66,12 @@ impl Client {
         request: Result<Request, Fail>,
         want: u64,
     ) -> Result<(), Fail> {
-        match self.ask(request?)? {
-            Reply::Handle(number) => assert_eq!(rt; number, want),
-            reply => panic!(rt; "call {}: {reply:?}", self.number),
-        }
+        let reply = self.ask(request?)?;
+        let wanted = match &reply {
+            Reply::Handle(number) => *number == want,
+            _ => false,
+        };
+        self.judge(rt, wanted, &reply);
         Ok(())
     }
 
@@ -72,10 +81,12 @@ impl Client {
         request: Result<Request, Fail>,
         want: Attrs,
     ) -> Result<(), Fail> {
-        match self.ask(request?)? {
-            Reply::Attrs(attrs) => assert_eq!(rt; attrs, want, "call {}", self.number),
-            reply => panic!(rt; "call {}: {reply:?}", self.number),
-        }
+        let reply = self.ask(request?)?;
+        let wanted = match &reply {
+            Reply::Attrs(attrs) => *attrs == want,
+            _ => false,
+        };
+        self.judge(rt, wanted, &reply);
         Ok(())
     }
 
@@ -85,21 +96,19 @@ impl Client {
         request: Result<Request, Fail>,
         want: &[u8],
     ) -> Result<(), Fail> {
-        match self.ask(request?)? {
-            Reply::Data(bytes) => { assert_eq!(rt; bytes.as_slice(), want, "call {}", self.number) }
-            reply => panic!(rt; "call {}: {reply:?}", self.number),
-        }
+        let reply = self.ask(request?)?;
+        let wanted = match &reply {
+            Reply::Data(bytes) => bytes.as_slice() == want,
+            _ => false,
+        };
+        self.judge(rt, wanted, &reply);
         Ok(())
     }
 
-    fn names(
-        &mut self,
-        rt: &impl Abort,
-        request: Result<Request, Fail>,
-    ) -> Result<Vec<Entry>, Fail> {
+    fn names(&mut self, request: Result<Request, Fail>) -> Result<Vec<Entry>, Fail> {
         match self.ask(request?)? {
             Reply::Names(listing) => Ok(listing.into_vec()),
-            reply => panic!(rt; "call {}: {reply:?}", self.number),
+            _ => Err(Fail::from("no names")),
         }
     }
 }

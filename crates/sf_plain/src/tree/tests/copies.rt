@@ -38,7 +38,7 @@ fn copies_go_apart(rt: HostRuntime) -> Result<(), Fail> {
     client.handle(&rt, open(alloc, b"/d/f", b"rwc"), 2)?;
     client.status(&rt, write(alloc, 2, 0, b"abc"), Success)?;
     client.handle(&rt, open_dir(alloc, b"/d"), 4)?;
-    client.names(&rt, read_dir(4))?;
+    client.names(read_dir(4))?;
     let mut copy = copied(&client)?;
     copy.status(&rt, write(alloc, 2, 1, b"X"), Success)?;
     copy.data(&rt, read(2, 0, 10), b"aXc")?;

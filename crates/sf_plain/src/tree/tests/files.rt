@@ -12,7 +12,7 @@ fn write_read_and_list(rt: HostRuntime) -> Result<(), Fail> {
     client.data(&rt, read(1, 0, 261_121), b"\0\0\0\0\0x")?;
     client.status(&rt, read(1, 6, 1), EndOfFile)?;
     client.handle(&rt, open_dir(alloc, b"/"), 5)?;
-    let entries = client.names(&rt, read_dir(5))?;
+    let entries = client.names(read_dir(5))?;
     let [entry] = entries.as_slice() else {
         panic!(rt; "not one name");
     };

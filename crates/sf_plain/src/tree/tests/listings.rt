@@ -17,7 +17,7 @@ fn lists(
     last: u8,
 ) -> Result<(), Fail> {
     let mut number = first;
-    for entry in client.names(rt, read_dir(handle))? {
+    for entry in client.names(read_dir(handle))? {
         assert!(rt; number <= last);
         let path = numbered(number);
         assert_eq!(rt; entry.filename.as_slice(), &path[1..]);
