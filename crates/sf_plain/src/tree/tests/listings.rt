@@ -5,7 +5,12 @@ use StatusCode::{EndOfFile, Success};
 
 /// `/n01` to `/n33`.
 fn numbered(number: u8) -> [u8; 4] {
-    [b'/', b'n', b'0' + number / 10, b'0' + number % 10]
+    [
+        b'/',
+        b'n',
+        b'0'.wrapping_add(number / 10),
+        b'0'.wrapping_add(number % 10),
+    ]
 }
 
 /// Lists the names of these numbers.
