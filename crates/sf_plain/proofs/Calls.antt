@@ -1,6 +1,6 @@
 -- What calls answer where an object is there.
-use Rattle.std.proofs.Common.{◌≡◌, ℕ, nat_eq, not, ◌&&◌, ◌||◌, Bool, true, false, cond, List, [], Some, refl}
-use Rattle.std.specs.Option.{is_some, is_none}
+use Rattle.std.proofs.Common.{◌≡◌, ℕ, nat_eq, not, ◌&&◌, ◌||◌, Bool, true, false, cond, [], Some, refl}
+use Rattle.std.specs.Option.{is_some}
 use Rattle.sf_path.specs.Names.{Path}
 use Rattle.sf_wire.specs.declared.attrs.Attrs.{Attrs}
 use Rattle.sf_wire.specs.declared.reply.StatusCode.TheVariants.{Failure, PermissionDenied}

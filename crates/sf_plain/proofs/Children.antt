@@ -1,5 +1,5 @@
 -- The names directly below a path.
-use Rattle.std.proofs.Common.{◌≡◌, ◌≢◌, ℕ, zero, suc, ◌-◌, ◌+◌, Bool, true, false, not, ◌||◌, List, [], ◌∷◌, ◌++◌, length, length-append, filter_map, Option, Some, None, refl, sym, ap, ◌∙◌, subst, arith}
+use Rattle.std.proofs.Common.{◌≡◌, ◌≢◌, ℕ, ◌-◌, not, ◌||◌, List, [], ◌∷◌, ◌++◌, length, length-append, Option, Some, None, refl, ap, ◌∙◌, arith}
 use Rattle.std.specs.List.{list_any, slice_get, cons_option}
 use Rattle.std.specs.Option.{is_some}
 use Rattle.sf_path.specs.Names.{Name, Path, BeginsWith}

@@ -1,7 +1,6 @@
 -- A page of a listing, while the names are gone through.
-use Rattle.std.proofs.Common.{◌≡◌, ◌≢◌, ◌≤◌, ◌<◌, ◌+◌, ℕ, not, Bool, true, false, cond, List, [], ◌∷◌, ◌++◌, length, length-append, map, filter_map, take, Option, Some, None, option_map, IfSome, refl, sym, ap, ◌∙◌, subst, append_assoc, arith}
+use Rattle.std.proofs.Common.{◌≡◌, ◌≢◌, ◌≤◌, ◌<◌, ℕ, cond, List, [], ◌∷◌, ◌++◌, length, length-append, filter_map, take, Option, Some, None, option_map, IfSome, refl, sym, ap, ◌∙◌, subst, append_assoc, arith}
 use Rattle.std.specs.List.{cons_option, last_or}
-use Rattle.std.specs.Option.{is_some}
 use Rattle.std.proofs.lemmas.List.{append-nil, take_all, take-append-le}
 use Rattle.sf_path.specs.Names.{Name, Path}
 use Rattle.sf_wire.specs.declared.reply.Entry.{Entry}
@@ -14,7 +13,7 @@ use Rattle.sf_call.specs.Tree.{Tree}
 use Rattle.sf_call.specs.Handles.{opened_object, with_listed}
 use Rattle.sf_call.specs.Listings.{path_of, listing_of, names_of, last_name}
 use Rattle.sf_call.specs.Changes.Change.{SetHandle}
-use Rattle.sf_call.specs.Calls.{Answer, refuses, lists, read_directory}
+use Rattle.sf_call.specs.Calls.{refuses, lists, read_directory}
 use Rattle.sf_plain.proofs.Calls.{is_directory_node}
 
 -- the entries so far, and those that the names left give, are those that all names give

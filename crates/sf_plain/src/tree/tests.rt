@@ -39,43 +39,76 @@ impl Client {
         Ok(self.tree.apply(self.session, number, moment, &request)?)
     }
 
-    fn status(&mut self, rt: &impl Abort, request: Request, want: StatusCode) -> Result<(), Fail> {
-        match self.ask(request)? {
-            Reply::Status(code) => assert_eq!(rt; code, want, "call {}", self.number),
-            reply => panic!(rt; "call {}: {reply:?}", self.number),
-        }
+    /// Asserts that the reply to the last call is the wanted one.
+    fn judge(&self, rt: &impl Abort, wanted: bool, reply: &Reply) {
+        assert!(rt; wanted, "call {}: {reply:?}", self.number);
+    }
+
+    fn status(
+        &mut self,
+        rt: &impl Abort,
+        request: Result<Request, Fail>,
+        want: StatusCode,
+    ) -> Result<(), Fail> {
+        let reply = self.ask(request?)?;
+        let wanted = match &reply {
+            Reply::Status(code) => *code == want,
+            _ => false,
+        };
+        self.judge(rt, wanted, &reply);
         Ok(())
     }
 
     /// A handle is the number of its call.
-    fn handle(&mut self, rt: &impl Abort, request: Request, want: u64) -> Result<(), Fail> {
-        match self.ask(request)? {
-            Reply::Handle(number) => assert_eq!(rt; number, want),
-            reply => panic!(rt; "call {}: {reply:?}", self.number),
-        }
+    fn handle(
+        &mut self,
+        rt: &impl Abort,
+        request: Result<Request, Fail>,
+        want: u64,
+    ) -> Result<(), Fail> {
+        let reply = self.ask(request?)?;
+        let wanted = match &reply {
+            Reply::Handle(number) => *number == want,
+            _ => false,
+        };
+        self.judge(rt, wanted, &reply);
         Ok(())
     }
 
-    fn attrs(&mut self, rt: &impl Abort, request: Request, want: Attrs) -> Result<(), Fail> {
-        match self.ask(request)? {
-            Reply::Attrs(attrs) => assert_eq!(rt; attrs, want, "call {}", self.number),
-            reply => panic!(rt; "call {}: {reply:?}", self.number),
-        }
+    fn attrs(
+        &mut self,
+        rt: &impl Abort,
+        request: Result<Request, Fail>,
+        want: Attrs,
+    ) -> Result<(), Fail> {
+        let reply = self.ask(request?)?;
+        let wanted = match &reply {
+            Reply::Attrs(attrs) => *attrs == want,
+            _ => false,
+        };
+        self.judge(rt, wanted, &reply);
         Ok(())
     }
 
-    fn data(&mut self, rt: &impl Abort, request: Request, want: &[u8]) -> Result<(), Fail> {
-        match self.ask(request)? {
-            Reply::Data(bytes) => { assert_eq!(rt; bytes.as_slice(), want, "call {}", self.number) }
-            reply => panic!(rt; "call {}: {reply:?}", self.number),
-        }
+    fn data(
+        &mut self,
+        rt: &impl Abort,
+        request: Result<Request, Fail>,
+        want: &[u8],
+    ) -> Result<(), Fail> {
+        let reply = self.ask(request?)?;
+        let wanted = match &reply {
+            Reply::Data(bytes) => bytes.as_slice() == want,
+            _ => false,
+        };
+        self.judge(rt, wanted, &reply);
         Ok(())
     }
 
-    fn names(&mut self, rt: &impl Abort, request: Request) -> Result<Vec<Entry>, Fail> {
-        match self.ask(request)? {
+    fn names(&mut self, request: Result<Request, Fail>) -> Result<Vec<Entry>, Fail> {
+        match self.ask(request?)? {
             Reply::Names(listing) => Ok(listing.into_vec()),
-            reply => panic!(rt; "call {}: {reply:?}", self.number),
+            _ => Err(Fail::from("no names")),
         }
     }
 }
@@ -121,12 +154,12 @@ fn open(alloc: Global, text: &[u8], letters: &[u8]) -> Result<Request, Fail> {
     Ok(Request::Open(path(alloc, text)?, flags, NO_ATTRS))
 }
 
-fn read(handle: u64, offset: u64, len: u32) -> Request {
-    Request::Read {
+fn read(handle: u64, offset: u64, len: u32) -> Result<Request, Fail> {
+    Ok(Request::Read {
         handle,
         offset,
         len,
-    }
+    })
 }
 
 fn write(alloc: Global, handle: u64, offset: u64, bytes: &[u8]) -> Result<Request, Fail> {
@@ -136,6 +169,22 @@ fn write(alloc: Global, handle: u64, offset: u64, bytes: &[u8]) -> Result<Reques
         offset,
         data,
     })
+}
+
+fn close(handle: u64) -> Result<Request, Fail> {
+    Ok(Request::Close(handle))
+}
+
+fn stat_handle(handle: u64) -> Result<Request, Fail> {
+    Ok(Request::FStat(handle))
+}
+
+fn set_handle(handle: u64, attrs: Attrs) -> Result<Request, Fail> {
+    Ok(Request::FSetStat(handle, attrs))
+}
+
+fn read_dir(handle: u64) -> Result<Request, Fail> {
+    Ok(Request::ReadDir(handle))
 }
 
 fn sized(size: u64) -> Attrs {
