@@ -1,0 +1,107 @@
+//! A file's bytes in one vector.
+
+ghost use Rattle.std.specs.Prelude.{◌≡◌, ◌+◌, ◌<◌, ◌≤◌, ◌^◌, [], ◌++◌, length, take, drop, vec_capacity, IsOk, OnOk, OnErr};
+ghost use Rattle.sf_call.specs.Contents.{resized, written};
+ghost use Rattle.sf_block.specs.Contents.{Stored, count_from, with_front, filled_to};
+
+use std::alloc::{AllocError, Global};
+use std::marker::Model;
+
+/// The bytes of a file.
+#[derive(Debug, Drop)]
+pub struct Contents {
+    bytes: Vec<u8>,
+}
+
+impl Model for Contents {
+    ghost Value = { Stored };
+
+    ghost view = { λ contents. record { bytes = contents.bytes.items; room = vec_capacity contents.bytes } };
+}
+
+impl Contents {
+    /// No bytes, and memory for none.
+    pub fn new(alloc: Global) -> Contents
+        ensures { result ≡ record { bytes = []; room = 0 } }
+    {
+        Contents {
+            bytes: Vec::new(alloc),
+        }
+    }
+
+    /// How many bytes there are.
+    pub fn len(&self) -> u64
+        ensures { result ≡ length self.now.bytes }
+    {
+        self.bytes.len() as u64
+    }
+
+    /// Puts the bytes from an offset on into a buffer, as many as there are and as fit, and tells how
+    /// many these are: none from the end on.
+    pub fn read_into(&self, offset: u64, buffer: &mut [u8]) -> usize
+        ensures count { result ≡ count_from self.now.bytes offset (length buffer.old) }
+        ensures buffer { buffer.new ≡ with_front (take result (drop offset self.now.bytes)) buffer.old }
+    {
+        let start = (offset as usize).min(self.bytes.len());
+        let count = buffer.len().min(self.bytes.len() - start);
+        buffer[..count].copy_from_slice(&self.bytes[start..start + count]);
+        count
+    }
+
+    /// Gets memory for `n` bytes from an offset on, and for all before them.
+    pub fn reserve_for(&mut self, offset: u64, n: usize) -> Result<(), AllocError>
+        requires { offset + n < 2 ^ 64 }
+        ensures bytes { self.new.bytes ≡ self.old.bytes }
+        ensures grows { self.old.room ≤ self.new.room }
+        ensures room { OnOk result (offset + n ≤ self.new.room) }
+        ensures enough { offset + n ≤ self.old.room → IsOk result }
+        ensures err { OnErr result (self.new ≡ self.old) }
+    {
+        let end = offset as usize + n;
+        self.bytes.reserve(end.saturating_sub(self.bytes.len()))
+    }
+
+    /// Replaces bytes from an offset on, as POSIX's `pwrite` does: a gap before them is filled with
+    /// zeros. Where no bytes are given, too, the end moves up to the offset.
+    pub fn write(&mut self, offset: u64, bytes: &[u8])
+        requires { offset + length bytes.now ≤ self.old.room }
+        ensures bytes { self.new.bytes ≡ written self.old.bytes offset bytes.now }
+        ensures room { self.old.room ≤ self.new.room }
+    {
+        // Tells that the room is a number of 64 bits.
+        let _ = self.bytes.capacity();
+        let start = offset as usize;
+        fill_to(&mut self.bytes, start + bytes.len());
+        overwrite(&mut self.bytes, start, bytes);
+    }
+
+    /// Cuts the bytes at a size, or fills them up to it with zeros, as POSIX's `ftruncate` does.
+    pub fn set_len(&mut self, n: u64) -> Result<(), AllocError>
+        ensures ok { OnOk result (self.new.bytes ≡ resized self.old.bytes n) }
+        ensures room { self.old.room ≤ self.new.room }
+        ensures enough { n ≤ self.old.room → IsOk result }
+        ensures err { OnErr result (self.new ≡ self.old) }
+    {
+        self.reserve_for(n, 0)?;
+        self.bytes.resize(n as usize, 0)
+    }
+}
+
+/// Appends zeros up to a size, in memory that is there.
+fn fill_to(bytes: &mut Vec<u8>, size: usize)
+    requires { size ≤ vec_capacity bytes.old }
+    ensures bytes { bytes.new.items ≡ filled_to bytes.old.items size }
+    ensures room { vec_capacity bytes.old ≤ vec_capacity bytes.new }
+{
+    if bytes.len() < size {
+        bytes.resize(size, 0).unwrap();
+    }
+}
+
+/// Replaces bytes from a start on.
+fn overwrite(all: &mut [u8], start: usize, bytes: &[u8])
+    requires { start + length bytes.now ≤ length all.old }
+    ensures { all.new ≡ take start all.old ++ bytes.now ++ drop (start + length bytes.now) all.old }
+{
+    all[start..start + bytes.len()].copy_from_slice(bytes);
+}
