@@ -42,8 +42,7 @@ impl Session {
         };
         session.flush()?;
         let packet = session.packet()?;
-        let mut body = Fields(&session.input[packet]);
-        if body.u32()? != (u32::from(VERSION) << 24) || !body.0.starts_with(&[3]) {
+        if !session.input[packet].starts_with(&[VERSION, 0, 0, 0, 3]) {
             return Err(format!("{command}: no VERSION 3"));
         }
         Ok(session)
