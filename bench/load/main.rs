@@ -1,0 +1,190 @@
+//! A load generator for SFTP servers on standard streams. It speaks packets itself, checks every
+//! reply, and prints the servers side by side as two tables in Markdown:
+//!
+//!   load [--seconds S] [--files N] [--names N] [--only WORD] NAME=COMMAND..
+//!
+//! Each workload runs in five rounds, of S / 5 seconds or of one whole file or listing where that
+//! takes longer, and the servers take turns from round to round. A rate is the median round's. The
+//! first server's figures are also given as a ratio to each other server's. A server with `:` at
+//! the end of its name keeps no tree: of its attributes and names only the form is checked.
+//! The first wrong reply ends the run with status 1.
+
+mod session;
+mod wire;
+mod workloads;
+
+use session::Session;
+use std::process::ExitCode;
+use std::time::{Duration, Instant};
+use wire::Outcome;
+use workloads::{Row, Setting, Workload, ROWS};
+
+const ROUNDS: u32 = 5;
+
+struct Server {
+    name: String,
+    command: String,
+    is_constant: bool,
+}
+
+struct Options {
+    seconds: f64,
+    files: usize,
+    names: usize,
+    only: String,
+    servers: Vec<Server>,
+}
+
+/// What one server did with one workload.
+struct Figure {
+    /// Units a second.
+    rate: f64,
+    /// Microseconds of the server's processor time for one unit.
+    processor: f64,
+}
+
+fn value<T: std::str::FromStr>(word: &str, words: &mut dyn Iterator<Item = String>) -> Outcome<T> {
+    let text = words.next().ok_or(format!("{word} wants a value"))?;
+    text.parse().map_err(|_| format!("{word}: {text} is no value"))
+}
+
+fn read_options(mut words: impl Iterator<Item = String>) -> Outcome<Options> {
+    let mut options =
+        Options { seconds: 3.0, files: 1000, names: 10_000, only: String::new(), servers: vec![] };
+    while let Some(word) = words.next() {
+        match word.as_str() {
+            "--seconds" => options.seconds = value(&word, &mut words)?,
+            "--files" => options.files = value(&word, &mut words)?,
+            "--names" => options.names = value(&word, &mut words)?,
+            "--only" => options.only = value(&word, &mut words)?,
+            _ => {
+                let (name, command) =
+                    word.split_once('=').ok_or(format!("{word}: what is that?"))?;
+                let is_constant = name.ends_with(':');
+                let name = name.trim_end_matches(':').to_string();
+                options.servers.push(Server { name, command: command.to_string(), is_constant });
+            }
+        }
+    }
+    if options.servers.is_empty() || options.files == 0 || options.names == 0 {
+        return Err("a server, files and names are wanted".into());
+    }
+    Ok(options)
+}
+
+/// One workload on one server.
+struct Lane {
+    session: Session,
+    workload: Box<dyn Workload>,
+    rates: Vec<f64>,
+    units: u64,
+    processor_before: f64,
+}
+
+impl Lane {
+    fn start(row: &Row, server: &Server, options: &Options) -> Outcome<Lane> {
+        let (files, names) = (options.files, options.names);
+        let begun = Instant::now();
+        let mut session = Session::start(&server.command)?;
+        let mut workload = (row.make)(Setting { files, names, is_constant: server.is_constant });
+        workload.prepare(&mut session)?;
+        let processor_before = session.processor_seconds()?;
+        eprintln!(
+            "{}: {}: prepared in {:.2} s",
+            row.title,
+            server.name,
+            begun.elapsed().as_secs_f64()
+        );
+        Ok(Lane { session, workload, rates: vec![], units: 0, processor_before })
+    }
+
+    fn round(&mut self, length: Duration) -> Outcome<()> {
+        let begun = Instant::now();
+        let units = self.workload.round(&mut self.session, begun + length)?;
+        self.rates.push(units as f64 / begun.elapsed().as_secs_f64());
+        self.units += units;
+        Ok(())
+    }
+
+    fn finish(mut self, unit: f64) -> Outcome<Figure> {
+        let seconds = self.session.processor_seconds()? - self.processor_before;
+        self.session.end()?;
+        self.rates.sort_by(f64::total_cmp);
+        let rate = self.rates[self.rates.len() / 2] / unit;
+        Ok(Figure { rate, processor: seconds * 1e6 / (self.units as f64 / unit) })
+    }
+}
+
+/// The servers' figures for one workload.
+fn measure(row: &Row, options: &Options) -> Outcome<Vec<Figure>> {
+    let about = |server: &Server, error| format!("{}: {}: {error}", row.title, server.name);
+    let mut lanes = vec![];
+    for server in &options.servers {
+        lanes.push(Lane::start(row, server, options).map_err(|error| about(server, error))?);
+    }
+    let length = Duration::from_secs_f64(options.seconds / f64::from(ROUNDS));
+    for _ in 0..ROUNDS {
+        for (lane, server) in lanes.iter_mut().zip(&options.servers) {
+            lane.round(length).map_err(|error| about(server, error))?;
+        }
+    }
+    lanes.into_iter().map(|lane| lane.finish(row.unit.size)).collect()
+}
+
+fn number(value: f64) -> String {
+    if value < 0.1 {
+        format!("{value:.3}")
+    } else if value < 100.0 {
+        format!("{value:.2}")
+    } else {
+        format!("{value:.0}")
+    }
+}
+
+/// Prints one table: a figure of each server, and the first one's ratio to each other one's.
+fn print_table(
+    title: &str,
+    options: &Options,
+    rows: &[(&Row, Vec<Figure>)],
+    pick: fn(&Figure) -> f64,
+) {
+    let servers = &options.servers;
+    let names = servers.iter().map(|server| server.name.clone());
+    let ratios = servers[1..].iter().map(|server| format!("{} : {}", servers[0].name, server.name));
+    let head: Vec<String> = names.chain(ratios).collect();
+    println!("\n| {title} | {} |", head.join(" | "));
+    println!("|---|{}", "---|".repeat(head.len()));
+    for (row, figures) in rows {
+        let values: Vec<f64> = figures.iter().map(pick).collect();
+        let ratios = values[1..].iter().map(|other| values[0] / other);
+        let cells: Vec<String> = values.iter().copied().chain(ratios).map(number).collect();
+        println!("| {} ({}) | {} |", row.title, row.unit.name, cells.join(" | "));
+    }
+}
+
+fn run() -> Outcome<()> {
+    let options = read_options(std::env::args().skip(1))?;
+    let mut rows = vec![];
+    for row in ROWS.iter().filter(|row| row.title.contains(&options.only)) {
+        rows.push((row, measure(row, &options)?));
+    }
+    println!(
+        "{} files for STAT, {} names to list, {} s for a cell",
+        options.files, options.names, options.seconds
+    );
+    print_table("Units a second", &options, &rows, |figure| figure.rate);
+    print_table("Processor time for a unit, in microseconds", &options, &rows, |figure| {
+        figure.processor
+    });
+    Ok(())
+}
+
+fn main() -> ExitCode {
+    match run() {
+        Ok(()) => ExitCode::SUCCESS,
+        Err(error) => {
+            eprintln!("load: {error}");
+            ExitCode::FAILURE
+        }
+    }
+}

@@ -1,0 +1,450 @@
+//! What the servers are measured with. Each workload has a session of its own with each server.
+
+use crate::session::Session;
+use crate::wire::{
+    Field, Outcome, Reply, Request, CLOSE, CREATE, EOF, EXCLUSIVE, FOR_READING, FOR_WRITING, MKDIR,
+    NO_ATTRIBUTES, OK, OPEN, OPENDIR, READ, READDIR, REMOVE, RMDIR, STAT, STATUS, TRUNCATE, WRITE,
+};
+use std::time::Instant;
+
+/// The file that is written and read.
+const FILE: usize = 16 << 20;
+
+/// The bytes of one WRITE or READ.
+const PIECE: usize = 32768;
+
+/// What a workload knows of the run.
+#[derive(Clone, Copy)]
+pub struct Setting {
+    /// Files that STAT is asked of.
+    pub files: usize,
+    /// Names in the directory that is listed.
+    pub names: usize,
+    /// The server keeps no tree: of attributes and names only the form is checked.
+    pub is_constant: bool,
+}
+
+pub trait Workload {
+    /// Makes what the rounds need.
+    fn prepare(&mut self, session: &mut Session) -> Outcome<()>;
+    /// Works at least until then; answers the units done.
+    fn round(&mut self, session: &mut Session, until: Instant) -> Outcome<u64>;
+}
+
+/// What is counted.
+pub struct Unit {
+    pub name: &'static str,
+    pub size: f64,
+}
+
+const CALLS: Unit = Unit { name: "calls", size: 1.0 };
+const NAMES: Unit = Unit { name: "names", size: 1.0 };
+const MEGABYTES: Unit = Unit { name: "MB", size: 1e6 };
+
+/// A workload's row of the table.
+pub struct Row {
+    pub title: &'static str,
+    pub unit: Unit,
+    pub make: fn(Setting) -> Box<dyn Workload>,
+}
+
+const fn row(title: &'static str, unit: Unit, make: fn(Setting) -> Box<dyn Workload>) -> Row {
+    Row { title, unit, make }
+}
+
+pub const ROWS: [Row; 9] = [
+    row("STAT at a depth of 4, one at a time", CALLS, |setting| Stat::new(setting, 1)),
+    row("STAT at a depth of 4, 64 sent ahead", CALLS, |setting| Stat::new(setting, 64)),
+    row("MKDIR and RMDIR, one at a time", CALLS, |_| MakeDirectories::new(1)),
+    row("MKDIR and RMDIR, 64 sent ahead", CALLS, |_| MakeDirectories::new(64)),
+    row("open, close and remove, one at a time", CALLS, |_| MakeFiles::new(1)),
+    row("open, close and remove, 64 sent ahead", CALLS, |_| MakeFiles::new(64)),
+    row("WRITE of 32768 bytes, 64 sent ahead", MEGABYTES, |_| WriteFile::new()),
+    row("READ of 32768 bytes, 64 sent ahead", MEGABYTES, |_| ReadFile::new()),
+    row("READDIR of a large directory", NAMES, List::new),
+];
+
+fn open(request: Request, path: &[u8], flags: u32) {
+    request.send(OPEN, &[Field::Bytes(path), Field::U32(flags), NO_ATTRIBUTES]);
+}
+
+fn close(request: Request, handle: &[u8]) {
+    request.send(CLOSE, &[Field::Bytes(handle)]);
+}
+
+fn make_directory(request: Request, path: &[u8]) {
+    request.send(MKDIR, &[Field::Bytes(path), NO_ATTRIBUTES]);
+}
+
+fn write(request: Request, handle: &[u8], offset: usize, data: &[u8]) {
+    request.send(WRITE, &[Field::Bytes(handle), Field::U64(offset as u64), Field::Bytes(data)]);
+}
+
+fn read(request: Request, handle: &[u8], offset: usize, count: usize) {
+    request
+        .send(READ, &[Field::Bytes(handle), Field::U64(offset as u64), Field::U32(count as u32)]);
+}
+
+fn open_now(session: &mut Session, path: &[u8], flags: u32) -> Outcome<Vec<u8>> {
+    session.ask(&|request| open(request, path, flags), &|reply| reply.handle())
+}
+
+fn close_now(session: &mut Session, handle: &[u8]) -> Outcome<()> {
+    session.succeed(&|request| close(request, handle))
+}
+
+/// Bytes of which each depends on its place alone.
+fn contents() -> Vec<u8> {
+    let mut state = 0x9e37_79b9_7f4a_7c15_u64;
+    let mut bytes = Vec::with_capacity(FILE);
+    while bytes.len() < FILE {
+        state ^= state << 13;
+        state ^= state >> 7;
+        state ^= state << 17;
+        bytes.extend_from_slice(&state.to_le_bytes());
+    }
+    bytes
+}
+
+/// STAT of files `t/aI/bJ/fK`, chosen as if by chance.
+struct Stat {
+    setting: Setting,
+    ahead: usize,
+    chance: u64,
+}
+
+impl Stat {
+    fn new(setting: Setting, ahead: usize) -> Box<dyn Workload> {
+        Box::new(Stat { setting, ahead, chance: 1 })
+    }
+
+    fn path(file: usize) -> Vec<u8> {
+        format!("t/a{}/b{}/f{:03}", file % 10, file / 10 % 10, file / 100).into_bytes()
+    }
+
+    /// A file's size tells it from most others.
+    fn size(file: usize) -> usize {
+        file % 97
+    }
+
+    fn choose(&mut self) -> usize {
+        self.chance =
+            self.chance.wrapping_mul(6364136223846793005).wrapping_add(1442695040888963407);
+        (self.chance >> 33) as usize % self.setting.files
+    }
+
+    fn check(&self, reply: Reply, file: usize) -> Outcome<()> {
+        let size = reply.file_size()?;
+        if size != Stat::size(file) as u64 && !self.setting.is_constant {
+            return Err(format!("STAT of file {file}: size {size}"));
+        }
+        Ok(())
+    }
+}
+
+impl Workload for Stat {
+    fn prepare(&mut self, session: &mut Session) -> Outcome<()> {
+        session.succeed(&|request| make_directory(request, b"t"))?;
+        for a in 0..10 {
+            session.succeed(&|request| make_directory(request, format!("t/a{a}").as_bytes()))?;
+            for b in 0..10 {
+                session.succeed(&|request| {
+                    make_directory(request, format!("t/a{a}/b{b}").as_bytes())
+                })?;
+            }
+        }
+        for file in 0..self.setting.files {
+            let handle = open_now(session, &Stat::path(file), FOR_WRITING | CREATE | EXCLUSIVE)?;
+            session.succeed(&|request| write(request, &handle, 0, &vec![7; Stat::size(file)]))?;
+            close_now(session, &handle)?;
+        }
+        Ok(())
+    }
+
+    fn round(&mut self, session: &mut Session, until: Instant) -> Outcome<u64> {
+        let mut files = vec![0; self.ahead];
+        session.pump(self.ahead, &mut |slot, reply, request| {
+            if let Some(reply) = reply {
+                self.check(reply, files[slot])?;
+                if Instant::now() >= until {
+                    return Ok(false);
+                }
+            }
+            files[slot] = self.choose();
+            request.send(STAT, &[Field::Bytes(&Stat::path(files[slot]))]);
+            Ok(true)
+        })
+    }
+}
+
+/// Each slot makes a directory of its own and removes it.
+struct MakeDirectories {
+    ahead: usize,
+}
+
+impl MakeDirectories {
+    fn new(ahead: usize) -> Box<dyn Workload> {
+        Box::new(MakeDirectories { ahead })
+    }
+}
+
+impl Workload for MakeDirectories {
+    fn prepare(&mut self, session: &mut Session) -> Outcome<()> {
+        session.succeed(&|request| make_directory(request, b"w"))
+    }
+
+    fn round(&mut self, session: &mut Session, until: Instant) -> Outcome<u64> {
+        let mut is_there = vec![false; self.ahead];
+        session.pump(self.ahead, &mut |slot, reply, request| {
+            if let Some(reply) = reply {
+                reply.status(OK)?;
+                if !is_there[slot] && Instant::now() >= until {
+                    return Ok(false);
+                }
+            }
+            let path = format!("w/d{slot}");
+            if is_there[slot] {
+                request.send(RMDIR, &[Field::Bytes(path.as_bytes())]);
+            } else {
+                make_directory(request, path.as_bytes());
+            }
+            is_there[slot] = !is_there[slot];
+            Ok(true)
+        })
+    }
+}
+
+/// Each slot opens a new file of its own, closes it and removes it.
+struct MakeFiles {
+    ahead: usize,
+}
+
+/// What a slot was asked last.
+#[derive(Clone, Copy)]
+enum Asked {
+    Open,
+    Close,
+    Remove,
+}
+
+impl MakeFiles {
+    fn new(ahead: usize) -> Box<dyn Workload> {
+        Box::new(MakeFiles { ahead })
+    }
+}
+
+impl Workload for MakeFiles {
+    fn prepare(&mut self, session: &mut Session) -> Outcome<()> {
+        session.succeed(&|request| make_directory(request, b"w"))
+    }
+
+    fn round(&mut self, session: &mut Session, until: Instant) -> Outcome<u64> {
+        let mut asked = vec![Asked::Remove; self.ahead];
+        session.pump(self.ahead, &mut |slot, reply, request| {
+            let path = format!("w/f{slot}");
+            asked[slot] = match (asked[slot], reply) {
+                (Asked::Open, Some(reply)) => {
+                    close(request, &reply.handle()?);
+                    Asked::Close
+                }
+                (Asked::Close, Some(reply)) => {
+                    reply.status(OK)?;
+                    request.send(REMOVE, &[Field::Bytes(path.as_bytes())]);
+                    Asked::Remove
+                }
+                (_, reply) => {
+                    if let Some(reply) = reply {
+                        reply.status(OK)?;
+                        if Instant::now() >= until {
+                            return Ok(false);
+                        }
+                    }
+                    open(request, path.as_bytes(), FOR_WRITING | CREATE | EXCLUSIVE);
+                    Asked::Open
+                }
+            };
+            Ok(true)
+        })
+    }
+}
+
+/// Opens the file `big` with nothing in it, and writes the whole of it.
+fn write_whole(session: &mut Session, contents: &[u8]) -> Outcome<()> {
+    let handle = open_now(session, b"big", FOR_WRITING | CREATE | TRUNCATE)?;
+    let mut offset = 0;
+    session.pump(64, &mut |_, reply, request| {
+        if let Some(reply) = reply {
+            reply.status(OK)?;
+        }
+        if offset == FILE {
+            return Ok(false);
+        }
+        write(request, &handle, offset, &contents[offset..offset + PIECE]);
+        offset += PIECE;
+        Ok(true)
+    })?;
+    close_now(session, &handle)
+}
+
+/// Reads the whole file `big` and compares it. A reply may have fewer bytes than were asked for;
+/// the rest is asked for again.
+fn read_whole(session: &mut Session, contents: &[u8]) -> Outcome<()> {
+    let handle = open_now(session, b"big", FOR_READING)?;
+    let mut asked = vec![0..0; 64];
+    let mut next = 0;
+    session.pump(64, &mut |slot, reply, request| {
+        if let Some(reply) = reply {
+            let data = reply.data()?;
+            let due = &contents[asked[slot].clone()];
+            if data.is_empty() || !due.starts_with(data) {
+                return Err(format!("wrong DATA at {}", asked[slot].start));
+            }
+            asked[slot].start += data.len();
+        }
+        if asked[slot].is_empty() {
+            if next == FILE {
+                return Ok(false);
+            }
+            asked[slot] = next..next + PIECE;
+            next += PIECE;
+        }
+        read(request, &handle, asked[slot].start, asked[slot].len());
+        Ok(true)
+    })?;
+    session.ask(&|request| read(request, &handle, FILE, 1), &|reply| reply.status(EOF))?;
+    close_now(session, &handle)
+}
+
+/// Repeats until the time is over, at least once; answers the bytes moved.
+fn repeat(until: Instant, move_file: &mut dyn FnMut() -> Outcome<()>) -> Outcome<u64> {
+    let mut bytes = 0;
+    while bytes == 0 || Instant::now() < until {
+        move_file()?;
+        bytes += FILE as u64;
+    }
+    Ok(bytes)
+}
+
+/// Writes a file of 16 MiB over and over. It is read back once.
+struct WriteFile {
+    contents: Vec<u8>,
+}
+
+impl WriteFile {
+    fn new() -> Box<dyn Workload> {
+        Box::new(WriteFile { contents: contents() })
+    }
+}
+
+impl Workload for WriteFile {
+    fn prepare(&mut self, session: &mut Session) -> Outcome<()> {
+        write_whole(session, &self.contents)?;
+        read_whole(session, &self.contents)
+    }
+
+    fn round(&mut self, session: &mut Session, until: Instant) -> Outcome<u64> {
+        repeat(until, &mut || write_whole(session, &self.contents))
+    }
+}
+
+/// Reads a file of 16 MiB over and over.
+struct ReadFile {
+    contents: Vec<u8>,
+}
+
+impl ReadFile {
+    fn new() -> Box<dyn Workload> {
+        Box::new(ReadFile { contents: contents() })
+    }
+}
+
+impl Workload for ReadFile {
+    fn prepare(&mut self, session: &mut Session) -> Outcome<()> {
+        write_whole(session, &self.contents)
+    }
+
+    fn round(&mut self, session: &mut Session, until: Instant) -> Outcome<u64> {
+        repeat(until, &mut || read_whole(session, &self.contents))
+    }
+}
+
+/// Lists a directory of many empty directories, one READDIR at a time.
+struct List {
+    setting: Setting,
+}
+
+impl List {
+    fn new(setting: Setting) -> Box<dyn Workload> {
+        Box::new(List { setting })
+    }
+
+    /// Marks the number in a name `dNNN`; refuses other names, and a name that came before.
+    fn mark(seen: &mut [bool], name: &[u8]) -> Outcome<()> {
+        let number = name
+            .strip_prefix(b"d")
+            .and_then(|digits| std::str::from_utf8(digits).ok()?.parse::<usize>().ok());
+        match number.and_then(|number| seen.get_mut(number)) {
+            Some(mark) if !*mark => *mark = true,
+            _ => return Err(format!("a strange name: {:?}", String::from_utf8_lossy(name))),
+        }
+        Ok(())
+    }
+
+    fn list(&self, session: &mut Session) -> Outcome<u64> {
+        let handle = session
+            .ask(&|request| request.send(OPENDIR, &[Field::Bytes(b"l")]), &|reply| {
+                reply.handle()
+            })?;
+        let mut seen = vec![false; self.setting.names];
+        let mut names = 0;
+        session.pump(1, &mut |_, reply, request| {
+            if let Some(reply) = reply {
+                if reply.kind == STATUS {
+                    reply.status(EOF)?;
+                    return Ok(false);
+                }
+                names += reply.names(&mut |name| {
+                    if self.setting.is_constant {
+                        Ok(())
+                    } else {
+                        List::mark(&mut seen, name)
+                    }
+                })?;
+            }
+            request.send(READDIR, &[Field::Bytes(&handle)]);
+            Ok(true)
+        })?;
+        close_now(session, &handle)?;
+        if !self.setting.is_constant && seen.contains(&false) {
+            return Err(format!("only {names} names are listed"));
+        }
+        Ok(names)
+    }
+}
+
+impl Workload for List {
+    fn prepare(&mut self, session: &mut Session) -> Outcome<()> {
+        session.succeed(&|request| make_directory(request, b"l"))?;
+        let mut made = 0;
+        session.pump(64, &mut |_, reply, request| {
+            if let Some(reply) = reply {
+                reply.status(OK)?;
+            }
+            if made == self.setting.names {
+                return Ok(false);
+            }
+            make_directory(request, format!("l/d{made}").as_bytes());
+            made += 1;
+            Ok(true)
+        })?;
+        Ok(())
+    }
+
+    fn round(&mut self, session: &mut Session, until: Instant) -> Outcome<u64> {
+        let mut names = 0;
+        while names == 0 || Instant::now() < until {
+            names += self.list(session)?;
+        }
+        Ok(names)
+    }
+}
