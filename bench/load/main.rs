@@ -169,7 +169,7 @@ fn run() -> Outcome<()> {
         rows.push((row, measure(row, &options)?));
     }
     println!(
-        "{} files for STAT, {} names to list, {} s for a cell",
+        "{} files in the tree, {} names to list, {} s for a cell",
         options.files, options.names, options.seconds
     );
     print_table("Units a second", &options, &rows, |figure| figure.rate);

@@ -16,7 +16,7 @@ const PIECE: usize = 32768;
 /// What a workload knows of the run.
 #[derive(Clone, Copy)]
 pub struct Setting {
-    /// Files that STAT is asked of.
+    /// Files in the tree.
     pub files: usize,
     /// Names in the directory that is listed.
     pub names: usize,
@@ -55,10 +55,10 @@ const fn row(title: &'static str, unit: Unit, make: fn(Setting) -> Box<dyn Workl
 pub const ROWS: [Row; 9] = [
     row("STAT at a depth of 4, one at a time", CALLS, |setting| Stat::new(setting, 1)),
     row("STAT at a depth of 4, 64 sent ahead", CALLS, |setting| Stat::new(setting, 64)),
-    row("MKDIR and RMDIR, one at a time", CALLS, |_| MakeDirectories::new(1)),
-    row("MKDIR and RMDIR, 64 sent ahead", CALLS, |_| MakeDirectories::new(64)),
-    row("open, close and remove, one at a time", CALLS, |_| MakeFiles::new(1)),
-    row("open, close and remove, 64 sent ahead", CALLS, |_| MakeFiles::new(64)),
+    row("MKDIR and RMDIR, one at a time", CALLS, |setting| MakeDirectories::new(setting, 1)),
+    row("MKDIR and RMDIR, 64 sent ahead", CALLS, |setting| MakeDirectories::new(setting, 64)),
+    row("open, close and remove, one at a time", CALLS, |setting| MakeFiles::new(setting, 1)),
+    row("open, close and remove, 64 sent ahead", CALLS, |setting| MakeFiles::new(setting, 64)),
     row("WRITE of 32768 bytes, 64 sent ahead", MEGABYTES, |_| WriteFile::new()),
     row("READ of 32768 bytes, 64 sent ahead", MEGABYTES, |_| ReadFile::new()),
     row("READDIR of a large directory", NAMES, List::new),
@@ -106,7 +106,35 @@ fn contents() -> Vec<u8> {
     bytes
 }
 
-/// STAT of files `t/aI/bJ/fK`, chosen as if by chance.
+/// The path of a file of the tree.
+fn path_of(file: usize) -> Vec<u8> {
+    format!("t/a{}/b{}/f{:03}", file % 10, file / 10 % 10, file / 100).into_bytes()
+}
+
+/// The size of a file of the tree, which tells it from most others.
+fn size_of(file: usize) -> usize {
+    file % 97
+}
+
+/// Makes a tree of so many files, each at a depth of 4.
+fn make_tree(session: &mut Session, files: usize) -> Outcome<()> {
+    session.succeed(&|request| make_directory(request, b"t"))?;
+    for a in 0..10 {
+        session.succeed(&|request| make_directory(request, format!("t/a{a}").as_bytes()))?;
+        for b in 0..10 {
+            let path = format!("t/a{a}/b{b}");
+            session.succeed(&|request| make_directory(request, path.as_bytes()))?;
+        }
+    }
+    for file in 0..files {
+        let handle = open_now(session, &path_of(file), FOR_WRITING | CREATE | EXCLUSIVE)?;
+        session.succeed(&|request| write(request, &handle, 0, &vec![7; size_of(file)]))?;
+        close_now(session, &handle)?;
+    }
+    Ok(())
+}
+
+/// STAT of files of the tree, chosen as if by chance.
 struct Stat {
     setting: Setting,
     ahead: usize,
@@ -118,15 +146,6 @@ impl Stat {
         Box::new(Stat { setting, ahead, chance: 1 })
     }
 
-    fn path(file: usize) -> Vec<u8> {
-        format!("t/a{}/b{}/f{:03}", file % 10, file / 10 % 10, file / 100).into_bytes()
-    }
-
-    /// A file's size tells it from most others.
-    fn size(file: usize) -> usize {
-        file % 97
-    }
-
     fn choose(&mut self) -> usize {
         self.chance =
             self.chance.wrapping_mul(6364136223846793005).wrapping_add(1442695040888963407);
@@ -135,7 +154,7 @@ impl Stat {
 
     fn check(&self, reply: Reply, file: usize) -> Outcome<()> {
         let size = reply.file_size()?;
-        if size != Stat::size(file) as u64 && !self.setting.is_constant {
+        if size != size_of(file) as u64 && !self.setting.is_constant {
             return Err(format!("STAT of file {file}: size {size}"));
         }
         Ok(())
@@ -144,21 +163,7 @@ impl Stat {
 
 impl Workload for Stat {
     fn prepare(&mut self, session: &mut Session) -> Outcome<()> {
-        session.succeed(&|request| make_directory(request, b"t"))?;
-        for a in 0..10 {
-            session.succeed(&|request| make_directory(request, format!("t/a{a}").as_bytes()))?;
-            for b in 0..10 {
-                session.succeed(&|request| {
-                    make_directory(request, format!("t/a{a}/b{b}").as_bytes())
-                })?;
-            }
-        }
-        for file in 0..self.setting.files {
-            let handle = open_now(session, &Stat::path(file), FOR_WRITING | CREATE | EXCLUSIVE)?;
-            session.succeed(&|request| write(request, &handle, 0, &vec![7; Stat::size(file)]))?;
-            close_now(session, &handle)?;
-        }
-        Ok(())
+        make_tree(session, self.setting.files)
     }
 
     fn round(&mut self, session: &mut Session, until: Instant) -> Outcome<u64> {
@@ -171,25 +176,27 @@ impl Workload for Stat {
                 }
             }
             files[slot] = self.choose();
-            request.send(STAT, &[Field::Bytes(&Stat::path(files[slot]))]);
+            request.send(STAT, &[Field::Bytes(&path_of(files[slot]))]);
             Ok(true)
         })
     }
 }
 
-/// Each slot makes a directory of its own and removes it.
+/// Beside the tree each slot makes a directory of its own and removes it.
 struct MakeDirectories {
+    setting: Setting,
     ahead: usize,
 }
 
 impl MakeDirectories {
-    fn new(ahead: usize) -> Box<dyn Workload> {
-        Box::new(MakeDirectories { ahead })
+    fn new(setting: Setting, ahead: usize) -> Box<dyn Workload> {
+        Box::new(MakeDirectories { setting, ahead })
     }
 }
 
 impl Workload for MakeDirectories {
     fn prepare(&mut self, session: &mut Session) -> Outcome<()> {
+        make_tree(session, self.setting.files)?;
         session.succeed(&|request| make_directory(request, b"w"))
     }
 
@@ -214,8 +221,9 @@ impl Workload for MakeDirectories {
     }
 }
 
-/// Each slot opens a new file of its own, closes it and removes it.
+/// Beside the tree each slot opens a new file of its own, closes it and removes it.
 struct MakeFiles {
+    setting: Setting,
     ahead: usize,
 }
 
@@ -228,13 +236,14 @@ enum Asked {
 }
 
 impl MakeFiles {
-    fn new(ahead: usize) -> Box<dyn Workload> {
-        Box::new(MakeFiles { ahead })
+    fn new(setting: Setting, ahead: usize) -> Box<dyn Workload> {
+        Box::new(MakeFiles { setting, ahead })
     }
 }
 
 impl Workload for MakeFiles {
     fn prepare(&mut self, session: &mut Session) -> Outcome<()> {
+        make_tree(session, self.setting.files)?;
         session.succeed(&|request| make_directory(request, b"w"))
     }
 
