@@ -1,12 +1,12 @@
 //! A load generator for SFTP servers on standard streams. It speaks packets itself, checks every
-//! reply, and prints the servers side by side as two tables in Markdown:
+//! reply, and prints the servers side by side as tables in Markdown:
 //!
 //!   load [--seconds S] [--files N] [--names N] [--only WORD] NAME=COMMAND..
 //!
 //! Each workload runs in five rounds, of S / 5 seconds or of one whole file or listing where that
-//! takes longer, and the servers take turns from round to round. A rate is the median round's. The
-//! first server's figures are also given as a ratio to each other server's. A server with `:` at
-//! the end of its name keeps no tree: of its attributes and names only the form is checked.
+//! takes longer, and the servers take turns from round to round. A rate is the median round's.
+//! Ratios are those of the first server to each other one. A server with `:` at the end of its
+//! name keeps no tree: of its attributes and names only the form is checked.
 //! The first wrong reply ends the run with status 1.
 
 mod session;
@@ -131,34 +131,48 @@ fn measure(row: &Row, options: &Options) -> Outcome<Vec<Figure>> {
     lanes.into_iter().map(|lane| lane.finish(row.unit.size)).collect()
 }
 
+/// A number with two digits or more that mean something.
 fn number(value: f64) -> String {
-    if value < 0.1 {
-        format!("{value:.3}")
-    } else if value < 100.0 {
-        format!("{value:.2}")
-    } else {
-        format!("{value:.0}")
+    let digits = if value > 0.0 { value.log10().floor() as i32 } else { 0 };
+    format!("{value:.*}", (1 - digits).max(0) as usize)
+}
+
+fn print_line(title: &str, cells: impl Iterator<Item = String>) {
+    println!("| {title} | {} |", cells.collect::<Vec<_>>().join(" | "));
+}
+
+fn print_head(title: &str, cells: Vec<String>) {
+    println!();
+    let rule = "---|".repeat(cells.len());
+    print_line(title, cells.into_iter());
+    println!("|---|{rule}");
+}
+
+/// Prints the first server's figures divided by each other one's.
+fn print_ratios(options: &Options, rows: &[(&Row, Vec<Figure>)]) {
+    let first = &options.servers[0].name;
+    let heads = ["rate", "processor time"].iter().flat_map(|what| {
+        options.servers[1..].iter().map(move |server| format!("{what}, {first} : {}", server.name))
+    });
+    print_head("Ratios", heads.collect());
+    for (row, figures) in rows {
+        let rates = figures[1..].iter().map(|other| figures[0].rate / other.rate);
+        let times = figures[1..].iter().map(|other| figures[0].processor / other.processor);
+        print_line(row.title, rates.chain(times).map(number));
     }
 }
 
-/// Prints one table: a figure of each server, and the first one's ratio to each other one's.
-fn print_table(
+/// Prints one figure of each server.
+fn print_figures(
     title: &str,
     options: &Options,
     rows: &[(&Row, Vec<Figure>)],
     pick: fn(&Figure) -> f64,
 ) {
-    let servers = &options.servers;
-    let names = servers.iter().map(|server| server.name.clone());
-    let ratios = servers[1..].iter().map(|server| format!("{} : {}", servers[0].name, server.name));
-    let head: Vec<String> = names.chain(ratios).collect();
-    println!("\n| {title} | {} |", head.join(" | "));
-    println!("|---|{}", "---|".repeat(head.len()));
+    print_head(title, options.servers.iter().map(|server| server.name.clone()).collect());
     for (row, figures) in rows {
-        let values: Vec<f64> = figures.iter().map(pick).collect();
-        let ratios = values[1..].iter().map(|other| values[0] / other);
-        let cells: Vec<String> = values.iter().copied().chain(ratios).map(number).collect();
-        println!("| {} ({}) | {} |", row.title, row.unit.name, cells.join(" | "));
+        let title = format!("{} ({})", row.title, row.unit.name);
+        print_line(&title, figures.iter().map(pick).map(number));
     }
 }
 
@@ -172,10 +186,10 @@ fn run() -> Outcome<()> {
         "{} files in the tree, {} names to list, {} s for a cell",
         options.files, options.names, options.seconds
     );
-    print_table("Units a second", &options, &rows, |figure| figure.rate);
-    print_table("Processor time for a unit, in microseconds", &options, &rows, |figure| {
-        figure.processor
-    });
+    print_ratios(&options, &rows);
+    print_figures("Units a second", &options, &rows, |figure| figure.rate);
+    let title = "Processor time for a unit, in microseconds";
+    print_figures(title, &options, &rows, |figure| figure.processor);
     Ok(())
 }
 
