@@ -47,7 +47,7 @@ pub struct MemoryLine<'a> {
 }
 
 impl<'a> MemoryLine<'a> {
-    ghost use Rattle.sf_wire.specs.MemoryLines.{input_of, output_of, reads_of, writes_of, failures_of};
+    ghost use Rattle.sf_line.specs.MemoryLines.{input_of, output_of, reads_of, writes_of, failures_of};
 
     /// A line that has moved nothing yet. It takes memory only as bytes are written.
     pub fn new(alloc: Global, input: &'a [u8], reads: Pieces, writes: Pieces) -> MemoryLine<'a>
@@ -76,7 +76,7 @@ impl<'a> MemoryLine<'a> {
 
 impl<'a> Line for MemoryLine<'a> {
     ghost use Rattle.std.specs.Prelude.{Some};
-    ghost use Rattle.sf_wire.specs.MemoryLines.{input_of, output_of, failures_of};
+    ghost use Rattle.sf_line.specs.MemoryLines.{input_of, output_of, failures_of};
 
     ghost incoming = { λ l. Some (input_of l) };
 

@@ -1,6 +1,6 @@
 -- What a line over streams is made of.
 use Rattle.std.specs.Prelude.{ℕ}
-use Rattle.sf_wire.specs.declared.stream_line.StreamLine.{StreamLine}
+use Rattle.sf_line.specs.declared.stream_line.StreamLine.{StreamLine}
 
 abbrev pub reader_of : {R W : Type 0} → StreamLine R W → R
 reader_of l = l.reader

@@ -54,7 +54,7 @@ pub struct StreamLine<R, W> {
 }
 
 impl<R, W> StreamLine<R, W> {
-    ghost use Rattle.sf_wire.specs.StreamLines.{reader_of, writer_of, failures_of};
+    ghost use Rattle.sf_line.specs.StreamLines.{reader_of, writer_of, failures_of};
 
     /// A line that has moved nothing yet.
     pub fn new(reader: R, writer: W) -> StreamLine<R, W>
@@ -71,7 +71,7 @@ impl<R, W> StreamLine<R, W> {
 }
 
 impl<R: Read, W: Write> Line for StreamLine<R, W> {
-    ghost use Rattle.sf_wire.specs.StreamLines.{reader_of, writer_of, failures_of};
+    ghost use Rattle.sf_line.specs.StreamLines.{reader_of, writer_of, failures_of};
 
     ghost incoming = { λ l. R.remaining (reader_of l) };
 

@@ -1,5 +1,7 @@
 use super::*;
+use std::alloc::Global;
 use std::io::{self, ErrorKind, Read};
+use std::test::*;
 
 /// Moves a line's input to its output, and answers how many bytes each read gave.
 fn echo<L: Line>(alloc: Global, line: &mut L) -> Result<Vec<usize>, Fail> {
