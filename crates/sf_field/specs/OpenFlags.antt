@@ -1,7 +1,7 @@
 -- How a file is to be opened, by the bits of a number.
 use Rattle.std.specs.Prelude.{ℕ, Bool, not}
-use Rattle.sf_wire.specs.declared.open_flags.OpenFlags.{OpenFlags}
-use Rattle.sf_wire.specs.Attributes.{lacks}
+use Rattle.sf_field.specs.declared.open_flags.OpenFlags.{OpenFlags}
+use Rattle.sf_field.specs.Attributes.{lacks}
 
 abbrev pub has : ℕ → ℕ → Bool
 has bits flag = not (lacks bits flag)

@@ -1,6 +1,6 @@
-use Rattle.sf_wire.proofs.FieldLaws.{reads_u32, reads_u64, reads_string}
-use Rattle.sf_wire.proofs.AttributeLaws.{attrs_again}
-use Rattle.sf_wire.proofs.laws.field_is_read.Goals as goal
+use Rattle.sf_field.proofs.FieldLaws.{reads_u32, reads_u64, reads_string}
+use Rattle.sf_field.proofs.AttributeLaws.{attrs_again}
+use Rattle.sf_field.proofs.laws.field_is_read.Goals as goal
 
 pub returns-clause-number : goal.returns-clause-number
 returns-clause-number c = reads_u32.again

@@ -1,7 +1,7 @@
 //! How a file is to be opened, section 6.3 of draft-ietf-secsh-filexfer-02.
 
 ghost use Rattle.std.specs.Prelude.{◌≡◌};
-ghost use Rattle.sf_wire.specs.OpenFlags.{open_flags};
+ghost use Rattle.sf_field.specs.OpenFlags.{open_flags};
 
 const READ: u32 = 0x1;
 
@@ -28,7 +28,7 @@ pub struct OpenFlags {
 
 impl OpenFlags {
     /// The flags whose bit is set.
-    pub(crate) fn from_bits(bits: u32) -> OpenFlags
+    pub fn from_bits(bits: u32) -> OpenFlags
         ensures { result ≡ open_flags bits }
     {
         OpenFlags {

@@ -1,7 +1,7 @@
-use Rattle.sf_wire.proofs.FieldLaws.{reads_u32, reads_u64, reads_string}
-use Rattle.sf_wire.proofs.AttributeLaws.{attrs_take}
-use Rattle.sf_wire.proofs.Streams.{IsBytes-of}
-use Rattle.sf_wire.proofs.laws.read_field_is_there.Goals as goal
+use Rattle.sf_field.proofs.FieldLaws.{reads_u32, reads_u64, reads_string}
+use Rattle.sf_field.proofs.AttributeLaws.{attrs_take}
+use Rattle.sf_field.proofs.FieldLaws.{IsBytes-of}
+use Rattle.sf_field.proofs.laws.read_field_is_there.Goals as goal
 
 pub returns-clause-number : goal.returns-clause-number
 returns-clause-number c = λ bytes rest n all e. let t = reads_u32.takes bytes n rest (IsBytes-of bytes all) e in (t.0.parts, t.1)
