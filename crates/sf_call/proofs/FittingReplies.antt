@@ -2,11 +2,11 @@
 use Rattle.std.proofs.Common.{◌≡◌, ℕ, ◌+◌, ◌*◌, ◌≤◌, List, [], ◌∷◌, ◌++◌, length, sym, subst, inl, inr, append_assoc, arith}
 use Rattle.std.specs.List.{AllByRecursion, flat_map}
 use Rattle.std.proofs.lemmas.List.{append-nil, length-append}
-use Rattle.sf_wire.specs.declared.attrs.Attrs.{Attrs}
+use Rattle.sf_field.specs.declared.attrs.Attrs.{Attrs}
 use Rattle.sf_wire.specs.declared.reply.Entry.{Entry}
 use Rattle.sf_wire.specs.declared.reply.Reply.{Reply}
 use Rattle.sf_wire.specs.declared.reply.Reply.TheVariants as reply
-use Rattle.sf_wire.specs.Attributes.{attrs_text}
+use Rattle.sf_field.specs.Attributes.{attrs_text}
 use Rattle.sf_wire.specs.Packets.{packet}
 use Rattle.sf_wire.specs.Replies.{EntryFits, ReplyFits, IsPlain, entry_text, reply_body}
 use Rattle.sf_call.specs.declared.record.Record.{Record}

@@ -9,7 +9,7 @@ use Rattle.std.specs.BTreeMap.{insert_entry, is_at}
 use Rattle.std.proofs.lemmas.List.Elements.{All-nil, All-tail, All-append}
 use Rattle.sf_path.specs.Names.{Path, IsName, IsPath}
 use Rattle.sf_path.specs.Order.{path_cmp, same_name}
-use Rattle.sf_wire.specs.Attributes.{OwnerFits, TimesFit}
+use Rattle.sf_field.specs.Attributes.{OwnerFits, TimesFit}
 use Rattle.sf_call.specs.declared.limits.TheConstants.{MAX_FILE_SIZE}
 use Rattle.sf_call.specs.declared.metadata.Metadata.{Metadata}
 use Rattle.sf_call.specs.Attributes.{Object}

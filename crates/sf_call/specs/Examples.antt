@@ -1,7 +1,7 @@
 -- Small trees and requests on which the definitions are worked out.
 use Rattle.std.specs.Prelude.{ℕ, ◌+◌, ◌/◌, ◌%◌, Bool, true, false, List, [], ◌∷◌, map, codes, Some, None}
-use Rattle.sf_wire.specs.declared.attrs.Attrs.{Attrs}
-use Rattle.sf_wire.specs.declared.open_flags.OpenFlags.{OpenFlags}
+use Rattle.sf_field.specs.declared.attrs.Attrs.{Attrs}
+use Rattle.sf_field.specs.declared.open_flags.OpenFlags.{OpenFlags}
 use Rattle.sf_wire.specs.declared.reply.Reply.{Reply}
 use Rattle.sf_wire.specs.declared.reply.Reply.TheVariants as reply
 use Rattle.sf_wire.specs.declared.reply.StatusCode.{StatusCode}

@@ -1,6 +1,6 @@
 -- What kinds of replies a request has, beside want of memory.
 use Rattle.std.specs.Prelude.{◌≡◌, ℕ, IsSome}
-use Rattle.sf_wire.specs.declared.attrs.Attrs.{Attrs}
+use Rattle.sf_field.specs.declared.attrs.Attrs.{Attrs}
 use Rattle.sf_wire.specs.declared.reply.Reply.{Reply}
 use Rattle.sf_wire.specs.declared.reply.Reply.TheVariants as reply
 use Rattle.sf_call.specs.declared.request.Request.{Request}

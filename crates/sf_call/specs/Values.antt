@@ -1,8 +1,8 @@
 -- The values that a call's types can hold.
 use Rattle.std.specs.Prelude.{ℕ, ◌<◌, ◌^◌}
 use Rattle.sf_path.specs.Names.{IsPath}
-use Rattle.sf_wire.specs.Attributes.{AttrsFit}
-use Rattle.sf_wire.specs.Streams.{AreBytes}
+use Rattle.sf_field.specs.Attributes.{AttrsFit}
+use Rattle.sf_field.specs.Fields.{AreBytes}
 use Rattle.sf_call.specs.declared.request.Request.{Request}
 use Rattle.sf_call.specs.declared.request.Request.TheVariants.{Stat, SetStat, Mkdir, Rmdir, Remove, OpenDir, Open, Close, FStat, FSetStat, Read, Write, ReadDir, Rename, PosixRename}
 

@@ -1,8 +1,8 @@
 //! What a call asks of the tree.
 
 ghost use Rattle.std.specs.Prelude.{◌≡◌, IfOk};
-ghost use Rattle.sf_wire.specs.Attributes.{AttrsFit};
-ghost use Rattle.sf_wire.specs.Streams.{AreBytes};
+ghost use Rattle.sf_field.specs.Attributes.{AttrsFit};
+ghost use Rattle.sf_field.specs.Fields.{AreBytes};
 ghost use Rattle.sf_call.specs.Values.{IsRequest, IsCall};
 
 use sf_path::Path;

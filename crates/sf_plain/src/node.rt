@@ -1,7 +1,7 @@
 //! Directories and files.
 
 ghost use Rattle.std.specs.Prelude.{◌≡◌, false, IfOk};
-ghost use Rattle.sf_wire.specs.declared.attrs.Attrs.{Attrs};
+ghost use Rattle.sf_field.specs.declared.attrs.Attrs.{Attrs};
 ghost use Rattle.sf_call.specs.Attributes.{attrs_of};
 ghost use Rattle.sf_call.specs.Attributes.Object.{Directory, File};
 ghost use Rattle.sf_call.specs.Tree.{directory_metadata};

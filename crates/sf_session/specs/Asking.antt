@@ -12,7 +12,7 @@ use Rattle.sf_wire.specs.declared.request.WireRequest.{WireRequest}
 use Rattle.sf_wire.specs.declared.request.WireRequest.TheVariants as wire
 use Rattle.sf_wire.specs.declared.request.Asked.{Asked}
 use Rattle.sf_wire.specs.declared.request.Asked.TheVariants as asked
-use Rattle.sf_wire.specs.Attributes.{no_attrs}
+use Rattle.sf_field.specs.Attributes.{no_attrs}
 use Rattle.sf_wire.specs.Replies.{reply_body}
 use Rattle.sf_wire.specs.Requests.{Asks}
 use Rattle.sf_call.specs.declared.request.Request.{Request}

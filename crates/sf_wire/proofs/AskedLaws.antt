@@ -8,10 +8,11 @@ use Rattle.sf_wire.specs.declared.request.WireRequest.{WireRequest}
 use Rattle.sf_wire.specs.declared.request.WireRequest.TheVariants as request
 use Rattle.sf_wire.specs.declared.request.Asked.{Asked}
 use Rattle.sf_wire.specs.declared.request.Asked.TheVariants.{Init, Request, BadFields, Unknown, NoId}
-use Rattle.sf_wire.specs.Fields.{be32}
+use Rattle.sf_field.specs.Fields.{be32}
 use Rattle.sf_wire.specs.Requests.{kind_of, is_request, posix_rename, SpellsFields, HasId, HasOtherName, IsUnknown, Asks}
-use Rattle.sf_wire.specs.Reading.{number_at, string_at, other_name, is_unknown, request_at, answer_of, call_of, asked_of}
-use Rattle.sf_wire.proofs.FieldLaws.{IsBytes, IsBytes-rest, reads_u32, reads_string, number_none, number_short}
+use Rattle.sf_field.specs.Reading.{number_at, string_at}
+use Rattle.sf_wire.specs.Reading.{other_name, is_unknown, request_at, answer_of, call_of, asked_of}
+use Rattle.sf_field.proofs.FieldLaws.{IsBytes, IsBytes-rest, reads_u32, reads_string, number_none, number_short}
 use Rattle.sf_wire.proofs.SpelledFields.{as_string}
 use Rattle.sf_wire.proofs.RequestLaws.{request_takes, request_again}
 

@@ -3,10 +3,10 @@ use Rattle.std.proofs.Common.{◌≡◌, ℕ, ◌+◌, ◌<◌, ◌≤◌, ◌^�
 use Rattle.std.specs.Fmt.{decimal}
 use Rattle.std.proofs.lemmas.List.{length-append, length-replicate}
 use Rattle.std.proofs.lemmas.Fmt.{length-decimal-le}
-use Rattle.sf_wire.specs.declared.attrs.Attrs.{Attrs}
-use Rattle.sf_wire.specs.declared.attrs.Owner.{Owner}
-use Rattle.sf_wire.specs.declared.attrs.Times.{Times}
-use Rattle.sf_wire.specs.Attributes.{AttrsFit, OwnerFits, TimesFit}
+use Rattle.sf_field.specs.declared.attrs.Attrs.{Attrs}
+use Rattle.sf_field.specs.declared.attrs.Owner.{Owner}
+use Rattle.sf_field.specs.declared.attrs.Times.{Times}
+use Rattle.sf_field.specs.Attributes.{AttrsFit, OwnerFits, TimesFit}
 use Rattle.sf_wire.specs.Longname.{mode_text, columns_text, longname_text}
 
 digits_of_u32 : (n : ℕ) → n < 2 ^ 32 → length (decimal n) ≤ 10

@@ -4,19 +4,19 @@ use Rattle.std.specs.Prelude.{◌==◌, if◌then◌else◌}
 use Rattle.std.specs.List.{flat_map, AllByRecursion}
 use Rattle.std.specs.Int.{w32, w64}
 use Rattle.std.proofs.lemmas.Option.{some_pair_parts}
-use Rattle.sf_wire.specs.declared.attrs.Attrs.{Attrs}
+use Rattle.sf_field.specs.declared.attrs.Attrs.{Attrs}
 use Rattle.sf_wire.specs.declared.reply.StatusCode.{StatusCode}
 use Rattle.sf_wire.specs.declared.reply.StatusCode.TheVariants as status
 use Rattle.sf_wire.specs.declared.reply.Entry.{Entry}
 use Rattle.sf_wire.specs.declared.reply.Reply.{Reply}
 use Rattle.sf_wire.specs.declared.reply.Reply.TheVariants as reply
-use Rattle.sf_wire.specs.Fields.{string}
-use Rattle.sf_wire.specs.Attributes.{attrs_text, AttrsFit}
+use Rattle.sf_field.specs.Fields.{string}
+use Rattle.sf_field.specs.Attributes.{attrs_text, AttrsFit}
 use Rattle.sf_wire.specs.Replies.{entry_text, fields_of, kind_of_reply, reply_body, EntryFits, ReplyFits}
-use Rattle.sf_wire.specs.Reading.{number_at, string_at, attrs_at}
-use Rattle.sf_wire.proofs.FieldLaws.{reads_u32, reads_u64, reads_string}
-use Rattle.sf_wire.proofs.AttributeLaws.{attrs_again}
-use Rattle.sf_wire.proofs.OneForm.{sent_is_spelled}
+use Rattle.sf_field.specs.Reading.{number_at, string_at, attrs_at}
+use Rattle.sf_field.proofs.FieldLaws.{reads_u32, reads_u64, reads_string}
+use Rattle.sf_field.proofs.AttributeLaws.{attrs_again}
+use Rattle.sf_field.proofs.SentAttributes.{sent_is_spelled}
 
 -- what is read from the front of equal bytes is equal
 same_front : {A : Type 0} (read : List ℕ → Option (A × List ℕ)) (x y : A) (s t a b : List ℕ) → read s ≡ Some (x, a) → read t ≡ Some (y, b) → s ≡ t → (x ≡ y) × (a ≡ b)

@@ -1,13 +1,14 @@
 -- Fields that are read are spelled at the front of the bytes, and spelled ones are read.
 use Rattle.std.proofs.Common.{◌≡◌, ℕ, List, ◌++◌, Option, Some, refl, ap, subst, ◌∙◌, append_assoc}
 use Rattle.std.specs.Int.{w32, w64}
-use Rattle.sf_wire.specs.declared.open_flags.OpenFlags.{OpenFlags}
-use Rattle.sf_wire.specs.Fields.{be32, be64, string}
-use Rattle.sf_wire.specs.OpenFlags.{open_flags}
+use Rattle.sf_field.specs.declared.open_flags.OpenFlags.{OpenFlags}
+use Rattle.sf_field.specs.Fields.{be32, be64, string}
+use Rattle.sf_field.specs.OpenFlags.{open_flags}
 use Rattle.sf_wire.specs.Requests.{IsU32, IsU64, IsString, IsAttrs, IsFlags, ◌⨾◌}
-use Rattle.sf_wire.specs.Reading.{number_at, string_at, attrs_at, flags_at, both_at, fields}
-use Rattle.sf_wire.proofs.FieldLaws.{IsBytes, bind_some, some_is, Takes, Takes-then, reads_u32, reads_u64, reads_string}
-use Rattle.sf_wire.proofs.AttributeLaws.{attrs_take, attrs_again}
+use Rattle.sf_field.specs.Reading.{number_at, string_at, attrs_at, flags_at}
+use Rattle.sf_wire.specs.Reading.{both_at, fields}
+use Rattle.sf_field.proofs.FieldLaws.{IsBytes, bind_some, some_is, Takes, Takes-then, reads_u32, reads_u64, reads_string}
+use Rattle.sf_field.proofs.AttributeLaws.{attrs_take, attrs_again}
 
 pub record ReadsAs {A : Type 0} (read : List ℕ → Option (A × List ℕ)) (Is : A → List ℕ → Type 0) : Type 0 where
   pub takes : (bytes : List ℕ) (x : A) (rest : List ℕ) → IsBytes bytes → read bytes ≡ Some (x, rest) → (text : List ℕ) × Takes bytes text rest × Is x text

@@ -1,27 +1,19 @@
 -- A stream is cut in one way, packet by packet, whatever pieces it comes in.
-use Rattle.std.proofs.Common.{◌≡◌, ℕ, zero, suc, ◌+◌, ◌≤◌, List, [], ◌∷◌, ◌++◌, length, take, drop, refl, sym, ap, subst, ◌∙◌, append_assoc, arith, inl, inr}
+use Rattle.std.proofs.Common.{◌≡◌, ℕ, zero, suc, ◌+◌, ◌≤◌, List, [], ◌∷◌, ◌++◌, length, take, drop, refl, sym, ap, subst, ◌∙◌, append_assoc, arith}
 use Rattle.std.specs.Prelude.{◌↔◌}
 use Rattle.std.specs.List.{flat_map, AllByRecursion}
-use Rattle.std.proofs.lemmas.Bool.{cases_lt}
-use Rattle.std.proofs.lemmas.List.{take_at, drop_at, length-append, get_or-drop, get_or_past}
+use Rattle.std.proofs.lemmas.List.{take_at, drop_at, length-append, get_or-drop}
 use Rattle.sf_wire.specs.declared.cutting.Cut.{Cut}
 use Rattle.sf_wire.specs.declared.cutting.Cut.TheVariants as cut
 use Rattle.sf_wire.specs.declared.cutting.BadCut.{BadCut}
 use Rattle.sf_wire.specs.declared.cutting.BadCut.TheVariants.{ZeroLength, TooLong}
-use Rattle.sf_wire.specs.Fields.{be32}
+use Rattle.sf_field.specs.Fields.{AreBytes, be32}
 use Rattle.sf_wire.specs.Packets.{packet, IsBody, IsCut, End, More, Bad, Ends, Cuts}
-use Rattle.sf_wire.specs.Streams.{AreBytes, IfWhole, HasBody, CutsAfter, IsSpelled, Stays, GrowsTo}
+use Rattle.sf_wire.specs.Streams.{IfWhole, HasBody, CutsAfter, IsSpelled, Stays, GrowsTo}
 use Rattle.sf_wire.specs.Reading.{cut_of}
-use Rattle.sf_wire.proofs.FieldLaws.{IsBytes}
+use Rattle.sf_field.proofs.FieldLaws.{IsBytes, IsBytes-of}
 use Rattle.sf_wire.proofs.Cuts.{cut_found, cut_only}
 use Rattle.sf_wire.proofs.OneForm.{one_packet}
-
-pub IsBytes-of : (bytes : List ℕ) → AreBytes bytes → IsBytes bytes
-IsBytes-of bytes all i =
-    elim (cases_lt i (length bytes)) [
-      | inl lt ↦ all i 0 lt
-      | inr le ↦ rw (get_or_past bytes i 0 le) (omega arith)
-    ]
 
 -- what follows a packet
 pub after_packet : (bytes body rest : List ℕ) → bytes ≡ packet body ++ rest → rest ≡ drop (length (packet body)) bytes

@@ -1,10 +1,10 @@
 -- The line that describes a file in a listing.
 use Rattle.std.specs.Prelude.{◌≡◌, ℕ, ◌-◌, ◌/◌, ◌⊎◌, List, [], ◌∷◌, ◌++◌, length, replicate, Option, Some, None, ◌==◌, if◌then◌else◌}
 use Rattle.std.specs.Fmt.{decimal}
-use Rattle.sf_wire.specs.declared.attrs.Attrs.{Attrs}
-use Rattle.sf_wire.specs.declared.attrs.Owner.{Owner}
-use Rattle.sf_wire.specs.Attributes.{lacks}
-use Rattle.sf_wire.specs.Reading.{◌>>=◌}
+use Rattle.sf_field.specs.declared.attrs.Attrs.{Attrs}
+use Rattle.sf_field.specs.declared.attrs.Owner.{Owner}
+use Rattle.sf_field.specs.Attributes.{lacks}
+use Rattle.sf_field.specs.Reading.{◌>>=◌}
 
 abbrev pub spaces : ℕ → List ℕ
 spaces n = replicate n 32

@@ -4,7 +4,7 @@ ghost use Rattle.std.specs.Prelude.{◌≡◌, Some, IfOk, IsSome};
 ghost use Rattle.std.specs.String.{string_bytes};
 ghost use Rattle.sf_wire.specs.Longname.{HasType, place, mode_text, columns_text, longname_text};
 
-use crate::attrs::{Attrs, Owner};
+use sf_field::{Attrs, Owner};
 use std::alloc::{AllocError, Global};
 
 /// The type bits of a directory, above the twelve bits of its permissions.

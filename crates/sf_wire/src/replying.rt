@@ -7,8 +7,8 @@ ghost use Rattle.sf_wire.specs.Replies.{status_text, entry_text, fields_of, repl
 ghost use Rattle.sf_wire.specs.Packets.{packet};
 
 use crate::reply::{Entry, Reply};
-use crate::writing::{attrs_len, put_attrs, put_string, put_u32};
 use bytes::BytesMut;
+use sf_field::{attrs_len, put_attrs, put_string, put_u32};
 use std::alloc::AllocError;
 
 // The types of the packets that the server sends.

@@ -7,7 +7,7 @@ use Rattle.std.proofs.KnownBytes.{Appends-nil, Consumes-nil, Consumes-trans}
 use Rattle.std.proofs.lemmas.List.{length-take-le}
 use Rattle.sf_wire.specs.declared.cutting.Cut.TheVariants as cut
 use Rattle.sf_wire.specs.Packets.{packet, IsCut}
-use Rattle.sf_wire.specs.Fields.{be32}
+use Rattle.sf_field.specs.Fields.{be32}
 use Rattle.sf_session.specs.declared.cause.Cause.{Cause}
 use Rattle.sf_session.specs.declared.cause.Cause.TheVariants.{Closed, OldVersion}
 use Rattle.sf_session.specs.declared.cause.Cause.TheVariants.{ZeroLength, TooLong}

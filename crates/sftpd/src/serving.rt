@@ -2,7 +2,7 @@
 
 ghost use Rattle.std.specs.Prelude.{◌≡◌, ◌≢◌, ◌-◌, ◌^◌, ◌<◌, ◌≤◌, ℕ, List, [], length, Option, Some, None, Ok, Err, IfOk, IfErr, OnOk, OnErr, vec_len};
 ghost use Rattle.std.specs.Io.KnownBytes.{Appends, IsAtEnd};
-ghost use Rattle.sf_wire.specs.Lines.{Rose};
+ghost use Rattle.sf_line.specs.Lines.{Rose};
 ghost use Rattle.sftpd.specs.Serving.{Edges, edges, IsDrained, IsRounded, IsServeFault, ReadsAtLeast, Serves, ServesLine};
 
 use crate::service::{Service, Turn};

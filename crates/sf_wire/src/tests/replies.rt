@@ -53,39 +53,6 @@ fn copies_of_handle_and_data(rt: HostRuntime) -> Result<(), Fail> {
     Ok(())
 }
 
-#[test]
-fn single_fields(rt: HostRuntime) -> Result<(), Fail> {
-    let alloc = rt.alloc();
-    let mut out = BytesMut::new(alloc);
-    write_u32(&mut out, 0x0102_0304)?;
-    write_u64(&mut out, 5)?;
-    write_string(&mut out, b"/a")?;
-    write_attrs(&mut out, &DIRECTORY)?;
-    let want = hex_bytes(
-        alloc,
-        "01020304 0000000000000005 00000002 2f61 0000000f 0000000000000000 00000000 00000000 000041ed 00000064 00000064",
-    )?;
-    assert_eq!(rt; out.as_slice(), want.as_slice());
-    let Some((number, rest)) = u32_at(&want) else {
-        panic!(rt; "no number");
-    };
-    assert_eq!(rt; number, 0x0102_0304);
-    let Some((number, rest)) = u64_at(rest) else {
-        panic!(rt; "no long number");
-    };
-    assert_eq!(rt; number, 5);
-    let Some((text, rest)) = bytes_at(rest) else {
-        panic!(rt; "no string");
-    };
-    assert_eq!(rt; text, b"/a".as_slice());
-    let Some((attrs, rest)) = attrs_of(rest) else {
-        panic!(rt; "no attributes");
-    };
-    assert_eq!(rt; attrs, DIRECTORY);
-    assert!(rt; rest.is_empty());
-    Ok(())
-}
-
 /// A file of 6 bytes, and a directory whose numbers are wider than their columns.
 #[test]
 fn lines_of_a_listing(rt: HostRuntime) -> Result<(), Fail> {

@@ -1,20 +1,6 @@
 use super::*;
 
 #[test]
-fn byte_strings(rt: HostRuntime) -> Result<(), Fail> {
-    let alloc = rt.alloc();
-    let bytes = string(alloc, "/a")?;
-    let copy = bytes.try_copy(alloc)?;
-    assert_eq!(rt; copy, bytes);
-    assert_eq!(rt; copy.len(), 2);
-    assert!(rt; !copy.is_empty());
-    assert!(rt; string(alloc, "")?.is_empty());
-    let again = ByteString::from_vec(copy.into_vec());
-    assert_eq!(rt; again.as_slice(), b"/a".as_slice());
-    Ok(())
-}
-
-#[test]
 fn copies_of_replies(rt: HostRuntime) -> Result<(), Fail> {
     let alloc = rt.alloc();
     let status = Reply::Status(StatusCode::NoSuchFile).try_copy(alloc)?;

@@ -1,7 +1,7 @@
 use Rattle.std.proofs.Common.{◌≢◌, ◌<◌, ℕ, [], ◌∷◌, arith, refl, inl, inr}
 use Rattle.std.proofs.lemmas.List.Elements.{All-nil, All-cons, All-contains}
 use Rattle.sf_path.specs.Names.{slash, IsName, IsPath}
-use Rattle.sf_wire.specs.Attributes.{AttrsFit}
+use Rattle.sf_field.specs.Attributes.{AttrsFit}
 use Rattle.sf_call.specs.Examples.{a, b, no_attrs}
 use Rattle.sf_call.specs.Histories.{IsLegal, IsLegalAfter, replay}
 use Rattle.sf_call.proofs.cases.history_cases.Goals as goal

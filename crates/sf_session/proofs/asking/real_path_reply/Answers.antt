@@ -1,6 +1,6 @@
 use Rattle.std.proofs.Common.{arith, refl}
 use Rattle.sf_path.specs.Names.{text_of}
-use Rattle.sf_wire.specs.Attributes.{no_attrs}
+use Rattle.sf_field.specs.Attributes.{no_attrs}
 use Rattle.sf_session.proofs.asking.real_path_reply.Goals as goal
 
 -- one name of at most 4097 bytes, sent twice

@@ -1,0 +1,4 @@
+pub mod FieldLaws
+pub mod AttributeLaws
+pub mod Loop
+pub mod SentAttributes

@@ -1,0 +1,4 @@
+pub mod Fields
+pub mod Attributes
+pub mod OpenFlags
+pub mod Reading

@@ -1,0 +1,43 @@
+//! How a file is to be opened, section 6.3 of draft-ietf-secsh-filexfer-02.
+
+ghost use Rattle.std.specs.Prelude.{◌≡◌};
+ghost use Rattle.sf_field.specs.OpenFlags.{open_flags};
+
+const READ: u32 = 0x1;
+
+const WRITE: u32 = 0x2;
+
+const APPEND: u32 = 0x4;
+
+const CREATE: u32 = 0x8;
+
+const TRUNCATE: u32 = 0x10;
+
+const EXCLUSIVE: u32 = 0x20;
+
+/// The bits of a request's `pflags`. Other bits are ignored.
+#[derive(Clone, Copy, Debug, PartialEq, Eq)]
+pub struct OpenFlags {
+    pub read: bool,
+    pub write: bool,
+    pub append: bool,
+    pub create: bool,
+    pub truncate: bool,
+    pub exclusive: bool,
+}
+
+impl OpenFlags {
+    /// The flags whose bit is set.
+    pub fn from_bits(bits: u32) -> OpenFlags
+        ensures { result ≡ open_flags bits }
+    {
+        OpenFlags {
+            read: bits & READ != 0,
+            write: bits & WRITE != 0,
+            append: bits & APPEND != 0,
+            create: bits & CREATE != 0,
+            truncate: bits & TRUNCATE != 0,
+            exclusive: bits & EXCLUSIVE != 0,
+        }
+    }
+}

@@ -1,0 +1,104 @@
+use super::*;
+use bytes::BytesMut;
+use std::alloc::{AllocError, Global};
+use std::process::Abort;
+use std::test::*;
+
+/// A new directory's attributes at the moment 100.
+const DIRECTORY: Attrs = Attrs {
+    size: Some(0),
+    owner: Some(Owner { uid: 0, gid: 0 }),
+    permissions: Some(0o40755),
+    times: Some(Times {
+        atime: 100,
+        mtime: 100,
+    }),
+};
+
+/// The bytes of a text in hexadecimal, whose spaces only group them.
+fn hex_bytes(alloc: Global, text: &str) -> Result<Vec<u8>, Fail> {
+    let digits: Vec<u8> = text.bytes().filter(|b| *b != b' ').collect(alloc)?;
+    Ok(hex::decode(alloc, digits.as_slice())?)
+}
+
+fn string(alloc: Global, text: &str) -> Result<ByteString, AllocError> {
+    ByteString::from_slice(alloc, text.as_bytes())
+}
+
+#[test]
+fn byte_strings(rt: HostRuntime) -> Result<(), Fail> {
+    let alloc = rt.alloc();
+    let bytes = string(alloc, "/a")?;
+    let copy = bytes.try_copy(alloc)?;
+    assert_eq!(rt; copy, bytes);
+    assert_eq!(rt; copy.len(), 2);
+    assert!(rt; !copy.is_empty());
+    assert!(rt; string(alloc, "")?.is_empty());
+    let again = ByteString::from_vec(copy.into_vec());
+    assert_eq!(rt; again.as_slice(), b"/a".as_slice());
+    Ok(())
+}
+
+#[test]
+fn single_fields(rt: HostRuntime) -> Result<(), Fail> {
+    let alloc = rt.alloc();
+    let mut out = BytesMut::new(alloc);
+    write_u32(&mut out, 0x0102_0304)?;
+    write_u64(&mut out, 5)?;
+    write_string(&mut out, b"/a")?;
+    write_attrs(&mut out, &DIRECTORY)?;
+    let want = hex_bytes(
+        alloc,
+        "01020304 0000000000000005 00000002 2f61 0000000f 0000000000000000 00000000 00000000 000041ed 00000064 00000064",
+    )?;
+    assert_eq!(rt; out.as_slice(), want.as_slice());
+    let Some((number, rest)) = u32_at(&want) else {
+        panic!(rt; "no number");
+    };
+    assert_eq!(rt; number, 0x0102_0304);
+    let Some((number, rest)) = u64_at(rest) else {
+        panic!(rt; "no long number");
+    };
+    assert_eq!(rt; number, 5);
+    let Some((text, rest)) = bytes_at(rest) else {
+        panic!(rt; "no string");
+    };
+    assert_eq!(rt; text, b"/a".as_slice());
+    let Some((attrs, rest)) = attrs_of(rest) else {
+        panic!(rt; "no attributes");
+    };
+    assert_eq!(rt; attrs, DIRECTORY);
+    assert!(rt; rest.is_empty());
+    Ok(())
+}
+
+/// The same fields, in room that is taken ahead.
+#[test]
+fn fields_in_taken_room(rt: HostRuntime) -> Result<(), Fail> {
+    let alloc = rt.alloc();
+    let mut out = BytesMut::new(alloc);
+    out.reserve(10 + attrs_len(&DIRECTORY))?;
+    put_u32(&mut out, 0x0102_0304);
+    put_string(&mut out, b"/a");
+    put_attrs(&mut out, &DIRECTORY);
+    let want = hex_bytes(
+        alloc,
+        "01020304 00000002 2f61 0000000f 0000000000000000 00000000 00000000 000041ed 00000064 00000064",
+    )?;
+    assert_eq!(rt; out.as_slice(), want.as_slice());
+    Ok(())
+}
+
+/// To read and write, to make and to empty, and a bit that is ignored.
+#[test]
+fn bits_of_open(rt: HostRuntime) {
+    let want = OpenFlags {
+        read: true,
+        write: true,
+        append: false,
+        create: true,
+        truncate: true,
+        exclusive: false,
+    };
+    assert_eq!(rt; OpenFlags::from_bits(0x5b), want);
+}

@@ -1,0 +1,13 @@
+//! Lines that bytes come in by and go out by, over memory and over streams.
+#![tactic(auto)]
+
+mod line;
+mod memory_line;
+mod stream_line;
+
+pub use line::{Line, LineFault};
+pub use memory_line::{MemoryLine, Pieces};
+pub use stream_line::StreamLine;
+
+#[cfg(test)]
+mod tests;

@@ -1,0 +1,106 @@
+//! A line over memory.
+
+ghost use Rattle.std.specs.Prelude.{◌≡◌, ◌<◌, []};
+
+use crate::line::{Failures, Line, LineFault};
+use std::alloc::Global;
+
+/// How many bytes a call moves at most: the first call, and each later one.
+#[derive(Clone, Copy, Debug, PartialEq, Eq)]
+pub struct Pieces {
+    first: usize,
+    later: usize,
+    ghost some_first: { 0 < first },
+    ghost some_later: { 0 < later },
+}
+
+impl Pieces {
+    /// Sizes in bytes.
+    pub fn new(first: usize, later: usize) -> Pieces
+        requires first { 0 < first }
+        requires later { 0 < later }
+        ensures first { result.first ≡ first }
+        ensures later { result.later ≡ later }
+    {
+        Pieces { first, later }
+    }
+
+    /// The size of the next piece.
+    fn take(&mut self) -> usize
+        ensures { 0 < result }
+    {
+        let piece = self.first;
+        self.first = self.later;
+        piece
+    }
+}
+
+/// A line that gives the bytes of a slice and keeps what is written, both in pieces, so that
+/// bytes can be cut at every place. A write fails only where there is no memory.
+#[derive(Debug, Drop)]
+pub struct MemoryLine<'a> {
+    input: &'a [u8],
+    output: Vec<u8>,
+    reads: Pieces,
+    writes: Pieces,
+    failures: Failures,
+}
+
+impl<'a> MemoryLine<'a> {
+    ghost use Rattle.sf_line.specs.MemoryLines.{input_of, output_of, reads_of, writes_of, failures_of};
+
+    /// A line that has moved nothing yet. It takes memory only as bytes are written.
+    pub fn new(alloc: Global, input: &'a [u8], reads: Pieces, writes: Pieces) -> MemoryLine<'a>
+        ensures input { input_of result ≡ input.now }
+        ensures output { output_of result ≡ [] }
+        ensures reads { reads_of result ≡ reads }
+        ensures writes { writes_of result ≡ writes }
+        ensures failures { failures_of result ≡ 0 }
+    {
+        MemoryLine {
+            input,
+            output: Vec::new(alloc),
+            reads,
+            writes,
+            failures: Failures::none(),
+        }
+    }
+
+    /// The bytes that were written.
+    pub fn output(&self) -> &[u8]
+        ensures { result.now ≡ output_of self.now }
+    {
+        self.output.as_slice()
+    }
+}
+
+impl<'a> Line for MemoryLine<'a> {
+    ghost use Rattle.std.specs.Prelude.{Some};
+    ghost use Rattle.sf_line.specs.MemoryLines.{input_of, output_of, failures_of};
+
+    ghost incoming = { λ l. Some (input_of l) };
+
+    ghost outgoing = { λ l. Some (output_of l) };
+
+    ghost failed = { λ l. failures_of l };
+
+    fn read(&mut self, buffer: &mut [u8]) -> Result<usize, LineFault> {
+        let n = buffer.len().min(self.input.len()).min(self.reads.take());
+        let (front, rest) = self.input.split_at(n);
+        buffer[..n].copy_from_slice(front);
+        self.input = rest;
+        Ok(n)
+    }
+
+    fn write(&mut self, bytes: &[u8]) -> Result<usize, LineFault> {
+        let n = bytes.len().min(self.writes.take());
+        if self.output.extend_from_slice(&bytes[..n]).is_err() {
+            return Err(self.failures.add());
+        }
+        Ok(n)
+    }
+
+    fn failures(&self) -> u64 {
+        self.failures.count()
+    }
+}

@@ -1,0 +1,99 @@
+//! A line over streams.
+
+ghost use Rattle.std.specs.Prelude.{◌≡◌, ◌<◌, ◌≤◌, length, take, IfSome, IfNone};
+ghost use Rattle.std.specs.Io.KnownBytes.{Consumes, Appends, Keeps, IsAtEnd};
+
+use crate::line::{Failures, Line, LineFault};
+use std::io::{ErrorKind, Read, Write};
+
+/// How often a call is made again that a signal interrupted.
+const TRIES: u32 = 1024;
+
+/// One read, made again where a signal interrupted it.
+fn read_some<R: Read>(reader: &mut R, buffer: &mut [u8]) -> Option<usize>
+    ensures within { IfSome result (λ n. n ≤ length buffer.new) }
+    ensures taken { IfSome result (λ n. Consumes (R.remaining reader.old) (R.remaining reader.new) (take n buffer.new)) }
+    ensures ended { IfSome result (λ n. n ≡ 0 → 0 < length buffer.new → IsAtEnd (R.remaining reader.new)) }
+    ensures none { IfNone result (Keeps (R.remaining reader.old) (R.remaining reader.new)) }
+{
+    for _ in 0..TRIES {
+        match reader.read(buffer) {
+            Ok(n) => return Some(n),
+            Err(error) if error.kind() == ErrorKind::Interrupted => {}
+            Err(_) => return None,
+        }
+    }
+    None
+}
+
+/// One write, made again where a signal interrupted it.
+fn write_some<W: Write>(writer: &mut W, bytes: &[u8]) -> Option<usize>
+    ensures within { IfSome result (λ n. n ≤ length bytes.now) }
+    ensures added { IfSome result (λ n. Appends (W.contents writer.old) (W.contents writer.new) (take n bytes.now)) }
+    ensures none { IfNone result (Keeps (W.contents writer.old) (W.contents writer.new)) }
+{
+    for _ in 0..TRIES {
+        match writer.write(bytes) {
+            Ok(n) => return Some(n),
+            Err(error) if error.kind() == ErrorKind::Interrupted => {}
+            Err(_) => return None,
+        }
+    }
+    None
+}
+
+/// A line over any reader and any writer. It tells their bytes where they do.
+///
+/// A call that a signal interrupts is made again, some thousand times. Nothing is flushed: sockets and standard output
+/// keep nothing back, and whoever gives a writer that does flushes it.
+#[derive(Debug, Drop)]
+pub struct StreamLine<R, W> {
+    reader: R,
+    writer: W,
+    failures: Failures,
+}
+
+impl<R, W> StreamLine<R, W> {
+    ghost use Rattle.sf_line.specs.StreamLines.{reader_of, writer_of, failures_of};
+
+    /// A line that has moved nothing yet.
+    pub fn new(reader: R, writer: W) -> StreamLine<R, W>
+        ensures reader { reader_of result ≡ reader }
+        ensures writer { writer_of result ≡ writer }
+        ensures failures { failures_of result ≡ 0 }
+    {
+        StreamLine {
+            reader,
+            writer,
+            failures: Failures::none(),
+        }
+    }
+}
+
+impl<R: Read, W: Write> Line for StreamLine<R, W> {
+    ghost use Rattle.sf_line.specs.StreamLines.{reader_of, writer_of, failures_of};
+
+    ghost incoming = { λ l. R.remaining (reader_of l) };
+
+    ghost outgoing = { λ l. W.contents (writer_of l) };
+
+    ghost failed = { λ l. failures_of l };
+
+    fn read(&mut self, buffer: &mut [u8]) -> Result<usize, LineFault> {
+        match read_some(&mut self.reader, buffer) {
+            Some(n) => Ok(n),
+            None => Err(self.failures.add()),
+        }
+    }
+
+    fn write(&mut self, bytes: &[u8]) -> Result<usize, LineFault> {
+        match write_some(&mut self.writer, bytes) {
+            Some(n) if n > 0 || bytes.is_empty() => Ok(n),
+            _ => Err(self.failures.add()),
+        }
+    }
+
+    fn failures(&self) -> u64 {
+        self.failures.count()
+    }
+}

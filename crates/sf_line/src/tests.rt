@@ -1,0 +1,87 @@
+use super::*;
+use std::alloc::Global;
+use std::io::{self, ErrorKind, Read};
+use std::test::*;
+
+/// Moves a line's input to its output, and answers how many bytes each read gave.
+fn echo<L: Line>(alloc: Global, line: &mut L) -> Result<Vec<usize>, Fail> {
+    let mut counts = Vec::new(alloc);
+    for _ in 0..16 {
+        let mut buffer = [0u8; 4];
+        let n = line.read(&mut buffer)?;
+        counts.push(n)?;
+        if n == 0 {
+            break;
+        }
+        let mut rest = &buffer[..n];
+        for _ in 0..n {
+            let written = line.write(rest)?;
+            rest = &rest[written..];
+        }
+    }
+    Ok(counts)
+}
+
+#[test]
+fn memory_line(rt: HostRuntime) -> Result<(), Fail> {
+    let alloc = rt.alloc();
+    let pieces = Pieces::new(1, 3);
+    let mut line = MemoryLine::new(alloc, b"abcdefg", pieces, Pieces::new(1, 2));
+    assert_eq!(rt;
+        echo(alloc, &mut line)?.as_slice(),
+        [1usize, 3, 3, 0].as_slice()
+    );
+    assert_eq!(rt; line.output(), b"abcdefg".as_slice());
+    assert_eq!(rt; line.failures(), 0);
+    Ok(())
+}
+
+#[test]
+fn stream_line(rt: HostRuntime) -> Result<(), Fail> {
+    let alloc = rt.alloc();
+    let mut output: Vec<u8> = Vec::new(alloc);
+    let mut line = StreamLine::new(b"abcdefg".as_slice(), &mut output);
+    assert_eq!(rt;
+        echo(alloc, &mut line)?.as_slice(),
+        [4usize, 3, 0].as_slice()
+    );
+    assert_eq!(rt; line.failures(), 0);
+    assert_eq!(rt; output.as_slice(), b"abcdefg".as_slice());
+    Ok(())
+}
+
+/// Is interrupted once, gives one byte, and fails from then on.
+#[derive(Drop)]
+struct Failing {
+    calls: u32,
+}
+
+impl Read for Failing {
+    fn read(&mut self, buf: &mut [u8]) -> io::Result<usize> {
+        self.calls = self.calls.saturating_add(1);
+        match self.calls {
+            1 => Err(ErrorKind::Interrupted.into()),
+            2 if !buf.is_empty() => {
+                buf[0] = b'x';
+                Ok(1)
+            }
+            _ => Err(ErrorKind::ConnectionReset.into()),
+        }
+    }
+}
+
+#[test]
+fn failing_streams(rt: HostRuntime) -> Result<(), Fail> {
+    let mut no_room = [0u8; 0];
+    let mut line = StreamLine::new(Failing { calls: 0 }, no_room.as_mut_slice());
+    let mut buffer = [0u8; 2];
+    assert_eq!(rt; line.read(&mut buffer), Ok(1));
+    assert_eq!(rt; buffer[0], b'x');
+    assert_eq!(rt; line.failures(), 0);
+    assert_eq!(rt; line.read(&mut buffer), Err(LineFault));
+    assert_eq!(rt; line.failures(), 1);
+    assert_eq!(rt; line.write(&buffer), Err(LineFault));
+    assert_eq!(rt; line.failures(), 2);
+    assert_eq!(rt; line.write(&[]), Ok(0));
+    Ok(())
+}
