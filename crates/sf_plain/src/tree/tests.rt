@@ -39,76 +39,63 @@ impl Client {
         Ok(self.tree.apply(self.session, number, moment, &request)?)
     }
 
+    /// The reply to a call that finds memory.
+    fn reply(&mut self, rt: &impl Abort, request: Result<Request, Fail>) -> Reply {
+        let Ok(request) = request else {
+            panic!(rt; "no request");
+        };
+        match self.ask(request) {
+            Ok(reply) => reply,
+            Err(_) => panic!(rt; "call {}: no reply", self.number),
+        }
+    }
+
     /// Asserts that the reply to the last call is the wanted one.
     fn judge(&self, rt: &impl Abort, wanted: bool, reply: &Reply) {
         assert!(rt; wanted, "call {}: {reply:?}", self.number);
     }
 
-    fn status(
-        &mut self,
-        rt: &impl Abort,
-        request: Result<Request, Fail>,
-        want: StatusCode,
-    ) -> Result<(), Fail> {
-        let reply = self.ask(request?)?;
+    fn status(&mut self, rt: &impl Abort, request: Result<Request, Fail>, want: StatusCode) {
+        let reply = self.reply(rt, request);
         let wanted = match &reply {
             Reply::Status(code) => *code == want,
             _ => false,
         };
         self.judge(rt, wanted, &reply);
-        Ok(())
     }
 
     /// A handle is the number of its call.
-    fn handle(
-        &mut self,
-        rt: &impl Abort,
-        request: Result<Request, Fail>,
-        want: u64,
-    ) -> Result<(), Fail> {
-        let reply = self.ask(request?)?;
+    fn handle(&mut self, rt: &impl Abort, request: Result<Request, Fail>, want: u64) {
+        let reply = self.reply(rt, request);
         let wanted = match &reply {
             Reply::Handle(number) => *number == want,
             _ => false,
         };
         self.judge(rt, wanted, &reply);
-        Ok(())
     }
 
-    fn attrs(
-        &mut self,
-        rt: &impl Abort,
-        request: Result<Request, Fail>,
-        want: Attrs,
-    ) -> Result<(), Fail> {
-        let reply = self.ask(request?)?;
+    fn attrs(&mut self, rt: &impl Abort, request: Result<Request, Fail>, want: Attrs) {
+        let reply = self.reply(rt, request);
         let wanted = match &reply {
             Reply::Attrs(attrs) => *attrs == want,
             _ => false,
         };
         self.judge(rt, wanted, &reply);
-        Ok(())
     }
 
-    fn data(
-        &mut self,
-        rt: &impl Abort,
-        request: Result<Request, Fail>,
-        want: &[u8],
-    ) -> Result<(), Fail> {
-        let reply = self.ask(request?)?;
+    fn data(&mut self, rt: &impl Abort, request: Result<Request, Fail>, want: &[u8]) {
+        let reply = self.reply(rt, request);
         let wanted = match &reply {
             Reply::Data(bytes) => bytes.as_slice() == want,
             _ => false,
         };
         self.judge(rt, wanted, &reply);
-        Ok(())
     }
 
-    fn names(&mut self, request: Result<Request, Fail>) -> Result<Vec<Entry>, Fail> {
-        match self.ask(request?)? {
-            Reply::Names(listing) => Ok(listing.into_vec()),
-            _ => Err(Fail::from("no names")),
+    fn names(&mut self, rt: &impl Abort, request: Result<Request, Fail>) -> Vec<Entry> {
+        match self.reply(rt, request) {
+            Reply::Names(listing) => listing.into_vec(),
+            reply => panic!(rt; "call {}: {reply:?}", self.number),
         }
     }
 }
