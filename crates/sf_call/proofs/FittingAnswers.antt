@@ -11,11 +11,11 @@ use Rattle.sf_path.specs.Names.{Name, Path, IsName, IsPath}
 use Rattle.sf_path.specs.Order.{parent}
 use Rattle.sf_field.specs.declared.attrs.Attrs.{Attrs}
 use Rattle.sf_field.specs.declared.open_flags.OpenFlags.{OpenFlags}
-use Rattle.sf_wire.specs.declared.reply.Entry.{Entry}
-use Rattle.sf_wire.specs.declared.reply.Reply.{Reply}
-use Rattle.sf_wire.specs.declared.reply.Reply.TheVariants as reply
+use Rattle.sf_reply.specs.declared.reply.Entry.{Entry}
+use Rattle.sf_reply.specs.declared.reply.Reply.{Reply}
+use Rattle.sf_reply.specs.declared.reply.Reply.TheVariants as reply
 use Rattle.sf_field.specs.Attributes.{AttrsFit, OwnerFits, TimesFit}
-use Rattle.sf_wire.specs.Longname.{longname_text}
+use Rattle.sf_reply.specs.Longname.{longname_text}
 use Rattle.sf_call.specs.declared.limits.TheConstants.{MAX_FILE_SIZE, MAX_READ, MAX_ENTRIES}
 use Rattle.sf_call.specs.declared.metadata.Metadata.{Metadata}
 use Rattle.sf_call.specs.declared.place.Place.{Place}

@@ -8,7 +8,7 @@ use Rattle.std.specs.FinMap.{is_sorted}
 use Rattle.std.specs.FinMap.Entries.{below_all}
 use Rattle.sf_path.specs.Names.{Name, Path}
 use Rattle.sf_path.specs.Order.{name_cmp, path_cmp}
-use Rattle.sf_wire.specs.declared.reply.Entry.{Entry}
+use Rattle.sf_reply.specs.declared.reply.Entry.{Entry}
 use Rattle.sf_call.specs.Attributes.{Object}
 use Rattle.sf_call.specs.Tree.{Tree, IsOrderedTree, object_of, after_front, only_name}
 use Rattle.sf_call.specs.Listings.{is_past, entry_of, listed_entry, listing, names_of}

@@ -1,7 +1,7 @@
 -- What is shown of an object has all parts, and its type.
 use Rattle.std.proofs.Common.{◌≡◌, Some, IsSome, refl, inl, inr, arith}
 use Rattle.sf_path.specs.Names.{Name}
-use Rattle.sf_wire.specs.Longname.{HasType, longname_text}
+use Rattle.sf_reply.specs.Longname.{HasType, longname_text}
 use Rattle.sf_call.specs.Attributes.{Object, attrs_of}
 use Rattle.sf_call.specs.Attributes.Object.{Directory, File}
 use Rattle.sf_call.specs.Listings.{entry_of}

@@ -10,8 +10,8 @@ use Rattle.std.specs.FinMap.{put, is_sorted}
 use Rattle.std.specs.FinMap.Entries.{by_order, below_all, is_sorted-put}
 use Rattle.sf_path.specs.Names.{Path}
 use Rattle.sf_path.specs.Order.{path_cmp, path_total}
-use Rattle.sf_wire.specs.declared.reply.Reply.{Reply}
-use Rattle.sf_wire.specs.declared.reply.Reply.TheVariants as reply
+use Rattle.sf_reply.specs.declared.reply.Reply.{Reply}
+use Rattle.sf_reply.specs.declared.reply.Reply.TheVariants as reply
 use Rattle.sf_call.specs.declared.record.Record.{Record}
 use Rattle.sf_call.specs.declared.record.Record.TheVariants.{Did, Left}
 use Rattle.sf_call.specs.Tree.{Tree, IsOrderedTree, is_used, kept, empty_tree}

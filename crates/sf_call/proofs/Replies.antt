@@ -1,7 +1,7 @@
 -- The same calls, all of them served, have the same replies.
 use Rattle.std.proofs.Common.{◌≡◌, ◌≢◌, ◌⊎◌, List, [], ◌∷◌, ◌++◌, refl, sym, subst, inl, inr}
-use Rattle.sf_wire.specs.declared.reply.Reply.{Reply}
-use Rattle.sf_wire.specs.declared.reply.Reply.TheVariants as reply
+use Rattle.sf_reply.specs.declared.reply.Reply.{Reply}
+use Rattle.sf_reply.specs.declared.reply.Reply.TheVariants as reply
 use Rattle.sf_call.specs.declared.record.Record.{Record}
 use Rattle.sf_call.specs.declared.record.Record.TheVariants.{Did, Left}
 use Rattle.sf_call.specs.Calls.{apply}

@@ -1,6 +1,6 @@
 -- What an answer tells.
 use Rattle.std.specs.Prelude.{ℕ}
-use Rattle.sf_wire.specs.declared.reply.Reply.{Reply}
+use Rattle.sf_reply.specs.declared.reply.Reply.{Reply}
 
 pub record Answered : Type 0 where
   pub number : ℕ

@@ -4,8 +4,8 @@ use Rattle.std.specs.List.{find, last_or}
 use Rattle.std.specs.Ordering.{is_lt}
 use Rattle.sf_path.specs.Names.{Name, Path}
 use Rattle.sf_path.specs.Order.{name_cmp}
-use Rattle.sf_wire.specs.declared.reply.Entry.{Entry}
-use Rattle.sf_wire.specs.Longname.{longname_text}
+use Rattle.sf_reply.specs.declared.reply.Entry.{Entry}
+use Rattle.sf_reply.specs.Longname.{longname_text}
 use Rattle.sf_call.specs.declared.limits.TheConstants.{MAX_ENTRIES}
 use Rattle.sf_call.specs.Attributes.{Object, attrs_of}
 use Rattle.sf_call.specs.Tree.{Tree, object_of, after_front, only_name}

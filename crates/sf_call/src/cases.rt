@@ -1,8 +1,8 @@
 //! The cases of each request, worked out on small trees.
 
 ghost use Rattle.std.specs.Prelude.{◌≡◌, [], ◌∷◌, ◌++◌, true, false, map, drop, codes};
-ghost use Rattle.sf_wire.specs.declared.reply.Reply.TheVariants as reply;
-ghost use Rattle.sf_wire.specs.declared.reply.StatusCode.TheVariants.{Success, EndOfFile, NoSuchFile, PermissionDenied, Failure};
+ghost use Rattle.sf_reply.specs.declared.reply.Reply.TheVariants as reply;
+ghost use Rattle.sf_reply.specs.declared.reply.StatusCode.TheVariants.{Success, EndOfFile, NoSuchFile, PermissionDenied, Failure};
 ghost use Rattle.sf_call.specs.declared.request.Request.TheVariants.{Stat, SetStat, Mkdir, Remove, OpenDir, Open, Close, FStat, FSetStat, Read, Write, ReadDir};
 ghost use Rattle.sf_call.specs.declared.record.Record.TheVariants.{Did};
 ghost use Rattle.sf_call.specs.Attributes.Object.{Directory};

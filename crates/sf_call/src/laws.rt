@@ -1,7 +1,7 @@
 //! Laws of the tree and of histories, which no call needs.
 
 ghost use Rattle.std.specs.Prelude.{◌≡◌, ◌≢◌, ◌<◌, ◌≤◌, ◌↔◌, ℕ, true, false, List, [], ◌∷◌, ◌++◌, length, take, Some, None, Option, IsSome};
-ghost use Rattle.sf_wire.specs.declared.reply.Reply.{Reply};
+ghost use Rattle.sf_reply.specs.declared.reply.Reply.{Reply};
 ghost use Rattle.sf_call.specs.declared.request.Request.{Request};
 ghost use Rattle.sf_call.specs.declared.request.Request.TheVariants.{SetStat, FSetStat, Write};
 ghost use Rattle.sf_call.specs.declared.record.Record.{Record};
@@ -13,15 +13,15 @@ ghost use Rattle.sf_call.specs.Changes.{Change, changed};
 ghost use Rattle.sf_call.specs.LeftAlone.{IsOfPath, IsOfLabel, IsOfNumber};
 ghost use Rattle.sf_call.specs.Calls.{answer_to, apply};
 ghost use Rattle.sf_call.specs.ReplyKinds.{IsReplyTo, HasAllParts};
-ghost use Rattle.sf_wire.specs.Longname.{HasType, longname_text};
-ghost use Rattle.sf_wire.specs.Replies.{ReplyFits, reply_body};
+ghost use Rattle.sf_reply.specs.Longname.{HasType, longname_text};
+ghost use Rattle.sf_reply.specs.Replies.{ReplyFits, reply_body};
 ghost use Rattle.sf_call.specs.Listings.{entry_of, is_past, listing, names_of};
 ghost use Rattle.std.specs.List.{AllByRecursion};
 ghost use Rattle.std.specs.List.Sorted.{IsStrictlySortedBy};
 ghost use Rattle.sf_path.specs.Order.{name_cmp};
-ghost use Rattle.sf_wire.specs.declared.reply.Reply.TheVariants.{Status};
-ghost use Rattle.sf_wire.specs.declared.reply.StatusCode.{StatusCode};
-ghost use Rattle.sf_wire.specs.declared.reply.StatusCode.TheVariants.{Success};
+ghost use Rattle.sf_reply.specs.declared.reply.Reply.TheVariants.{Status};
+ghost use Rattle.sf_reply.specs.declared.reply.StatusCode.{StatusCode};
+ghost use Rattle.sf_reply.specs.declared.reply.StatusCode.TheVariants.{Success};
 ghost use Rattle.sf_call.specs.Attributes.{Object, attrs_of, no_attrs};
 ghost use Rattle.sf_call.specs.Own.{IsOwnPath, IsOwnObject, IsOwnHandle};
 ghost use Rattle.sf_call.specs.Allowed.{AreAllowed, kind_of};

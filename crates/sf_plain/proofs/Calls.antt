@@ -3,8 +3,8 @@ use Rattle.std.proofs.Common.{◌≡◌, ℕ, nat_eq, not, ◌&&◌, ◌||◌, B
 use Rattle.std.specs.Option.{is_some}
 use Rattle.sf_path.specs.Names.{Path}
 use Rattle.sf_field.specs.declared.attrs.Attrs.{Attrs}
-use Rattle.sf_wire.specs.declared.reply.StatusCode.TheVariants.{Failure, PermissionDenied}
-use Rattle.sf_wire.specs.declared.reply.Reply.TheVariants as reply
+use Rattle.sf_reply.specs.declared.reply.StatusCode.TheVariants.{Failure, PermissionDenied}
+use Rattle.sf_reply.specs.declared.reply.Reply.TheVariants as reply
 use Rattle.sf_call.specs.Attributes.{Object, attrs_of}
 use Rattle.sf_call.specs.Attributes.Object.{Directory, File}
 use Rattle.sf_call.specs.declared.handle.Handle.{Handle}

@@ -1,8 +1,8 @@
 -- Entries of a listing.
 use Rattle.std.proofs.Common.{◌≡◌, List, [], ℕ, Option, Some, unwrap_or, sym, ap}
 use Rattle.sf_path.specs.Names.{Name}
-use Rattle.sf_wire.specs.declared.reply.Entry.{Entry}
-use Rattle.sf_wire.specs.Longname.{longname_text}
+use Rattle.sf_reply.specs.declared.reply.Entry.{Entry}
+use Rattle.sf_reply.specs.Longname.{longname_text}
 use Rattle.sf_call.specs.Attributes.{Object, attrs_of}
 use Rattle.sf_call.specs.Listings.{entry_of}
 

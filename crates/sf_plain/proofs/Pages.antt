@@ -3,9 +3,9 @@ use Rattle.std.proofs.Common.{◌≡◌, ◌≢◌, ◌≤◌, ◌<◌, ℕ, con
 use Rattle.std.specs.List.{cons_option, last_or}
 use Rattle.std.proofs.lemmas.List.{append-nil, take_all, take-append-le}
 use Rattle.sf_path.specs.Names.{Name, Path}
-use Rattle.sf_wire.specs.declared.reply.Entry.{Entry}
-use Rattle.sf_wire.specs.declared.reply.Reply.TheVariants as reply
-use Rattle.sf_wire.specs.declared.reply.StatusCode.TheVariants.{EndOfFile, Failure}
+use Rattle.sf_reply.specs.declared.reply.Entry.{Entry}
+use Rattle.sf_reply.specs.declared.reply.Reply.TheVariants as reply
+use Rattle.sf_reply.specs.declared.reply.StatusCode.TheVariants.{EndOfFile, Failure}
 use Rattle.sf_call.specs.declared.handle.Handle.{Handle}
 use Rattle.sf_call.specs.Attributes.{Object}
 use Rattle.sf_call.specs.Attributes.Object.{Directory, File}

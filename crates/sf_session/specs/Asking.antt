@@ -4,17 +4,17 @@ use Rattle.std.specs.Int.{w64, from_be_bytes}
 use Rattle.sf_path.specs.declared.fault.PathFault.{PathFault}
 use Rattle.sf_path.specs.Names.{Path, text_of}
 use Rattle.sf_path.specs.Normal.{norm, fault_of}
-use Rattle.sf_wire.specs.declared.reply.Entry.{Entry}
-use Rattle.sf_wire.specs.declared.reply.Reply.{Reply}
-use Rattle.sf_wire.specs.declared.reply.Reply.TheVariants as reply
-use Rattle.sf_wire.specs.declared.reply.StatusCode.TheVariants.{Failure, BadMessage, OpUnsupported}
-use Rattle.sf_wire.specs.declared.request.WireRequest.{WireRequest}
-use Rattle.sf_wire.specs.declared.request.WireRequest.TheVariants as wire
-use Rattle.sf_wire.specs.declared.request.Asked.{Asked}
-use Rattle.sf_wire.specs.declared.request.Asked.TheVariants as asked
+use Rattle.sf_reply.specs.declared.reply.Entry.{Entry}
+use Rattle.sf_reply.specs.declared.reply.Reply.{Reply}
+use Rattle.sf_reply.specs.declared.reply.Reply.TheVariants as reply
+use Rattle.sf_reply.specs.declared.reply.StatusCode.TheVariants.{Failure, BadMessage, OpUnsupported}
+use Rattle.sf_request.specs.declared.request.WireRequest.{WireRequest}
+use Rattle.sf_request.specs.declared.request.WireRequest.TheVariants as wire
+use Rattle.sf_request.specs.declared.request.Asked.{Asked}
+use Rattle.sf_request.specs.declared.request.Asked.TheVariants as asked
 use Rattle.sf_field.specs.Attributes.{no_attrs}
-use Rattle.sf_wire.specs.Replies.{reply_body}
-use Rattle.sf_wire.specs.Requests.{Asks}
+use Rattle.sf_reply.specs.Replies.{reply_body}
+use Rattle.sf_request.specs.Requests.{Asks}
 use Rattle.sf_call.specs.declared.request.Request.{Request}
 use Rattle.sf_call.specs.declared.request.Request.TheVariants as call
 use Rattle.sf_session.specs.declared.asking.Ask.{Ask}

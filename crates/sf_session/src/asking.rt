@@ -2,7 +2,7 @@
 
 ghost use Rattle.std.specs.Prelude.{◌≡◌, ℕ, ◌≤◌, length, IfOk};
 ghost use Rattle.sf_path.specs.Names.{text_of};
-ghost use Rattle.sf_wire.specs.Replies.{reply_body};
+ghost use Rattle.sf_reply.specs.Replies.{reply_body};
 ghost use Rattle.sf_session.specs.Asking.{AsksFor, FitsPacket, first_ask, later_ask, request_ask, call_ask, is_init, real_path_ask, real_path_reply};
 
 use crate::calling::{call_of, path_of};

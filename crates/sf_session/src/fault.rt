@@ -3,7 +3,7 @@
 ghost use Rattle.std.specs.Prelude.{◌≡◌};
 ghost use Rattle.sf_session.specs.declared.fault.ServeFault.TheVariants.{Line, OutOfMemory};
 
-use sf_wire::LineFault;
+use sf_line::LineFault;
 use std::alloc::AllocError;
 use thiserror::Error;
 

@@ -1,8 +1,8 @@
 //! One session: the bytes of its packets to requests, replies to bytes.
 
 ghost use Rattle.std.specs.Prelude.{◌≡◌, ◌≢◌, ◌≤◌, ◌++◌, ◌↔◌, [], length, drop, true, Err, Some, None, IsSome, IfSome, IfOk, OnOk, OnErr};
-ghost use Rattle.sf_wire.specs.Replies.{reply_body, version_body};
-ghost use Rattle.sf_wire.specs.Packets.{packet};
+ghost use Rattle.sf_reply.specs.Replies.{reply_body, version_body};
+ghost use Rattle.sf_field.specs.Fields.{packet};
 ghost use Rattle.sf_session.specs.Sessions.{Fronts, new_session, NextGives, refusal_of};
 
 use crate::asking::Ask;

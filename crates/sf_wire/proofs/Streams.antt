@@ -7,10 +7,10 @@ use Rattle.sf_wire.specs.declared.cutting.Cut.{Cut}
 use Rattle.sf_wire.specs.declared.cutting.Cut.TheVariants as cut
 use Rattle.sf_wire.specs.declared.cutting.BadCut.{BadCut}
 use Rattle.sf_wire.specs.declared.cutting.BadCut.TheVariants.{ZeroLength, TooLong}
-use Rattle.sf_field.specs.Fields.{AreBytes, be32}
-use Rattle.sf_wire.specs.Packets.{packet, IsBody, IsCut, End, More, Bad, Ends, Cuts}
+use Rattle.sf_field.specs.Fields.{AreBytes, be32, packet}
+use Rattle.sf_wire.specs.Packets.{IsBody, IsCut, End, More, Bad, Ends, Cuts}
 use Rattle.sf_wire.specs.Streams.{IfWhole, HasBody, CutsAfter, IsSpelled, Stays, GrowsTo}
-use Rattle.sf_wire.specs.Reading.{cut_of}
+use Rattle.sf_wire.specs.Cutting.{cut_of}
 use Rattle.sf_field.proofs.FieldLaws.{IsBytes, IsBytes-of}
 use Rattle.sf_wire.proofs.Cuts.{cut_found, cut_only}
 use Rattle.sf_wire.proofs.OneForm.{one_packet}

@@ -3,7 +3,8 @@ use Rattle.std.specs.Prelude.{◌≡◌, ℕ, ◌<◌, ◌≤◌, List, [], ◌�
 use Rattle.std.specs.List.{AllByRecursion, flat_map}
 use Rattle.sf_wire.specs.declared.cutting.Cut.{Cut}
 use Rattle.sf_wire.specs.declared.cutting.Cut.TheVariants as cut
-use Rattle.sf_wire.specs.Packets.{packet, IsBody, IsCut, End, More, Bad, Ends, Cuts}
+use Rattle.sf_field.specs.Fields.{packet}
+use Rattle.sf_wire.specs.Packets.{IsBody, IsCut, End, More, Bad, Ends, Cuts}
 
 abbrev pub IfWhole : Cut → (ℕ → Type 0) → Type 0
 IfWhole (cut.Whole len) P = P len

@@ -4,7 +4,8 @@ use Rattle.std.specs.List.{flat_map, AllByRecursion}
 use Rattle.sf_wire.specs.declared.cutting.Cut.{Cut}
 use Rattle.sf_wire.specs.declared.cutting.Cut.TheVariants as cut
 use Rattle.sf_wire.specs.declared.cutting.BadCut.TheVariants as bad
-use Rattle.sf_wire.specs.Packets.{packet, IsBody, IsCut, End, More, Bad, Cuts}
+use Rattle.sf_field.specs.Fields.{packet}
+use Rattle.sf_wire.specs.Packets.{IsBody, IsCut, End, More, Bad, Cuts}
 use Rattle.sf_wire.specs.Streams.{CutsAfter}
 use Rattle.sf_session.specs.declared.cause.Cause.{Cause}
 use Rattle.sf_session.specs.declared.asking.Ask.TheVariants as ask

@@ -6,9 +6,10 @@ use Rattle.std.specs.Io.KnownBytes.{Appends, Consumes, IsAtEnd}
 use Rattle.std.proofs.KnownBytes.{Appends-nil, Appends-trans, Consumes-trans}
 use Rattle.std.proofs.lemmas.List.{flat_map_more}
 use Rattle.std.proofs.lemmas.List.Sums.{fold-append}
-use Rattle.sf_wire.specs.declared.reply.Reply.{Reply}
-use Rattle.sf_wire.specs.declared.reply.Reply.TheVariants as reply
-use Rattle.sf_wire.specs.Packets.{packet, IsBody}
+use Rattle.sf_reply.specs.declared.reply.Reply.{Reply}
+use Rattle.sf_reply.specs.declared.reply.Reply.TheVariants as reply
+use Rattle.sf_field.specs.Fields.{packet}
+use Rattle.sf_wire.specs.Packets.{IsBody}
 use Rattle.sf_call.specs.declared.request.Request.{Request}
 use Rattle.sf_call.specs.declared.record.Record.{Record}
 use Rattle.sf_call.specs.declared.record.Record.TheVariants.{Did, Left}

@@ -6,22 +6,22 @@ use Rattle.std.specs.Io.KnownBytes.{Appends, Consumes, IsAtEnd}
 use Rattle.std.proofs.KnownBytes.{Appends-nil, Consumes-nil, Consumes-trans}
 use Rattle.std.proofs.lemmas.List.{length-take-le}
 use Rattle.sf_wire.specs.declared.cutting.Cut.TheVariants as cut
-use Rattle.sf_wire.specs.Packets.{packet, IsCut}
-use Rattle.sf_field.specs.Fields.{be32}
+use Rattle.sf_field.specs.Fields.{packet, be32}
+use Rattle.sf_wire.specs.Packets.{IsCut}
 use Rattle.sf_session.specs.declared.cause.Cause.{Cause}
 use Rattle.sf_session.specs.declared.cause.Cause.TheVariants.{Closed, OldVersion}
 use Rattle.sf_session.specs.declared.cause.Cause.TheVariants.{ZeroLength, TooLong}
 use Rattle.sf_session.specs.declared.asking.Ask.{Ask}
 use Rattle.sf_session.specs.declared.asking.Ask.TheVariants as ask
-use Rattle.sf_wire.specs.declared.request.WireRequest.TheVariants as wire
-use Rattle.sf_wire.specs.declared.request.Asked.{Asked}
-use Rattle.sf_wire.specs.declared.request.Asked.TheVariants as asked
+use Rattle.sf_request.specs.declared.request.WireRequest.TheVariants as wire
+use Rattle.sf_request.specs.declared.request.Asked.{Asked}
+use Rattle.sf_request.specs.declared.request.Asked.TheVariants as asked
 use Rattle.sf_path.specs.Names.{Path}
 use Rattle.sf_call.specs.Tree.{Tree, empty_tree}
 use Rattle.sf_call.specs.Histories.{IsLegal, IsLegalAfter, replay}
 use Rattle.sf_session.specs.Asking.{is_init, path_at, call_of, call_ask, real_path_at, request_ask, ask_by}
 use Rattle.sf_call.specs.declared.request.Request.{Request}
-use Rattle.sf_wire.specs.declared.request.WireRequest.{WireRequest}
+use Rattle.sf_request.specs.declared.request.WireRequest.{WireRequest}
 use Rattle.sftpd.specs.declared.service.Turn.TheVariants as turn
 use Rattle.sf_session.specs.Sessions.{SessionView, EndsBy}
 use Rattle.sftpd.specs.Transcripts.{moments_of, AreAnswers, IsServed, IsEnd}

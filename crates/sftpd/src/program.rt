@@ -3,7 +3,7 @@
 use crate::clock::SystemClock;
 use crate::stdio::run_stdio;
 use clap::{Command, Error, error};
-use sf_wire::StreamLine;
+use sf_line::StreamLine;
 use std::alloc::Global;
 use std::env;
 use std::io::{ErrorKind, Input};

@@ -8,7 +8,7 @@ ghost use Rattle.sftpd.specs.Serving.{Edges, edges, IsDrained, IsRounded, IsServ
 use crate::service::{Service, Turn};
 use sf_call::{labels_of_paths, one_record_more, told_replies};
 use sf_session::{Cause, Clock, ServeFault};
-use sf_wire::{Line, LineFault};
+use sf_line::{Line, LineFault};
 use std::alloc::{AllocError, Global};
 
 /// How many bytes a read asks for.

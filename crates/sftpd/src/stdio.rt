@@ -8,7 +8,7 @@ ghost use Rattle.sftpd.specs.Statuses.{status_of};
 
 use crate::serving::serve_one;
 use sf_session::{Cause, Clock, ServeFault};
-use sf_wire::Line;
+use sf_line::Line;
 use std::alloc::Global;
 use std::io::{self, Write};
 

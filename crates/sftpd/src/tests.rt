@@ -7,7 +7,7 @@ use crate::program::{Action, read_words};
 use crate::serving::serve_one;
 use crate::stdio::run_stdio;
 use sf_session::{Cause, Clock};
-use sf_wire::{MemoryLine, Pieces};
+use sf_line::{MemoryLine, Pieces};
 use std::alloc::Global;
 use std::process::Abort;
 use std::test::*;

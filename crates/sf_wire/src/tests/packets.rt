@@ -1,7 +1,7 @@
 use super::*;
 
 /// A packet is cut after all of its bytes and no sooner.
-pub(super) fn is_one_packet(rt: &impl Abort, packet: &[u8]) {
+fn is_one_packet(rt: &impl Abort, packet: &[u8]) {
     for len in 0..packet.len() {
         assert_eq!(rt; cut(&packet[..len]), Cut::More);
     }
@@ -37,12 +37,7 @@ fn asks(
     Ok(())
 }
 
-pub(super) fn is_written(
-    rt: &impl Abort,
-    alloc: Global,
-    out: &BytesMut,
-    want: &str,
-) -> Result<(), Fail> {
+fn is_written(rt: &impl Abort, alloc: Global, out: &BytesMut, want: &str) -> Result<(), Fail> {
     let want = hex_bytes(alloc, want)?;
     assert_eq!(rt; out.as_slice(), want.as_slice());
     is_one_packet(rt, out.as_slice());
@@ -77,14 +72,10 @@ fn mkdir(rt: HostRuntime) -> Result<(), Fail> {
         },
     );
     asks(&rt, alloc, &sent, 15, &want, &Asked::BadFields(7))?;
-    mkdir_replies(&rt, alloc)
-}
-
-fn mkdir_replies(rt: &impl Abort, alloc: Global) -> Result<(), Fail> {
     let mut out = BytesMut::new(alloc);
     write_reply(7, &Reply::Status(StatusCode::Success), &mut out)?;
     is_written(
-        rt,
+        &rt,
         alloc,
         &out,
         "00000018 65 00000007 00000000 00000007 53756363657373 00000000",
@@ -92,7 +83,7 @@ fn mkdir_replies(rt: &impl Abort, alloc: Global) -> Result<(), Fail> {
     out.clear();
     write_reply(7, &Reply::Status(StatusCode::Failure), &mut out)?;
     is_written(
-        rt,
+        &rt,
         alloc,
         &out,
         "00000018 65 00000007 00000004 00000007 4661696c757265 00000000",
@@ -132,24 +123,15 @@ fn realpath_of_empty_path(rt: HostRuntime) -> Result<(), Fail> {
         },
     );
     asks(&rt, alloc, &short, 9, &want, &Asked::BadFields(5))?;
-    longest_asks(&rt, alloc, &want)?;
-    realpath_reply(&rt, alloc)
-}
-
-fn longest_asks(rt: &impl Abort, alloc: Global, want: &Asked) -> Result<(), Fail> {
     let mut long = hex_bytes(alloc, "00040000 10 00000005 00000000")?;
     long.extend_from_slice(&vec![in alloc; 0u8; 262135]?)?;
     assert_eq!(rt; long.len(), 262148);
-    is_one_packet(rt, &long);
-    assert_eq!(rt; read_request(alloc, &long[4..])?, *want);
-    Ok(())
-}
-
-fn realpath_reply(rt: &impl Abort, alloc: Global) -> Result<(), Fail> {
+    is_one_packet(&rt, &long);
+    assert_eq!(rt; read_request(alloc, &long[4..])?, want);
     let mut out = BytesMut::new(alloc);
     write_reply(5, &Reply::Names(root_listing(alloc)?), &mut out)?;
     is_written(
-        rt,
+        &rt,
         alloc,
         &out,
         "00000017 68 00000005 00000001 00000001 2f 00000001 2f 00000000",
@@ -183,10 +165,6 @@ fn pairs_are_ignored(rt: HostRuntime) -> Result<(), Fail> {
     )?;
     let bad = Asked::BadFields(7);
     asks(&rt, alloc, &without, 20, &bad, &bad)?;
-    one_pair_is_ignored(&rt, alloc, &bad)
-}
-
-fn one_pair_is_ignored(rt: &impl Abort, alloc: Global, bad: &Asked) -> Result<(), Fail> {
     let with_one = hex_bytes(
         alloc,
         "0000001b 0e 00000007 00000002 2f61 80000000 00000001 00000000 00000000",
@@ -199,7 +177,7 @@ fn one_pair_is_ignored(rt: &impl Abort, alloc: Global, bad: &Asked) -> Result<()
             attrs: NO_ATTRS,
         },
     );
-    asks(rt, alloc, &with_one, 27, &want, bad)
+    asks(&rt, alloc, &with_one, 27, &want, &bad)
 }
 
 /// All parts, a flag of no part, and a pair.

@@ -1,6 +1,6 @@
 use Rattle.std.proofs.Common.{[], ◌∷◌, refl, inl, inr}
-use Rattle.sf_wire.specs.declared.reply.Reply.TheVariants as reply
-use Rattle.sf_wire.specs.declared.reply.StatusCode.TheVariants.{NoSuchFile}
+use Rattle.sf_reply.specs.declared.reply.Reply.TheVariants as reply
+use Rattle.sf_reply.specs.declared.reply.StatusCode.TheVariants.{NoSuchFile}
 use Rattle.sf_call.specs.declared.request.Request.TheVariants.{Stat, Mkdir}
 use Rattle.sf_call.specs.Histories.{IsAmong}
 use Rattle.sf_call.specs.Examples.{b, no_attrs, history}

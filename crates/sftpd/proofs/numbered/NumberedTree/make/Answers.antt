@@ -1,5 +1,5 @@
 use Rattle.std.proofs.Common.{refl, inl, inr, arith}
-use Rattle.sf_wire.specs.declared.reply.Reply.TheVariants.{NoMemory}
+use Rattle.sf_reply.specs.declared.reply.Reply.TheVariants.{NoMemory}
 use Rattle.sftpd.proofs.Founding.{Laws, founded_after}
 use Rattle.sftpd.proofs.numbered.NumberedTree.make.Goals as goal
 use Rattle.sftpd.proofs.numbered.NumberedTree.make.Goals.{in-Ok, in-Err}

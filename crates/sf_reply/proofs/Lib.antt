@@ -1,0 +1,4 @@
+pub mod Entries
+pub mod OneReply
+pub mod Columns
+pub mod LineLengths

@@ -1,0 +1,47 @@
+ghost use Rattle.std.specs.Prelude.{◌≤◌, length, IfOk};
+ghost use Rattle.std.specs.List.{flat_map};
+ghost use Rattle.sf_reply.specs.Replies.{entry_text};
+
+use super::*;
+use bytes::BytesMut;
+use sf_field::{Attrs, ByteString, NO_ATTRS, Owner, Times};
+use std::alloc::{AllocError, Global};
+use std::process::Abort;
+use std::test::*;
+
+mod replies;
+mod values;
+
+/// A new directory's attributes at the moment 100.
+const DIRECTORY: Attrs = Attrs {
+    size: Some(0),
+    owner: Some(Owner { uid: 0, gid: 0 }),
+    permissions: Some(0o40755),
+    times: Some(Times {
+        atime: 100,
+        mtime: 100,
+    }),
+};
+
+/// The bytes of a text in hexadecimal, whose spaces only group them.
+fn hex_bytes(alloc: Global, text: &str) -> Result<Vec<u8>, Fail> {
+    let digits: Vec<u8> = text.bytes().filter(|b| *b != b' ').collect(alloc)?;
+    Ok(hex::decode(alloc, digits.as_slice())?)
+}
+
+fn string(alloc: Global, text: &str) -> Result<ByteString, AllocError> {
+    ByteString::from_slice(alloc, text.as_bytes())
+}
+
+/// The root's one name, as REALPATH answers it.
+#[tactic(auto, unfolding(crate::specs::Replies::entry_text))]
+fn root_listing(alloc: Global) -> Result<Listing, Fail>
+    ensures { IfOk result (λ names. length (flat_map entry_text names) ≤ 14) }
+{
+    let root = Entry {
+        filename: ByteString::from_slice(alloc, b"/")?,
+        longname: ByteString::from_slice(alloc, b"/")?,
+        attrs: NO_ATTRS,
+    };
+    Ok(Listing::from_vec(vec![in alloc; root]?))
+}

@@ -1,0 +1,3 @@
+pub mod SpelledFields
+pub mod RequestLaws
+pub mod AskedLaws

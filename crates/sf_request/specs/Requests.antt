@@ -1,0 +1,114 @@
+-- What a body asks: the grammar of the requests.
+use Rattle.std.specs.Prelude.{◌≡◌, ◌≢◌, ℕ, ◌<◌, ◌^◌, ◌⊎◌, List, ◌∷◌, ◌++◌, length, codes, Bool, true, false, nat_lt, ◌==◌, ◌&&◌, ◌||◌}
+use Rattle.sf_field.specs.declared.attrs.Attrs.{Attrs}
+use Rattle.sf_field.specs.declared.open_flags.OpenFlags.{OpenFlags}
+use Rattle.sf_request.specs.declared.request.WireRequest.{WireRequest}
+use Rattle.sf_request.specs.declared.request.WireRequest.TheVariants as request
+use Rattle.sf_request.specs.declared.request.Asked.{Asked}
+use Rattle.sf_request.specs.declared.request.Asked.TheVariants.{Init, Request, BadFields, Unknown, NoId}
+use Rattle.sf_field.specs.Fields.{be32, be64, string}
+use Rattle.sf_field.specs.Attributes.{SpellsAttrs}
+use Rattle.sf_field.specs.OpenFlags.{open_flags}
+
+-- the type byte
+abbrev pub kind_of : WireRequest → ℕ
+kind_of (request.Open filename flags attrs) = 3
+kind_of (request.Close handle) = 4
+kind_of (request.Read handle offset len) = 5
+kind_of (request.Write handle offset bytes) = 6
+kind_of (request.LStat path) = 7
+kind_of (request.FStat handle) = 8
+kind_of (request.SetStat path attrs) = 9
+kind_of (request.FSetStat handle attrs) = 10
+kind_of (request.OpenDir path) = 11
+kind_of (request.ReadDir handle) = 12
+kind_of (request.Remove path) = 13
+kind_of (request.Mkdir path attrs) = 14
+kind_of (request.Rmdir path) = 15
+kind_of (request.RealPath path) = 16
+kind_of (request.Stat path) = 17
+kind_of (request.Rename old new) = 18
+kind_of (request.PosixRename old new) = 200
+
+-- 3 to 18, and the extensions
+abbrev pub is_request : ℕ → Bool
+is_request kind = nat_lt 2 kind && nat_lt kind 19 || kind == 200
+
+abbrev pub posix_rename : List ℕ
+posix_rename = codes "posix-rename@openssh.com"
+
+-- the texts that spell one field
+pub record IsU32 (n : ℕ) (text : List ℕ) : Type 0 where
+  pub fits : n < 2 ^ 32
+  pub is : text ≡ be32 n
+
+pub record IsU64 (n : ℕ) (text : List ℕ) : Type 0 where
+  pub fits : n < 2 ^ 64
+  pub is : text ≡ be64 n
+
+pub record IsString (bytes text : List ℕ) : Type 0 where
+  pub short : length bytes < 2 ^ 32
+  pub is : text ≡ string bytes
+
+abbrev pub IsAttrs : Attrs → List ℕ → Type 0
+IsAttrs attrs text = SpellsAttrs text attrs
+
+-- Bits that no flag has are ignored.
+pub record IsFlags (flags : OpenFlags) (text : List ℕ) : Type 0 where
+  pub bits : ℕ
+  pub spelled : IsU32 bits text
+  pub say : open_flags bits ≡ flags
+
+-- one field after another
+infixr 10 ◌⨾◌
+pub record ◌⨾◌ (First Second : List ℕ → Type 0) (text : List ℕ) : Type 0 where
+  pub front : List ℕ
+  pub back : List ℕ
+  pub first : First front
+  pub second : Second back
+  pub parts : text ≡ front ++ back
+
+-- the fields after the id
+abbrev pub SpellsFields : List ℕ → WireRequest → Type 0
+SpellsFields text (request.Open filename flags attrs) = (IsString filename ⨾ IsFlags flags ⨾ IsAttrs attrs) text
+SpellsFields text (request.Close handle) = IsString handle text
+SpellsFields text (request.Read handle offset len) = (IsString handle ⨾ IsU64 offset ⨾ IsU32 len) text
+SpellsFields text (request.Write handle offset bytes) = (IsString handle ⨾ IsU64 offset ⨾ IsString bytes) text
+SpellsFields text (request.LStat path) = IsString path text
+SpellsFields text (request.FStat handle) = IsString handle text
+SpellsFields text (request.SetStat path attrs) = (IsString path ⨾ IsAttrs attrs) text
+SpellsFields text (request.FSetStat handle attrs) = (IsString handle ⨾ IsAttrs attrs) text
+SpellsFields text (request.OpenDir path) = IsString path text
+SpellsFields text (request.ReadDir handle) = IsString handle text
+SpellsFields text (request.Remove path) = IsString path text
+SpellsFields text (request.Mkdir path attrs) = (IsString path ⨾ IsAttrs attrs) text
+SpellsFields text (request.Rmdir path) = IsString path text
+SpellsFields text (request.RealPath path) = IsString path text
+SpellsFields text (request.Stat path) = IsString path text
+SpellsFields text (request.Rename old new) = (IsString old ⨾ IsString new) text
+SpellsFields text (request.PosixRename old new) = (IsString posix_rename ⨾ IsString old ⨾ IsString new) text
+
+-- the body of a packet, with its type and its id
+pub record HasId (body : List ℕ) (kind id : ℕ) (rest : List ℕ) : Type 0 where
+  pub fits : id < 2 ^ 32
+  pub parts : body ≡ kind ∷ be32 id ++ rest
+
+-- the name of an extension that isn't known
+pub record HasOtherName (rest : List ℕ) : Type 0 where
+  pub name : List ℕ
+  pub more : List ℕ
+  pub short : length name < 2 ^ 32
+  pub parts : rest ≡ string name ++ more
+  pub other : name ≢ posix_rename
+
+abbrev pub IsUnknown : ℕ → List ℕ → Type 0
+IsUnknown kind rest = ((is_request kind ≡ false) × (kind ≢ 1)) ⊎ ((kind ≡ 200) × HasOtherName rest)
+
+-- What a body asks. Bytes may follow the fields.
+abbrev pub Asks : List ℕ → Asked → Type 0
+Asks body (Init version) = (more : List ℕ) × HasId body 1 version more
+Asks body (Request id request) = (text more : List ℕ) × HasId body (kind_of request) id (text ++ more) × SpellsFields text request
+Asks body (BadFields id) = (kind : ℕ) × (rest : List ℕ) × HasId body kind id rest × (is_request kind ≡ true) × (IsUnknown kind rest → ⊥)
+    × ((request : WireRequest) (text more : List ℕ) → kind_of request ≡ kind → SpellsFields text request → rest ≡ text ++ more → ⊥)
+Asks body (Unknown id) = (kind : ℕ) × (rest : List ℕ) × HasId body kind id rest × IsUnknown kind rest
+Asks body NoId = length body < 5
