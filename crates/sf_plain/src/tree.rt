@@ -2,7 +2,7 @@
 
 ghost use Rattle.std.specs.List.{list_any};
 ghost use Rattle.std.specs.Option.{option_copied, is_some};
-ghost use Rattle.std.specs.Prelude.{◌≡◌, None, IfOk, OnOk, OnErr};
+ghost use Rattle.std.specs.Prelude.{◌≡◌, None, length, IfOk, OnOk, OnErr};
 ghost use Rattle.sf_call.specs.Tree.{empty_tree, label_at, directory_at, is_faulty_way, is_empty, only_name, after_front, place_at};
 ghost use Rattle.sf_call.specs.Changes.{changed, done, touch};
 ghost use Rattle.sf_call.specs.Changes.Change.{NewPath, SetObject, GonePath};
@@ -21,8 +21,6 @@ use std::marker::Model;
 mod handle_calls;
 mod listing;
 mod path_calls;
-#[cfg(test)]
-mod tests;
 
 /// A tree of files.
 #[derive(Drop)]
@@ -113,6 +111,13 @@ impl PlainTree {
     {
         close_all(&mut self.handles, session);
         sweep(&mut self.objects, &self.names, &self.handles);
+    }
+
+    /// How many directories and files there are, with those that are open alone.
+    pub fn object_count(&self) -> usize
+        ensures { result ≡ length self.now.objects }
+    {
+        self.objects.len()
     }
 
     /// An equal tree.

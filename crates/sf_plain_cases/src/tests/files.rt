@@ -121,6 +121,6 @@ fn unlinked_file_stays_to_its_close(rt: HostRuntime) -> Result<(), Fail> {
     client.data(&rt, read(1, 0, 10), b"abcd");
     client.status(&rt, close(1), Success);
     client.status(&rt, read(1, 0, 10), Failure);
-    assert!(rt; client.tree.objects.get(&1).is_none());
+    assert_eq!(rt; client.tree.object_count(), 1);
     Ok(())
 }

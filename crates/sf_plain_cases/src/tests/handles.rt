@@ -64,7 +64,7 @@ fn handles_close_with_their_session(rt: HostRuntime) -> Result<(), Fail> {
     client.status(&rt, remove(alloc, b"/f"), Success);
     client.status(&rt, remove(alloc, b"/g"), Success);
     client.tree.leave(1);
-    assert!(rt; client.tree.objects.get(&1).is_none());
+    assert_eq!(rt; client.tree.object_count(), 2);
     client.attrs(&rt, stat_handle(3), whole(0, 0o100644, 200, 200));
     client.session = 1;
     client.status(&rt, stat_handle(1), Failure);

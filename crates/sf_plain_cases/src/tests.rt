@@ -1,9 +1,10 @@
 //! Each case of the calls, told by the replies and by the calls that follow.
 
-use super::*;
 use sf_call::Request;
 use sf_path::Path;
+use sf_plain::PlainTree;
 use sf_wire::{Attrs, ByteString, Entry, NO_ATTRS, OpenFlags, Owner, Reply, StatusCode, Times};
+use std::alloc::Global;
 use std::process::Abort;
 use std::test::*;
 
