@@ -1,0 +1,16 @@
+pub mod Walks
+pub mod Once
+pub mod Sound
+pub mod Keyed
+pub mod Shown
+pub mod Less
+pub mod Whole
+pub mod Handled
+pub mod Relinked
+pub mod EntryLists
+pub mod StoreLaws
+pub mod StoreMoves
+pub mod Least
+pub mod First
+pub mod StoreHandles
+pub mod StoreBytes

@@ -1,0 +1,4 @@
+pub mod Steps
+pub mod Shows
+pub mod Nodes
+pub mod Stores
