@@ -2,3 +2,4 @@ pub mod Steps
 pub mod Shows
 pub mod Nodes
 pub mod Stores
+pub mod Keeps

@@ -142,7 +142,7 @@ handle_put s session number h = handles_put s session number h (handles_of s ses
 abbrev pub opened_at : StoreState → ℕ → ℕ → ℕ → Marks → Option Node → StoreState
 opened_at s session number id marks None = s
 opened_at s session number id marks (Some node) =
-    edited (λ it. with_opened (it.opens + 1) it) (handle_put s session number (record { node = id; label = node.label; marks = marks; listed = None })) id
+    edited (λ it. with_opened (min (it.opens + 1) (2 ^ 64 - 1)) it) (handle_put s session number (record { node = id; label = node.label; marks = marks; listed = None })) id
 
 -- a handle opens a node, if it is there
 abbrev pub opened : StoreState → ℕ → ℕ → ℕ → Marks → StoreState

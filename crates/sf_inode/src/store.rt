@@ -330,8 +330,7 @@ impl Store {
         }
     }
 
-    /// Opens a node by a handle of a session, with no name listed yet. It is refused, too, where
-    /// 2^64 - 1 handles open the node.
+    /// Opens a node by a handle of a session, with no name listed yet.
     pub fn open(
         &mut self,
         session: u64,
@@ -342,13 +341,9 @@ impl Store {
         ensures ok { OnOk result (self.new ≡ opened self.old session number node marks) }
         ensures err { OnErr result (self.new ≡ self.old) }
     {
-        let (label, opens) = match self.nodes.get(node) {
-            Some(it) => (it.label, it.opens),
+        let label = match self.nodes.get(node) {
+            Some(it) => it.label,
             None => return Ok(()),
-        };
-        let more = match opens.checked_add(1) {
-            Some(more) => more,
-            None => return Err(AllocError),
         };
         let handle = OpenHandle {
             node,
@@ -358,7 +353,7 @@ impl Store {
         };
         self.put_handle(session, number, handle)?;
         if let Some(it) = self.nodes.get_mut(node) {
-            it.opens = more;
+            it.opens = it.opens.saturating_add(1);
         }
         Ok(())
     }
