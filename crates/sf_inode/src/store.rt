@@ -1,6 +1,6 @@
 //! The nodes, and what is open.
 
-ghost use Rattle.std.specs.Prelude.{◌≡◌, ◌+◌, ◌<◌, ◌≤◌, ◌^◌, ◌-◌, min, length, take, drop, Some, None, true, false, IfOk, OnOk, OnErr, option_map, option_and_then};
+ghost use Rattle.std.specs.Prelude.{◌≡◌, ◌+◌, ◌<◌, ◌≤◌, ◌^◌, ◌-◌, min, length, take, drop, Some, None, true, false, IsOk, IfOk, OnOk, OnErr, option_map, option_and_then};
 ghost use Rattle.std.specs.Option.{option_map_or};
 ghost use Rattle.sf_call.specs.Attributes.{attrs_of, with_parts, modified_at};
 ghost use Rattle.sf_inode.specs.Nodes.{new_node, object_in, is_bare_content, is_directory_content, with_metadata, with_holder, with_content, set_content, sorted_past};
@@ -66,6 +66,11 @@ impl Store {
             sessions: BTreeMap::new(alloc),
             look_ups: 0,
         })
+    }
+
+    /// What the store takes its memory from.
+    pub fn alloc(&self) -> Global {
+        self.alloc
     }
 
     /// The root's number, which stays.
@@ -322,6 +327,7 @@ impl Store {
     /// Cuts a file's bytes at a size, or fills them up to it with zeros.
     pub fn set_len(&mut self, node: NodeId, n: u64) -> Result<(), AllocError>
         ensures ok { OnOk result (self.new ≡ bytes_set self.old node (resized (stored_of self.old.nodes node).bytes n) self.new) }
+        ensures enough { n ≤ (stored_of self.old.nodes node).room → IsOk result }
         ensures err { OnErr result (self.new ≡ self.old) }
     {
         match self.nodes.get_mut(node) {
