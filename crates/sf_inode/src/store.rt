@@ -115,6 +115,16 @@ impl Store {
         }
     }
 
+    /// Whether a node is there and is a directory.
+    pub fn is_directory(&self, node: NodeId) -> bool
+        ensures { result ≡ option_map_or (λ it. is_directory_content it.content) (node_in self.now.nodes node) false }
+    {
+        match self.nodes.get(node) {
+            Some(it) => it.is_directory(),
+            None => false,
+        }
+    }
+
     /// Whether a node is there and has no entries; a file has none.
     pub fn is_empty(&self, node: NodeId) -> bool
         ensures { result ≡ option_map_or (λ it. is_bare_content it.content) (node_in self.now.nodes node) false }

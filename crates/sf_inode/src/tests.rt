@@ -58,6 +58,8 @@ fn find_what_was_inserted(rt: HostRuntime) -> Result<(), Fail> {
     let a = store.insert(root, name(alloc, b"/a")?, made(1, FileType::Directory))?;
     let b = store.insert(a, name(alloc, b"/b")?, made(2, FileType::File))?;
     assert!(rt; !store.is_empty(root));
+    assert!(rt; store.is_directory(a));
+    assert!(rt; !store.is_directory(b));
     assert_eq!(rt; store.find(root, &name(alloc, b"/a")?), Some(a));
     assert_eq!(rt; store.find(a, &name(alloc, b"/b")?), Some(b));
     assert_eq!(rt; store.find(root, &name(alloc, b"/b")?), None);
