@@ -161,7 +161,7 @@ module _ (s : StoreState) (t : Tree) (h : Keeps s t) where
 
   pub node_at : (p : Path) (above y : ℕ) → way_from s.nodes s.root s.root p ≡ located.At above y
       → (walk (entry_of s.nodes) s.root p ≡ Some y) × Known s.nodes s.root p above y
-          × ((node : Node) × (node_in s.nodes y ≡ Some node) × (place_at t p ≡ place.At node.label) × (found_at t p ≡ found_node node))
+      × ((node : Node) × (node_in s.nodes y ≡ Some node) × (place_at t p ≡ place.At node.label) × (found_at t p ≡ found_node node))
   node_at p above y e =
       let f = subst (λ (l : Located). Fits s t [] p l) e (way_fits p [] s.root s.root refl (inl refl)) in
       let w = node_there p y f.1 in
