@@ -9,18 +9,17 @@ use Rattle.sf_call.specs.declared.place.Place.{Place}
 use Rattle.sf_call.specs.declared.place.Place.TheVariants as place
 use Rattle.sf_call.specs.Attributes.{Object}
 use Rattle.sf_call.specs.Tree.{Tree, Found, label_at, object_of, directory_metadata, is_directory, proper_fronts, is_faulty_way, place_of, place_at, found_at, found_place, found_object}
-use Rattle.sf_call.specs.Tree.Found.{DirectoryAt, FileAt}
 use Rattle.sf_inode.specs.declared.node.Node.{Node}
 use Rattle.sf_inode.specs.declared.node.Content.{Content}
 use Rattle.sf_inode.specs.declared.node.Content.TheVariants as content
 use Rattle.sf_inode.specs.Nodes.{object_in, is_directory_content}
 use Rattle.sf_inode.specs.Steps.{Steps, walk}
 use Rattle.sf_inode.specs.Shows.{label_by, is_directory_by}
-use Rattle.sf_inode.specs.Stores.{StoreState, node_in, entry_of, shown_node, shown_of, view_of}
+use Rattle.sf_inode.specs.Stores.{StoreState, node_in, entry_of, is_directory_at, shown_node, shown_of, view_of}
 use Rattle.sf_inode.specs.Keeps.{Keeps}
 use Rattle.sf_walk.specs.declared.finding.Located.{Located}
 use Rattle.sf_walk.specs.declared.finding.Located.TheVariants as located
-use Rattle.sf_walk.specs.Ways.{is_directory_at, missing, way_from}
+use Rattle.sf_walk.specs.Ways.{missing, way_from, found_content, found_node}
 
 pub walk-append : (step : Steps) (x : ℕ) (p q : Path) → walk step x (p ++ q) ≡ option_and_then (λ y. walk step y q) (walk step x p)
 walk-append step x [] q = refl
@@ -68,14 +67,6 @@ Fits s t front rest (located.At above y) = (fails_behind t front rest ≡ false)
 directory_object : (l : ℕ) (m : Metadata) (c : Content) → is_some {T = ℕ × Metadata} (option_map (λ (k : Metadata). (l, k)) (directory_metadata (object_in m c))) ≡ is_directory_content c
 directory_object l m (content.Directory es) = refl
 directory_object l m (content.File bytes) = refl
-
--- what is found where a node is
-abbrev pub found_content : ℕ → Metadata → Content → Found
-found_content label m (content.Directory es) = DirectoryAt label m
-found_content label m (content.File contents) = FileAt label m contents.bytes
-
-abbrev pub found_node : Node → Found
-found_node node = found_content node.label node.metadata node.content
 
 object_found : (l : ℕ) (m : Metadata) (c : Content) → found_object l (Some (object_in m c)) ≡ found_content l m c
 object_found l m (content.Directory es) = refl

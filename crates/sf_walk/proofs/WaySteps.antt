@@ -9,8 +9,8 @@ use Rattle.sf_inode.specs.declared.node.Node.{Node}
 use Rattle.sf_walk.specs.declared.finding.Located.{Located}
 use Rattle.sf_walk.specs.declared.finding.Located.TheVariants as located
 use Rattle.sf_path.specs.Names.{Name, Path}
-use Rattle.sf_inode.specs.Stores.{entry_of}
-use Rattle.sf_walk.specs.Ways.{way_from, missing, is_directory_at}
+use Rattle.sf_inode.specs.Stores.{entry_of, is_directory_at}
+use Rattle.sf_walk.specs.Ways.{way_from, missing}
 
 way_at : (nodes : List (Option Node)) (above x : ℕ) (p : Path) (i : ℕ) → i < length p
     → way_from nodes above x (drop i p) ≡ cond (is_directory_at nodes x) (option_map_or (λ y. way_from nodes x y (drop (i + 1) p)) (entry_of nodes x (get_or p i [])) (missing x (drop (i + 1) p))) located.NoWay

@@ -1,11 +1,11 @@
 -- What a call does to the store.
-use Rattle.std.specs.Prelude.{◌≡◌, ℕ, zero, suc, ◌≤◌, List, Option, Some}
+use Rattle.std.specs.Prelude.{◌≡◌, ℕ, zero, suc, ◌<◌, ◌≤◌, Some, None}
 use Rattle.sf_wire.specs.declared.reply.Reply.{Reply}
-use Rattle.sf_call.specs.Tree.{Tree}
+use Rattle.sf_call.specs.Tree.{Tree, object_of, handle_of}
 use Rattle.sf_call.specs.Changes.{done}
 use Rattle.sf_call.specs.Calls.{Answer}
 use Rattle.sf_inode.specs.declared.node.Node.{Node}
-use Rattle.sf_inode.specs.Stores.{StoreState, node_in, looked_up}
+use Rattle.sf_inode.specs.Stores.{StoreState, node_in, holder_of, looked_up}
 use Rattle.sf_inode.specs.Keeps.{Keeps}
 
 -- the store after so many look-ups
@@ -31,9 +31,15 @@ pub record IsAlike (old new : StoreState) : Type 0 where
   pub root : new.root ≡ old.root
   pub sessions : new.sessions ≡ old.sessions
 
--- a node that was there and is still there has the holder that it had
+-- a node has the holder that it had; a new one has none
 abbrev pub HoldersStay : StoreState → StoreState → Type 0
-HoldersStay old new = (id : ℕ) (before after : Node) → node_in old.nodes id ≡ Some before → node_in new.nodes id ≡ Some after → after.holder ≡ before.holder
+HoldersStay old new = (id : ℕ) (node : Node) → node_in new.nodes id ≡ Some node → node.holder ≡ holder_of old.nodes id
+
+-- the number is above 0, and no label and no handle of the tree has it
+pub record IsNewNumber (t : Tree) (number : ℕ) : Type 0 where
+  pub above : 0 < number
+  pub label : object_of t.objects number ≡ None
+  pub handle : handle_of t.handles number ≡ None
 
 -- the reply is the tree's, and the store keeps the tree after the call
 pub record IsServed (new : StoreState) (t : Tree) (answer : Answer) (reply : Reply) : Type 0 where

@@ -10,3 +10,6 @@ mod path_calls;
 
 pub use calls::from_root;
 pub use finding::{Located, locate};
+
+#[cfg(test)]
+mod tests;

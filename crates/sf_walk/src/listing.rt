@@ -1,5 +1,12 @@
 //! Listing a directory.
 
+ghost use Rattle.std.specs.Prelude.{◌≡◌, IfOk, OnErr};
+ghost use Rattle.sf_call.specs.Tree.{Tree};
+ghost use Rattle.sf_call.specs.Handles.{opened};
+ghost use Rattle.sf_call.specs.Calls.{read_directory};
+ghost use Rattle.sf_inode.specs.Keeps.{Keeps};
+ghost use Rattle.sf_walk.specs.Served.{IsServed, HoldersStay};
+
 use sf_call::MAX_ENTRIES;
 use sf_inode::{NodeId, Store};
 use sf_path::Name;
@@ -12,7 +19,12 @@ pub(crate) fn read_directory(
     store: &mut Store,
     session: u64,
     number: u64,
-) -> Result<Reply, AllocError> {
+) -> Result<Reply, AllocError>
+    ensures served { (t : Tree) → Keeps store.old t → IfOk result (λ reply. IsServed store.new t (read_directory t number (opened t session number)) reply) }
+    ensures err { OnErr result (store.new ≡ store.old) }
+    ensures look_ups { store.new.look_ups ≡ store.old.look_ups }
+    ensures holders { HoldersStay store.old store.new }
+{
     let found = match store.handle(session, number) {
         None => return Ok(Reply::Status(StatusCode::Failure)),
         Some(handle) => {

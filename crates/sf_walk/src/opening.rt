@@ -1,5 +1,16 @@
 //! Calls that open.
 
+ghost use Rattle.std.specs.Prelude.{◌≡◌, ◌<◌, [], length, Some, None, true, IfOk, OnOk, OnErr};
+ghost use Rattle.sf_call.specs.declared.metadata.FileType.TheVariants as file_type;
+ghost use Rattle.sf_call.specs.Tree.{Tree, found_at, place_at};
+ghost use Rattle.sf_call.specs.Calls.{has_all_handles, open_directory, open_present, open_file, unless_root};
+ghost use Rattle.sf_inode.specs.declared.node.Node.{Node};
+ghost use Rattle.sf_inode.specs.Stores.{node_in, entry_of, is_directory_at, bytes_set};
+ghost use Rattle.sf_inode.specs.Keeps.{Keeps};
+ghost use Rattle.sf_walk.specs.Ways.{last_of, found_node};
+ghost use Rattle.sf_walk.specs.Opening.{marks_of, OpenedNew};
+ghost use Rattle.sf_walk.specs.Served.{IsServed, IsAlike, LooksUp, HoldersStay, IsNewNumber};
+
 use crate::finding::{Located, locate};
 use crate::path_calls::insert_last;
 use sf_call::{FileType, MAX_HANDLES, Metadata};
@@ -16,7 +27,9 @@ const NO_MARKS: Marks = Marks {
 };
 
 /// With neither READ nor WRITE a handle reads.
-fn file_marks(flags: OpenFlags) -> Marks {
+fn file_marks(flags: OpenFlags) -> Marks
+    ensures { result ≡ marks_of flags }
+{
     Marks {
         read: flags.read || !flags.write,
         write: flags.write,
@@ -24,7 +37,9 @@ fn file_marks(flags: OpenFlags) -> Marks {
     }
 }
 
-fn has_all_handles(store: &Store, session: u64) -> bool {
+fn has_all_handles(store: &Store, session: u64) -> bool
+    ensures { (t : Tree) → Keeps store.now t → result ≡ has_all_handles t session }
+{
     store.handles(session) >= MAX_HANDLES
 }
 
@@ -34,7 +49,12 @@ pub(crate) fn open_directory(
     session: u64,
     number: u64,
     path: &Path,
-) -> Result<Reply, AllocError> {
+) -> Result<Reply, AllocError>
+    ensures served { (t : Tree) → Keeps store.old t → IsNewNumber t number → IfOk result (λ reply. IsServed store.new t (open_directory t session number (found_at t path.now)) reply) }
+    ensures err { OnErr result (IsAlike store.old store.new) }
+    ensures look_ups { LooksUp store.old store.new (length path.now) }
+    ensures holders { HoldersStay store.old store.new }
+{
     match locate(store, path) {
         Located::NoWay => Ok(Reply::Status(StatusCode::NoSuchFile)),
         Located::Missing { parent: _ } => Ok(Reply::Status(StatusCode::NoSuchFile)),
@@ -57,7 +77,12 @@ pub(crate) fn open(
     path: &Path,
     flags: OpenFlags,
     attrs: &Attrs,
-) -> Result<Reply, AllocError> {
+) -> Result<Reply, AllocError>
+    ensures served { (t : Tree) → Keeps store.old t → IsNewNumber t number → IfOk result (λ reply. IsServed store.new t (unless_root path.now (open_file t session number moment path.now flags attrs.now (place_at t path.now))) reply) }
+    ensures err { OnErr result (IsAlike store.old store.new) }
+    ensures look_ups { LooksUp store.old store.new (length path.now) }
+    ensures holders { HoldersStay store.old store.new }
+{
     if path.is_root() {
         return Ok(Reply::Status(StatusCode::Failure));
     }
@@ -92,7 +117,12 @@ fn open_present(
     moment: u32,
     node: NodeId,
     flags: OpenFlags,
-) -> Result<Reply, AllocError> {
+) -> Result<Reply, AllocError>
+    ensures served { (t : Tree) (it : Node) → Keeps store.old t → IsNewNumber t number → node_in store.old.nodes node ≡ Some it → IfOk result (λ reply. IsServed store.new t (open_present t session number moment flags (found_node it)) reply) }
+    ensures err { OnErr result (store.new ≡ store.old) }
+    ensures look_ups { store.new.look_ups ≡ store.old.look_ups }
+    ensures holders { HoldersStay store.old store.new }
+{
     if store.is_directory(node) || has_all_handles(store, session) {
         return Ok(Reply::Status(StatusCode::Failure));
     }
@@ -105,7 +135,9 @@ fn open_present(
 }
 
 /// Cuts a file at its start, which takes no memory.
-fn cut(store: &mut Store, node: NodeId) {
+fn cut(store: &mut Store, node: NodeId)
+    ensures { store.new ≡ bytes_set store.old node [] store.new }
+{
     match store.set_len(node, 0) {
         Ok(()) => {}
         Err(_) => {}
@@ -122,7 +154,11 @@ fn open_new(
     path: &Path,
     flags: OpenFlags,
     metadata: Metadata,
-) -> Result<(), AllocError> {
+) -> Result<(), AllocError>
+    requires { 0 < length path.now }
+    ensures ok { OnOk result (OpenedNew store.old store.new session number parent (last_of path.now) (marks_of flags) (record { label = number; file_type = file_type.File; metadata = metadata })) }
+    ensures err { entry_of store.old.nodes parent (last_of path.now) ≡ None → is_directory_at store.old.nodes parent ≡ true → OnErr result (IsAlike store.old store.new) }
+{
     let made = NewNode {
         label: number,
         file_type: FileType::File,

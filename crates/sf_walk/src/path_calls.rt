@@ -1,5 +1,16 @@
 //! Calls on paths, but those that open.
 
+ghost use Rattle.std.specs.Prelude.{◌≡◌, ◌<◌, length, Some, IfOk, OnErr};
+ghost use Rattle.sf_call.specs.Attributes.{modified_at};
+ghost use Rattle.sf_call.specs.Tree.{Tree, found_at, place_at};
+ghost use Rattle.sf_call.specs.Calls.{stat, set_stat, sets, make_directory, remove_directory, remove_file, unless_root};
+ghost use Rattle.sf_inode.specs.declared.node.Node.{Node};
+ghost use Rattle.sf_inode.specs.Nodes.{new_node, object_in, with_metadata};
+ghost use Rattle.sf_inode.specs.Stores.{Inserted, node_in, edited, unlinked};
+ghost use Rattle.sf_inode.specs.Keeps.{Keeps};
+ghost use Rattle.sf_walk.specs.Ways.{last_of};
+ghost use Rattle.sf_walk.specs.Served.{IsServed, IsAlike, LooksUp, HoldersStay, IsNewNumber};
+
 use crate::finding::{Located, locate};
 use sf_call::{FileType, MAX_FILE_SIZE, Metadata};
 use sf_inode::{NewNode, NodeId, Store};
@@ -8,7 +19,11 @@ use sf_wire::{Attrs, Reply, StatusCode};
 use std::alloc::AllocError;
 
 /// STAT.
-pub(crate) fn stat(store: &mut Store, path: &Path) -> Reply {
+pub(crate) fn stat(store: &mut Store, path: &Path) -> Reply
+    ensures served { (t : Tree) → Keeps store.old t → IsServed store.new t (stat (found_at t path.now)) result }
+    ensures look_ups { LooksUp store.old store.new (length path.now) }
+    ensures holders { HoldersStay store.old store.new }
+{
     match locate(store, path) {
         Located::NoWay => Reply::Status(StatusCode::NoSuchFile),
         Located::Missing { parent: _ } => Reply::Status(StatusCode::NoSuchFile),
@@ -25,7 +40,12 @@ pub(crate) fn set_stat(
     moment: u32,
     path: &Path,
     attrs: &Attrs,
-) -> Result<Reply, AllocError> {
+) -> Result<Reply, AllocError>
+    ensures served { (t : Tree) → Keeps store.old t → IfOk result (λ reply. IsServed store.new t (unless_root path.now (set_stat moment attrs.now (found_at t path.now))) reply) }
+    ensures err { OnErr result (IsAlike store.old store.new) }
+    ensures look_ups { LooksUp store.old store.new (length path.now) }
+    ensures holders { HoldersStay store.old store.new }
+{
     if path.is_root() {
         return Ok(Reply::Status(StatusCode::Failure));
     }
@@ -43,7 +63,12 @@ pub(crate) fn set_node(
     moment: u32,
     node: NodeId,
     attrs: &Attrs,
-) -> Result<Reply, AllocError> {
+) -> Result<Reply, AllocError>
+    ensures served { (t : Tree) (it : Node) → Keeps store.old t → node_in store.old.nodes node ≡ Some it → IfOk result (λ reply. IsServed store.new t (sets moment it.label attrs.now (object_in it.metadata it.content)) reply) }
+    ensures err { OnErr result (store.new ≡ store.old) }
+    ensures look_ups { store.new.look_ups ≡ store.old.look_ups }
+    ensures holders { HoldersStay store.old store.new }
+{
     if let Some(size) = attrs.size {
         if store.is_directory(node) || size > MAX_FILE_SIZE {
             return Ok(Reply::Status(StatusCode::Failure));
@@ -62,7 +87,12 @@ pub(crate) fn mkdir(
     moment: u32,
     path: &Path,
     attrs: &Attrs,
-) -> Result<Reply, AllocError> {
+) -> Result<Reply, AllocError>
+    ensures served { (t : Tree) → Keeps store.old t → IsNewNumber t number → IfOk result (λ reply. IsServed store.new t (unless_root path.now (make_directory t number moment path.now attrs.now (place_at t path.now))) reply) }
+    ensures err { OnErr result (IsAlike store.old store.new) }
+    ensures look_ups { LooksUp store.old store.new (length path.now) }
+    ensures holders { HoldersStay store.old store.new }
+{
     if path.is_root() {
         return Ok(Reply::Status(StatusCode::Failure));
     }
@@ -88,13 +118,21 @@ pub(crate) fn insert_last(
     parent: NodeId,
     path: &Path,
     made: NewNode,
-) -> Result<NodeId, AllocError> {
+) -> Result<NodeId, AllocError>
+    requires { 0 < length path.now }
+    ensures ok { IfOk result (λ id. Inserted store.old store.new parent (last_of path.now) id (new_node made)) }
+    ensures err { OnErr result (store.new ≡ store.old) }
+{
     let name = path.name(path.len() - 1).try_copy(store.alloc())?;
     store.insert(parent, name, made)
 }
 
 /// RMDIR.
-pub(crate) fn rmdir(store: &mut Store, moment: u32, path: &Path) -> Reply {
+pub(crate) fn rmdir(store: &mut Store, moment: u32, path: &Path) -> Reply
+    ensures served { (t : Tree) → Keeps store.old t → IsServed store.new t (unless_root path.now (remove_directory t moment path.now (found_at t path.now))) result }
+    ensures look_ups { LooksUp store.old store.new (length path.now) }
+    ensures holders { HoldersStay store.old store.new }
+{
     if path.is_root() {
         return Reply::Status(StatusCode::Failure);
     }
@@ -112,7 +150,11 @@ pub(crate) fn rmdir(store: &mut Store, moment: u32, path: &Path) -> Reply {
 }
 
 /// REMOVE.
-pub(crate) fn remove(store: &mut Store, moment: u32, path: &Path) -> Reply {
+pub(crate) fn remove(store: &mut Store, moment: u32, path: &Path) -> Reply
+    ensures served { (t : Tree) → Keeps store.old t → IsServed store.new t (unless_root path.now (remove_file t moment path.now (found_at t path.now))) result }
+    ensures look_ups { LooksUp store.old store.new (length path.now) }
+    ensures holders { HoldersStay store.old store.new }
+{
     if path.is_root() {
         return Reply::Status(StatusCode::Failure);
     }
@@ -130,7 +172,10 @@ pub(crate) fn remove(store: &mut Store, moment: u32, path: &Path) -> Reply {
 }
 
 /// Takes the last name of a path out of its directory, which is modified at the moment.
-fn remove_last(store: &mut Store, moment: u32, parent: NodeId, path: &Path) {
+fn remove_last(store: &mut Store, moment: u32, parent: NodeId, path: &Path)
+    requires { 0 < length path.now }
+    ensures { store.new ≡ edited (with_metadata (modified_at moment)) (unlinked store.old parent (last_of path.now)) parent }
+{
     store.unlink(parent, path.name(path.len() - 1));
     store.touch(parent, moment);
 }

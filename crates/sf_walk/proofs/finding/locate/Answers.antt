@@ -1,8 +1,7 @@
 use Rattle.std.proofs.Common.{sym, ap, ◌∙◌, arith, ◌+◌, List, Option, true, false, None, Some}
 use Rattle.sf_path.specs.Names.{Name}
 use Rattle.sf_inode.specs.declared.node.Node.{Node}
-use Rattle.sf_inode.specs.Stores.{entry_of}
-use Rattle.sf_walk.specs.Ways.{is_directory_at}
+use Rattle.sf_inode.specs.Stores.{entry_of, is_directory_at}
 use Rattle.sf_walk.proofs.WaySteps.{way_lacks, way_goes, missing_last, missing_on}
 use Rattle.sf_walk.proofs.LookUps.{looked_more, looked_less}
 use Rattle.sf_walk.proofs.finding.locate.Goals as goal
