@@ -17,3 +17,5 @@ pub mod StoreBytes
 pub mod Openings
 pub mod Counted
 pub mod CountedSteps
+pub mod KeepsFirst
+pub mod KeepsEdited

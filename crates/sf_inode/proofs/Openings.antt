@@ -88,3 +88,21 @@ module _ (s : StoreState) (t : Tree) (k : Keeps s t) where
           | false ↦ λ f. absurd ((k.unlinked c node e f).free x n there)
         ] refl)
       ] refl
+
+  -- a label without an object opens nowhere
+  pub unopened : (label : ℕ) → object_of t.objects label ≡ None → times_open t label ≡ 0
+  unopened label none =
+      elim (nat_eq (times_open t label) 0) as (λ b. nat_eq (times_open t label) 0 ≡ b → times_open t label ≡ 0) [
+        | true ↦ λ e. eqb-true (times_open t label) 0 e
+        | false ↦ λ e.
+            let o = opener label e in
+            elim (handle_at s o.session o.number) as (λ h. handle_at s o.session o.number ≡ h → option_map (shown_handle o.session) h ≡ Some o.handle → times_open t label ≡ 0) [
+              | None ↦ λ f g. absurd (cc)
+              | Some h ↦ λ f g.
+                  let same : shown_handle o.session h ≡ o.handle = cc in
+                  let w = k.led o.session o.number h f in
+                  let there = object_there h.node w.0 w.1.0 in
+                  let is : w.0.label ≡ label = w.1.1 ∙ ap (λ (x : Handle). x.label) same ∙ o.same in
+                  let gone = ap (object_of t.objects) is ∙ none in absurd (cc)
+            ] refl o.opens
+      ] refl

@@ -137,7 +137,7 @@ shows_edited f s t id node h here entries label kind =
     refl (λ a b. refl)
     (shows_set (view_of s) t h id node.label (object_in node.metadata node.content) o (ap (option_map shown_node) here) kind)
 
-kind_metadata : (m k : Metadata) (c : Content) → is_some (directory_metadata (object_in m c)) ≡ is_some (directory_metadata (object_in k c))
+pub kind_metadata : (m k : Metadata) (c : Content) → is_some (directory_metadata (object_in m c)) ≡ is_some (directory_metadata (object_in k c))
 kind_metadata m k (content.Directory es) = refl
 kind_metadata m k (content.File contents) = refl
 
