@@ -19,3 +19,5 @@ pub mod Counted
 pub mod CountedSteps
 pub mod KeepsFirst
 pub mod KeepsEdited
+pub mod Forgotten
+pub mod KeepsNames
