@@ -21,3 +21,4 @@ pub mod KeepsFirst
 pub mod KeepsEdited
 pub mod Forgotten
 pub mod KeepsNames
+pub mod KeepsMoved
