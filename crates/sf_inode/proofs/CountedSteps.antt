@@ -80,23 +80,27 @@ module _ (view : View) (t : Tree) (s : ShowsBy view t) (p : Path) (d : ℕ) (n :
   leads_nowhere free q r id e w = let f = below view t s p d n at q r e ∙ ap (option_and_then (λ y. walk view.step y r)) free in cc
 
   pub reach_less : (c : ℕ) → view.step d n ≡ Some c → IsBare view.step c → (id : ℕ) → nat_eq c id ≡ false → Reached view.step view.root id → Reached (changed_step view.step d n None) view.root id
-  reach_less c there bare id other (q, w) =
-      (q, walk_changed view.step d n None (λ x e. cc) p view.root q at (once view t s p d (s.sound.owns d c n there) at)
-      ∙ elim (after_front (p ++ n ∷ []) q) as (λ o. after_front (p ++ n ∷ []) q ≡ o → led view.step None o (walk view.step view.root q) ≡ Some id) [
-        | None ↦ λ e. w
-        | Some r ↦ λ e. absurd (same_apart c id other (ends_there c there bare q r id e w))
-      ] refl)
+  reach_less c there bare id other (q, w) = (
+    q,
+    walk_changed view.step d n None (λ x e. cc) p view.root q at (once view t s p d (s.sound.owns d c n there) at)
+        ∙ elim (after_front (p ++ n ∷ []) q) as (λ o. after_front (p ++ n ∷ []) q ≡ o → led view.step None o (walk view.step view.root q) ≡ Some id) [
+          | None ↦ λ e. w
+          | Some r ↦ λ e. absurd (same_apart c id other (ends_there c there bare q r id e w))
+        ] refl,
+  )
 
   module _ (c : ℕ) (is : is_directory_by view.shown d ≡ true) (bare : IsBare view.step c) (other : d ≡ c → ⊥) where
     more_changed : (q : Path) → walk (changed_step view.step d n (Some c)) view.root q ≡ led view.step (Some c) (after_front (p ++ n ∷ []) q) (walk view.step view.root q)
     more_changed q = walk_changed view.step d n (Some c) (λ x e. let same : c ≡ x = cc in subst (λ (y : ℕ). Avoids view.step y d) same (avoids_bare view.step c d bare other)) p view.root q at (once view t s p d is at)
 
     pub reach_more : view.step d n ≡ None → (id : ℕ) → Reached view.step view.root id → Reached (changed_step view.step d n (Some c)) view.root id
-    reach_more free id (q, w) =
-        (q, more_changed q ∙ elim (after_front (p ++ n ∷ []) q) as (λ o. after_front (p ++ n ∷ []) q ≡ o → led view.step (Some c) o (walk view.step view.root q) ≡ Some id) [
-          | None ↦ λ e. w
-          | Some r ↦ λ e. absurd (leads_nowhere free q r id e w)
-        ] refl)
+    reach_more free id (q, w) = (
+      q,
+      more_changed q ∙ elim (after_front (p ++ n ∷ []) q) as (λ o. after_front (p ++ n ∷ []) q ≡ o → led view.step (Some c) o (walk view.step view.root q) ≡ Some id) [
+        | None ↦ λ e. w
+        | Some r ↦ λ e. absurd (leads_nowhere free q r id e w)
+      ] refl,
+    )
 
     pub reach_new : Reached (changed_step view.step d n (Some c)) view.root c
     reach_new = (p ++ n ∷ [], more_changed (p ++ n ∷ []) ∙ ap (λ (o : Option Path). led view.step (Some c) o (walk view.step view.root (p ++ n ∷ []))) (after_front-self (p ++ n ∷ [])))

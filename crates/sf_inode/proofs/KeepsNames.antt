@@ -78,8 +78,8 @@ module _ (old new : StoreState) (d : ℕ) (n : Name) (c : ℕ) (node above : Nod
       (λ m. subst (λ (z : Content). entry_in (more_content n c z) m ≡ cond (same_name n m) (Some c) (entry_in z m)) (sym dir) (more_says n m c es free)) x m)
       ∙ elim (nat_eq c x) as (λ b. nat_eq c x ≡ b → cond b None (changed_step (entry_of old.nodes) d n (Some c) x m) ≡ changed_step (entry_of old.nodes) d n (Some c) x m) [
         | true ↦ λ e. sym (
-          ap (λ b. cond (b && same_name n m) (Some c) (entry_of old.nodes x m)) (nat_eq_apart d x (λ f. let g = ap (node_in old.nodes) (f ∙ sym (eqb-true c x e)) in let h = did.fresh in cc))
-          ∙ ap (option_and_then (λ (z : Node). entry_in z.content m)) (ap (node_in old.nodes) (sym (eqb-true c x e)) ∙ did.fresh))
+            ap (λ b. cond (b && same_name n m) (Some c) (entry_of old.nodes x m)) (nat_eq_apart d x (λ f. let g = ap (node_in old.nodes) (f ∙ sym (eqb-true c x e)) in let h = did.fresh in cc))
+            ∙ ap (option_and_then (λ (z : Node). entry_in z.content m)) (ap (node_in old.nodes) (sym (eqb-true c x e)) ∙ did.fresh))
         | false ↦ λ e. refl
       ] refl
 

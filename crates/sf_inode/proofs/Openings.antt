@@ -83,10 +83,14 @@ module _ (s : StoreState) (t : Tree) (k : Keeps s t) where
   entry_node x c n there =
       elim (node_in s.nodes c) as (λ o. node_in s.nodes c ≡ o → (node : Node) × (o ≡ Some node) × (node.named ≡ true)) [
         | None ↦ λ e. absurd (k.shows.by.sound.to x c n there (ap (option_map shown_node) e))
-        | Some node ↦ λ e. (node, refl, elim node.named as (λ b. node.named ≡ b → b ≡ true) [
-          | true ↦ λ _. refl
-          | false ↦ λ f. absurd ((k.unlinked c node e f).free x n there)
-        ] refl)
+        | Some node ↦ λ e. (
+          node,
+          refl,
+          elim node.named as (λ b. node.named ≡ b → b ≡ true) [
+            | true ↦ λ _. refl
+            | false ↦ λ f. absurd ((k.unlinked c node e f).free x n there)
+          ] refl,
+        )
       ] refl
 
   -- a label without an object opens nowhere
