@@ -22,3 +22,5 @@ pub mod KeepsEdited
 pub mod Forgotten
 pub mod KeepsNames
 pub mod KeepsMoved
+pub mod Finding
+pub mod Bare

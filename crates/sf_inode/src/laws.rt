@@ -1,11 +1,12 @@
 //! What a store keeps of the tree. `Keeps s t` says that a store's nodes, entries and handles are the
 //! tree's, and that its counts agree; these laws say what each method makes of the tree.
 
-ghost use Rattle.std.specs.Prelude.{◌≡◌, ℕ, true, List, [], ◌∷◌, ◌++◌, Option, Some, None};
+ghost use Rattle.std.specs.Prelude.{◌≡◌, ℕ, true, false, List, [], ◌∷◌, ◌++◌, Option, Some, None, option_map, option_and_then};
 ghost use Rattle.sf_path.specs.Names.{Name, Path};
 ghost use Rattle.sf_call.specs.declared.metadata.Metadata.{Metadata};
 ghost use Rattle.sf_call.specs.Attributes.Object.{File};
-ghost use Rattle.sf_call.specs.Tree.{Tree, empty_tree, after_front, object_of};
+ghost use Rattle.sf_call.specs.Tree.{Tree, empty_tree, after_front, label_at, object_of, is_faulty_way, place_at, found_object, found_at, is_empty};
+ghost use Rattle.sf_call.specs.declared.place.Place.TheVariants.{NoWay, Absent, At};
 ghost use Rattle.sf_call.specs.Changes.{changed};
 ghost use Rattle.sf_call.specs.Changes.Change.{SetObject, NewPath, GonePath, Move};
 ghost use Rattle.sf_inode.specs.declared.node.Node.{Node};
@@ -27,6 +28,22 @@ pub fn kept_nodes()
     ensures object { (s : StoreState) (t : Tree) (id : ℕ) (node : Node) → Keeps s t → node_in s.nodes id ≡ Some node → object_of t.objects node.label ≡ Some (object_in node.metadata node.content) }
     ensures one { (s : StoreState) (t : Tree) (i j : ℕ) (x y : Node) → Keeps s t → node_in s.nodes i ≡ Some x → node_in s.nodes j ≡ Some y → x.label ≡ y.label → i ≡ j }
     ensures there { (s : StoreState) (t : Tree) (dir id : ℕ) (n : Name) → Keeps s t → entry_of s.nodes dir n ≡ Some id → (node : Node) × (node_in s.nodes id ≡ Some node) × (node.named ≡ true) }
+{}
+
+/// Where a path leads, name by name: a name of a directory is there or not, and no way leads on from a
+/// file or from what is not there.
+pub fn found_paths()
+    ensures next { (s : StoreState) (t : Tree) (p : Path) (dir : ℕ) (n : Name) → Keeps s t → walk (entry_of s.nodes) s.root p ≡ Some dir → walk (entry_of s.nodes) s.root (p ++ n ∷ []) ≡ entry_of s.nodes dir n }
+    ensures label { (s : StoreState) (t : Tree) (p : Path) → Keeps s t → label_at t.names p ≡ option_map (λ node. node.label) (option_and_then (node_in s.nodes) (walk (entry_of s.nodes) s.root p)) }
+    ensures way { (s : StoreState) (t : Tree) (p : Path) (dir : ℕ) (n : Name) → Keeps s t → walk (entry_of s.nodes) s.root p ≡ Some dir → is_directory_at s.nodes dir ≡ true → is_faulty_way t (p ++ n ∷ []) ≡ false }
+    ensures place { (s : StoreState) (t : Tree) (p : Path) (id : ℕ) (node : Node) → Keeps s t → walk (entry_of s.nodes) s.root p ≡ Some id → node_in s.nodes id ≡ Some node → place_at t p ≡ At node.label }
+    ensures found { (s : StoreState) (t : Tree) (p : Path) (id : ℕ) (node : Node) → Keeps s t → walk (entry_of s.nodes) s.root p ≡ Some id → node_in s.nodes id ≡ Some node
+        → found_at t p ≡ found_object node.label (Some (object_in node.metadata node.content)) }
+    ensures absent { (s : StoreState) (t : Tree) (p : Path) (dir : ℕ) (n : Name) → Keeps s t → walk (entry_of s.nodes) s.root p ≡ Some dir → is_directory_at s.nodes dir ≡ true → entry_of s.nodes dir n ≡ None
+        → place_at t (p ++ n ∷ []) ≡ Absent }
+    ensures beyond { (s : StoreState) (t : Tree) (p : Path) (dir : ℕ) (n m : Name) (q : Path) → Keeps s t → walk (entry_of s.nodes) s.root p ≡ Some dir → entry_of s.nodes dir n ≡ None → place_at t (p ++ n ∷ m ∷ q) ≡ NoWay }
+    ensures file { (s : StoreState) (t : Tree) (p : Path) (id : ℕ) (n : Name) (q : Path) → Keeps s t → walk (entry_of s.nodes) s.root p ≡ Some id → is_file_at s.nodes id ≡ true → place_at t (p ++ n ∷ q) ≡ NoWay }
+    ensures empty { (s : StoreState) (t : Tree) (p : Path) (id : ℕ) → Keeps s t → walk (entry_of s.nodes) s.root p ≡ Some id → is_empty t.names p ≡ is_bare_at s.nodes id }
 {}
 
 /// A look-up, a holder and memory for bytes leave the tree as it is.
