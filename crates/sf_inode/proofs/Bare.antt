@@ -1,12 +1,11 @@
 -- A directory's entries, and the names below its path.
-use Rattle.std.specs.Prelude.{◌≡◌, ℕ, Bool, true, false, cond, List, [], ◌∷◌, ◌++◌, option_map, option_and_then, Option, Some, None, refl}
+use Rattle.std.specs.Prelude.{◌≡◌, ℕ, true, false, cond, List, [], ◌∷◌, ◌++◌, option_map, option_and_then, Option, Some, None, refl}
 use Rattle.std.specs.Option.{option_map_or}
 use Rattle.std.specs.List.{cons_option}
 use Rattle.std.specs.Map.{lookup}
 use Rattle.std.proofs.Common.{sym, ap, ◌∙◌}
 use Rattle.sf_path.specs.Names.{Name, Path}
 use Rattle.sf_path.specs.Order.{same_name, same_path}
-use Rattle.sf_call.specs.Attributes.{Object}
 use Rattle.sf_call.specs.Tree.{Tree, after_front, label_at, only_name, children, is_nil, is_empty}
 use Rattle.sf_call.proofs.MovedNames.{same_path_is, same_name_itself, after_front-append, append-after_front}
 use Rattle.sf_inode.specs.declared.node.Node.{Node}

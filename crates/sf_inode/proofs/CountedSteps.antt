@@ -1,6 +1,6 @@
 -- What stays true of the nodes' counts after an entry is taken out, put in or moved.
-use Rattle.std.specs.Prelude.{◌≡◌, ℕ, nat_eq, Bool, true, false, cond, ◌&&◌, List, [], ◌∷◌, ◌++◌, option_and_then, Option, Some, None, refl}
-use Rattle.std.proofs.Common.{sym, ap, subst, ◌∙◌, inl, inr, eqb-true, eq-eqb}
+use Rattle.std.specs.Prelude.{◌≡◌, ℕ, nat_eq, Bool, true, false, cond, ◌&&◌, [], ◌∷◌, ◌++◌, option_and_then, Option, Some, None, refl}
+use Rattle.std.proofs.Common.{sym, ap, subst, ◌∙◌, inl, inr, eqb-true}
 use Rattle.sf_path.specs.Names.{Name, Path}
 use Rattle.sf_path.specs.Order.{same_name}
 use Rattle.sf_call.specs.Tree.{Tree, after_front}
@@ -12,7 +12,7 @@ use Rattle.sf_inode.proofs.Walks.{Avoids, led, walk_changed}
 use Rattle.sf_inode.proofs.Sound.{HasNoEntry, IsBare, never_reached, step_less, step_more, changed_there}
 use Rattle.sf_inode.proofs.Shown.{once, below, nat_eq_apart, same_apart, after_front-self}
 use Rattle.sf_inode.proofs.Relinked.{led_after_move, walk_relinked}
-use Rattle.sf_inode.proofs.Counted.{Single, Loose, Reached, Mark, Marks, IsMarked, mark_same, marked_same}
+use Rattle.sf_inode.proofs.Counted.{Single, Loose, Reached, Mark, Marks, IsMarked, mark_same}
 
 -- ---- an entry less
 module _ (step : Steps) (d : ℕ) (n : Name) where

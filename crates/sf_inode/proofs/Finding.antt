@@ -2,18 +2,16 @@
 use Rattle.std.specs.Prelude.{◌≡◌, ℕ, Bool, true, false, not, ◌||◌, List, [], ◌∷◌, ◌++◌, map, option_map, option_and_then, is_some, Option, Some, None, if◌then◌else◌, refl}
 use Rattle.std.specs.Option.{option_map_or}
 use Rattle.std.specs.List.{list_any}
-use Rattle.std.proofs.Common.{sym, ap, subst, ◌∙◌, append_assoc}
+use Rattle.std.proofs.Common.{sym, ap, ◌∙◌, append_assoc}
 use Rattle.sf_path.specs.Names.{Name, Path}
 use Rattle.sf_call.specs.declared.metadata.Metadata.{Metadata}
-use Rattle.sf_call.specs.declared.place.Place.{Place}
 use Rattle.sf_call.specs.declared.place.Place.TheVariants.{NoWay, Absent, At}
 use Rattle.sf_call.specs.Attributes.{Object}
 use Rattle.sf_call.specs.Tree.{Tree, directory_metadata, label_at, object_of, is_directory, proper_fronts, is_faulty_way, place_of, place_at, found_object, found_place, found_at}
 use Rattle.sf_inode.specs.declared.node.Node.{Node}
-use Rattle.sf_inode.specs.declared.node.Content.{Content}
 use Rattle.sf_inode.specs.declared.node.Content.TheVariants as content
 use Rattle.sf_inode.specs.Nodes.{object_in, is_directory_content, is_file_content}
-use Rattle.sf_inode.specs.Steps.{Steps, walk}
+use Rattle.sf_inode.specs.Steps.{walk}
 use Rattle.sf_inode.specs.Shows.{View, ShowsBy, is_directory_by, label_by}
 use Rattle.sf_inode.specs.Stores.{StoreState, node_in, entry_of, shown_node, shown_of, view_of, is_directory_at, is_file_at}
 use Rattle.sf_inode.specs.Keeps.{Keeps}

@@ -1,31 +1,23 @@
 -- What a kept store keeps after a node has lost its entry.
-use Rattle.std.specs.Prelude.{◌≡◌, ◌≢◌, ℕ, nat_eq, Bool, true, false, cond, ◌&&◌, List, [], ◌∷◌, ◌++◌, option_map, option_and_then, is_some, slice_set, Option, Some, None, refl}
+use Rattle.std.specs.Prelude.{◌≡◌, ℕ, nat_eq, Bool, true, false, cond, List, [], ◌∷◌, option_map, option_and_then, slice_set, Option, Some, None, refl}
 use Rattle.std.specs.Option.{option_map_or}
-use Rattle.std.proofs.Common.{sym, ap, subst, ◌∙◌, eqb-true, eq-eqb}
+use Rattle.std.proofs.Common.{sym, ap, ◌∙◌}
 use Rattle.std.specs.Map.{lookup}
-use Rattle.sf_path.specs.Names.{Name, Path}
+use Rattle.sf_path.specs.Names.{Name}
 use Rattle.sf_path.specs.Order.{same_name}
-use Rattle.sf_call.specs.Attributes.{Object}
-use Rattle.sf_call.specs.Tree.{Tree, is_nil, directory_metadata, object_of}
-use Rattle.sf_call.specs.Changes.{changed}
-use Rattle.sf_call.specs.Changes.Change.{NewPath, GonePath}
-use Rattle.sf_call.specs.declared.metadata.FileType.{FileType}
-use Rattle.sf_call.specs.declared.metadata.FileType.TheVariants as file_type
+use Rattle.sf_call.specs.Tree.{Tree, is_nil}
 use Rattle.sf_inode.specs.declared.node.Node.{Node}
-use Rattle.sf_inode.specs.declared.node.NewNode.{NewNode}
 use Rattle.sf_inode.specs.declared.node.Content.{Content}
 use Rattle.sf_inode.specs.declared.node.Content.TheVariants as content
-use Rattle.sf_inode.specs.Nodes.{entry_in, object_in, is_directory_content, is_bare_content, new_content, new_node, more_content, less_content, with_content, without_name, is_unused}
-use Rattle.sf_inode.specs.Steps.{Steps, walk, changed_step}
-use Rattle.sf_inode.specs.Shows.{View, Shows, is_directory_by}
-use Rattle.sf_inode.specs.Stores.{StoreState, node_in, entry_of, shown_node, shown_of, handle_at, view_of, with_nodes, edited, entry_put, entry_taken, released_if, forgotten, unlinked, unlinked_from, Inserted}
+use Rattle.sf_inode.specs.Nodes.{entry_in, is_directory_content, is_bare_content, with_content, without_name, is_unused}
+use Rattle.sf_inode.specs.Steps.{Steps}
+use Rattle.sf_inode.specs.Shows.{View, Shows}
+use Rattle.sf_inode.specs.Stores.{StoreState, node_in, entry_of, handle_at, view_of, with_nodes, edited, released_if, forgotten}
 use Rattle.sf_inode.specs.Keeps.{Keeps, times_open}
-use Rattle.sf_inode.proofs.Sound.{IsBare, directory_there}
-use Rattle.sf_inode.proofs.Shown.{nat_eq_apart, same_apart}
-use Rattle.sf_inode.proofs.StoreLaws.{node_in-edited, node_in-set, step_changed, more_says, view_taken, view_stays, view_goes, changed_there, shows_inserted, shows_unlinked_gone, shows_unlinked_open}
-use Rattle.sf_inode.proofs.Openings.{closed_label, opener, counted_handle, entry_node, unopened}
-use Rattle.sf_inode.proofs.Counted.{Single, Loose, Reached, Mark, Marks, mark_of, marks_of, marked, keeps_marked, marked_lost}
-use Rattle.sf_inode.proofs.CountedSteps.{single_less, loose_less, none_left, bare_less, reach_less, marked_new}
+use Rattle.sf_inode.proofs.Sound.{IsBare}
+use Rattle.sf_inode.proofs.StoreLaws.{node_in-edited, node_in-set, view_stays, view_goes, changed_there}
+use Rattle.sf_inode.proofs.Openings.{counted_handle}
+use Rattle.sf_inode.proofs.Counted.{Single, Loose, Reached, Mark, mark_of, marks_of, marked, keeps_marked, marked_lost}
 use Rattle.sf_inode.proofs.KeepsEdited.{marks_same}
 
 -- ---- what is at a number

@@ -1,5 +1,5 @@
 -- What a store keeps after an entry was moved.
-use Rattle.std.specs.Prelude.{◌≡◌, ℕ, nat_eq, Bool, true, false, cond, ◌&&◌, List, [], ◌∷◌, ◌++◌, Option, Some, None, refl}
+use Rattle.std.specs.Prelude.{◌≡◌, ℕ, nat_eq, Bool, true, false, cond, ◌&&◌, List, [], ◌∷◌, ◌++◌, Some, None, refl}
 use Rattle.std.specs.Option.{option_map_or}
 use Rattle.std.proofs.Common.{sym, ap, subst, ◌∙◌, eqb-true, eq-eqb}
 use Rattle.std.specs.Map.{lookup}
@@ -15,7 +15,7 @@ use Rattle.sf_inode.specs.declared.node.Content.TheVariants as content
 use Rattle.sf_inode.specs.Nodes.{entry_in, object_in, is_directory_content, is_bare_content, more_content, set_content, less_content, with_content}
 use Rattle.sf_inode.specs.Steps.{Steps, walk, changed_step}
 use Rattle.sf_inode.specs.Shows.{View, Shows}
-use Rattle.sf_inode.specs.Stores.{StoreState, node_in, entry_of, handle_at, view_of, edited, entry_put, entry_taken, forgotten, relinked, relinked_from}
+use Rattle.sf_inode.specs.Stores.{StoreState, node_in, entry_of, handle_at, view_of, edited, entry_put, entry_taken, relinked, relinked_from}
 use Rattle.sf_inode.specs.Keeps.{Keeps, times_open}
 use Rattle.sf_inode.proofs.Sound.{IsBare}
 use Rattle.sf_inode.proofs.Shown.{same_apart}

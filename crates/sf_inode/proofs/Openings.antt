@@ -1,5 +1,5 @@
 -- What opens a node of a kept store, and what names it.
-use Rattle.std.specs.Prelude.{◌≡◌, ℕ, ◌+◌, nat_eq, Bool, true, false, cond, ◌||◌, List, [], ◌∷◌, option_map, Option, Some, None, refl}
+use Rattle.std.specs.Prelude.{◌≡◌, ℕ, ◌+◌, nat_eq, Bool, true, false, cond, ◌||◌, List, [], ◌∷◌, option_map, Some, None, refl}
 use Rattle.std.proofs.Common.{sym, ap, ◌∙◌, arith, eqb-true}
 use Rattle.std.specs.List.{list_any, count_by}
 use Rattle.std.proofs.lemmas.List.Sums.{sum_by-cons}
