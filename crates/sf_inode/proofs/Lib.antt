@@ -14,3 +14,13 @@ pub mod Least
 pub mod First
 pub mod StoreHandles
 pub mod StoreBytes
+pub mod Openings
+pub mod Counted
+pub mod CountedSteps
+pub mod KeepsFirst
+pub mod KeepsEdited
+pub mod Forgotten
+pub mod KeepsNames
+pub mod KeepsMoved
+pub mod Finding
+pub mod Bare

@@ -8,7 +8,9 @@ mod node;
 mod store;
 
 pub use handle::{Marks, OpenHandle};
-pub use laws::{new_path, other_metadata, shown_trees};
+pub use laws::{
+    changed_object, found_paths, gone_path, kept_nodes, kept_trees, moved_path, new_path, same_tree,
+};
 pub use node::NewNode;
 pub use store::Store;
 
