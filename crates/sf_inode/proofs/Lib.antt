@@ -14,3 +14,4 @@ pub mod Least
 pub mod First
 pub mod StoreHandles
 pub mod StoreBytes
+pub mod Openings
