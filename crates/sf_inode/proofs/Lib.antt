@@ -15,3 +15,5 @@ pub mod First
 pub mod StoreHandles
 pub mod StoreBytes
 pub mod Openings
+pub mod Orderly
+pub mod Counts

@@ -3,11 +3,13 @@
 
 mod entries;
 mod handle;
+mod handle_laws;
 mod laws;
 mod node;
 mod store;
 
 pub use handle::{Marks, OpenHandle};
+pub use handle_laws::counted_handles;
 pub use laws::{new_path, other_metadata, shown_trees};
 pub use node::NewNode;
 pub use store::Store;
