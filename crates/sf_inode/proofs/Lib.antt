@@ -17,3 +17,6 @@ pub mod StoreBytes
 pub mod Openings
 pub mod Orderly
 pub mod Counts
+pub mod Alike
+pub mod Opening
+pub mod Closing

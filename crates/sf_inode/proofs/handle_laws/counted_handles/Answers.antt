@@ -1,6 +1,6 @@
-use Rattle.sf_inode.proofs.Counts.{few_handles}
-use Rattle.sf_inode.proofs.StoreHandles.{view_set}
+use Rattle.sf_inode.proofs.Opening.{keeps_opened}
+use Rattle.sf_inode.proofs.Closing.{keeps_closed}
 use Rattle.sf_inode.proofs.handle_laws.counted_handles.Goals as goal
 
 pub returns : goal.returns
-returns c = few_handles
+returns c = keeps_closed
