@@ -20,3 +20,4 @@ pub mod Counts
 pub mod Alike
 pub mod Opening
 pub mod Closing
+pub mod Leaving

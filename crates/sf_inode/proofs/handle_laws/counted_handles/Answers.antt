@@ -1,6 +1,5 @@
-use Rattle.sf_inode.proofs.Opening.{keeps_opened}
-use Rattle.sf_inode.proofs.Closing.{keeps_closed}
+use Rattle.sf_inode.proofs.Leaving.{leave_none}
 use Rattle.sf_inode.proofs.handle_laws.counted_handles.Goals as goal
 
 pub returns : goal.returns
-returns c = keeps_closed
+returns c = leave_none
