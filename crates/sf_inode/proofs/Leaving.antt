@@ -1,33 +1,23 @@
--- A store keeps the tree after a session's handles were all closed.
-use Rattle.std.specs.Prelude.{◌≡◌, ℕ, nat_eq, Bool, true, false, cond, not, T, ◌||◌, if◌then◌else◌, List, [], ◌∷◌, filter, slice_set, option_map, option_and_then, Option, Some, None, refl}
+-- The tree that a session left is the one after each of its handles was closed.
+use Rattle.std.specs.Prelude.{◌≡◌, ℕ, nat_eq, Bool, true, false, cond, not, ◌||◌, List, [], ◌∷◌, filter, Option, Some, None, refl}
 use Rattle.std.proofs.Common.{sym, ap, subst, ◌∙◌, eqb-true, eq-eqb}
 use Rattle.std.specs.List.{list_any}
 use Rattle.std.specs.Ordering.{nat_cmp}
 use Rattle.std.specs.Cmp.{nat_cmp_total}
 use Rattle.std.specs.Map.{lookup, remove_entry, set_value}
 use Rattle.std.specs.BTreeMap.{is_at}
-use Rattle.std.specs.FinMap.{is_sorted, nat_cmp-IsAntisymmetric}
+use Rattle.std.specs.FinMap.{nat_cmp-IsAntisymmetric}
 use Rattle.sf_call.specs.declared.handle.Handle.{Handle}
 use Rattle.sf_call.specs.Attributes.{Object}
 use Rattle.sf_call.specs.Tree.{Tree, object_of, handle_of, is_used, kept}
 use Rattle.sf_call.specs.Handles.{handle_in}
 use Rattle.sf_call.specs.Changes.{Change as change, changed}
 use Rattle.sf_call.specs.Calls.{leave}
-use Rattle.sf_inode.specs.declared.node.Node.{Node}
-use Rattle.sf_inode.specs.declared.handle.OpenHandle.{OpenHandle}
-use Rattle.sf_inode.specs.Nodes.{with_opened, is_unused}
 use Rattle.sf_inode.specs.Shows.{View, Shows}
-use Rattle.sf_inode.specs.Stores.{StoreState, handle_at, handles_of, shown_handle, view_of, with_nodes, with_sessions, edited, released_if, released, let_go, handle_dropped, closed_by, closed, each_let_go, closed_each, closed_all}
-use Rattle.sf_inode.specs.Keeps.{Keeps}
-use Rattle.sf_inode.proofs.Keyed.{lookup_any, lookup-removed}
-use Rattle.sf_inode.proofs.Orderly.{sorted_removed, sorted_filtered, same_sorted}
-use Rattle.sf_inode.proofs.Shown.{nat_at_itself}
-use Rattle.sf_inode.proofs.Less.{kept_object, cond_used, handle_there, handle_here}
+use Rattle.sf_inode.proofs.Keyed.{lookup_any}
+use Rattle.sf_inode.proofs.Orderly.{sorted_filtered, same_sorted}
+use Rattle.sf_inode.proofs.Less.{kept_object, cond_used, handle_here}
 use Rattle.sf_inode.proofs.Whole.{or_grows_right}
-use Rattle.sf_inode.proofs.StoreLaws.{same_view}
-use Rattle.sf_inode.proofs.StoreHandles.{AreOrdered, at_is}
-use Rattle.sf_inode.proofs.Alike.{AreAlike, unlinked_alike}
-use Rattle.sf_inode.proofs.Closing.{keeps_closed}
 
 -- ---- lists without what does not pass
 module _ {X : Type 0} where
@@ -67,7 +57,7 @@ module _ {K X : Type 0} (test : K → Bool) where
         | false ↦ λ l f. ap (λ (r : List (K × X)). cond (q e.1) (e ∷ r) r) (filter_removed q es v l f)
       ]
 
-  removed_set : (es : List (K × X)) (v : X) → remove_entry test (set_value test es v) ≡ remove_entry test es
+  pub removed_set : (es : List (K × X)) (v : X) → remove_entry test (set_value test es v) ≡ remove_entry test es
   removed_set [] v = refl
   removed_set (e ∷ es) v =
       elim (test e.0) as (λ b. test e.0 ≡ b → remove_entry test (cond b ((e.0, v) ∷ es) (e ∷ set_value test es v)) ≡ cond b es (e ∷ remove_entry test es)) [
@@ -81,7 +71,7 @@ module _ (t : Tree) (session : ℕ) where
   stays e = not (nat_eq e.1.session session)
 
   -- one handle of the session closed before
-  leave_closed : (number : ℕ) (h : Handle) → handle_of t.handles number ≡ Some h → h.session ≡ session → leave (changed t (change.CloseHandle number)) session ≡ leave t session
+  pub leave_closed : (number : ℕ) (h : Handle) → handle_of t.handles number ≡ Some h → h.session ≡ session → leave (changed t (change.CloseHandle number)) session ≡ leave t session
   leave_closed number h there own =
       let rest = remove_entry (is_at (nat_cmp number)) t.handles in
       let handles : filter stays rest ≡ filter stays t.handles = filter_removed (is_at (nat_cmp number)) (λ (x : Handle). not (nat_eq x.session session)) t.handles h there (ap not (eq-eqb h.session session own)) in
@@ -91,7 +81,7 @@ module _ (t : Tree) (session : ℕ) where
       λ i. record { names = t.names; objects = objects i; handles = handles i }
 
 -- it has no handle of the session
-leave_none : (view : View) (t : Tree) → Shows view t → (session : ℕ) → ((number : ℕ) → view.opens session number ≡ None) → leave t session ≡ t
+pub leave_none : (view : View) (t : Tree) → Shows view t → (session : ℕ) → ((number : ℕ) → view.opens session number ≡ None) → leave t session ≡ t
 leave_none view t h session none =
     let free : list_any (λ (e : ℕ × Handle). nat_eq e.1.session session) t.handles ≡ false =
     elim (list_any (λ (e : ℕ × Handle). nat_eq e.1.session session) t.handles) as (λ b. list_any (λ (e : ℕ × Handle). nat_eq e.1.session session) t.handles ≡ b → b ≡ false) [

@@ -21,3 +21,4 @@ pub mod Alike
 pub mod Opening
 pub mod Closing
 pub mod Leaving
+pub mod ClosingAll

@@ -1,5 +1,5 @@
-use Rattle.sf_inode.proofs.Leaving.{leave_none}
+use Rattle.sf_inode.proofs.ClosingAll.{keeps_closed_all}
 use Rattle.sf_inode.proofs.handle_laws.counted_handles.Goals as goal
 
 pub returns : goal.returns
-returns c = leave_none
+returns c = keeps_closed_all
