@@ -126,7 +126,7 @@ module _ (view : View) (t : Tree) (h : Shows view t) where
     abbrev closed : Tree
     closed = with_handles t (remove_entry (is_at (nat_cmp number)) t.handles)
 
-    by_closed : ShowsBy (with_opens view session number None) closed
+    pub by_closed : ShowsBy (with_opens view session number None) closed
     by_closed = by_opens view t h.by session number None (λ x e. cc) alone closed.handles (λ q. lookup-removed nat_cmp nat_cmp_total t.handles number q h.ordered.handles)
 
     ordered_closed : IsOrderedTree closed

@@ -24,3 +24,10 @@ pub mod KeepsNames
 pub mod KeepsMoved
 pub mod Finding
 pub mod Bare
+pub mod Orderly
+pub mod Counts
+pub mod Alike
+pub mod Opening
+pub mod Closing
+pub mod Leaving
+pub mod ClosingAll

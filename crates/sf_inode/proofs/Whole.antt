@@ -44,7 +44,7 @@ shows_set view t h d label old o at kind = record {
 }
 
 -- ---- a new entry
-or_true : (a b : Bool) → a ≡ true → a || b ≡ true
+pub or_true : (a b : Bool) → a ≡ true → a || b ≡ true
 or_true a b e = ap (λ x. x || b) e
 
 pub or_grows : (a b c : Bool) → (a ≡ true → c ≡ true) → a || b ≡ true → c || b ≡ true

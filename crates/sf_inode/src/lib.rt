@@ -3,11 +3,13 @@
 
 mod entries;
 mod handle;
+mod handle_laws;
 mod laws;
 mod node;
 mod store;
 
 pub use handle::{Marks, OpenHandle};
+pub use handle_laws::counted_handles;
 pub use laws::{
     changed_object, found_paths, gone_path, kept_nodes, kept_trees, moved_path, new_path, same_tree,
 };

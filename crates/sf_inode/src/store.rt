@@ -4,7 +4,7 @@ ghost use Rattle.std.specs.Prelude.{◌≡◌, ◌+◌, ◌<◌, ◌≤◌, ◌^
 ghost use Rattle.std.specs.Option.{option_map_or};
 ghost use Rattle.sf_call.specs.Attributes.{attrs_of, with_parts, modified_at};
 ghost use Rattle.sf_inode.specs.Nodes.{new_node, object_in, with_metadata, with_holder, with_content, set_content, sorted_past};
-ghost use Rattle.sf_inode.specs.Stores.{IsFirst, Inserted, node_in, entry_of, holder_of, looked_up, edited, entry_taken, entry_put, released, forgotten, let_go, unlinked, relinked, stored_of, is_file_at, is_bare_at, bytes_set, opened, handle_put, handle_at, handles_of, handle_dropped, handle_listed, entries_at, closed, each_let_go, closed_all};
+ghost use Rattle.sf_inode.specs.Stores.{IsFirst, Inserted, node_in, entry_of, holder_of, looked_up, edited, entry_taken, entry_put, released, forgotten, let_go, unlinked, relinked, stored_of, is_file_at, is_directory_at, is_bare_at, bytes_set, opened, handle_put, handle_at, handles_of, handle_dropped, handle_listed, entries_at, closed, each_let_go, closed_all};
 ghost use Rattle.std.specs.Option.{option_copied};
 ghost use Rattle.sf_call.specs.Contents.{resized, written};
 ghost use Rattle.sf_block.specs.Contents.{count_from, with_front};
@@ -117,7 +117,7 @@ impl Store {
 
     /// Whether a node is there and is a directory.
     pub fn is_directory(&self, node: NodeId) -> bool
-        ensures { result ≡ option_map_or (λ it. is_directory_content it.content) (node_in self.now.nodes node) false }
+        ensures { result ≡ is_directory_at self.now.nodes node }
     {
         match self.nodes.get(node) {
             Some(it) => it.is_directory(),
