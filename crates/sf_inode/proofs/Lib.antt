@@ -24,3 +24,5 @@ pub mod KeepsNames
 pub mod KeepsMoved
 pub mod Finding
 pub mod Bare
+pub mod Untouched
+pub mod KeepsShown
