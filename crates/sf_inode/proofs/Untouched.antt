@@ -1,5 +1,5 @@
 -- What a change leaves alone: what other nodes show, and who holds them.
-use Rattle.std.specs.Prelude.{◌≡◌, ◌≢◌, ℕ, nat_eq, Bool, true, false, cond, List, is_some, option_map, option_and_then, slice_set, Option, Some, None, refl}
+use Rattle.std.specs.Prelude.{◌≡◌, ◌≢◌, ℕ, nat_eq, true, false, cond, List, option_map, option_and_then, slice_set, Option, Some, None, refl}
 use Rattle.std.proofs.Common.{sym, ap, ◌∙◌, eqb-true}
 use Rattle.sf_path.specs.Names.{Name}
 use Rattle.sf_call.specs.Attributes.{Object}
@@ -7,9 +7,9 @@ use Rattle.sf_inode.specs.declared.node.Node.{Node}
 use Rattle.sf_inode.specs.declared.node.Content.{Content}
 use Rattle.sf_inode.specs.declared.node.Content.TheVariants as content
 use Rattle.sf_inode.specs.Nodes.{object_in, less_content, more_content, set_content, with_content, without_name, is_unused}
-use Rattle.sf_inode.specs.Stores.{StoreState, node_in, entry_of, shown_node, shown_of, holder_of, with_nodes, edited, edited_by, entry_taken, entry_put, released, released_if, forgotten, unlinked, unlinked_from, relinked, relinked_from, Inserted}
+use Rattle.sf_inode.specs.Stores.{StoreState, node_in, entry_of, shown_node, shown_of, holder_of, with_nodes, edited, edited_by, entry_taken, entry_put, released_if, forgotten, unlinked, unlinked_from, relinked, relinked_from, Inserted}
 use Rattle.sf_inode.proofs.Shown.{nat_eq_apart, same_apart}
-use Rattle.sf_inode.proofs.StoreLaws.{node_in-edited, node_in-set, object_less}
+use Rattle.sf_inode.proofs.StoreLaws.{node_in-set, object_less}
 
 -- what a node shows, and its holder
 abbrev Sight : Type 0
