@@ -7,7 +7,8 @@ use Rattle.sf_path.specs.Names.{Name, Path}
 use Rattle.sf_call.specs.declared.metadata.Metadata.{Metadata}
 use Rattle.sf_call.specs.declared.place.Place.TheVariants.{NoWay, Absent, At}
 use Rattle.sf_call.specs.Attributes.{Object}
-use Rattle.sf_call.specs.Tree.{Tree, directory_metadata, label_at, object_of, is_directory, proper_fronts, is_faulty_way, place_of, place_at, found_object, found_place, found_at}
+use Rattle.sf_call.specs.Attributes.Object.{Directory}
+use Rattle.sf_call.specs.Tree.{Tree, directory_metadata, directory_at, label_at, object_of, is_directory, proper_fronts, is_faulty_way, place_of, place_at, found_object, found_place, found_at}
 use Rattle.sf_inode.specs.declared.node.Node.{Node}
 use Rattle.sf_inode.specs.declared.node.Content.TheVariants as content
 use Rattle.sf_inode.specs.Nodes.{object_in, is_directory_content, is_file_content}
@@ -15,7 +16,7 @@ use Rattle.sf_inode.specs.Steps.{walk}
 use Rattle.sf_inode.specs.Shows.{View, ShowsBy, is_directory_by, label_by}
 use Rattle.sf_inode.specs.Stores.{StoreState, node_in, entry_of, shown_node, shown_of, view_of, is_directory_at, is_file_at}
 use Rattle.sf_inode.specs.Keeps.{Keeps}
-use Rattle.sf_inode.proofs.Sound.{is_directory_shown}
+use Rattle.sf_inode.proofs.Sound.{is_directory_shown, reached_there}
 use Rattle.sf_inode.proofs.Whole.{one_more}
 use Rattle.sf_inode.proofs.Openings.{object_there}
 
@@ -152,3 +153,16 @@ module _ (s : StoreState) (t : Tree) (k : Keeps s t) where
 
   pub file_in_way : (p : Path) (id : ℕ) (n : Name) (q : Path) → walk (entry_of s.nodes) s.root p ≡ Some id → is_file_at s.nodes id ≡ true → place_at t (p ++ n ∷ q) ≡ NoWay
   file_in_way p id n q at is = no_way (view_of s) t k.shows.by p n q (ap (leads_to_directory (view_of s) t k.shows.by) at ∙ directory_in s.nodes id ∙ no_file s.nodes id is)
+
+  -- what a path leads to is there
+  pub reached_node : (path : Path) (id : ℕ) → walk (entry_of s.nodes) s.root path ≡ Some id → (node : Node) × (node_in s.nodes id ≡ Some node)
+  reached_node path id at = elim (node_in s.nodes id) as (λ o. node_in s.nodes id ≡ o → (node : Node) × (node_in s.nodes id ≡ Some node)) [
+    | None ↦ λ e. absurd (reached_there (entry_of s.nodes) (shown_of s.nodes) s.root k.shows.by.sound path id at (ap (option_map shown_node) e))
+    | Some node ↦ λ e. (node, e)
+  ] refl
+
+  -- a path's directory, with its metadata
+  pub directory_found : (path : Path) (dir label : ℕ) (m : Metadata) → walk (entry_of s.nodes) s.root path ≡ Some dir → shown_of s.nodes dir ≡ Some (label, Directory m) → directory_at t path ≡ Some (label, m)
+  directory_found path dir label m at is =
+      ap (option_and_then (directory_labelled t)) (k.shows.by.names path ∙ ap (option_and_then (label_by (shown_of s.nodes))) at ∙ ap (option_map (λ (z : ℕ × Object). z.0)) is)
+      ∙ ap (λ (o : Option Object). paired label (option_and_then directory_metadata o)) (k.shows.by.objects dir label (Directory m) is)

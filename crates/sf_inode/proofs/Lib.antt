@@ -31,3 +31,5 @@ pub mod Opening
 pub mod Closing
 pub mod Leaving
 pub mod ClosingAll
+pub mod Untouched
+pub mod KeepsShown

@@ -109,7 +109,7 @@ more_says n m c es free =
     find_is (es ++ (n, c) ∷ []) m ∙ find-append name_cmp name_total es n c m (sym (find_is es n) ∙ free)
     ∙ ap (λ b. cond b (Some c) (find name_cmp m es)) (flip_name m n) ∙ ap (cond (same_name n m) (Some c)) (sym (find_is es m))
 
-object_less : (n : Name) (m : Metadata) (c : Content) → object_in m (less_content n c) ≡ object_in m c
+pub object_less : (n : Name) (m : Metadata) (c : Content) → object_in m (less_content n c) ≡ object_in m c
 object_less n m (content.Directory es) = refl
 object_less n m (content.File contents) = refl
 

@@ -11,7 +11,8 @@ mod store;
 pub use handle::{Marks, OpenHandle};
 pub use handle_laws::counted_handles;
 pub use laws::{
-    changed_object, found_paths, gone_path, kept_nodes, kept_trees, moved_path, new_path, same_tree,
+    changed_object, found_paths, gone_path, kept_nodes, kept_trees, moved_path, new_path,
+    other_nodes, same_tree, shown_nodes,
 };
 pub use node::NewNode;
 pub use store::Store;

@@ -1,4 +1,4 @@
-use Rattle.sf_inode.proofs.Finding.{walk_on, label_found, way_found, place_found, object_found, absent_found, no_way_on, file_in_way}
+use Rattle.sf_inode.proofs.Finding.{walk_on, label_found, way_found, place_found, object_found, directory_found, absent_found, no_way_on, file_in_way}
 use Rattle.sf_inode.proofs.Bare.{bare_found}
 use Rattle.sf_inode.proofs.laws.found_paths.Goals as goal
 
@@ -16,6 +16,9 @@ returns-clause-place c = λ s t p id node k. place_found s t k p id node
 
 pub returns-clause-found : goal.returns-clause-found
 returns-clause-found c = λ s t p id node k. object_found s t k p id node
+
+pub returns-clause-directory : goal.returns-clause-directory
+returns-clause-directory c = λ s t p dir label m k. directory_found s t k p dir label m
 
 pub returns-clause-absent : goal.returns-clause-absent
 returns-clause-absent c = λ s t p dir n k. absent_found s t k p dir n
