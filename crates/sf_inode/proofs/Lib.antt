@@ -22,3 +22,4 @@ pub mod Opening
 pub mod Closing
 pub mod Leaving
 pub mod ClosingAll
+pub mod SessionHandles
