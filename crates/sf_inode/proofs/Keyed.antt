@@ -50,7 +50,7 @@ module _ {K X : Type 0} (R : K → K → Ordering) where
     apart x [] h = tt
     apart x (e ∷ es) h = (less_not_equal _ (and_first _ _ h), apart x es (and_second _ _ h))
 
-    distinct : (es : List (K × X)) → T (is_sorted R es) → IsDistinct (eq_by_cmp R) (keys_of es)
+    pub distinct : (es : List (K × X)) → T (is_sorted R es) → IsDistinct (eq_by_cmp R) (keys_of es)
     unfolding IsDistinct
     distinct [] h = tt
     distinct (e ∷ es) h = (apart e.0 es (and_first _ _ h), distinct es (and_second _ _ h))

@@ -33,3 +33,4 @@ pub mod Leaving
 pub mod ClosingAll
 pub mod Untouched
 pub mod KeepsShown
+pub mod SessionHandles

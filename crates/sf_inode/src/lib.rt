@@ -9,7 +9,9 @@ mod node;
 mod store;
 
 pub use handle::{Marks, OpenHandle};
-pub use handle_laws::counted_handles;
+pub use handle_laws::{
+    closed_handles, counted_handles, found_handles, listed_handles, opened_handles,
+};
 pub use laws::{
     changed_object, found_paths, gone_path, kept_nodes, kept_trees, moved_path, new_path,
     other_nodes, same_tree, shown_nodes,
