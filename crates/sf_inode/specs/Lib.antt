@@ -1,0 +1,5 @@
+pub mod Steps
+pub mod Shows
+pub mod Nodes
+pub mod Stores
+pub mod Keeps

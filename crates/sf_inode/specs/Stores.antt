@@ -1,0 +1,215 @@
+-- What a contract sees of a store of nodes.
+use Rattle.std.specs.Prelude.{◌≡◌, ◌≢◌, ℕ, ◌+◌, ◌-◌, ◌^◌, min, nat_eq, Bool, true, false, if◌then◌else◌, List, [], ◌∷◌, fold, Option, Some, None, option_map, option_and_then, slice_index_or, slice_set}
+use Rattle.std.specs.Option.{option_map_or}
+use Rattle.std.specs.Ordering.{nat_cmp}
+use Rattle.std.specs.Map.{lookup, set_value, remove_entry}
+use Rattle.std.specs.BTreeMap.{is_at, insert_entry}
+use Rattle.sf_path.specs.Names.{Name}
+use Rattle.sf_field.specs.declared.attrs.Attrs.{Attrs}
+use Rattle.sf_call.specs.declared.handle.Handle.{Handle}
+use Rattle.sf_call.specs.Attributes.{Object, made_at, with_parts, modified_at, attrs_of}
+use Rattle.sf_block.specs.Contents.{Stored}
+use Rattle.sf_inode.specs.declared.node.Node.{Node}
+use Rattle.sf_inode.specs.declared.node.Content.TheVariants as content
+use Rattle.sf_inode.specs.declared.handle.OpenHandle.{OpenHandle}
+use Rattle.sf_inode.specs.declared.handle.Marks.{Marks}
+use Rattle.sf_inode.specs.Nodes.{entry_in, entries_in, object_in, is_directory_content, is_bare_content, less_content, more_content, set_content, stored_in, is_file_content, with_stored, with_content, with_metadata, with_holder, without_name, with_opened, is_unused}
+use Rattle.sf_inode.specs.Shows.{View}
+
+-- a node or nothing at each number from 0 on, each session's handles by their numbers, and how many look-ups were made
+pub record StoreState : Type 0 where
+  pub nodes : List (Option Node)
+  pub root : ℕ
+  pub sessions : List (ℕ × List (ℕ × OpenHandle))
+  pub look_ups : ℕ
+
+abbrev pub node_in : List (Option Node) → ℕ → Option Node
+node_in nodes id = slice_index_or nodes id None
+
+abbrev pub entry_of : List (Option Node) → ℕ → Name → Option ℕ
+entry_of nodes id n = option_and_then (λ node. entry_in node.content n) (node_in nodes id)
+
+abbrev pub shown_node : Node → ℕ × Object
+shown_node node = (node.label, object_in node.metadata node.content)
+
+abbrev pub shown_of : List (Option Node) → ℕ → Option (ℕ × Object)
+shown_of nodes id = option_map shown_node (node_in nodes id)
+
+abbrev pub holder_of : List (Option Node) → ℕ → Option ℕ
+holder_of nodes id = option_and_then (λ node. node.holder) (node_in nodes id)
+
+-- a session's handle of a number
+abbrev pub handle_at : StoreState → ℕ → ℕ → Option OpenHandle
+handle_at s session number = option_and_then (λ handles. lookup (is_at (nat_cmp number)) handles) (lookup (is_at (nat_cmp session)) s.sessions)
+
+abbrev pub shown_handle : ℕ → OpenHandle → Handle
+shown_handle session h = record { session = session; label = h.label; read = h.marks.read; write = h.marks.write; append = h.marks.append; listed = h.listed }
+
+-- what can be seen of a store
+abbrev pub view_of : StoreState → View
+view_of s = record {
+  step = entry_of s.nodes;
+  shown = shown_of s.nodes;
+  root = s.root;
+  opens = λ session number. option_map (shown_handle session) (handle_at s session number);
+}
+
+abbrev pub with_nodes : StoreState → List (Option Node) → StoreState
+with_nodes s nodes = record { nodes = nodes; root = s.root; sessions = s.sessions; look_ups = s.look_ups }
+
+abbrev pub looked_up : StoreState → StoreState
+looked_up s = record { nodes = s.nodes; root = s.root; sessions = s.sessions; look_ups = min (s.look_ups + 1) (2 ^ 64 - 1) }
+
+-- with a node changed, if it is there
+abbrev pub edited_by : (Node → Node) → List (Option Node) → ℕ → Option Node → List (Option Node)
+edited_by f nodes id None = nodes
+edited_by f nodes id (Some node) = slice_set nodes id (Some (f node))
+
+abbrev pub edited : (Node → Node) → StoreState → ℕ → StoreState
+edited f s id = with_nodes s (edited_by f s.nodes id (node_in s.nodes id))
+
+abbrev pub entry_taken : StoreState → ℕ → Name → StoreState
+entry_taken s dir n = edited (with_content (less_content n)) s dir
+
+abbrev pub entry_put : StoreState → ℕ → Name → ℕ → StoreState
+entry_put s dir n id = edited (with_content (more_content n id)) s dir
+
+-- without a node that no entry and no handle names
+abbrev pub released_if : StoreState → ℕ → Option Node → StoreState
+released_if s id None = s
+released_if s id (Some node) = if is_unused node then with_nodes s (slice_set s.nodes id None) else s
+
+abbrev pub released : StoreState → ℕ → StoreState
+released s id = released_if s id (node_in s.nodes id)
+
+-- no entry leads to a node any more
+abbrev pub forgotten : StoreState → ℕ → StoreState
+forgotten s id = released (edited without_name s id) id
+
+-- a handle less opens a node
+abbrev pub let_go : StoreState → ℕ → StoreState
+let_go s id = released (edited (λ node. with_opened (node.opens - 1) node) s id) id
+
+abbrev pub unlinked_from : StoreState → ℕ → Name → Option ℕ → StoreState
+unlinked_from s dir n None = s
+unlinked_from s dir n (Some id) = forgotten (entry_taken s dir n) id
+
+-- an entry is taken out, and its node goes if no handle opens it
+abbrev pub unlinked : StoreState → ℕ → Name → StoreState
+unlinked s dir n = unlinked_from s dir n (entry_of s.nodes dir n)
+
+-- An entry is moved: onto nothing, or in the place of another, whose node goes if no handle opens it.
+abbrev pub relinked_from : StoreState → ℕ → Name → ℕ → Name → Option ℕ → Option ℕ → StoreState
+relinked_from s old_dir old_name new_dir new_name None target = s
+relinked_from s old_dir old_name new_dir new_name (Some id) None = entry_taken (entry_put s new_dir new_name id) old_dir old_name
+relinked_from s old_dir old_name new_dir new_name (Some id) (Some target) =
+    forgotten (entry_taken (edited (with_content (set_content new_name id)) s new_dir) old_dir old_name) target
+
+abbrev pub relinked : StoreState → ℕ → Name → ℕ → Name → StoreState
+relinked s old_dir old_name new_dir new_name =
+    relinked_from s old_dir old_name new_dir new_name (entry_of s.nodes old_dir old_name) (entry_of s.nodes new_dir new_name)
+
+-- a node's bytes, if it is a file, and their room
+abbrev pub stored_of : List (Option Node) → ℕ → Stored
+stored_of nodes id = option_map_or (λ node. stored_in node.content) (node_in nodes id) (record { bytes = []; room = 0 })
+
+-- a directory's entries, in no order
+abbrev pub entries_at : List (Option Node) → ℕ → List (Name × ℕ)
+entries_at nodes id = option_map_or (λ node. entries_in node.content) (node_in nodes id) []
+
+abbrev pub is_file_at : List (Option Node) → ℕ → Bool
+is_file_at nodes id = option_map_or (λ node. is_file_content node.content) (node_in nodes id) false
+
+abbrev pub is_directory_at : List (Option Node) → ℕ → Bool
+is_directory_at nodes id = option_map_or (λ node. is_directory_content node.content) (node_in nodes id) false
+
+-- a file or an empty directory
+abbrev pub is_bare_at : List (Option Node) → ℕ → Bool
+is_bare_at nodes id = option_map_or (λ node. is_bare_content node.content) (node_in nodes id) false
+
+-- with other bytes of a file, and the room that they have in another state
+abbrev pub bytes_set : StoreState → ℕ → List ℕ → StoreState → StoreState
+bytes_set s id bytes after = edited (with_content (with_stored (record { bytes = bytes; room = (stored_of after.nodes id).room }))) s id
+
+-- ---- handles
+abbrev pub with_sessions : StoreState → List (ℕ × List (ℕ × OpenHandle)) → StoreState
+with_sessions s sessions = record { nodes = s.nodes; root = s.root; sessions = sessions; look_ups = s.look_ups }
+
+abbrev pub handles_of : StoreState → ℕ → Option (List (ℕ × OpenHandle))
+handles_of s session = lookup (is_at (nat_cmp session)) s.sessions
+
+abbrev pub handles_put : StoreState → ℕ → ℕ → OpenHandle → Option (List (ℕ × OpenHandle)) → StoreState
+handles_put s session number h None = with_sessions s (insert_entry nat_cmp s.sessions session ((number, h) ∷ []))
+handles_put s session number h (Some handles) = with_sessions s (set_value (is_at (nat_cmp session)) s.sessions (insert_entry nat_cmp handles number h))
+
+-- with a session's handle of a number
+abbrev pub handle_put : StoreState → ℕ → ℕ → OpenHandle → StoreState
+handle_put s session number h = handles_put s session number h (handles_of s session)
+
+abbrev pub opened_at : StoreState → ℕ → ℕ → ℕ → Marks → Option Node → StoreState
+opened_at s session number id marks None = s
+opened_at s session number id marks (Some node) =
+    edited (λ it. with_opened (min (it.opens + 1) (2 ^ 64 - 1)) it) (handle_put s session number (record { node = id; label = node.label; marks = marks; listed = None })) id
+
+-- a handle opens a node, if it is there
+abbrev pub opened : StoreState → ℕ → ℕ → ℕ → Marks → StoreState
+opened s session number id marks = opened_at s session number id marks (node_in s.nodes id)
+
+-- with the last name that a listing gave
+abbrev pub with_last : Name → OpenHandle → OpenHandle
+with_last name h = record { node = h.node; label = h.label; marks = h.marks; listed = Some name }
+
+abbrev pub listed_by : ℕ → Name → List (ℕ × OpenHandle) → Option OpenHandle → List (ℕ × OpenHandle)
+listed_by number name handles None = handles
+listed_by number name handles (Some h) = set_value (is_at (nat_cmp number)) handles (with_last name h)
+
+abbrev pub listed_of : ℕ → Name → List (ℕ × OpenHandle) → List (ℕ × OpenHandle)
+listed_of number name handles = listed_by number name handles (lookup (is_at (nat_cmp number)) handles)
+
+abbrev pub listed_at : StoreState → ℕ → ℕ → Name → Option (List (ℕ × OpenHandle)) → StoreState
+listed_at s session number name None = s
+listed_at s session number name (Some handles) = with_sessions s (set_value (is_at (nat_cmp session)) s.sessions (listed_of number name handles))
+
+abbrev pub handle_listed : StoreState → ℕ → ℕ → Name → StoreState
+handle_listed s session number name = listed_at s session number name (handles_of s session)
+
+abbrev pub handle_dropped : StoreState → ℕ → ℕ → Option (List (ℕ × OpenHandle)) → StoreState
+handle_dropped s session number None = s
+handle_dropped s session number (Some handles) = with_sessions s (set_value (is_at (nat_cmp session)) s.sessions (remove_entry (is_at (nat_cmp number)) handles))
+
+abbrev pub closed_by : StoreState → Option OpenHandle → StoreState
+closed_by s None = s
+closed_by s (Some h) = let_go s h.node
+
+-- a handle is closed, and its node goes if nothing else names it
+abbrev pub closed : StoreState → ℕ → ℕ → StoreState
+closed s session number = closed_by (handle_dropped s session number (handles_of s session)) (handle_at s session number)
+
+-- the nodes of handles are let go of
+abbrev pub each_let_go : StoreState → List (ℕ × OpenHandle) → StoreState
+each_let_go s handles = fold (λ after e. let_go after e.1.node) s handles
+
+abbrev pub closed_each : StoreState → ℕ → Option (List (ℕ × OpenHandle)) → StoreState
+closed_each s session None = s
+closed_each s session (Some handles) = each_let_go (with_sessions s (remove_entry (is_at (nat_cmp session)) s.sessions)) handles
+
+-- all handles of a session are closed
+abbrev pub closed_all : StoreState → ℕ → StoreState
+closed_all s session = closed_each s session (handles_of s session)
+
+-- ---- new nodes
+-- a new node with its entry
+pub record Inserted (old new : StoreState) (dir : ℕ) (n : Name) (id : ℕ) (node : Node) : Type 0 where
+  pub fresh : node_in old.nodes id ≡ None
+  pub at : node_in new.nodes id ≡ Some node
+  pub others : (i : ℕ) → i ≢ id → node_in new.nodes i ≡ node_in (entry_put old dir n id).nodes i
+  pub root : new.root ≡ old.root
+  pub sessions : new.sessions ≡ old.sessions
+  pub look_ups : new.look_ups ≡ old.look_ups
+
+-- the root alone: label 0, permissions 0o755, and 0 for its owner and its times
+pub record IsFirst (s : StoreState) : Type 0 where
+  pub root : node_in s.nodes s.root ≡ Some (record { label = 0; metadata = made_at 0o755 0; content = content.Directory []; holder = None; named = true; opens = 0 })
+  pub others : (i : ℕ) → i ≢ s.root → node_in s.nodes i ≡ None
+  pub sessions : s.sessions ≡ []
+  pub look_ups : s.look_ups ≡ 0

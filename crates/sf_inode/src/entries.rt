@@ -1,0 +1,142 @@
+//! The entries of a directory.
+
+ghost use Rattle.std.specs.Prelude.{◌≡◌, ◌++◌, [], ◌∷◌, ◌≤◌, not, filter, length, take, IfOk, OnOk, OnErr};
+ghost use Rattle.std.specs.Option.{option_copied};
+ghost use Rattle.std.specs.BTreeMap.{insert_entry};
+ghost use Rattle.sf_call.specs.Listings.{is_past};
+ghost use Rattle.std.specs.List.{position_from};
+ghost use Rattle.std.specs.Map.{lookup, set_value};
+ghost use Rattle.sf_path.specs.Order.{same_name, name_cmp};
+ghost use Rattle.sf_inode.specs.Nodes.{sorted_past};
+ghost use Rattle.sf_call.specs.Tree.{is_nil};
+
+use crate::NodeId;
+use sf_path::Name;
+use std::alloc::{AllocError, Global};
+use std::collections::BTreeMap;
+use std::marker::Model;
+
+/// The names of a directory with the nodes that they lead to, in no order.
+#[derive(Drop)]
+pub(crate) struct Entries {
+    items: Vec<(Name, NodeId)>,
+}
+
+impl Model for Entries {
+    ghost use Rattle.std.specs.Prelude.{List, ℕ};
+
+    ghost Value = { List (List ℕ × ℕ) };
+
+    ghost view = { λ entries. entries.items.items };
+}
+
+impl Entries {
+    pub(crate) fn new(alloc: Global) -> Entries
+        ensures { result ≡ [] }
+    {
+        Entries {
+            items: Vec::new(alloc),
+        }
+    }
+
+    pub(crate) fn is_empty(&self) -> bool
+        ensures { result ≡ is_nil self.now }
+    {
+        self.items.is_empty()
+    }
+
+    /// The node that a name leads to.
+    #[tactic(auto, using(crate::proofs::EntryLists::lookup_further, crate::proofs::EntryLists::lookup_gone, crate::proofs::EntryLists::lookup_here))]
+    pub(crate) fn find(&self, name: &Name) -> Option<NodeId>
+        ensures { result ≡ lookup (same_name name.now) self.now }
+    {
+        for i in 0..self.items.len() {
+            let entry = &self.items[i];
+            if *name == entry.0 {
+                return Some(entry.1);
+            }
+        }
+        None
+    }
+
+    pub(crate) fn push(&mut self, name: Name, node: NodeId) -> Result<(), AllocError>
+        ensures ok { OnOk result (self.new ≡ self.old ++ (name, node) ∷ []) }
+        ensures err { OnErr result (self.new ≡ self.old) }
+    {
+        self.items.push((name, node))?;
+        Ok(())
+    }
+
+    pub(crate) fn remove(&mut self, name: &Name)
+        ensures { self.new ≡ filter (λ e. not (same_name name.now e.0)) self.old }
+    {
+        self.items.retain(
+            |entry: &(Name, NodeId)| -> bool
+                ensures { result ≡ not (same_name name.entry.now entry.now.0) }
+            { !(*name == entry.0) },
+        );
+    }
+
+    fn index_of(&self, name: &Name) -> Option<usize>
+        ensures { result ≡ position_from (λ e. same_name name.now e.0) 0 self.now }
+    {
+        self.items.iter().position(|entry| *name == entry.0)
+    }
+
+    /// A name leads to another node, if it is there.
+    pub(crate) fn set(&mut self, name: &Name, node: NodeId)
+        ensures { self.new ≡ set_value (same_name name.now) self.old node }
+    {
+        match self.index_of(name) {
+            Some(i) => self.items[i].1 = node,
+            None => {}
+        }
+    }
+
+    /// The entries with the least names past the last one that was given, so many at most. Takes
+    /// memory for each name past it.
+    #[tactic(auto, using(crate::proofs::Least::least_in, crate::proofs::Least::least_out))]
+    pub(crate) fn least_past(
+        &self,
+        alloc: Global,
+        last: Option<&Name>,
+        most: usize,
+    ) -> Result<BTreeMap<Name, NodeId>, AllocError>
+        ensures { IfOk result (λ found. found.entries ≡ take most (sorted_past (option_copied last.entry) self.now)) }
+    {
+        let mut found = BTreeMap::new(alloc);
+        for i in 0..self.items.len() {
+            let entry = &self.items[i];
+            if is_past(last, &entry.0) {
+                add_least(&mut found, entry.0.try_copy(alloc)?, entry.1, most)?;
+            }
+        }
+        Ok(found)
+    }
+}
+
+fn is_past(last: Option<&Name>, name: &Name) -> bool
+    ensures { result ≡ is_past (option_copied last.entry) name.now }
+{
+    match last {
+        None => true,
+        Some(last) => *last < *name,
+    }
+}
+
+/// Adds an entry, and drops the one with the greatest name where there are more than `most` then.
+fn add_least(
+    found: &mut BTreeMap<Name, NodeId>,
+    name: Name,
+    node: NodeId,
+    most: usize,
+) -> Result<(), AllocError>
+    requires { length found.old.entries ≤ most }
+    ensures { OnOk result (found.new.entries ≡ take most (insert_entry name_cmp found.old.entries name node)) }
+{
+    found.insert(name, node)?;
+    if found.len() > most {
+        found.pop_last();
+    }
+    Ok(())
+}

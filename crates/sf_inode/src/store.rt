@@ -1,0 +1,482 @@
+//! The nodes, and what is open.
+
+ghost use Rattle.std.specs.Prelude.{◌≡◌, ◌+◌, ◌<◌, ◌≤◌, ◌^◌, ◌-◌, min, length, take, drop, Some, None, true, false, IsOk, IfOk, OnOk, OnErr, option_map, option_and_then};
+ghost use Rattle.std.specs.Option.{option_map_or};
+ghost use Rattle.sf_call.specs.Attributes.{attrs_of, with_parts, modified_at};
+ghost use Rattle.sf_inode.specs.Nodes.{new_node, object_in, with_metadata, with_holder, with_content, set_content, sorted_past};
+ghost use Rattle.sf_inode.specs.Stores.{IsFirst, Inserted, node_in, entry_of, holder_of, looked_up, edited, entry_taken, entry_put, released, forgotten, let_go, unlinked, relinked, stored_of, is_file_at, is_directory_at, is_bare_at, bytes_set, opened, handle_put, handle_at, handles_of, handle_dropped, handle_listed, entries_at, closed, each_let_go, closed_all};
+ghost use Rattle.std.specs.Option.{option_copied};
+ghost use Rattle.sf_call.specs.Contents.{resized, written};
+ghost use Rattle.sf_block.specs.Contents.{count_from, with_front};
+
+use crate::NodeId;
+use crate::entries::Entries;
+use crate::handle::{Marks, OpenHandle, SessionHandles};
+use crate::node::{Content, NewNode, Node};
+use sf_call::Metadata;
+use sf_path::Name;
+use sf_wire::{Attrs, Owner, Times};
+use slab::Slab;
+use std::alloc::{AllocError, Global};
+use std::collections::BTreeMap;
+use std::marker::Model;
+
+/// Files, directories and what is open.
+#[derive(Drop)]
+pub struct Store {
+    alloc: Global,
+    nodes: Slab<Node>,
+    root: NodeId,
+    sessions: BTreeMap<u64, SessionHandles>,
+    look_ups: u64,
+}
+
+impl Model for Store {
+    ghost use Rattle.sf_inode.specs.Stores.{StoreState};
+
+    ghost Value = { StoreState };
+
+    ghost view = { λ store. record { nodes = store.nodes.slots; root = store.root; sessions = store.sessions.entries; look_ups = store.look_ups } };
+}
+
+impl Store {
+    /// A directory alone, the root.
+    pub fn new(alloc: Global) -> Result<Store, AllocError>
+        ensures { IfOk result (λ store. IsFirst store) }
+    {
+        let metadata = Metadata {
+            owner: Owner { uid: 0, gid: 0 },
+            permissions: 0o755,
+            times: Times { atime: 0, mtime: 0 },
+        };
+        let mut nodes = Slab::new(alloc);
+        nodes.reserve(1)?;
+        let root = nodes.insert_reserved(Node {
+            label: 0,
+            metadata,
+            content: Content::Directory(Entries::new(alloc)),
+            holder: None,
+            named: true,
+            opens: 0,
+        });
+        Ok(Store {
+            alloc,
+            nodes,
+            root,
+            sessions: BTreeMap::new(alloc),
+            look_ups: 0,
+        })
+    }
+
+    /// What the store takes its memory from.
+    pub fn alloc(&self) -> Global {
+        self.alloc
+    }
+
+    /// The root's number, which stays.
+    pub fn root(&self) -> NodeId
+        ensures { result ≡ self.now.root }
+    {
+        self.root
+    }
+
+    /// How many look-ups were made, up to 2^64 - 1.
+    pub fn look_ups(&self) -> u64
+        ensures { result ≡ self.now.look_ups }
+    {
+        self.look_ups
+    }
+
+    /// The node that a name of a directory leads to. It counts as one look-up.
+    pub fn find(&mut self, dir: NodeId, name: &Name) -> Option<NodeId>
+        ensures found { result ≡ entry_of self.old.nodes dir name.now }
+        ensures counted { self.new ≡ looked_up self.old }
+    {
+        self.look_ups = self.look_ups.saturating_add(1);
+        self.entry(dir, name)
+    }
+
+    fn entry(&self, dir: NodeId, name: &Name) -> Option<NodeId>
+        ensures { result ≡ entry_of self.now.nodes dir name.now }
+    {
+        match self.nodes.get(dir) {
+            Some(node) => node.entry(name),
+            None => None,
+        }
+    }
+
+    /// The attributes of a node, as they are sent.
+    pub fn attrs(&self, node: NodeId) -> Option<Attrs>
+        ensures { result ≡ option_map (λ it. attrs_of (object_in it.metadata it.content)) (node_in self.now.nodes node) }
+    {
+        match self.nodes.get(node) {
+            Some(it) => Some(it.attrs()),
+            None => None,
+        }
+    }
+
+    /// Whether a node is there and is a directory.
+    pub fn is_directory(&self, node: NodeId) -> bool
+        ensures { result ≡ is_directory_at self.now.nodes node }
+    {
+        match self.nodes.get(node) {
+            Some(it) => it.is_directory(),
+            None => false,
+        }
+    }
+
+    /// Whether a node is there and has no entries; a file has none.
+    pub fn is_empty(&self, node: NodeId) -> bool
+        ensures { result ≡ is_bare_at self.now.nodes node }
+    {
+        match self.nodes.get(node) {
+            Some(it) => it.is_bare(),
+            None => false,
+        }
+    }
+
+    /// The number of the call that holds a node.
+    pub fn holder(&self, node: NodeId) -> Option<u64>
+        ensures { result ≡ holder_of self.now.nodes node }
+    {
+        match self.nodes.get(node) {
+            Some(it) => it.holder,
+            None => None,
+        }
+    }
+
+    /// A call holds a node from now on.
+    pub fn hold(&mut self, node: NodeId, number: u64)
+        ensures { self.new ≡ edited (with_holder (Some number)) self.old node }
+    {
+        if let Some(it) = self.nodes.get_mut(node) {
+            it.holder = Some(number);
+        }
+    }
+
+    /// No call holds a node from now on.
+    pub fn free(&mut self, node: NodeId)
+        ensures { self.new ≡ edited (with_holder None) self.old node }
+    {
+        if let Some(it) = self.nodes.get_mut(node) {
+            it.holder = None;
+        }
+    }
+
+    /// Sets the parts that are given, all but a size.
+    pub fn set(&mut self, node: NodeId, attrs: &Attrs)
+        ensures { self.new ≡ edited (with_metadata (λ m. with_parts m attrs.now)) self.old node }
+    {
+        if let Some(it) = self.nodes.get_mut(node) {
+            it.set(attrs);
+        }
+    }
+
+    /// Sets the time of change alone, in seconds since 1970.
+    pub fn touch(&mut self, node: NodeId, moment: u32)
+        ensures { self.new ≡ edited (with_metadata (modified_at moment)) self.old node }
+    {
+        if let Some(it) = self.nodes.get_mut(node) {
+            it.touch(moment);
+        }
+    }
+
+    /// Puts a new node under a new name of a directory.
+    pub fn insert(&mut self, dir: NodeId, name: Name, made: NewNode) -> Result<NodeId, AllocError>
+        ensures ok { IfOk result (λ id. Inserted self.old self.new dir name id (new_node made)) }
+        ensures err { OnErr result (self.new ≡ self.old) }
+    {
+        self.nodes.reserve(1)?;
+        let id = self.nodes.vacant_key();
+        if let Some(above) = self.nodes.get_mut(dir) {
+            above.push_entry(name, id)?;
+        }
+        self.nodes.insert_reserved(Node::new(self.alloc, made));
+        Ok(id)
+    }
+
+    /// Takes a name out of a directory.
+    fn take_entry(&mut self, dir: NodeId, name: &Name)
+        ensures { self.new ≡ entry_taken self.old dir name.now }
+    {
+        if let Some(above) = self.nodes.get_mut(dir) {
+            above.remove_entry(name);
+        }
+    }
+
+    /// Lets a node go that no entry and no handle names.
+    fn release(&mut self, node: NodeId)
+        ensures { self.new ≡ released self.old node }
+    {
+        let is_unused = match self.nodes.get(node) {
+            Some(it) => it.is_unused(),
+            None => return,
+        };
+        if is_unused {
+            self.nodes.try_remove(node);
+        }
+    }
+
+    /// No entry leads to a node any more.
+    fn forget(&mut self, node: NodeId)
+        ensures { self.new ≡ forgotten self.old node }
+    {
+        if let Some(it) = self.nodes.get_mut(node) {
+            it.named = false;
+        }
+        self.release(node);
+    }
+
+    /// A handle less opens a node.
+    fn let_go(&mut self, node: NodeId)
+        ensures { self.new ≡ let_go self.old node }
+    {
+        if let Some(it) = self.nodes.get_mut(node) {
+            it.opens = it.opens.saturating_sub(1);
+        }
+        self.release(node);
+    }
+
+    /// Takes a name out of a directory, and lets its node go if no handle opens it.
+    pub fn unlink(&mut self, dir: NodeId, name: &Name)
+        ensures { self.new ≡ unlinked self.old dir name.now }
+    {
+        if let Some(node) = self.entry(dir, name) {
+            self.take_entry(dir, name);
+            self.forget(node);
+        }
+    }
+
+    /// Moves an entry to another name: a new one, or one that stands for another node, which goes if
+    /// no handle opens it.
+    pub fn relink(
+        &mut self,
+        old_dir: NodeId,
+        old_name: &Name,
+        new_dir: NodeId,
+        new_name: Name,
+    ) -> Result<(), AllocError>
+        ensures ok { OnOk result (self.new ≡ relinked self.old old_dir old_name.now new_dir new_name) }
+        ensures err { OnErr result (self.new ≡ self.old) }
+    {
+        let node = match self.entry(old_dir, old_name) {
+            Some(node) => node,
+            None => return Ok(()),
+        };
+        match self.entry(new_dir, &new_name) {
+            Some(target) => {
+                self.set_entry(new_dir, &new_name, node);
+                self.take_entry(old_dir, old_name);
+                self.forget(target);
+            }
+            None => {
+                self.put_entry(new_dir, new_name, node)?;
+                self.take_entry(old_dir, old_name);
+            }
+        }
+        Ok(())
+    }
+
+    /// A name of a directory leads to another node.
+    fn set_entry(&mut self, dir: NodeId, name: &Name, node: NodeId)
+        ensures { self.new ≡ edited (with_content (set_content name.now node)) self.old dir }
+    {
+        if let Some(above) = self.nodes.get_mut(dir) {
+            above.set_entry(name, node);
+        }
+    }
+
+    /// A new name of a directory leads to a node.
+    fn put_entry(&mut self, dir: NodeId, name: Name, node: NodeId) -> Result<(), AllocError>
+        ensures ok { OnOk result (self.new ≡ entry_put self.old dir name node) }
+        ensures err { OnErr result (self.new ≡ self.old) }
+    {
+        if let Some(above) = self.nodes.get_mut(dir) {
+            above.push_entry(name, node)?;
+        }
+        Ok(())
+    }
+
+    /// Puts a file's bytes from an offset on into a buffer, as many as there are and as fit, and tells
+    /// how many these are.
+    pub fn read(&self, node: NodeId, offset: u64, buffer: &mut [u8]) -> usize
+        ensures count { result ≡ count_from (stored_of self.now.nodes node).bytes offset (length buffer.old) }
+        ensures buffer { buffer.new ≡ with_front (take result (drop offset (stored_of self.now.nodes node).bytes)) buffer.old }
+    {
+        match self.nodes.get(node) {
+            Some(it) => it.read(offset, buffer),
+            None => 0,
+        }
+    }
+
+    /// Gets memory for `n` bytes of a file from an offset on, and for all before them.
+    pub fn reserve_for(&mut self, node: NodeId, offset: u64, n: usize) -> Result<(), AllocError>
+        requires fits { offset + n < 2 ^ 64 }
+        requires file { is_file_at self.old.nodes node ≡ true }
+        ensures same { self.new ≡ bytes_set self.old node (stored_of self.old.nodes node).bytes self.new }
+        ensures room { OnOk result (offset + n ≤ (stored_of self.new.nodes node).room) }
+        ensures err { OnErr result (self.new ≡ self.old) }
+    {
+        match self.nodes.get_mut(node) {
+            Some(it) => it.reserve_for(offset, n),
+            None => Ok(()),
+        }
+    }
+
+    /// Replaces a file's bytes from an offset on, where room was reserved; a gap before them is filled
+    /// with zeros.
+    pub fn write(&mut self, node: NodeId, offset: u64, bytes: &[u8])
+        requires { offset + length bytes.now ≤ (stored_of self.old.nodes node).room }
+        ensures { self.new ≡ bytes_set self.old node (written (stored_of self.old.nodes node).bytes offset bytes.now) self.new }
+    {
+        if let Some(it) = self.nodes.get_mut(node) {
+            it.write(offset, bytes);
+        }
+    }
+
+    /// Cuts a file's bytes at a size, or fills them up to it with zeros.
+    pub fn set_len(&mut self, node: NodeId, n: u64) -> Result<(), AllocError>
+        ensures ok { OnOk result (self.new ≡ bytes_set self.old node (resized (stored_of self.old.nodes node).bytes n) self.new) }
+        ensures enough { n ≤ (stored_of self.old.nodes node).room → IsOk result }
+        ensures err { OnErr result (self.new ≡ self.old) }
+    {
+        match self.nodes.get_mut(node) {
+            Some(it) => it.set_len(n),
+            None => Ok(()),
+        }
+    }
+
+    /// Opens a node by a handle of a session, with no name listed yet.
+    pub fn open(
+        &mut self,
+        session: u64,
+        number: u64,
+        node: NodeId,
+        marks: Marks,
+    ) -> Result<(), AllocError>
+        ensures ok { OnOk result (self.new ≡ opened self.old session number node marks) }
+        ensures err { OnErr result (self.new ≡ self.old) }
+    {
+        let label = match self.nodes.get(node) {
+            Some(it) => it.label,
+            None => return Ok(()),
+        };
+        let handle = OpenHandle {
+            node,
+            label,
+            marks,
+            listed: None,
+        };
+        self.put_handle(session, number, handle)?;
+        if let Some(it) = self.nodes.get_mut(node) {
+            it.opens = it.opens.saturating_add(1);
+        }
+        Ok(())
+    }
+
+    fn put_handle(
+        &mut self,
+        session: u64,
+        number: u64,
+        handle: OpenHandle,
+    ) -> Result<(), AllocError>
+        ensures ok { OnOk result (self.new ≡ handle_put self.old session number handle) }
+        ensures err { OnErr result (self.new ≡ self.old) }
+    {
+        match self.sessions.get_mut(&session) {
+            Some(handles) => {
+                handles.insert(number, handle)?;
+                Ok(())
+            }
+            None => {
+                let handles = SessionHandles::of_one(self.alloc, number, handle)?;
+                self.sessions.insert(session, handles)?;
+                Ok(())
+            }
+        }
+    }
+
+    /// A session's handle.
+    pub fn handle(&self, session: u64, number: u64) -> Option<&OpenHandle>
+        ensures { option_copied result ≡ handle_at self.now session number }
+    {
+        match self.sessions.get(&session) {
+            Some(handles) => handles.get(number),
+            None => None,
+        }
+    }
+
+    /// How many handles a session has.
+    pub fn handles(&self, session: u64) -> usize
+        ensures { result ≡ option_map_or (λ handles. length handles) (handles_of self.now session) 0 }
+    {
+        match self.sessions.get(&session) {
+            Some(handles) => handles.len(),
+            None => 0,
+        }
+    }
+
+    /// Closes a session's handle. Its node goes if nothing else names it.
+    pub fn close(&mut self, session: u64, number: u64)
+        ensures { self.new ≡ closed self.old session number }
+    {
+        if let Some(handle) = self.take_handle(session, number) {
+            self.let_go(handle.node);
+        }
+    }
+
+    fn take_handle(&mut self, session: u64, number: u64) -> Option<OpenHandle>
+        ensures value { result ≡ handle_at self.old session number }
+        ensures rest { self.new ≡ handle_dropped self.old session number (handles_of self.old session) }
+    {
+        match self.sessions.get_mut(&session) {
+            Some(handles) => handles.remove(number),
+            None => None,
+        }
+    }
+
+    /// Closes all handles of a session.
+    pub fn close_all(&mut self, session: u64)
+        ensures { self.new ≡ closed_all self.old session }
+    {
+        if let Some(handles) = self.sessions.remove(&session) {
+            self.let_each_go(handles);
+        }
+    }
+
+    fn let_each_go(&mut self, mut handles: SessionHandles)
+        ensures { self.new ≡ each_let_go self.old handles }
+    {
+        while let Some(handle) = handles.pop_first() {
+            self.let_go(handle.node);
+        }
+    }
+
+    /// Sets the last name that a listing by a handle gave.
+    pub fn listed(&mut self, session: u64, number: u64, name: &Name) -> Result<(), AllocError>
+        ensures ok { OnOk result (self.new ≡ handle_listed self.old session number name.now) }
+        ensures err { OnErr result (self.new ≡ self.old) }
+    {
+        let own = name.try_copy(self.alloc)?;
+        if let Some(handles) = self.sessions.get_mut(&session) {
+            handles.set_listed(number, own);
+        }
+        Ok(())
+    }
+
+    /// The entries of a directory with the least names past the last one that was given, so many at
+    /// most. Takes memory for each name past it.
+    pub fn entries_after(
+        &self,
+        dir: NodeId,
+        last: Option<&Name>,
+        most: usize,
+    ) -> Result<BTreeMap<Name, NodeId>, AllocError>
+        ensures { IfOk result (λ found. found.entries ≡ take most (sorted_past (option_copied last.entry) (entries_at self.now.nodes dir))) }
+    {
+        match self.nodes.get(dir) {
+            Some(it) => it.least_past(self.alloc, last, most),
+            None => Ok(BTreeMap::new(self.alloc)),
+        }
+    }
+}

@@ -1,0 +1,4 @@
+pub mod WaySteps
+pub mod LookUps
+pub mod Fits
+pub mod Holders
