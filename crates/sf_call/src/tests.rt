@@ -167,3 +167,29 @@ fn words_of_faults(rt: HostRuntime) -> Result<(), Fail> {
     assert_eq!(rt; CoreFault::from(AllocError), CoreFault::OutOfMemory);
     Ok(())
 }
+
+#[test]
+fn unanswered_calls(rt: HostRuntime) -> Result<(), Fail> {
+    let mut calls = Calls::new(rt.alloc());
+    for number in [7, 5] {
+        let call = Call {
+            number,
+            session: 1,
+            moment: 100,
+            request: Request::Close(number),
+            stage: Stage::Fresh,
+        };
+        calls.insert(call)?;
+    }
+    let walked = Stage::At { walked: 1, node: 3 };
+    calls.set_stage(7, walked);
+    let call = calls.get(7).ok_or("no call 7")?;
+    assert_eq!(rt; call.stage, walked);
+    assert_eq!(rt; call.request, Request::Close(7));
+    let call = calls.get(5).ok_or("no call 5")?;
+    assert_eq!(rt; call.stage, Stage::Fresh);
+    assert!(rt; calls.remove(5).is_some());
+    assert!(rt; calls.get(5).is_none());
+    assert!(rt; calls.get(7).is_some());
+    Ok(())
+}
