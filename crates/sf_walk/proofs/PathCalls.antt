@@ -1,28 +1,24 @@
 -- What calls on paths answer, and what tree the store keeps after them.
-use Rattle.std.specs.Prelude.{◌≡◌, ◌≢◌, ◌⊎◌, ◌↔◌, ℕ, zero, suc, ◌+◌, ◌-◌, ◌<◌, ◌≤◌, nat_lt, Bool, true, false, cond, if◌then◌else◌, IsTrue, List, [], ◌∷◌, ◌++◌, length, take, fold, option_map, option_and_then, Option, Some, None, Ok, Err, IfOk, OnErr, slice_index_or, slice_get, refl}
+use Rattle.std.specs.Prelude.{◌≡◌, ◌≢◌, ◌↔◌, ℕ, zero, suc, ◌-◌, ◌<◌, ◌≤◌, nat_lt, Bool, true, false, cond, if◌then◌else◌, IsTrue, List, [], ◌∷◌, ◌++◌, length, take, option_map, option_and_then, Option, Some, None, Ok, Err, IfOk, OnErr, slice_index_or, slice_get, refl}
 use Rattle.std.proofs.lemmas.Option.{get_or_from_slice_get}
 use Rattle.std.specs.Option.{option_map_or}
 use Rattle.std.specs.declared.result.Result.{Result}
 use Rattle.std.proofs.lemmas.Bool.Decides.{nat_tests}
 use Rattle.std.proofs.Common.{sym, ap, subst, ◌∙◌, inl, inr, arith, length-append}
-use Rattle.std.specs.Map.{lookup}
 use Rattle.sf_path.specs.Names.{Name, Path}
 use Rattle.sf_path.specs.Order.{parent}
 use Rattle.sf_field.specs.declared.attrs.Attrs.{Attrs}
 use Rattle.sf_wire.specs.declared.reply.Reply.{Reply}
 use Rattle.sf_wire.specs.declared.reply.Reply.TheVariants as reply
-use Rattle.sf_wire.specs.declared.reply.StatusCode.{StatusCode}
 use Rattle.sf_wire.specs.declared.reply.StatusCode.TheVariants.{Success, NoSuchFile, Failure}
 use Rattle.sf_call.specs.declared.metadata.Metadata.{Metadata}
 use Rattle.sf_call.specs.declared.limits.TheConstants.{MAX_FILE_SIZE}
-use Rattle.sf_call.specs.declared.place.Place.{Place}
-use Rattle.sf_call.specs.declared.place.Place.TheVariants as place
 use Rattle.sf_call.specs.Attributes.{Object, modified_at, with_parts, attrs_of, new_metadata}
 use Rattle.sf_call.specs.Attributes.Object.{Directory, File}
 use Rattle.sf_call.specs.Contents.{resized}
 use Rattle.sf_call.specs.Tree.{Tree, Found, place_at, found_at, found_place, directory_at, object_of, is_empty}
-use Rattle.sf_call.specs.Tree.Found.{Nowhere, Nothing, DirectoryAt, FileAt}
-use Rattle.sf_call.specs.Changes.{Change, changed, done, touch, touched}
+use Rattle.sf_call.specs.Tree.Found.{Nowhere, Nothing}
+use Rattle.sf_call.specs.Changes.{changed, done, touch, touched}
 use Rattle.sf_call.specs.Changes.Change.{SetObject, NewPath, GonePath}
 use Rattle.sf_call.specs.Calls.{Answer, tells, refuses, succeeds, stat, set_stat, sets, refuses_size, with_size, make_directory, remove_directory, remove_file, goes, unless_root}
 use Rattle.sf_inode.specs.declared.node.Node.{Node}
@@ -32,7 +28,7 @@ use Rattle.sf_inode.specs.declared.node.Content.TheVariants as content
 use Rattle.sf_block.specs.Contents.{Stored}
 use Rattle.sf_inode.specs.Nodes.{object_in, stored_in, with_stored, with_content, new_content, new_node, entry_in, is_directory_content, is_bare_content, with_metadata}
 use Rattle.sf_inode.specs.Steps.{walk}
-use Rattle.sf_inode.specs.Stores.{StoreState, Inserted, node_in, stored_of, bytes_set, entry_of, is_directory_at, is_bare_at, shown_of, shown_node, holder_of, looked_up, edited, unlinked}
+use Rattle.sf_inode.specs.Stores.{StoreState, Inserted, node_in, stored_of, bytes_set, entry_of, is_directory_at, is_bare_at, shown_of, shown_node, holder_of, edited, unlinked}
 use Rattle.sf_inode.specs.Keeps.{Keeps}
 use Rattle.sf_walk.specs.declared.finding.Located.{Located}
 use Rattle.sf_walk.specs.declared.finding.Located.TheVariants as located

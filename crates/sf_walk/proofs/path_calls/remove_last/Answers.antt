@@ -1,4 +1,4 @@
-use Rattle.std.proofs.Common.{◌≡◌, ap, sym, ◌∙◌}
+use Rattle.std.proofs.Common.{◌≡◌, ap, ◌∙◌}
 use Rattle.sf_path.specs.Names.{Name}
 use Rattle.sf_call.specs.Attributes.{modified_at}
 use Rattle.sf_inode.specs.Nodes.{with_metadata}

@@ -1,4 +1,4 @@
-use Rattle.std.proofs.Common.{◌≡◌, refl, sym, subst}
+use Rattle.std.proofs.Common.{refl}
 use Rattle.sf_call.specs.Calls.{remove_directory}
 use Rattle.sf_walk.proofs.PathCalls.{no_way_served, missing_served, remove_directory_file, remove_directory_full, remove_directory_served, past_root, not_root, stays_gone}
 use Rattle.sf_walk.proofs.Holders.{stays_looked}
