@@ -4,7 +4,8 @@ use Rattle.sf_call.specs.Attributes.{modified_at}
 use Rattle.sf_inode.specs.Nodes.{with_metadata}
 use Rattle.sf_inode.specs.Stores.{StoreState, edited, unlinked}
 use Rattle.sf_walk.specs.Ways.{last_of}
-use Rattle.sf_walk.proofs.PathCalls.{goes_served, last_name}
+use Rattle.sf_walk.proofs.LastNames.{last_name}
+use Rattle.sf_walk.proofs.Parents.{goes_served}
 use Rattle.sf_walk.proofs.path_calls.remove_last.Goals as goal
 
 pub returns-clause-served : goal.returns-clause-served
