@@ -1,4 +1,5 @@
-//! Calls on paths, but those that open.
+//! Calls on paths, but those that open. A call of one of the store's laws does nothing: the proof takes
+//! from it what the law says.
 
 ghost use Rattle.std.specs.Prelude.{◌≡◌, ◌<◌, ℕ, true, length, Some, IfOk, OnErr};
 ghost use Rattle.sf_call.specs.Attributes.{modified_at};
