@@ -23,3 +23,4 @@ pub mod Closing
 pub mod Leaving
 pub mod ClosingAll
 pub mod SessionHandles
+pub mod ListedNames
