@@ -24,3 +24,4 @@ pub mod Leaving
 pub mod ClosingAll
 pub mod SessionHandles
 pub mod ListedNames
+pub mod Listings

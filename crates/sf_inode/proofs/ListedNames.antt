@@ -34,6 +34,9 @@ module _ {K X : Type 0} (R : K → K → Ordering) (o : IsTotalOrder R) (P : K �
     ] refl)),
   )
 
+abbrev pub with_label : ℕ → Name → Name × ℕ
+with_label label n = (n, label)
+
 module _ (last : Option Name) where
   -- ---- a directory's entries
   pub sorted_sorted : (es : List (Name × ℕ)) → T (is_sorted name_cmp (sorted_past last es))
@@ -65,7 +68,7 @@ module _ (last : Option Name) where
   -- ---- the tree's names right below a path, with their labels
   module _ (p : Path) where
     abbrev pub child : Path × ℕ → Option (Name × ℕ)
-    child e = option_map (λ n. (n, e.1)) (name_past p last e.0)
+    child e = option_map (with_label e.1) (name_past p last e.0)
 
     abbrev past : Option Path → Option Name
     past rest = option_and_then (λ n. if is_past last n then Some n else None) (only_name rest)
@@ -79,9 +82,9 @@ module _ (last : Option Name) where
 
     child_is : (e : Path × ℕ) (c : Name × ℕ) → child e ≡ Some c → e.0 ≡ p ++ c.0 ∷ []
     child_is e c =
-        elim (after_front p e.0) as (λ o. after_front p e.0 ≡ o → option_map (λ n. (n, e.1)) (past o) ≡ Some c → e.0 ≡ p ++ c.0 ∷ []) [
+        elim (after_front p e.0) as (λ o. after_front p e.0 ≡ o → option_map (with_label e.1) (past o) ≡ Some c → e.0 ≡ p ++ c.0 ∷ []) [
           | None ↦ λ a f. cc
-          | Some rest ↦ λ a. elim (past (Some rest)) as (λ o. past (Some rest) ≡ o → option_map (λ n. (n, e.1)) o ≡ Some c → e.0 ≡ p ++ c.0 ∷ []) [
+          | Some rest ↦ λ a. elim (past (Some rest)) as (λ o. past (Some rest) ≡ o → option_map (with_label e.1) o ≡ Some c → e.0 ≡ p ++ c.0 ∷ []) [
             | None ↦ λ g f. cc
             | Some n ↦ λ g f. let same : n ≡ c.0 = ap (λ (o : Option (Name × ℕ)). elim o as (λ _. Name) [ None ↦ n | Some x ↦ x.0 ]) f in past_rest e.0 rest n a g ∙ ap (λ (z : Name). p ++ z ∷ []) same
           ] refl
@@ -89,8 +92,8 @@ module _ (last : Option Name) where
 
     child_at : (q : Name) (label : ℕ) → child (p ++ q ∷ [], label) ≡ cond (is_past last q) (Some (q, label)) None
     child_at q label =
-        ap (λ (o : Option Path). option_map (λ n. (n, label)) (past o)) (after_front-append p (q ∷ []))
-        ∙ elim (is_past last q) as (λ b. option_map (λ n. (n, label)) (if b then Some q else None) ≡ cond b (Some (q, label)) None) [ true ↦ refl | false ↦ refl ]
+        ap (λ (o : Option Path). option_map (with_label label) (past o)) (after_front-append p (q ∷ []))
+        ∙ elim (is_past last q) as (λ b. option_map (with_label label) (if b then Some q else None) ≡ cond b (Some (q, label)) None) [ true ↦ refl | false ↦ refl ]
 
     pub child_found : (names : List (Path × ℕ)) (q : Name) → lookup (same_name q) (filter_map child names) ≡ cond (is_past last q) (label_at names (p ++ q ∷ [])) None
     child_found [] q = elim (is_past last q) as (λ b. ◌≡◌ {A = Option ℕ} None (cond b None None)) [ true ↦ refl | false ↦ refl ]

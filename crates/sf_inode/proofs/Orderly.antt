@@ -12,7 +12,7 @@ use Rattle.std.specs.FinMap.Entries.{below_all, is_sorted-put}
 use Rattle.sf_call.proofs.Ordered.{put_is, and_first, and_second}
 use Rattle.sf_call.proofs.Orders.{find_is}
 
-and_both : (a b : Bool) → T a → T b → T (a && b)
+pub and_both : (a b : Bool) → T a → T b → T (a && b)
 and_both true b p q = q
 and_both false b p q = p
 
