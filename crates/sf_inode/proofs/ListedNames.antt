@@ -1,5 +1,5 @@
 -- The names of a directory past a name, in the tree and in the store.
-use Rattle.std.specs.Prelude.{◌≡◌, ℕ, Bool, true, false, cond, T, ◌&&◌, List, [], ◌∷◌, ◌++◌, filter_map, map, option_map, option_and_then, Option, Some, None, if◌then◌else◌, refl}
+use Rattle.std.specs.Prelude.{◌≡◌, ℕ, true, false, cond, T, List, [], ◌∷◌, ◌++◌, filter_map, option_map, option_and_then, Option, Some, None, if◌then◌else◌, refl}
 use Rattle.std.proofs.Common.{sym, ap, subst, ◌∙◌}
 use Rattle.std.specs.List.{cons_option, AllByRecursion}
 use Rattle.std.specs.declared.cmp.Ordering.{Ordering}
@@ -17,7 +17,7 @@ use Rattle.sf_call.specs.Listings.{is_past, name_past}
 use Rattle.sf_call.proofs.LookUps.{lookup-put}
 use Rattle.sf_call.proofs.MovedNames.{is_equal, same_path_is, same_name_is, same_name_itself, after_front-append, append-after_front, path_cmp-front}
 use Rattle.sf_call.proofs.Ordered.{and_first, and_second}
-use Rattle.sf_inode.specs.Nodes.{put_past, sorted_past}
+use Rattle.sf_inode.specs.Nodes.{sorted_past}
 use Rattle.sf_inode.proofs.Keyed.{lookup_below}
 use Rattle.sf_inode.proofs.Orderly.{and_both, sorted_put}
 use Rattle.sf_inode.proofs.Shown.{same_path_itself}

@@ -1,11 +1,9 @@
 -- What the tree lists of a directory are the store's entries.
-use Rattle.std.specs.Prelude.{◌≡◌, ℕ, suc, zero, nat_eq, Bool, true, false, cond, T, List, [], ◌∷◌, ◌++◌, filter_map, map, take, is_some, option_map, option_and_then, Option, Some, None, refl}
-use Rattle.std.proofs.Common.{sym, ap, subst, ◌∙◌, eqb-true, eq-eqb}
+use Rattle.std.specs.Prelude.{◌≡◌, ℕ, suc, zero, nat_eq, Bool, true, false, cond, List, [], ◌∷◌, ◌++◌, filter_map, map, take, is_some, option_map, option_and_then, Option, Some, None, refl}
+use Rattle.std.proofs.Common.{sym, ap, ◌∙◌, eqb-true, eq-eqb}
 use Rattle.std.specs.List.{cons_option, find, AllByRecursion}
 use Rattle.std.specs.Option.{option_map_or}
 use Rattle.std.specs.Map.{lookup}
-use Rattle.std.specs.BTreeMap.{is_at}
-use Rattle.std.specs.FinMap.{is_sorted}
 use Rattle.std.proofs.lemmas.Map.Made.{lookup-map_values}
 use Rattle.sf_path.specs.Names.{Name, Path}
 use Rattle.sf_path.specs.Order.{same_name, same_path, name_cmp, path_cmp, name_total, path_total}
@@ -16,14 +14,12 @@ use Rattle.sf_call.specs.Tree.{Tree, directory_metadata, label_at, object_of}
 use Rattle.sf_call.specs.Listings as listings
 use Rattle.sf_call.specs.Listings.{is_past, name_past, listing, path_of}
 use Rattle.sf_call.proofs.Orders.{exact_names}
-use Rattle.sf_call.proofs.MovedNames.{same_path_is}
 use Rattle.sf_inode.specs.declared.node.Node.{Node}
-use Rattle.sf_inode.specs.declared.node.Content.{Content}
 use Rattle.sf_inode.specs.declared.node.Content.TheVariants as content
 use Rattle.sf_inode.specs.Nodes.{entry_in, entries_in, object_in, is_directory_content, sorted_past}
 use Rattle.sf_inode.specs.Steps.{walk}
 use Rattle.sf_inode.specs.Shows.{label_by, is_directory_by}
-use Rattle.sf_inode.specs.Stores.{StoreState, node_in, entry_of, entries_at, shown_node, shown_of, view_of}
+use Rattle.sf_inode.specs.Stores.{StoreState, node_in, entry_of, entries_at, shown_node, view_of}
 use Rattle.sf_inode.specs.Keeps.{Keeps}
 use Rattle.sf_inode.specs.Listed.{listed_entry}
 use Rattle.sf_inode.proofs.Orderly.{same_sorted, sorted_mapped}

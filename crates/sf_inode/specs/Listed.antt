@@ -1,5 +1,5 @@
 -- A directory's entries as they are listed.
-use Rattle.std.specs.Prelude.{ℕ, List, Option, Some, None, option_map}
+use Rattle.std.specs.Prelude.{ℕ, List, Option, option_map}
 use Rattle.sf_path.specs.Names.{Name}
 use Rattle.sf_wire.specs.declared.reply.Entry.{Entry}
 use Rattle.sf_call.specs.Listings as listings

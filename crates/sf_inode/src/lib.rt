@@ -9,7 +9,9 @@ mod node;
 mod store;
 
 pub use handle::{Marks, OpenHandle};
-pub use handle_laws::{closed_handles, counted_handles, found_handles, listed_entries, listed_handles, opened_handles};
+pub use handle_laws::{
+    closed_handles, counted_handles, found_handles, listed_entries, listed_handles, opened_handles,
+};
 pub use laws::{new_path, other_metadata, shown_trees};
 pub use node::NewNode;
 pub use store::Store;
