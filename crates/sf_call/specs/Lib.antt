@@ -15,3 +15,4 @@ pub mod Histories
 pub mod SameCalls
 pub mod Answers
 pub mod Examples
+pub mod Unanswered

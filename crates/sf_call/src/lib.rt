@@ -2,6 +2,7 @@
 #![tactic(auto)]
 
 mod answer;
+mod call;
 mod cases;
 mod fault;
 mod handle;
@@ -13,6 +14,7 @@ mod record;
 mod request;
 
 pub use answer::Answer;
+pub use call::{Call, Calls, Stage};
 pub use cases::{file_cases, history_cases, listing_cases, mkdir_cases, stat_cases};
 pub use fault::CoreFault;
 pub use handle::Handle;

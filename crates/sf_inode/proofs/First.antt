@@ -17,21 +17,21 @@ use Rattle.sf_inode.specs.Stores.{StoreState, IsFirst, node_in, entry_of, shown_
 use Rattle.sf_inode.proofs.Sound.{is_directory_shown}
 use Rattle.sf_inode.proofs.Shown.{nat_same}
 
-abbrev root_node : Node
+abbrev pub root_node : Node
 root_node = record { label = 0; metadata = made_at 0o755 0; content = content.Directory []; holder = None; named = true; opens = 0 }
 
 abbrev root_object : Object
 root_object = Directory (made_at 0o755 0)
 
 module _ (s : StoreState) (f : IsFirst s) where
-  root_or_none : (x : ℕ) (P : Option Node → Type 0) → (s.root ≡ x → P (Some root_node)) → P None → P (node_in s.nodes x)
+  pub root_or_none : (x : ℕ) (P : Option Node → Type 0) → (s.root ≡ x → P (Some root_node)) → P None → P (node_in s.nodes x)
   root_or_none x P here none =
       elim (nat_eq s.root x) as (λ b. nat_eq s.root x ≡ b → P (node_in s.nodes x)) [
         | true ↦ λ e. subst P (sym (ap (node_in s.nodes) (sym (eqb-true s.root x e)) ∙ f.root)) (here (eqb-true s.root x e))
         | false ↦ λ e. subst P (sym (f.others x (λ h. let g = eq-eqb s.root x (sym h) in cc))) none
       ] refl
 
-  no_steps : (x : ℕ) (n : Name) → entry_of s.nodes x n ≡ None
+  pub no_steps : (x : ℕ) (n : Name) → entry_of s.nodes x n ≡ None
   no_steps x n = root_or_none x (λ o. option_and_then (λ (z : Node). entry_in z.content n) o ≡ None) (λ _. refl) refl
 
   shown_root : shown_of s.nodes s.root ≡ Some (0, root_object)

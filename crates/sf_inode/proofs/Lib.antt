@@ -15,6 +15,15 @@ pub mod First
 pub mod StoreHandles
 pub mod StoreBytes
 pub mod Openings
+pub mod Counted
+pub mod CountedSteps
+pub mod KeepsFirst
+pub mod KeepsEdited
+pub mod Forgotten
+pub mod KeepsNames
+pub mod KeepsMoved
+pub mod Finding
+pub mod Bare
 pub mod Orderly
 pub mod Counts
 pub mod Alike
@@ -22,6 +31,8 @@ pub mod Opening
 pub mod Closing
 pub mod Leaving
 pub mod ClosingAll
+pub mod Untouched
+pub mod KeepsShown
 pub mod SessionHandles
 pub mod ListedNames
 pub mod Listings

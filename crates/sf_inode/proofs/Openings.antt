@@ -1,5 +1,5 @@
 -- What opens a node of a kept store, and what names it.
-use Rattle.std.specs.Prelude.{◌≡◌, ℕ, ◌+◌, nat_eq, Bool, true, false, cond, ◌||◌, List, [], ◌∷◌, option_map, Option, Some, None, refl}
+use Rattle.std.specs.Prelude.{◌≡◌, ℕ, ◌+◌, nat_eq, Bool, true, false, cond, ◌||◌, List, [], ◌∷◌, option_map, Some, None, refl}
 use Rattle.std.proofs.Common.{sym, ap, ◌∙◌, arith, eqb-true}
 use Rattle.std.specs.List.{list_any, count_by}
 use Rattle.std.proofs.lemmas.List.Sums.{sum_by-cons}
@@ -83,8 +83,30 @@ module _ (s : StoreState) (t : Tree) (k : Keeps s t) where
   entry_node x c n there =
       elim (node_in s.nodes c) as (λ o. node_in s.nodes c ≡ o → (node : Node) × (o ≡ Some node) × (node.named ≡ true)) [
         | None ↦ λ e. absurd (k.shows.by.sound.to x c n there (ap (option_map shown_node) e))
-        | Some node ↦ λ e. (node, refl, elim node.named as (λ b. node.named ≡ b → b ≡ true) [
-          | true ↦ λ _. refl
-          | false ↦ λ f. absurd ((k.unlinked c node e f).free x n there)
-        ] refl)
+        | Some node ↦ λ e. (
+          node,
+          refl,
+          elim node.named as (λ b. node.named ≡ b → b ≡ true) [
+            | true ↦ λ _. refl
+            | false ↦ λ f. absurd ((k.unlinked c node e f).free x n there)
+          ] refl,
+        )
+      ] refl
+
+  -- a label without an object opens nowhere
+  pub unopened : (label : ℕ) → object_of t.objects label ≡ None → times_open t label ≡ 0
+  unopened label none =
+      elim (nat_eq (times_open t label) 0) as (λ b. nat_eq (times_open t label) 0 ≡ b → times_open t label ≡ 0) [
+        | true ↦ λ e. eqb-true (times_open t label) 0 e
+        | false ↦ λ e.
+            let o = opener label e in
+            elim (handle_at s o.session o.number) as (λ h. handle_at s o.session o.number ≡ h → option_map (shown_handle o.session) h ≡ Some o.handle → times_open t label ≡ 0) [
+              | None ↦ λ f g. absurd (cc)
+              | Some h ↦ λ f g.
+                  let same : shown_handle o.session h ≡ o.handle = cc in
+                  let w = k.led o.session o.number h f in
+                  let there = object_there h.node w.0 w.1.0 in
+                  let is : w.0.label ≡ label = w.1.1 ∙ ap (λ (x : Handle). x.label) same ∙ o.same in
+                  let gone = ap (object_of t.objects) is ∙ none in absurd (cc)
+            ] refl o.opens
       ] refl

@@ -17,11 +17,11 @@ use Rattle.sf_inode.specs.Shows.{View, Shows}
 use Rattle.sf_inode.specs.Stores.{StoreState, node_in, view_of, edited, edited_by, with_nodes, looked_up}
 use Rattle.sf_inode.proofs.StoreLaws.{shows_edited, view_unseen}
 
-entry_stored : (st : Stored) (c : Content) (m : Name) → entry_in (with_stored st c) m ≡ entry_in c m
+pub entry_stored : (st : Stored) (c : Content) (m : Name) → entry_in (with_stored st c) m ≡ entry_in c m
 entry_stored st (content.Directory es) m = refl
 entry_stored st (content.File contents) m = refl
 
-kind_stored : (st : Stored) (k : Metadata) (c : Content) → is_some (directory_metadata (object_in k c)) ≡ is_some (directory_metadata (object_in k (with_stored st c)))
+pub kind_stored : (st : Stored) (k : Metadata) (c : Content) → is_some (directory_metadata (object_in k c)) ≡ is_some (directory_metadata (object_in k (with_stored st c)))
 kind_stored st k (content.Directory es) = refl
 kind_stored st k (content.File contents) = refl
 

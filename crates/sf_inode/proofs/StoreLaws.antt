@@ -109,7 +109,7 @@ more_says n m c es free =
     find_is (es ++ (n, c) ∷ []) m ∙ find-append name_cmp name_total es n c m (sym (find_is es n) ∙ free)
     ∙ ap (λ b. cond b (Some c) (find name_cmp m es)) (flip_name m n) ∙ ap (cond (same_name n m) (Some c)) (sym (find_is es m))
 
-object_less : (n : Name) (m : Metadata) (c : Content) → object_in m (less_content n c) ≡ object_in m c
+pub object_less : (n : Name) (m : Metadata) (c : Content) → object_in m (less_content n c) ≡ object_in m c
 object_less n m (content.Directory es) = refl
 object_less n m (content.File contents) = refl
 
@@ -137,7 +137,7 @@ shows_edited f s t id node h here entries label kind =
     refl (λ a b. refl)
     (shows_set (view_of s) t h id node.label (object_in node.metadata node.content) o (ap (option_map shown_node) here) kind)
 
-kind_metadata : (m k : Metadata) (c : Content) → is_some (directory_metadata (object_in m c)) ≡ is_some (directory_metadata (object_in k c))
+pub kind_metadata : (m k : Metadata) (c : Content) → is_some (directory_metadata (object_in m c)) ≡ is_some (directory_metadata (object_in k c))
 kind_metadata m k (content.Directory es) = refl
 kind_metadata m k (content.File contents) = refl
 
@@ -193,7 +193,7 @@ module _ (before after : List (Option Node)) (c : ℕ) (put : (i : ℕ) → node
 
 -- a node is changed in what can't be seen, and goes where nothing uses it any more
 module _ (f : Node → Node) (s : StoreState) (c : ℕ) (node : Node) (here : node_in s.nodes c ≡ Some node) (entries : (m : Name) → entry_in (f node).content m ≡ entry_in node.content m) (same : shown_node (f node) ≡ shown_node node) where
-  changed_there : node_in (edited f s c).nodes c ≡ Some (f node)
+  pub changed_there : node_in (edited f s c).nodes c ≡ Some (f node)
   changed_there = node_in-edited f s c node here c ∙ ap (λ b. cond b (Some (f node)) (node_in s.nodes c)) (eq-eqb c c refl)
 
   pub view_unseen : view_of (edited f s c) ≡ view_of s

@@ -53,7 +53,7 @@ module _ (g : Content → Content) (s : StoreState) (d : ℕ) (n : Name) (c : �
       refl (λ a b. refl)
 
 -- a node is still there after another was changed
-still_there : (f : Node → Node) (s : StoreState) (d x : ℕ) (above node : Node) → node_in s.nodes d ≡ Some above → node_in s.nodes x ≡ Some node → (v : Node) × (node_in (edited f s d).nodes x ≡ Some v)
+pub still_there : (f : Node → Node) (s : StoreState) (d x : ℕ) (above node : Node) → node_in s.nodes d ≡ Some above → node_in s.nodes x ≡ Some node → (v : Node) × (node_in (edited f s d).nodes x ≡ Some v)
 still_there f s d x above node here there =
     elim (nat_eq d x) as (λ b. nat_eq d x ≡ b → (v : Node) × (node_in (edited f s d).nodes x ≡ Some v)) [
       | true ↦ λ e. (f above, node_in-edited f s d above here x ∙ ap (λ b. cond b (Some (f above)) (node_in s.nodes x)) e)
@@ -68,14 +68,14 @@ module _ (s : StoreState) (t : Tree) (h : Shows (view_of s) t) (po : Path) (od :
     (at_from : walk (entry_of s.nodes) s.root po ≡ Some od) (here_from : node_in s.nodes od ≡ Some from) (there : entry_of s.nodes od on ≡ Some c)
     (at_to : walk (entry_of s.nodes) s.root pn ≡ Some nd) (here_to : node_in s.nodes nd ≡ Some above) (dir : above.content ≡ content.Directory es)
     (not_inside : after_front (po ++ on ∷ []) (pn ++ nn ∷ []) ≡ None) where
-  is_to : is_directory_by (shown_of s.nodes) nd ≡ true
+  pub is_to : is_directory_by (shown_of s.nodes) nd ≡ true
   is_to = ap (λ (v : Option Node). is_some (option_and_then (λ (w : ℕ × Object). directory_metadata w.1) (option_map shown_node v))) here_to ∙ ap (λ (z : Content). is_some (directory_metadata (object_in above.metadata z))) dir
 
-  entries_to : (m : Name) → entry_of s.nodes nd m ≡ lookup (same_name m) es
+  pub entries_to : (m : Name) → entry_of s.nodes nd m ≡ lookup (same_name m) es
   entries_to m = ap (option_and_then (λ (z : Node). entry_in z.content m)) here_to ∙ ap (λ (z : Content). entry_in z m) dir
 
   -- the entries are two
-  apart : (x : ℕ) (m : Name) → nat_eq od x && same_name on m ≡ true → nat_eq nd x && same_name nn m ≡ true → ⊥
+  pub apart : (x : ℕ) (m : Name) → nat_eq od x && same_name on m ≡ true → nat_eq nd x && same_name nn m ≡ true → ⊥
   apart x m a b =
       let p = both_true (nat_eq od x) (same_name on m) a in
       let q = both_true (nat_eq nd x) (same_name nn m) b in
@@ -86,7 +86,7 @@ module _ (s : StoreState) (t : Tree) (h : Shows (view_of s) t) (po : Path) (od :
       let self = after_front-self (po ++ on ∷ []) in cc
 
   module _ (g : Content → Content) (says : (m : Name) → entry_in (g above.content) m ≡ cond (same_name nn m) (Some c) (entry_in above.content m)) (keeps : object_in above.metadata (g above.content) ≡ object_in above.metadata above.content) where
-    view_moved : view_of (entry_taken (edited (with_content g) s nd) od on) ≡ with_step (with_step (view_of s) od on None) nd nn (Some c)
+    pub view_moved : view_of (entry_taken (edited (with_content g) s nd) od on) ≡ with_step (with_step (view_of s) od on None) nd nn (Some c)
     view_moved =
         let mid = edited (with_content g) s nd in
         let f = still_there (with_content g) s nd od above from here_to here_from in
@@ -110,7 +110,7 @@ module _ (s : StoreState) (t : Tree) (h : Shows (view_of s) t) (po : Path) (od :
     stood_step : entry_of s.nodes nd nn ≡ Some target
     stood_step = entries_to nn ∙ stood
 
-    is_relinked : relinked s od on nd nn ≡ forgotten (entry_taken (edited (with_content (set_content nn c)) s nd) od on) target
+    pub is_relinked : relinked s od on nd nn ≡ forgotten (entry_taken (edited (with_content (set_content nn c)) s nd) od on) target
     is_relinked = ap (λ o. relinked_from s od on nd nn o (entry_of s.nodes nd nn)) there ∙ ap (relinked_from s od on nd nn (Some c)) stood_step
 
     says_set : (m : Name) → entry_in (set_content nn c above.content) m ≡ cond (same_name nn m) (Some c) (entry_in above.content m)
@@ -119,10 +119,10 @@ module _ (s : StoreState) (t : Tree) (h : Shows (view_of s) t) (po : Path) (od :
     keeps_set : object_in above.metadata (set_content nn c above.content) ≡ object_in above.metadata above.content
     keeps_set = subst (λ (z : Content). object_in above.metadata (set_content nn c z) ≡ object_in above.metadata z) (sym dir) refl
 
-    view_set : view_of (entry_taken (edited (with_content (set_content nn c)) s nd) od on) ≡ with_step (with_step (view_of s) od on None) nd nn (Some c)
+    pub view_set : view_of (entry_taken (edited (with_content (set_content nn c)) s nd) od on) ≡ with_step (with_step (view_of s) od on None) nd nn (Some c)
     view_set = view_moved (set_content nn c) says_set keeps_set
 
-    target_there : node_in (entry_taken (edited (with_content (set_content nn c)) s nd) od on).nodes target ≡ Some gone
+    pub target_there : node_in (entry_taken (edited (with_content (set_content nn c)) s nd) od on).nodes target ≡ Some gone
     target_there =
         let mid = edited (with_content (set_content nn c)) s nd in
         let f = still_there (with_content (set_content nn c)) s nd od above from here_to here_from in

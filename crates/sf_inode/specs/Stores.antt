@@ -13,7 +13,7 @@ use Rattle.sf_inode.specs.declared.node.Node.{Node}
 use Rattle.sf_inode.specs.declared.node.Content.TheVariants as content
 use Rattle.sf_inode.specs.declared.handle.OpenHandle.{OpenHandle}
 use Rattle.sf_inode.specs.declared.handle.Marks.{Marks}
-use Rattle.sf_inode.specs.Nodes.{entry_in, entries_in, object_in, is_bare_content, less_content, more_content, set_content, stored_in, is_file_content, with_stored, with_content, with_metadata, with_holder, without_name, with_opened, is_unused}
+use Rattle.sf_inode.specs.Nodes.{entry_in, entries_in, object_in, is_directory_content, is_bare_content, less_content, more_content, set_content, stored_in, is_file_content, with_stored, with_content, with_metadata, with_holder, without_name, with_opened, is_unused}
 use Rattle.sf_inode.specs.Shows.{View}
 
 -- a node or nothing at each number from 0 on, each session's handles by their numbers, and how many look-ups were made
@@ -119,6 +119,13 @@ entries_at nodes id = option_map_or (λ node. entries_in node.content) (node_in 
 
 abbrev pub is_file_at : List (Option Node) → ℕ → Bool
 is_file_at nodes id = option_map_or (λ node. is_file_content node.content) (node_in nodes id) false
+
+abbrev pub is_directory_at : List (Option Node) → ℕ → Bool
+is_directory_at nodes id = option_map_or (λ node. is_directory_content node.content) (node_in nodes id) false
+
+-- a file or an empty directory
+abbrev pub is_bare_at : List (Option Node) → ℕ → Bool
+is_bare_at nodes id = option_map_or (λ node. is_bare_content node.content) (node_in nodes id) false
 
 -- with other bytes of a file, and the room that they have in another state
 abbrev pub bytes_set : StoreState → ℕ → List ℕ → StoreState → StoreState

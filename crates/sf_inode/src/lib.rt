@@ -12,7 +12,10 @@ pub use handle::{Marks, OpenHandle};
 pub use handle_laws::{
     closed_handles, counted_handles, found_handles, listed_entries, listed_handles, opened_handles,
 };
-pub use laws::{new_path, other_metadata, shown_trees};
+pub use laws::{
+    changed_object, found_paths, gone_path, kept_nodes, kept_trees, moved_path, new_path,
+    other_nodes, same_tree, shown_nodes,
+};
 pub use node::NewNode;
 pub use store::Store;
 

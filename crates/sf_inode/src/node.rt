@@ -185,6 +185,7 @@ impl Node {
     pub(crate) fn set_len(&mut self, n: u64) -> Result<(), AllocError>
         ensures ok { OnOk result (self.new ≡ with_bytes (resized (stored_in self.old.content).bytes n) self.new.content self.old) }
         ensures room { (stored_in self.old.content).room ≤ (stored_in self.new.content).room }
+        ensures enough { n ≤ (stored_in self.old.content).room → IsOk result }
         ensures err { OnErr result (self.new ≡ self.old) }
     {
         match &mut self.content {

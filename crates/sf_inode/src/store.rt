@@ -1,10 +1,10 @@
 //! The nodes, and what is open.
 
-ghost use Rattle.std.specs.Prelude.{◌≡◌, ◌+◌, ◌<◌, ◌≤◌, ◌^◌, ◌-◌, min, length, take, drop, Some, None, true, false, IfOk, OnOk, OnErr, option_map, option_and_then};
+ghost use Rattle.std.specs.Prelude.{◌≡◌, ◌+◌, ◌<◌, ◌≤◌, ◌^◌, ◌-◌, min, length, take, drop, Some, None, true, false, IsOk, IfOk, OnOk, OnErr, option_map, option_and_then};
 ghost use Rattle.std.specs.Option.{option_map_or};
 ghost use Rattle.sf_call.specs.Attributes.{attrs_of, with_parts, modified_at};
-ghost use Rattle.sf_inode.specs.Nodes.{new_node, object_in, is_bare_content, is_directory_content, with_metadata, with_holder, with_content, set_content, sorted_past};
-ghost use Rattle.sf_inode.specs.Stores.{IsFirst, Inserted, node_in, entry_of, holder_of, looked_up, edited, entry_taken, entry_put, released, forgotten, let_go, unlinked, relinked, stored_of, is_file_at, bytes_set, opened, handle_put, handle_at, handles_of, handle_dropped, handle_listed, entries_at, closed, each_let_go, closed_all};
+ghost use Rattle.sf_inode.specs.Nodes.{new_node, object_in, with_metadata, with_holder, with_content, set_content, sorted_past};
+ghost use Rattle.sf_inode.specs.Stores.{IsFirst, Inserted, node_in, entry_of, holder_of, looked_up, edited, entry_taken, entry_put, released, forgotten, let_go, unlinked, relinked, stored_of, is_file_at, is_directory_at, is_bare_at, bytes_set, opened, handle_put, handle_at, handles_of, handle_dropped, handle_listed, entries_at, closed, each_let_go, closed_all};
 ghost use Rattle.std.specs.Option.{option_copied};
 ghost use Rattle.sf_call.specs.Contents.{resized, written};
 ghost use Rattle.sf_block.specs.Contents.{count_from, with_front};
@@ -68,6 +68,11 @@ impl Store {
         })
     }
 
+    /// What the store takes its memory from.
+    pub fn alloc(&self) -> Global {
+        self.alloc
+    }
+
     /// The root's number, which stays.
     pub fn root(&self) -> NodeId
         ensures { result ≡ self.now.root }
@@ -110,9 +115,19 @@ impl Store {
         }
     }
 
+    /// Whether a node is there and is a directory.
+    pub fn is_directory(&self, node: NodeId) -> bool
+        ensures { result ≡ is_directory_at self.now.nodes node }
+    {
+        match self.nodes.get(node) {
+            Some(it) => it.is_directory(),
+            None => false,
+        }
+    }
+
     /// Whether a node is there and has no entries; a file has none.
     pub fn is_empty(&self, node: NodeId) -> bool
-        ensures { result ≡ option_map_or (λ it. is_bare_content it.content) (node_in self.now.nodes node) false }
+        ensures { result ≡ is_bare_at self.now.nodes node }
     {
         match self.nodes.get(node) {
             Some(it) => it.is_bare(),
@@ -322,6 +337,7 @@ impl Store {
     /// Cuts a file's bytes at a size, or fills them up to it with zeros.
     pub fn set_len(&mut self, node: NodeId, n: u64) -> Result<(), AllocError>
         ensures ok { OnOk result (self.new ≡ bytes_set self.old node (resized (stored_of self.old.nodes node).bytes n) self.new) }
+        ensures enough { n ≤ (stored_of self.old.nodes node).room → IsOk result }
         ensures err { OnErr result (self.new ≡ self.old) }
     {
         match self.nodes.get_mut(node) {

@@ -58,6 +58,8 @@ fn find_what_was_inserted(rt: HostRuntime) -> Result<(), Fail> {
     let a = store.insert(root, name(alloc, b"/a")?, made(1, FileType::Directory))?;
     let b = store.insert(a, name(alloc, b"/b")?, made(2, FileType::File))?;
     assert!(rt; !store.is_empty(root));
+    assert!(rt; store.is_directory(a));
+    assert!(rt; !store.is_directory(b));
     assert_eq!(rt; store.find(root, &name(alloc, b"/a")?), Some(a));
     assert_eq!(rt; store.find(a, &name(alloc, b"/b")?), Some(b));
     assert_eq!(rt; store.find(root, &name(alloc, b"/b")?), None);
@@ -108,6 +110,36 @@ fn bytes_outlive_the_name(rt: HostRuntime) -> Result<(), Fail> {
     assert_eq!(rt; store.handles(3), 0);
     store.close_all(4);
     assert_eq!(rt; store.attrs(a), None);
+    Ok(())
+}
+
+/// A file's bytes, with a gap before those that were written.
+#[test]
+fn written_bytes_are_read(rt: HostRuntime) -> Result<(), Fail> {
+    let alloc = rt.alloc();
+    let mut store = Store::new(alloc)?;
+    let root = store.root();
+    let metadata = Metadata {
+        owner: Owner { uid: 1, gid: 2 },
+        permissions: 0o644,
+        times: Times { atime: 5, mtime: 5 },
+    };
+    let file_type = FileType::File;
+    let new = NewNode {
+        label: 1,
+        file_type,
+        metadata,
+    };
+    let a = store.insert(root, name(alloc, b"/a")?, new)?;
+    store.reserve_for(a, 1, 2)?;
+    store.write(a, 1, b"xy");
+    assert_eq!(rt; front(&store, a), *b"\0xy\0");
+    let mut rest = [7; 2];
+    assert_eq!(rt; store.read(a, 2, &mut rest), 1);
+    assert_eq!(rt; rest, [b'y', 7]);
+    store.set_len(a, 2)?;
+    assert_eq!(rt; size(&rt, &store, a), Some(2));
+    assert_eq!(rt; front(&store, a), *b"\0x\0\0");
     Ok(())
 }
 

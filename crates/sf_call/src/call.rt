@@ -1,0 +1,97 @@
+//! Calls that wait for their answers.
+
+ghost use Rattle.std.specs.Prelude.{◌≡◌, [], OnOk, OnErr};
+ghost use Rattle.std.specs.Option.{option_copied};
+ghost use Rattle.std.specs.Ordering.{nat_cmp};
+ghost use Rattle.std.specs.Map.{lookup, remove_entry};
+ghost use Rattle.std.specs.BTreeMap.{is_at, insert_entry};
+ghost use Rattle.sf_call.specs.Unanswered.{staged};
+
+use crate::request::Request;
+use std::alloc::{AllocError, Global};
+use std::collections::BTreeMap;
+use std::marker::Model;
+
+/// How far a call has walked along the path of its request.
+#[derive(Clone, Copy, Debug, PartialEq, Eq)]
+pub enum Stage {
+    /// It holds nothing yet.
+    Fresh,
+    /// It holds the directory that so many names of its path lead to from the root.
+    At {
+        walked: usize,
+        /// The directory's number in the store.
+        node: usize,
+    },
+}
+
+/// A call of a session that has no answer yet.
+#[derive(Debug, Drop)]
+pub struct Call {
+    /// Above 0, and no other call's.
+    pub number: u64,
+    pub session: u64,
+    /// In seconds since 1970.
+    pub moment: u32,
+    pub request: Request,
+    pub stage: Stage,
+}
+
+/// The unanswered calls by rising number.
+#[derive(Drop)]
+pub struct Calls {
+    calls: BTreeMap<u64, Call>,
+}
+
+impl Model for Calls {
+    ghost use Rattle.std.specs.Prelude.{List, ℕ};
+    ghost use Rattle.sf_call.specs.declared.call.Call.{Call};
+
+    ghost Value = { List (ℕ × Call) };
+
+    ghost view = { λ calls. calls.calls.entries };
+}
+
+impl Calls {
+    /// No calls.
+    pub fn new(alloc: Global) -> Calls
+        ensures { result ≡ [] }
+    {
+        Calls {
+            calls: BTreeMap::new(alloc),
+        }
+    }
+
+    /// Adds a call; one of the same number goes.
+    pub fn insert(&mut self, call: Call) -> Result<(), AllocError>
+        ensures ok { OnOk result (self.new ≡ insert_entry nat_cmp self.old call.number call) }
+        ensures err { OnErr result (self.new ≡ self.old) }
+    {
+        self.calls.insert(call.number, call)?;
+        Ok(())
+    }
+
+    /// The call of a number.
+    pub fn get(&self, number: u64) -> Option<&Call>
+        ensures { option_copied result ≡ lookup (is_at (nat_cmp number)) self.now }
+    {
+        self.calls.get(&number)
+    }
+
+    /// The call of a number has come to a stage. Takes no memory.
+    pub fn set_stage(&mut self, number: u64, stage: Stage)
+        ensures { self.new ≡ staged self.old number stage }
+    {
+        if let Some(call) = self.calls.get_mut(&number) {
+            call.stage = stage;
+        }
+    }
+
+    /// Takes out the call of a number.
+    pub fn remove(&mut self, number: u64) -> Option<Call>
+        ensures call { result ≡ lookup (is_at (nat_cmp number)) self.old }
+        ensures rest { self.new ≡ remove_entry (is_at (nat_cmp number)) self.old }
+    {
+        self.calls.remove(&number)
+    }
+}

@@ -1,0 +1,3 @@
+pub mod WaySteps
+pub mod LookUps
+pub mod Fits

@@ -1,0 +1,20 @@
+-- Look-ups, one more.
+use Rattle.std.proofs.Common.{◌≡◌, ℕ, ◌+◌, ◌≤◌, zero, suc, refl, sym, ap, ◌∙◌, arith}
+use Rattle.sf_inode.specs.Stores.{StoreState, looked_up}
+use Rattle.sf_walk.specs.Served.{LookedUp, after_look_ups}
+
+pub looked_none : (s : StoreState) → LookedUp s s 0
+looked_none s = record { count = 0; few = omega arith; state = refl }
+
+pub looked_more : (old mid new : StoreState) (most : ℕ) → LookedUp old mid most → new ≡ looked_up mid → LookedUp old new (most + 1)
+looked_more old mid new most h e = record { count = suc h.count; few = let f = h.few in omega arith; state = e ∙ ap looked_up h.state }
+
+pub looked_less : (old new : StoreState) (few most : ℕ) → LookedUp old new few → few ≤ most → LookedUp old new most
+looked_less old new few most h le = record { count = h.count; few = let f = h.few in omega arith; state = h.state }
+
+after_nodes : (k : ℕ) (s : StoreState) → (after_look_ups k s).nodes ≡ s.nodes
+after_nodes zero s = refl
+after_nodes (suc k) s = after_nodes k s
+
+pub looked_nodes : (old new : StoreState) (most : ℕ) → LookedUp old new most → new.nodes ≡ old.nodes
+looked_nodes old new most h = ap (λ (s : StoreState). s.nodes) h.state ∙ after_nodes h.count old

@@ -1,0 +1,55 @@
+-- Where a path leads in the store.
+use Rattle.std.specs.Prelude.{ℕ, ◌-◌, if◌then◌else◌, List, [], ◌∷◌, length, Option, slice_index_or}
+use Rattle.std.specs.Option.{option_map_or}
+use Rattle.sf_path.specs.Names.{Name, Path}
+use Rattle.sf_call.specs.declared.metadata.Metadata.{Metadata}
+use Rattle.sf_call.specs.declared.request.Request.{Request}
+use Rattle.sf_call.specs.declared.request.Request.TheVariants.{Stat, SetStat, Mkdir, Rmdir, Remove, OpenDir, Open, Close, FStat, FSetStat, Read, Write, ReadDir, Rename, PosixRename}
+use Rattle.sf_call.specs.Tree.{Found}
+use Rattle.sf_call.specs.Tree.Found.{DirectoryAt, FileAt}
+use Rattle.sf_inode.specs.declared.node.Node.{Node}
+use Rattle.sf_inode.specs.declared.node.Content.{Content}
+use Rattle.sf_inode.specs.declared.node.Content.TheVariants as content
+use Rattle.sf_inode.specs.Stores.{entry_of, is_directory_at}
+use Rattle.sf_walk.specs.declared.finding.Located.{Located}
+use Rattle.sf_walk.specs.declared.finding.Located.TheVariants as located
+
+-- a name is missing: the last one of the path, or one on the way
+abbrev pub missing : ℕ → Path → Located
+missing x [] = located.Missing x
+missing x (m ∷ p) = located.NoWay
+
+-- on from the node x, whose entry stands in the directory `above`
+abbrev pub way_from : List (Option Node) → ℕ → ℕ → Path → Located
+way_from nodes above x [] = located.At above x
+way_from nodes above x (n ∷ p) = if is_directory_at nodes x then option_map_or (λ y. way_from nodes x y p) (entry_of nodes x n) (missing x p) else located.NoWay
+
+-- the last name of a path
+abbrev pub last_of : Path → Name
+last_of path = slice_index_or path (length path - 1) []
+
+-- what is found where a node is
+abbrev pub found_content : ℕ → Metadata → Content → Found
+found_content label m (content.Directory entries) = DirectoryAt label m
+found_content label m (content.File contents) = FileAt label m contents.bytes
+
+abbrev pub found_node : Node → Found
+found_node node = found_content node.label node.metadata node.content
+
+-- how many names a request's path has; a rename isn't walked
+abbrev pub names_of : Request → ℕ
+names_of (Stat path) = length path
+names_of (SetStat path attrs) = length path
+names_of (Mkdir path attrs) = length path
+names_of (Rmdir path) = length path
+names_of (Remove path) = length path
+names_of (OpenDir path) = length path
+names_of (Open path flags attrs) = length path
+names_of (Close handle) = 0
+names_of (FStat handle) = 0
+names_of (FSetStat handle attrs) = 0
+names_of (Read handle offset len) = 0
+names_of (Write handle offset bytes) = 0
+names_of (ReadDir handle) = 0
+names_of (Rename old new) = 0
+names_of (PosixRename old new) = 0

@@ -1,0 +1,173 @@
+//! Calls that open.
+
+ghost use Rattle.std.specs.Prelude.{◌≡◌, ◌<◌, [], length, Some, None, true, IfOk, OnOk, OnErr};
+ghost use Rattle.sf_call.specs.declared.metadata.FileType.TheVariants as file_type;
+ghost use Rattle.sf_call.specs.Tree.{Tree, found_at, place_at};
+ghost use Rattle.sf_call.specs.Calls.{has_all_handles, open_directory, open_present, open_file, unless_root};
+ghost use Rattle.sf_inode.specs.declared.node.Node.{Node};
+ghost use Rattle.sf_inode.specs.Stores.{node_in, entry_of, is_directory_at, bytes_set};
+ghost use Rattle.sf_inode.specs.Keeps.{Keeps};
+ghost use Rattle.sf_walk.specs.Ways.{last_of, found_node};
+ghost use Rattle.sf_walk.specs.Opening.{marks_of, OpenedNew};
+ghost use Rattle.sf_walk.specs.Served.{IsServed, IsAlike, LooksUp, HoldersStay, IsNewNumber};
+
+use crate::finding::{Located, locate};
+use crate::path_calls::insert_last;
+use sf_call::{FileType, MAX_HANDLES, Metadata};
+use sf_inode::{Marks, NewNode, NodeId, Store};
+use sf_path::Path;
+use sf_wire::{Attrs, OpenFlags, Reply, StatusCode};
+use std::alloc::AllocError;
+
+/// A directory's handle has no marks.
+const NO_MARKS: Marks = Marks {
+    read: false,
+    write: false,
+    append: false,
+};
+
+/// With neither READ nor WRITE a handle reads.
+fn file_marks(flags: OpenFlags) -> Marks
+    ensures { result ≡ marks_of flags }
+{
+    Marks {
+        read: flags.read || !flags.write,
+        write: flags.write,
+        append: flags.append,
+    }
+}
+
+fn has_all_handles(store: &Store, session: u64) -> bool
+    ensures { (t : Tree) → Keeps store.now t → result ≡ has_all_handles t session }
+{
+    store.handles(session) >= MAX_HANDLES
+}
+
+/// OPENDIR.
+pub(crate) fn open_directory(
+    store: &mut Store,
+    session: u64,
+    number: u64,
+    path: &Path,
+) -> Result<Reply, AllocError>
+    ensures served { (t : Tree) → Keeps store.old t → IsNewNumber t number → IfOk result (λ reply. IsServed store.new t (open_directory t session number (found_at t path.now)) reply) }
+    ensures err { OnErr result (IsAlike store.old store.new) }
+    ensures look_ups { LooksUp store.old store.new (length path.now) }
+    ensures holders { HoldersStay store.old store.new }
+{
+    match locate(store, path) {
+        Located::NoWay => Ok(Reply::Status(StatusCode::NoSuchFile)),
+        Located::Missing { parent: _ } => Ok(Reply::Status(StatusCode::NoSuchFile)),
+        Located::At { parent: _, node } => {
+            if !store.is_directory(node) || has_all_handles(store, session) {
+                return Ok(Reply::Status(StatusCode::Failure));
+            }
+            store.open(session, number, node, NO_MARKS)?;
+            Ok(Reply::Handle(number))
+        }
+    }
+}
+
+/// OPEN. A new file's label is the call's number.
+pub(crate) fn open(
+    store: &mut Store,
+    session: u64,
+    number: u64,
+    moment: u32,
+    path: &Path,
+    flags: OpenFlags,
+    attrs: &Attrs,
+) -> Result<Reply, AllocError>
+    ensures served { (t : Tree) → Keeps store.old t → IsNewNumber t number → IfOk result (λ reply. IsServed store.new t (unless_root path.now (open_file t session number moment path.now flags attrs.now (place_at t path.now))) reply) }
+    ensures err { OnErr result (IsAlike store.old store.new) }
+    ensures look_ups { LooksUp store.old store.new (length path.now) }
+    ensures holders { HoldersStay store.old store.new }
+{
+    if path.is_root() {
+        return Ok(Reply::Status(StatusCode::Failure));
+    }
+    match locate(store, path) {
+        Located::NoWay => Ok(Reply::Status(StatusCode::NoSuchFile)),
+        Located::Missing { parent } => {
+            if !flags.create {
+                return Ok(Reply::Status(StatusCode::NoSuchFile));
+            }
+            if has_all_handles(store, session) {
+                return Ok(Reply::Status(StatusCode::Failure));
+            }
+            let metadata = Metadata::new_object(0o644, moment, attrs);
+            open_new(store, session, number, parent, path, flags, metadata)?;
+            store.touch(parent, moment);
+            Ok(Reply::Handle(number))
+        }
+        Located::At { parent: _, node } => {
+            if flags.create && flags.exclusive {
+                return Ok(Reply::Status(StatusCode::Failure));
+            }
+            open_present(store, session, number, moment, node, flags)
+        }
+    }
+}
+
+/// Opens a node that is there: TRUNC with WRITE cuts a file.
+fn open_present(
+    store: &mut Store,
+    session: u64,
+    number: u64,
+    moment: u32,
+    node: NodeId,
+    flags: OpenFlags,
+) -> Result<Reply, AllocError>
+    ensures served { (t : Tree) (it : Node) → Keeps store.old t → IsNewNumber t number → node_in store.old.nodes node ≡ Some it → IfOk result (λ reply. IsServed store.new t (open_present t session number moment flags (found_node it)) reply) }
+    ensures err { OnErr result (store.new ≡ store.old) }
+    ensures look_ups { store.new.look_ups ≡ store.old.look_ups }
+    ensures holders { HoldersStay store.old store.new }
+{
+    if store.is_directory(node) || has_all_handles(store, session) {
+        return Ok(Reply::Status(StatusCode::Failure));
+    }
+    store.open(session, number, node, file_marks(flags))?;
+    if flags.truncate && flags.write {
+        cut(store, node);
+        store.touch(node, moment);
+    }
+    Ok(Reply::Handle(number))
+}
+
+/// Cuts a file at its start, which takes no memory.
+fn cut(store: &mut Store, node: NodeId)
+    ensures { store.new ≡ bytes_set store.old node [] store.new }
+{
+    match store.set_len(node, 0) {
+        Ok(()) => {}
+        Err(_) => {}
+    }
+}
+
+/// Puts a new file under the last name of a path and opens it. Where the handle finds no memory the
+/// file is taken out again.
+fn open_new(
+    store: &mut Store,
+    session: u64,
+    number: u64,
+    parent: NodeId,
+    path: &Path,
+    flags: OpenFlags,
+    metadata: Metadata,
+) -> Result<(), AllocError>
+    requires { 0 < length path.now }
+    ensures ok { OnOk result (OpenedNew store.old store.new session number parent (last_of path.now) (marks_of flags) (record { label = number; file_type = file_type.File; metadata = metadata })) }
+    ensures err { entry_of store.old.nodes parent (last_of path.now) ≡ None → is_directory_at store.old.nodes parent ≡ true → OnErr result (IsAlike store.old store.new) }
+{
+    let made = NewNode {
+        label: number,
+        file_type: FileType::File,
+        metadata,
+    };
+    let node = insert_last(store, parent, path, made)?;
+    if let Err(error) = store.open(session, number, node, file_marks(flags)) {
+        store.unlink(parent, path.name(path.len() - 1));
+        return Err(error);
+    }
+    Ok(())
+}

@@ -1,0 +1,181 @@
+//! Calls on paths, but those that open.
+
+ghost use Rattle.std.specs.Prelude.{◌≡◌, ◌<◌, length, Some, IfOk, OnErr};
+ghost use Rattle.sf_call.specs.Attributes.{modified_at};
+ghost use Rattle.sf_call.specs.Tree.{Tree, found_at, place_at};
+ghost use Rattle.sf_call.specs.Calls.{stat, set_stat, sets, make_directory, remove_directory, remove_file, unless_root};
+ghost use Rattle.sf_inode.specs.declared.node.Node.{Node};
+ghost use Rattle.sf_inode.specs.Nodes.{new_node, object_in, with_metadata};
+ghost use Rattle.sf_inode.specs.Stores.{Inserted, node_in, edited, unlinked};
+ghost use Rattle.sf_inode.specs.Keeps.{Keeps};
+ghost use Rattle.sf_walk.specs.Ways.{last_of};
+ghost use Rattle.sf_walk.specs.Served.{IsServed, IsAlike, LooksUp, HoldersStay, IsNewNumber};
+
+use crate::finding::{Located, locate};
+use sf_call::{FileType, MAX_FILE_SIZE, Metadata};
+use sf_inode::{NewNode, NodeId, Store};
+use sf_path::Path;
+use sf_wire::{Attrs, Reply, StatusCode};
+use std::alloc::AllocError;
+
+/// STAT.
+pub(crate) fn stat(store: &mut Store, path: &Path) -> Reply
+    ensures served { (t : Tree) → Keeps store.old t → IsServed store.new t (stat (found_at t path.now)) result }
+    ensures look_ups { LooksUp store.old store.new (length path.now) }
+    ensures holders { HoldersStay store.old store.new }
+{
+    match locate(store, path) {
+        Located::NoWay => Reply::Status(StatusCode::NoSuchFile),
+        Located::Missing { parent: _ } => Reply::Status(StatusCode::NoSuchFile),
+        Located::At { parent: _, node } => match store.attrs(node) {
+            Some(attrs) => Reply::Attrs(attrs),
+            None => Reply::Status(StatusCode::NoSuchFile),
+        },
+    }
+}
+
+/// SETSTAT.
+pub(crate) fn set_stat(
+    store: &mut Store,
+    moment: u32,
+    path: &Path,
+    attrs: &Attrs,
+) -> Result<Reply, AllocError>
+    ensures served { (t : Tree) → Keeps store.old t → IfOk result (λ reply. IsServed store.new t (unless_root path.now (set_stat moment attrs.now (found_at t path.now))) reply) }
+    ensures err { OnErr result (IsAlike store.old store.new) }
+    ensures look_ups { LooksUp store.old store.new (length path.now) }
+    ensures holders { HoldersStay store.old store.new }
+{
+    if path.is_root() {
+        return Ok(Reply::Status(StatusCode::Failure));
+    }
+    match locate(store, path) {
+        Located::NoWay => Ok(Reply::Status(StatusCode::NoSuchFile)),
+        Located::Missing { parent: _ } => Ok(Reply::Status(StatusCode::NoSuchFile)),
+        Located::At { parent: _, node } => set_node(store, moment, node, attrs),
+    }
+}
+
+/// Sets a node's attributes. A file's size is set first, and the file is modified at the moment; a
+/// directory's size can't be set, nor a file's above the limit.
+pub(crate) fn set_node(
+    store: &mut Store,
+    moment: u32,
+    node: NodeId,
+    attrs: &Attrs,
+) -> Result<Reply, AllocError>
+    ensures served { (t : Tree) (it : Node) → Keeps store.old t → node_in store.old.nodes node ≡ Some it → IfOk result (λ reply. IsServed store.new t (sets moment it.label attrs.now (object_in it.metadata it.content)) reply) }
+    ensures err { OnErr result (store.new ≡ store.old) }
+    ensures look_ups { store.new.look_ups ≡ store.old.look_ups }
+    ensures holders { HoldersStay store.old store.new }
+{
+    if let Some(size) = attrs.size {
+        if store.is_directory(node) || size > MAX_FILE_SIZE {
+            return Ok(Reply::Status(StatusCode::Failure));
+        }
+        store.set_len(node, size)?;
+        store.touch(node, moment);
+    }
+    store.set(node, attrs);
+    Ok(Reply::Status(StatusCode::Success))
+}
+
+/// MKDIR. The new directory's label is the call's number.
+pub(crate) fn mkdir(
+    store: &mut Store,
+    number: u64,
+    moment: u32,
+    path: &Path,
+    attrs: &Attrs,
+) -> Result<Reply, AllocError>
+    ensures served { (t : Tree) → Keeps store.old t → IsNewNumber t number → IfOk result (λ reply. IsServed store.new t (unless_root path.now (make_directory t number moment path.now attrs.now (place_at t path.now))) reply) }
+    ensures err { OnErr result (IsAlike store.old store.new) }
+    ensures look_ups { LooksUp store.old store.new (length path.now) }
+    ensures holders { HoldersStay store.old store.new }
+{
+    if path.is_root() {
+        return Ok(Reply::Status(StatusCode::Failure));
+    }
+    match locate(store, path) {
+        Located::NoWay => Ok(Reply::Status(StatusCode::NoSuchFile)),
+        Located::At { parent: _, node: _ } => Ok(Reply::Status(StatusCode::Failure)),
+        Located::Missing { parent } => {
+            let made = NewNode {
+                label: number,
+                file_type: FileType::Directory,
+                metadata: Metadata::new_object(0o755, moment, attrs),
+            };
+            insert_last(store, parent, path, made)?;
+            store.touch(parent, moment);
+            Ok(Reply::Status(StatusCode::Success))
+        }
+    }
+}
+
+/// Puts a new node under the last name of a path.
+pub(crate) fn insert_last(
+    store: &mut Store,
+    parent: NodeId,
+    path: &Path,
+    made: NewNode,
+) -> Result<NodeId, AllocError>
+    requires { 0 < length path.now }
+    ensures ok { IfOk result (λ id. Inserted store.old store.new parent (last_of path.now) id (new_node made)) }
+    ensures err { OnErr result (store.new ≡ store.old) }
+{
+    let name = path.name(path.len() - 1).try_copy(store.alloc())?;
+    store.insert(parent, name, made)
+}
+
+/// RMDIR.
+pub(crate) fn rmdir(store: &mut Store, moment: u32, path: &Path) -> Reply
+    ensures served { (t : Tree) → Keeps store.old t → IsServed store.new t (unless_root path.now (remove_directory t moment path.now (found_at t path.now))) result }
+    ensures look_ups { LooksUp store.old store.new (length path.now) }
+    ensures holders { HoldersStay store.old store.new }
+{
+    if path.is_root() {
+        return Reply::Status(StatusCode::Failure);
+    }
+    match locate(store, path) {
+        Located::NoWay => Reply::Status(StatusCode::NoSuchFile),
+        Located::Missing { parent: _ } => Reply::Status(StatusCode::NoSuchFile),
+        Located::At { parent, node } => {
+            if !store.is_directory(node) || !store.is_empty(node) {
+                return Reply::Status(StatusCode::Failure);
+            }
+            remove_last(store, moment, parent, path);
+            Reply::Status(StatusCode::Success)
+        }
+    }
+}
+
+/// REMOVE.
+pub(crate) fn remove(store: &mut Store, moment: u32, path: &Path) -> Reply
+    ensures served { (t : Tree) → Keeps store.old t → IsServed store.new t (unless_root path.now (remove_file t moment path.now (found_at t path.now))) result }
+    ensures look_ups { LooksUp store.old store.new (length path.now) }
+    ensures holders { HoldersStay store.old store.new }
+{
+    if path.is_root() {
+        return Reply::Status(StatusCode::Failure);
+    }
+    match locate(store, path) {
+        Located::NoWay => Reply::Status(StatusCode::NoSuchFile),
+        Located::Missing { parent: _ } => Reply::Status(StatusCode::NoSuchFile),
+        Located::At { parent, node } => {
+            if store.is_directory(node) {
+                return Reply::Status(StatusCode::Failure);
+            }
+            remove_last(store, moment, parent, path);
+            Reply::Status(StatusCode::Success)
+        }
+    }
+}
+
+/// Takes the last name of a path out of its directory, which is modified at the moment.
+fn remove_last(store: &mut Store, moment: u32, parent: NodeId, path: &Path)
+    requires { 0 < length path.now }
+    ensures { store.new ≡ edited (with_metadata (modified_at moment)) (unlinked store.old parent (last_of path.now)) parent }
+{
+    store.unlink(parent, path.name(path.len() - 1));
+    store.touch(parent, moment);
+}

@@ -1,0 +1,93 @@
+//! Calls one after the other on a store.
+
+use super::*;
+use sf_call::{Call, Request, Stage};
+use sf_inode::Store;
+use sf_path::Path;
+use sf_wire::{ByteString, NO_ATTRS, OpenFlags, Reply, StatusCode};
+use std::alloc::Global;
+use std::process::Abort;
+use std::test::*;
+
+/// A session on a store of its own, whose calls are numbered from 1 on.
+#[derive(Drop)]
+struct Client {
+    store: Store,
+    number: u64,
+}
+
+impl Client {
+    fn ask(&mut self, rt: &impl Abort, request: Result<Request, Fail>) -> Reply {
+        let Ok(request) = request else {
+            panic!(rt; "no request");
+        };
+        self.number = self.number.wrapping_add(1);
+        let call = Call {
+            number: self.number,
+            session: 1,
+            moment: 100,
+            request,
+            stage: Stage::Fresh,
+        };
+        from_root(&mut self.store, &call)
+    }
+
+    fn status(&mut self, rt: &impl Abort, request: Result<Request, Fail>, want: StatusCode) {
+        let reply = self.ask(rt, request);
+        let wanted = match &reply {
+            Reply::Status(code) => *code == want,
+            _ => false,
+        };
+        assert!(rt; wanted, "call {}: {reply:?}", self.number);
+    }
+}
+
+fn path(alloc: Global, text: &[u8]) -> Result<Path, Fail> {
+    Ok(Path::parse(alloc, text)?)
+}
+
+#[test]
+fn a_file_is_written_and_read(rt: HostRuntime) -> Result<(), Fail> {
+    let alloc = rt.alloc();
+    let store = Store::new(alloc)?;
+    let mut client = Client { store, number: 0 };
+    let mkdir = Request::Mkdir(path(alloc, b"/d")?, NO_ATTRS);
+    client.status(&rt, Ok(mkdir), StatusCode::Success);
+    let flags = OpenFlags {
+        read: true,
+        write: true,
+        append: false,
+        create: true,
+        truncate: false,
+        exclusive: false,
+    };
+    let open = Request::Open(path(alloc, b"/d/f")?, flags, NO_ATTRS);
+    let Reply::Handle(2) = client.ask(&rt, Ok(open)) else {
+        panic!(rt; "no handle");
+    };
+    let write = Request::Write {
+        handle: 2,
+        offset: 1,
+        data: ByteString::from_slice(alloc, b"xy")?,
+    };
+    client.status(&rt, Ok(write), StatusCode::Success);
+    let read = Request::Read {
+        handle: 2,
+        offset: 0,
+        len: 10,
+    };
+    let Reply::Data(bytes) = client.ask(&rt, Ok(read)) else {
+        panic!(rt; "no data");
+    };
+    assert_eq!(rt; bytes.as_slice(), b"\0xy".as_slice());
+    let rmdir = Request::Rmdir(path(alloc, b"/d")?);
+    client.status(&rt, Ok(rmdir), StatusCode::Failure);
+    let remove = Request::Remove(path(alloc, b"/d/f")?);
+    client.status(&rt, Ok(remove), StatusCode::Success);
+    let rmdir = Request::Rmdir(path(alloc, b"/d")?);
+    client.status(&rt, Ok(rmdir), StatusCode::Success);
+    let stat = Request::Stat(path(alloc, b"/d")?);
+    client.status(&rt, Ok(stat), StatusCode::NoSuchFile);
+    assert_eq!(rt; client.store.look_ups(), 8);
+    Ok(())
+}
