@@ -21,7 +21,7 @@ use Rattle.sf_inode.specs.declared.node.Content.TheVariants as content
 use Rattle.sf_inode.specs.Nodes.{entry_in, entries_in, object_in, is_directory_content, sorted_past}
 use Rattle.sf_inode.specs.Steps.{walk}
 use Rattle.sf_inode.specs.Shows.{label_by, is_directory_by}
-use Rattle.sf_inode.specs.Stores.{StoreState, node_in, entry_of, entries_at, shown_node, view_of}
+use Rattle.sf_inode.specs.Stores.{StoreState, node_in, entry_of, entries_at, is_directory_at, shown_node, view_of}
 use Rattle.sf_inode.specs.Keeps.{Keeps, IsUnlinked}
 use Rattle.sf_inode.specs.Listed.{listed_entry}
 use Rattle.sf_inode.proofs.Orderly.{same_sorted, sorted_mapped}
@@ -57,6 +57,9 @@ is_directory_shown node = elim node.content as (λ c. is_directory_content c ≡
   | content.Directory es ↦ λ e. refl
   | content.File contents ↦ λ e. cc
 ]
+
+pub content_is : (s : StoreState) (d : ℕ) (node : Node) → node_in s.nodes d ≡ Some node → is_directory_at s.nodes d ≡ true → is_directory_content node.content ≡ true
+content_is s d node here is = sym (ap (λ (o : Option Node). option_map_or (λ (it : Node). is_directory_content it.content) o false) here) ∙ is
 
 module _ (s : StoreState) (t : Tree) (k : Keeps s t) (d : ℕ) where
   module _ (node : Node) (here : node_in s.nodes d ≡ Some node) where

@@ -14,10 +14,10 @@ ghost use Rattle.sf_call.specs.declared.limits.TheConstants.{MAX_ENTRIES};
 ghost use Rattle.sf_inode.specs.declared.node.Node.{Node};
 ghost use Rattle.sf_inode.specs.declared.handle.Marks.{Marks};
 ghost use Rattle.sf_inode.specs.declared.handle.OpenHandle.{OpenHandle};
-ghost use Rattle.sf_inode.specs.Nodes.{object_in, is_directory_content, sorted_past};
+ghost use Rattle.sf_inode.specs.Nodes.{object_in, sorted_past};
 ghost use Rattle.sf_inode.specs.Steps.{walk};
 ghost use Rattle.sf_inode.specs.Listed.{listed_entry};
-ghost use Rattle.sf_inode.specs.Stores.{StoreState, node_in, entry_of, entries_at, handle_at, handles_of, shown_handle, opened, handle_listed, closed, closed_all};
+ghost use Rattle.sf_inode.specs.Stores.{StoreState, node_in, entry_of, entries_at, is_directory_at, handle_at, handles_of, shown_handle, opened, handle_listed, closed, closed_all};
 ghost use Rattle.sf_inode.specs.Keeps.{Keeps};
 
 /// A session's handle is that of the tree, its node is there and has the object of its label, and a number that no handle of
@@ -56,9 +56,9 @@ pub fn closed_handles()
 /// entries that `Store::entries_after` gives: each node is there, and is listed by its name. A directory that no path leads to
 /// any more lists nothing, and has no entries.
 pub fn listed_entries()
-    ensures path { (s : StoreState) (t : Tree) (p : Path) (dir : ℕ) (node : Node) → Keeps s t → walk (entry_of s.nodes) s.root p ≡ Some dir → node_in s.nodes dir ≡ Some node → is_directory_content node.content ≡ true
+    ensures path { (s : StoreState) (t : Tree) (p : Path) (dir : ℕ) (node : Node) → Keeps s t → walk (entry_of s.nodes) s.root p ≡ Some dir → node_in s.nodes dir ≡ Some node → is_directory_at s.nodes dir ≡ true
         → path_of t.names node.label ≡ Some p }
-    ensures listing { (s : StoreState) (t : Tree) (dir : ℕ) (node : Node) (last : Option Name) → Keeps s t → node_in s.nodes dir ≡ Some node → is_directory_content node.content ≡ true
+    ensures listing { (s : StoreState) (t : Tree) (dir : ℕ) (node : Node) (last : Option Name) → Keeps s t → node_in s.nodes dir ≡ Some node → is_directory_at s.nodes dir ≡ true
         → listing_of t last (path_of t.names node.label) ≡ filter_map (listed_entry s.nodes) (take MAX_ENTRIES (sorted_past last (entries_at s.nodes dir))) }
     ensures nodes { (s : StoreState) (t : Tree) (dir : ℕ) (last : Option Name) → Keeps s t → All (λ e. (node : Node) × (node_in s.nodes e.1 ≡ Some node)) (take MAX_ENTRIES (sorted_past last (entries_at s.nodes dir))) }
     ensures names { (s : StoreState) (t : Tree) (dir : ℕ) (last : Option Name) → Keeps s t
