@@ -105,6 +105,7 @@ impl Entries {
         ensures { IfOk result (λ found. found.entries ≡ take most (sorted_past (option_copied last.entry) self.now)) }
     {
         let mut found = BTreeMap::new(alloc);
+        // The first entry of a name counts, as in `find`: it is put in last.
         for i in (0..self.items.len()).rev() {
             let entry = &self.items[i];
             if is_past(last, &entry.0) {
