@@ -1,0 +1,179 @@
+-- What calls on paths answer, case by case.
+use Rattle.std.specs.Prelude.{◌≡◌, ℕ, true, false, cond, if◌then◌else◌, List, [], option_map, Option, Some, None, IfOk, refl}
+use Rattle.std.specs.Option.{option_map_or}
+use Rattle.std.specs.declared.result.Result.{Result}
+use Rattle.std.proofs.Common.{sym, ap, subst, ◌∙◌}
+use Rattle.sf_path.specs.Names.{Name, Path}
+use Rattle.sf_field.specs.declared.attrs.Attrs.{Attrs}
+use Rattle.sf_wire.specs.declared.reply.Reply.{Reply}
+use Rattle.sf_wire.specs.declared.reply.Reply.TheVariants as reply
+use Rattle.sf_wire.specs.declared.reply.StatusCode.TheVariants.{Success, NoSuchFile, Failure}
+use Rattle.sf_call.specs.declared.metadata.Metadata.{Metadata}
+use Rattle.sf_call.specs.Attributes.{modified_at, attrs_of}
+use Rattle.sf_call.specs.Tree.{Tree, Found, place_at, found_at, found_place, is_empty}
+use Rattle.sf_call.specs.Tree.Found.{Nowhere, Nothing}
+use Rattle.sf_call.specs.Calls.{Answer, tells, refuses, stat, set_stat, sets, make_directory, remove_directory, remove_file, goes, unless_root}
+use Rattle.sf_inode.specs.declared.node.Node.{Node}
+use Rattle.sf_inode.specs.declared.node.Content.{Content}
+use Rattle.sf_inode.specs.declared.node.Content.TheVariants as content
+use Rattle.sf_inode.specs.Nodes.{object_in, is_directory_content, is_bare_content, with_metadata}
+use Rattle.sf_inode.specs.Steps.{walk}
+use Rattle.sf_inode.specs.Stores.{StoreState, node_in, entry_of, is_directory_at, is_bare_at, edited, unlinked}
+use Rattle.sf_inode.specs.Keeps.{Keeps}
+use Rattle.sf_walk.specs.declared.finding.Located.TheVariants as located
+use Rattle.sf_walk.specs.Ways.{way_from, found_content, found_node}
+use Rattle.sf_walk.specs.Served.{LookedUp, IsServed, HoldersStay}
+use Rattle.sf_walk.proofs.Holders.{stays_looked, stays_edited, stays_unlinked}
+use Rattle.sf_walk.proofs.Fits.{no_way, name_missing, node_at}
+use Rattle.sf_walk.proofs.Looked.{keeps_looked, way_looked}
+use Rattle.sf_walk.proofs.Told.{tells_served, past_root, if_ok_map}
+
+-- after look-ups an entry was taken out, and its directory modified
+pub stays_gone : (old mid new : StoreState) (most moment dir : ℕ) (n : Name) → LookedUp old mid most → new ≡ edited (with_metadata (modified_at moment)) (unlinked mid dir n) dir → HoldersStay old new
+stays_gone old mid new most moment dir n looked state =
+    subst (λ (x : StoreState). HoldersStay old x) (sym state)
+    (stays_edited (with_metadata (modified_at moment)) (λ node. refl) old (unlinked mid dir n) dir (stays_unlinked old mid dir n (stays_looked old mid most looked)))
+
+file_content_bare : (c : Content) → is_directory_content c ≡ false → is_bare_content c ≡ true
+file_content_bare (content.Directory es) e = cc
+file_content_bare (content.File contents) e = refl
+
+file_bare : (nodes : List (Option Node)) (y : ℕ) (node : Node) → node_in nodes y ≡ Some node → is_directory_at nodes y ≡ false → is_bare_at nodes y ≡ true
+file_bare nodes y node at d =
+    ap (λ (o : Option Node). option_map_or (λ (it : Node). is_bare_content it.content) o false) at
+    ∙ file_content_bare node.content (sym (ap (λ (o : Option Node). option_map_or (λ (it : Node). is_directory_content it.content) o false) at) ∙ d)
+
+-- what was located, in the tree
+module _ (s : StoreState) (t : Tree) (p : Path) (h : Keeps s t) where
+  pub found_no_way : way_from s.nodes s.root s.root p ≡ located.NoWay → found_at t p ≡ Nowhere
+  found_no_way e = ap (found_place t.objects) (no_way s t h p e)
+
+  pub found_missing : (d : ℕ) → way_from s.nodes s.root s.root p ≡ located.Missing d → found_at t p ≡ Nothing
+  found_missing d e = ap (found_place t.objects) (name_missing s t h p d e).0
+
+module _ (old mid : StoreState) (t : Tree) (p : Path) (most : ℕ) (looked : LookedUp old mid most) (h : Keeps old t) where
+  mid_keeps : Keeps mid t
+  mid_keeps = keeps_looked old mid t most looked h
+
+  -- no way, and a missing name, for any call that looks at what is found
+  pub no_way_served : (f : Found → Answer) → f Nowhere ≡ refuses NoSuchFile → located.NoWay ≡ way_from old.nodes old.root old.root p → IsServed mid t (f (found_at t p)) (reply.Status NoSuchFile)
+  no_way_served f at e = tells_served mid t (f (found_at t p)) (reply.Status NoSuchFile) (ap f (found_no_way mid t p mid_keeps (way_looked old mid p most located.NoWay looked e)) ∙ at) mid_keeps
+
+  pub missing_served : (f : Found → Answer) → f Nothing ≡ refuses NoSuchFile → (d : ℕ) → located.Missing d ≡ way_from old.nodes old.root old.root p → IsServed mid t (f (found_at t p)) (reply.Status NoSuchFile)
+  missing_served f at d e = tells_served mid t (f (found_at t p)) (reply.Status NoSuchFile) (ap f (found_missing mid t p mid_keeps d (way_looked old mid p most (located.Missing d) looked e)) ∙ at) mid_keeps
+
+  -- the node that was located
+  pub node_located : (above y : ℕ) → located.At above y ≡ way_from old.nodes old.root old.root p → (node : Node) × ((node_in mid.nodes y ≡ Some node) × (found_at t p ≡ found_node node))
+  node_located above y e = let f = node_at mid t mid_keeps p above y (way_looked old mid p most (located.At above y) looked e) in (f.2.0, (f.2.1, f.2.3))
+
+  walk_located : (above y : ℕ) → located.At above y ≡ way_from old.nodes old.root old.root p → walk (entry_of mid.nodes) mid.root p ≡ Some y
+  walk_located above y e = (node_at mid t mid_keeps p above y (way_looked old mid p most (located.At above y) looked e)).0
+
+  -- ---- STAT
+  stat_content : (l : ℕ) (m : Metadata) (c : Content) → stat (found_content l m c) ≡ tells (reply.Attrs (attrs_of (object_in m c)))
+  stat_content l m (content.Directory es) = refl
+  stat_content l m (content.File contents) = refl
+
+  pub stat_served : (above y : ℕ) (attrs : Attrs) → located.At above y ≡ way_from old.nodes old.root old.root p
+      → Some attrs ≡ option_map (λ (it : Node). attrs_of (object_in it.metadata it.content)) (node_in mid.nodes y) → IsServed mid t (stat (found_at t p)) (reply.Attrs attrs)
+  stat_served above y attrs e sent =
+      let w = node_located above y e in
+      let are : Some attrs ≡ Some (attrs_of (object_in w.0.metadata w.0.content)) = sent ∙ ap (option_map (λ (it : Node). attrs_of (object_in it.metadata it.content))) w.1.0 in
+      let same : attrs_of (object_in w.0.metadata w.0.content) ≡ attrs = cc in
+      tells_served mid t (stat (found_at t p)) (reply.Attrs attrs) (ap stat w.1.1 ∙ stat_content w.0.label w.0.metadata w.0.content ∙ ap (λ a. tells (reply.Attrs a)) same) mid_keeps
+
+  pub stat_gone : (above y : ℕ) → located.At above y ≡ way_from old.nodes old.root old.root p
+      → None ≡ option_map (λ (it : Node). attrs_of (object_in it.metadata it.content)) (node_in mid.nodes y) → IsServed mid t (stat (found_at t p)) (reply.Status NoSuchFile)
+  stat_gone above y e sent =
+      let w = node_located above y e in
+      let are : None ≡ Some (attrs_of (object_in w.0.metadata w.0.content)) = sent ∙ ap (option_map (λ (it : Node). attrs_of (object_in it.metadata it.content))) w.1.0 in
+      absurd (let x : ⊥ = cc in x)
+
+  -- ---- SETSTAT
+  set_content : (moment : ℕ) (attrs : Attrs) (l : ℕ) (m : Metadata) (c : Content) → set_stat moment attrs (found_content l m c) ≡ sets moment l attrs (object_in m c)
+  set_content moment attrs l m (content.Directory es) = refl
+  set_content moment attrs l m (content.File contents) = refl
+
+  -- what setting the node's attributes serves, the call serves
+  pub set_stat_at : {E : Type 0} (new : StoreState) (moment : ℕ) (attrs : Attrs) (above y : ℕ) (result : Result Reply E) → (p ≡ [] → ⊥) → located.At above y ≡ way_from old.nodes old.root old.root p
+      → ((u : Tree) (it : Node) → Keeps mid u → node_in mid.nodes y ≡ Some it → IfOk result (λ r. IsServed new u (sets moment it.label attrs (object_in it.metadata it.content)) r))
+      → IfOk result (λ r. IsServed new t (unless_root p (set_stat moment attrs (found_at t p))) r)
+  set_stat_at new moment attrs above y result ne e served =
+      let w = node_located above y e in
+      if_ok_map result (λ r. IsServed new t (sets moment w.0.label attrs (object_in w.0.metadata w.0.content)) r) (λ r. IsServed new t (unless_root p (set_stat moment attrs (found_at t p))) r)
+      (λ r got. past_root new t p (set_stat moment attrs (found_at t p)) r ne
+      (subst (λ (a : Answer). IsServed new t a r) (sym (ap (set_stat moment attrs) w.1.1 ∙ set_content moment attrs w.0.label w.0.metadata w.0.content)) got))
+      (served t w.0 mid_keeps w.1.0)
+
+  -- ---- MKDIR
+  pub make_no_way : (number moment : ℕ) (attrs : Attrs) → located.NoWay ≡ way_from old.nodes old.root old.root p → IsServed mid t (make_directory t number moment p attrs (place_at t p)) (reply.Status NoSuchFile)
+  make_no_way number moment attrs e =
+      tells_served mid t (make_directory t number moment p attrs (place_at t p)) (reply.Status NoSuchFile)
+      (ap (make_directory t number moment p attrs) (no_way mid t mid_keeps p (way_looked old mid p most located.NoWay looked e))) mid_keeps
+
+  pub make_present : (number moment : ℕ) (attrs : Attrs) (above y : ℕ) → located.At above y ≡ way_from old.nodes old.root old.root p
+      → IsServed mid t (make_directory t number moment p attrs (place_at t p)) (reply.Status Failure)
+  make_present number moment attrs above y e =
+      tells_served mid t (make_directory t number moment p attrs (place_at t p)) (reply.Status Failure)
+      (ap (make_directory t number moment p attrs) (node_at mid t mid_keeps p above y (way_looked old mid p most (located.At above y) looked e)).2.2) mid_keeps
+
+  -- ---- REMOVE
+  remove_content : (moment l : ℕ) (m : Metadata) (c : Content) → remove_file t moment p (found_content l m c) ≡ cond (is_directory_content c) (refuses Failure) (goes t moment p)
+  remove_content moment l m (content.Directory es) = refl
+  remove_content moment l m (content.File contents) = refl
+
+  remove_located : (moment above y : ℕ) → located.At above y ≡ way_from old.nodes old.root old.root p → remove_file t moment p (found_at t p) ≡ cond (is_directory_at mid.nodes y) (refuses Failure) (goes t moment p)
+  remove_located moment above y e =
+      let w = node_located above y e in
+      ap (remove_file t moment p) w.1.1 ∙ remove_content moment w.0.label w.0.metadata w.0.content
+      ∙ ap (λ (o : Option Node). cond {A = Answer} (option_map_or (λ (node : Node). is_directory_content node.content) o false) (refuses Failure) (goes t moment p)) (sym w.1.0)
+
+  pub remove_refused : (moment above y : ℕ) → located.At above y ≡ way_from old.nodes old.root old.root p → true ≡ is_directory_at mid.nodes y → IsServed mid t (remove_file t moment p (found_at t p)) (reply.Status Failure)
+  remove_refused moment above y e d =
+      tells_served mid t (remove_file t moment p (found_at t p)) (reply.Status Failure) (remove_located moment above y e ∙ ap (λ b. cond {A = Answer} b (refuses Failure) (goes t moment p)) (sym d)) mid_keeps
+
+  pub remove_served : (new : StoreState) (moment above y : ℕ) → located.At above y ≡ way_from old.nodes old.root old.root p → false ≡ is_directory_at mid.nodes y
+      → ((u : Tree) (node : ℕ) → Keeps mid u → way_from mid.nodes mid.root mid.root p ≡ located.At above node → is_bare_at mid.nodes node ≡ true → IsServed new u (goes u moment p) (reply.Status Success))
+      → IsServed new t (remove_file t moment p (found_at t p)) (reply.Status Success)
+  remove_served new moment above y e d served =
+      let w = node_located above y e in
+      subst (λ (a : Answer). IsServed new t a (reply.Status Success)) (sym (remove_located moment above y e ∙ ap (λ b. cond {A = Answer} b (refuses Failure) (goes t moment p)) (sym d)))
+      (served t y mid_keeps (way_looked old mid p most (located.At above y) looked e) (file_bare mid.nodes y w.0 w.1.0 (sym d)))
+
+  -- ---- RMDIR
+  remove_directory_content : (moment l : ℕ) (m : Metadata) (c : Content)
+      → remove_directory t moment p (found_content l m c) ≡ cond (is_directory_content c) (if is_empty t.names p then goes t moment p else refuses Failure) (refuses Failure)
+  remove_directory_content moment l m (content.Directory es) = refl
+  remove_directory_content moment l m (content.File contents) = refl
+
+  remove_directory_located : (moment above y : ℕ) → located.At above y ≡ way_from old.nodes old.root old.root p
+      → remove_directory t moment p (found_at t p) ≡ cond (is_directory_at mid.nodes y) (if is_empty t.names p then goes t moment p else refuses Failure) (refuses Failure)
+  remove_directory_located moment above y e =
+      let w = node_located above y e in
+      ap (remove_directory t moment p) w.1.1 ∙ remove_directory_content moment w.0.label w.0.metadata w.0.content
+      ∙ ap (λ (o : Option Node). cond {A = Answer} (option_map_or (λ (node : Node). is_directory_content node.content) o false) (if is_empty t.names p then goes t moment p else refuses Failure) (refuses Failure)) (sym w.1.0)
+
+  pub remove_directory_file : (moment above y : ℕ) → located.At above y ≡ way_from old.nodes old.root old.root p → false ≡ is_directory_at mid.nodes y
+      → IsServed mid t (remove_directory t moment p (found_at t p)) (reply.Status Failure)
+  remove_directory_file moment above y e d =
+      tells_served mid t (remove_directory t moment p (found_at t p)) (reply.Status Failure)
+      (remove_directory_located moment above y e ∙ ap (λ b. cond {A = Answer} b (if is_empty t.names p then goes t moment p else refuses Failure) (refuses Failure)) (sym d)) mid_keeps
+
+  module _ (empties : (s : StoreState) (u : Tree) (q : Path) (id : ℕ) → Keeps s u → walk (entry_of s.nodes) s.root q ≡ Some id → is_empty u.names q ≡ is_bare_at s.nodes id) where
+    remove_directory_is : (moment above y : ℕ) → located.At above y ≡ way_from old.nodes old.root old.root p → true ≡ is_directory_at mid.nodes y
+        → remove_directory t moment p (found_at t p) ≡ (if is_bare_at mid.nodes y then goes t moment p else refuses Failure)
+    remove_directory_is moment above y e d =
+        remove_directory_located moment above y e ∙ ap (λ b. cond {A = Answer} b (if is_empty t.names p then goes t moment p else refuses Failure) (refuses Failure)) (sym d)
+        ∙ ap (λ b. if b then goes t moment p else refuses Failure) (empties mid t p y mid_keeps (walk_located above y e))
+
+    pub remove_directory_full : (moment above y : ℕ) → located.At above y ≡ way_from old.nodes old.root old.root p → true ≡ is_directory_at mid.nodes y → false ≡ is_bare_at mid.nodes y
+        → IsServed mid t (remove_directory t moment p (found_at t p)) (reply.Status Failure)
+    remove_directory_full moment above y e d full =
+        tells_served mid t (remove_directory t moment p (found_at t p)) (reply.Status Failure) (remove_directory_is moment above y e d ∙ ap (λ b. if b then goes t moment p else refuses Failure) (sym full)) mid_keeps
+
+    pub remove_directory_served : (new : StoreState) (moment above y : ℕ) → located.At above y ≡ way_from old.nodes old.root old.root p → true ≡ is_directory_at mid.nodes y → true ≡ is_bare_at mid.nodes y
+        → ((u : Tree) (node : ℕ) → Keeps mid u → way_from mid.nodes mid.root mid.root p ≡ located.At above node → is_bare_at mid.nodes node ≡ true → IsServed new u (goes u moment p) (reply.Status Success))
+        → IsServed new t (remove_directory t moment p (found_at t p)) (reply.Status Success)
+    remove_directory_served new moment above y e d bare served =
+        subst (λ (a : Answer). IsServed new t a (reply.Status Success)) (sym (remove_directory_is moment above y e d ∙ ap (λ b. if b then goes t moment p else refuses Failure) (sym bare)))
+        (served t y mid_keeps (way_looked old mid p most (located.At above y) looked e) (sym bare))
