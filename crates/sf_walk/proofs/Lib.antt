@@ -1,4 +1,0 @@
-pub mod WaySteps
-pub mod LookUps
-pub mod Fits
-pub mod Holders

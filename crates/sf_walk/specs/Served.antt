@@ -8,32 +8,11 @@ use Rattle.sf_inode.specs.declared.node.Node.{Node}
 use Rattle.sf_inode.specs.Stores.{StoreState, node_in, holder_of, looked_up}
 use Rattle.sf_inode.specs.Keeps.{Keeps}
 
--- the store after so many look-ups
-abbrev pub after_look_ups : ℕ → StoreState → StoreState
-after_look_ups zero s = s
-after_look_ups (suc k) s = looked_up (after_look_ups k s)
-
--- nothing but look-ups were made, so many at most
-pub record LookedUp (old new : StoreState) (most : ℕ) : Type 0 where
-  pub count : ℕ
-  pub few : count ≤ most
-  pub state : new ≡ after_look_ups count old
-
--- so many look-ups were made at most
-pub record LooksUp (old new : StoreState) (most : ℕ) : Type 0 where
-  pub count : ℕ
-  pub few : count ≤ most
-  pub look_ups : new.look_ups ≡ (after_look_ups count old).look_ups
-
 -- nothing but the count of look-ups differs: neither a node nor a handle
 pub record IsAlike (old new : StoreState) : Type 0 where
   pub nodes : (id : ℕ) → node_in new.nodes id ≡ node_in old.nodes id
   pub root : new.root ≡ old.root
   pub sessions : new.sessions ≡ old.sessions
-
--- a node has the holder that it had; a new one has none
-abbrev pub HoldersStay : StoreState → StoreState → Type 0
-HoldersStay old new = (id : ℕ) (node : Node) → node_in new.nodes id ≡ Some node → node.holder ≡ holder_of old.nodes id
 
 -- the number is above 0, and no label and no handle of the tree has it
 pub record IsNewNumber (t : Tree) (number : ℕ) : Type 0 where
