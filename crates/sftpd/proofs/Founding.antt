@@ -11,7 +11,9 @@ use Rattle.sf_call.specs.Tree.{Tree, empty_tree, label_at, object_of, handle_of}
 use Rattle.sf_call.specs.Calls.{apply}
 use Rattle.sf_call.specs.Values.{IsCall}
 use Rattle.sf_call.specs.Histories.{after, replay, IsLegal, IsLegalAfter, MayFollow, CallMayFollow, IsNewNumber, IsPresent, IsGiven}
-use Rattle.sftpd.specs.Serving.{IsNumbered, IsFresh, IsGrown, IsFounded, IsMade}
+use Rattle.sf_inode.specs.Stores.{StoreState}
+use Rattle.sf_inode.specs.Keeps.{Keeps}
+use Rattle.sftpd.specs.Serving.{IsNumbered, IsFresh, IsGrown, IsFounded, Does}
 
 -- what the tree's definitions promise of numbers that no call has
 pub record LabelLaws : Type 0 where
@@ -39,15 +41,15 @@ numbers_new n later (Did number session moment request given ∷ history) less h
 numbers_new n later (Left session ∷ history) less h = absurd h.0
 
 -- so a later number is fresh
-fresh_after : LabelLaws → (history : List Record) (tree : Tree) (number : ℕ) → IsLegal history → tree ≡ replay history → length history < number
-    → AllByRecursion (IsNumbered (length history)) history → IsFresh number tree
-fresh_after laws history tree number legal replayed less numbered =
+fresh_after : LabelLaws → (history : List Record) (number : ℕ) → IsLegal history → length history < number
+    → AllByRecursion (IsNumbered (length history)) history → IsFresh number (replay history)
+fresh_after laws history number legal less numbered =
     let new = numbers_new (length history) number history less numbered in
-    rw replayed (record {
+    record {
       no_path = λ path. laws.no_path history number path legal (omega (arith, less)) new;
       no_object = laws.no_object history number legal (omega (arith, less)) new;
       no_handle = laws.no_handle history number legal (omega (arith, less)) new;
-    })
+    }
 
 numbers_stay : (n : ℕ) (history : List Record) → AllByRecursion (IsNumbered n) history → IsPresent 1 history
 numbers_stay n [] h = tt
@@ -59,62 +61,67 @@ numbers_more n [] h = tt
 numbers_more n (Did number session moment request given ∷ history) h = (omega (arith, h.0), numbers_more n history h.1)
 numbers_more n (Left session ∷ history) h = absurd h.0
 
--- the reply is the tree's, or want of memory, which leaves the tree as it was
-abbrev pub Does : Tree → ℕ → ℕ → Request → Reply → Tree → Type 0
-Does tree number moment request given tree' = ((given ≡ (apply tree 1 number moment request).reply) × (tree' ≡ (apply tree 1 number moment request).tree)) ⊎ ((given ≡ reply.NoMemory) × (tree' ≡ tree))
+-- what became of a call on the tree of the history
+abbrev pub DoesHere : List Record → ℕ → ℕ → Request → Reply → StoreState → Type 0
+DoesHere history number moment request given store' =
+    ((given ≡ (apply (replay history) 1 number moment request).reply) × Keeps store' (apply (replay history) 1 number moment request).tree) ⊎ ((given ≡ reply.NoMemory) × Keeps store' (replay history))
+
+does_here : (history : List Record) (store store' : StoreState) (calls moment : ℕ) (request : Request) (given : Reply) → IsGrown history store calls → Does store (calls + 1) moment request given store'
+    → DoesHere history (calls + 1) moment request given store'
+does_here history store store' calls moment request given grown does =
+    let fresh = grown.fresh (calls + 1) (omega arith) in
+    does (replay history) grown.kept (record { above = omega arith; label = fresh.no_object; handle = fresh.no_handle })
 
 -- a call may come next
-may_follow : (history : List Record) (tree tree' : Tree) (calls moment : ℕ) (request : Request) (given : Reply) → IsGrown history tree calls → IsCall (calls + 1) 1 moment request
-    → Does tree (calls + 1) moment request given tree' → CallMayFollow history (calls + 1) 1 moment request given
-may_follow history tree tree' calls moment request given grown is_call does = record {
+may_follow : (history : List Record) (store store' : StoreState) (calls moment : ℕ) (request : Request) (given : Reply) → IsGrown history store calls → IsCall (calls + 1) 1 moment request
+    → DoesHere history (calls + 1) moment request given store' → CallMayFollow history (calls + 1) 1 moment request given
+may_follow history store store' calls moment request given grown is_call does = record {
   is_call = is_call;
   above_zero = omega arith;
   new_number = numbers_new (length history) (calls + 1) history (omega (arith, grown.counted)) grown.numbered;
   present = numbers_stay (length history) history grown.numbered;
-  answered = elim does [ inl e ↦ inl (subst (λ (t : Tree). given ≡ (apply t 1 (calls + 1) moment request).reply) grown.replayed e.0) | inr e ↦ inr e.0 ];
+  answered = elim does [ inl e ↦ inl e.0 | inr e ↦ inr e.0 ];
 }
 
--- its reply is given
-given_after : (history : List Record) (tree tree' : Tree) (calls moment : ℕ) (request : Request) (given : Reply) → IsGrown history tree calls → IsCall (calls + 1) 1 moment request
-    → Does tree (calls + 1) moment request given tree' → IsGiven (calls + 1) 1 given
-given_after history tree tree' calls moment request given grown is_call does =
-    (history, moment, request, grown.legal, may_follow history tree tree' calls moment request given grown is_call does)
-
--- the tree after it
-next_tree : Laws → (tree tree' : Tree) (number moment : ℕ) (request : Request) (given : Reply) → Does tree number moment request given tree'
-    → tree' ≡ after tree (Did number 1 moment request given)
-next_tree laws tree tree' number moment request given (inl e) =
-    e.1 ∙ sym (laws.told tree 1 number moment request) ∙ ap (λ (g : Reply). after tree (Did number 1 moment request g)) (sym e.0)
-next_tree laws tree tree' number moment request given (inr e) =
-    e.1 ∙ ap (λ (g : Reply). after tree (Did number 1 moment request g)) (sym e.0)
+-- the store keeps the tree after it
+next_tree : Laws → (history : List Record) (store' : StoreState) (number moment : ℕ) (request : Request) (given : Reply) → DoesHere history number moment request given store'
+    → Keeps store' (after (replay history) (Did number 1 moment request given))
+next_tree laws history store' number moment request given (inl e) =
+    subst (λ (t : Tree). Keeps store' t)
+    (sym (laws.told (replay history) 1 number moment request) ∙ ap (λ (g : Reply). after (replay history) (Did number 1 moment request g)) (sym e.0)) e.1
+next_tree laws history store' number moment request given (inr e) =
+    subst (λ (t : Tree). Keeps store' t) (ap (λ (g : Reply). after (replay history) (Did number 1 moment request g)) (sym e.0)) e.1
 
 -- its record comes next
-pub recorded : Laws → (history : List Record) (tree tree' : Tree) (calls moment : ℕ) (request : Request) (given : Reply) → IsGrown history tree calls → IsCall (calls + 1) 1 moment request
-    → Does tree (calls + 1) moment request given tree' → IsGrown (history ++ Did (calls + 1) 1 moment request given ∷ []) tree' (calls + 1)
-recorded laws history tree tree' calls moment request given grown is_call does =
+pub recorded : Laws → (history : List Record) (store store' : StoreState) (calls moment : ℕ) (request : Request) (given : Reply) → IsGrown history store calls → IsCall (calls + 1) 1 moment request
+    → Does store (calls + 1) moment request given store' → IsGrown (history ++ Did (calls + 1) 1 moment request given ∷ []) store' (calls + 1)
+recorded laws history store store' calls moment request given grown is_call does =
     let r = Did (calls + 1) 1 moment request given in
+    let here = does_here history store store' calls moment request given grown does in
     let counted : length (history ++ r ∷ []) ≡ length history + 1 = omega (arith, length-append history (r ∷ [])) in
-    let legal = laws.legal history r grown.legal (may_follow history tree tree' calls moment request given grown is_call does) in
-    let replayed = next_tree laws tree tree' (calls + 1) moment request given does ∙ ap (λ (t : Tree). after t r) grown.replayed ∙ sym (laws.replayed history r) in
+    let legal = laws.legal history r grown.legal (may_follow history store store' calls moment request given grown is_call here) in
+    let kept = subst (λ (t : Tree). Keeps store' t) (sym (laws.replayed history r)) (next_tree laws history store' (calls + 1) moment request given here) in
     let numbered : AllByRecursion (IsNumbered (length (history ++ r ∷ []))) (history ++ r ∷ []) = subst (λ (k : ℕ). AllByRecursion (IsNumbered k) (history ++ r ∷ [])) (sym counted)
     (all_push (IsNumbered (length history + 1)) history r (numbers_more (length history) history grown.numbered) (omega (arith, grown.counted))) in
     record {
       legal = legal;
-      replayed = replayed;
+      kept = kept;
       counted = omega (arith, counted, grown.counted);
       numbered = numbered;
-      fresh = λ number less. fresh_after laws.labels (history ++ r ∷ []) tree' number legal replayed (omega (arith, less, counted, grown.counted)) numbered;
+      fresh = λ number less. fresh_after laws.labels (history ++ r ∷ []) number legal (omega (arith, less, counted, grown.counted)) numbered;
     }
 
--- a call's reply is given by the history of the tree, and so is the tree after it
-pub given_now : (tree tree' : Tree) (calls moment : ℕ) (request : Request) (given : Reply) → IsFounded tree calls → IsCall (calls + 1) 1 moment request
-    → Does tree (calls + 1) moment request given tree' → IsGiven (calls + 1) 1 given
-given_now tree tree' calls moment request given founded is_call does = given_after founded.0 tree tree' calls moment request given founded.1 is_call does
+-- a call's reply is given by the history of the tree that the store keeps, which then keeps that of one record more
+pub given_now : (store store' : StoreState) (calls moment : ℕ) (request : Request) (given : Reply) → IsFounded store calls → IsCall (calls + 1) 1 moment request
+    → Does store (calls + 1) moment request given store' → IsGiven (calls + 1) 1 given
+given_now store store' calls moment request given founded is_call does =
+    let here = does_here founded.0 store store' calls moment request given founded.1 does in
+    (founded.0, moment, request, founded.1.legal, may_follow founded.0 store store' calls moment request given founded.1 is_call here)
 
-pub founded_after : Laws → (tree tree' : Tree) (calls moment : ℕ) (request : Request) (given : Reply) → IsFounded tree calls → IsCall (calls + 1) 1 moment request
-    → Does tree (calls + 1) moment request given tree' → IsFounded tree' (calls + 1)
-founded_after laws tree tree' calls moment request given founded is_call does =
-    (founded.0 ++ Did (calls + 1) 1 moment request given ∷ [], recorded laws founded.0 tree tree' calls moment request given founded.1 is_call does)
+pub founded_after : Laws → (store store' : StoreState) (calls moment : ℕ) (request : Request) (given : Reply) → IsFounded store calls → IsCall (calls + 1) 1 moment request
+    → Does store (calls + 1) moment request given store' → IsFounded store' (calls + 1)
+founded_after laws store store' calls moment request given founded is_call does =
+    (founded.0 ++ Did (calls + 1) 1 moment request given ∷ [], recorded laws founded.0 store store' calls moment request given founded.1 is_call does)
 
 nothing_legal : IsLegal []
 unfolding IsLegal IsLegalAfter
@@ -124,11 +131,12 @@ nothing_replayed : empty_tree ≡ replay []
 unfolding replay
 nothing_replayed = refl
 
-pub founded_on_nothing : LabelLaws → IsGrown [] empty_tree 0
-founded_on_nothing laws = record {
+-- a new store keeps the tree of no record
+pub founded_on_nothing : LabelLaws → (store : StoreState) → Keeps store empty_tree → IsGrown [] store 0
+founded_on_nothing laws store kept = record {
   legal = nothing_legal;
-  replayed = nothing_replayed;
+  kept = subst (λ (t : Tree). Keeps store t) nothing_replayed kept;
   counted = refl;
   numbered = tt;
-  fresh = λ number less. fresh_after laws [] empty_tree number nothing_legal nothing_replayed less tt;
+  fresh = λ number less. fresh_after laws [] number nothing_legal less tt;
 }

@@ -13,7 +13,7 @@ use Rattle.sf_wire.specs.Packets.{IsBody}
 use Rattle.sf_call.specs.declared.request.Request.{Request}
 use Rattle.sf_call.specs.declared.record.Record.{Record}
 use Rattle.sf_call.specs.declared.record.Record.TheVariants.{Did, Left}
-use Rattle.sf_call.specs.Tree.{Tree}
+use Rattle.sf_inode.specs.Stores.{StoreState}
 use Rattle.sf_call.specs.Calls.{apply}
 use Rattle.sf_call.specs.Histories.{after, after_reply, replay, IsLegal, MayFollow, IsNewNumber, IsPresent}
 use Rattle.sf_session.specs.Asking.{AsksFor}
@@ -52,40 +52,40 @@ answers_push begun history (c ∷ bodies) [] body a h asks may = absurd h
 answers_push begun history (c ∷ bodies) (b ∷ answers) body a h asks may =
     (h.0, answers_push true (with_record history b) bodies answers body a h.1 (subst (λ g. AsksFor g body (asked_by a)) (sym (begun_stays answers)) asks) may)
 
-told_by : (tree tree' : Tree) (calls calls' : ℕ) (told told' : Option (List ℕ)) (a : Answered) → HasEffect tree calls told a tree' calls' told' → Appends told told' (moment_of a)
-told_by tree tree' calls calls' told told' Version h = subst (λ t. Appends told t []) (sym h.2) (Appends-nil told)
-told_by tree tree' calls calls' told told' (Locally id given) h = subst (λ t. Appends told t []) (sym h.2) (Appends-nil told)
-told_by tree tree' calls calls' told told' (ByCall id moment request given) h = h.tells
-told_by tree tree' calls calls' told told' (Refused id request) h = subst (λ t. Appends told t []) (sym h.1.2) (Appends-nil told)
+told_by : (store store' : StoreState) (calls calls' : ℕ) (told told' : Option (List ℕ)) (a : Answered) → HasEffect store calls told a store' calls' told' → Appends told told' (moment_of a)
+told_by store store' calls calls' told told' Version h = subst (λ t. Appends told t []) (sym h.2) (Appends-nil told)
+told_by store store' calls calls' told told' (Locally id given) h = subst (λ t. Appends told t []) (sym h.2) (Appends-nil told)
+told_by store store' calls calls' told told' (ByCall id moment request given) h = h.tells
+told_by store store' calls calls' told told' (Refused id request) h = subst (λ t. Appends told t []) (sym h.1.2) (Appends-nil told)
 
-unchanged : (history : List Record) (tree tree' : Tree) (calls calls' : ℕ) → IsGrown history tree calls → tree' ≡ tree → calls' ≡ calls → IsGrown history tree' calls'
-unchanged history tree tree' calls calls' grown t n = rw (t, n) grown
+unchanged : (history : List Record) (store store' : StoreState) (calls calls' : ℕ) → IsGrown history store calls → store' ≡ store → calls' ≡ calls → IsGrown history store' calls'
+unchanged history store store' calls calls' grown t n = rw (t, n) grown
 
 -- the record's number is one more than the records before it
-grown_more : (history : List Record) (tree' : Tree) (calls calls' moment : ℕ) (request : Request) (given : Reply) {tree : Tree} → IsGrown history tree calls → calls' ≡ calls + 1
-    → IsGrown (history ++ Did (calls + 1) 1 moment request given ∷ []) tree' (calls + 1)
-    → IsGrown (history ++ Did (length history + 1) 1 moment request given ∷ []) tree' calls'
-grown_more history tree' calls calls' moment request given grown number h =
-    rw number (subst (λ (n : ℕ). IsGrown (history ++ Did (n + 1) 1 moment request given ∷ []) tree' (calls + 1)) grown.counted h)
+grown_more : (history : List Record) (store' : StoreState) (calls calls' moment : ℕ) (request : Request) (given : Reply) {store : StoreState} → IsGrown history store calls → calls' ≡ calls + 1
+    → IsGrown (history ++ Did (calls + 1) 1 moment request given ∷ []) store' (calls + 1)
+    → IsGrown (history ++ Did (length history + 1) 1 moment request given ∷ []) store' calls'
+grown_more history store' calls calls' moment request given grown number h =
+    rw number (subst (λ (n : ℕ). IsGrown (history ++ Did (n + 1) 1 moment request given ∷ []) store' (calls + 1)) grown.counted h)
 
-grows : Laws → (history : List Record) (tree tree' : Tree) (calls calls' : ℕ) (told told' : Option (List ℕ)) (a : Answered) → IsGrown history tree calls
-    → HasEffect tree calls told a tree' calls' told' → MayAnswer history a × IsGrown (with_record history a) tree' calls'
-grows laws history tree tree' calls calls' told told' Version grown h = (tt, unchanged history tree tree' calls calls' grown h.0 h.1)
-grows laws history tree tree' calls calls' told told' (Locally id given) grown h = (tt, unchanged history tree tree' calls calls' grown h.0 h.1)
-grows laws history tree tree' calls calls' told told' (ByCall id moment request given) grown h = (
+grows : Laws → (history : List Record) (store store' : StoreState) (calls calls' : ℕ) (told told' : Option (List ℕ)) (a : Answered) → IsGrown history store calls
+    → HasEffect store calls told a store' calls' told' → MayAnswer history a × IsGrown (with_record history a) store' calls'
+grows laws history store store' calls calls' told told' Version grown h = (tt, unchanged history store store' calls calls' grown h.0 h.1)
+grows laws history store store' calls calls' told told' (Locally id given) grown h = (tt, unchanged history store store' calls calls' grown h.0 h.1)
+grows laws history store store' calls calls' told told' (ByCall id moment request given) grown h = (
   subst (λ n. n < last_number) grown.counted h.room,
-  grown_more history tree' calls calls' moment request given grown h.number (recorded laws history tree tree' calls moment request given grown h.is_call h.does),
+  grown_more history store' calls calls' moment request given grown h.number (recorded laws history store store' calls moment request given grown h.is_call h.does),
 )
-grows laws history tree tree' calls calls' told told' (Refused id request) grown h =
-    (sym grown.counted ∙ h.0, unchanged history tree tree' calls calls' grown h.1.0 h.1.1)
+grows laws history store store' calls calls' told told' (Refused id request) grown h =
+    (sym grown.counted ∙ h.0, unchanged history store store' calls calls' grown h.1.0 h.1.1)
 
 -- one packet more is answered
 pub serves_answered : Laws → (start : Edges) (i o t t' : Option (List ℕ)) (v w : ServiceView) → Serves start (edges i o t) v → Answers v t w t' → Serves start (edges i o t') w
 serves_answered laws start i o t t' v w s h =
     let p = s.progress in
     let more = fold-append with_record [] p.answers (h.answer ∷ []) in
-    let grown = grows laws (history_of p.answers) v.tree w.tree v.calls w.calls t t' h.answer p.grown h.effect in
-    let g = subst (λ (history : List Record). IsGrown history w.tree w.calls) (sym more) grown.1 in
+    let grown = grows laws (history_of p.answers) v.store w.store v.calls w.calls t t' h.answer p.grown h.effect in
+    let g = subst (λ (history : List Record). IsGrown history w.store w.calls) (sym more) grown.1 in
     record {
       open_session = (ap (λ (x : SessionView). x.waiting) h.session, ap (λ (x : SessionView). x.ended) h.session);
       progress = rw h.session (record {
@@ -97,7 +97,7 @@ serves_answered laws start i o t t' v w s h =
             ∙ ap (λ (front : List ℕ). front ++ h.rest) (flat_push packet p.bodies h.body)) p.read;
         wrote = p.wrote;
         told = subst (Appends start.told t') (flat_push moment_of p.answers h.answer)
-            (Appends-trans start.told t t' (moments_of p.answers) (moment_of h.answer) p.told (told_by v.tree w.tree v.calls w.calls t t' h.answer h.effect));
+            (Appends-trans start.told t t' (moments_of p.answers) (moment_of h.answer) p.told (told_by v.store w.store v.calls w.calls t t' h.answer h.effect));
         asked = answers_push false [] p.bodies p.answers h.body h.answer p.asked (subst (λ g. AsksFor g h.body (asked_by h.answer)) (sym (begun_is p.answers ∙ p.has_begun)) h.asks) grown.0;
         has_begun = begun_push p.answers h.answer;
         packets = sym (append_assoc p.sent v.session.output (packet_for h.answer)) ∙ ap (λ (bytes : List ℕ). bytes ++ packet_for h.answer) p.packets ∙ flat_push packet_for p.answers h.answer;
@@ -106,10 +106,10 @@ serves_answered laws start i o t t' v w s h =
     }
 
 -- the line moved on, and no packet was answered
-line_moved : (start : Edges) (i i' o o' t : Option (List ℕ)) (rest rest' output output' : List ℕ) (begun : Bool) (calls : ℕ) (tree : Tree) (sent : List ℕ)
-    → (p : Progress start (edges i o t) rest output begun calls tree) → Consumes start.incoming i' (flat_map packet p.bodies ++ rest')
-    → Appends start.outgoing o' sent → sent ++ output' ≡ transcript p.answers → Progress start (edges i' o' t) rest' output' begun calls tree
-line_moved start i i' o o' t rest rest' output output' begun calls tree sent p read wrote packets = record {
+line_moved : (start : Edges) (i i' o o' t : Option (List ℕ)) (rest rest' output output' : List ℕ) (begun : Bool) (calls : ℕ) (store : StoreState) (sent : List ℕ)
+    → (p : Progress start (edges i o t) rest output begun calls store) → Consumes start.incoming i' (flat_map packet p.bodies ++ rest')
+    → Appends start.outgoing o' sent → sent ++ output' ≡ transcript p.answers → Progress start (edges i' o' t) rest' output' begun calls store
+line_moved start i i' o o' t rest rest' output output' begun calls store sent p read wrote packets = record {
   bodies = p.bodies;
   answers = p.answers;
   sent = sent;
@@ -124,17 +124,17 @@ line_moved start i i' o o' t rest rest' output output' begun calls tree sent p r
 }
 
 -- what waited was sent
-pub sends_all : (start : Edges) (i o o' t : Option (List ℕ)) (rest output : List ℕ) (begun : Bool) (calls : ℕ) (tree : Tree) → Progress start (edges i o t) rest output begun calls tree
-    → Appends o o' output → Progress start (edges i o' t) rest [] begun calls tree
-sends_all start i o o' t rest output begun calls tree p sent =
-    line_moved start i i o o' t rest rest output [] begun calls tree (p.sent ++ output) p p.read
+pub sends_all : (start : Edges) (i o o' t : Option (List ℕ)) (rest output : List ℕ) (begun : Bool) (calls : ℕ) (store : StoreState) → Progress start (edges i o t) rest output begun calls store
+    → Appends o o' output → Progress start (edges i o' t) rest [] begun calls store
+sends_all start i o o' t rest output begun calls store p sent =
+    line_moved start i i o o' t rest rest output [] begun calls store (p.sent ++ output) p p.read
     (Appends-trans start.outgoing o o' p.sent output p.wrote sent) (append-nil (p.sent ++ output) ∙ p.packets)
 
 -- a piece was read
-pub reads_piece : (start : Edges) (i i' o t : Option (List ℕ)) (rest output : List ℕ) (begun : Bool) (calls : ℕ) (tree : Tree) (piece : List ℕ) → Progress start (edges i o t) rest output begun calls tree
-    → Consumes i i' piece → Progress start (edges i' o t) (rest ++ piece) output begun calls tree
-reads_piece start i i' o t rest output begun calls tree piece p consumed =
-    line_moved start i i' o o t rest (rest ++ piece) output output begun calls tree p.sent p
+pub reads_piece : (start : Edges) (i i' o t : Option (List ℕ)) (rest output : List ℕ) (begun : Bool) (calls : ℕ) (store : StoreState) (piece : List ℕ) → Progress start (edges i o t) rest output begun calls store
+    → Consumes i i' piece → Progress start (edges i' o t) (rest ++ piece) output begun calls store
+reads_piece start i i' o t rest output begun calls store piece p consumed =
+    line_moved start i i' o o t rest (rest ++ piece) output output begun calls store p.sent p
     (subst (Consumes start.incoming i') (append_assoc (flat_map packet p.bodies) rest piece)
     (Consumes-trans start.incoming i i' (flat_map packet p.bodies ++ rest) piece p.read consumed))
     p.wrote p.packets

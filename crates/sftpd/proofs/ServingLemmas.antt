@@ -17,7 +17,9 @@ use Rattle.sf_request.specs.declared.request.WireRequest.TheVariants as wire
 use Rattle.sf_request.specs.declared.request.Asked.{Asked}
 use Rattle.sf_request.specs.declared.request.Asked.TheVariants as asked
 use Rattle.sf_path.specs.Names.{Path}
-use Rattle.sf_call.specs.Tree.{Tree, empty_tree}
+use Rattle.sf_inode.specs.Stores.{StoreState}
+use Rattle.sf_inode.specs.Keeps.{Keeps}
+use Rattle.sf_call.specs.Tree.{empty_tree}
 use Rattle.sf_call.specs.Histories.{IsLegal, IsLegalAfter, replay}
 use Rattle.sf_session.specs.Asking.{is_init, path_at, call_of, call_ask, real_path_at, request_ask, ask_by}
 use Rattle.sf_call.specs.declared.request.Request.{Request}
@@ -25,7 +27,7 @@ use Rattle.sf_request.specs.declared.request.WireRequest.{WireRequest}
 use Rattle.sftpd.specs.declared.service.Turn.TheVariants as turn
 use Rattle.sf_session.specs.Sessions.{SessionView, EndsBy}
 use Rattle.sftpd.specs.Transcripts.{moments_of, AreAnswers, IsServed, IsEnd}
-use Rattle.sftpd.specs.Serving.{ServiceView, new_service, Edges, edges, Answers, TurnGives, Progress, Serves, HasEnded, ServesLine, IsDrained, IsRounded, ReadsAtLeast}
+use Rattle.sftpd.specs.Serving.{ServiceView, IsNewService, IsGrown, Edges, edges, Answers, TurnGives, Progress, Serves, HasEnded, ServesLine, IsDrained, IsRounded, ReadsAtLeast}
 use Rattle.sftpd.proofs.Founding.{LabelLaws, founded_on_nothing}
 use Rattle.sftpd.proofs.Progressing.{sends_all, reads_piece}
 
@@ -36,7 +38,7 @@ pub serves_sent : (start : Edges) (i i' o o' t : Option (List ℕ)) (v w : Servi
     → Serves start (edges i o t) v → Serves start (edges i' o' t) w
 serves_sent start i i' o o' t v w same sent now s = rw (same, now) (record {
   open_session = s.open_session;
-  progress = sends_all start i o o' t v.session.unread v.session.output v.session.begun v.calls v.tree s.progress sent;
+  progress = sends_all start i o o' t v.session.unread v.session.output v.session.begun v.calls v.store s.progress sent;
 })
 
 pub batch_sent : (i i' o o' : Option (List ℕ)) (v w : ServiceView) {E : Type 0} (r : Result (Unit {0}) E) → i' ≡ i → OnOk r (Appends o o' v.session.output) → w ≡ sent_all v
@@ -122,9 +124,9 @@ all_read None b bytes P h end f = tt
 all_read (Some input) None bytes P h end f = absurd h
 all_read (Some input) (Some left) bytes P h end f = subst P (sym (h ∙ ap (λ (xs : List ℕ). bytes ++ xs) end ∙ append-nil bytes)) f
 
-served_by : (start now : Edges) (rest input : List ℕ) (begun : Bool) (calls : ℕ) (tree : Tree) (cause : Cause) → (p : Progress start now rest [] begun calls tree) → (left : List ℕ)
+served_by : (start now : Edges) (rest input : List ℕ) (begun : Bool) (calls : ℕ) (store : StoreState) (cause : Cause) → (p : Progress start now rest [] begun calls store) → (left : List ℕ)
     → input ≡ flat_map packet p.bodies ++ left → IsEnd begun left cause → IsServed input p.sent (moments_of p.answers) cause
-served_by start now rest input begun calls tree cause p left stream end = record {
+served_by start now rest input begun calls store cause p left stream end = record {
   bodies = p.bodies;
   rest = left;
   answers = p.answers;
@@ -138,26 +140,26 @@ served_by start now rest input begun calls tree cause p left stream end = record
 }
 
 -- the session has ended, and all was sent
-pub line_ended : (start now : Edges) (rest : List ℕ) (begun : Bool) (calls : ℕ) (tree : Tree) (cause : Cause) → Progress start now rest [] begun calls tree → EndsBy begun rest cause
+pub line_ended : (start now : Edges) (rest : List ℕ) (begun : Bool) (calls : ℕ) (store : StoreState) (cause : Cause) → Progress start now rest [] begun calls store → EndsBy begun rest cause
     → ServesLine start now cause
-line_ended start now rest begun calls tree cause p ends = (
+line_ended start now rest begun calls store cause p ends = (
   p.sent,
   moments_of p.answers,
   p.wrote,
   p.told,
   front_read start.incoming now.incoming (flat_map packet p.bodies ++ rest) _ p.read
-      (λ more. served_by start now rest _ begun calls tree cause p (rest ++ more) (append_assoc (flat_map packet p.bodies) rest more) (inr (ends_more begun rest more cause ends))),
+      (λ more. served_by start now rest _ begun calls store cause p (rest ++ more) (append_assoc (flat_map packet p.bodies) rest more) (inr (ends_more begun rest more cause ends))),
 )
 
 -- the input has ended, and all was sent
-pub line_closed : (start now : Edges) (rest : List ℕ) (begun : Bool) (calls : ℕ) (tree : Tree) → Progress start now rest [] begun calls tree → IsCut rest cut.More → IsAtEnd now.incoming
+pub line_closed : (start now : Edges) (rest : List ℕ) (begun : Bool) (calls : ℕ) (store : StoreState) → Progress start now rest [] begun calls store → IsCut rest cut.More → IsAtEnd now.incoming
     → ServesLine start now Closed
-line_closed start now rest begun calls tree p partial end = (
+line_closed start now rest begun calls store p partial end = (
   p.sent,
   moments_of p.answers,
   p.wrote,
   p.told,
-  all_read start.incoming now.incoming (flat_map packet p.bodies ++ rest) _ p.read end (served_by start now rest _ begun calls tree Closed p rest refl (inl (refl, partial))),
+  all_read start.incoming now.incoming (flat_map packet p.bodies ++ rest) _ p.read end (served_by start now rest _ begun calls store Closed p rest refl (inl (refl, partial))),
 )
 
 -- a round is over when what was drained is sent
@@ -166,24 +168,24 @@ pub rounded_off : (start : Edges) (i i' o o' t : Option (List ℕ)) (v w : Servi
 rounded_off start i i' o o' t v w None same sent now h =
     (serves_sent start i i' o o' t v w same sent now h.0, rw now h.1, rw now refl)
 rounded_off start i i' o o' t v w (Some cause) same sent now h =
-    line_ended start (edges i o' t) h.rest v.session.begun v.calls v.tree cause
-    (sends_all start i o o' t h.rest v.session.output v.session.begun v.calls v.tree h.progress sent) h.ends
+    line_ended start (edges i o' t) h.rest v.session.begun v.calls v.store cause
+    (sends_all start i o o' t h.rest v.session.output v.session.begun v.calls v.store h.progress sent) h.ends
 
 -- the end of the input ends a round
 pub rounded_at_end : (start : Edges) (i i' o o' t : Option (List ℕ)) (v : ServiceView) → Consumes i i' [] → o' ≡ o → IsAtEnd i' → IsRounded start (edges i o t) v None
     → IsRounded start (edges i' o' t) v (Some Closed)
 rounded_at_end start i i' o o' t v nothing same end h =
-    let p : Progress start (edges i o t) v.session.unread [] v.session.begun v.calls v.tree = subst (λ (out : List ℕ). Progress start (edges i o t) v.session.unread out v.session.begun v.calls v.tree) h.2 h.0.progress in
-    let q = reads_piece start i i' o t v.session.unread [] v.session.begun v.calls v.tree [] p nothing in
-    rw same (line_closed start (edges i' o t) (v.session.unread ++ []) v.session.begun v.calls v.tree q (rw append-nil h.1) end)
+    let p : Progress start (edges i o t) v.session.unread [] v.session.begun v.calls v.store = subst (λ (out : List ℕ). Progress start (edges i o t) v.session.unread out v.session.begun v.calls v.store) h.2 h.0.progress in
+    let q = reads_piece start i i' o t v.session.unread [] v.session.begun v.calls v.store [] p nothing in
+    rw same (line_closed start (edges i' o t) (v.session.unread ++ []) v.session.begun v.calls v.store q (rw append-nil h.1) end)
 
 nothing_asked : AreAnswers false [] [] []
 unfolding AreAnswers
 nothing_asked = tt
 
 -- a new service has read and sent nothing
-pub starts : LabelLaws → (start : Edges) → IsRounded start start new_service None
-starts laws start = (
+pub starts : LabelLaws → (start : Edges) → (v : ServiceView) → IsNewService v → Keeps v.store empty_tree → IsRounded start start v None
+starts laws start v new kept = subst (λ (x : SessionView). IsRounded start start (record { session = x; store = v.store; calls = v.calls }) None) (sym new.session) (
   record {
     open_session = (refl, refl);
     progress = record {
@@ -197,7 +199,7 @@ starts laws start = (
       asked = nothing_asked;
       has_begun = refl;
       packets = refl;
-      grown = founded_on_nothing laws;
+      grown = subst (λ (n : ℕ). IsGrown [] v.store n) (sym new.calls) (founded_on_nothing laws v.store kept);
     };
   },
   inl (lit< tt),
@@ -209,7 +211,7 @@ pub fed : (start : Edges) (i i' o o' t : Option (List ℕ)) (v w : ServiceView) 
     → w ≡ record v { session = record v.session { unread = v.session.unread ++ piece } } → Serves start (edges i' o' t) w
 fed start i i' o o' t v w piece s consumed same now = rw (same, now) (record {
   open_session = s.open_session;
-  progress = reads_piece start i i' o t v.session.unread v.session.output v.session.begun v.calls v.tree piece s.progress consumed;
+  progress = reads_piece start i i' o t v.session.unread v.session.output v.session.begun v.calls v.store piece s.progress consumed;
 })
 
 pub going_on : (start now : Edges) (v : ServiceView) (ended : Option Cause) → ((cause : Cause) → ended ≡ Some cause → ⊥) → IsRounded start now v ended → IsRounded start now v None

@@ -1,4 +1,4 @@
--- What a turn comes to, from what the session and the tree did.
+-- What a turn comes to, from what the session and the store did.
 use Rattle.std.proofs.Common.{◌≡◌, ◌+◌, ◌<◌, ◌⊎◌, ℕ, List, [], ◌∷◌, ◌++◌, Bool, true, Option, Some, None, refl, sym, subst}
 use Rattle.std.specs.Prelude.{IfSome, IfOk, OnOk, Result, Ok, Err}
 use Rattle.std.specs.Io.KnownBytes.{Appends}
@@ -9,7 +9,7 @@ use Rattle.sf_reply.specs.Replies.{reply_body}
 use Rattle.sf_call.specs.declared.request.Request.{Request}
 use Rattle.sf_call.specs.declared.fault.CoreFault.{CoreFault}
 use Rattle.sf_call.specs.declared.fault.CoreFault.TheVariants as fault
-use Rattle.sf_call.specs.Tree.{Tree}
+use Rattle.sf_inode.specs.Stores.{StoreState}
 use Rattle.sf_call.specs.Calls.{apply}
 use Rattle.sf_session.specs.declared.asking.Ask.{Ask}
 use Rattle.sf_session.specs.declared.asking.Ask.TheVariants as ask
@@ -24,7 +24,7 @@ use Rattle.sftpd.specs.Serving.{ServiceView, NumberedView, Makes, IsMade, MakesC
 local_by : (v : ServiceView) (told : Option (List ℕ)) (s : SessionView) (body rest : List ℕ) (a : Ask) (text : List ℕ)
     → Begins v.session.unread body rest → AsksFor v.session.begun body a → LocalPacket a text
     → s ≡ record { unread = rest; output = v.session.output ++ text; begun = true; waiting = None; ended = None }
-    → Answers v told (record { session = s; tree = v.tree; calls = v.calls }) told
+    → Answers v told (record { session = s; store = v.store; calls = v.calls }) told
 local_by v told s body rest ask.Version text begins asks is_packet now =
     record { body = body; rest = rest; answer = Version; begins = begins; asks = asks; session = rw (← is_packet) now; effect = (refl, refl, refl) }
 local_by v told s body rest (ask.Local id given) text begins asks is_packet now =
@@ -33,7 +33,7 @@ local_by v told s body rest (ask.Call id request) text begins asks is_packet now
 local_by v told s body rest (ask.End cause) text begins asks is_packet now = absurd is_packet
 
 pub answered_locally : (v : ServiceView) (told : Option (List ℕ)) (s : SessionView) → AnswersLocally v.session s
-    → Answers v told (record { session = s; tree = v.tree; calls = v.calls }) told
+    → Answers v told (record { session = s; store = v.store; calls = v.calls }) told
 answered_locally v told s h = local_by v told s h.body h.rest h.asked h.text h.begins h.asks h.local_packet h.now
 
 -- what holds of the value that is there
@@ -46,27 +46,27 @@ Sends v given w = IfSome v.waiting (λ id. w ≡ record v { output = v.output ++
 
 pub refused_call : (v : ServiceView) (told : Option (List ℕ)) (request : Request) (s : SessionView) → v.calls ≡ last_number
     → Sends v.session (refusal_of fault.NumbersSpent) s
-    → IfSome v.session.waiting (λ id. MakesCall v told id request (record { session = s; tree = v.tree; calls = v.calls }) told)
+    → IfSome v.session.waiting (λ id. MakesCall v told id request (record { session = s; store = v.store; calls = v.calls }) told)
 refused_call v told request s spent sends =
     if_some v.session.waiting _ _ (λ id e. record { answer = Refused id request; asked = refl; session = e; effect = (spent, (refl, refl, refl)) }) sends
 
-pub made_call : (v : ServiceView) (told told' : Option (List ℕ)) (request : Request) (s : SessionView) (moment : ℕ) (given : Reply) (tree : Tree) (calls : ℕ)
-    → IsMade v.tree v.calls told moment request given tree calls told' → Sends v.session given s
-    → IfSome v.session.waiting (λ id. MakesCall v told id request (record { session = s; tree = tree; calls = calls }) told')
-made_call v told told' request s moment given tree calls made sends =
+pub made_call : (v : ServiceView) (told told' : Option (List ℕ)) (request : Request) (s : SessionView) (moment : ℕ) (given : Reply) (store : StoreState) (calls : ℕ)
+    → IsMade v.store v.calls told moment request given store calls told' → Sends v.session given s
+    → IfSome v.session.waiting (λ id. MakesCall v told id request (record { session = s; store = store; calls = calls }) told')
+made_call v told told' request s moment given store calls made sends =
     if_some v.session.waiting _ _ (λ id e. record { answer = ByCall id moment request given; asked = refl; session = e; effect = made }) sends
 
 -- why the call could not be made is told
 pub refused_by : (v : ServiceView) (w : NumberedView) (told told' : Option (List ℕ)) (request : Request) (s : SessionView) (fault : CoreFault)
-    → Makes (record { tree = v.tree; calls = v.calls }) told request (Err fault) w told' → Sends v.session (refusal_of fault) s
-    → IfSome v.session.waiting (λ id. MakesCall v told id request (record { session = s; tree = w.tree; calls = w.calls }) told')
-refused_by v w told told' request s fault.OutOfMemory made sends = made_call v told told' request s made.0 reply.NoMemory w.tree w.calls made.1 sends
+    → Makes (record { store = v.store; calls = v.calls }) told request (Err fault) w told' → Sends v.session (refusal_of fault) s
+    → IfSome v.session.waiting (λ id. MakesCall v told id request (record { session = s; store = w.store; calls = w.calls }) told')
+refused_by v w told told' request s fault.OutOfMemory made sends = made_call v told told' request s made.0 reply.NoMemory w.store w.calls made.1 sends
 refused_by v w told told' request s fault.NumbersSpent made sends = rw (made.1, made.2) (refused_call v told request s made.0 sends)
 refused_by v w told told' request s fault.Sessions made sends = absurd made
 refused_by v w told told' request s fault.Stranger made sends = absurd made
 
 abbrev pub after_next : ServiceView → SessionView → ServiceView
-after_next v s = record { session = s; tree = v.tree; calls = v.calls }
+after_next v s = record { session = s; store = v.store; calls = v.calls }
 
 call_by : (v w : ServiceView) (told told' : Option (List ℕ)) (request : Request) (body rest : List ℕ) (id : ℕ)
     → Begins v.session.unread body rest → AsksFor v.session.begun body (ask.Call id request)

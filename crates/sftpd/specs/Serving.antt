@@ -10,7 +10,7 @@ use Rattle.sf_wire.specs.Packets.{IsBody, IsCut}
 use Rattle.sf_call.specs.declared.record.Record.{Record}
 use Rattle.sf_call.specs.declared.record.Record.TheVariants.{Did, Left}
 use Rattle.sf_path.specs.Names.{Path}
-use Rattle.sf_call.specs.Tree.{Tree, empty_tree, label_at, object_of, handle_of}
+use Rattle.sf_call.specs.Tree.{Tree, label_at, object_of, handle_of}
 use Rattle.sf_call.specs.Calls.{apply}
 use Rattle.sf_call.specs.Histories.{IsLegal, replay}
 use Rattle.sf_call.specs.Values.{IsCall}
@@ -18,6 +18,9 @@ use Rattle.sf_call.specs.Answers.{Answered as Answer}
 use Rattle.sf_call.specs.declared.fault.CoreFault.{CoreFault}
 use Rattle.sf_call.specs.declared.fault.CoreFault.TheVariants as core
 use Rattle.sf_call.specs.declared.request.Request.{Request}
+use Rattle.sf_inode.specs.Stores.{StoreState, IsFirst}
+use Rattle.sf_inode.specs.Keeps.{Keeps}
+use Rattle.sf_walk.specs.Served.{IsNewNumber}
 use Rattle.sf_session.specs.declared.asking.Ask.TheVariants as ask
 use Rattle.sf_session.specs.declared.cause.Cause.{Cause}
 use Rattle.sf_line.specs.Lines.{Rose}
@@ -29,19 +32,22 @@ use Rattle.sf_session.specs.Asking.{AsksFor}
 use Rattle.sf_session.specs.Sessions.{SessionView, new_session, Begins, EndsBy}
 use Rattle.sftpd.specs.Transcripts.{Answered, Version, Locally, ByCall, Refused, asked_by, packet_for, transcript, moments_of, history_of, has_begun, AreAnswers, MayAnswer, last_number, IsServed}
 
--- a tree, and how many calls were made on it
+-- a store, and how many calls were made on it
 pub record NumberedView : Type 0 where
-  pub tree : Tree
+  pub store : StoreState
   pub calls : ℕ
 
--- a session, its tree, and how many calls it made
+-- a session, its store, and how many calls it made
 pub record ServiceView : Type 0 where
   pub session : SessionView
-  pub tree : Tree
+  pub store : StoreState
   pub calls : ℕ
 
-abbrev pub new_service : ServiceView
-new_service = record { session = new_session; tree = empty_tree; calls = 0 }
+-- a session that was fed nothing, and a store with its root alone
+pub record IsNewService (v : ServiceView) : Type 0 where
+  pub session : v.session ≡ new_session
+  pub store : IsFirst v.store
+  pub calls : v.calls ≡ 0
 
 -- what a line still has to give, what it has taken, and the moments that a clock told, where they tell it
 pub record Edges : Type 0 where
@@ -63,54 +69,58 @@ pub record IsFresh (number : ℕ) (tree : Tree) : Type 0 where
   pub no_object : object_of tree.objects number ≡ None
   pub no_handle : handle_of tree.handles number ≡ None
 
--- The tree is that of this legal history, whose calls are numbered from 1 up to their number. No later number is a label
--- or a handle.
-pub record IsGrown (history : List Record) (tree : Tree) (calls : ℕ) : Type 0 where
+-- The store keeps the tree of this legal history, whose calls are numbered from 1 up to their number. No later number is a
+-- label or a handle.
+pub record IsGrown (history : List Record) (store : StoreState) (calls : ℕ) : Type 0 where
   pub legal : IsLegal history
-  pub replayed : tree ≡ replay history
+  pub kept : Keeps store (replay history)
   pub counted : calls ≡ length history
   pub numbered : AllByRecursion (IsNumbered (length history)) history
-  pub fresh : (number : ℕ) → calls < number → IsFresh number tree
+  pub fresh : (number : ℕ) → calls < number → IsFresh number (replay history)
 
--- the tree is that of a legal history of so many calls
-abbrev pub IsFounded : Tree → ℕ → Type 0
-IsFounded tree calls = (history : List Record) × IsGrown history tree calls
+-- the store keeps the tree of a legal history of so many calls
+abbrev pub IsFounded : StoreState → ℕ → Type 0
+IsFounded store calls = (history : List Record) × IsGrown history store calls
 
--- A call was made at a moment that the clock told, under the next number: its reply is the tree's, or want of memory, which
--- leaves the tree as it was.
-pub record IsMade (tree : Tree) (calls : ℕ) (told : Option (List ℕ)) (moment : ℕ) (request : Request) (given : Reply) (tree' : Tree) (calls' : ℕ)
+-- a call of this number and moment has the reply of the tree that the store keeps, which is then the tree after it; or want
+-- of memory, which leaves the tree as it was
+abbrev pub Does : StoreState → ℕ → ℕ → Request → Reply → StoreState → Type 0
+Does store number moment request given store' = (t : Tree) → Keeps store t → IsNewNumber t number
+    → ((given ≡ (apply t 1 number moment request).reply) × Keeps store' (apply t 1 number moment request).tree) ⊎ ((given ≡ reply.NoMemory) × Keeps store' t)
+
+-- A call was made at a moment that the clock told, under the next number.
+pub record IsMade (store : StoreState) (calls : ℕ) (told : Option (List ℕ)) (moment : ℕ) (request : Request) (given : Reply) (store' : StoreState) (calls' : ℕ)
     (told' : Option (List ℕ)) : Type 0 where
   pub room : calls < last_number
   pub number : calls' ≡ calls + 1
   pub tells : Appends told told' (moment ∷ [])
   pub is_call : IsCall (calls + 1) 1 moment request
-  pub does : ((given ≡ (apply tree 1 (calls + 1) moment request).reply) × (tree' ≡ (apply tree 1 (calls + 1) moment request).tree))
-      ⊎ ((given ≡ reply.NoMemory) × (tree' ≡ tree))
+  pub does : Does store (calls + 1) moment request given store'
 
 -- what became of a call: its reply, or why it could not be made
 abbrev pub Makes : NumberedView → Option (List ℕ) → Request → Result Answer CoreFault → NumberedView → Option (List ℕ) → Type 0
-Makes v told request (Ok answer) w told' = (moment : ℕ) × IsMade v.tree v.calls told moment request answer.reply w.tree w.calls told'
-Makes v told request (Err core.OutOfMemory) w told' = (moment : ℕ) × IsMade v.tree v.calls told moment request reply.NoMemory w.tree w.calls told'
+Makes v told request (Ok answer) w told' = (moment : ℕ) × IsMade v.store v.calls told moment request answer.reply w.store w.calls told'
+Makes v told request (Err core.OutOfMemory) w told' = (moment : ℕ) × IsMade v.store v.calls told moment request reply.NoMemory w.store w.calls told'
 Makes v told request (Err core.NumbersSpent) w told' = (v.calls ≡ last_number) × (w ≡ v) × (told' ≡ told)
 Makes v told request (Err core.Sessions) w told' = ⊥
 Makes v told request (Err core.Stranger) w told' = ⊥
 
--- what an answer does to the tree, the number of calls and the clock's moments
-abbrev pub Leaves : Tree → ℕ → Option (List ℕ) → Tree → ℕ → Option (List ℕ) → Type 0
-Leaves tree calls told tree' calls' told' = (tree' ≡ tree) × (calls' ≡ calls) × (told' ≡ told)
+-- what an answer does to the store, the number of calls and the clock's moments
+abbrev pub Leaves : StoreState → ℕ → Option (List ℕ) → StoreState → ℕ → Option (List ℕ) → Type 0
+Leaves store calls told store' calls' told' = (store' ≡ store) × (calls' ≡ calls) × (told' ≡ told)
 
-abbrev pub HasEffect : Tree → ℕ → Option (List ℕ) → Answered → Tree → ℕ → Option (List ℕ) → Type 0
-HasEffect tree calls told Version tree' calls' told' = Leaves tree calls told tree' calls' told'
-HasEffect tree calls told (Locally id given) tree' calls' told' = Leaves tree calls told tree' calls' told'
-HasEffect tree calls told (ByCall id moment request given) tree' calls' told' = IsMade tree calls told moment request given tree' calls' told'
-HasEffect tree calls told (Refused id request) tree' calls' told' = (calls ≡ last_number) × Leaves tree calls told tree' calls' told'
+abbrev pub HasEffect : StoreState → ℕ → Option (List ℕ) → Answered → StoreState → ℕ → Option (List ℕ) → Type 0
+HasEffect store calls told Version store' calls' told' = Leaves store calls told store' calls' told'
+HasEffect store calls told (Locally id given) store' calls' told' = Leaves store calls told store' calls' told'
+HasEffect store calls told (ByCall id moment request given) store' calls' told' = IsMade store calls told moment request given store' calls' told'
+HasEffect store calls told (Refused id request) store' calls' told' = (calls ≡ last_number) × Leaves store calls told store' calls' told'
 
 -- The call that a session waits for was answered.
 pub record MakesCall (v : ServiceView) (told : Option (List ℕ)) (id : ℕ) (request : Request) (w : ServiceView) (told' : Option (List ℕ)) : Type 0 where
   pub answer : Answered
   pub asked : asked_by answer ≡ ask.Call id request
   pub session : w.session ≡ record v.session { output = v.session.output ++ packet_for answer; waiting = None }
-  pub effect : HasEffect v.tree v.calls told answer w.tree w.calls told'
+  pub effect : HasEffect v.store v.calls told answer w.store w.calls told'
 
 -- the packet at the front was answered
 pub record Answers (v : ServiceView) (told : Option (List ℕ)) (w : ServiceView) (told' : Option (List ℕ)) : Type 0 where
@@ -120,18 +130,18 @@ pub record Answers (v : ServiceView) (told : Option (List ℕ)) (w : ServiceView
   pub begins : Begins v.session.unread body rest
   pub asks : AsksFor v.session.begun body (asked_by answer)
   pub session : w.session ≡ record { unread = rest; output = v.session.output ++ packet_for answer; begun = true; waiting = None; ended = None }
-  pub effect : HasEffect v.tree v.calls told answer w.tree w.calls told'
+  pub effect : HasEffect v.store v.calls told answer w.store w.calls told'
 
 -- what a turn came to
 abbrev pub TurnGives : ServiceView → Option (List ℕ) → Turn → ServiceView → Option (List ℕ) → Type 0
 TurnGives v told turn.More w told' = IsCut v.session.unread cut.More × (w ≡ v) × (told' ≡ told)
 TurnGives v told turn.Answered w told' = Answers v told w told'
 TurnGives v told (turn.Ended cause) w told' = EndsBy v.session.begun v.session.unread cause
-    × (w ≡ record { session = record { unread = []; output = v.session.output; begun = v.session.begun; waiting = None; ended = Some cause }; tree = v.tree; calls = v.calls })
+    × (w ≡ record { session = record { unread = []; output = v.session.output; begun = v.session.begun; waiting = None; ended = Some cause }; store = v.store; calls = v.calls })
     × (told' ≡ told)
 
 -- What was read since the start is packets, each answered, and a rest; the answers' packets were written or are output.
-pub record Progress (start now : Edges) (rest output : List ℕ) (begun : Bool) (calls : ℕ) (tree : Tree) : Type 0 where
+pub record Progress (start now : Edges) (rest output : List ℕ) (begun : Bool) (calls : ℕ) (store : StoreState) : Type 0 where
   pub bodies : List (List ℕ)
   pub answers : List Answered
   pub sent : List ℕ
@@ -142,18 +152,18 @@ pub record Progress (start now : Edges) (rest output : List ℕ) (begun : Bool) 
   pub asked : AreAnswers false [] bodies answers
   pub has_begun : has_begun answers ≡ begun
   pub packets : sent ++ output ≡ transcript answers
-  pub grown : IsGrown (history_of answers) tree calls
+  pub grown : IsGrown (history_of answers) store calls
 
 -- the session goes on
 pub record Serves (start now : Edges) (v : ServiceView) : Type 0 where
   pub open_session : (v.session.waiting ≡ None) × (v.session.ended ≡ None)
-  pub progress : Progress start now v.session.unread v.session.output v.session.begun v.calls v.tree
+  pub progress : Progress start now v.session.unread v.session.output v.session.begun v.calls v.store
 
 -- the session has ended
 pub record HasEnded (start now : Edges) (v : ServiceView) (cause : Cause) : Type 0 where
   pub rest : List ℕ
   pub idle : v.session.waiting ≡ None
-  pub progress : Progress start now rest v.session.output v.session.begun v.calls v.tree
+  pub progress : Progress start now rest v.session.output v.session.begun v.calls v.store
   pub ends : EndsBy v.session.begun rest cause
 
 -- no whole packet is left, or the session has ended

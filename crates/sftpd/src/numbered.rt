@@ -1,12 +1,15 @@
-//! A tree, and the calls that were made on it.
+//! A store, and the calls that were made on it.
 
 ghost use Rattle.std.specs.Prelude.{◌≡◌, IfOk};
-ghost use Rattle.sf_call.specs.Tree.{empty_tree};
+ghost use Rattle.sf_inode.specs.Stores.{IsFirst};
 ghost use Rattle.sftpd.specs.Serving.{Makes};
 
-use sf_call::{Answer, CoreFault, Request, labels_of_paths, one_record_more, told_replies};
-use sf_plain::PlainTree;
+use sf_call::{
+    Answer, Call, CoreFault, Request, Stage, labels_of_paths, one_record_more, told_replies,
+};
+use sf_inode::{Store, kept_trees};
 use sf_session::Clock;
+use sf_walk::from_root;
 use std::alloc::{AllocError, Global};
 use std::marker::Model;
 
@@ -16,32 +19,34 @@ const LAST_NUMBER: u64 = u64::MAX / 2;
 /// The number of the one session.
 const SESSION: u64 = 1;
 
-/// A tree, and how many calls were made on it. They are numbered from 1 on, and the tree is that of their history.
+/// A store, and how many calls were made on it. They are numbered from 1 on, and the store keeps the
+/// tree of their history.
 #[derive(Drop)]
-pub(crate) struct NumberedTree {
-    tree: PlainTree,
+pub(crate) struct NumberedStore {
+    store: Store,
     calls: u64,
 }
 
-impl Model for NumberedTree {
+impl Model for NumberedStore {
     ghost use Rattle.std.specs.Prelude.{◌<◌, ◌^◌};
     ghost use Rattle.sftpd.specs.Serving.{NumberedView, IsFounded};
 
     ghost Value = { NumberedView };
 
-    ghost view = { λ s. record { tree = s.tree; calls = s.calls } };
+    ghost view = { λ s. record { store = s.store; calls = s.calls } };
 
-    ghost invariant = { λ s. (s.calls < 2 ^ 63) × IsFounded s.tree s.calls };
+    ghost invariant = { λ s. (s.calls < 2 ^ 63) × IsFounded s.store s.calls };
 }
 
-impl NumberedTree {
+impl NumberedStore {
     /// The root alone, and no call.
-    pub(crate) fn new(alloc: Global) -> Result<NumberedTree, AllocError>
-        ensures { IfOk result (λ new. new ≡ record { tree = empty_tree; calls = 0 }) }
+    pub(crate) fn new(alloc: Global) -> Result<NumberedStore, AllocError>
+        ensures { IfOk result (λ new. IsFirst new.store × (new.calls ≡ 0)) }
     {
         labels_of_paths();
-        Ok(NumberedTree {
-            tree: PlainTree::new(alloc)?,
+        kept_trees();
+        Ok(NumberedStore {
+            store: Store::new(alloc)?,
             calls: 0,
         })
     }
@@ -50,9 +55,9 @@ impl NumberedTree {
     pub(crate) fn make<C: Clock>(
         &mut self,
         clock: &mut C,
-        request: &Request,
+        request: Request,
     ) -> Result<Answer, CoreFault>
-        ensures { Makes self.old (C.told clock.old) request.now result self.new (C.told clock.new) }
+        ensures { Makes self.old (C.told clock.old) request result self.new (C.told clock.new) }
     {
         one_record_more();
         told_replies();
@@ -63,9 +68,14 @@ impl NumberedTree {
         self.calls += 1;
         let moment = clock.now();
         request.is_call(self.calls, SESSION, moment);
-        match self.tree.apply(SESSION, self.calls, moment, request) {
-            Ok(reply) => Ok(Answer::new(self.calls, SESSION, reply)),
-            Err(_) => Err(CoreFault::OutOfMemory),
-        }
+        let call = Call {
+            number: self.calls,
+            session: SESSION,
+            moment,
+            request,
+            stage: Stage::Fresh,
+        };
+        let reply = from_root(&mut self.store, &call);
+        Ok(Answer::new(self.calls, SESSION, reply))
     }
 }

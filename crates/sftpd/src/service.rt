@@ -1,9 +1,9 @@
-//! A session with a tree of its own.
+//! A session with a store of its own.
 
 ghost use Rattle.std.specs.Prelude.{◌≡◌, ◌++◌, [], None, IsSome, IfSome, IfOk, IfErr, OnOk, OnErr};
-ghost use Rattle.sftpd.specs.Serving.{new_service, TurnGives, MakesCall};
+ghost use Rattle.sftpd.specs.Serving.{IsNewService, TurnGives, MakesCall};
 
-use crate::numbered::NumberedTree;
+use crate::numbered::NumberedStore;
 use bytes::BytesMut;
 use sf_call::Request;
 use sf_session::{Cause, Clock, Next, ServeFault, Session};
@@ -20,11 +20,11 @@ pub(crate) enum Turn {
     Ended(Cause),
 }
 
-/// A session with a tree of its own.
+/// A session with a store of its own.
 #[derive(Drop)]
 pub(crate) struct Service {
     session: Session,
-    tree: NumberedTree,
+    store: NumberedStore,
 }
 
 impl Model for Service {
@@ -32,17 +32,17 @@ impl Model for Service {
 
     ghost Value = { ServiceView };
 
-    ghost view = { λ s. record { session = s.session; tree = s.tree.tree; calls = s.tree.calls } };
+    ghost view = { λ s. record { session = s.session; store = s.store.store; calls = s.store.calls } };
 }
 
 impl Service {
-    /// A session that was fed nothing, and a tree with its root alone.
+    /// A session that was fed nothing, and a store with its root alone.
     pub(crate) fn new(alloc: Global) -> Result<Service, AllocError>
-        ensures { IfOk result (λ service. service ≡ new_service) }
+        ensures { IfOk result (λ service. IsNewService service) }
     {
         Ok(Service {
             session: Session::new(alloc),
-            tree: NumberedTree::new(alloc)?,
+            store: NumberedStore::new(alloc)?,
         })
     }
 
@@ -84,22 +84,22 @@ impl Service {
         match self.session.next() {
             Ok(Next::More) => Ok(Turn::More),
             Ok(Next::Local) => Ok(Turn::Answered),
-            Ok(Next::Call(request)) => self.call(clock, &request),
+            Ok(Next::Call(request)) => self.call(clock, request),
             Ok(Next::Ended(cause)) => Ok(Turn::Ended(cause)),
             Err(_) => Err(ServeFault::OutOfMemory),
         }
     }
 
     /// Makes the call that the session waits for, under the next number.
-    fn call<C: Clock>(&mut self, clock: &mut C, request: &Request) -> Result<Turn, ServeFault>
+    fn call<C: Clock>(&mut self, clock: &mut C, request: Request) -> Result<Turn, ServeFault>
         requires { IsSome self.old.session.waiting }
         ensures turn { IfOk result (λ turn. turn ≡ Turn.Answered) }
-        ensures ok { OnOk result (IfSome self.old.session.waiting (λ id. MakesCall self.old (C.told clock.old) id request.now self.new (C.told clock.new))) }
+        ensures ok { OnOk result (IfSome self.old.session.waiting (λ id. MakesCall self.old (C.told clock.old) id request self.new (C.told clock.new))) }
         ensures fault { IfErr result (λ fault. fault ≡ ServeFault.OutOfMemory) }
     {
-        match self.tree.make(clock, request) {
+        match self.store.make(clock, request) {
             Ok(answer) => {
-                // The tree has changed: without its reply the session can't go on.
+                // The store has changed: without its reply the session can't go on.
                 if self.session.answer(&answer).is_err() {
                     return Err(ServeFault::OutOfMemory);
                 }

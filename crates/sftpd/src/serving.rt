@@ -7,8 +7,9 @@ ghost use Rattle.sftpd.specs.Serving.{Edges, edges, IsDrained, IsRounded, IsServ
 
 use crate::service::{Service, Turn};
 use sf_call::{labels_of_paths, one_record_more, told_replies};
-use sf_session::{Cause, Clock, ServeFault};
+use sf_inode::kept_trees;
 use sf_line::{Line, LineFault};
+use sf_session::{Cause, Clock, ServeFault};
 use std::alloc::{AllocError, Global};
 
 /// How many bytes a read asks for.
@@ -125,7 +126,7 @@ fn zeros(alloc: Global, len: usize) -> Result<Vec<u8>, AllocError>
     vec![in alloc; 0u8; len]
 }
 
-/// Serves one session over a line, on a tree of its own, to the end of the input or of the session.
+/// Serves one session over a line, on a store of its own, to the end of the input or of the session.
 ///
 /// Calls are numbered from 1 on in the order of their arrival, each at the clock's next moment.
 pub fn serve_one<L: Line, C: Clock>(
@@ -141,6 +142,7 @@ pub fn serve_one<L: Line, C: Clock>(
     ensures fault { IfErr result (λ fault. IsServeFault fault (L.failed line.old) (L.failed line.new)) }
 {
     labels_of_paths();
+    kept_trees();
     let mut service = Service::new(alloc)?;
     let mut piece = zeros(alloc, PIECE)?;
     for _ in 0..u64::MAX {

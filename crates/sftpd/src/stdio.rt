@@ -7,8 +7,8 @@ ghost use Rattle.sftpd.specs.Serving.{edges, ServesLine};
 ghost use Rattle.sftpd.specs.Statuses.{status_of};
 
 use crate::serving::serve_one;
-use sf_session::{Cause, Clock, ServeFault};
 use sf_line::Line;
+use sf_session::{Cause, Clock, ServeFault};
 use std::alloc::Global;
 use std::io::{self, Write};
 

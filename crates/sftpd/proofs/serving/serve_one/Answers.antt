@@ -9,7 +9,7 @@ loop-init g c =
     let labels = c.labels_of_paths.ensures in
     let laws : LabelLaws = record { no_path = labels.unused; no_object = labels.no_object; no_handle = labels.no_handle } in
     let start = edges (g.L.Line.incoming c.args.line.now) (g.L.Line.outgoing c.args.line.now) (g.C.Clock.told c.args.clock.now) in
-    (rw c.in_ok-service.ensures (starts laws start), omega (arith, c.in_ok-piece.ensures), omega arith, nothing_read _)
+    (starts laws start _ c.in_ok-service.ensures (c.kept_trees.ensures.first _ c.in_ok-service.ensures.store), omega (arith, c.in_ok-piece.ensures), omega arith, nothing_read _)
 
 pub returns-in-Some-clause-served : goal.returns-in-Some-clause-served
 returns-in-Some-clause-served g c =

@@ -8,7 +8,7 @@ pub returns-in-Ok-Local-clause-ok : goal.returns-in-Ok-Local-clause-ok
 returns-in-Ok-Local-clause-ok g c =
     let told = g.C.Clock.told c.args.clock.now in
     let gives = rw c.in-Ok-Local.field-0-is at c.in-Ok-Local.ensures.ok in
-    let P : ServiceView → Type 0 = λ v. Answers v told (record { session = c.next.new.self; tree = c.self.inside.tree.tree; calls = c.self.inside.tree.calls }) told in
+    let P : ServiceView → Type 0 = λ v. Answers v told (record { session = c.next.new.self; store = c.self.inside.store.store; calls = c.self.inside.store.calls }) told in
     subst P c.self.view_is (answered_locally _ told c.next.new.self gives.1)
 
 pub returns-in-Ok-Call-clause-ok : goal.returns-in-Ok-Call-clause-ok
