@@ -19,10 +19,10 @@ within [] id node = λ e. cc
 within (x ∷ xs) zero node = λ e. omega arith
 within (x ∷ xs) (suc id) node = λ e. let h = within xs id node e in omega arith
 
-apart : (a b : ℕ) → nat_eq a b ≡ false → a ≡ b → ⊥
+pub apart : (a b : ℕ) → nat_eq a b ≡ false → a ≡ b → ⊥
 apart a b e h = let t = eq-eqb a b h in cc
 
-node_in-set : (nodes : List (Option Node)) (id : ℕ) (node : Node) (v : Option Node) → node_in nodes id ≡ Some node → (i : ℕ) → node_in (slice_set nodes id v) i ≡ cond (nat_eq id i) v (node_in nodes i)
+pub node_in-set : (nodes : List (Option Node)) (id : ℕ) (node : Node) (v : Option Node) → node_in nodes id ≡ Some node → (i : ℕ) → node_in (slice_set nodes id v) i ≡ cond (nat_eq id i) v (node_in nodes i)
 node_in-set nodes id node v at i =
     elim (nat_eq id i) as (λ b. nat_eq id i ≡ b → node_in (slice_set nodes id v) i ≡ cond b v (node_in nodes i)) [
       | true ↦ λ e. ap (node_in (slice_set nodes id v)) (sym (eqb-true id i e)) ∙ get_or-set_same nodes id v None (within nodes id node at)
