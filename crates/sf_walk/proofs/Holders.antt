@@ -81,7 +81,7 @@ stays_inserted old s new dir n id node same did free i m at =
       | false ↦ λ q. stays_edited (with_content (more_content n id)) (λ x. refl) old s dir (stays_same old s same) i m (sym (did.others i (λ e. apart id i q (sym e))) ∙ at)
     ] refl
 
-put_nodes : (s : StoreState) (session number : ℕ) (h : OpenHandle) → (handle_put s session number h).nodes ≡ s.nodes
+pub put_nodes : (s : StoreState) (session number : ℕ) (h : OpenHandle) → (handle_put s session number h).nodes ≡ s.nodes
 put_nodes s session number h = elim (handles_of s session) as (λ o. (handles_put s session number h o).nodes ≡ s.nodes) [ None ↦ refl | Some hs ↦ refl ]
 
 pub stays_opened : (old s : StoreState) (session number id : ℕ) (marks : Marks) → HoldersStay old s → HoldersStay old (opened s session number id marks)

@@ -62,8 +62,11 @@ other_number i j h = elim (nat_eq i j) as (λ b. nat_eq i j ≡ b → b ≡ fals
   | false ↦ λ e. refl
 ] refl
 
+pub edited_itself : (f : Node → Node) (s : StoreState) (id : ℕ) → node_in (edited f s id).nodes id ≡ option_map f (node_in s.nodes id)
+edited_itself f s id = edited_node f s id id ∙ ap (λ b. cond b (option_map f (node_in s.nodes id)) (node_in s.nodes id)) (same_number id)
+
 pub edited_here : (f : Node → Node) (s : StoreState) (id : ℕ) (node : Node) → node_in s.nodes id ≡ Some node → node_in (edited f s id).nodes id ≡ Some (f node)
-edited_here f s id node at = edited_node f s id id ∙ ap (λ b. cond b (option_map f (node_in s.nodes id)) (node_in s.nodes id)) (same_number id) ∙ ap (option_map f) at
+edited_here f s id node at = edited_itself f s id ∙ ap (option_map f) at
 
 pub edited_apart : (f : Node → Node) (s : StoreState) (id i : ℕ) → id ≢ i → node_in (edited f s id).nodes i ≡ node_in s.nodes i
 edited_apart f s id i h = edited_node f s id i ∙ ap (λ b. cond b (option_map f (node_in s.nodes id)) (node_in s.nodes i)) (other_number id i h)
