@@ -24,7 +24,7 @@ use crate::path_calls::insert_last;
 use sf_call::{FileType, MAX_HANDLES, Metadata};
 use sf_inode::{
     Marks, NewNode, NodeId, Store, changed_object, counted_handles, found_paths, new_path,
-    opened_handles, other_nodes, same_tree,
+    opened_handles, other_nodes,
 };
 use sf_path::Path;
 use sf_wire::{Attrs, OpenFlags, Reply, StatusCode};
@@ -67,7 +67,6 @@ pub(crate) fn open_directory(
     ensures look_ups { LooksUp store.old store.new (length path.now) }
     ensures holders { HoldersStay store.old store.new }
 {
-    same_tree();
     match locate(store, path) {
         Located::NoWay => Ok(Reply::Status(StatusCode::NoSuchFile)),
         Located::Missing { parent: _ } => Ok(Reply::Status(StatusCode::NoSuchFile)),
@@ -116,7 +115,6 @@ pub(crate) fn open(
     if path.is_root() {
         return Ok(Reply::Status(StatusCode::Failure));
     }
-    same_tree();
     match locate(store, path) {
         Located::NoWay => Ok(Reply::Status(StatusCode::NoSuchFile)),
         Located::Missing { parent } => {

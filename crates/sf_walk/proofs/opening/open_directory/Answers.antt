@@ -29,4 +29,4 @@ pub returns-in-At-clause-err : goal.returns-in-At-clause-err
 returns-in-At-clause-err c = alike_err _ _ _ _ c.open_listing.result c.locate.ensures.looked c.open_listing.ensures.err
 
 pub returns-in-At-clause-holders : goal.returns-in-At-clause-holders
-returns-in-At-clause-holders c = stays_past _ _ _ _ c.locate.ensures.looked c.open_listing.ensures.holders
+returns-in-At-clause-holders c = stays_past c.args.store.now c.locate.new.store c.open_listing.new.store _ c.locate.ensures.looked c.open_listing.ensures.holders
