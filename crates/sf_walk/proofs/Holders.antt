@@ -19,10 +19,10 @@ within [] id node = λ e. cc
 within (x ∷ xs) zero node = λ e. omega arith
 within (x ∷ xs) (suc id) node = λ e. let h = within xs id node e in omega arith
 
-apart : (a b : ℕ) → nat_eq a b ≡ false → a ≡ b → ⊥
+pub apart : (a b : ℕ) → nat_eq a b ≡ false → a ≡ b → ⊥
 apart a b e h = let t = eq-eqb a b h in cc
 
-node_in-set : (nodes : List (Option Node)) (id : ℕ) (node : Node) (v : Option Node) → node_in nodes id ≡ Some node → (i : ℕ) → node_in (slice_set nodes id v) i ≡ cond (nat_eq id i) v (node_in nodes i)
+pub node_in-set : (nodes : List (Option Node)) (id : ℕ) (node : Node) (v : Option Node) → node_in nodes id ≡ Some node → (i : ℕ) → node_in (slice_set nodes id v) i ≡ cond (nat_eq id i) v (node_in nodes i)
 node_in-set nodes id node v at i =
     elim (nat_eq id i) as (λ b. nat_eq id i ≡ b → node_in (slice_set nodes id v) i ≡ cond b v (node_in nodes i)) [
       | true ↦ λ e. ap (node_in (slice_set nodes id v)) (sym (eqb-true id i e)) ∙ get_or-set_same nodes id v None (within nodes id node at)
@@ -81,7 +81,7 @@ stays_inserted old s new dir n id node same did free i m at =
       | false ↦ λ q. stays_edited (with_content (more_content n id)) (λ x. refl) old s dir (stays_same old s same) i m (sym (did.others i (λ e. apart id i q (sym e))) ∙ at)
     ] refl
 
-put_nodes : (s : StoreState) (session number : ℕ) (h : OpenHandle) → (handle_put s session number h).nodes ≡ s.nodes
+pub put_nodes : (s : StoreState) (session number : ℕ) (h : OpenHandle) → (handle_put s session number h).nodes ≡ s.nodes
 put_nodes s session number h = elim (handles_of s session) as (λ o. (handles_put s session number h o).nodes ≡ s.nodes) [ None ↦ refl | Some hs ↦ refl ]
 
 pub stays_opened : (old s : StoreState) (session number id : ℕ) (marks : Marks) → HoldersStay old s → HoldersStay old (opened s session number id marks)

@@ -8,3 +8,5 @@ pub mod Told
 pub mod SetNodes
 pub mod Parents
 pub mod PathCalls
+pub mod Undone
+pub mod Opened

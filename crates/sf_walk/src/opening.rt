@@ -1,11 +1,19 @@
 //! Calls that open.
 
-ghost use Rattle.std.specs.Prelude.{◌≡◌, ◌<◌, [], length, Some, None, true, IfOk, OnOk, OnErr};
+ghost use Rattle.std.specs.Prelude.{◌≡◌, ℕ, ◌<◌, List, [], ◌∷◌, ◌++◌, length, Some, None, true, IfOk, OnOk, OnErr};
+ghost use Rattle.sf_path.specs.Names.{Path};
 ghost use Rattle.sf_call.specs.declared.metadata.FileType.TheVariants as file_type;
+ghost use Rattle.sf_call.specs.declared.metadata.Metadata.{Metadata};
+ghost use Rattle.sf_call.specs.declared.place.Place.TheVariants.{Absent};
+ghost use Rattle.sf_call.specs.Attributes.{modified_at};
+ghost use Rattle.sf_call.specs.Attributes.Object.{File};
+ghost use Rattle.sf_call.specs.Changes.{changed};
+ghost use Rattle.sf_call.specs.Changes.Change.{SetObject};
 ghost use Rattle.sf_call.specs.Tree.{Tree, found_at, place_at};
 ghost use Rattle.sf_call.specs.Calls.{has_all_handles, open_directory, open_present, open_file, unless_root};
 ghost use Rattle.sf_inode.specs.declared.node.Node.{Node};
-ghost use Rattle.sf_inode.specs.Stores.{node_in, entry_of, is_directory_at, bytes_set};
+ghost use Rattle.sf_inode.specs.Stores.{StoreState, node_in, entry_of, shown_of, is_directory_at, bytes_set};
+ghost use Rattle.sf_inode.specs.Steps.{walk};
 ghost use Rattle.sf_inode.specs.Keeps.{Keeps};
 ghost use Rattle.sf_walk.specs.Ways.{last_of, found_node};
 ghost use Rattle.sf_walk.specs.Opening.{marks_of, OpenedNew};
@@ -14,7 +22,10 @@ ghost use Rattle.sf_walk.specs.Served.{IsServed, IsAlike, LooksUp, HoldersStay, 
 use crate::finding::{Located, locate};
 use crate::path_calls::insert_last;
 use sf_call::{FileType, MAX_HANDLES, Metadata};
-use sf_inode::{Marks, NewNode, NodeId, Store};
+use sf_inode::{
+    Marks, NewNode, NodeId, Store, changed_object, counted_handles, found_paths, new_path,
+    opened_handles, other_nodes,
+};
 use sf_path::Path;
 use sf_wire::{Attrs, OpenFlags, Reply, StatusCode};
 use std::alloc::AllocError;
@@ -40,6 +51,7 @@ fn file_marks(flags: OpenFlags) -> Marks
 fn has_all_handles(store: &Store, session: u64) -> bool
     ensures { (t : Tree) → Keeps store.now t → result ≡ has_all_handles t session }
 {
+    counted_handles();
     store.handles(session) >= MAX_HANDLES
 }
 
@@ -58,14 +70,31 @@ pub(crate) fn open_directory(
     match locate(store, path) {
         Located::NoWay => Ok(Reply::Status(StatusCode::NoSuchFile)),
         Located::Missing { parent: _ } => Ok(Reply::Status(StatusCode::NoSuchFile)),
-        Located::At { parent: _, node } => {
-            if !store.is_directory(node) || has_all_handles(store, session) {
-                return Ok(Reply::Status(StatusCode::Failure));
-            }
-            store.open(session, number, node, NO_MARKS)?;
-            Ok(Reply::Handle(number))
-        }
+        Located::At { parent: _, node } => open_listing(store, session, number, node),
     }
+}
+
+/// Opens a node that is there for listing; a file can't be listed.
+fn open_listing(
+    store: &mut Store,
+    session: u64,
+    number: u64,
+    node: NodeId,
+) -> Result<Reply, AllocError>
+    ensures served { (t : Tree) (it : Node) → Keeps store.old t → IsNewNumber t number → node_in store.old.nodes node ≡ Some it → IfOk result (λ reply. IsServed store.new t (open_directory t session number (found_node it)) reply) }
+    ensures err { OnErr result (store.new ≡ store.old) }
+    ensures look_ups { store.new.look_ups ≡ store.old.look_ups }
+    ensures holders { HoldersStay store.old store.new }
+{
+    opened_handles();
+    if !store.is_directory(node) {
+        return Ok(Reply::Status(StatusCode::Failure));
+    }
+    if has_all_handles(store, session) {
+        return Ok(Reply::Status(StatusCode::Failure));
+    }
+    store.open(session, number, node, NO_MARKS)?;
+    Ok(Reply::Handle(number))
 }
 
 /// OPEN. A new file's label is the call's number.
@@ -89,16 +118,7 @@ pub(crate) fn open(
     match locate(store, path) {
         Located::NoWay => Ok(Reply::Status(StatusCode::NoSuchFile)),
         Located::Missing { parent } => {
-            if !flags.create {
-                return Ok(Reply::Status(StatusCode::NoSuchFile));
-            }
-            if has_all_handles(store, session) {
-                return Ok(Reply::Status(StatusCode::Failure));
-            }
-            let metadata = Metadata::new_object(0o644, moment, attrs);
-            open_new(store, session, number, parent, path, flags, metadata)?;
-            store.touch(parent, moment);
-            Ok(Reply::Handle(number))
+            open_absent(store, session, number, moment, parent, path, flags, attrs)
         }
         Located::At { parent: _, node } => {
             if flags.create && flags.exclusive {
@@ -123,18 +143,32 @@ fn open_present(
     ensures look_ups { store.new.look_ups ≡ store.old.look_ups }
     ensures holders { HoldersStay store.old store.new }
 {
-    if store.is_directory(node) || has_all_handles(store, session) {
+    opened_handles();
+    if store.is_directory(node) {
+        return Ok(Reply::Status(StatusCode::Failure));
+    }
+    if has_all_handles(store, session) {
         return Ok(Reply::Status(StatusCode::Failure));
     }
     store.open(session, number, node, file_marks(flags))?;
     if flags.truncate && flags.write {
-        cut(store, node);
-        store.touch(node, moment);
+        truncate(store, moment, node);
     }
     Ok(Reply::Handle(number))
 }
 
-/// Cuts a file at its start, which takes no memory.
+/// Cuts a file at its start; it is modified at the moment.
+fn truncate(store: &mut Store, moment: u32, node: NodeId)
+    ensures tree { (t : Tree) (label : ℕ) (m : Metadata) (bytes : List ℕ) → Keeps store.old t → shown_of store.old.nodes node ≡ Some (label, File m bytes) → Keeps store.new (changed t (SetObject label (File (modified_at moment m) []))) }
+    ensures look_ups { store.new.look_ups ≡ store.old.look_ups }
+    ensures holders { (before : StoreState) → HoldersStay before store.old → HoldersStay before store.new }
+{
+    changed_object();
+    cut(store, node);
+    store.touch(node, moment);
+}
+
+/// Takes out a file's bytes, which takes no memory.
 fn cut(store: &mut Store, node: NodeId)
     ensures { store.new ≡ bytes_set store.old node [] store.new }
 {
@@ -142,6 +176,43 @@ fn cut(store: &mut Store, node: NodeId)
         Ok(()) => {}
         Err(_) => {}
     }
+}
+
+/// OPEN of a name that a directory has not.
+fn open_absent(
+    store: &mut Store,
+    session: u64,
+    number: u64,
+    moment: u32,
+    parent: NodeId,
+    path: &Path,
+    flags: OpenFlags,
+    attrs: &Attrs,
+) -> Result<Reply, AllocError>
+    requires named { 0 < length path.now }
+    requires directory { is_directory_at store.old.nodes parent ≡ true }
+    requires missing { entry_of store.old.nodes parent (last_of path.now) ≡ None }
+    ensures served { (t : Tree) (front : Path) → Keeps store.old t → IsNewNumber t number → path.now ≡ front ++ last_of path.now ∷ [] → walk (entry_of store.old.nodes) store.old.root front ≡ Some parent
+        → IfOk result (λ reply. IsServed store.new t (open_file t session number moment path.now flags attrs.now Absent) reply) }
+    ensures err { OnErr result (IsAlike store.old store.new) }
+    ensures look_ups { store.new.look_ups ≡ store.old.look_ups }
+    ensures holders { (before : StoreState) → store.old.nodes ≡ before.nodes → HoldersStay before store.new }
+{
+    if !flags.create {
+        return Ok(Reply::Status(StatusCode::NoSuchFile));
+    }
+    if has_all_handles(store, session) {
+        return Ok(Reply::Status(StatusCode::Failure));
+    }
+    new_path();
+    opened_handles();
+    changed_object();
+    found_paths();
+    other_nodes();
+    let metadata = Metadata::new_object(0o644, moment, attrs);
+    open_new(store, session, number, parent, path, flags, metadata)?;
+    store.touch(parent, moment);
+    Ok(Reply::Handle(number))
 }
 
 /// Puts a new file under the last name of a path and opens it. Where the handle finds no memory the
@@ -155,9 +226,12 @@ fn open_new(
     flags: OpenFlags,
     metadata: Metadata,
 ) -> Result<(), AllocError>
-    requires { 0 < length path.now }
+    requires named { 0 < length path.now }
+    requires directory { is_directory_at store.old.nodes parent ≡ true }
+    requires missing { entry_of store.old.nodes parent (last_of path.now) ≡ None }
     ensures ok { OnOk result (OpenedNew store.old store.new session number parent (last_of path.now) (marks_of flags) (record { label = number; file_type = file_type.File; metadata = metadata })) }
-    ensures err { entry_of store.old.nodes parent (last_of path.now) ≡ None → is_directory_at store.old.nodes parent ≡ true → OnErr result (IsAlike store.old store.new) }
+    ensures err { OnErr result (IsAlike store.old store.new) }
+    ensures look_ups { store.new.look_ups ≡ store.old.look_ups }
 {
     let made = NewNode {
         label: number,
@@ -165,9 +239,11 @@ fn open_new(
         metadata,
     };
     let node = insert_last(store, parent, path, made)?;
-    if let Err(error) = store.open(session, number, node, file_marks(flags)) {
-        store.unlink(parent, path.name(path.len() - 1));
-        return Err(error);
+    match store.open(session, number, node, file_marks(flags)) {
+        Ok(()) => Ok(()),
+        Err(error) => {
+            store.unlink(parent, path.name(path.len() - 1));
+            Err(error)
+        }
     }
-    Ok(())
 }

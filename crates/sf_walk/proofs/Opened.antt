@@ -1,0 +1,292 @@
+-- What opening makes of the tree.
+use Rattle.std.specs.Prelude.{◌≡◌, ◌≢◌, ℕ, nat_eq, ◌+◌, ◌-◌, ◌^◌, ◌<◌, min, Bool, true, false, cond, not, ◌&&◌, List, [], ◌∷◌, ◌++◌, option_map, option_and_then, Option, Some, None, Result, Ok, Err, IfOk, OnErr, refl}
+use Rattle.std.specs.Option.{option_map_or}
+use Rattle.std.proofs.Common.{sym, ap, subst, ◌∙◌, eqb-true}
+use Rattle.sf_path.specs.Names.{Name, Path}
+use Rattle.sf_path.specs.Order.{parent}
+use Rattle.sf_field.specs.declared.attrs.Attrs.{Attrs}
+use Rattle.sf_field.specs.declared.open_flags.OpenFlags.{OpenFlags}
+use Rattle.sf_wire.specs.declared.reply.Reply.{Reply}
+use Rattle.sf_wire.specs.declared.reply.Reply.TheVariants as reply
+use Rattle.sf_wire.specs.declared.reply.StatusCode.TheVariants.{NoSuchFile, Failure}
+use Rattle.sf_call.specs.declared.metadata.Metadata.{Metadata}
+use Rattle.sf_call.specs.declared.metadata.FileType.TheVariants as file_type
+use Rattle.sf_call.specs.declared.place.Place.{Place}
+use Rattle.sf_call.specs.declared.place.Place.TheVariants.{Absent}
+use Rattle.sf_call.specs.Attributes.{Object, new_metadata, modified_at}
+use Rattle.sf_call.specs.Attributes.Object.{Directory, File}
+use Rattle.sf_call.specs.Tree.{Tree, Found, handle_of, object_of, directory_at, place_at, found_at, found_place, found_object}
+use Rattle.sf_call.specs.Changes.{Change, changed, done, touched}
+use Rattle.sf_call.specs.Changes.Change.{SetObject, NewPath, OpenHandle}
+use Rattle.sf_call.specs.Calls.{Answer, refuses, opens, has_all_handles, directory_handle, file_handle, open_directory, open_present, open_file, unless_root}
+use Rattle.sf_inode.specs.declared.node.Node.{Node}
+use Rattle.sf_inode.specs.declared.node.NewNode.{NewNode}
+use Rattle.sf_inode.specs.declared.node.Content.{Content}
+use Rattle.sf_inode.specs.declared.node.Content.TheVariants as content
+use Rattle.sf_inode.specs.declared.handle.OpenHandle as open_handle
+use Rattle.sf_inode.specs.declared.handle.Marks.{Marks}
+use Rattle.sf_inode.specs.Nodes.{object_in, stored_in, new_content, new_node, is_directory_content, with_opened, with_metadata, with_content, with_stored}
+use Rattle.sf_inode.specs.Steps.{walk}
+use Rattle.sf_inode.specs.Stores.{StoreState, Inserted, node_in, entry_of, is_directory_at, shown_node, shown_of, shown_handle, holder_of, stored_of, edited, bytes_set, handle_put, opened_at, opened}
+use Rattle.sf_inode.specs.Keeps.{Keeps}
+use Rattle.sf_walk.specs.Ways.{missing, way_from, last_of, found_content, found_node}
+use Rattle.sf_walk.specs.declared.finding.Located.TheVariants as located
+use Rattle.sf_walk.specs.Opening.{marks_of, OpenedNew}
+use Rattle.sf_walk.specs.Served.{IsServed, IsAlike, LookedUp, HoldersStay, IsNewNumber}
+use Rattle.sf_walk.proofs.Holders.{put_nodes, stays_inserted, stays_opened, alike_looked}
+use Rattle.sf_walk.proofs.LookUps.{looked_nodes}
+use Rattle.sf_walk.proofs.Fits.{no_way, name_missing, node_at}
+use Rattle.sf_walk.proofs.Undone.{edited_node, edited_itself}
+use Rattle.sf_walk.proofs.PathCalls.{tells_served, past_root, keeps_looked, way_looked, last_is, node_located, shown_directory, touches, SetsDirectory, FindsDirectory, InsertsNode, MakesPath}
+
+-- ---- what nodes show
+shown_edited : (f : Node → Node) → ((node : Node) → shown_node (f node) ≡ shown_node node) → (s : StoreState) (id i : ℕ) → shown_of (edited f s id).nodes i ≡ shown_of s.nodes i
+shown_edited f same s id i =
+    ap (option_map shown_node) (edited_node f s id i)
+    ∙ elim (nat_eq id i) as (λ b. nat_eq id i ≡ b → option_map shown_node (cond b (option_map f (node_in s.nodes id)) (node_in s.nodes i)) ≡ shown_of s.nodes i) [
+      | true ↦ λ e. elim (node_in s.nodes id) as (λ o. option_map shown_node (option_map f o) ≡ option_map shown_node o) [ None ↦ refl | Some n ↦ ap Some (same n) ] ∙ ap (shown_of s.nodes) (eqb-true id i e)
+      | false ↦ λ e. refl
+    ] refl
+
+-- who opens a node can't be seen
+pub shown_opened : (s : StoreState) (session number id : ℕ) (marks : Marks) (i : ℕ) → shown_of (opened s session number id marks).nodes i ≡ shown_of s.nodes i
+shown_opened s session number id marks i = elim (node_in s.nodes id) as (λ o. shown_of (opened_at s session number id marks o).nodes i ≡ shown_of s.nodes i) [
+  | None ↦ refl
+  | Some n ↦
+      let handle : open_handle.OpenHandle = record { node = id; label = n.label; marks = marks; listed = None } in
+      shown_edited (λ it. with_opened (min (it.opens + 1) (2 ^ 64 - 1)) it) (λ node. refl) (handle_put s session number handle) id i
+      ∙ ap (λ (ns : List (Option Node)). shown_of ns i) (put_nodes s session number handle)
+]
+
+pub kind_there : (nodes : List (Option Node)) (id : ℕ) (it : Node) (b : Bool) → node_in nodes id ≡ Some it → b ≡ is_directory_at nodes id → is_directory_content it.content ≡ b
+kind_there nodes id it b at e = sym (e ∙ ap (λ (o : Option Node). option_map_or (λ (node : Node). is_directory_content node.content) o false) at)
+
+abbrev shown_as : ℕ → Object → Option (ℕ × Object)
+shown_as l o = Some (l, o)
+
+file_there : (l : ℕ) (m : Metadata) (c : Content) → is_directory_content c ≡ false → shown_as l (object_in m c) ≡ shown_as l (File m (stored_in c).bytes)
+file_there l m (content.Directory es) e = cc
+file_there l m (content.File contents) e = refl
+
+-- ---- the law of opening
+abbrev pub OpensNode : Type 0
+OpensNode = (s : StoreState) (t : Tree) (session number id : ℕ) (marks : Marks) (node : Node) → Keeps s t → 0 < number → number < 2 ^ 64 → handle_of t.handles number ≡ None → node_in s.nodes id ≡ Some node
+    → Keeps (opened s session number id marks) (changed t (OpenHandle number (shown_handle session (record { node = id; label = node.label; marks = marks; listed = None }))))
+
+-- ---- the laws of other objects
+abbrev pub SetsContents : Type 0
+SetsContents = (s after : StoreState) (t : Tree) (id label : ℕ) (m : Metadata) (old new : List ℕ) → Keeps s t → shown_of s.nodes id ≡ Some (label, File m old)
+    → Keeps (bytes_set s id new after) (changed t (SetObject label (File m new)))
+
+abbrev pub SetsFile : Type 0
+SetsFile = (f : Metadata → Metadata) (s : StoreState) (t : Tree) (id label : ℕ) (m : Metadata) (bytes : List ℕ) → Keeps s t → shown_of s.nodes id ≡ Some (label, File m bytes)
+    → Keeps (edited (with_metadata f) s id) (changed t (SetObject label (File (f m) bytes)))
+
+abbrev pub SetsAgain : Type 0
+SetsAgain = (t : Tree) (label : ℕ) (o u : Object) → changed (changed t (SetObject label o)) (SetObject label u) ≡ changed t (SetObject label u)
+
+-- ---- OPENDIR
+module _ (t : Tree) (session number : ℕ) where
+  listing_opens : (l : ℕ) (m : Metadata) (c : Content) → is_directory_content c ≡ true → has_all_handles t session ≡ false → open_directory t session number (found_content l m c) ≡ opens number (directory_handle session l) []
+  listing_opens l m (content.Directory es) d e = ap (λ b. cond b (refuses Failure) (opens number (directory_handle session l) [])) e
+  listing_opens l m (content.File contents) d e = cc
+
+  pub listing_served : OpensNode → (s new : StoreState) (it : Node) (id : ℕ) → Keeps s t → IsNewNumber t number → number < 2 ^ 64 → node_in s.nodes id ≡ Some it → is_directory_content it.content ≡ true → has_all_handles t session ≡ false
+      → new ≡ opened s session number id (record { read = false; write = false; append = false }) → IsServed new t (open_directory t session number (found_node it)) (reply.Handle number)
+  listing_served law s new it id k fresh fits at d e state =
+      let kept = law s t session number id (record { read = false; write = false; append = false }) it k fresh.above fits fresh.handle at in
+      subst (λ (a : Answer). IsServed new t a (reply.Handle number)) (sym (listing_opens it.label it.metadata it.content d e))
+      (record { told = refl; tree = subst (λ (x : StoreState). Keeps x (changed t (OpenHandle number (directory_handle session it.label)))) (sym state) kept })
+
+-- ---- OPEN of a node that is there
+module _ (t : Tree) (session number moment : ℕ) (flags : OpenFlags) where
+  abbrev opens_file : ℕ → Metadata → Bool → Bool → Answer
+  opens_file l m full cuts = cond full (refuses Failure) (cond cuts (opens number (file_handle session l flags) (SetObject l (File (modified_at moment m) []) ∷ [])) (opens number (file_handle session l flags) []))
+
+  present_opens : (l : ℕ) (m : Metadata) (c : Content) (cuts : Bool) → is_directory_content c ≡ false → has_all_handles t session ≡ false → (flags.truncate && flags.write) ≡ cuts → open_present t session number moment flags (found_content l m c) ≡ opens_file l m false cuts
+  present_opens l m (content.Directory es) cuts d e f = cc
+  present_opens l m (content.File contents) cuts d e f = (λ i. opens_file l m (e i) (f i))
+
+  pub present_served : OpensNode → (s new : StoreState) (it : Node) (id : ℕ) → Keeps s t → IsNewNumber t number → number < 2 ^ 64 → node_in s.nodes id ≡ Some it → is_directory_content it.content ≡ false → has_all_handles t session ≡ false
+      → (flags.truncate && flags.write) ≡ false → new ≡ opened s session number id (marks_of flags) → IsServed new t (open_present t session number moment flags (found_node it)) (reply.Handle number)
+  present_served law s new it id k fresh fits at d e f state =
+      let kept = law s t session number id (marks_of flags) it k fresh.above fits fresh.handle at in
+      subst (λ (a : Answer). IsServed new t a (reply.Handle number)) (sym (present_opens it.label it.metadata it.content false d e f))
+      (record { told = refl; tree = subst (λ (x : StoreState). Keeps x (changed t (OpenHandle number (file_handle session it.label flags)))) (sym state) kept })
+
+  -- the law of cutting a file
+  abbrev pub CutsFile : StoreState → StoreState → ℕ → Type 0
+  CutsFile mid new id = (u : Tree) (label : ℕ) (m : Metadata) (bytes : List ℕ) → Keeps mid u → shown_of mid.nodes id ≡ Some (label, File m bytes) → Keeps new (changed u (SetObject label (File (modified_at moment m) [])))
+
+  pub present_cut : OpensNode → (s mid new : StoreState) (it : Node) (id : ℕ) → Keeps s t → IsNewNumber t number → number < 2 ^ 64 → node_in s.nodes id ≡ Some it → is_directory_content it.content ≡ false → has_all_handles t session ≡ false
+      → (flags.truncate && flags.write) ≡ true → mid ≡ opened s session number id (marks_of flags) → CutsFile mid new id → IsServed new t (open_present t session number moment flags (found_node it)) (reply.Handle number)
+  present_cut law s mid new it id k fresh fits at d e f state cuts =
+      let kept : Keeps mid (changed t (OpenHandle number (file_handle session it.label flags))) =
+          subst (λ (x : StoreState). Keeps x (changed t (OpenHandle number (file_handle session it.label flags)))) (sym state) (law s t session number id (marks_of flags) it k fresh.above fits fresh.handle at) in
+      let shown : shown_of mid.nodes id ≡ Some (it.label, File it.metadata (stored_in it.content).bytes) =
+          ap (λ (x : StoreState). shown_of x.nodes id) state ∙ shown_opened s session number id (marks_of flags) id ∙ ap (option_map shown_node) at ∙ file_there it.label it.metadata it.content d in
+      subst (λ (a : Answer). IsServed new t a (reply.Handle number)) (sym (present_opens it.label it.metadata it.content true d e f))
+      (record { told = refl; tree = cuts (changed t (OpenHandle number (file_handle session it.label flags))) it.label it.metadata (stored_in it.content).bytes kept shown })
+
+-- ---- OPEN of a missing name
+module _ (t : Tree) (session number moment : ℕ) (path : Path) (flags : OpenFlags) (attrs : Attrs) where
+  abbrev creates : Bool → Bool → Answer
+  creates lacks full = cond lacks (refuses NoSuchFile) (cond full (refuses Failure) (opens number (file_handle session number flags) (NewPath path number (File (new_metadata 0o644 moment attrs) []) ∷ touched t moment (parent path))))
+
+  absent_is : (lacks full : Bool) → not flags.create ≡ lacks → has_all_handles t session ≡ full → open_file t session number moment path flags attrs Absent ≡ creates lacks full
+  absent_is lacks full c f = λ i. creates (c i) (f i)
+
+  pub absent_served : OpensNode → SetsDirectory → FindsDirectory → InsertsNode → MakesPath → (s mid new : StoreState) (front : Path) (dir : ℕ) (metadata : Metadata)
+      → Keeps s t → IsNewNumber t number → number < 2 ^ 64 → path ≡ front ++ last_of path ∷ [] → walk (entry_of s.nodes) s.root front ≡ Some dir → is_directory_at s.nodes dir ≡ true → entry_of s.nodes dir (last_of path) ≡ None
+      → not flags.create ≡ false → has_all_handles t session ≡ false → metadata ≡ new_metadata 0o644 moment attrs
+      → OpenedNew s mid session number dir (last_of path) (marks_of flags) (record { label = number; file_type = file_type.File; metadata = metadata }) → new ≡ edited (with_metadata (modified_at moment)) mid dir
+      → IsServed new t (open_file t session number moment path flags attrs Absent) (reply.Handle number)
+  absent_served opens_law put_law finds inserts makes s mid new front dir metadata k fresh fits is at d none c f asked did state =
+      let n = last_of path in
+      let it : NewNode = record { label = number; file_type = file_type.File; metadata = metadata } in
+      let made = changed t (NewPath (front ++ n ∷ []) number (File metadata [])) in
+      let put : Keeps did.mid made = makes s did.mid t front dir n did.id it k did.inserted at d none fresh.label in
+      let opens_it : Keeps (opened did.mid session number did.id (marks_of flags)) (changed made (OpenHandle number (file_handle session number flags))) =
+          opens_law did.mid made session number did.id (marks_of flags) (new_node it) put fresh.above fits fresh.handle did.inserted.at in
+      let other : dir ≢ did.id = λ same. (let w = shown_directory s.nodes dir d in let gone = ap (node_in s.nodes) same ∙ did.inserted.fresh in let nothing = ap (option_map shown_node) gone in let x : ⊥ = cc (w.1.1) in x) in
+      let shown : shown_of mid.nodes dir ≡ shown_of s.nodes dir =
+          ap (λ (x : StoreState). shown_of x.nodes dir) did.state ∙ shown_opened did.mid session number did.id (marks_of flags) dir ∙ (inserts s did.mid dir n did.id (new_node it) dir did.inserted other).0 in
+      let u = changed made (OpenHandle number (file_handle session number flags)) in
+      let after : Keeps (edited (with_metadata (modified_at moment)) mid dir) (done u (touched t moment (parent (front ++ n ∷ [])))) =
+          touches put_law finds s mid t u front n dir moment k at d (subst (λ (x : StoreState). Keeps x u) (sym did.state) opens_it) shown in
+      let whole : Keeps new (done t (OpenHandle number (file_handle session number flags) ∷ NewPath path number (File (new_metadata 0o644 moment attrs) []) ∷ touched t moment (parent path))) =
+          subst (λ (x : StoreState). Keeps x (done t (OpenHandle number (file_handle session number flags) ∷ NewPath path number (File (new_metadata 0o644 moment attrs) []) ∷ touched t moment (parent path)))) (sym state)
+          (subst (λ (m : Metadata). Keeps (edited (with_metadata (modified_at moment)) mid dir) (done t (OpenHandle number (file_handle session number flags) ∷ NewPath path number (File m []) ∷ touched t moment (parent path)))) asked
+          (subst (λ (q : Path). Keeps (edited (with_metadata (modified_at moment)) mid dir) (done t (OpenHandle number (file_handle session number flags) ∷ NewPath q number (File metadata []) ∷ touched t moment (parent q)))) (sym is) after)) in
+      subst (λ (a : Answer). IsServed new t a (reply.Handle number)) (sym (absent_is false false c f)) (record { told = refl; tree = whole })
+
+-- ---- a file that is cut
+cut_node : (room : ℕ) (c : Content) (l label : ℕ) (k m : Metadata) (bytes : List ℕ) → shown_as l (object_in k c) ≡ shown_as label (File m bytes)
+    → shown_as l (object_in k (with_stored (record { bytes = []; room = room }) c)) ≡ shown_as label (File m [])
+cut_node room (content.Directory es) l label k m bytes e =
+    let objects : Some (Directory k) ≡ Some (File m bytes) = ap (option_map (λ (v : ℕ × Object). v.1)) e in
+    absurd (let x : ⊥ = cc in x)
+cut_node room (content.File contents) l label k m bytes e =
+    let labels : Some l ≡ Some label = ap (option_map (λ (v : ℕ × Object). v.0)) e in
+    let objects : Some (File k contents.bytes) ≡ Some (File m bytes) = ap (option_map (λ (v : ℕ × Object). v.1)) e in
+    let one : l ≡ label = cc in
+    let same : k ≡ m = cc in
+    λ i. shown_as (one i) (File (same i) [])
+
+cut_shown : (room : ℕ) (o : Option Node) (label : ℕ) (m : Metadata) (bytes : List ℕ) → option_map shown_node o ≡ Some (label, File m bytes)
+    → option_map shown_node (option_map (with_content (with_stored (record { bytes = []; room = room }))) o) ≡ Some (label, File m [])
+cut_shown room None label m bytes e = cc
+cut_shown room (Some node) label m bytes e = cut_node room node.content node.label label node.metadata m bytes e
+
+pub cut_served : SetsContents → SetsFile → SetsAgain → (s mid new : StoreState) (t : Tree) (id moment label : ℕ) (m : Metadata) (bytes : List ℕ) → Keeps s t → shown_of s.nodes id ≡ Some (label, File m bytes)
+    → mid ≡ bytes_set s id [] mid → new ≡ edited (with_metadata (modified_at moment)) mid id → Keeps new (changed t (SetObject label (File (modified_at moment m) [])))
+cut_served contents_law file_law again_law s mid new t id moment label m bytes k at is state =
+    let kept : Keeps mid (changed t (SetObject label (File m []))) = subst (λ (x : StoreState). Keeps x (changed t (SetObject label (File m [])))) (sym is) (contents_law s mid t id label m bytes [] k at) in
+    let shown : shown_of mid.nodes id ≡ Some (label, File m []) =
+        ap (λ (x : StoreState). shown_of x.nodes id) is
+        ∙ ap (option_map shown_node) (edited_itself (with_content (with_stored (record { bytes = []; room = (stored_of mid.nodes id).room }))) s id)
+        ∙ cut_shown (stored_of mid.nodes id).room (node_in s.nodes id) label m bytes at in
+    subst (λ (x : StoreState). Keeps x (changed t (SetObject label (File (modified_at moment m) [])))) (sym state)
+    (subst (λ (u : Tree). Keeps (edited (with_metadata (modified_at moment)) mid id) u) (again_law t label (File m []) (File (modified_at moment m) []))
+    (file_law (modified_at moment) mid (changed t (SetObject label (File m []))) id label m [] kept shown))
+
+-- ---- results
+if_ok_map : {A E : Type 0} (r : Result A E) {P Q : A → Type 0} → ((x : A) → P x → Q x) → IfOk r P → IfOk r Q
+if_ok_map (Ok x) f h = f x h
+if_ok_map (Err e) f h = h
+
+-- ---- what opening leaves of holders
+pub stays_opened_new : (before s new : StoreState) (session number dir : ℕ) (n : Name) (marks : Marks) (made : NewNode) → s.nodes ≡ before.nodes → OpenedNew s new session number dir n marks made → HoldersStay before new
+stays_opened_new before s new session number dir n marks made same did =
+    subst (HoldersStay before) (sym did.state) (stays_opened before did.mid session number did.id marks (stays_inserted before s did.mid dir n did.id (new_node made) same did.inserted refl))
+
+pub stays_past : (old mid new : StoreState) (most : ℕ) → LookedUp old mid most → HoldersStay mid new → HoldersStay old new
+stays_past old mid new most looked h id node at = h id node at ∙ ap (λ (ns : List (Option Node)). holder_of ns id) (looked_nodes old mid most looked)
+
+pub alike_err : {A E : Type 0} (old mid new : StoreState) (most : ℕ) (r : Result A E) → LookedUp old mid most → OnErr r (new ≡ mid) → OnErr r (IsAlike old new)
+alike_err old mid new most (Ok x) looked e = tt
+alike_err old mid new most (Err x) looked e = subst (IsAlike old) (sym e) (alike_looked old mid most looked)
+
+alike_on : (old mid new : StoreState) → IsAlike old mid → IsAlike mid new → IsAlike old new
+alike_on old mid new a b = record { nodes = λ id. b.nodes id ∙ a.nodes id; root = b.root ∙ a.root; sessions = b.sessions ∙ a.sessions }
+
+pub alike_past : {A E : Type 0} (old mid new : StoreState) (most : ℕ) (r : Result A E) → LookedUp old mid most → OnErr r (IsAlike mid new) → OnErr r (IsAlike old new)
+alike_past old mid new most (Ok x) looked e = tt
+alike_past old mid new most (Err x) looked e = alike_on old mid new (alike_looked old mid most looked) e
+
+-- ---- a directory that lacks a name
+way_lacking : (p : Path) (nodes : List (Option Node)) (above x d : ℕ) → way_from nodes above x p ≡ located.Missing d
+    → (r : Path) × (n : Name) × (p ≡ r ++ n ∷ []) × (entry_of nodes d n ≡ None) × (is_directory_at nodes d ≡ true)
+way_lacking [] nodes above x d = λ e. cc
+way_lacking (n ∷ p) nodes above x d =
+    elim (is_directory_at nodes x) as (λ b. is_directory_at nodes x ≡ b → cond b (option_map_or (λ y. way_from nodes x y p) (entry_of nodes x n) (missing x p)) located.NoWay ≡ located.Missing d
+        → (r : Path) × (m : Name) × (n ∷ p ≡ r ++ m ∷ []) × (entry_of nodes d m ≡ None) × (is_directory_at nodes d ≡ true)) [
+      | false ↦ λ q e. cc
+      | true ↦ λ q. elim (entry_of nodes x n) as (λ o. entry_of nodes x n ≡ o → option_map_or (λ y. way_from nodes x y p) o (missing x p) ≡ located.Missing d
+          → (r : Path) × (m : Name) × (n ∷ p ≡ r ++ m ∷ []) × (entry_of nodes d m ≡ None) × (is_directory_at nodes d ≡ true)) [
+        | None ↦ λ f. lacks p f q
+        | Some y ↦ λ f e. let w = way_lacking p nodes x y d e in (n ∷ w.0, w.1, ap (λ (rest : Path). n ∷ rest) w.2, w.3, w.4)
+      ] refl
+    ] refl where
+  lacks : (rest : Path) → entry_of nodes x n ≡ None → is_directory_at nodes x ≡ true → missing x rest ≡ located.Missing d
+      → (r : Path) × (m : Name) × (n ∷ rest ≡ r ++ m ∷ []) × (entry_of nodes d m ≡ None) × (is_directory_at nodes d ≡ true)
+  lacks [] f q e = let same : x ≡ d = cc in ([], n, refl, ap (λ k. entry_of nodes k n) (sym same) ∙ f, ap (is_directory_at nodes) (sym same) ∙ q)
+  lacks (m ∷ rest) f q e = cc
+
+-- ---- what was located
+module _ (old mid : StoreState) (t : Tree) (p : Path) (most : ℕ) (looked : LookedUp old mid most) (h : Keeps old t) where
+  pub listing_located : (session number : ℕ) (new : StoreState) (above y : ℕ) → {E : Type 0} → (r : Result Reply E) → located.At above y ≡ way_from old.nodes old.root old.root p
+      → ((it : Node) → node_in mid.nodes y ≡ Some it → IfOk r (λ reply. IsServed new t (open_directory t session number (found_node it)) reply))
+      → IfOk r (λ reply. IsServed new t (open_directory t session number (found_at t p)) reply)
+  listing_located session number new above y {E} r e served =
+      let w = node_located old mid t p most looked h above y e in
+      subst (λ (f : Found). IfOk r (λ reply. IsServed new t (open_directory t session number f) reply)) (sym w.1.1) (served w.0 w.1.0)
+
+  module _ (session number moment : ℕ) (flags : OpenFlags) (attrs : Attrs) where
+    abbrev answer : Place → Answer
+    answer place = open_file t session number moment p flags attrs place
+
+    pub open_no_way : (p ≡ [] → ⊥) → located.NoWay ≡ way_from old.nodes old.root old.root p → IsServed mid t (unless_root p (answer (place_at t p))) (reply.Status NoSuchFile)
+    open_no_way ne e =
+        let k = keeps_looked old mid t most looked h in
+        past_root mid t p (answer (place_at t p)) (reply.Status NoSuchFile) ne
+        (tells_served mid t (answer (place_at t p)) (reply.Status NoSuchFile) (ap answer (no_way mid t k p (way_looked old mid p most located.NoWay looked e))) k)
+
+    pub open_missing : (new : StoreState) (d : ℕ) → {E : Type 0} → (r : Result Reply E) → (p ≡ [] → ⊥) → located.Missing d ≡ way_from old.nodes old.root old.root p
+        → ((front : Path) → p ≡ front ++ last_of p ∷ [] → walk (entry_of mid.nodes) mid.root front ≡ Some d → IfOk r (λ reply. IsServed new t (answer Absent) reply))
+        → IfOk r (λ reply. IsServed new t (unless_root p (answer (place_at t p))) reply)
+    open_missing new d {E} r ne e served =
+        let k = keeps_looked old mid t most looked h in
+        let f = name_missing mid t k p d (way_looked old mid p most (located.Missing d) looked e) in
+        let last : last_of p ≡ f.1.1 = ap last_of f.1.2 ∙ last_is f.1.0 f.1.1 in
+        let there : p ≡ f.1.0 ++ last_of p ∷ [] = f.1.2 ∙ ap (λ (m : Name). f.1.0 ++ m ∷ []) (sym last) in
+        let at_absent = subst (λ (place : Place). IfOk r (λ reply. IsServed new t (answer place) reply)) (sym f.0) (served f.1.0 there f.1.3) in
+        if_ok_map r (λ reply. past_root new t p (answer (place_at t p)) reply ne) at_absent
+
+    pub open_exclusive : (above y : ℕ) → (p ≡ [] → ⊥) → located.At above y ≡ way_from old.nodes old.root old.root p → (flags.create && flags.exclusive) ≡ true → IsServed mid t (unless_root p (answer (place_at t p))) (reply.Status Failure)
+    open_exclusive above y ne e both =
+        let k = keeps_looked old mid t most looked h in
+        let f = node_at mid t k p above y (way_looked old mid p most (located.At above y) looked e) in
+        let at_label = ap answer f.2.2 ∙ ap (λ b. cond b (refuses Failure) (open_present t session number moment flags (found_object f.2.0.label (object_of t.objects f.2.0.label)))) both in
+        past_root mid t p (answer (place_at t p)) (reply.Status Failure) ne (tells_served mid t (answer (place_at t p)) (reply.Status Failure) at_label k)
+
+    pub open_located : (new : StoreState) (above y : ℕ) → {E : Type 0} → (r : Result Reply E) → (p ≡ [] → ⊥) → located.At above y ≡ way_from old.nodes old.root old.root p → (flags.create && flags.exclusive) ≡ false
+        → ((it : Node) → node_in mid.nodes y ≡ Some it → IfOk r (λ reply. IsServed new t (open_present t session number moment flags (found_node it)) reply))
+        → IfOk r (λ reply. IsServed new t (unless_root p (answer (place_at t p))) reply)
+    open_located new above y {E} r ne e both served =
+        let k = keeps_looked old mid t most looked h in
+        let f = node_at mid t k p above y (way_looked old mid p most (located.At above y) looked e) in
+        let is : found_object f.2.0.label (object_of t.objects f.2.0.label) ≡ found_node f.2.0 = sym (ap (found_place t.objects) f.2.2) ∙ f.2.3 in
+        let at_label : answer (place_at t p) ≡ open_present t session number moment flags (found_node f.2.0) =
+            ap answer f.2.2 ∙ ap (λ b. cond b (refuses Failure) (open_present t session number moment flags (found_object f.2.0.label (object_of t.objects f.2.0.label)))) both ∙ ap (open_present t session number moment flags) is in
+        if_ok_map r (λ reply. past_root new t p (answer (place_at t p)) reply ne)
+        (subst (λ (a : Answer). IfOk r (λ reply. IsServed new t a reply)) (sym at_label) (served f.2.0 f.2.1))
+
+-- ---- what a missing name's directory is after the look-ups
+pub missing_directory : (old mid : StoreState) (p : Path) (most d : ℕ) → LookedUp old mid most → located.Missing d ≡ way_from old.nodes old.root old.root p → is_directory_at mid.nodes d ≡ true
+missing_directory old mid p most d looked e = ap (λ (ns : List (Option Node)). is_directory_at ns d) (looked_nodes old mid most looked) ∙ (way_lacking p old.nodes old.root old.root d (sym e)).4
+
+pub missing_entry : (old mid : StoreState) (p : Path) (most d : ℕ) → LookedUp old mid most → located.Missing d ≡ way_from old.nodes old.root old.root p → entry_of mid.nodes d (last_of p) ≡ None
+missing_entry old mid p most d looked e =
+    let w = way_lacking p old.nodes old.root old.root d (sym e) in
+    ap (λ (ns : List (Option Node)). entry_of ns d (last_of p)) (looked_nodes old mid most looked) ∙ ap (entry_of old.nodes d) (ap last_of w.2 ∙ last_is w.0 w.1) ∙ w.3

@@ -1,0 +1,23 @@
+use Rattle.std.proofs.Common.{refl, sym, subst, ap, ◌∙◌, []}
+use Rattle.sf_call.specs.Attributes.{modified_at}
+use Rattle.sf_call.specs.Attributes.Object.{File}
+use Rattle.sf_inode.specs.Nodes.{with_metadata, with_content, with_stored}
+use Rattle.sf_inode.specs.Stores.{edited, stored_of, bytes_set}
+use Rattle.sf_inode.specs.Keeps.{Keeps}
+use Rattle.sf_call.specs.Changes.{changed}
+use Rattle.sf_call.specs.Changes.Change.{SetObject}
+use Rattle.sf_walk.specs.Served.{HoldersStay}
+use Rattle.sf_walk.proofs.Holders.{stays_edited}
+use Rattle.sf_walk.proofs.Opened.{cut_served}
+use Rattle.sf_walk.proofs.opening.truncate.Goals as goal
+
+pub returns-clause-tree : goal.returns-clause-tree
+returns-clause-tree c = λ t label m bytes k at.
+    cut_served c.changed_object.ensures.contents c.changed_object.ensures.file c.changed_object.ensures.again c.args.store.now c.cut.new.store c.touch.new.self t c.args.node c.args.moment label m bytes k at c.cut.ensures c.touch.ensures
+
+pub returns-clause-holders : goal.returns-clause-holders
+returns-clause-holders c = λ before h.
+    let f = with_content (with_stored (record { bytes = []; room = (stored_of c.cut.new.store.nodes c.args.node).room })) in
+    subst (HoldersStay before) (sym c.touch.ensures)
+    (stays_edited (with_metadata (modified_at c.args.moment)) (λ node. refl) before c.cut.new.store c.args.node
+    (subst (HoldersStay before) (sym c.cut.ensures) (stays_edited f (λ node. refl) before c.args.store.now c.args.node h)))
