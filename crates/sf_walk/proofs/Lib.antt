@@ -2,3 +2,4 @@ pub mod WaySteps
 pub mod LookUps
 pub mod Fits
 pub mod Holders
+pub mod PathCalls

@@ -1,14 +1,17 @@
 //! Calls on paths, but those that open.
 
-ghost use Rattle.std.specs.Prelude.{◌≡◌, ◌<◌, length, Some, IfOk, OnErr};
+ghost use Rattle.std.specs.Prelude.{◌≡◌, ◌<◌, ℕ, true, length, Some, IfOk, OnErr};
 ghost use Rattle.sf_call.specs.Attributes.{modified_at};
 ghost use Rattle.sf_call.specs.Tree.{Tree, found_at, place_at};
-ghost use Rattle.sf_call.specs.Calls.{stat, set_stat, sets, make_directory, remove_directory, remove_file, unless_root};
+ghost use Rattle.sf_call.specs.Calls.{stat, set_stat, sets, make_directory, remove_directory, remove_file, goes, unless_root};
+ghost use Rattle.sf_wire.specs.declared.reply.Reply.TheVariants.{Status};
+ghost use Rattle.sf_wire.specs.declared.reply.StatusCode.TheVariants.{Success};
 ghost use Rattle.sf_inode.specs.declared.node.Node.{Node};
 ghost use Rattle.sf_inode.specs.Nodes.{new_node, object_in, with_metadata};
-ghost use Rattle.sf_inode.specs.Stores.{Inserted, node_in, edited, unlinked};
+ghost use Rattle.sf_inode.specs.Stores.{Inserted, node_in, is_bare_at, edited, unlinked};
 ghost use Rattle.sf_inode.specs.Keeps.{Keeps};
-ghost use Rattle.sf_walk.specs.Ways.{last_of};
+ghost use Rattle.sf_walk.specs.declared.finding.Located.TheVariants.{At};
+ghost use Rattle.sf_walk.specs.Ways.{last_of, way_from};
 ghost use Rattle.sf_walk.specs.Served.{IsServed, IsAlike, LooksUp, HoldersStay, IsNewNumber};
 
 use crate::finding::{Located, locate};
@@ -69,15 +72,26 @@ pub(crate) fn set_node(
     ensures look_ups { store.new.look_ups ≡ store.old.look_ups }
     ensures holders { HoldersStay store.old store.new }
 {
-    if let Some(size) = attrs.size {
-        if store.is_directory(node) || size > MAX_FILE_SIZE {
-            return Ok(Reply::Status(StatusCode::Failure));
+    sf_inode::changed_object();
+    sf_inode::other_nodes();
+    match attrs.size {
+        None => {
+            store.set(node, attrs);
+            Ok(Reply::Status(StatusCode::Success))
         }
-        store.set_len(node, size)?;
-        store.touch(node, moment);
+        Some(size) => {
+            if store.is_directory(node) {
+                return Ok(Reply::Status(StatusCode::Failure));
+            }
+            if size > MAX_FILE_SIZE {
+                return Ok(Reply::Status(StatusCode::Failure));
+            }
+            store.set_len(node, size)?;
+            store.touch(node, moment);
+            store.set(node, attrs);
+            Ok(Reply::Status(StatusCode::Success))
+        }
     }
-    store.set(node, attrs);
-    Ok(Reply::Status(StatusCode::Success))
 }
 
 /// MKDIR. The new directory's label is the call's number.
@@ -107,6 +121,10 @@ pub(crate) fn mkdir(
             };
             insert_last(store, parent, path, made)?;
             store.touch(parent, moment);
+            sf_inode::new_path();
+            sf_inode::other_nodes();
+            sf_inode::found_paths();
+            sf_inode::changed_object();
             Ok(Reply::Status(StatusCode::Success))
         }
     }
@@ -140,7 +158,11 @@ pub(crate) fn rmdir(store: &mut Store, moment: u32, path: &Path) -> Reply
         Located::NoWay => Reply::Status(StatusCode::NoSuchFile),
         Located::Missing { parent: _ } => Reply::Status(StatusCode::NoSuchFile),
         Located::At { parent, node } => {
-            if !store.is_directory(node) || !store.is_empty(node) {
+            sf_inode::found_paths();
+            if !store.is_directory(node) {
+                return Reply::Status(StatusCode::Failure);
+            }
+            if !store.is_empty(node) {
                 return Reply::Status(StatusCode::Failure);
             }
             remove_last(store, moment, parent, path);
@@ -174,8 +196,14 @@ pub(crate) fn remove(store: &mut Store, moment: u32, path: &Path) -> Reply
 /// Takes the last name of a path out of its directory, which is modified at the moment.
 fn remove_last(store: &mut Store, moment: u32, parent: NodeId, path: &Path)
     requires { 0 < length path.now }
-    ensures { store.new ≡ edited (with_metadata (modified_at moment)) (unlinked store.old parent (last_of path.now)) parent }
+    ensures state { store.new ≡ edited (with_metadata (modified_at moment)) (unlinked store.old parent (last_of path.now)) parent }
+    ensures served { (t : Tree) (node : ℕ) → Keeps store.old t → way_from store.old.nodes store.old.root store.old.root path.now ≡ At parent node → is_bare_at store.old.nodes node ≡ true
+        → IsServed store.new t (goes t moment path.now) (Status Success) }
 {
+    sf_inode::gone_path();
+    sf_inode::other_nodes();
+    sf_inode::found_paths();
+    sf_inode::changed_object();
     store.unlink(parent, path.name(path.len() - 1));
     store.touch(parent, moment);
 }
