@@ -3,3 +3,4 @@ pub mod LookUps
 pub mod Fits
 pub mod Holders
 pub mod PathCalls
+pub mod ByHandle
