@@ -10,3 +10,4 @@ pub mod Parents
 pub mod PathCalls
 pub mod Undone
 pub mod Opened
+pub mod ByHandle

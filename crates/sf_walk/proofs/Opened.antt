@@ -37,7 +37,11 @@ use Rattle.sf_walk.proofs.Holders.{put_nodes, stays_inserted, stays_opened, alik
 use Rattle.sf_walk.proofs.LookUps.{looked_nodes}
 use Rattle.sf_walk.proofs.Fits.{no_way, name_missing, node_at}
 use Rattle.sf_walk.proofs.Undone.{edited_node, edited_itself}
-use Rattle.sf_walk.proofs.PathCalls.{tells_served, past_root, keeps_looked, way_looked, last_is, node_located, shown_directory, touches, SetsDirectory, FindsDirectory, InsertsNode, MakesPath}
+use Rattle.sf_walk.proofs.Told.{tells_served, past_root}
+use Rattle.sf_walk.proofs.Looked.{keeps_looked, way_looked}
+use Rattle.sf_walk.proofs.LastNames.{last_is}
+use Rattle.sf_walk.proofs.PathCalls.{node_located}
+use Rattle.sf_walk.proofs.Parents.{shown_directory, touches, SetsDirectory, FindsDirectory, InsertsNode, MakesPath}
 
 -- ---- what nodes show
 shown_edited : (f : Node → Node) → ((node : Node) → shown_node (f node) ≡ shown_node node) → (s : StoreState) (id i : ℕ) → shown_of (edited f s id).nodes i ≡ shown_of s.nodes i

@@ -74,15 +74,15 @@ marked_content f l k m n (content.File c) bytes e =
     let d : c.bytes ≡ bytes = cc in
     λ i. Some (a i, File (f (b i)) (d i))
 
-shown_stored : (o : Option Node) (l : ℕ) (m : Metadata) (old : List ℕ) (r : Stored) → option_map shown_node o ≡ Some (l, File m old) → option_map shown_node (option_map (with_content (with_stored r)) o) ≡ Some (l, File m r.bytes)
+pub shown_stored : (o : Option Node) (l : ℕ) (m : Metadata) (old : List ℕ) (r : Stored) → option_map shown_node o ≡ Some (l, File m old) → option_map shown_node (option_map (with_content (with_stored r)) o) ≡ Some (l, File m r.bytes)
 shown_stored None l m old r e = cc
 shown_stored (Some node) l m old r e = stored_content l node.label m node.metadata node.content old r e
 
-shown_marked : (f : Metadata → Metadata) (o : Option Node) (l : ℕ) (m : Metadata) (bytes : List ℕ) → option_map shown_node o ≡ Some (l, File m bytes) → option_map shown_node (option_map (with_metadata f) o) ≡ Some (l, File (f m) bytes)
+pub shown_marked : (f : Metadata → Metadata) (o : Option Node) (l : ℕ) (m : Metadata) (bytes : List ℕ) → option_map shown_node o ≡ Some (l, File m bytes) → option_map shown_node (option_map (with_metadata f) o) ≡ Some (l, File (f m) bytes)
 shown_marked f None l m bytes e = cc
 shown_marked f (Some node) l m bytes e = marked_content f l node.label m node.metadata node.content bytes e
 
-stored_bytes : (o : Option Node) (l : ℕ) (m : Metadata) (old : List ℕ) → option_map shown_node o ≡ Some (l, File m old) → (option_map_or (λ (node : Node). stored_in node.content) o (record { bytes = []; room = 0 })).bytes ≡ old
+pub stored_bytes : (o : Option Node) (l : ℕ) (m : Metadata) (old : List ℕ) → option_map shown_node o ≡ Some (l, File m old) → (option_map_or (λ (node : Node). stored_in node.content) o (record { bytes = []; room = 0 })).bytes ≡ old
 stored_bytes None l m old e = cc
 stored_bytes (Some node) l m old e = content_bytes l node.label m node.metadata node.content old e
 

@@ -1,7 +1,8 @@
 use Rattle.std.proofs.Common.{◌≡◌, false, ap, length, ◌&&◌}
 use Rattle.sf_walk.proofs.Holders.{stays_looked}
 use Rattle.sf_walk.proofs.LookUps.{looked_nodes}
-use Rattle.sf_walk.proofs.PathCalls.{not_root, keeps_looked}
+use Rattle.sf_walk.proofs.LastNames.{not_root}
+use Rattle.sf_walk.proofs.Looked.{keeps_looked}
 use Rattle.sf_walk.proofs.Opened.{open_no_way, open_missing, open_exclusive, open_located, missing_directory, missing_entry, alike_err, alike_past, stays_past}
 use Rattle.sf_walk.proofs.opening.open.Goals.{else-flags-via-then-flags+else-flags-2, else-flags-via-else-flags}
 use Rattle.sf_walk.proofs.opening.open.Goals as goal

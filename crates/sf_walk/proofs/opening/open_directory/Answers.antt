@@ -2,7 +2,8 @@ use Rattle.std.proofs.Common.{◌≡◌, ap, refl, sym, subst, ◌∙◌, length
 use Rattle.sf_call.specs.Calls.{open_directory}
 use Rattle.sf_walk.specs.Served.{IsServed, IsAlike}
 use Rattle.sf_walk.proofs.Holders.{stays_looked, alike_looked}
-use Rattle.sf_walk.proofs.PathCalls.{no_way_served, missing_served, keeps_looked}
+use Rattle.sf_walk.proofs.PathCalls.{no_way_served, missing_served}
+use Rattle.sf_walk.proofs.Looked.{keeps_looked}
 use Rattle.sf_walk.proofs.Opened.{listing_located, alike_err, stays_past}
 use Rattle.sf_walk.proofs.opening.open_directory.Goals as goal
 
