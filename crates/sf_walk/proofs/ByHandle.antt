@@ -33,7 +33,7 @@ use Rattle.sf_walk.specs.Files.{file_size}
 use Rattle.sf_walk.specs.Served.{IsServed, HoldersStay}
 use Rattle.sf_walk.proofs.Holders.{stays_closed}
 use Rattle.sf_walk.proofs.Told.{tells_served, if_ok_map}
-use Rattle.sf_walk.proofs.Opened.{SetsFile, SetsAgain}
+use Rattle.sf_walk.proofs.SetNodes.{SetsFile, SetsAgain}
 use Rattle.sf_walk.proofs.SetNodes.{SetsBytes, EditsItself, shown_stored, shown_marked, stored_bytes}
 
 -- ---- the laws that are used

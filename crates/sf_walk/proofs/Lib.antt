@@ -11,3 +11,4 @@ pub mod PathCalls
 pub mod Undone
 pub mod Opened
 pub mod ByHandle
+pub mod Refused

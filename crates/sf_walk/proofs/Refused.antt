@@ -1,0 +1,52 @@
+-- A store in which nothing but the count of look-ups differs keeps the tree.
+use Rattle.std.specs.Prelude.{◌≡◌, ℕ, T, List, option_map, option_and_then, Option, Some}
+use Rattle.std.proofs.Common.{sym, ap, subst, ◌∙◌}
+use Rattle.std.specs.Ordering.{nat_cmp}
+use Rattle.std.specs.Map.{lookup}
+use Rattle.std.specs.BTreeMap.{is_at}
+use Rattle.std.specs.FinMap.{is_sorted}
+use Rattle.sf_path.specs.Names.{Name, Path}
+use Rattle.sf_call.specs.Tree.{Tree}
+use Rattle.sf_inode.specs.declared.handle.OpenHandle.{OpenHandle}
+use Rattle.sf_inode.specs.Nodes.{entry_in}
+use Rattle.sf_inode.specs.Steps.{walk}
+use Rattle.sf_inode.specs.Shows.{View, Shows}
+use Rattle.sf_inode.specs.Stores.{StoreState, entry_of, shown_node, shown_handle, handles_of, handle_at, view_of}
+use Rattle.sf_inode.specs.Keeps.{Keeps}
+use Rattle.sf_walk.specs.Served.{IsAlike}
+
+module _ (old new : StoreState) (t : Tree) (same : IsAlike old new) (kept : Keeps old t) where
+  step_same : (x : ℕ) (n : Name) → entry_of new.nodes x n ≡ entry_of old.nodes x n
+  step_same x n i = option_and_then (λ node. entry_in node.content n) (same.nodes x i)
+
+  walk_same : (p : Path) → walk (entry_of new.nodes) new.root p ≡ walk (entry_of old.nodes) old.root p
+  walk_same p i = walk (λ x n. step_same x n i) (same.root i) p
+
+  handles_same : (session : ℕ) → handles_of new session ≡ handles_of old session
+  handles_same session = ap (lookup (is_at (nat_cmp session))) same.sessions
+
+  handle_same : (session number : ℕ) → handle_at new session number ≡ handle_at old session number
+  handle_same session number = ap (option_and_then (λ handles. lookup (is_at (nat_cmp number)) handles)) (handles_same session)
+
+  view_same : view_of new ≡ view_of old
+  view_same i = record {
+    step = λ x n. step_same x n i;
+    shown = λ x. option_map shown_node (same.nodes x i);
+    root = same.root i;
+    opens = λ session number. option_map (shown_handle session) (handle_same session number i);
+  }
+
+  pub keeps_alike : Keeps new t
+  keeps_alike = record {
+    shows = subst (λ (v : View). Shows v t) (sym view_same) kept.shows;
+    single = λ x y id n m a b. kept.single x y id n m (sym (step_same x n) ∙ a) (sym (step_same y m) ∙ b);
+    unlinked = λ id node at unnamed.
+        let u = kept.unlinked id node (sym (same.nodes id) ∙ at) unnamed in
+        record { free = λ x n e. u.free x n (sym (step_same x n) ∙ e); other = λ e. u.other (sym same.root ∙ e); bare = λ n. step_same id n ∙ u.bare n };
+    named = λ id node at is. let w = kept.named id node (sym (same.nodes id) ∙ at) is in (w.0, walk_same w.0 ∙ w.1);
+    counted = λ id node at. kept.counted id node (sym (same.nodes id) ∙ at);
+    led = λ session number x e. let w = kept.led session number x (sym (handle_same session number) ∙ e) in (w.0, (same.nodes x.node ∙ w.1.0, w.1.1));
+    sessions = subst (λ (ss : List (ℕ × List (ℕ × OpenHandle))). T (is_sorted nat_cmp ss)) (sym same.sessions) kept.sessions;
+    handles = λ session hs e. kept.handles session hs (sym (handles_same session) ∙ e);
+    numbers = kept.numbers;
+  }
