@@ -150,7 +150,7 @@ module _ (finds : FindsHandle) (s : StoreState) (t : Tree) (session number : ℕ
     pub opened_is : opened t session number ≡ opened_object (shown_handle session h) (Some (object_in node_of.0.metadata node_of.0.content))
     opened_is = ap (opened_by t) handle_is ∙ ap (opened_object (shown_handle session h)) node_of.1.2
 
-    directory_is : is_directory_at s.nodes h.node ≡ is_directory_content node_of.0.content
+    pub directory_is : is_directory_at s.nodes h.node ≡ is_directory_content node_of.0.content
     directory_is = ap (λ (o : Option Node). option_map_or (λ (node : Node). is_directory_content node.content) o false) node_of.1.0
 
     file_is : is_file_at s.nodes h.node ≡ is_file_content node_of.0.content

@@ -4,3 +4,4 @@ pub mod Fits
 pub mod Holders
 pub mod PathCalls
 pub mod ByHandle
+pub mod Rows
