@@ -1,5 +1,5 @@
 -- What a listing answers, and what tree the store keeps after it.
-use Rattle.std.specs.Prelude.{◌≡◌, ◌↔◌, IsSome, ℕ, ◌-◌, ◌<◌, ◌+◌, true, false, Bool, List, [], ◌∷◌, ◌++◌, length, take, map, filter_map, option_map, unwrap_or, Option, Some, None, slice_get, refl}
+use Rattle.std.specs.Prelude.{◌≡◌, ◌↔◌, IsSome, ℕ, ◌-◌, ◌<◌, true, false, List, [], ◌∷◌, ◌++◌, length, take, map, filter_map, option_map, unwrap_or, Option, Some, None, slice_get, refl}
 use Rattle.std.specs.List.{cons_option, last_or}
 use Rattle.std.proofs.Common.{sym, ap, subst, ◌∙◌, arith, append_assoc, append-nil}
 use Rattle.sf_path.specs.Names.{Name}
