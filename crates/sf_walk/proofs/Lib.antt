@@ -12,3 +12,4 @@ pub mod Undone
 pub mod Opened
 pub mod ByHandle
 pub mod Refused
+pub mod Rows

@@ -124,12 +124,7 @@ pub(crate) fn read(
 }
 
 /// So many bytes of a file from an offset on.
-fn bytes_at(
-    store: &Store,
-    node: NodeId,
-    offset: u64,
-    count: usize,
-) -> Result<Vec<u8>, AllocError>
+fn bytes_at(store: &Store, node: NodeId, offset: u64, count: usize) -> Result<Vec<u8>, AllocError>
     requires { offset + count ≤ length (stored_of store.now.nodes node).bytes }
     ensures { IfOk result (λ bytes. bytes.items ≡ take count (drop offset (stored_of store.now.nodes node).bytes)) }
 {

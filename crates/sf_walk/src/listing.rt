@@ -1,7 +1,7 @@
 //! Listing a directory.
 
 ghost use Rattle.std.specs.Prelude.{◌≡◌, Some, filter_map, IfOk, OnErr};
-ghost use Rattle.sf_wire.specs.Longname.{HasType, longname_text};
+ghost use Rattle.sf_reply.specs.Longname.{HasType, longname_text};
 ghost use Rattle.sf_call.specs.ReplyKinds.{HasAllParts};
 ghost use Rattle.sf_call.specs.Tree.{Tree};
 ghost use Rattle.sf_call.specs.Handles.{opened};
