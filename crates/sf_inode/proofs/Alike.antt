@@ -1,6 +1,6 @@
 -- What stays true of a store that keeps a tree, where entries and what nodes are stay.
-use Rattle.std.specs.Prelude.{◌≡◌, ◌⊎◌, ℕ, nat_eq, Bool, true, false, cond, List, option_and_then, Option, Some, None, refl}
-use Rattle.std.proofs.Common.{sym, ap, subst, ◌∙◌, inl, inr, eqb-true, eq-eqb}
+use Rattle.std.specs.Prelude.{◌≡◌, ◌⊎◌, ℕ, nat_eq, true, false, cond, List, option_and_then, Option, Some, None, refl}
+use Rattle.std.proofs.Common.{sym, ap, subst, ◌∙◌, inl, inr, eqb-true}
 use Rattle.sf_path.specs.Names.{Name, Path}
 use Rattle.sf_call.specs.Tree.{Tree}
 use Rattle.sf_inode.specs.declared.node.Node.{Node}

@@ -1,7 +1,6 @@
 -- A store keeps the tree after a handle was closed.
-use Rattle.std.specs.Prelude.{◌≡◌, ℕ, ◌+◌, ◌-◌, ◌<◌, ◌^◌, nat_eq, Bool, true, false, cond, not, ◌&&◌, ◌||◌, if◌then◌else◌, List, slice_set, option_map, option_and_then, Option, Some, None, refl}
+use Rattle.std.specs.Prelude.{◌≡◌, ℕ, ◌+◌, ◌-◌, ◌<◌, ◌^◌, nat_eq, Bool, true, false, cond, not, ◌&&◌, if◌then◌else◌, List, slice_set, option_map, option_and_then, Option, Some, None, refl}
 use Rattle.std.proofs.Common.{sym, ap, subst, ◌∙◌, arith, eqb-true, eq-eqb}
-use Rattle.std.specs.List.{list_any}
 use Rattle.std.specs.Ordering.{nat_cmp}
 use Rattle.std.specs.Cmp.{nat_cmp_total}
 use Rattle.std.specs.Map.{remove_entry}
@@ -15,7 +14,7 @@ use Rattle.sf_inode.specs.declared.node.Node.{Node}
 use Rattle.sf_inode.specs.declared.handle.OpenHandle.{OpenHandle}
 use Rattle.sf_inode.specs.Nodes.{object_in, with_opened, is_unused}
 use Rattle.sf_inode.specs.Shows.{View, Shows, label_by, with_opens, with_shown}
-use Rattle.sf_inode.specs.Stores.{StoreState, node_in, entry_of, handle_at, shown_node, shown_handle, view_of, with_nodes, with_sessions, edited, released_if, released, let_go, handles_of, handle_dropped, closed_by, closed}
+use Rattle.sf_inode.specs.Stores.{StoreState, node_in, handle_at, shown_node, shown_handle, view_of, with_nodes, with_sessions, edited, released_if, released, let_go, handles_of, handle_dropped, closed_by, closed}
 use Rattle.sf_inode.specs.Keeps.{Keeps, IsUnlinked, times_open}
 use Rattle.sf_inode.proofs.Keyed.{lookup-removed, any_lookup}
 use Rattle.sf_inode.proofs.Less.{is_named, is_opened, IsClosed, handle_there, opened_by}
@@ -24,8 +23,8 @@ use Rattle.sf_inode.proofs.Handled.{by_closed, shows_closed_last, shows_closed}
 use Rattle.sf_inode.proofs.StoreLaws.{node_in-set, node_in-edited, view_stays, view_goes}
 use Rattle.sf_inode.proofs.StoreHandles.{HandleSet, dropped_set, view_set}
 use Rattle.sf_inode.proofs.Counts.{closed_times}
-use Rattle.sf_inode.proofs.Openings.{any_counted, none_counted, one_node}
-use Rattle.sf_inode.proofs.Alike.{AreAlike, single_alike, unlinked_alike, named_alike, counted_alike, counted_now, counted_there, gone_alike, gone_now, gone_there}
+use Rattle.sf_inode.proofs.Openings.{any_counted, none_counted}
+use Rattle.sf_inode.proofs.Alike.{single_alike, unlinked_alike, named_alike, counted_alike, counted_now, counted_there, gone_alike, gone_now, gone_there}
 
 is_unnamed : (named : Bool) (n : ℕ) → not named && nat_eq n 0 ≡ true → (named ≡ false) × (n ≡ 0)
 is_unnamed true n e = cc
@@ -167,12 +166,17 @@ module _ (s : StoreState) (t : Tree) (k : Keeps s t) (session number : ℕ) (h :
           named = named_alike s t k goes refl alike;
           counted = gone_now s t k h.node node here goes.nodes gone after others;
           led = λ a b x e.
-              let w = k.led a b x (still_there a b x e) in
-              (w.0, (gone_there s t k h.node node here goes.nodes gone x.node w.0
-              (λ f.
-              let one : Some node ≡ Some w.0 = sym here ∙ ap (node_in s.nodes) f ∙ w.1.0 in
-              let is : node ≡ w.0 = cc in
-              last a b (shown_handle a x) (sym (ap (λ (v : View). v.opens a b) view_mid) ∙ ap (option_map (shown_handle a)) e) (sym w.1.1 ∙ sym (ap (λ (y : Node). y.label) is) ∙ same)) w.1.0, w.1.1));
+              let w = k.led a b x (still_there a b x e) in (
+                w.0,
+                (
+                  gone_there s t k h.node node here goes.nodes gone x.node w.0
+                      (λ f.
+                      let one : Some node ≡ Some w.0 = sym here ∙ ap (node_in s.nodes) f ∙ w.1.0 in
+                      let is : node ≡ w.0 = cc in
+                      last a b (shown_handle a x) (sym (ap (λ (v : View). v.opens a b) view_mid) ∙ ap (option_map (shown_handle a)) e) (sym w.1.1 ∙ sym (ap (λ (y : Node). y.label) is) ∙ same)) w.1.0,
+                  w.1.1,
+                ),
+              );
           sessions = set.sessions;
           handles = set.handles;
           numbers = numbers_after;

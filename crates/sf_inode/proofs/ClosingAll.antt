@@ -1,12 +1,11 @@
 -- A store keeps the tree after a session's handles were all closed.
 use Rattle.std.specs.Prelude.{◌≡◌, ℕ, ◌-◌, nat_eq, Bool, true, false, cond, T, if◌then◌else◌, List, [], ◌∷◌, slice_set, option_map, option_and_then, Option, Some, None, IsSome, refl}
-use Rattle.std.proofs.Common.{sym, ap, subst, ◌∙◌, eqb-true, eq-eqb}
+use Rattle.std.proofs.Common.{sym, ap, subst, ◌∙◌, eqb-true}
 use Rattle.std.specs.Ordering.{nat_cmp}
 use Rattle.std.specs.Cmp.{nat_cmp_total}
 use Rattle.std.specs.Map.{lookup, remove_entry, set_value}
 use Rattle.std.specs.BTreeMap.{is_at}
 use Rattle.std.specs.FinMap.{is_sorted}
-use Rattle.sf_call.specs.declared.handle.Handle.{Handle}
 use Rattle.sf_call.specs.Tree.{Tree, handle_of}
 use Rattle.sf_call.specs.Changes.{Change as change, changed}
 use Rattle.sf_call.specs.Calls.{leave}
@@ -22,7 +21,7 @@ use Rattle.sf_inode.proofs.Shown.{nat_at_itself}
 use Rattle.sf_inode.proofs.Less.{handle_there}
 use Rattle.sf_inode.proofs.StoreLaws.{same_view}
 use Rattle.sf_inode.proofs.StoreHandles.{AreOrdered, at_is}
-use Rattle.sf_inode.proofs.Alike.{AreAlike, unlinked_alike}
+use Rattle.sf_inode.proofs.Alike.{unlinked_alike}
 use Rattle.sf_inode.proofs.Closing.{keeps_closed}
 use Rattle.sf_inode.proofs.Leaving.{removed_set, leave_closed, leave_none}
 

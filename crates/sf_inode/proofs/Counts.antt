@@ -1,12 +1,12 @@
 -- How many handles open an object, before and after a change of the handles.
-use Rattle.std.specs.Prelude.{◌≡◌, ℕ, ◌+◌, ◌-◌, ◌*◌, ◌<◌, ◌≤◌, ◌^◌, min, nat_eq, Bool, true, false, cond, T, List, [], ◌∷◌, length, Option, Some, None, refl}
-use Rattle.std.proofs.Common.{sym, ap, subst, ◌∙◌, arith, eqb-true}
-use Rattle.std.specs.List.{sum_by, count_by}
+use Rattle.std.specs.Prelude.{◌≡◌, ℕ, ◌+◌, ◌<◌, ◌^◌, nat_eq, Bool, true, false, cond, T, List, [], ◌∷◌, length, Some, None, refl}
+use Rattle.std.proofs.Common.{sym, ap, subst, ◌∙◌, arith}
+use Rattle.std.specs.List.{sum_by}
 use Rattle.std.proofs.lemmas.List.Sums.{sum_by-cons, count_by-le-length}
 use Rattle.std.specs.declared.cmp.Ordering.{Ordering}
 use Rattle.std.specs.declared.cmp.Ordering.TheVariants.{Less, Equal, Greater}
 use Rattle.std.specs.Ordering.{nat_cmp, is_lt, is_eq, match_ordering}
-use Rattle.std.specs.Cmp.{ranked, nat_cmp_total}
+use Rattle.std.specs.Cmp.{ranked}
 use Rattle.std.specs.Map.{lookup, remove_entry, set_value}
 use Rattle.std.specs.BTreeMap.{is_at, insert_entry}
 use Rattle.std.specs.FinMap.{is_sorted}
@@ -72,10 +72,10 @@ module _ {X : Type 0} where
       let first = nat_below low e.0 (and_first (is_lt (nat_cmp low e.0)) (below_all nat_cmp low es) below) in
       let here = within e.0 e.1 (ap (λ b. cond b (Some e.1) (lookup (is_at (nat_cmp e.0)) es)) (nat_at_itself e.0)) in
       let rest = between es e.0 high (and_first (below_all nat_cmp e.0 es) (is_sorted nat_cmp es) sorted) (and_second (below_all nat_cmp e.0 es) (is_sorted nat_cmp es) sorted)
-          (λ q v l. elim (is_at (nat_cmp q) e.0) as (λ b. is_at (nat_cmp q) e.0 ≡ b → q < high) [
-            | true ↦ λ t. subst (λ (x : ℕ). x < high) (sym (nat_same q e.0 t)) here
-            | false ↦ λ t. within q v (ap (λ b. cond b (Some e.1) (lookup (is_at (nat_cmp q)) es)) t ∙ l)
-          ] refl) here in
+      (λ q v l. elim (is_at (nat_cmp q) e.0) as (λ b. is_at (nat_cmp q) e.0 ≡ b → q < high) [
+        | true ↦ λ t. subst (λ (x : ℕ). x < high) (sym (nat_same q e.0 t)) here
+        | false ↦ λ t. within q v (ap (λ b. cond b (Some e.1) (lookup (is_at (nat_cmp q)) es)) t ∙ l)
+      ] refl) here in
       omega (arith, first, rest)
 
   pub few : (es : List (ℕ × X)) (high : ℕ) → 0 < high → T (is_sorted nat_cmp es) → ((q : ℕ) (v : X) → lookup (is_at (nat_cmp q)) es ≡ Some v → (0 < q) × (q < high)) → length es < high
@@ -84,10 +84,10 @@ module _ {X : Type 0} where
       let here = within e.0 e.1 (ap (λ b. cond b (Some e.1) (lookup (is_at (nat_cmp e.0)) es)) (nat_at_itself e.0)) in
       let first : 0 < e.0 = here.0 in
       let rest = between es e.0 high (and_first (below_all nat_cmp e.0 es) (is_sorted nat_cmp es) sorted) (and_second (below_all nat_cmp e.0 es) (is_sorted nat_cmp es) sorted)
-          (λ q v l. elim (is_at (nat_cmp q) e.0) as (λ b. is_at (nat_cmp q) e.0 ≡ b → q < high) [
-            | true ↦ λ t. subst (λ (x : ℕ). x < high) (sym (nat_same q e.0 t)) here.1
-            | false ↦ λ t. (within q v (ap (λ b. cond b (Some e.1) (lookup (is_at (nat_cmp q)) es)) t ∙ l)).1
-          ] refl) here.1 in
+      (λ q v l. elim (is_at (nat_cmp q) e.0) as (λ b. is_at (nat_cmp q) e.0 ≡ b → q < high) [
+        | true ↦ λ t. subst (λ (x : ℕ). x < high) (sym (nat_same q e.0 t)) here.1
+        | false ↦ λ t. (within q v (ap (λ b. cond b (Some e.1) (lookup (is_at (nat_cmp q)) es)) t ∙ l)).1
+      ] refl) here.1 in
       omega (arith, first, rest)
 
 -- ---- how many handles open a label

@@ -58,7 +58,7 @@ module _ {K X : Type 0} (R : K → K → Ordering) where
     pub lookup-removed : (es : List (K × X)) (k q : K) → T (is_sorted R es) → lookup (is_at (R q)) (remove_entry (is_at (R k)) es) ≡ cond (is_at (R k) q) None (lookup (is_at (R q)) es)
     lookup-removed es k q h = lookup-remove_entry (eq_by_cmp_equiv o) (is_at (R k)) (tied_alike o k) q es (distinct es h)
 
-    lookup_below : (q k : K) (es : List (K × X)) → R q k ≡ Equal → T (below_all R k es) → lookup (is_at (R q)) es ≡ None
+    pub lookup_below : (q k : K) (es : List (K × X)) → R q k ≡ Equal → T (below_all R k es) → lookup (is_at (R q)) es ≡ None
     lookup_below q k [] e h = refl
     lookup_below q k (f ∷ es) e h =
         ap (λ b. cond b (Some f.1) (lookup (is_at (R q)) es)) (ap is_eq (o.congr q k f.0 e) ∙ less_not_equal _ (and_first _ _ h))

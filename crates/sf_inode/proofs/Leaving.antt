@@ -1,6 +1,6 @@
 -- The tree that a session left is the one after each of its handles was closed.
-use Rattle.std.specs.Prelude.{◌≡◌, ℕ, nat_eq, Bool, true, false, cond, not, ◌||◌, List, [], ◌∷◌, filter, Option, Some, None, refl}
-use Rattle.std.proofs.Common.{sym, ap, subst, ◌∙◌, eqb-true, eq-eqb}
+use Rattle.std.specs.Prelude.{◌≡◌, ℕ, nat_eq, Bool, true, false, cond, not, ◌||◌, List, [], ◌∷◌, filter, Some, None, refl}
+use Rattle.std.proofs.Common.{sym, ap, ◌∙◌, eqb-true, eq-eqb}
 use Rattle.std.specs.List.{list_any}
 use Rattle.std.specs.Ordering.{nat_cmp}
 use Rattle.std.specs.Cmp.{nat_cmp_total}
@@ -76,8 +76,8 @@ module _ (t : Tree) (session : ℕ) where
       let rest = remove_entry (is_at (nat_cmp number)) t.handles in
       let handles : filter stays rest ≡ filter stays t.handles = filter_removed (is_at (nat_cmp number)) (λ (x : Handle). not (nat_eq x.session session)) t.handles h there (ap not (eq-eqb h.session session own)) in
       let objects = filter_again (λ (e : ℕ × Object). is_used t.names (filter stays rest) e.0) (λ (e : ℕ × Object). is_used t.names rest e.0)
-          (λ e. or_grows_right (list_any (λ n. nat_eq n.1 e.0) t.names) (list_any (λ x. nat_eq x.1.label e.0) (filter stays rest)) (list_any (λ x. nat_eq x.1.label e.0) rest) (any_filtered (λ x. nat_eq x.1.label e.0) stays rest)) t.objects
-          ∙ ap (λ (hs : List (ℕ × Handle)). filter (λ (e : ℕ × Object). is_used t.names hs e.0) t.objects) handles in
+      (λ e. or_grows_right (list_any (λ n. nat_eq n.1 e.0) t.names) (list_any (λ x. nat_eq x.1.label e.0) (filter stays rest)) (list_any (λ x. nat_eq x.1.label e.0) rest) (any_filtered (λ x. nat_eq x.1.label e.0) stays rest)) t.objects
+      ∙ ap (λ (hs : List (ℕ × Handle)). filter (λ (e : ℕ × Object). is_used t.names hs e.0) t.objects) handles in
       λ i. record { names = t.names; objects = objects i; handles = handles i }
 
 -- it has no handle of the session
@@ -93,6 +93,6 @@ leave_none view t h session none =
     ] refl in
     let handles : filter (stays t session) t.handles ≡ t.handles = filter_whole (λ (e : ℕ × Handle). nat_eq e.1.session session) t.handles free in
     let objects : (kept t).objects ≡ t.objects = same_sorted nat_cmp nat_cmp_total nat_cmp-IsAntisymmetric (kept t).objects t.objects
-        (sorted_filtered nat_cmp (λ e. is_used t.names t.handles e.0) t.objects h.ordered.objects) h.ordered.objects
-        (λ l. kept_object t l ∙ cond_used (is_used t.names t.handles l) (object_of t.objects l) (h.used l)) in
+    (sorted_filtered nat_cmp (λ e. is_used t.names t.handles e.0) t.objects h.ordered.objects) h.ordered.objects
+    (λ l. kept_object t l ∙ cond_used (is_used t.names t.handles l) (object_of t.objects l) (h.used l)) in
     (λ i. kept (record { names = t.names; objects = t.objects; handles = handles i })) ∙ (λ i. record { names = t.names; objects = objects i; handles = t.handles })

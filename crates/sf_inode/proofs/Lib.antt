@@ -34,3 +34,5 @@ pub mod ClosingAll
 pub mod Untouched
 pub mod KeepsShown
 pub mod SessionHandles
+pub mod ListedNames
+pub mod Listings

@@ -1,6 +1,6 @@
 -- A store keeps the tree after a handle was opened, and after one listed.
-use Rattle.std.specs.Prelude.{◌≡◌, ℕ, ◌+◌, ◌-◌, ◌<◌, ◌^◌, min, nat_eq, Bool, true, false, cond, ◌&&◌, List, option_map, option_and_then, Option, Some, None, IsSome, refl}
-use Rattle.std.proofs.Common.{sym, ap, subst, ◌∙◌, arith, eqb-true, eq-eqb}
+use Rattle.std.specs.Prelude.{◌≡◌, ℕ, ◌+◌, ◌-◌, ◌<◌, ◌^◌, min, nat_eq, true, false, cond, ◌&&◌, List, option_map, option_and_then, Option, Some, None, IsSome, refl}
+use Rattle.std.proofs.Common.{sym, ap, subst, ◌∙◌, arith, eq-eqb}
 use Rattle.std.specs.Ordering.{nat_cmp}
 use Rattle.std.specs.Cmp.{nat_cmp_total}
 use Rattle.std.specs.BTreeMap.{is_at}
@@ -15,7 +15,7 @@ use Rattle.sf_inode.specs.declared.node.Node.{Node}
 use Rattle.sf_inode.specs.declared.handle.OpenHandle.{OpenHandle}
 use Rattle.sf_inode.specs.declared.handle.Marks.{Marks}
 use Rattle.sf_inode.specs.Nodes.{with_opened}
-use Rattle.sf_inode.specs.Shows.{View, Shows, with_opens}
+use Rattle.sf_inode.specs.Shows.{View, Shows}
 use Rattle.sf_inode.specs.Stores.{StoreState, node_in, handle_at, shown_handle, view_of, with_sessions, edited, opened, opened_at, handle_listed, with_last}
 use Rattle.sf_inode.specs.Keeps.{Keeps, times_open}
 use Rattle.sf_inode.proofs.Keyed.{lookup-set}

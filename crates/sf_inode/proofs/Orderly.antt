@@ -1,18 +1,18 @@
 -- Lists of entries stay in the order of their keys after each change.
-use Rattle.std.specs.Prelude.{◌≡◌, ℕ, Bool, true, false, cond, T, ◌&&◌, List, [], ◌∷◌, filter, map, option_map, Option, Some, None, refl}
+use Rattle.std.specs.Prelude.{◌≡◌, Bool, true, false, cond, T, ◌&&◌, List, [], ◌∷◌, filter, map, refl}
 use Rattle.std.proofs.Common.{sym, ap, subst, ◌∙◌}
 use Rattle.std.specs.declared.cmp.Ordering.{Ordering}
 use Rattle.std.specs.Ordering.{is_lt}
 use Rattle.std.specs.Cmp.{IsTotalOrder}
 use Rattle.std.specs.Map.{lookup, remove_entry, set_value}
 use Rattle.std.specs.BTreeMap.{is_at, insert_entry}
-use Rattle.std.specs.FinMap.{is_sorted, find, IsAntisymmetric}
+use Rattle.std.specs.FinMap.{is_sorted, IsAntisymmetric}
 use Rattle.std.specs.FinMap.Entries as entries
 use Rattle.std.specs.FinMap.Entries.{below_all, is_sorted-put}
 use Rattle.sf_call.proofs.Ordered.{put_is, and_first, and_second}
 use Rattle.sf_call.proofs.Orders.{find_is}
 
-and_both : (a b : Bool) → T a → T b → T (a && b)
+pub and_both : (a b : Bool) → T a → T b → T (a && b)
 and_both true b p q = q
 and_both false b p q = p
 

@@ -1,5 +1,5 @@
 -- A store's handles, and what can be seen of them, after a handle was put, set or taken out.
-use Rattle.std.specs.Prelude.{◌≡◌, ℕ, nat_eq, Bool, true, false, cond, T, ◌&&◌, List, [], ◌∷◌, option_map, option_and_then, Option, Some, None, IsSome, refl}
+use Rattle.std.specs.Prelude.{◌≡◌, ℕ, nat_eq, true, false, cond, T, ◌&&◌, List, [], ◌∷◌, option_map, option_and_then, Option, Some, None, IsSome, refl}
 use Rattle.std.proofs.Common.{sym, ap, subst, ◌∙◌, eqb-true, eq-eqb}
 use Rattle.std.specs.Ordering.{nat_cmp}
 use Rattle.std.specs.Cmp.{nat_cmp_total}
@@ -7,11 +7,10 @@ use Rattle.std.specs.Map.{lookup, set_value, remove_entry}
 use Rattle.std.specs.BTreeMap.{is_at, insert_entry}
 use Rattle.std.specs.FinMap.{is_sorted}
 use Rattle.sf_path.specs.Names.{Name}
-use Rattle.sf_call.specs.declared.handle.Handle.{Handle}
 use Rattle.sf_call.proofs.LookUps.{lookup-put}
 use Rattle.sf_inode.specs.declared.handle.OpenHandle.{OpenHandle}
-use Rattle.sf_inode.specs.Shows.{View, changed_opens, with_opens}
-use Rattle.sf_inode.specs.Stores.{StoreState, handle_at, handles_of, shown_handle, view_of, with_sessions, handles_put, handle_put, handle_dropped, with_last, listed_by, listed_of, listed_at, handle_listed}
+use Rattle.sf_inode.specs.Shows.{with_opens}
+use Rattle.sf_inode.specs.Stores.{StoreState, handle_at, handles_of, shown_handle, view_of, with_sessions, handles_put, handle_put, handle_dropped, with_last, listed_by, listed_at, handle_listed}
 use Rattle.sf_inode.proofs.Keyed.{lookup-set, lookup-removed}
 use Rattle.sf_inode.proofs.Orderly.{sorted_put, sorted_set, sorted_removed}
 use Rattle.sf_inode.proofs.Shown.{nat_same, nat_at_itself, nat_eq_apart}
@@ -75,18 +74,24 @@ module _ (s : StoreState) (ordered : T (is_sorted nat_cmp s.sessions)) (own : Ar
   -- ---- a handle put
   put_at : (h : OpenHandle) (o : Option Handles) → handles_of s session ≡ o → (new : Sessions) × (handles_put s session number h o ≡ with_sessions s new) × HandleSet s new session number (Some h)
   put_at h None e =
-      let new = insert_entry nat_cmp s.sessions session ((number, h) ∷ []) in
-      (new, refl, handle_set s session number (Some h) ((number, h) ∷ []) new
-      (λ a. lookup-put nat_cmp nat_cmp_total s.sessions session ((number, h) ∷ []) a ∙ ap (λ z. cond z (Some ((number, h) ∷ [])) (handles_of s a)) (at_flip a session))
-      (λ b. ap (λ z. cond z (Some h) None) (at_flip b number) ∙ ap (cond (nat_eq number b) (Some h)) (sym (ap (option_and_then (found b)) e)))
-      own (sorted_put nat_cmp nat_cmp_total s.sessions session ((number, h) ∷ []) ordered) tt)
+      let new = insert_entry nat_cmp s.sessions session ((number, h) ∷ []) in (
+        new,
+        refl,
+        handle_set s session number (Some h) ((number, h) ∷ []) new
+            (λ a. lookup-put nat_cmp nat_cmp_total s.sessions session ((number, h) ∷ []) a ∙ ap (λ z. cond z (Some ((number, h) ∷ [])) (handles_of s a)) (at_flip a session))
+            (λ b. ap (λ z. cond z (Some h) None) (at_flip b number) ∙ ap (cond (nat_eq number b) (Some h)) (sym (ap (option_and_then (found b)) e)))
+            own (sorted_put nat_cmp nat_cmp_total s.sessions session ((number, h) ∷ []) ordered) tt,
+      )
   put_at h (Some handles) e =
       let more = insert_entry nat_cmp handles number h in
-      let new = set_value (is_at (nat_cmp session)) s.sessions more in
-      (new, refl, handle_set s session number (Some h) more new
-      (λ a. lookup-set nat_cmp nat_cmp_total s.sessions session more a (subst (λ x. IsSome x) (sym e) refl) ∙ ap (λ z. cond z (Some more) (handles_of s a)) (at_is session a))
-      (λ b. lookup-put nat_cmp nat_cmp_total handles number h b ∙ ap (λ z. cond z (Some h) (found b handles)) (at_flip b number) ∙ ap (cond (nat_eq number b) (Some h)) (sym (ap (option_and_then (found b)) e)))
-      own (sorted_set nat_cmp (is_at (nat_cmp session)) more s.sessions ordered) (sorted_put nat_cmp nat_cmp_total handles number h (own session handles e)))
+      let new = set_value (is_at (nat_cmp session)) s.sessions more in (
+        new,
+        refl,
+        handle_set s session number (Some h) more new
+            (λ a. lookup-set nat_cmp nat_cmp_total s.sessions session more a (subst (λ x. IsSome x) (sym e) refl) ∙ ap (λ z. cond z (Some more) (handles_of s a)) (at_is session a))
+            (λ b. lookup-put nat_cmp nat_cmp_total handles number h b ∙ ap (λ z. cond z (Some h) (found b handles)) (at_flip b number) ∙ ap (cond (nat_eq number b) (Some h)) (sym (ap (option_and_then (found b)) e)))
+            own (sorted_set nat_cmp (is_at (nat_cmp session)) more s.sessions ordered) (sorted_put nat_cmp nat_cmp_total handles number h (own session handles e)),
+      )
 
   pub put_handle_set : (h : OpenHandle) → (new : Sessions) × (handle_put s session number h ≡ with_sessions s new) × HandleSet s new session number (Some h)
   put_handle_set h = put_at h (handles_of s session) refl
@@ -115,20 +120,24 @@ module _ (s : StoreState) (ordered : T (is_sorted nat_cmp s.sessions)) (own : Ar
     dropped_set =
         let handles = its_session.0 in
         let sorted = own session handles its_session.1 in
-        let less = remove_entry (is_at (nat_cmp number)) handles in
-        (set_value (is_at (nat_cmp session)) s.sessions less, ap (handle_dropped s session number) its_session.1, changed_set None less (sorted_removed nat_cmp (is_at (nat_cmp number)) handles sorted)
-        (λ b. lookup-removed nat_cmp nat_cmp_total handles number b sorted ∙ ap (λ z. cond z None (found b handles)) (at_is number b) ∙ ap (cond (nat_eq number b) None) (sym (its_handles b))))
+        let less = remove_entry (is_at (nat_cmp number)) handles in (
+          set_value (is_at (nat_cmp session)) s.sessions less,
+          ap (handle_dropped s session number) its_session.1,
+          changed_set None less (sorted_removed nat_cmp (is_at (nat_cmp number)) handles sorted)
+              (λ b. lookup-removed nat_cmp nat_cmp_total handles number b sorted ∙ ap (λ z. cond z None (found b handles)) (at_is number b) ∙ ap (cond (nat_eq number b) None) (sym (its_handles b))),
+        )
 
     pub listed_set : (name : Name) → (new : Sessions) × (handle_listed s session number name ≡ with_sessions s new) × HandleSet s new session number (Some (with_last name h))
     listed_set name =
         let handles = its_session.0 in
         let sorted = own session handles its_session.1 in
-        let after = set_value (is_at (nat_cmp number)) handles (with_last name h) in
-        (set_value (is_at (nat_cmp session)) s.sessions after,
-        ap (listed_at s session number name) its_session.1 ∙ ap (λ (o : Option OpenHandle). with_sessions s (set_value (is_at (nat_cmp session)) s.sessions (listed_by number name handles o))) its_session.2,
-        changed_set (Some (with_last name h)) after (sorted_set nat_cmp (is_at (nat_cmp number)) (with_last name h) handles sorted)
-        (λ b. lookup-set nat_cmp nat_cmp_total handles number (with_last name h) b (subst (λ x. IsSome x) (sym its_session.2) refl) ∙ ap (λ z. cond z (Some (with_last name h)) (found b handles)) (at_is number b)
-        ∙ ap (cond (nat_eq number b) (Some (with_last name h))) (sym (its_handles b))))
+        let after = set_value (is_at (nat_cmp number)) handles (with_last name h) in (
+          set_value (is_at (nat_cmp session)) s.sessions after,
+          ap (listed_at s session number name) its_session.1 ∙ ap (λ (o : Option OpenHandle). with_sessions s (set_value (is_at (nat_cmp session)) s.sessions (listed_by number name handles o))) its_session.2,
+          changed_set (Some (with_last name h)) after (sorted_set nat_cmp (is_at (nat_cmp number)) (with_last name h) handles sorted)
+              (λ b. lookup-set nat_cmp nat_cmp_total handles number (with_last name h) b (subst (λ x. IsSome x) (sym its_session.2) refl) ∙ ap (λ z. cond z (Some (with_last name h)) (found b handles)) (at_is number b)
+              ∙ ap (cond (nat_eq number b) (Some (with_last name h))) (sym (its_handles b))),
+        )
 
 -- ---- what can be seen
 pub view_set : (s : StoreState) (new : Sessions) (session number : ℕ) (r : Option OpenHandle) → HandleSet s new session number r → view_of (with_sessions s new) ≡ with_opens (view_of s) session number (option_map (shown_handle session) r)

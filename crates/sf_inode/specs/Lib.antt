@@ -3,3 +3,4 @@ pub mod Shows
 pub mod Nodes
 pub mod Stores
 pub mod Keeps
+pub mod Listed

@@ -1,5 +1,5 @@
 -- What a node is, and its changes.
-use Rattle.std.specs.Prelude.{ℕ, nat_eq, ◌&&◌, Bool, true, false, not, if◌then◌else◌, fold, filter, List, [], ◌∷◌, ◌++◌, Option, Some, None}
+use Rattle.std.specs.Prelude.{ℕ, nat_eq, ◌&&◌, Bool, true, false, not, if◌then◌else◌, filter, List, [], ◌∷◌, ◌++◌, Option, None}
 use Rattle.std.specs.Map.{lookup, set_value}
 use Rattle.std.specs.BTreeMap.{insert_entry}
 use Rattle.sf_path.specs.Names.{Name}
@@ -94,9 +94,10 @@ with_opened opens node = record { label = node.label; metadata = node.metadata; 
 abbrev pub is_unused : Node → Bool
 is_unused node = not node.named && nat_eq node.opens 0
 
--- the entries past a name, in the order of their names
+-- the entries past a name, in the order of their names; of entries with one name the first
 abbrev pub put_past : Option Name → List (Name × ℕ) → Name × ℕ → List (Name × ℕ)
 put_past last es e = if is_past last e.0 then insert_entry name_cmp es e.0 e.1 else es
 
 abbrev pub sorted_past : Option Name → List (Name × ℕ) → List (Name × ℕ)
-sorted_past last entries = fold (put_past last) [] entries
+sorted_past last [] = []
+sorted_past last (e ∷ es) = put_past last (sorted_past last es) e

@@ -105,7 +105,8 @@ impl Entries {
         ensures { IfOk result (λ found. found.entries ≡ take most (sorted_past (option_copied last.entry) self.now)) }
     {
         let mut found = BTreeMap::new(alloc);
-        for i in 0..self.items.len() {
+        // The first entry of a name counts, as in `find`: it is put in last.
+        for i in (0..self.items.len()).rev() {
             let entry = &self.items[i];
             if is_past(last, &entry.0) {
                 add_least(&mut found, entry.0.try_copy(alloc)?, entry.1, most)?;

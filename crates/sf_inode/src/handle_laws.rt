@@ -1,19 +1,23 @@
 //! What a store that keeps a tree tells of open handles, and how it keeps the tree that opening, listing by and closing them gives.
 
-ghost use Rattle.std.specs.Prelude.{◌≡◌, ℕ, ◌<◌, ◌^◌, nat_eq, length, Some, None, option_map};
-ghost use Rattle.std.specs.List.{count_by};
+ghost use Rattle.std.specs.Prelude.{◌≡◌, ℕ, ◌<◌, ◌^◌, nat_eq, length, take, map, filter_map, true, Option, Some, None, option_map};
+ghost use Rattle.std.specs.List.{All, count_by};
 ghost use Rattle.std.specs.Option.{option_map_or};
-ghost use Rattle.sf_path.specs.Names.{Name};
+ghost use Rattle.sf_path.specs.Names.{Name, Path};
 ghost use Rattle.sf_call.specs.Tree.{Tree, handle_of, object_of};
 ghost use Rattle.sf_call.specs.Handles.{handle_in, with_listed};
 ghost use Rattle.sf_call.specs.Changes.{changed};
 ghost use Rattle.sf_call.specs.Changes.{Change as change};
 ghost use Rattle.sf_call.specs.Calls.{leave};
+ghost use Rattle.sf_call.specs.Listings.{listing_of, names_of, path_of};
+ghost use Rattle.sf_call.specs.declared.limits.TheConstants.{MAX_ENTRIES};
 ghost use Rattle.sf_inode.specs.declared.node.Node.{Node};
 ghost use Rattle.sf_inode.specs.declared.handle.Marks.{Marks};
 ghost use Rattle.sf_inode.specs.declared.handle.OpenHandle.{OpenHandle};
-ghost use Rattle.sf_inode.specs.Nodes.{object_in};
-ghost use Rattle.sf_inode.specs.Stores.{StoreState, node_in, handle_at, handles_of, shown_handle, opened, handle_listed, closed, closed_all};
+ghost use Rattle.sf_inode.specs.Nodes.{object_in, sorted_past};
+ghost use Rattle.sf_inode.specs.Steps.{walk};
+ghost use Rattle.sf_inode.specs.Listed.{listed_entry};
+ghost use Rattle.sf_inode.specs.Stores.{StoreState, node_in, entry_of, entries_at, is_directory_at, handle_at, handles_of, shown_handle, opened, handle_listed, closed, closed_all};
 ghost use Rattle.sf_inode.specs.Keeps.{Keeps};
 
 /// A session's handle is that of the tree, its node is there and has the object of its label, and a number that no handle of
@@ -46,4 +50,17 @@ pub fn listed_handles()
 pub fn closed_handles()
     ensures one { (s : StoreState) (t : Tree) (session number : ℕ) (h : OpenHandle) → Keeps s t → handle_at s session number ≡ Some h → Keeps (closed s session number) (changed t (change.CloseHandle number)) }
     ensures all { (s : StoreState) (t : Tree) (session : ℕ) → Keeps s t → Keeps (closed_all s session) (leave t session) }
+{}
+
+/// A directory's label has the one path that leads to it. What the tree lists of a directory, by its label, are the first
+/// entries that `Store::entries_after` gives: each node is there, and is listed by its name. A directory that no path leads to
+/// any more lists nothing, and has no entries.
+pub fn listed_entries()
+    ensures path { (s : StoreState) (t : Tree) (p : Path) (dir : ℕ) (node : Node) → Keeps s t → walk (entry_of s.nodes) s.root p ≡ Some dir → node_in s.nodes dir ≡ Some node → is_directory_at s.nodes dir ≡ true
+        → path_of t.names node.label ≡ Some p }
+    ensures listing { (s : StoreState) (t : Tree) (dir : ℕ) (node : Node) (last : Option Name) → Keeps s t → node_in s.nodes dir ≡ Some node → is_directory_at s.nodes dir ≡ true
+        → listing_of t last (path_of t.names node.label) ≡ filter_map (listed_entry s.nodes) (take MAX_ENTRIES (sorted_past last (entries_at s.nodes dir))) }
+    ensures nodes { (s : StoreState) (t : Tree) (dir : ℕ) (last : Option Name) → Keeps s t → All (λ e. (node : Node) × (node_in s.nodes e.1 ≡ Some node)) (take MAX_ENTRIES (sorted_past last (entries_at s.nodes dir))) }
+    ensures names { (s : StoreState) (t : Tree) (dir : ℕ) (last : Option Name) → Keeps s t
+        → names_of (filter_map (listed_entry s.nodes) (take MAX_ENTRIES (sorted_past last (entries_at s.nodes dir)))) ≡ map (λ e. e.0) (take MAX_ENTRIES (sorted_past last (entries_at s.nodes dir))) }
 {}

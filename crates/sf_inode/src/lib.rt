@@ -10,7 +10,7 @@ mod store;
 
 pub use handle::{Marks, OpenHandle};
 pub use handle_laws::{
-    closed_handles, counted_handles, found_handles, listed_handles, opened_handles,
+    closed_handles, counted_handles, found_handles, listed_entries, listed_handles, opened_handles,
 };
 pub use laws::{
     changed_object, found_paths, gone_path, kept_nodes, kept_trees, moved_path, new_path,

@@ -5,3 +5,5 @@ pub mod Holders
 pub mod PathCalls
 pub mod Undone
 pub mod Opened
+pub mod ByHandle
+pub mod Rows

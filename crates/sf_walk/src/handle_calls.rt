@@ -1,16 +1,23 @@
 //! Calls by handle.
 
-ghost use Rattle.std.specs.Prelude.{◌≡◌, ◌+◌, nat_lt, length, true, IfOk, OnErr};
+ghost use Rattle.std.specs.Prelude.{◌≡◌, ◌+◌, ◌<◌, ◌≤◌, ◌^◌, ℕ, nat_lt, if◌then◌else◌, List, length, take, drop, true, Some, IfOk, OnOk, OnErr};
+ghost use Rattle.sf_call.specs.declared.metadata.Metadata.{Metadata};
+ghost use Rattle.sf_call.specs.Attributes.{modified_at};
+ghost use Rattle.sf_call.specs.Attributes.Object.{File};
+ghost use Rattle.sf_call.specs.Contents.{written};
 ghost use Rattle.sf_call.specs.Tree.{Tree};
+ghost use Rattle.sf_call.specs.Changes.{changed};
+ghost use Rattle.sf_call.specs.Changes.Change.{SetObject};
 ghost use Rattle.sf_call.specs.Handles.{handle_in, opened};
 ghost use Rattle.sf_call.specs.Calls.{close, stat_opened, set_opened, read, write};
-ghost use Rattle.sf_inode.specs.Stores.{stored_of, is_file_at};
+ghost use Rattle.sf_inode.specs.Stores.{stored_of, is_file_at, shown_of};
 ghost use Rattle.sf_inode.specs.Keeps.{Keeps};
+ghost use Rattle.sf_walk.specs.Files.{file_size};
 ghost use Rattle.sf_walk.specs.Served.{IsServed, HoldersStay};
 
 use crate::path_calls::set_node;
 use sf_call::{MAX_FILE_SIZE, MAX_READ};
-use sf_inode::{NodeId, Store};
+use sf_inode::{Marks, NodeId, Store};
 use sf_wire::{Attrs, ByteString, Reply, StatusCode};
 use std::alloc::AllocError;
 
@@ -20,17 +27,22 @@ pub(crate) fn close(store: &mut Store, session: u64, number: u64) -> Reply
     ensures look_ups { store.new.look_ups ≡ store.old.look_ups }
     ensures holders { HoldersStay store.old store.new }
 {
-    if store.handle(session, number).is_none() {
-        return Reply::Status(StatusCode::Failure);
+    sf_inode::found_handles();
+    sf_inode::closed_handles();
+    match store.handle(session, number) {
+        None => Reply::Status(StatusCode::Failure),
+        Some(_) => {
+            store.close(session, number);
+            Reply::Status(StatusCode::Success)
+        }
     }
-    store.close(session, number);
-    Reply::Status(StatusCode::Success)
 }
 
 /// FSTAT.
 pub(crate) fn stat_handle(store: &Store, session: u64, number: u64) -> Reply
     ensures { (t : Tree) → Keeps store.now t → result ≡ (stat_opened (opened t session number)).reply }
 {
+    sf_inode::found_handles();
     match store.handle(session, number) {
         None => Reply::Status(StatusCode::Failure),
         Some(handle) => match store.attrs(handle.node) {
@@ -53,27 +65,33 @@ pub(crate) fn set_stat_handle(
     ensures look_ups { store.new.look_ups ≡ store.old.look_ups }
     ensures holders { HoldersStay store.old store.new }
 {
-    let (node, label, write) = match store.handle(session, number) {
-        None => return Ok(Reply::Status(StatusCode::Failure)),
-        Some(handle) => (handle.node, handle.label, handle.marks.write),
+    sf_inode::found_handles();
+    let Some(handle) = store.handle(session, number) else {
+        return Ok(Reply::Status(StatusCode::Failure));
     };
+    let node = handle.node;
     if store.is_directory(node) {
-        if label == 0 {
+        if handle.label == 0 {
             return Ok(Reply::Status(StatusCode::Failure));
         }
-    } else if attrs.size.is_some() && !write {
+        return set_node(store, moment, node, attrs);
+    }
+    if attrs.size.is_some() && !handle.marks.write {
         return Ok(Reply::Status(StatusCode::PermissionDenied));
     }
     set_node(store, moment, node, attrs)
 }
 
-/// The size of a node.
-fn size_of(store: &Store, node: NodeId) -> u64
-    ensures { is_file_at store.now.nodes node ≡ true → result ≡ length (stored_of store.now.nodes node).bytes }
+/// The size of a file; a directory has none.
+fn file_size(store: &Store, node: NodeId) -> Option<u64>
+    ensures { result ≡ file_size store.now.nodes node }
 {
+    if store.is_directory(node) {
+        return None;
+    }
     match store.attrs(node) {
-        None => 0,
-        Some(attrs) => attrs.size.unwrap_or(0),
+        None => None,
+        Some(attrs) => attrs.size,
     }
 }
 
@@ -87,24 +105,37 @@ pub(crate) fn read(
 ) -> Result<Reply, AllocError>
     ensures { (t : Tree) → Keeps store.now t → IfOk result (λ reply. reply ≡ (read offset len (opened t session number)).reply) }
 {
-    let (node, read) = match store.handle(session, number) {
-        None => return Ok(Reply::Status(StatusCode::Failure)),
-        Some(handle) => (handle.node, handle.marks.read),
-    };
-    if store.is_directory(node) {
+    sf_inode::found_handles();
+    let Some(handle) = store.handle(session, number) else {
         return Ok(Reply::Status(StatusCode::Failure));
-    }
-    if !read {
+    };
+    let Some(size) = file_size(store, handle.node) else {
+        return Ok(Reply::Status(StatusCode::Failure));
+    };
+    if !handle.marks.read {
         return Ok(Reply::Status(StatusCode::PermissionDenied));
     }
-    let size = size_of(store, node);
     if offset >= size {
         return Ok(Reply::Status(StatusCode::EndOfFile));
     }
     let count = u64::from(len.min(MAX_READ)).min(size - offset);
-    let mut bytes = vec![in store.alloc(); 0; count as usize]?;
-    store.read(node, offset, &mut bytes);
+    let bytes = bytes_at(store, handle.node, offset, count as usize)?;
     Ok(Reply::Data(ByteString::from_vec(bytes)))
+}
+
+/// So many bytes of a file from an offset on.
+fn bytes_at(
+    store: &Store,
+    node: NodeId,
+    offset: u64,
+    count: usize,
+) -> Result<Vec<u8>, AllocError>
+    requires { offset + count ≤ length (stored_of store.now.nodes node).bytes }
+    ensures { IfOk result (λ bytes. bytes.items ≡ take count (drop offset (stored_of store.now.nodes node).bytes)) }
+{
+    let mut bytes = vec![in store.alloc(); 0; count]?;
+    store.read(node, offset, &mut bytes);
+    Ok(bytes)
 }
 
 /// WRITE.
@@ -121,31 +152,58 @@ pub(crate) fn write(
     ensures look_ups { store.new.look_ups ≡ store.old.look_ups }
     ensures holders { HoldersStay store.old store.new }
 {
-    let (node, marks) = match store.handle(session, number) {
-        None => return Ok(Reply::Status(StatusCode::Failure)),
-        Some(handle) => (handle.node, handle.marks),
-    };
-    if store.is_directory(node) {
+    sf_inode::found_handles();
+    let Some(handle) = store.handle(session, number) else {
         return Ok(Reply::Status(StatusCode::Failure));
-    }
-    if !marks.write {
+    };
+    let node = handle.node;
+    let Some(size) = file_size(store, node) else {
+        return Ok(Reply::Status(StatusCode::Failure));
+    };
+    if !handle.marks.write {
         return Ok(Reply::Status(StatusCode::PermissionDenied));
     }
     if bytes.is_empty() {
         return Ok(Reply::Status(StatusCode::Success));
     }
-    let start = if marks.append {
-        size_of(store, node)
-    } else {
-        offset
-    };
+    let start = start_of(&handle.marks, size, offset);
     if ends_past_limit(start, bytes.len()) {
         return Ok(Reply::Status(StatusCode::Failure));
     }
+    put_bytes(store, moment, node, start, bytes)?;
+    Ok(Reply::Status(StatusCode::Success))
+}
+
+/// With the mark APPEND writing starts at the file's end.
+fn start_of(marks: &Marks, size: u64, offset: u64) -> u64
+    ensures { result ≡ (if marks.now.append then size else offset) }
+{
+    if marks.append { size } else { offset }
+}
+
+/// Puts bytes into a file, which is modified at the moment.
+fn put_bytes(
+    store: &mut Store,
+    moment: u32,
+    node: NodeId,
+    start: u64,
+    bytes: &ByteString,
+) -> Result<(), AllocError>
+    requires fits { start + length bytes.now < 2 ^ 64 }
+    requires file { is_file_at store.old.nodes node ≡ true }
+    ensures tree { (t : Tree) (label : ℕ) (m : Metadata) (contents : List ℕ) → Keeps store.old t → shown_of store.old.nodes node ≡ Some (label, File m contents)
+        → OnOk result (Keeps store.new (changed t (SetObject label (File (modified_at moment m) (written contents start bytes.now))))) }
+    ensures err { OnErr result (store.new ≡ store.old) }
+    ensures look_ups { store.new.look_ups ≡ store.old.look_ups }
+    ensures holders { HoldersStay store.old store.new }
+{
+    sf_inode::same_tree();
+    sf_inode::changed_object();
+    sf_inode::other_nodes();
     store.reserve_for(node, start, bytes.len())?;
     store.write(node, start, bytes.as_slice());
     store.touch(node, moment);
-    Ok(Reply::Status(StatusCode::Success))
+    Ok(())
 }
 
 /// Whether a write would end above the limit of a file's size.

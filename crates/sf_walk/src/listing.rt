@@ -1,17 +1,20 @@
 //! Listing a directory.
 
-ghost use Rattle.std.specs.Prelude.{◌≡◌, IfOk, OnErr};
+ghost use Rattle.std.specs.Prelude.{◌≡◌, Some, filter_map, IfOk, OnErr};
+ghost use Rattle.sf_wire.specs.Longname.{HasType, longname_text};
+ghost use Rattle.sf_call.specs.ReplyKinds.{HasAllParts};
 ghost use Rattle.sf_call.specs.Tree.{Tree};
 ghost use Rattle.sf_call.specs.Handles.{opened};
 ghost use Rattle.sf_call.specs.Calls.{read_directory};
+ghost use Rattle.sf_inode.specs.Listed.{listed_entry};
 ghost use Rattle.sf_inode.specs.Keeps.{Keeps};
 ghost use Rattle.sf_walk.specs.Served.{IsServed, HoldersStay};
 
 use sf_call::MAX_ENTRIES;
 use sf_inode::{NodeId, Store};
 use sf_path::Name;
-use sf_wire::{ByteString, Entry, Listing, Reply, StatusCode, longname};
-use std::alloc::AllocError;
+use sf_wire::{Attrs, ByteString, Entry, Listing, Reply, StatusCode, longname};
+use std::alloc::{AllocError, Global};
 use std::collections::BTreeMap;
 
 /// READDIR. The last name that is given is remembered in the handle.
@@ -25,15 +28,16 @@ pub(crate) fn read_directory(
     ensures look_ups { store.new.look_ups ≡ store.old.look_ups }
     ensures holders { HoldersStay store.old store.new }
 {
-    let found = match store.handle(session, number) {
-        None => return Ok(Reply::Status(StatusCode::Failure)),
-        Some(handle) => {
-            if !store.is_directory(handle.node) {
-                return Ok(Reply::Status(StatusCode::Failure));
-            }
-            store.entries_after(handle.node, handle.listed.as_ref(), MAX_ENTRIES)?
-        }
+    sf_inode::found_handles();
+    sf_inode::listed_handles();
+    sf_inode::listed_entries();
+    let Some(handle) = store.handle(session, number) else {
+        return Ok(Reply::Status(StatusCode::Failure));
     };
+    if !store.is_directory(handle.node) {
+        return Ok(Reply::Status(StatusCode::Failure));
+    }
+    let found = store.entries_after(handle.node, handle.listed.as_ref(), MAX_ENTRIES)?;
     let Some((last, _)) = found.last_key_value() else {
         return Ok(Reply::Status(StatusCode::EndOfFile));
     };
@@ -42,19 +46,28 @@ pub(crate) fn read_directory(
     Ok(Reply::Names(Listing::from_vec(entries)))
 }
 
-fn entries_of(store: &Store, found: &BTreeMap<Name, NodeId>) -> Result<Vec<Entry>, AllocError> {
+/// The entries as they are listed. A name that leads to no node is left out.
+fn entries_of(store: &Store, found: &BTreeMap<Name, NodeId>) -> Result<Vec<Entry>, AllocError>
+    ensures { IfOk result (λ entries. entries.items ≡ filter_map (listed_entry store.now.nodes) found.now.entries) }
+{
     let mut entries = Vec::new(store.alloc());
-    for (name, node) in found {
-        entries.push(entry_of(store, name, *node)?)?;
+    'entries: for (name, node) in found {
+        if let Some(attrs) = store.attrs(*node) {
+            entries.push(entry_of(store.alloc(), name, attrs)?)?;
+        }
     }
     Ok(entries)
 }
 
 /// A node as it is listed, with one link.
-fn entry_of(store: &Store, name: &Name, node: NodeId) -> Result<Entry, AllocError> {
-    let alloc = store.alloc();
+fn entry_of(alloc: Global, name: &Name, attrs: Attrs) -> Result<Entry, AllocError>
+    requires parts { HasAllParts attrs }
+    requires kind { HasType attrs.permissions }
+    ensures name { IfOk result (λ entry. entry.filename ≡ name.now) }
+    ensures line { IfOk result (λ entry. longname_text attrs 1 name.now ≡ Some entry.longname) }
+    ensures attrs { IfOk result (λ entry. entry.attrs ≡ attrs) }
+{
     let filename = ByteString::from_slice(alloc, name.as_slice())?;
-    let attrs = store.attrs(node).unwrap_or(sf_wire::NO_ATTRS);
     let line = longname(alloc, &attrs, 1, name.as_slice())?;
     Ok(Entry {
         filename,

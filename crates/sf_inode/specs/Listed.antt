@@ -1,0 +1,12 @@
+-- A directory's entries as they are listed.
+use Rattle.std.specs.Prelude.{ℕ, List, Option, option_map}
+use Rattle.sf_path.specs.Names.{Name}
+use Rattle.sf_wire.specs.declared.reply.Entry.{Entry}
+use Rattle.sf_call.specs.Listings as listings
+use Rattle.sf_inode.specs.declared.node.Node.{Node}
+use Rattle.sf_inode.specs.Nodes.{object_in}
+use Rattle.sf_inode.specs.Stores.{node_in}
+
+-- a name with what its node shows
+abbrev pub listed_entry : List (Option Node) → Name × ℕ → Option Entry
+listed_entry nodes e = option_map (λ node. listings.entry_of e.0 (object_in node.metadata node.content)) (node_in nodes e.1)

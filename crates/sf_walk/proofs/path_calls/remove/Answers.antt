@@ -1,0 +1,39 @@
+use Rattle.std.proofs.Common.{◌≡◌, refl, sym, subst}
+use Rattle.sf_call.specs.Attributes.{modified_at}
+use Rattle.sf_call.specs.Calls.{remove_file}
+use Rattle.sf_inode.specs.Nodes.{with_metadata}
+use Rattle.sf_walk.proofs.PathCalls.{no_way_served, missing_served, remove_refused, remove_served, past_root, not_root, stays_gone}
+use Rattle.sf_walk.proofs.Holders.{stays_looked}
+use Rattle.sf_walk.proofs.path_calls.remove.Goals as goal
+
+pub returns-then-is_directory-clause-served : goal.returns-then-is_directory-clause-served
+returns-then-is_directory-clause-served c = λ t h.
+    past_root _ t c.args.path.now _ _ (not_root c.is_root.result c.args.path.now c.is_root.ensures c.if-is_root.false)
+    (remove_refused _ _ t c.args.path.now _ c.locate.ensures.looked h c.args.moment _ _ c.in-At.ensures.found c.if-is_directory.ensures)
+
+pub returns-then-is_directory-clause-holders : goal.returns-then-is_directory-clause-holders
+returns-then-is_directory-clause-holders c = stays_looked _ _ _ c.locate.ensures.looked
+
+pub returns-in-NoWay-clause-served : goal.returns-in-NoWay-clause-served
+returns-in-NoWay-clause-served c = λ t h.
+    past_root _ t c.args.path.now _ _ (not_root c.is_root.result c.args.path.now c.is_root.ensures c.if-is_root.false)
+    (no_way_served _ _ t _ _ c.locate.ensures.looked h (remove_file t c.args.moment c.args.path.now) refl c.in-NoWay.ensures.found)
+
+pub returns-in-NoWay-clause-holders : goal.returns-in-NoWay-clause-holders
+returns-in-NoWay-clause-holders c = stays_looked _ _ _ c.locate.ensures.looked
+
+pub returns-in-Missing-clause-served : goal.returns-in-Missing-clause-served
+returns-in-Missing-clause-served c = λ t h.
+    past_root _ t c.args.path.now _ _ (not_root c.is_root.result c.args.path.now c.is_root.ensures c.if-is_root.false)
+    (missing_served _ _ t _ _ c.locate.ensures.looked h (remove_file t c.args.moment c.args.path.now) refl _ c.in-Missing.ensures.found)
+
+pub returns-in-Missing-clause-holders : goal.returns-in-Missing-clause-holders
+returns-in-Missing-clause-holders c = stays_looked _ _ _ c.locate.ensures.looked
+
+pub returns-else-is_directory-clause-served : goal.returns-else-is_directory-clause-served
+returns-else-is_directory-clause-served c = λ t h.
+    past_root _ t c.args.path.now _ _ (not_root c.is_root.result c.args.path.now c.is_root.ensures c.if-is_root.false)
+    (remove_served _ _ t c.args.path.now _ c.locate.ensures.looked h _ c.args.moment _ _ c.in-At.ensures.found c.if-is_directory.ensures c.remove_last.ensures.served)
+
+pub returns-else-is_directory-clause-holders : goal.returns-else-is_directory-clause-holders
+returns-else-is_directory-clause-holders c = stays_gone c.args.store.now c.locate.new.store c.remove_last.new.store _ c.args.moment c.in-At.parent _ c.locate.ensures.looked c.remove_last.ensures.state

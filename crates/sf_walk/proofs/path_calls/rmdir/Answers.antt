@@ -1,0 +1,45 @@
+use Rattle.std.proofs.Common.{◌≡◌, refl, sym, subst}
+use Rattle.sf_call.specs.Calls.{remove_directory}
+use Rattle.sf_walk.proofs.PathCalls.{no_way_served, missing_served, remove_directory_file, remove_directory_full, remove_directory_served, past_root, not_root, stays_gone}
+use Rattle.sf_walk.proofs.Holders.{stays_looked}
+use Rattle.sf_walk.proofs.path_calls.rmdir.Goals as goal
+
+pub returns-then-not-is_directory-clause-served : goal.returns-then-not-is_directory-clause-served
+returns-then-not-is_directory-clause-served c = λ t h.
+    past_root _ t c.args.path.now _ _ (not_root c.is_root.result c.args.path.now c.is_root.ensures c.if-is_root.false)
+    (remove_directory_file _ _ t c.args.path.now _ c.locate.ensures.looked h c.args.moment _ _ c.in-At.ensures.found c.if-not-is_directory.ensures)
+
+pub returns-then-not-is_directory-clause-holders : goal.returns-then-not-is_directory-clause-holders
+returns-then-not-is_directory-clause-holders c = stays_looked _ _ _ c.locate.ensures.looked
+
+pub returns-then-not-is_empty-clause-served : goal.returns-then-not-is_empty-clause-served
+returns-then-not-is_empty-clause-served c = λ t h.
+    past_root _ t c.args.path.now _ _ (not_root c.is_root.result c.args.path.now c.is_root.ensures c.if-is_root.false)
+    (remove_directory_full _ _ t c.args.path.now _ c.locate.ensures.looked h c.found_paths.ensures.empty c.args.moment _ _ c.in-At.ensures.found c.if-not-is_directory.ensures c.if-not-is_empty.ensures)
+
+pub returns-then-not-is_empty-clause-holders : goal.returns-then-not-is_empty-clause-holders
+returns-then-not-is_empty-clause-holders c = stays_looked _ _ _ c.locate.ensures.looked
+
+pub returns-in-NoWay-clause-served : goal.returns-in-NoWay-clause-served
+returns-in-NoWay-clause-served c = λ t h.
+    past_root _ t c.args.path.now _ _ (not_root c.is_root.result c.args.path.now c.is_root.ensures c.if-is_root.false)
+    (no_way_served _ _ t _ _ c.locate.ensures.looked h (remove_directory t c.args.moment c.args.path.now) refl c.in-NoWay.ensures.found)
+
+pub returns-in-NoWay-clause-holders : goal.returns-in-NoWay-clause-holders
+returns-in-NoWay-clause-holders c = stays_looked _ _ _ c.locate.ensures.looked
+
+pub returns-in-Missing-clause-served : goal.returns-in-Missing-clause-served
+returns-in-Missing-clause-served c = λ t h.
+    past_root _ t c.args.path.now _ _ (not_root c.is_root.result c.args.path.now c.is_root.ensures c.if-is_root.false)
+    (missing_served _ _ t _ _ c.locate.ensures.looked h (remove_directory t c.args.moment c.args.path.now) refl _ c.in-Missing.ensures.found)
+
+pub returns-in-Missing-clause-holders : goal.returns-in-Missing-clause-holders
+returns-in-Missing-clause-holders c = stays_looked _ _ _ c.locate.ensures.looked
+
+pub returns-else-not-is_empty-clause-served : goal.returns-else-not-is_empty-clause-served
+returns-else-not-is_empty-clause-served c = λ t h.
+    past_root _ t c.args.path.now _ _ (not_root c.is_root.result c.args.path.now c.is_root.ensures c.if-is_root.false)
+    (remove_directory_served _ _ t c.args.path.now _ c.locate.ensures.looked h c.found_paths.ensures.empty _ c.args.moment _ _ c.in-At.ensures.found c.if-not-is_directory.ensures c.if-not-is_empty.ensures c.remove_last.ensures.served)
+
+pub returns-else-not-is_empty-clause-holders : goal.returns-else-not-is_empty-clause-holders
+returns-else-not-is_empty-clause-holders c = stays_gone c.args.store.now c.locate.new.store c.remove_last.new.store _ c.args.moment c.in-At.parent _ c.locate.ensures.looked c.remove_last.ensures.state
