@@ -7,3 +7,4 @@ pub mod Undone
 pub mod Opened
 pub mod ByHandle
 pub mod Rows
+pub mod Dispatch
