@@ -27,7 +27,7 @@ use Rattle.sf_inode.specs.Listed.{listed_entry}
 use Rattle.sf_inode.specs.Stores.{StoreState, node_in, entries_at, is_directory_at, handle_at, shown_handle, handle_listed}
 use Rattle.sf_inode.specs.Keeps.{Keeps}
 use Rattle.sf_walk.specs.Served.{IsServed}
-use Rattle.sf_walk.proofs.PathCalls.{tells_served}
+use Rattle.sf_walk.proofs.Told.{tells_served}
 use Rattle.sf_walk.proofs.ByHandle.{FindsHandle, FindsNode, node_of, opened_is, directory_is}
 
 -- ---- a node's entry
