@@ -2,6 +2,11 @@ pub mod WaySteps
 pub mod LookUps
 pub mod Fits
 pub mod Holders
+pub mod Looked
+pub mod LastNames
+pub mod Told
+pub mod SetNodes
+pub mod Parents
 pub mod PathCalls
 pub mod Undone
 pub mod Opened

@@ -1,5 +1,5 @@
 -- What a listing answers, and what tree the store keeps after it.
-use Rattle.std.specs.Prelude.{◌≡◌, ℕ, ◌-◌, ◌<◌, ◌+◌, true, false, Bool, List, [], ◌∷◌, ◌++◌, length, take, map, filter_map, option_map, unwrap_or, Option, Some, None, slice_get, refl}
+use Rattle.std.specs.Prelude.{◌≡◌, ◌↔◌, IsSome, ℕ, ◌-◌, ◌<◌, true, false, List, [], ◌∷◌, ◌++◌, length, take, map, filter_map, option_map, unwrap_or, Option, Some, None, slice_get, refl}
 use Rattle.std.specs.List.{cons_option, last_or}
 use Rattle.std.proofs.Common.{sym, ap, subst, ◌∙◌, arith, append_assoc, append-nil}
 use Rattle.sf_path.specs.Names.{Name}
@@ -27,7 +27,7 @@ use Rattle.sf_inode.specs.Listed.{listed_entry}
 use Rattle.sf_inode.specs.Stores.{StoreState, node_in, entries_at, is_directory_at, handle_at, shown_handle, handle_listed}
 use Rattle.sf_inode.specs.Keeps.{Keeps}
 use Rattle.sf_walk.specs.Served.{IsServed}
-use Rattle.sf_walk.proofs.PathCalls.{tells_served}
+use Rattle.sf_walk.proofs.Told.{tells_served}
 use Rattle.sf_walk.proofs.ByHandle.{FindsHandle, FindsNode, node_of, opened_is, directory_is}
 
 -- ---- a node's entry
@@ -82,6 +82,14 @@ lists_last : (number : ℕ) (h : Handle) (entries : List Entry) (n : Name) → l
     → lists number h entries ≡ record { reply = reply.Names entries; changes = SetHandle number (with_listed h (Some n)) ∷ [] }
 lists_last number h [] n e = absurd (let x : ⊥ = cc in x)
 lists_last number h (x ∷ xs) n e = λ i. record { reply = reply.Names (x ∷ xs); changes = SetHandle number (with_listed h (e i)) ∷ [] }
+
+none_there : {X : Type 0} (o : Option X) → o ≡ None → IsSome o → ⊥
+none_there None e h = cc
+none_there (Some x) e h = cc
+
+pub no_rows : {X : Type 0} (o : Option X) (es : List (Name × ℕ)) → o ≡ None → (IsSome o ↔ (0 < length es)) → es ≡ []
+no_rows o [] e h = refl
+no_rows o (r ∷ es) e h = absurd (none_there o e (h.1 (omega arith)))
 
 -- ---- READDIR
 abbrev pub ListsTree : Type 0

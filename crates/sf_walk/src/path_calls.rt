@@ -1,4 +1,5 @@
-//! Calls on paths, but those that open.
+//! Calls on paths, but those that open. A call of one of the store's laws does nothing: the proof takes
+//! from it what the law says.
 
 ghost use Rattle.std.specs.Prelude.{◌≡◌, ◌<◌, ℕ, true, length, Some, IfOk, OnErr};
 ghost use Rattle.sf_call.specs.Attributes.{modified_at};
@@ -80,10 +81,7 @@ pub(crate) fn set_node(
             Ok(Reply::Status(StatusCode::Success))
         }
         Some(size) => {
-            if store.is_directory(node) {
-                return Ok(Reply::Status(StatusCode::Failure));
-            }
-            if size > MAX_FILE_SIZE {
+            if store.is_directory(node) || size > MAX_FILE_SIZE {
                 return Ok(Reply::Status(StatusCode::Failure));
             }
             store.set_len(node, size)?;
@@ -194,16 +192,16 @@ pub(crate) fn remove(store: &mut Store, moment: u32, path: &Path) -> Reply
 }
 
 /// Takes the last name of a path out of its directory, which is modified at the moment.
-fn remove_last(store: &mut Store, moment: u32, parent: NodeId, path: &Path)
+fn remove_last(store: &mut Store, moment: u32, dir: NodeId, path: &Path)
     requires { 0 < length path.now }
-    ensures state { store.new ≡ edited (with_metadata (modified_at moment)) (unlinked store.old parent (last_of path.now)) parent }
-    ensures served { (t : Tree) (node : ℕ) → Keeps store.old t → way_from store.old.nodes store.old.root store.old.root path.now ≡ At parent node → is_bare_at store.old.nodes node ≡ true
+    ensures state { store.new ≡ edited (with_metadata (modified_at moment)) (unlinked store.old dir (last_of path.now)) dir }
+    ensures served { (t : Tree) (node : ℕ) → Keeps store.old t → way_from store.old.nodes store.old.root store.old.root path.now ≡ At dir node → is_bare_at store.old.nodes node ≡ true
         → IsServed store.new t (goes t moment path.now) (Status Success) }
 {
     sf_inode::gone_path();
     sf_inode::other_nodes();
     sf_inode::found_paths();
     sf_inode::changed_object();
-    store.unlink(parent, path.name(path.len() - 1));
-    store.touch(parent, moment);
+    store.unlink(dir, path.name(path.len() - 1));
+    store.touch(dir, moment);
 }

@@ -1,13 +1,17 @@
-use Rattle.std.proofs.Common.{◌≡◌, refl, sym, ap, subst, ◌∙◌}
+use Rattle.std.proofs.Common.{refl, sym, ap, subst}
 use Rattle.sf_call.specs.declared.metadata.FileType.TheVariants as file_type
 use Rattle.sf_call.specs.Attributes.{modified_at}
 use Rattle.sf_call.specs.Attributes.Object.{Directory}
 use Rattle.sf_inode.specs.Nodes.{with_metadata, new_node}
 use Rattle.sf_inode.specs.Stores.{StoreState}
-use Rattle.sf_walk.specs.Served.{IsAlike, HoldersStay}
+use Rattle.sf_walk.specs.Served.{HoldersStay}
 use Rattle.sf_walk.specs.Ways.{last_of}
 use Rattle.sf_walk.proofs.LookUps.{looked_nodes}
-use Rattle.sf_walk.proofs.PathCalls.{make_no_way, make_present, make_served, past_root, not_root, on_err_any, alike_after}
+use Rattle.sf_walk.proofs.Looked.{alike_after}
+use Rattle.sf_walk.proofs.LastNames.{not_root}
+use Rattle.sf_walk.proofs.Told.{past_root, on_err_any}
+use Rattle.sf_walk.proofs.Parents.{make_served}
+use Rattle.sf_walk.proofs.PathCalls.{make_no_way, make_present}
 use Rattle.sf_walk.proofs.Holders.{stays_looked, stays_edited, stays_inserted}
 use Rattle.sf_walk.proofs.path_calls.mkdir.Goals as goal
 

@@ -1,8 +1,8 @@
-use Rattle.std.proofs.Common.{◌≡◌, refl, sym, subst}
-use Rattle.sf_call.specs.Attributes.{modified_at}
+use Rattle.std.proofs.Common.{refl}
 use Rattle.sf_call.specs.Calls.{remove_file}
-use Rattle.sf_inode.specs.Nodes.{with_metadata}
-use Rattle.sf_walk.proofs.PathCalls.{no_way_served, missing_served, remove_refused, remove_served, past_root, not_root, stays_gone}
+use Rattle.sf_walk.proofs.LastNames.{not_root}
+use Rattle.sf_walk.proofs.Told.{past_root}
+use Rattle.sf_walk.proofs.PathCalls.{no_way_served, missing_served, remove_refused, remove_served, stays_gone}
 use Rattle.sf_walk.proofs.Holders.{stays_looked}
 use Rattle.sf_walk.proofs.path_calls.remove.Goals as goal
 

@@ -1,6 +1,8 @@
-use Rattle.std.proofs.Common.{◌≡◌, refl, sym, subst}
+use Rattle.std.proofs.Common.{refl}
 use Rattle.sf_call.specs.Calls.{remove_directory}
-use Rattle.sf_walk.proofs.PathCalls.{no_way_served, missing_served, remove_directory_file, remove_directory_full, remove_directory_served, past_root, not_root, stays_gone}
+use Rattle.sf_walk.proofs.LastNames.{not_root}
+use Rattle.sf_walk.proofs.Told.{past_root}
+use Rattle.sf_walk.proofs.PathCalls.{no_way_served, missing_served, remove_directory_file, remove_directory_full, remove_directory_served, stays_gone}
 use Rattle.sf_walk.proofs.Holders.{stays_looked}
 use Rattle.sf_walk.proofs.path_calls.rmdir.Goals as goal
 

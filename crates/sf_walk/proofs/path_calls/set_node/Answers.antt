@@ -1,5 +1,5 @@
 use Rattle.std.proofs.Common.{sym}
-use Rattle.sf_walk.proofs.PathCalls.{set_plain, set_sized, not_above}
+use Rattle.sf_walk.proofs.SetNodes.{set_plain, set_sized, not_above}
 use Rattle.sf_walk.proofs.path_calls.set_node.Goals as goal
 
 pub returns-in-None-clause-served : goal.returns-in-None-clause-served

@@ -1,7 +1,10 @@
 use Rattle.std.proofs.Common.{◌≡◌, refl}
 use Rattle.sf_call.specs.Calls.{set_stat}
 use Rattle.sf_walk.specs.Served.{IsAlike}
-use Rattle.sf_walk.proofs.PathCalls.{no_way_served, missing_served, set_stat_at, past_root, not_root, on_err_map, stays_after, alike_after}
+use Rattle.sf_walk.proofs.Looked.{stays_after, alike_after}
+use Rattle.sf_walk.proofs.LastNames.{not_root}
+use Rattle.sf_walk.proofs.Told.{past_root, on_err_map}
+use Rattle.sf_walk.proofs.PathCalls.{no_way_served, missing_served, set_stat_at}
 use Rattle.sf_walk.proofs.Holders.{stays_looked}
 use Rattle.sf_walk.proofs.path_calls.set_stat.Goals as goal
 

@@ -1,0 +1,30 @@
+-- Answers that are told.
+use Rattle.std.specs.Prelude.{◌≡◌, [], ◌∷◌, Ok, Err, IfOk, OnErr, refl}
+use Rattle.std.specs.declared.result.Result.{Result}
+use Rattle.std.proofs.Common.{sym, subst}
+use Rattle.sf_path.specs.Names.{Path}
+use Rattle.sf_wire.specs.declared.reply.Reply.{Reply}
+use Rattle.sf_call.specs.Tree.{Tree}
+use Rattle.sf_call.specs.Calls.{Answer, tells, unless_root}
+use Rattle.sf_inode.specs.Stores.{StoreState}
+use Rattle.sf_inode.specs.Keeps.{Keeps}
+use Rattle.sf_walk.specs.Served.{IsServed}
+
+pub tells_served : (new : StoreState) (t : Tree) (answer : Answer) (r : Reply) → answer ≡ tells r → Keeps new t → IsServed new t answer r
+tells_served new t answer r e h = subst (λ (a : Answer). IsServed new t a r) (sym e) (record { told = refl; tree = h })
+
+pub past_root : (new : StoreState) (t : Tree) (p : Path) (answer : Answer) (r : Reply) → (p ≡ [] → ⊥) → IsServed new t answer r → IsServed new t (unless_root p answer) r
+past_root new t [] answer r ne h = absurd (ne refl)
+past_root new t (n ∷ p) answer r ne h = h
+
+pub if_ok_map : {A E : Type 0} (r : Result A E) (P Q : A → Type 0) → ((x : A) → P x → Q x) → IfOk r P → IfOk r Q
+if_ok_map (Ok x) P Q f h = f x h
+if_ok_map (Err e) P Q f h = h
+
+pub on_err_map : {A E : Type 0} (r : Result A E) (P Q : Type 0) → (P → Q) → OnErr r P → OnErr r Q
+on_err_map (Ok x) P Q f h = h
+on_err_map (Err e) P Q f h = f h
+
+pub on_err_any : {A E : Type 0} (r : Result A E) (P : Type 0) → P → OnErr r P
+on_err_any (Ok x) P h = tt
+on_err_any (Err e) P h = h
