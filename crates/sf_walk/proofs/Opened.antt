@@ -37,7 +37,11 @@ use Rattle.sf_walk.proofs.Holders.{put_nodes, stays_inserted, stays_opened, alik
 use Rattle.sf_walk.proofs.LookUps.{looked_nodes}
 use Rattle.sf_walk.proofs.Fits.{no_way, name_missing, node_at}
 use Rattle.sf_walk.proofs.Undone.{edited_node, edited_itself}
-use Rattle.sf_walk.proofs.PathCalls.{tells_served, past_root, keeps_looked, way_looked, last_is, node_located, shown_directory, touches, SetsDirectory, FindsDirectory, InsertsNode, MakesPath}
+use Rattle.sf_walk.proofs.Looked.{keeps_looked, way_looked, alike_after}
+use Rattle.sf_walk.proofs.LastNames.{last_is}
+use Rattle.sf_walk.proofs.Told.{tells_served, past_root, if_ok_map, on_err_map}
+use Rattle.sf_walk.proofs.Parents.{shown_directory, touches, SetsDirectory, FindsDirectory, InsertsNode, MakesPath}
+use Rattle.sf_walk.proofs.PathCalls.{node_located}
 
 -- ---- what nodes show
 shown_edited : (f : Node → Node) → ((node : Node) → shown_node (f node) ≡ shown_node node) → (s : StoreState) (id i : ℕ) → shown_of (edited f s id).nodes i ≡ shown_of s.nodes i
@@ -190,29 +194,19 @@ cut_served contents_law file_law again_law s mid new t id moment label m bytes k
     (subst (λ (u : Tree). Keeps (edited (with_metadata (modified_at moment)) mid id) u) (again_law t label (File m []) (File (modified_at moment m) []))
     (file_law (modified_at moment) mid (changed t (SetObject label (File m []))) id label m [] kept shown))
 
--- ---- results
-if_ok_map : {A E : Type 0} (r : Result A E) {P Q : A → Type 0} → ((x : A) → P x → Q x) → IfOk r P → IfOk r Q
-if_ok_map (Ok x) f h = f x h
-if_ok_map (Err e) f h = h
-
 -- ---- what opening leaves of holders
 pub stays_opened_new : (before s new : StoreState) (session number dir : ℕ) (n : Name) (marks : Marks) (made : NewNode) → s.nodes ≡ before.nodes → OpenedNew s new session number dir n marks made → HoldersStay before new
 stays_opened_new before s new session number dir n marks made same did =
     subst (HoldersStay before) (sym did.state) (stays_opened before did.mid session number did.id marks (stays_inserted before s did.mid dir n did.id (new_node made) same did.inserted refl))
 
-pub stays_past : (old mid new : StoreState) (most : ℕ) → LookedUp old mid most → HoldersStay mid new → HoldersStay old new
-stays_past old mid new most looked h id node at = h id node at ∙ ap (λ (ns : List (Option Node)). holder_of ns id) (looked_nodes old mid most looked)
-
 pub alike_err : {A E : Type 0} (old mid new : StoreState) (most : ℕ) (r : Result A E) → LookedUp old mid most → OnErr r (new ≡ mid) → OnErr r (IsAlike old new)
-alike_err old mid new most (Ok x) looked e = tt
-alike_err old mid new most (Err x) looked e = subst (IsAlike old) (sym e) (alike_looked old mid most looked)
+alike_err old mid new most r looked = on_err_map r (new ≡ mid) (IsAlike old new) (alike_after old mid new most looked)
 
 alike_on : (old mid new : StoreState) → IsAlike old mid → IsAlike mid new → IsAlike old new
 alike_on old mid new a b = record { nodes = λ id. b.nodes id ∙ a.nodes id; root = b.root ∙ a.root; sessions = b.sessions ∙ a.sessions }
 
 pub alike_past : {A E : Type 0} (old mid new : StoreState) (most : ℕ) (r : Result A E) → LookedUp old mid most → OnErr r (IsAlike mid new) → OnErr r (IsAlike old new)
-alike_past old mid new most (Ok x) looked e = tt
-alike_past old mid new most (Err x) looked e = alike_on old mid new (alike_looked old mid most looked) e
+alike_past old mid new most r looked = on_err_map r (IsAlike mid new) (IsAlike old new) (alike_on old mid new (alike_looked old mid most looked))
 
 -- ---- a directory that lacks a name
 way_lacking : (p : Path) (nodes : List (Option Node)) (above x d : ℕ) → way_from nodes above x p ≡ located.Missing d
@@ -261,7 +255,7 @@ module _ (old mid : StoreState) (t : Tree) (p : Path) (most : ℕ) (looked : Loo
         let last : last_of p ≡ f.1.1 = ap last_of f.1.2 ∙ last_is f.1.0 f.1.1 in
         let there : p ≡ f.1.0 ++ last_of p ∷ [] = f.1.2 ∙ ap (λ (m : Name). f.1.0 ++ m ∷ []) (sym last) in
         let at_absent = subst (λ (place : Place). IfOk r (λ reply. IsServed new t (answer place) reply)) (sym f.0) (served f.1.0 there f.1.3) in
-        if_ok_map r (λ reply. past_root new t p (answer (place_at t p)) reply ne) at_absent
+        if_ok_map r (λ reply. IsServed new t (answer (place_at t p)) reply) (λ reply. IsServed new t (unless_root p (answer (place_at t p))) reply) (λ reply. past_root new t p (answer (place_at t p)) reply ne) at_absent
 
     pub open_exclusive : (above y : ℕ) → (p ≡ [] → ⊥) → located.At above y ≡ way_from old.nodes old.root old.root p → (flags.create && flags.exclusive) ≡ true → IsServed mid t (unless_root p (answer (place_at t p))) (reply.Status Failure)
     open_exclusive above y ne e both =
@@ -279,7 +273,7 @@ module _ (old mid : StoreState) (t : Tree) (p : Path) (most : ℕ) (looked : Loo
         let is : found_object f.2.0.label (object_of t.objects f.2.0.label) ≡ found_node f.2.0 = sym (ap (found_place t.objects) f.2.2) ∙ f.2.3 in
         let at_label : answer (place_at t p) ≡ open_present t session number moment flags (found_node f.2.0) =
             ap answer f.2.2 ∙ ap (λ b. cond b (refuses Failure) (open_present t session number moment flags (found_object f.2.0.label (object_of t.objects f.2.0.label)))) both ∙ ap (open_present t session number moment flags) is in
-        if_ok_map r (λ reply. past_root new t p (answer (place_at t p)) reply ne)
+        if_ok_map r (λ reply. IsServed new t (answer (place_at t p)) reply) (λ reply. IsServed new t (unless_root p (answer (place_at t p))) reply) (λ reply. past_root new t p (answer (place_at t p)) reply ne)
         (subst (λ (a : Answer). IfOk r (λ reply. IsServed new t a reply)) (sym at_label) (served f.2.0 f.2.1))
 
 -- ---- what a missing name's directory is after the look-ups
