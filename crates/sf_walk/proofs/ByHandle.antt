@@ -31,7 +31,7 @@ use Rattle.sf_inode.specs.Keeps.{Keeps}
 use Rattle.sf_walk.specs.Files.{file_size}
 use Rattle.sf_walk.specs.Served.{IsServed}
 use Rattle.sf_walk.proofs.Told.{tells_served, if_ok_map}
-use Rattle.sf_walk.proofs.SetNodes.{SetsFile, SetsAgain, SetsBytes, EditsItself, shown_stored, stored_bytes}
+use Rattle.sf_walk.proofs.SetNodes.{SetsFile, SetsBytes, SetsAgain, EditsItself, shown_stored, stored_bytes}
 
 -- ---- the laws that are used
 abbrev pub FindsHandle : Type 0

@@ -1,4 +1,5 @@
-//! Calls by handle.
+//! Calls by handle. A call of one of the store's laws does nothing: the proof takes from it what the law
+//! says.
 
 ghost use Rattle.std.specs.Prelude.{◌≡◌, ◌+◌, ◌<◌, ◌≤◌, ◌^◌, ℕ, nat_lt, if◌then◌else◌, List, length, take, drop, true, Some, IfOk, OnOk, OnErr};
 ghost use Rattle.sf_call.specs.declared.metadata.Metadata.{Metadata};

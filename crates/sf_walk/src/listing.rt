@@ -1,4 +1,5 @@
-//! Listing a directory.
+//! Listing a directory. A call of one of the store's laws does nothing: the proof takes from it what the
+//! law says.
 
 ghost use Rattle.std.specs.Prelude.{◌≡◌, Some, filter_map, IfOk, OnErr};
 ghost use Rattle.sf_reply.specs.Longname.{HasType, longname_text};
