@@ -8,5 +8,7 @@ pub mod Told
 pub mod SetNodes
 pub mod Parents
 pub mod PathCalls
-pub mod ByHandle
+pub mod OpenHandles
+pub mod SetOpened
+pub mod FileBytes
 pub mod Rows
