@@ -1,10 +1,10 @@
 //! The nodes, and what is open.
 
-ghost use Rattle.std.specs.Prelude.{◌≡◌, ◌+◌, ◌<◌, ◌≤◌, ◌^◌, ◌-◌, min, length, take, drop, Some, None, true, false, IsOk, IfOk, OnOk, OnErr, option_map, option_and_then};
+ghost use Rattle.std.specs.Prelude.{◌≡◌, ℕ, ◌+◌, ◌<◌, ◌≤◌, ◌^◌, ◌-◌, min, length, take, drop, Some, None, true, false, IsOk, IfOk, OnOk, OnErr, option_map, option_and_then};
 ghost use Rattle.std.specs.Option.{option_map_or};
 ghost use Rattle.sf_call.specs.Attributes.{attrs_of, with_parts, modified_at};
 ghost use Rattle.sf_inode.specs.Nodes.{new_node, object_in, with_metadata, with_holder, with_content, set_content, sorted_past};
-ghost use Rattle.sf_inode.specs.Stores.{IsFirst, Inserted, node_in, entry_of, holder_of, looked_up, edited, entry_taken, entry_put, released, forgotten, let_go, unlinked, relinked, stored_of, is_file_at, is_directory_at, is_bare_at, bytes_set, opened, handle_put, handle_at, handles_of, handle_dropped, handle_listed, entries_at, closed, each_let_go, closed_all};
+ghost use Rattle.sf_inode.specs.Stores.{IsFirst, Inserted, with_nodes, node_in, entry_of, holder_of, looked_up, edited, entry_taken, entry_put, released, forgotten, let_go, unlinked, relinked, stored_of, is_file_at, is_directory_at, is_bare_at, bytes_set, opened, handle_put, handle_at, handles_of, handle_dropped, handle_listed, entries_at, closed, each_let_go, closed_all};
 ghost use Rattle.std.specs.Option.{option_copied};
 ghost use Rattle.sf_call.specs.Contents.{resized, written};
 ghost use Rattle.sf_block.specs.Contents.{count_from, with_front};
@@ -71,6 +71,17 @@ impl Store {
     /// What the store takes its memory from.
     pub fn alloc(&self) -> Global {
         self.alloc
+    }
+
+    /// Gives back the memory of nodes that are gone, where few are left of many.
+    pub fn trim(&mut self)
+        ensures nodes { (id : ℕ) → node_in self.new.nodes id ≡ node_in self.old.nodes id }
+        ensures rest { self.new ≡ with_nodes self.old self.new.nodes }
+    {
+        let count = self.nodes.len();
+        if count.is_power_of_two() && self.nodes.capacity() / 4 >= count {
+            self.nodes.shrink_to_fit();
+        }
     }
 
     /// The root's number, which stays.

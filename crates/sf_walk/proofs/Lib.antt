@@ -16,3 +16,4 @@ pub mod FileBytes
 pub mod Rows
 pub mod Dispatch
 pub mod Refused
+pub mod Trimmed

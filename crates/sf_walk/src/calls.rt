@@ -19,7 +19,7 @@ use std::alloc::AllocError;
 /// Answers a call whole, from the root on and without locks, whoever holds the nodes on its way. Its
 /// number is above 0, and no label and no handle of the tree. `NoMemory` changes nothing but the count
 /// of look-ups.
-#[tactic(auto, using(crate::proofs::Refused::keeps_alike))]
+#[tactic(auto, using(crate::proofs::Refused::keeps_alike, crate::proofs::Trimmed::served_trimmed, crate::proofs::Trimmed::stays_trimmed, crate::proofs::Trimmed::looks_trimmed))]
 pub fn from_root(store: &mut Store, call: &Call) -> Reply
     ensures served { (t : Tree) → Keeps store.old t → IsNewNumber t call.now.number
         → IsRefused store.old store.new t result ⊎ IsServed store.new t (answer_to t call.now.session call.now.number call.now.moment call.now.request) result }
@@ -27,7 +27,10 @@ pub fn from_root(store: &mut Store, call: &Call) -> Reply
     ensures holders { HoldersStay store.old store.new }
 {
     match answer(store, call) {
-        Ok(reply) => reply,
+        Ok(reply) => {
+            store.trim();
+            reply
+        }
         Err(_) => Reply::NoMemory,
     }
 }

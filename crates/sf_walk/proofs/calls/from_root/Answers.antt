@@ -1,0 +1,6 @@
+use Rattle.std.proofs.Common.{inr}
+use Rattle.sf_walk.proofs.Trimmed.{served_trimmed}
+use Rattle.sf_walk.proofs.calls.from_root.Goals as goal
+
+pub returns-in-Ok-clause-served : goal.returns-in-Ok-clause-served
+returns-in-Ok-clause-served c = λ t kept fresh. inr (served_trimmed c.answer.new.store c.trim.new.self t _ c.in-Ok.reply (c.in-Ok.ensures.served t kept fresh) c.trim.ensures.nodes c.trim.ensures.rest)
