@@ -24,7 +24,7 @@ enum Kind {
     Attrs,
 }
 
-fn kind(reply: &Reply) -> Kind {
+fn kind_of(reply: &Reply) -> Kind {
     match reply {
         Reply::Status(code) => Kind::Status(*code),
         Reply::NoMemory => Kind::NoMemory,
@@ -95,7 +95,8 @@ impl Pair {
         let reply = self.of_store(session, request);
         assert!(rt;
             is_same(&plain, &reply),
-            "call {}: {plain:?} of the slow tree, {reply:?} of the store", self.number
+            "call {}: {plain:?} of the slow tree, {reply:?} of the store",
+            self.number
         );
         reply
     }
@@ -109,7 +110,7 @@ impl Pair {
     /// Asserts what the reply of both to a call of session 1 is.
     fn gives(&mut self, rt: &impl Abort, request: Result<Request, Fail>, want: Kind) {
         let reply = self.ask(rt, 1, request);
-        assert!(rt; kind(&reply) == want, "call {}: {reply:?}", self.number);
+        assert!(rt; kind_of(&reply) == want, "call {}: {reply:?}", self.number);
     }
 
     fn status(&mut self, rt: &impl Abort, request: Result<Request, Fail>, want: StatusCode) {

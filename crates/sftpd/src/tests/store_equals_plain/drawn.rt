@@ -254,7 +254,7 @@ fn call(
     if draws.once_in(LEAVING) {
         pair.leave(session);
     }
-    kind(&reply)
+    kind_of(&reply)
 }
 
 #[test]
