@@ -8,7 +8,7 @@ use Rattle.std.specs.Map.{lookup}
 use Rattle.std.proofs.lemmas.Map.Made.{lookup-map_values}
 use Rattle.sf_path.specs.Names.{Name, Path}
 use Rattle.sf_path.specs.Order.{same_name, same_path, name_cmp, path_cmp, name_total, path_total}
-use Rattle.sf_wire.specs.declared.reply.Entry.{Entry}
+use Rattle.sf_reply.specs.declared.reply.Entry.{Entry}
 use Rattle.sf_call.specs.declared.limits.TheConstants.{MAX_ENTRIES}
 use Rattle.sf_call.specs.Attributes.{Object}
 use Rattle.sf_call.specs.Tree.{Tree, directory_metadata, label_at, object_of}

@@ -1,7 +1,7 @@
 -- A directory's entries as they are listed.
 use Rattle.std.specs.Prelude.{ℕ, List, Option, option_map}
 use Rattle.sf_path.specs.Names.{Name}
-use Rattle.sf_wire.specs.declared.reply.Entry.{Entry}
+use Rattle.sf_reply.specs.declared.reply.Entry.{Entry}
 use Rattle.sf_call.specs.Listings as listings
 use Rattle.sf_inode.specs.declared.node.Node.{Node}
 use Rattle.sf_inode.specs.Nodes.{object_in}

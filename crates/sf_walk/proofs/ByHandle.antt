@@ -1,40 +1,37 @@
 -- What calls by handle answer, and what tree the store keeps after them.
-use Rattle.std.specs.Prelude.{◌≡◌, ◌≢◌, ◌↔◌, IsTrue, ℕ, ◌+◌, ◌-◌, ◌<◌, ◌≤◌, min, nat_eq, nat_lt, nat_le, Bool, true, false, not, cond, ◌&&◌, if◌then◌else◌, List, [], ◌∷◌, length, take, drop, option_map, Option, Some, None, is_some, IfOk, refl}
+use Rattle.std.specs.Prelude.{◌≡◌, ◌≢◌, ◌↔◌, IsTrue, ℕ, ◌+◌, ◌-◌, ◌<◌, min, nat_eq, nat_lt, nat_le, Bool, true, false, not, cond, ◌&&◌, if◌then◌else◌, List, [], ◌∷◌, length, take, drop, option_map, Option, Some, None, is_some, IfOk, refl}
 use Rattle.std.specs.Option.{option_map_or}
 use Rattle.std.specs.declared.result.Result.{Result}
 use Rattle.std.proofs.lemmas.Bool.Decides.{nat_tests}
 use Rattle.std.proofs.lemmas.List.{length-drop, take_min}
 use Rattle.std.proofs.Common.{sym, ap, subst, ◌∙◌, arith}
 use Rattle.sf_field.specs.declared.attrs.Attrs.{Attrs}
-use Rattle.sf_wire.specs.declared.reply.Reply.{Reply}
-use Rattle.sf_wire.specs.declared.reply.Reply.TheVariants as reply
-use Rattle.sf_wire.specs.declared.reply.StatusCode.TheVariants.{Success, EndOfFile, PermissionDenied, Failure}
+use Rattle.sf_reply.specs.declared.reply.Reply.{Reply}
+use Rattle.sf_reply.specs.declared.reply.Reply.TheVariants as reply
+use Rattle.sf_reply.specs.declared.reply.StatusCode.TheVariants.{Success, EndOfFile, PermissionDenied, Failure}
 use Rattle.sf_call.specs.declared.handle.Handle.{Handle}
 use Rattle.sf_call.specs.declared.metadata.Metadata.{Metadata}
 use Rattle.sf_call.specs.declared.limits.TheConstants.{MAX_FILE_SIZE, MAX_READ}
-use Rattle.sf_call.specs.Attributes.{Object, modified_at}
-use Rattle.sf_call.specs.Attributes.Object.{Directory, File}
+use Rattle.sf_call.specs.Attributes.{modified_at}
+use Rattle.sf_call.specs.Attributes.Object.{File}
 use Rattle.sf_call.specs.Contents.{written}
 use Rattle.sf_call.specs.Tree.{Tree, object_of, is_nil}
 use Rattle.sf_call.specs.Handles.{Opened, handle_in, opened, opened_by, opened_object}
-use Rattle.sf_call.specs.Handles.Opened.{NotOpen, OpenDirectory, OpenFile}
-use Rattle.sf_call.specs.Changes.{Change, changed}
+use Rattle.sf_call.specs.Handles.Opened.{OpenDirectory, OpenFile}
+use Rattle.sf_call.specs.Changes.{changed}
 use Rattle.sf_call.specs.Changes.Change.{SetObject, CloseHandle}
 use Rattle.sf_call.specs.Calls.{Answer, tells, refuses, succeeds, close, sets, set_opened, read, write, start_of}
 use Rattle.sf_inode.specs.declared.node.Node.{Node}
 use Rattle.sf_inode.specs.declared.node.Content.{Content}
 use Rattle.sf_inode.specs.declared.node.Content.TheVariants as content
 use Rattle.sf_inode.specs.declared.handle.OpenHandle.{OpenHandle}
-use Rattle.sf_block.specs.Contents.{Stored}
 use Rattle.sf_inode.specs.Nodes.{object_in, stored_in, with_stored, with_content, with_metadata, is_directory_content, is_file_content}
 use Rattle.sf_inode.specs.Stores.{StoreState, node_in, stored_of, bytes_set, is_directory_at, is_file_at, shown_of, shown_node, handle_at, shown_handle, edited, closed}
 use Rattle.sf_inode.specs.Keeps.{Keeps}
 use Rattle.sf_walk.specs.Files.{file_size}
-use Rattle.sf_walk.specs.Served.{IsServed, HoldersStay}
-use Rattle.sf_walk.proofs.Holders.{stays_closed}
+use Rattle.sf_walk.specs.Served.{IsServed}
 use Rattle.sf_walk.proofs.Told.{tells_served, if_ok_map}
-use Rattle.sf_walk.proofs.SetNodes.{SetsFile, SetsAgain}
-use Rattle.sf_walk.proofs.SetNodes.{SetsBytes, EditsItself, shown_stored, shown_marked, stored_bytes}
+use Rattle.sf_walk.proofs.SetNodes.{SetsFile, SetsBytes, SetsAgain, EditsItself, shown_stored, stored_bytes}
 
 -- ---- the laws that are used
 abbrev pub FindsHandle : Type 0
@@ -152,7 +149,7 @@ module _ (finds : FindsHandle) (s : StoreState) (t : Tree) (session number : ℕ
     pub opened_is : opened t session number ≡ opened_object (shown_handle session h) (Some (object_in node_of.0.metadata node_of.0.content))
     opened_is = ap (opened_by t) handle_is ∙ ap (opened_object (shown_handle session h)) node_of.1.2
 
-    directory_is : is_directory_at s.nodes h.node ≡ is_directory_content node_of.0.content
+    pub directory_is : is_directory_at s.nodes h.node ≡ is_directory_content node_of.0.content
     directory_is = ap (λ (o : Option Node). option_map_or (λ (node : Node). is_directory_content node.content) o false) node_of.1.0
 
     file_is : is_file_at s.nodes h.node ≡ is_file_content node_of.0.content

@@ -11,4 +11,6 @@ pub mod PathCalls
 pub mod Undone
 pub mod Opened
 pub mod ByHandle
+pub mod Rows
+pub mod Dispatch
 pub mod Refused

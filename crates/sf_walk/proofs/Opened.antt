@@ -6,9 +6,9 @@ use Rattle.sf_path.specs.Names.{Name, Path}
 use Rattle.sf_path.specs.Order.{parent}
 use Rattle.sf_field.specs.declared.attrs.Attrs.{Attrs}
 use Rattle.sf_field.specs.declared.open_flags.OpenFlags.{OpenFlags}
-use Rattle.sf_wire.specs.declared.reply.Reply.{Reply}
-use Rattle.sf_wire.specs.declared.reply.Reply.TheVariants as reply
-use Rattle.sf_wire.specs.declared.reply.StatusCode.TheVariants.{NoSuchFile, Failure}
+use Rattle.sf_reply.specs.declared.reply.Reply.{Reply}
+use Rattle.sf_reply.specs.declared.reply.Reply.TheVariants as reply
+use Rattle.sf_reply.specs.declared.reply.StatusCode.TheVariants.{NoSuchFile, Failure}
 use Rattle.sf_call.specs.declared.metadata.Metadata.{Metadata}
 use Rattle.sf_call.specs.declared.metadata.FileType.TheVariants as file_type
 use Rattle.sf_call.specs.declared.place.Place.{Place}
@@ -37,11 +37,11 @@ use Rattle.sf_walk.proofs.Holders.{put_nodes, stays_inserted, stays_opened, alik
 use Rattle.sf_walk.proofs.LookUps.{looked_nodes}
 use Rattle.sf_walk.proofs.Fits.{no_way, name_missing, node_at}
 use Rattle.sf_walk.proofs.Undone.{edited_node, edited_itself}
-use Rattle.sf_walk.proofs.Told.{tells_served, past_root}
-use Rattle.sf_walk.proofs.Looked.{keeps_looked, way_looked}
+use Rattle.sf_walk.proofs.Looked.{keeps_looked, way_looked, alike_after}
 use Rattle.sf_walk.proofs.LastNames.{last_is}
-use Rattle.sf_walk.proofs.PathCalls.{node_located}
+use Rattle.sf_walk.proofs.Told.{tells_served, past_root, if_ok_map, on_err_map}
 use Rattle.sf_walk.proofs.Parents.{shown_directory, touches, SetsDirectory, FindsDirectory, InsertsNode, MakesPath}
+use Rattle.sf_walk.proofs.PathCalls.{node_located}
 
 -- ---- what nodes show
 shown_edited : (f : Node → Node) → ((node : Node) → shown_node (f node) ≡ shown_node node) → (s : StoreState) (id i : ℕ) → shown_of (edited f s id).nodes i ≡ shown_of s.nodes i
@@ -126,9 +126,9 @@ module _ (t : Tree) (session number moment : ℕ) (flags : OpenFlags) where
       → (flags.truncate && flags.write) ≡ true → mid ≡ opened s session number id (marks_of flags) → CutsFile mid new id → IsServed new t (open_present t session number moment flags (found_node it)) (reply.Handle number)
   present_cut law s mid new it id k fresh fits at d e f state cuts =
       let kept : Keeps mid (changed t (OpenHandle number (file_handle session it.label flags))) =
-          subst (λ (x : StoreState). Keeps x (changed t (OpenHandle number (file_handle session it.label flags)))) (sym state) (law s t session number id (marks_of flags) it k fresh.above fits fresh.handle at) in
+      subst (λ (x : StoreState). Keeps x (changed t (OpenHandle number (file_handle session it.label flags)))) (sym state) (law s t session number id (marks_of flags) it k fresh.above fits fresh.handle at) in
       let shown : shown_of mid.nodes id ≡ Some (it.label, File it.metadata (stored_in it.content).bytes) =
-          ap (λ (x : StoreState). shown_of x.nodes id) state ∙ shown_opened s session number id (marks_of flags) id ∙ ap (option_map shown_node) at ∙ file_there it.label it.metadata it.content d in
+      ap (λ (x : StoreState). shown_of x.nodes id) state ∙ shown_opened s session number id (marks_of flags) id ∙ ap (option_map shown_node) at ∙ file_there it.label it.metadata it.content d in
       subst (λ (a : Answer). IsServed new t a (reply.Handle number)) (sym (present_opens it.label it.metadata it.content true d e f))
       (record { told = refl; tree = cuts (changed t (OpenHandle number (file_handle session it.label flags))) it.label it.metadata (stored_in it.content).bytes kept shown })
 
@@ -151,17 +151,17 @@ module _ (t : Tree) (session number moment : ℕ) (path : Path) (flags : OpenFla
       let made = changed t (NewPath (front ++ n ∷ []) number (File metadata [])) in
       let put : Keeps did.mid made = makes s did.mid t front dir n did.id it k did.inserted at d none fresh.label in
       let opens_it : Keeps (opened did.mid session number did.id (marks_of flags)) (changed made (OpenHandle number (file_handle session number flags))) =
-          opens_law did.mid made session number did.id (marks_of flags) (new_node it) put fresh.above fits fresh.handle did.inserted.at in
+      opens_law did.mid made session number did.id (marks_of flags) (new_node it) put fresh.above fits fresh.handle did.inserted.at in
       let other : dir ≢ did.id = λ same. (let w = shown_directory s.nodes dir d in let gone = ap (node_in s.nodes) same ∙ did.inserted.fresh in let nothing = ap (option_map shown_node) gone in let x : ⊥ = cc (w.1.1) in x) in
       let shown : shown_of mid.nodes dir ≡ shown_of s.nodes dir =
-          ap (λ (x : StoreState). shown_of x.nodes dir) did.state ∙ shown_opened did.mid session number did.id (marks_of flags) dir ∙ (inserts s did.mid dir n did.id (new_node it) dir did.inserted other).0 in
+      ap (λ (x : StoreState). shown_of x.nodes dir) did.state ∙ shown_opened did.mid session number did.id (marks_of flags) dir ∙ (inserts s did.mid dir n did.id (new_node it) dir did.inserted other).0 in
       let u = changed made (OpenHandle number (file_handle session number flags)) in
       let after : Keeps (edited (with_metadata (modified_at moment)) mid dir) (done u (touched t moment (parent (front ++ n ∷ [])))) =
-          touches put_law finds s mid t u front n dir moment k at d (subst (λ (x : StoreState). Keeps x u) (sym did.state) opens_it) shown in
+      touches put_law finds s mid t u front n dir moment k at d (subst (λ (x : StoreState). Keeps x u) (sym did.state) opens_it) shown in
       let whole : Keeps new (done t (OpenHandle number (file_handle session number flags) ∷ NewPath path number (File (new_metadata 0o644 moment attrs) []) ∷ touched t moment (parent path))) =
-          subst (λ (x : StoreState). Keeps x (done t (OpenHandle number (file_handle session number flags) ∷ NewPath path number (File (new_metadata 0o644 moment attrs) []) ∷ touched t moment (parent path)))) (sym state)
-          (subst (λ (m : Metadata). Keeps (edited (with_metadata (modified_at moment)) mid dir) (done t (OpenHandle number (file_handle session number flags) ∷ NewPath path number (File m []) ∷ touched t moment (parent path)))) asked
-          (subst (λ (q : Path). Keeps (edited (with_metadata (modified_at moment)) mid dir) (done t (OpenHandle number (file_handle session number flags) ∷ NewPath q number (File metadata []) ∷ touched t moment (parent q)))) (sym is) after)) in
+      subst (λ (x : StoreState). Keeps x (done t (OpenHandle number (file_handle session number flags) ∷ NewPath path number (File (new_metadata 0o644 moment attrs) []) ∷ touched t moment (parent path)))) (sym state)
+      (subst (λ (m : Metadata). Keeps (edited (with_metadata (modified_at moment)) mid dir) (done t (OpenHandle number (file_handle session number flags) ∷ NewPath path number (File m []) ∷ touched t moment (parent path)))) asked
+      (subst (λ (q : Path). Keeps (edited (with_metadata (modified_at moment)) mid dir) (done t (OpenHandle number (file_handle session number flags) ∷ NewPath q number (File metadata []) ∷ touched t moment (parent q)))) (sym is) after)) in
       subst (λ (a : Answer). IsServed new t a (reply.Handle number)) (sym (absent_is false false c f)) (record { told = refl; tree = whole })
 
 -- ---- a file that is cut
@@ -187,36 +187,26 @@ pub cut_served : SetsContents → SetsFile → SetsAgain → (s mid new : StoreS
 cut_served contents_law file_law again_law s mid new t id moment label m bytes k at is state =
     let kept : Keeps mid (changed t (SetObject label (File m []))) = subst (λ (x : StoreState). Keeps x (changed t (SetObject label (File m [])))) (sym is) (contents_law s mid t id label m bytes [] k at) in
     let shown : shown_of mid.nodes id ≡ Some (label, File m []) =
-        ap (λ (x : StoreState). shown_of x.nodes id) is
-        ∙ ap (option_map shown_node) (edited_itself (with_content (with_stored (record { bytes = []; room = (stored_of mid.nodes id).room }))) s id)
-        ∙ cut_shown (stored_of mid.nodes id).room (node_in s.nodes id) label m bytes at in
+    ap (λ (x : StoreState). shown_of x.nodes id) is
+    ∙ ap (option_map shown_node) (edited_itself (with_content (with_stored (record { bytes = []; room = (stored_of mid.nodes id).room }))) s id)
+    ∙ cut_shown (stored_of mid.nodes id).room (node_in s.nodes id) label m bytes at in
     subst (λ (x : StoreState). Keeps x (changed t (SetObject label (File (modified_at moment m) [])))) (sym state)
     (subst (λ (u : Tree). Keeps (edited (with_metadata (modified_at moment)) mid id) u) (again_law t label (File m []) (File (modified_at moment m) []))
     (file_law (modified_at moment) mid (changed t (SetObject label (File m []))) id label m [] kept shown))
-
--- ---- results
-if_ok_map : {A E : Type 0} (r : Result A E) {P Q : A → Type 0} → ((x : A) → P x → Q x) → IfOk r P → IfOk r Q
-if_ok_map (Ok x) f h = f x h
-if_ok_map (Err e) f h = h
 
 -- ---- what opening leaves of holders
 pub stays_opened_new : (before s new : StoreState) (session number dir : ℕ) (n : Name) (marks : Marks) (made : NewNode) → s.nodes ≡ before.nodes → OpenedNew s new session number dir n marks made → HoldersStay before new
 stays_opened_new before s new session number dir n marks made same did =
     subst (HoldersStay before) (sym did.state) (stays_opened before did.mid session number did.id marks (stays_inserted before s did.mid dir n did.id (new_node made) same did.inserted refl))
 
-pub stays_past : (old mid new : StoreState) (most : ℕ) → LookedUp old mid most → HoldersStay mid new → HoldersStay old new
-stays_past old mid new most looked h id node at = h id node at ∙ ap (λ (ns : List (Option Node)). holder_of ns id) (looked_nodes old mid most looked)
-
 pub alike_err : {A E : Type 0} (old mid new : StoreState) (most : ℕ) (r : Result A E) → LookedUp old mid most → OnErr r (new ≡ mid) → OnErr r (IsAlike old new)
-alike_err old mid new most (Ok x) looked e = tt
-alike_err old mid new most (Err x) looked e = subst (IsAlike old) (sym e) (alike_looked old mid most looked)
+alike_err old mid new most r looked = on_err_map r (new ≡ mid) (IsAlike old new) (alike_after old mid new most looked)
 
 alike_on : (old mid new : StoreState) → IsAlike old mid → IsAlike mid new → IsAlike old new
 alike_on old mid new a b = record { nodes = λ id. b.nodes id ∙ a.nodes id; root = b.root ∙ a.root; sessions = b.sessions ∙ a.sessions }
 
 pub alike_past : {A E : Type 0} (old mid new : StoreState) (most : ℕ) (r : Result A E) → LookedUp old mid most → OnErr r (IsAlike mid new) → OnErr r (IsAlike old new)
-alike_past old mid new most (Ok x) looked e = tt
-alike_past old mid new most (Err x) looked e = alike_on old mid new (alike_looked old mid most looked) e
+alike_past old mid new most r looked = on_err_map r (IsAlike mid new) (IsAlike old new) (alike_on old mid new (alike_looked old mid most looked))
 
 -- ---- a directory that lacks a name
 way_lacking : (p : Path) (nodes : List (Option Node)) (above x d : ℕ) → way_from nodes above x p ≡ located.Missing d
@@ -224,18 +214,18 @@ way_lacking : (p : Path) (nodes : List (Option Node)) (above x d : ℕ) → way_
 way_lacking [] nodes above x d = λ e. cc
 way_lacking (n ∷ p) nodes above x d =
     elim (is_directory_at nodes x) as (λ b. is_directory_at nodes x ≡ b → cond b (option_map_or (λ y. way_from nodes x y p) (entry_of nodes x n) (missing x p)) located.NoWay ≡ located.Missing d
-        → (r : Path) × (m : Name) × (n ∷ p ≡ r ++ m ∷ []) × (entry_of nodes d m ≡ None) × (is_directory_at nodes d ≡ true)) [
+    → (r : Path) × (m : Name) × (n ∷ p ≡ r ++ m ∷ []) × (entry_of nodes d m ≡ None) × (is_directory_at nodes d ≡ true)) [
       | false ↦ λ q e. cc
       | true ↦ λ q. elim (entry_of nodes x n) as (λ o. entry_of nodes x n ≡ o → option_map_or (λ y. way_from nodes x y p) o (missing x p) ≡ located.Missing d
           → (r : Path) × (m : Name) × (n ∷ p ≡ r ++ m ∷ []) × (entry_of nodes d m ≡ None) × (is_directory_at nodes d ≡ true)) [
-        | None ↦ λ f. lacks p f q
-        | Some y ↦ λ f e. let w = way_lacking p nodes x y d e in (n ∷ w.0, w.1, ap (λ (rest : Path). n ∷ rest) w.2, w.3, w.4)
-      ] refl
+            | None ↦ λ f. lacks p f q
+            | Some y ↦ λ f e. let w = way_lacking p nodes x y d e in (n ∷ w.0, w.1, ap (λ (rest : Path). n ∷ rest) w.2, w.3, w.4)
+          ] refl
     ] refl where
-  lacks : (rest : Path) → entry_of nodes x n ≡ None → is_directory_at nodes x ≡ true → missing x rest ≡ located.Missing d
-      → (r : Path) × (m : Name) × (n ∷ rest ≡ r ++ m ∷ []) × (entry_of nodes d m ≡ None) × (is_directory_at nodes d ≡ true)
-  lacks [] f q e = let same : x ≡ d = cc in ([], n, refl, ap (λ k. entry_of nodes k n) (sym same) ∙ f, ap (is_directory_at nodes) (sym same) ∙ q)
-  lacks (m ∷ rest) f q e = cc
+      lacks : (rest : Path) → entry_of nodes x n ≡ None → is_directory_at nodes x ≡ true → missing x rest ≡ located.Missing d
+          → (r : Path) × (m : Name) × (n ∷ rest ≡ r ++ m ∷ []) × (entry_of nodes d m ≡ None) × (is_directory_at nodes d ≡ true)
+      lacks [] f q e = let same : x ≡ d = cc in ([], n, refl, ap (λ k. entry_of nodes k n) (sym same) ∙ f, ap (is_directory_at nodes) (sym same) ∙ q)
+      lacks (m ∷ rest) f q e = cc
 
 -- ---- what was located
 module _ (old mid : StoreState) (t : Tree) (p : Path) (most : ℕ) (looked : LookedUp old mid most) (h : Keeps old t) where
@@ -265,7 +255,7 @@ module _ (old mid : StoreState) (t : Tree) (p : Path) (most : ℕ) (looked : Loo
         let last : last_of p ≡ f.1.1 = ap last_of f.1.2 ∙ last_is f.1.0 f.1.1 in
         let there : p ≡ f.1.0 ++ last_of p ∷ [] = f.1.2 ∙ ap (λ (m : Name). f.1.0 ++ m ∷ []) (sym last) in
         let at_absent = subst (λ (place : Place). IfOk r (λ reply. IsServed new t (answer place) reply)) (sym f.0) (served f.1.0 there f.1.3) in
-        if_ok_map r (λ reply. past_root new t p (answer (place_at t p)) reply ne) at_absent
+        if_ok_map r (λ reply. IsServed new t (answer (place_at t p)) reply) (λ reply. IsServed new t (unless_root p (answer (place_at t p))) reply) (λ reply. past_root new t p (answer (place_at t p)) reply ne) at_absent
 
     pub open_exclusive : (above y : ℕ) → (p ≡ [] → ⊥) → located.At above y ≡ way_from old.nodes old.root old.root p → (flags.create && flags.exclusive) ≡ true → IsServed mid t (unless_root p (answer (place_at t p))) (reply.Status Failure)
     open_exclusive above y ne e both =
@@ -282,8 +272,8 @@ module _ (old mid : StoreState) (t : Tree) (p : Path) (most : ℕ) (looked : Loo
         let f = node_at mid t k p above y (way_looked old mid p most (located.At above y) looked e) in
         let is : found_object f.2.0.label (object_of t.objects f.2.0.label) ≡ found_node f.2.0 = sym (ap (found_place t.objects) f.2.2) ∙ f.2.3 in
         let at_label : answer (place_at t p) ≡ open_present t session number moment flags (found_node f.2.0) =
-            ap answer f.2.2 ∙ ap (λ b. cond b (refuses Failure) (open_present t session number moment flags (found_object f.2.0.label (object_of t.objects f.2.0.label)))) both ∙ ap (open_present t session number moment flags) is in
-        if_ok_map r (λ reply. past_root new t p (answer (place_at t p)) reply ne)
+        ap answer f.2.2 ∙ ap (λ b. cond b (refuses Failure) (open_present t session number moment flags (found_object f.2.0.label (object_of t.objects f.2.0.label)))) both ∙ ap (open_present t session number moment flags) is in
+        if_ok_map r (λ reply. IsServed new t (answer (place_at t p)) reply) (λ reply. IsServed new t (unless_root p (answer (place_at t p))) reply) (λ reply. past_root new t p (answer (place_at t p)) reply ne)
         (subst (λ (a : Answer). IfOk r (λ reply. IsServed new t a reply)) (sym at_label) (served f.2.0 f.2.1))
 
 -- ---- what a missing name's directory is after the look-ups

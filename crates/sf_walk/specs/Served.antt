@@ -1,6 +1,7 @@
 -- What a call does to the store.
 use Rattle.std.specs.Prelude.{◌≡◌, ℕ, zero, suc, ◌<◌, ◌≤◌, Some, None}
 use Rattle.sf_reply.specs.declared.reply.Reply.{Reply}
+use Rattle.sf_reply.specs.declared.reply.Reply.TheVariants as reply
 use Rattle.sf_call.specs.Tree.{Tree, object_of, handle_of}
 use Rattle.sf_call.specs.Changes.{done}
 use Rattle.sf_call.specs.Calls.{Answer}
@@ -42,6 +43,12 @@ pub record IsNewNumber (t : Tree) (number : ℕ) : Type 0 where
   pub handle : handle_of t.handles number ≡ None
 
 -- the reply is the tree's, and the store keeps the tree after the call
-pub record IsServed (new : StoreState) (t : Tree) (answer : Answer) (reply : Reply) : Type 0 where
-  pub told : reply ≡ answer.reply
+pub record IsServed (new : StoreState) (t : Tree) (answer : Answer) (given : Reply) : Type 0 where
+  pub told : given ≡ answer.reply
   pub tree : Keeps new (done t answer.changes)
+
+-- want of memory is told: no node and no handle has changed, and the store keeps the tree that it kept
+pub record IsRefused (old new : StoreState) (t : Tree) (given : Reply) : Type 0 where
+  pub told : given ≡ reply.NoMemory
+  pub alike : IsAlike old new
+  pub tree : Keeps new t

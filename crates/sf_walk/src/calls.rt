@@ -1,12 +1,11 @@
 //! Whole calls from the root.
 
-ghost use Rattle.std.specs.Prelude.{◌≡◌, ◌⊎◌, IfOk, OnErr};
-ghost use Rattle.sf_reply.specs.declared.reply.Reply.TheVariants.{NoMemory};
+ghost use Rattle.std.specs.Prelude.{◌⊎◌, IfOk, OnErr};
 ghost use Rattle.sf_call.specs.Tree.{Tree};
 ghost use Rattle.sf_call.specs.Calls.{answer_to};
 ghost use Rattle.sf_inode.specs.Keeps.{Keeps};
 ghost use Rattle.sf_walk.specs.Ways.{names_of};
-ghost use Rattle.sf_walk.specs.Served.{IsServed, IsAlike, LooksUp, HoldersStay, IsNewNumber};
+ghost use Rattle.sf_walk.specs.Served.{IsServed, IsRefused, IsAlike, LooksUp, HoldersStay, IsNewNumber};
 
 use crate::handle_calls::{close, read, set_stat_handle, stat_handle, write};
 use crate::listing::read_directory;
@@ -20,9 +19,10 @@ use std::alloc::AllocError;
 /// Answers a call whole, from the root on and without locks, whoever holds the nodes on its way. Its
 /// number is above 0, and no label and no handle of the tree. `NoMemory` changes nothing but the count
 /// of look-ups.
+#[tactic(auto, using(crate::proofs::Refused::keeps_alike))]
 pub fn from_root(store: &mut Store, call: &Call) -> Reply
     ensures served { (t : Tree) → Keeps store.old t → IsNewNumber t call.now.number
-        → ((result ≡ NoMemory) × IsAlike store.old store.new) ⊎ IsServed store.new t (answer_to t call.now.session call.now.number call.now.moment call.now.request) result }
+        → IsRefused store.old store.new t result ⊎ IsServed store.new t (answer_to t call.now.session call.now.number call.now.moment call.now.request) result }
     ensures look_ups { LooksUp store.old store.new (names_of call.now.request) }
     ensures holders { HoldersStay store.old store.new }
 {

@@ -1,4 +1,5 @@
-//! Calls by handle.
+//! Calls by handle. A call of one of the store's laws does nothing: the proof takes from it what the law
+//! says.
 
 ghost use Rattle.std.specs.Prelude.{◌≡◌, ◌+◌, ◌<◌, ◌≤◌, ◌^◌, ℕ, nat_lt, if◌then◌else◌, List, length, take, drop, true, Some, IfOk, OnOk, OnErr};
 ghost use Rattle.sf_call.specs.declared.metadata.Metadata.{Metadata};
@@ -124,12 +125,7 @@ pub(crate) fn read(
 }
 
 /// So many bytes of a file from an offset on.
-fn bytes_at(
-    store: &Store,
-    node: NodeId,
-    offset: u64,
-    count: usize,
-) -> Result<Vec<u8>, AllocError>
+fn bytes_at(store: &Store, node: NodeId, offset: u64, count: usize) -> Result<Vec<u8>, AllocError>
     requires { offset + count ≤ length (stored_of store.now.nodes node).bytes }
     ensures { IfOk result (λ bytes. bytes.items ≡ take count (drop offset (stored_of store.now.nodes node).bytes)) }
 {

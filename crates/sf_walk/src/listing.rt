@@ -1,7 +1,8 @@
-//! Listing a directory.
+//! Listing a directory. A call of one of the store's laws does nothing: the proof takes from it what the
+//! law says.
 
 ghost use Rattle.std.specs.Prelude.{◌≡◌, Some, filter_map, IfOk, OnErr};
-ghost use Rattle.sf_wire.specs.Longname.{HasType, longname_text};
+ghost use Rattle.sf_reply.specs.Longname.{HasType, longname_text};
 ghost use Rattle.sf_call.specs.ReplyKinds.{HasAllParts};
 ghost use Rattle.sf_call.specs.Tree.{Tree};
 ghost use Rattle.sf_call.specs.Handles.{opened};

@@ -5,8 +5,8 @@ ghost use Rattle.std.specs.Prelude.{◌≡◌, ◌<◌, ℕ, true, length, Some,
 ghost use Rattle.sf_call.specs.Attributes.{modified_at};
 ghost use Rattle.sf_call.specs.Tree.{Tree, found_at, place_at};
 ghost use Rattle.sf_call.specs.Calls.{stat, set_stat, sets, make_directory, remove_directory, remove_file, goes, unless_root};
-ghost use Rattle.sf_wire.specs.declared.reply.Reply.TheVariants.{Status};
-ghost use Rattle.sf_wire.specs.declared.reply.StatusCode.TheVariants.{Success};
+ghost use Rattle.sf_reply.specs.declared.reply.Reply.TheVariants.{Status};
+ghost use Rattle.sf_reply.specs.declared.reply.StatusCode.TheVariants.{Success};
 ghost use Rattle.sf_inode.specs.declared.node.Node.{Node};
 ghost use Rattle.sf_inode.specs.Nodes.{new_node, object_in, with_metadata};
 ghost use Rattle.sf_inode.specs.Stores.{Inserted, node_in, is_bare_at, edited, unlinked};

@@ -1,4 +1,4 @@
-use Rattle.std.proofs.Common.{sym, ap, ◌∙◌, ◌+◌, ◌-◌, refl, min}
+use Rattle.std.proofs.Common.{ap, ◌∙◌, ◌-◌, min}
 use Rattle.sf_walk.proofs.ByHandle.{read_data}
 use Rattle.sf_walk.proofs.handle_calls.read.Goals as goal
 

@@ -1,4 +1,4 @@
-use Rattle.std.proofs.Common.{sym, ap, ◌∙◌, refl, ◌≡◌, false, not, ◌&&◌}
+use Rattle.std.proofs.Common.{sym, ◌∙◌}
 use Rattle.std.specs.Prelude.{is_some}
 use Rattle.sf_walk.proofs.ByHandle.{set_root, set_directory, set_unmarked, set_file, may_write, no_size_set}
 use Rattle.sf_walk.proofs.handle_calls.set_stat_handle.Goals as goal

@@ -1,4 +1,4 @@
-use Rattle.std.proofs.Common.{sym, ap, ◌∙◌, ◌+◌, nat_lt, refl}
+use Rattle.std.proofs.Common.{ap, ◌∙◌, ◌+◌, nat_lt, refl}
 use Rattle.sf_call.specs.declared.limits.TheConstants.{MAX_FILE_SIZE}
 use Rattle.sf_call.specs.Calls.{write}
 use Rattle.sf_walk.proofs.ByHandle.{refused_served, write_refused, write_served, some_bytes}

@@ -2,8 +2,8 @@ use Rattle.std.proofs.Common.{◌≡◌, false, ap, length, ◌&&◌}
 use Rattle.sf_walk.proofs.Holders.{stays_looked}
 use Rattle.sf_walk.proofs.LookUps.{looked_nodes}
 use Rattle.sf_walk.proofs.LastNames.{not_root}
-use Rattle.sf_walk.proofs.Looked.{keeps_looked}
-use Rattle.sf_walk.proofs.Opened.{open_no_way, open_missing, open_exclusive, open_located, missing_directory, missing_entry, alike_err, alike_past, stays_past}
+use Rattle.sf_walk.proofs.Looked.{keeps_looked, stays_after}
+use Rattle.sf_walk.proofs.Opened.{open_no_way, open_missing, open_exclusive, open_located, missing_directory, missing_entry, alike_err, alike_past}
 use Rattle.sf_walk.proofs.opening.open.Goals.{else-flags-via-then-flags+else-flags-2, else-flags-via-else-flags}
 use Rattle.sf_walk.proofs.opening.open.Goals as goal
 
@@ -55,4 +55,4 @@ pub returns-else-flags-clause-err : goal.returns-else-flags-clause-err
 returns-else-flags-clause-err c = alike_err c.args.store.now c.locate.new.store c.open_present.new.store _ c.open_present.result c.locate.ensures.looked c.open_present.ensures.err
 
 pub returns-else-flags-clause-holders : goal.returns-else-flags-clause-holders
-returns-else-flags-clause-holders c = stays_past c.args.store.now c.locate.new.store c.open_present.new.store _ c.locate.ensures.looked c.open_present.ensures.holders
+returns-else-flags-clause-holders c = stays_after c.args.store.now c.locate.new.store c.open_present.new.store _ c.locate.ensures.looked c.open_present.ensures.holders

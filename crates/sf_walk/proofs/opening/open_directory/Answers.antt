@@ -3,8 +3,8 @@ use Rattle.sf_call.specs.Calls.{open_directory}
 use Rattle.sf_walk.specs.Served.{IsServed, IsAlike}
 use Rattle.sf_walk.proofs.Holders.{stays_looked, alike_looked}
 use Rattle.sf_walk.proofs.PathCalls.{no_way_served, missing_served}
-use Rattle.sf_walk.proofs.Looked.{keeps_looked}
-use Rattle.sf_walk.proofs.Opened.{listing_located, alike_err, stays_past}
+use Rattle.sf_walk.proofs.Looked.{keeps_looked, stays_after}
+use Rattle.sf_walk.proofs.Opened.{listing_located, alike_err}
 use Rattle.sf_walk.proofs.opening.open_directory.Goals as goal
 
 pub returns-in-NoWay-clause-served : goal.returns-in-NoWay-clause-served
@@ -30,4 +30,4 @@ pub returns-in-At-clause-err : goal.returns-in-At-clause-err
 returns-in-At-clause-err c = alike_err _ _ _ _ c.open_listing.result c.locate.ensures.looked c.open_listing.ensures.err
 
 pub returns-in-At-clause-holders : goal.returns-in-At-clause-holders
-returns-in-At-clause-holders c = stays_past c.args.store.now c.locate.new.store c.open_listing.new.store _ c.locate.ensures.looked c.open_listing.ensures.holders
+returns-in-At-clause-holders c = stays_after c.args.store.now c.locate.new.store c.open_listing.new.store _ c.locate.ensures.looked c.open_listing.ensures.holders

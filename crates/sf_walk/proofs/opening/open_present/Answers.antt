@@ -12,9 +12,9 @@ returns-clause-served c = λ t it k fresh at.
     let file = kind_there c.args.store.now.nodes c.args.node it _ at c.if-is_directory.ensures in
     let some = sym (c.if-has_all_handles.ensures t k) in
     let opens : c.open.new.self ≡ opened c.args.store.now c.args.session c.args.number c.args.node (marks_of c.args.flags) =
-        c.in_ok-open.ensures.ok ∙ ap (opened c.args.store.now c.args.session c.args.number c.args.node) c.file_marks.ensures in
+    c.in_ok-open.ensures.ok ∙ ap (opened c.args.store.now c.args.session c.args.number c.args.node) c.file_marks.ensures in
     let uncut = λ (not_both : (c.args.flags.truncate && c.args.flags.write) ≡ false).
-        present_served t c.args.session c.args.number c.args.moment c.args.flags c.opened_handles.ensures c.args.store.now c.open.new.self it c.args.node k fresh c.ranges.number.fits at file some not_both opens in
+    present_served t c.args.session c.args.number c.args.moment c.args.flags c.opened_handles.ensures c.args.store.now c.open.new.self it c.args.node k fresh c.ranges.number.fits at file some not_both opens in
     elim c.if-flags.branch [
       | then-flags+then-flags-2 w ↦ rw w.store-is
           (present_cut t c.args.session c.args.number c.args.moment c.args.flags c.opened_handles.ensures c.args.store.now c.open.new.self w.truncate.new.store it c.args.node k fresh c.ranges.number.fits at file some
@@ -28,7 +28,7 @@ returns-clause-served c = λ t it k fresh at.
 pub returns-clause-holders : goal.returns-clause-holders
 returns-clause-holders c =
     let stays : HoldersStay c.args.store.now c.open.new.self =
-        subst (HoldersStay c.args.store.now) (sym c.in_ok-open.ensures.ok) (stays_opened c.args.store.now c.args.store.now c.args.session c.args.number c.args.node c.file_marks.result (stays_same c.args.store.now c.args.store.now refl)) in
+    subst (HoldersStay c.args.store.now) (sym c.in_ok-open.ensures.ok) (stays_opened c.args.store.now c.args.store.now c.args.session c.args.number c.args.node c.file_marks.result (stays_same c.args.store.now c.args.store.now refl)) in
     elim c.if-flags.branch [
       | then-flags+then-flags-2 w ↦ subst (HoldersStay c.args.store.now) (sym w.store-is) (w.truncate.ensures.holders c.args.store.now stays)
       | else-flags w ↦ subst (HoldersStay c.args.store.now) (sym w.store-is) stays

@@ -15,7 +15,7 @@ invariant_of-self g c =
       labels = record { no_path = labels.unused; no_object = labels.no_object; no_handle = labels.no_handle };
     } in
     let does : Does c.self.inside.store (c.self.inside.calls + 1) c.now-moment.result c.args.request c.from_root-reply.result c.from_root-reply.new.store =
-    λ t h n. elim (c.from_root-reply.ensures.served t h n) [ inl e ↦ inr (e.0, e.2) | inr s ↦ inl (s.told, s.tree) ] in (
+    λ t h n. elim (c.from_root-reply.ensures.served t h n) [ inl e ↦ inr (e.told, e.tree) | inr s ↦ inl (s.told, s.tree) ] in (
       omega (arith, c.self.invariant.0, c.if-self-eq-LAST_NUMBER.false),
       founded_after laws c.self.inside.store c.from_root-reply.new.store c.self.inside.calls c.now-moment.result c.args.request c.from_root-reply.result c.self.invariant.1 c.is_call.ensures does,
     )
@@ -26,7 +26,7 @@ returns g c =
     let told' = g.C.Clock.told c.now-moment.new.self in
     let moment = c.now-moment.result in
     let does : Does c.self.inside.store (c.self.inside.calls + 1) moment c.args.request c.from_root-reply.result c.from_root-reply.new.store =
-    λ t h n. elim (c.from_root-reply.ensures.served t h n) [ inl e ↦ inr (e.0, e.2) | inr s ↦ inl (s.told, s.tree) ] in
+    λ t h n. elim (c.from_root-reply.ensures.served t h n) [ inl e ↦ inr (e.told, e.tree) | inr s ↦ inl (s.told, s.tree) ] in
     let made : IsMade c.self.inside.store c.self.inside.calls told moment c.args.request c.from_root-reply.result c.from_root-reply.new.store (c.self.inside.calls + 1) told' = record {
       room = omega (arith, c.self.invariant.0, c.if-self-eq-LAST_NUMBER.false);
       number = refl;
