@@ -6,7 +6,7 @@ use sf_wire::{Owner, Times};
 const CALLS: u32 = 10_000;
 
 /// A call of this share of all is followed by its session's leaving.
-const LEAVING: u64 = 800;
+const LEAVING: u64 = 2000;
 
 const KINDS: [Kind; 10] = [
     Kind::Status(StatusCode::Success),
@@ -118,7 +118,7 @@ impl Draws {
             append: self.once_in(4),
             create: !self.once_in(3),
             truncate: self.once_in(4),
-            exclusive: self.once_in(4),
+            exclusive: self.once_in(8),
         }
     }
 
@@ -126,7 +126,7 @@ impl Draws {
         match self.below(30) {
             0 => u64::MAX,
             1 => 16_777_216,
-            offset => offset.wrapping_sub(2),
+            offset => offset - 2,
         }
     }
 
@@ -148,32 +148,39 @@ impl Draws {
     }
 }
 
-/// The latest handles of both sessions, each at the place of its session.
+/// The latest handles, each at a place of its session and of its kind.
 #[derive(Clone, Copy)]
 struct Handles {
     numbers: [u64; 32],
 }
 
 impl Handles {
-    fn place(session: u64, draws: &mut Draws) -> usize {
-        let place = draws.below(16).wrapping_mul(2).wrapping_add(session % 2);
+    fn place(session: u64, listing: bool, draws: &mut Draws) -> usize {
+        let row = (session % 2)
+            .wrapping_mul(2)
+            .wrapping_add(u64::from(listing));
+        let place = row.wrapping_mul(8).wrapping_add(draws.below(8));
         usize::try_from(place).unwrap_or(0)
     }
 
-    fn put(&mut self, session: u64, draws: &mut Draws, number: u64) {
-        if let Some(place) = self.numbers.get_mut(Handles::place(session, draws)) {
+    fn put(&mut self, session: u64, listing: bool, draws: &mut Draws, number: u64) {
+        if let Some(place) = self
+            .numbers
+            .get_mut(Handles::place(session, listing, draws))
+        {
             *place = number;
         }
     }
 
-    /// Mostly one that the session got, now and then the other's.
-    fn draw(&self, session: u64, draws: &mut Draws) -> u64 {
-        let owner = if draws.once_in(10) {
+    /// Mostly one of the session and the kind, now and then one of the other's or of the other.
+    fn draw(&self, session: u64, listing: bool, draws: &mut Draws) -> u64 {
+        let owner = if draws.once_in(12) {
             session.wrapping_add(1)
         } else {
             session
         };
-        match self.numbers.get(Handles::place(owner, draws)) {
+        let listing = listing != draws.once_in(12);
+        match self.numbers.get(Handles::place(owner, listing, draws)) {
             Some(number) => *number,
             None => 0,
         }
@@ -194,45 +201,72 @@ fn posix_rename(alloc: Global, draws: &mut Draws) -> Result<Request, Fail> {
 
 /// A request that names a path.
 fn by_path(alloc: Global, draws: &mut Draws) -> Result<Request, Fail> {
-    let kind = draws.below(17);
     let path = draws.path(alloc)?;
-    Ok(match kind {
-        0..=1 => Request::Stat(path),
-        2..=3 => Request::SetStat(path, draws.attrs()),
-        4..=6 => Request::Mkdir(path, draws.attrs()),
-        7..=8 => Request::Rmdir(path),
-        9..=10 => Request::Remove(path),
-        11..=12 => Request::OpenDir(path),
+    Ok(match draws.below(18) {
+        0 => Request::Stat(path),
+        1..=2 => Request::SetStat(path, draws.attrs()),
+        3..=5 => Request::Mkdir(path, draws.attrs()),
+        6 => Request::Rmdir(path),
+        7..=8 => Request::Remove(path),
+        9..=11 => Request::OpenDir(path),
         _ => Request::Open(path, draws.flags(), draws.attrs()),
     })
 }
 
-/// A request that names a handle.
+/// A request that names a file's handle, as a rule.
 fn by_handle(alloc: Global, draws: &mut Draws, handle: u64) -> Result<Request, Fail> {
     Ok(match draws.below(10) {
         0 => Request::Close(handle),
-        1..=2 => Request::FStat(handle),
-        3 => Request::FSetStat(handle, draws.attrs()),
-        4..=5 => Request::Read {
+        1 => Request::FStat(handle),
+        2 => Request::FSetStat(handle, draws.attrs()),
+        3..=5 => Request::Read {
             handle,
             offset: draws.offset(),
             len: draws.len(),
         },
-        6..=7 => Request::Write {
+        _ => Request::Write {
             handle,
             offset: draws.offset(),
             data: ByteString::from_slice(alloc, draws.data())?,
         },
-        _ => Request::ReadDir(handle),
     })
 }
 
-fn request(alloc: Global, draws: &mut Draws, handle: u64) -> Result<Request, Fail> {
+/// A request that names a directory's handle, as a rule.
+fn by_listing(draws: &mut Draws, handle: u64) -> Request {
+    match draws.below(10) {
+        0 => Request::Close(handle),
+        1 => Request::FStat(handle),
+        2 => Request::FSetStat(handle, draws.attrs()),
+        _ => Request::ReadDir(handle),
+    }
+}
+
+fn request(
+    alloc: Global,
+    draws: &mut Draws,
+    handles: &Handles,
+    session: u64,
+) -> Result<Request, Fail> {
     match draws.below(40) {
         0 => rename(alloc, draws),
         1 => posix_rename(alloc, draws),
         2..=19 => by_path(alloc, draws),
-        _ => by_handle(alloc, draws, handle),
+        20..=33 => {
+            let handle = handles.draw(session, false, draws);
+            by_handle(alloc, draws, handle)
+        }
+        _ => {
+            let handle = handles.draw(session, true, draws);
+            Ok(by_listing(draws, handle))
+        }
+    }
+}
+
+fn is_listing(request: &Result<Request, Fail>) -> bool {
+    match request {
+        Ok(Request::OpenDir(_)) => true,
+        _ => false,
     }
 }
 
@@ -245,11 +279,11 @@ fn call(
     handles: &mut Handles,
 ) -> Kind {
     let session = draws.below(2).wrapping_add(1);
-    let handle = handles.draw(session, draws);
-    let request = request(alloc, draws, handle);
+    let request = request(alloc, draws, handles, session);
+    let listing = is_listing(&request);
     let reply = pair.ask(rt, session, request);
     if let Reply::Handle(number) = &reply {
-        handles.put(session, draws, *number);
+        handles.put(session, listing, draws, *number);
     }
     if draws.once_in(LEAVING) {
         pair.leave(session);
