@@ -6,7 +6,7 @@ use sf_wire::{Owner, Times};
 const CALLS: u32 = 10_000;
 
 /// A call of this share of all is followed by its session's leaving.
-const LEAVING: u64 = 2000;
+const LEAVING: u64 = 1200;
 
 const KINDS: [Kind; 10] = [
     Kind::Status(StatusCode::Success),
