@@ -10,7 +10,9 @@ pub mod Parents
 pub mod PathCalls
 pub mod Undone
 pub mod Opened
-pub mod ByHandle
+pub mod OpenHandles
+pub mod SetOpened
+pub mod FileBytes
 pub mod Rows
 pub mod Dispatch
 pub mod Refused

@@ -1,5 +1,5 @@
 -- What opening makes of the tree.
-use Rattle.std.specs.Prelude.{◌≡◌, ◌≢◌, ℕ, nat_eq, ◌+◌, ◌-◌, ◌^◌, ◌<◌, min, Bool, true, false, cond, not, ◌&&◌, List, [], ◌∷◌, ◌++◌, option_map, option_and_then, Option, Some, None, Result, Ok, Err, IfOk, OnErr, refl}
+use Rattle.std.specs.Prelude.{◌≡◌, ◌≢◌, ℕ, nat_eq, ◌+◌, ◌-◌, ◌^◌, ◌<◌, min, Bool, true, false, cond, not, ◌&&◌, List, [], ◌∷◌, ◌++◌, option_map, Option, Some, None, Result, IfOk, OnErr, refl}
 use Rattle.std.specs.Option.{option_map_or}
 use Rattle.std.proofs.Common.{sym, ap, subst, ◌∙◌, eqb-true}
 use Rattle.sf_path.specs.Names.{Name, Path}
@@ -15,8 +15,8 @@ use Rattle.sf_call.specs.declared.place.Place.{Place}
 use Rattle.sf_call.specs.declared.place.Place.TheVariants.{Absent}
 use Rattle.sf_call.specs.Attributes.{Object, new_metadata, modified_at}
 use Rattle.sf_call.specs.Attributes.Object.{Directory, File}
-use Rattle.sf_call.specs.Tree.{Tree, Found, handle_of, object_of, directory_at, place_at, found_at, found_place, found_object}
-use Rattle.sf_call.specs.Changes.{Change, changed, done, touched}
+use Rattle.sf_call.specs.Tree.{Tree, Found, handle_of, object_of, place_at, found_at, found_place, found_object}
+use Rattle.sf_call.specs.Changes.{changed, done, touched}
 use Rattle.sf_call.specs.Changes.Change.{SetObject, NewPath, OpenHandle}
 use Rattle.sf_call.specs.Calls.{Answer, refuses, opens, has_all_handles, directory_handle, file_handle, open_directory, open_present, open_file, unless_root}
 use Rattle.sf_inode.specs.declared.node.Node.{Node}
@@ -25,9 +25,9 @@ use Rattle.sf_inode.specs.declared.node.Content.{Content}
 use Rattle.sf_inode.specs.declared.node.Content.TheVariants as content
 use Rattle.sf_inode.specs.declared.handle.OpenHandle as open_handle
 use Rattle.sf_inode.specs.declared.handle.Marks.{Marks}
-use Rattle.sf_inode.specs.Nodes.{object_in, stored_in, new_content, new_node, is_directory_content, with_opened, with_metadata, with_content, with_stored}
+use Rattle.sf_inode.specs.Nodes.{object_in, stored_in, new_node, is_directory_content, with_opened, with_metadata, with_content, with_stored}
 use Rattle.sf_inode.specs.Steps.{walk}
-use Rattle.sf_inode.specs.Stores.{StoreState, Inserted, node_in, entry_of, is_directory_at, shown_node, shown_of, shown_handle, holder_of, stored_of, edited, bytes_set, handle_put, opened_at, opened}
+use Rattle.sf_inode.specs.Stores.{StoreState, node_in, entry_of, is_directory_at, shown_node, shown_of, shown_handle, stored_of, edited, bytes_set, handle_put, opened_at, opened}
 use Rattle.sf_inode.specs.Keeps.{Keeps}
 use Rattle.sf_walk.specs.Ways.{missing, way_from, last_of, found_content, found_node}
 use Rattle.sf_walk.specs.declared.finding.Located.TheVariants as located

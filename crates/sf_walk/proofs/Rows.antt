@@ -28,7 +28,7 @@ use Rattle.sf_inode.specs.Stores.{StoreState, node_in, entries_at, is_directory_
 use Rattle.sf_inode.specs.Keeps.{Keeps}
 use Rattle.sf_walk.specs.Served.{IsServed}
 use Rattle.sf_walk.proofs.Told.{tells_served}
-use Rattle.sf_walk.proofs.ByHandle.{FindsHandle, FindsNode, node_of, opened_is, directory_is}
+use Rattle.sf_walk.proofs.OpenHandles.{IsOpen, directory_is}
 
 -- ---- a node's entry
 pub entry_listed : (nodes : List (Option Node)) (name : Name) (id : ℕ) (attrs : Attrs) (e : Entry) → Some attrs ≡ option_map (λ (it : Node). attrs_of (object_in it.metadata it.content)) (node_in nodes id)
@@ -112,35 +112,33 @@ refuse_content : (t : Tree) (number : ℕ) (h : Handle) (m : Metadata) (c : Cont
 refuse_content t number h m (content.Directory es) e = absurd (let x : ⊥ = cc in x)
 refuse_content t number h m (content.File contents) e = refl
 
-module _ (finds : FindsHandle) (s : StoreState) (t : Tree) (session number : ℕ) (h : OpenHandle) (keeps : Keeps s t) (at : Some h ≡ handle_at s session number) (nodes : FindsNode) where
+module _ (s : StoreState) (t : Tree) (session number : ℕ) (h : OpenHandle) (o : IsOpen s t session number h) where
   pub list_refused : false ≡ is_directory_at s.nodes h.node → IsServed s t (read_directory t number (opened t session number)) (reply.Status Failure)
   list_refused d =
-      let w = node_of finds s t session number h keeps at nodes in
       tells_served s t (read_directory t number (opened t session number)) (reply.Status Failure)
-      (ap (read_directory t number) (opened_is finds s t session number h keeps at nodes)
-      ∙ refuse_content t number (shown_handle session h) w.0.metadata w.0.content (sym (d ∙ directory_is finds s t session number h keeps at nodes))) keeps
+      (ap (read_directory t number) o.opens
+      ∙ refuse_content t number (shown_handle session h) o.node.metadata o.node.content (sym (d ∙ directory_is s t session number h o))) o.keeps
 
   module _ (law : ListsTree) (d : true ≡ is_directory_at s.nodes h.node) (rows : List (Name × ℕ)) (are : rows ≡ take MAX_ENTRIES (sorted_past h.listed (entries_at s.nodes h.node))) where
     answer_is : read_directory t number (opened t session number) ≡ lists number (shown_handle session h) (filter_map (listed_entry s.nodes) rows)
     answer_is =
-        let w = node_of finds s t session number h keeps at nodes in
-        ap (read_directory t number) (opened_is finds s t session number h keeps at nodes)
-        ∙ list_content t number (shown_handle session h) w.0.metadata w.0.content (sym (d ∙ directory_is finds s t session number h keeps at nodes))
-        ∙ ap (λ l. lists number (shown_handle session h) (listing_of t h.listed (path_of t.names l))) (sym w.1.1)
-        ∙ ap (lists number (shown_handle session h)) (law s t h.node w.0 h.listed keeps w.1.0 (sym d) ∙ ap (λ (es : List (Name × ℕ)). filter_map (listed_entry s.nodes) es) (sym are))
+        ap (read_directory t number) o.opens
+        ∙ list_content t number (shown_handle session h) o.node.metadata o.node.content (sym (d ∙ directory_is s t session number h o))
+        ∙ ap (λ l. lists number (shown_handle session h) (listing_of t h.listed (path_of t.names l))) (sym o.label)
+        ∙ ap (lists number (shown_handle session h)) (law s t h.node o.node h.listed o.keeps o.there (sym d) ∙ ap (λ (es : List (Name × ℕ)). filter_map (listed_entry s.nodes) es) (sym are))
 
     pub list_ended : rows ≡ [] → IsServed s t (read_directory t number (opened t session number)) (reply.Status EndOfFile)
     list_ended none =
         tells_served s t (read_directory t number (opened t session number)) (reply.Status EndOfFile)
-        (answer_is ∙ ap (λ (es : List (Name × ℕ)). lists number (shown_handle session h) (filter_map (listed_entry s.nodes) es)) none) keeps
+        (answer_is ∙ ap (λ (es : List (Name × ℕ)). lists number (shown_handle session h) (filter_map (listed_entry s.nodes) es)) none) o.keeps
 
     pub list_served : NamesRows → SetsListed → (new : StoreState) (last : Name) (id : ℕ) (entries : List Entry) → slice_get rows (length rows - 1) ≡ Some (last, id) → entries ≡ filter_map (listed_entry s.nodes) rows
         → new ≡ handle_listed s session number last → IsServed new t (read_directory t number (opened t session number)) (reply.Names entries)
     list_served names sets new last id entries end listed state =
         let named : last_name entries ≡ Some last =
-        ap last_name (listed ∙ ap (λ (es : List (Name × ℕ)). filter_map (listed_entry s.nodes) es) are) ∙ ap (last_or None) (names s t h.node h.listed keeps)
+        ap last_name (listed ∙ ap (λ (es : List (Name × ℕ)). filter_map (listed_entry s.nodes) es) are) ∙ ap (last_or None) (names s t h.node h.listed o.keeps)
         ∙ ap (λ (es : List (Name × ℕ)). last_or None (map (λ (e : Name × ℕ). e.0) es)) (sym are) ∙ last_of_rows rows last id end in
         subst (λ (x : StoreState). IsServed x t (read_directory t number (opened t session number)) (reply.Names entries)) (sym state)
         (subst (λ (a : Answer). IsServed (handle_listed s session number last) t a (reply.Names entries))
         (sym (answer_is ∙ ap (lists number (shown_handle session h)) (sym listed) ∙ lists_last number (shown_handle session h) entries last named))
-        (record { told = refl; tree = sets s t session number last h keeps (sym at) }))
+        (record { told = refl; tree = sets s t session number last h o.keeps o.at }))

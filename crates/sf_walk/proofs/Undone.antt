@@ -1,5 +1,5 @@
 -- A new node whose entry is taken out again: what was there before is there.
-use Rattle.std.specs.Prelude.{◌≡◌, ◌≢◌, ℕ, nat_eq, Bool, true, false, cond, not, List, [], ◌∷◌, ◌++◌, filter, option_map, option_and_then, Option, Some, None, slice_set, refl}
+use Rattle.std.specs.Prelude.{◌≡◌, ◌≢◌, ℕ, nat_eq, true, false, cond, not, List, [], ◌∷◌, ◌++◌, filter, option_map, option_and_then, Option, Some, None, slice_set, refl}
 use Rattle.std.specs.Option.{option_map_or}
 use Rattle.std.specs.Map.{lookup}
 use Rattle.std.proofs.Common.{sym, ap, subst, ◌∙◌, eqb-true, eq-eqb}
@@ -10,7 +10,7 @@ use Rattle.sf_inode.specs.declared.node.Node.{Node}
 use Rattle.sf_inode.specs.declared.node.Content.{Content}
 use Rattle.sf_inode.specs.declared.node.Content.TheVariants as content
 use Rattle.sf_inode.specs.Nodes.{entry_in, is_directory_content, less_content, more_content, with_content, without_name}
-use Rattle.sf_inode.specs.Stores.{StoreState, node_in, entry_of, is_directory_at, with_nodes, edited_by, edited, entry_taken, entry_put, released_if, unlinked_from, unlinked, Inserted}
+use Rattle.sf_inode.specs.Stores.{StoreState, node_in, entry_of, is_directory_at, with_nodes, edited_by, edited, entry_taken, released_if, unlinked_from, unlinked, Inserted}
 use Rattle.sf_walk.specs.Served.{IsAlike}
 use Rattle.sf_walk.proofs.Holders.{apart, node_in-set}
 

@@ -1,7 +1,7 @@
 use Rattle.std.proofs.Common.{ap, ◌∙◌, List, ℕ}
 use Rattle.sf_call.specs.Contents.{written}
 use Rattle.sf_inode.specs.Stores.{stored_of, bytes_set}
-use Rattle.sf_walk.proofs.ByHandle.{put_keeps}
+use Rattle.sf_walk.proofs.FileBytes.{put_keeps}
 use Rattle.sf_walk.proofs.handle_calls.put_bytes.Goals as goal
 
 pub returns-clause-tree : goal.returns-clause-tree

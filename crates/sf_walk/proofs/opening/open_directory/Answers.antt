@@ -1,7 +1,6 @@
-use Rattle.std.proofs.Common.{◌≡◌, ap, refl, sym, subst, ◌∙◌, length}
+use Rattle.std.proofs.Common.{refl, length}
 use Rattle.sf_call.specs.Calls.{open_directory}
-use Rattle.sf_walk.specs.Served.{IsServed, IsAlike}
-use Rattle.sf_walk.proofs.Holders.{stays_looked, alike_looked}
+use Rattle.sf_walk.proofs.Holders.{stays_looked}
 use Rattle.sf_walk.proofs.PathCalls.{no_way_served, missing_served}
 use Rattle.sf_walk.proofs.Looked.{keeps_looked, stays_after}
 use Rattle.sf_walk.proofs.Opened.{listing_located, alike_err}

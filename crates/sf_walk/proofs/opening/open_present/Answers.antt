@@ -1,7 +1,7 @@
 use Rattle.std.proofs.Common.{◌≡◌, false, refl, sym, ap, subst, ◌∙◌, ◌&&◌}
 use Rattle.sf_inode.specs.Stores.{opened}
 use Rattle.sf_walk.specs.Opening.{marks_of}
-use Rattle.sf_walk.specs.Served.{HoldersStay, IsServed}
+use Rattle.sf_walk.specs.Served.{HoldersStay}
 use Rattle.sf_walk.proofs.Holders.{stays_opened, stays_same}
 use Rattle.sf_walk.proofs.Opened.{kind_there, present_served, present_cut}
 use Rattle.sf_walk.proofs.opening.open_present.Goals.{then-flags+then-flags-2, else-flags, else-flags-via-then-flags+else-flags-2, else-flags-via-else-flags}

@@ -1,11 +1,7 @@
-use Rattle.std.proofs.Common.{refl, sym, subst, ap, ◌∙◌, []}
+use Rattle.std.proofs.Common.{refl, sym, subst, []}
 use Rattle.sf_call.specs.Attributes.{modified_at}
-use Rattle.sf_call.specs.Attributes.Object.{File}
 use Rattle.sf_inode.specs.Nodes.{with_metadata, with_content, with_stored}
-use Rattle.sf_inode.specs.Stores.{edited, stored_of, bytes_set}
-use Rattle.sf_inode.specs.Keeps.{Keeps}
-use Rattle.sf_call.specs.Changes.{changed}
-use Rattle.sf_call.specs.Changes.Change.{SetObject}
+use Rattle.sf_inode.specs.Stores.{stored_of}
 use Rattle.sf_walk.specs.Served.{HoldersStay}
 use Rattle.sf_walk.proofs.Holders.{stays_edited}
 use Rattle.sf_walk.proofs.Opened.{cut_served}

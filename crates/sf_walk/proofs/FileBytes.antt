@@ -1,0 +1,174 @@
+-- Reading and writing a file's bytes.
+use Rattle.std.specs.Prelude.{◌≡◌, ◌↔◌, IsTrue, ℕ, ◌+◌, ◌-◌, ◌<◌, min, nat_lt, nat_le, Bool, true, false, not, if◌then◌else◌, List, [], ◌∷◌, length, take, drop, option_map, Option, Some, None, refl}
+use Rattle.std.specs.Option.{option_map_or}
+use Rattle.std.proofs.lemmas.Bool.Decides.{nat_tests}
+use Rattle.std.proofs.lemmas.List.{length-drop, take_min}
+use Rattle.std.proofs.Common.{sym, ap, subst, ◌∙◌, arith}
+use Rattle.sf_reply.specs.declared.reply.Reply.TheVariants as reply
+use Rattle.sf_reply.specs.declared.reply.StatusCode.TheVariants.{Success, EndOfFile, PermissionDenied, Failure}
+use Rattle.sf_call.specs.declared.handle.Handle.{Handle}
+use Rattle.sf_call.specs.declared.metadata.Metadata.{Metadata}
+use Rattle.sf_call.specs.declared.limits.TheConstants.{MAX_FILE_SIZE, MAX_READ}
+use Rattle.sf_call.specs.Attributes.{modified_at}
+use Rattle.sf_call.specs.Attributes.Object.{File}
+use Rattle.sf_call.specs.Contents.{written}
+use Rattle.sf_call.specs.Tree.{Tree, is_nil}
+use Rattle.sf_call.specs.Handles.{Opened, opened, opened_object}
+use Rattle.sf_call.specs.Handles.Opened.{OpenDirectory, OpenFile}
+use Rattle.sf_call.specs.Changes.{changed}
+use Rattle.sf_call.specs.Changes.Change.{SetObject}
+use Rattle.sf_call.specs.Calls.{Answer, tells, refuses, succeeds, read, write, start_of}
+use Rattle.sf_inode.specs.declared.node.Node.{Node}
+use Rattle.sf_inode.specs.declared.node.Content.{Content}
+use Rattle.sf_inode.specs.declared.node.Content.TheVariants as content
+use Rattle.sf_inode.specs.declared.handle.OpenHandle.{OpenHandle}
+use Rattle.sf_inode.specs.Nodes.{object_in, stored_in, with_stored, with_content, with_metadata, is_file_content}
+use Rattle.sf_inode.specs.Stores.{StoreState, node_in, stored_of, bytes_set, is_file_at, shown_of, shown_node, shown_handle, edited}
+use Rattle.sf_inode.specs.Keeps.{Keeps}
+use Rattle.sf_walk.specs.Files.{file_size}
+use Rattle.sf_walk.specs.Served.{IsServed}
+use Rattle.sf_walk.proofs.Told.{tells_served}
+use Rattle.sf_walk.proofs.SetNodes.{SetsFile, SetsBytes, SetsAgain, EditsItself, shown_stored, stored_bytes}
+use Rattle.sf_walk.proofs.OpenHandles.{IsOpen, file_is}
+
+no_file : (f : Opened → Answer) → ((handle : Handle) (m : Metadata) → f (OpenDirectory handle m) ≡ refuses Failure) → (handle : Handle) (m : Metadata) (c : Content) → is_file_content c ≡ false
+    → f (opened_object handle (Some (object_in m c))) ≡ refuses Failure
+no_file f law handle m (content.Directory es) e = law handle m
+no_file f law handle m (content.File contents) e = cc
+
+write_past : (moment offset start : ℕ) (bytes : List ℕ) (handle : Handle) (m : Metadata) (contents : List ℕ) → handle.write ≡ true → is_nil bytes ≡ false → start_of handle contents offset ≡ start
+    → nat_lt MAX_FILE_SIZE (start + length bytes) ≡ true → write moment offset bytes (OpenFile handle m contents) ≡ refuses Failure
+write_past moment offset start bytes handle m contents w some from past =
+    let ok = succeeds (SetObject handle.label (File (modified_at moment m) (written contents (start_of handle contents offset) bytes)) ∷ []) in
+    let limit : Bool = nat_lt MAX_FILE_SIZE (start_of handle contents offset + length bytes) in
+    (λ i. if not (w i) then refuses PermissionDenied else if is_nil bytes then succeeds [] else if limit then refuses Failure else ok)
+    ∙ (λ i. if some i then succeeds [] else if limit then refuses Failure else ok)
+    ∙ (λ i. if nat_lt MAX_FILE_SIZE (from i + length bytes) then refuses Failure else ok)
+    ∙ (λ i. if past i then refuses Failure else ok)
+
+write_within : (moment offset start : ℕ) (bytes : List ℕ) (handle : Handle) (m : Metadata) (contents : List ℕ) → handle.write ≡ true → is_nil bytes ≡ false → start_of handle contents offset ≡ start
+    → nat_lt MAX_FILE_SIZE (start + length bytes) ≡ false
+    → write moment offset bytes (OpenFile handle m contents) ≡ succeeds (SetObject handle.label (File (modified_at moment m) (written contents start bytes)) ∷ [])
+write_within moment offset start bytes handle m contents w some from past =
+    let ok = λ (k : ℕ). succeeds (SetObject handle.label (File (modified_at moment m) (written contents k bytes)) ∷ []) in
+    (λ i. if not (w i) then refuses PermissionDenied else if is_nil bytes then succeeds [] else if nat_lt MAX_FILE_SIZE (start_of handle contents offset + length bytes) then refuses Failure else ok (start_of handle contents offset))
+    ∙ (λ i. if some i then succeeds [] else if nat_lt MAX_FILE_SIZE (start_of handle contents offset + length bytes) then refuses Failure else ok (start_of handle contents offset))
+    ∙ (λ i. if nat_lt MAX_FILE_SIZE (from i + length bytes) then refuses Failure else ok (from i))
+    ∙ (λ i. if past i then refuses Failure else ok start)
+
+within : (a b : ℕ) → b < a → nat_le a b ≡ false
+within a b h = grind (arith, nat_tests)
+
+read_within : (offset len : ℕ) (handle : Handle) (m : Metadata) (contents : List ℕ) → handle.read ≡ true → offset < length contents
+    → read offset len (OpenFile handle m contents) ≡ tells (reply.Data (take (min len MAX_READ) (drop offset contents)))
+read_within offset len handle m contents r less =
+    (λ i. if not (r i) then refuses PermissionDenied else if nat_le (length contents) offset then refuses EndOfFile else tells (reply.Data (take (min len MAX_READ) (drop offset contents))))
+    ∙ (λ i. if within (length contents) offset less i then refuses EndOfFile else tells (reply.Data (take (min len MAX_READ) (drop offset contents))))
+
+pub some_bytes : (b : Bool) (bytes : List ℕ) → (IsTrue b ↔ (bytes ≡ [])) → b ≡ false → is_nil bytes ≡ false
+some_bytes b [] h e = let t : b ≡ true = h.1 refl in cc
+some_bytes b (x ∷ xs) h e = refl
+
+-- ---- sizes
+size_is : (nodes : List (Option Node)) (id size : ℕ) → Some size ≡ file_size nodes id → (is_file_at nodes id ≡ true) × (size ≡ length (stored_of nodes id).bytes)
+size_is nodes id size e =
+    elim (is_file_at nodes id) as (λ b. is_file_at nodes id ≡ b → Some size ≡ (if b then Some (length (stored_of nodes id).bytes) else None) → (is_file_at nodes id ≡ true) × (size ≡ length (stored_of nodes id).bytes)) [
+      | true ↦ λ f q. (f, (let w : size ≡ length (stored_of nodes id).bytes = cc in w))
+      | false ↦ λ f q. absurd (let x : ⊥ = cc in x)
+    ] refl e
+
+no_size : (nodes : List (Option Node)) (id : ℕ) → None ≡ file_size nodes id → is_file_at nodes id ≡ false
+no_size nodes id e =
+    elim (is_file_at nodes id) as (λ b. is_file_at nodes id ≡ b → None ≡ (if b then Some (length (stored_of nodes id).bytes) else None) → is_file_at nodes id ≡ false) [
+      | true ↦ λ f q. absurd (let x : ⊥ = cc in x)
+      | false ↦ λ f q. f
+    ] refl e
+
+pub size_file : (nodes : List (Option Node)) (id size : ℕ) → Some size ≡ file_size nodes id → is_file_at nodes id ≡ true
+size_file nodes id size e = (size_is nodes id size e).0
+
+pub size_length : (nodes : List (Option Node)) (id size : ℕ) → Some size ≡ file_size nodes id → size ≡ length (stored_of nodes id).bytes
+size_length nodes id size e = (size_is nodes id size e).1
+
+-- what a file shows, and what is open then
+abbrev pub IsOpenFile : List (Option Node) → ℕ → ℕ → Handle → Opened → Type 0
+IsOpenFile nodes id label handle o = (m : Metadata) × ((shown_of nodes id ≡ Some (label, File m (stored_of nodes id).bytes)) × (o ≡ OpenFile handle m (stored_of nodes id).bytes))
+
+file_content : (nodes : List (Option Node)) (id l label : ℕ) (handle : Handle) (o : Opened) (m : Metadata) (c : Content) → shown_of nodes id ≡ Some (l, object_in m c) → (stored_of nodes id).bytes ≡ (stored_in c).bytes
+    → l ≡ label → o ≡ opened_object handle (Some (object_in m c)) → is_file_content c ≡ true → IsOpenFile nodes id label handle o
+file_content nodes id l label handle o m (content.Directory es) shows bytes e is f = absurd (let x : ⊥ = cc in x)
+file_content nodes id l label handle o m (content.File contents) shows bytes e is f = (m, (shows ∙ (λ i. Some (e i, File m (sym bytes i))), is ∙ ap (OpenFile handle m) (sym bytes)))
+
+-- ---- READ and WRITE
+module _ (s : StoreState) (t : Tree) (session number : ℕ) (h : OpenHandle) (o : IsOpen s t session number h) where
+  open_file : is_file_at s.nodes h.node ≡ true → IsOpenFile s.nodes h.node h.label (shown_handle session h) (opened t session number)
+  open_file f =
+      file_content s.nodes h.node o.node.label h.label (shown_handle session h) (opened t session number) o.node.metadata o.node.content (ap (option_map shown_node) o.there)
+      (ap (λ (o : Option Node). (option_map_or (λ (node : Node). stored_in node.content) o (record { bytes = []; room = 0 })).bytes) o.there) o.label o.opens (sym (file_is s t session number h o) ∙ f)
+
+  pub refused : (f : Opened → Answer) → ((handle : Handle) (m : Metadata) → f (OpenDirectory handle m) ≡ refuses Failure) → None ≡ file_size s.nodes h.node → f (opened t session number) ≡ refuses Failure
+  refused f law none = ap f o.opens ∙ no_file f law (shown_handle session h) o.node.metadata o.node.content (sym (file_is s t session number h o) ∙ no_size s.nodes h.node none)
+
+  pub refused_served : (f : Opened → Answer) → ((handle : Handle) (m : Metadata) → f (OpenDirectory handle m) ≡ refuses Failure) → None ≡ file_size s.nodes h.node → IsServed s t (f (opened t session number)) (reply.Status Failure)
+  refused_served f law none = tells_served s t (f (opened t session number)) (reply.Status Failure) (refused f law none) o.keeps
+
+  pub read_is : (offset len size : ℕ) → Some size ≡ file_size s.nodes h.node → h.marks.read ≡ true → offset < size
+      → (read offset len (opened t session number)).reply ≡ reply.Data (take (min len MAX_READ) (drop offset (stored_of s.nodes h.node).bytes))
+  read_is offset len size e r less =
+      let w = size_is s.nodes h.node size e in
+      let f = open_file w.0 in
+      let more : offset < length (stored_of s.nodes h.node).bytes = subst (λ (k : ℕ). offset < k) w.1 less in
+      ap (λ (a : Answer). a.reply) (ap (read offset len) f.1.1 ∙ read_within offset len (shown_handle session h) f.0 (stored_of s.nodes h.node).bytes r more)
+
+  pub read_data : (offset len size count : ℕ) (items : List ℕ) → Some size ≡ file_size s.nodes h.node → h.marks.read ≡ true → offset < size → count ≡ min (min len MAX_READ) (size - offset)
+      → items ≡ take count (drop offset (stored_of s.nodes h.node).bytes) → reply.Data items ≡ (read offset len (opened t session number)).reply
+  read_data offset len size count items e r less counted taken =
+      let rest = drop offset (stored_of s.nodes h.node).bytes in
+      let most : count ≡ min (min len MAX_READ) (length rest) =
+      counted ∙ ap (λ k. min (min len MAX_READ) (k - offset)) (size_is s.nodes h.node size e).1 ∙ ap (min (min len MAX_READ)) (sym (length-drop offset (stored_of s.nodes h.node).bytes)) in
+      ap reply.Data (taken ∙ ap (λ k. take k rest) most ∙ take_min (min len MAX_READ) rest) ∙ sym (read_is offset len size e r less)
+
+  module _ (offset start size : ℕ) (bytes : List ℕ) (e : Some size ≡ file_size s.nodes h.node) (marked : h.marks.write ≡ true) (some : is_nil bytes ≡ false) (from : start ≡ (if h.marks.append then size else offset)) where
+    starts : start_of (shown_handle session h) (stored_of s.nodes h.node).bytes offset ≡ start
+    starts = sym (from ∙ ap (λ k. if h.marks.append then k else offset) (size_is s.nodes h.node size e).1)
+
+    pub write_refused : (moment : ℕ) → true ≡ nat_lt MAX_FILE_SIZE (start + length bytes) → IsServed s t (write moment offset bytes (opened t session number)) (reply.Status Failure)
+    write_refused moment past =
+        let f = open_file (size_is s.nodes h.node size e).0 in
+        tells_served s t (write moment offset bytes (opened t session number)) (reply.Status Failure)
+        (ap (write moment offset bytes) f.1.1 ∙ write_past moment offset start bytes (shown_handle session h) f.0 (stored_of s.nodes h.node).bytes marked some starts (sym past)) o.keeps
+
+    pub write_served : (new : StoreState) (moment : ℕ) → false ≡ nat_lt MAX_FILE_SIZE (start + length bytes)
+        → ((u : Tree) (label : ℕ) (m : Metadata) (contents : List ℕ) → Keeps s u → shown_of s.nodes h.node ≡ Some (label, File m contents) → Keeps new (changed u (SetObject label (File (modified_at moment m) (written contents start bytes)))))
+        → IsServed new t (write moment offset bytes (opened t session number)) (reply.Status Success)
+    write_served new moment past law =
+        let f = open_file (size_is s.nodes h.node size e).0 in
+        subst (λ (a : Answer). IsServed new t a (reply.Status Success))
+        (sym (ap (write moment offset bytes) f.1.1 ∙ write_within moment offset start bytes (shown_handle session h) f.0 (stored_of s.nodes h.node).bytes marked some starts (sym past)))
+        (record { told = refl; tree = law t h.label f.0 (stored_of s.nodes h.node).bytes o.keeps f.1.0 })
+
+abbrev pub Reserves : Type 0
+Reserves = (s after : StoreState) (t : Tree) (id : ℕ) → Keeps s t → Keeps (bytes_set s id (stored_of s.nodes id).bytes after) t
+
+-- ---- bytes are put into a file
+module _ (reserves : Reserves) (puts : SetsBytes) (marks : SetsFile) (again : SetsAgain) (itself : EditsItself) where
+  shows_bytes : (s new : StoreState) (id label : ℕ) (m : Metadata) (old bytes : List ℕ) → shown_of s.nodes id ≡ Some (label, File m old) → new ≡ bytes_set s id bytes new → shown_of new.nodes id ≡ Some (label, File m bytes)
+  shows_bytes s new id label m old bytes shows state =
+      ap (λ (x : StoreState). shown_of x.nodes id) state ∙ ap (option_map shown_node) (itself (with_content (with_stored (record { bytes = bytes; room = (stored_of new.nodes id).room }))) s id)
+      ∙ shown_stored (node_in s.nodes id) label m old (record { bytes = bytes; room = (stored_of new.nodes id).room }) shows
+
+  pub put_keeps : (s first second new : StoreState) (t : Tree) (id label moment start : ℕ) (m : Metadata) (old bytes : List ℕ) → Keeps s t → shown_of s.nodes id ≡ Some (label, File m old)
+      → first ≡ bytes_set s id (stored_of s.nodes id).bytes first → second ≡ bytes_set first id (written (stored_of first.nodes id).bytes start bytes) second → new ≡ edited (with_metadata (modified_at moment)) second id
+      → Keeps new (changed t (SetObject label (File (modified_at moment m) (written old start bytes))))
+  put_keeps s first second new t id label moment start m old bytes keeps shows reserved put marked =
+      let keeps_first : Keeps first t = subst (λ (x : StoreState). Keeps x t) (sym reserved) (reserves s first t id keeps) in
+      let shows_first : shown_of first.nodes id ≡ Some (label, File m old) =
+      shows_bytes s first id label m old (stored_of s.nodes id).bytes shows reserved ∙ ap (λ (b : List ℕ). Some (label, File m b)) (stored_bytes (node_in s.nodes id) label m old shows) in
+      let after = written old start bytes in
+      let state : second ≡ bytes_set first id after second = put ∙ ap (λ (b : List ℕ). bytes_set first id (written b start bytes) second) (stored_bytes (node_in first.nodes id) label m old shows_first) in
+      let one = changed t (SetObject label (File m after)) in
+      let keeps_second : Keeps second one = subst (λ (x : StoreState). Keeps x one) (sym state) (puts first second t id label m old after keeps_first shows_first) in
+      let shows_second : shown_of second.nodes id ≡ Some (label, File m after) = shows_bytes first second id label m old after shows_first state in
+      let keeps_new : Keeps new (changed one (SetObject label (File (modified_at moment m) after))) =
+      subst (λ (x : StoreState). Keeps x (changed one (SetObject label (File (modified_at moment m) after)))) (sym marked) (marks (modified_at moment) second one id label m after keeps_second shows_second) in
+      subst (λ (u : Tree). Keeps new u) (again t label (File m after) (File (modified_at moment m) after)) keeps_new

@@ -1,0 +1,57 @@
+-- What a handle opens, in the store and in the tree that it keeps.
+use Rattle.std.specs.Prelude.{◌≡◌, ℕ, false, option_map, Option, Some, refl}
+use Rattle.std.specs.Option.{option_map_or}
+use Rattle.std.proofs.Common.{sym, ap, subst, ◌∙◌}
+use Rattle.sf_reply.specs.declared.reply.Reply.TheVariants as reply
+use Rattle.sf_reply.specs.declared.reply.StatusCode.TheVariants.{Success}
+use Rattle.sf_call.specs.declared.handle.Handle.{Handle}
+use Rattle.sf_call.specs.Tree.{Tree, object_of}
+use Rattle.sf_call.specs.Handles.{handle_in, opened, opened_by, opened_object}
+use Rattle.sf_call.specs.Changes.{changed}
+use Rattle.sf_call.specs.Changes.Change.{CloseHandle}
+use Rattle.sf_call.specs.Calls.{close}
+use Rattle.sf_inode.specs.declared.node.Node.{Node}
+use Rattle.sf_inode.specs.declared.handle.OpenHandle.{OpenHandle}
+use Rattle.sf_inode.specs.Nodes.{object_in, is_directory_content, is_file_content}
+use Rattle.sf_inode.specs.Stores.{StoreState, node_in, is_directory_at, is_file_at, handle_at, shown_handle, closed}
+use Rattle.sf_inode.specs.Keeps.{Keeps}
+use Rattle.sf_walk.specs.Served.{IsServed}
+
+abbrev pub FindsHandle : Type 0
+FindsHandle = (s : StoreState) (t : Tree) (session number : ℕ) → Keeps s t → handle_in t session number ≡ option_map (shown_handle session) (handle_at s session number)
+
+abbrev pub FindsNode : Type 0
+FindsNode = (s : StoreState) (t : Tree) (session number : ℕ) (h : OpenHandle) → Keeps s t → handle_at s session number ≡ Some h
+    → (node : Node) × ((node_in s.nodes h.node ≡ Some node) × (node.label ≡ h.label) × (object_of t.objects h.label ≡ Some (object_in node.metadata node.content)))
+
+abbrev pub ClosesOne : Type 0
+ClosesOne = (s : StoreState) (t : Tree) (session number : ℕ) (h : OpenHandle) → Keeps s t → handle_at s session number ≡ Some h → Keeps (closed s session number) (changed t (CloseHandle number))
+
+-- A session's handle, whose node is there. The tree has the handle too, and the node's object.
+pub record IsOpen (s : StoreState) (t : Tree) (session number : ℕ) (h : OpenHandle) : Type 0 where
+  pub keeps : Keeps s t
+  pub at : handle_at s session number ≡ Some h
+  pub handle : handle_in t session number ≡ Some (shown_handle session h)
+  pub node : Node
+  pub there : node_in s.nodes h.node ≡ Some node
+  pub label : node.label ≡ h.label
+  pub opens : opened t session number ≡ opened_object (shown_handle session h) (Some (object_in node.metadata node.content))
+
+pub is_open : FindsHandle → FindsNode → (s : StoreState) (t : Tree) (session number : ℕ) (h : OpenHandle) → Keeps s t → Some h ≡ handle_at s session number → IsOpen s t session number h
+is_open finds nodes s t session number h keeps at =
+    let found = nodes s t session number h keeps (sym at) in
+    let handle : handle_in t session number ≡ Some (shown_handle session h) = finds s t session number keeps ∙ ap (option_map (shown_handle session)) (sym at) in
+    record { keeps = keeps; at = sym at; handle = handle; node = found.0; there = found.1.0; label = found.1.1; opens = ap (opened_by t) handle ∙ ap (opened_object (shown_handle session h)) found.1.2 }
+
+module _ (s : StoreState) (t : Tree) (session number : ℕ) (h : OpenHandle) (o : IsOpen s t session number h) where
+  pub directory_is : is_directory_at s.nodes h.node ≡ is_directory_content o.node.content
+  directory_is = ap (λ (n : Option Node). option_map_or (λ (node : Node). is_directory_content node.content) n false) o.there
+
+  pub file_is : is_file_at s.nodes h.node ≡ is_file_content o.node.content
+  file_is = ap (λ (n : Option Node). option_map_or (λ (node : Node). is_file_content node.content) n false) o.there
+
+  -- ---- CLOSE
+  pub close_served : ClosesOne → (new : StoreState) → new ≡ closed s session number → IsServed new t (close number (handle_in t session number)) (reply.Status Success)
+  close_served law new state =
+      subst (λ (x : StoreState). IsServed x t (close number (handle_in t session number)) (reply.Status Success)) (sym state)
+      (subst (λ (a : Option Handle). IsServed (closed s session number) t (close number a) (reply.Status Success)) (sym o.handle) (record { told = refl; tree = law s t session number h o.keeps o.at }))
