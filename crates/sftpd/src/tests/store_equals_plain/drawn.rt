@@ -5,7 +5,7 @@ use sf_wire::{Owner, Times};
 
 const CALLS: u32 = 10_000;
 
-/// A call of this share of all is followed by its session's leaving.
+/// A session leaves after one of so many calls, by the draws.
 const LEAVING: u64 = 1200;
 
 const KINDS: [Kind; 10] = [
@@ -172,7 +172,7 @@ impl Handles {
         }
     }
 
-    /// Mostly one of the session and the kind, now and then one of the other's or of the other.
+    /// As a rule one of the session and of the kind.
     fn draw(&self, session: u64, listing: bool, draws: &mut Draws) -> u64 {
         let owner = if draws.once_in(12) {
             session.wrapping_add(1)
