@@ -14,6 +14,7 @@ use std::test::*;
 use std::time::Duration;
 
 mod requests;
+mod store_equals_plain;
 
 const INIT: &str = "00000005 01 00000003";
 
