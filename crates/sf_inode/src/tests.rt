@@ -204,3 +204,27 @@ fn entries_in_the_order_of_their_names(rt: HostRuntime) -> Result<(), Fail> {
     assert_eq!(rt; names.next().ok_or("one")?.as_slice(), b"x".as_slice());
     Ok(())
 }
+
+/// Of a chain of directories and a file the file is left, under its number.
+#[test]
+fn trimmed_nodes_stay(rt: HostRuntime) -> Result<(), Fail> {
+    let alloc = rt.alloc();
+    let mut store = Store::new(alloc)?;
+    let root = store.root();
+    let kept = store.insert(root, name(alloc, b"/k")?, made(1, FileType::File))?;
+    store.set_len(kept, 3)?;
+    let mut chain = Vec::new(alloc);
+    let mut last = root;
+    for label in 2..66 {
+        chain.push(last)?;
+        last = store.insert(last, name(alloc, b"/d")?, made(label, FileType::Directory))?;
+    }
+    for above in chain.iter().rev() {
+        store.unlink(*above, &name(alloc, b"/d")?);
+        store.trim();
+    }
+    assert_eq!(rt; store.attrs(last), None);
+    assert_eq!(rt; size(&rt, &store, kept), Some(3));
+    assert_eq!(rt; store.find(root, &name(alloc, b"/k")?), Some(kept));
+    Ok(())
+}
