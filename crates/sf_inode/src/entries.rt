@@ -70,11 +70,27 @@ impl Entries {
     pub(crate) fn remove(&mut self, name: &Name)
         ensures { self.new ≡ filter (λ e. not (same_name name.now e.0)) self.old }
     {
+        self.keep_others(name);
+        self.trim();
+    }
+
+    fn keep_others(&mut self, name: &Name)
+        ensures { self.new ≡ filter (λ e. not (same_name name.now e.0)) self.old }
+    {
         self.items.retain(
             |entry: &(Name, NodeId)| -> bool
                 ensures { result ≡ not (same_name name.entry.now entry.now.0) }
             { !(*name == entry.0) },
         );
+    }
+
+    /// Gives back memory, where few entries are left of many.
+    fn trim(&mut self)
+        ensures { self.new ≡ self.old }
+    {
+        if self.items.len() <= self.items.capacity() / 4 {
+            self.items.shrink_to_fit();
+        }
     }
 
     fn index_of(&self, name: &Name) -> Option<usize>
