@@ -16,6 +16,9 @@ use std::alloc::{AllocError, Global};
 use std::collections::BTreeMap;
 use std::marker::Model;
 
+/// Room for fewer entries isn't given back while one is left.
+const LARGE: usize = 64;
+
 /// The names of a directory with the nodes that they lead to, in no order.
 #[derive(Drop)]
 pub(crate) struct Entries {
@@ -88,7 +91,8 @@ impl Entries {
     fn trim(&mut self)
         ensures { self.new ≡ self.old }
     {
-        if self.items.len() <= self.items.capacity() / 4 {
+        let room = self.items.capacity();
+        if self.items.is_empty() || room >= LARGE && self.items.len() <= room / 4 {
             self.items.shrink_to_fit();
         }
     }

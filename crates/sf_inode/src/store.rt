@@ -21,6 +21,9 @@ use std::alloc::{AllocError, Global};
 use std::collections::BTreeMap;
 use std::marker::Model;
 
+/// So few nodes are never called few of many.
+const FEW: usize = 16;
+
 /// Files, directories and what is open.
 #[derive(Drop)]
 pub struct Store {
@@ -29,6 +32,8 @@ pub struct Store {
     root: NodeId,
     sessions: BTreeMap<u64, SessionHandles>,
     look_ups: u64,
+    /// How many nodes have gone since room for nodes was last given back.
+    gone: usize,
 }
 
 impl Model for Store {
@@ -65,6 +70,7 @@ impl Store {
             root,
             sessions: BTreeMap::new(alloc),
             look_ups: 0,
+            gone: 0,
         })
     }
 
@@ -73,14 +79,19 @@ impl Store {
         self.alloc
     }
 
-    /// Gives back the memory of nodes that are gone, where few are left of many.
+    /// Gives back the room of nodes that are gone, where few are left of many, and as many have gone since
+    /// it last did. Nodes keep their numbers, so the room up to the greatest of them stays.
     pub fn trim(&mut self)
         ensures nodes { (id : ℕ) → node_in self.new.nodes id ≡ node_in self.old.nodes id }
         ensures rest { self.new ≡ with_nodes self.old self.new.nodes }
     {
-        let count = self.nodes.len();
-        if count.is_power_of_two() && self.nodes.capacity() / 4 >= count {
+        let room = self.nodes.capacity();
+        let few = room / 4;
+        if few >= FEW && self.nodes.len() <= few && self.gone >= few {
             self.nodes.shrink_to_fit();
+            if self.nodes.capacity() < room {
+                self.gone = 0;
+            }
         }
     }
 
@@ -225,6 +236,7 @@ impl Store {
         };
         if is_unused {
             self.nodes.try_remove(node);
+            self.gone = self.gone.saturating_add(1);
         }
     }
 

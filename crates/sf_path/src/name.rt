@@ -5,15 +5,19 @@ ghost use Rattle.std.specs.Cmp.{eq_by_cmp_equiv, partial_equiv_from_equiv, parti
 ghost use Rattle.sf_path.specs.Names.{IsName};
 ghost use Rattle.sf_path.specs.Order.{same_name, name_cmp, name_total};
 
+use smallvec::SmallVec;
 use std::alloc::{AllocError, Global};
 use std::cmp::Ordering;
 use std::marker::Model;
 
+/// How many bytes of a name need no block of memory of their own.
+const SHORT_NAME: usize = 24;
+
 /// The name of a file or a directory: 1 to 255 bytes without a slash and a byte 0, and neither `.` nor `..`.
 /// It need not be UTF-8.
-#[derive(Debug, Drop)]
+#[derive(Debug)]
 pub struct Name {
-    bytes: Vec<u8>,
+    bytes: SmallVec<u8, SHORT_NAME>,
 }
 
 impl Model for Name {
@@ -27,6 +31,13 @@ impl Model for Name {
     ghost invariant = { λ name. IsName name.bytes.items };
 }
 
+impl Drop for Name {
+    // By hand: where a name is dropped, a proof then sees one call and not the name's parts.
+    fn drop(self) {
+        let Self { bytes: _bytes } = self;
+    }
+}
+
 impl Name {
     /// The name of these bytes.
     pub(crate) fn from_slice(alloc: Global, bytes: &[u8]) -> Result<Name, AllocError>
@@ -34,7 +45,7 @@ impl Name {
         ensures { IfOk result (λ name. name ≡ bytes.now) }
     {
         Ok(Name {
-            bytes: Vec::from_slice(alloc, bytes)?,
+            bytes: SmallVec::from_slice(alloc, bytes)?,
         })
     }
 
@@ -58,7 +69,7 @@ impl Name {
         ensures { IfOk result (λ copy. copy ≡ self.now) }
     {
         Ok(Name {
-            bytes: Vec::from_slice(alloc, &self.bytes)?,
+            bytes: SmallVec::from_slice(alloc, self.as_slice())?,
         })
     }
 }
