@@ -29,6 +29,8 @@ pub struct Store {
     root: NodeId,
     sessions: BTreeMap<u64, SessionHandles>,
     look_ups: u64,
+    /// How many nodes have gone since memory was last given back.
+    gone: usize,
 }
 
 impl Model for Store {
@@ -65,22 +67,28 @@ impl Store {
             root,
             sessions: BTreeMap::new(alloc),
             look_ups: 0,
+            gone: 0,
         })
     }
 
-    /// What the store takes its memory from.
+    /// What the store takes its memory from. There is one `Global`, so no clause says which.
     pub fn alloc(&self) -> Global {
         self.alloc
     }
 
-    /// Gives back the memory of nodes that are gone, where few are left of many.
+    /// Gives back the memory of nodes that are gone, where few are left of many. The root alone is few;
+    /// else a quarter of the room must have gone since the last time. The nodes that are left keep their
+    /// numbers, so the room up to the greatest of them stays.
     pub fn trim(&mut self)
         ensures nodes { (id : ℕ) → node_in self.new.nodes id ≡ node_in self.old.nodes id }
         ensures rest { self.new ≡ with_nodes self.old self.new.nodes }
     {
+        let room = self.nodes.capacity();
         let count = self.nodes.len();
-        if count.is_power_of_two() && self.nodes.capacity() / 4 >= count {
+        let few = room / 4;
+        if room >= 64 && count <= few && (count == 1 || self.gone >= few) {
             self.nodes.shrink_to_fit();
+            self.gone = 0;
         }
     }
 
@@ -225,6 +233,7 @@ impl Store {
         };
         if is_unused {
             self.nodes.try_remove(node);
+            self.gone = self.gone.saturating_add(1);
         }
     }
 
