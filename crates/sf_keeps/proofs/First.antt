@@ -1,18 +1,18 @@
 -- A new store shows the root alone.
-use Rattle.std.specs.Prelude.{◌≡◌, ◌≢◌, ℕ, nat_eq, Bool, true, false, cond, ◌||◌, List, [], ◌∷◌, option_map, option_and_then, Option, Some, None, refl}
+use Rattle.std.specs.Prelude.{◌≡◌, ℕ, nat_eq, true, false, cond, ◌||◌, List, [], ◌∷◌, option_map, option_and_then, Option, Some, None, refl}
 use Rattle.std.proofs.Common.{sym, ap, subst, ◌∙◌, eqb-true, eq-eqb}
 use Rattle.std.specs.Ordering.{nat_cmp}
 use Rattle.std.specs.BTreeMap.{is_at}
 use Rattle.sf_path.specs.Names.{Name, Path}
 use Rattle.sf_call.specs.Attributes.{Object, made_at}
 use Rattle.sf_call.specs.Attributes.Object.{Directory}
-use Rattle.sf_call.specs.Tree.{Tree, empty_tree, label_at, object_of}
+use Rattle.sf_call.specs.Tree.{empty_tree, label_at, object_of}
 use Rattle.sf_inode.specs.declared.node.Node.{Node}
 use Rattle.sf_inode.specs.declared.node.Content.TheVariants as content
 use Rattle.sf_inode.specs.declared.handle.OpenHandle.{OpenHandle}
 use Rattle.sf_inode.specs.Nodes.{entry_in}
 use Rattle.sf_keeps.specs.Steps.{walk}
-use Rattle.sf_keeps.specs.Shows.{View, Shows, label_by, is_directory_by}
+use Rattle.sf_keeps.specs.Shows.{Shows, label_by}
 use Rattle.sf_inode.specs.Stores.{StoreState, IsFirst, node_in, entry_of, shown_node, shown_of}
 use Rattle.sf_keeps.specs.Keeps.{view_of}
 use Rattle.sf_keeps.proofs.Sound.{is_directory_shown}

@@ -1,21 +1,19 @@
 -- What a view shows after a handle was opened, set or closed.
-use Rattle.std.specs.Prelude.{◌≡◌, ℕ, nat_eq, Bool, true, false, cond, T, ◌&&◌, ◌||◌, List, option_and_then, Option, Some, None, IsSome, if◌then◌else◌, refl}
+use Rattle.std.specs.Prelude.{◌≡◌, ℕ, nat_eq, Bool, true, false, cond, ◌&&◌, ◌||◌, List, option_and_then, Option, Some, None, IsSome, if◌then◌else◌, refl}
 use Rattle.std.proofs.Common.{sym, ap, subst, ◌∙◌, eqb-true, eq-eqb}
-use Rattle.std.specs.List.{list_any}
 use Rattle.std.specs.Ordering.{nat_cmp}
 use Rattle.std.specs.Cmp.{nat_cmp_total}
 use Rattle.std.specs.Map.{remove_entry}
 use Rattle.std.specs.BTreeMap.{is_at}
-use Rattle.std.specs.FinMap.{is_sorted}
 use Rattle.sf_call.specs.declared.handle.Handle.{Handle}
 use Rattle.sf_call.specs.Attributes.{Object}
-use Rattle.sf_call.specs.Tree.{Tree, IsOrderedTree, object_of, handle_of, is_used, kept, with_handles}
-use Rattle.sf_call.specs.Handles.{handle_in, if_of}
+use Rattle.sf_call.specs.Tree.{Tree, IsOrderedTree, handle_of, is_used, with_handles}
+use Rattle.sf_call.specs.Handles.{if_of}
 use Rattle.sf_call.specs.Changes.{changed}
 use Rattle.sf_call.specs.Changes.Change.{OpenHandle, SetHandle, CloseHandle}
 use Rattle.sf_call.proofs.Ordered.{ordered_changed}
 use Rattle.sf_call.proofs.LookUps.{lookup-put}
-use Rattle.sf_keeps.specs.Shows.{View, Opens, ShowsBy, Shows, with_shown, changed_opens, with_opens}
+use Rattle.sf_keeps.specs.Shows.{View, ShowsBy, Shows, with_shown, changed_opens, with_opens}
 use Rattle.sf_keeps.proofs.Keyed.{lookup-set, lookup-removed, lookup_any, any_lookup, any-removed}
 use Rattle.sf_keeps.proofs.Sound.{HasNoEntry, IsBare}
 use Rattle.sf_keeps.proofs.Shown.{nat_same, nat_at_itself, nat_eq_apart}

@@ -1,8 +1,8 @@
 -- Lists of entries in the order of their keys: what look-ups find after each change, and what passes a test.
-use Rattle.std.specs.Prelude.{◌≡◌, ℕ, Bool, true, false, cond, not, T, ◌&&◌, ◌||◌, List, [], ◌∷◌, Option, Some, None, IsSome, refl}
-use Rattle.std.proofs.Common.{sym, ap, subst, ◌∙◌}
+use Rattle.std.specs.Prelude.{◌≡◌, Bool, true, false, cond, T, ◌||◌, List, [], ◌∷◌, Some, None, IsSome, refl}
+use Rattle.std.proofs.Common.{sym, ap, ◌∙◌}
 use Rattle.std.specs.List.{list_any, IsDistinct, AllByRecursion}
-use Rattle.std.specs.Ordering.{is_eq, is_lt, eq_by_cmp, match_ordering}
+use Rattle.std.specs.Ordering.{is_eq, is_lt, eq_by_cmp}
 use Rattle.std.specs.declared.cmp.Ordering.{Ordering}
 use Rattle.std.specs.declared.cmp.Ordering.TheVariants.{Less, Equal, Greater}
 use Rattle.std.specs.Cmp.{IsTotalOrder, tied_itself, eq_by_cmp_equiv}
@@ -13,7 +13,6 @@ use Rattle.std.specs.FinMap.Entries.{below_all}
 use Rattle.sf_call.proofs.Ordered.{and_first, and_second}
 use Rattle.sf_call.proofs.MovedNames.{is_equal}
 use Rattle.std.proofs.lemmas.Map.{lookup-set_value, lookup-remove_entry}
-use Rattle.std.proofs.lemmas.Map.Keys.{IsDistinct-cons}
 
 less_not_equal : (r : Ordering) → T (is_lt r) → is_eq r ≡ false
 less_not_equal Less p = refl

@@ -1,6 +1,6 @@
 -- What a view shows without an entry, and without a node that nothing uses.
-use Rattle.std.specs.Prelude.{◌≡◌, ◌⊎◌, ℕ, nat_eq, Bool, true, false, cond, not, T, ◌||◌, List, [], ◌∷◌, ◌++◌, filter, option_map, option_and_then, Option, Some, None, if◌then◌else◌, refl}
-use Rattle.std.proofs.Common.{sym, ap, subst, ◌∙◌, inl, inr, eqb-true, eq-eqb}
+use Rattle.std.specs.Prelude.{◌≡◌, ℕ, nat_eq, Bool, true, false, cond, T, ◌||◌, List, [], ◌∷◌, ◌++◌, option_map, option_and_then, Option, Some, None, if◌then◌else◌, refl}
+use Rattle.std.proofs.Common.{sym, ap, ◌∙◌, eqb-true, eq-eqb}
 use Rattle.std.specs.List.{list_any}
 use Rattle.std.specs.Ordering.{nat_cmp}
 use Rattle.std.specs.Cmp.{nat_cmp_total}
@@ -19,7 +19,7 @@ use Rattle.sf_keeps.specs.Shows.{View, ShowsBy, AllUsed, label_by, changed_shown
 use Rattle.sf_keeps.proofs.Walks.{led, walk_changed}
 use Rattle.sf_keeps.proofs.Keyed.{lookup-removed, lookup_any, any_lookup}
 use Rattle.sf_keeps.proofs.Sound.{HasNoEntry, IsBare, never_reached, shown_less, sound_less, sound_dropped}
-use Rattle.sf_keeps.proofs.Shown.{once, below, some_label, nat_same, nat_apart, nat_eq_apart, same_apart, path_flip, path_none, path_further, path_ended}
+use Rattle.sf_keeps.proofs.Shown.{once, below, some_label, nat_same, nat_eq_apart, same_apart, path_flip, path_none, path_further, path_ended}
 
 module _ (view : View) (t : Tree) (s : ShowsBy view t) where
   less_below : (p : Path) (d : ℕ) (n : Name) (c : ℕ) → walk view.step view.root p ≡ Some d → view.step d n ≡ Some c → IsBare view.step c → (q r : Path) → after_front (p ++ n ∷ []) q ≡ Some r

@@ -1,15 +1,13 @@
 -- A move in two changes of steps: the old entry goes, and the new one leads to what it led to.
-use Rattle.std.specs.Prelude.{◌≡◌, ℕ, ◌+◌, nat_eq, Bool, true, false, cond, T, ◌&&◌, ◌||◌, List, [], ◌∷◌, ◌++◌, length, option_and_then, is_none, Option, Some, None, refl}
+use Rattle.std.specs.Prelude.{◌≡◌, ℕ, nat_eq, Bool, true, false, cond, ◌&&◌, List, [], ◌∷◌, ◌++◌, option_and_then, is_none, Option, Some, None, refl}
 use Rattle.std.specs.Option.{option_or}
 use Rattle.std.proofs.Common.{sym, ap, ◌∙◌, append_assoc, eqb-true, eq-eqb}
-use Rattle.std.specs.List.{list_any}
-use Rattle.std.specs.BTreeMap.{is_at}
 use Rattle.sf_path.specs.Names.{Name, Path}
-use Rattle.sf_path.specs.Order.{same_name, same_path, path_cmp, path_total}
+use Rattle.sf_path.specs.Order.{path_cmp, path_total}
 use Rattle.sf_call.specs.declared.handle.Handle.{Handle}
 use Rattle.sf_call.specs.Attributes.{Object}
 use Rattle.sf_call.specs.Tree.{Tree, IsOrderedTree, after_front, label_at, object_of, is_used, kept, with_names}
-use Rattle.sf_call.specs.Moves.{moved, is_outside}
+use Rattle.sf_call.specs.Moves.{moved}
 use Rattle.sf_call.specs.Changes.{changed}
 use Rattle.sf_call.specs.Changes.Change.{Move}
 use Rattle.sf_call.proofs.MovedNames.{after_front-append, append-after_front, at_old, lookup-moved, moved_to_new, moved_outside}
@@ -18,9 +16,9 @@ use Rattle.sf_keeps.specs.Steps.{Steps, walk, changed_step}
 use Rattle.sf_keeps.specs.Shows.{View, ShowsBy, Shows, label_by, is_directory_by, with_step, with_shown}
 use Rattle.sf_keeps.proofs.Walks.{walk-append, Avoids, LeadsOnce, led, walk_changed, walk_apart}
 use Rattle.sf_keeps.proofs.Keyed.{lookup_any, any_lookup}
-use Rattle.sf_keeps.proofs.Sound.{HasNoEntry, IsBare, reached_there, no_entry_left, sound_less, sound_more}
+use Rattle.sf_keeps.proofs.Sound.{HasNoEntry, IsBare, no_entry_left, sound_less, sound_more}
 use Rattle.sf_keeps.proofs.Shown.{once, same_apart}
-use Rattle.sf_keeps.proofs.Less.{is_named, is_opened, OthersUsed, IsClosed, kept_object, kept_used, cond_used, shows_same, led_by, opened_by, shows_kept, shows_kept_used}
+use Rattle.sf_keeps.proofs.Less.{is_named, is_opened, OthersUsed, IsClosed, kept_object, kept_used, cond_used, shows_same, opened_by, shows_kept, shows_kept_used}
 use Rattle.sf_keeps.proofs.Whole.{one_more, or_grows, or_right}
 
 -- where a path leads after a move

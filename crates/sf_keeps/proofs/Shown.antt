@@ -1,26 +1,24 @@
 -- What a view shows after a node or an entry has changed.
-use Rattle.std.specs.Prelude.{◌≡◌, ◌⊎◌, ℕ, nat_eq, Bool, true, false, cond, not, T, ◌&&◌, ◌||◌, List, [], ◌∷◌, ◌++◌, length, option_map, option_and_then, unwrap_or, is_some, Option, Some, None, IsSome, refl}
-use Rattle.std.proofs.Common.{sym, ap, subst, ◌∙◌, inl, inr, eqb-true, eq-eqb, arith, length-append}
-use Rattle.std.specs.List.{list_any}
+use Rattle.std.specs.Prelude.{◌≡◌, ℕ, nat_eq, true, false, cond, [], ◌∷◌, ◌++◌, option_map, option_and_then, unwrap_or, is_some, Option, Some, None, IsSome, refl}
+use Rattle.std.proofs.Common.{sym, ap, subst, ◌∙◌, inl, inr, eqb-true, eq-eqb}
 use Rattle.std.specs.Ordering.{nat_cmp, is_eq}
 use Rattle.std.specs.Cmp.{nat_cmp_total, tied_itself}
 use Rattle.std.specs.BTreeMap.{is_at}
-use Rattle.std.specs.FinMap.{is_sorted, nat_cmp-IsAntisymmetric}
+use Rattle.std.specs.FinMap.{nat_cmp-IsAntisymmetric}
 use Rattle.sf_path.specs.Names.{Name, Path}
 use Rattle.sf_path.specs.Order.{same_path, path_cmp, path_total}
 use Rattle.sf_call.specs.Attributes.{Object}
-use Rattle.sf_call.specs.Tree.{Tree, directory_metadata, after_front, label_at, object_of, is_used, with_names}
+use Rattle.sf_call.specs.Tree.{Tree, directory_metadata, after_front, label_at, object_of}
 use Rattle.sf_call.specs.Changes.{changed}
 use Rattle.sf_call.specs.Changes.Change.{SetObject, NewPath}
 use Rattle.sf_call.proofs.MovedNames.{is_equal, same_path_is, after_front-append, append-after_front}
-use Rattle.sf_call.proofs.Ordered.{ordered_changed}
 use Rattle.sf_call.proofs.LookUps.{lookup-put}
-use Rattle.sf_keeps.specs.Steps.{Steps, walk, changed_step}
-use Rattle.sf_keeps.specs.Shows.{Shown, View, ShowsBy, label_by, is_directory_by, changed_shown, with_step, with_shown}
+use Rattle.sf_keeps.specs.Steps.{walk}
+use Rattle.sf_keeps.specs.Shows.{View, ShowsBy, label_by, is_directory_by, changed_shown, with_step, with_shown}
 use Rattle.sf_keeps.proofs.Walks.{walk-append, Avoids, LeadsOnce, led, walk_changed}
 use Rattle.sf_keeps.proofs.Once.{leads_once}
-use Rattle.sf_keeps.proofs.Keyed.{lookup-set, lookup_any, any_lookup}
-use Rattle.sf_keeps.proofs.Sound.{HasNoEntry, IsBare, is_directory_shown, directory_there, reached_there, there_more, shown_more, kind_more, sound_shown, sound_more}
+use Rattle.sf_keeps.proofs.Keyed.{lookup-set}
+use Rattle.sf_keeps.proofs.Sound.{HasNoEntry, IsBare, is_directory_shown, directory_there, reached_there, shown_more, kind_more, sound_shown, sound_more}
 
 pub same_path_itself : (p : Path) → same_path p p ≡ true
 same_path_itself p = ap is_eq (tied_itself path_total p)

@@ -1,6 +1,6 @@
 -- What a store shows after a file's bytes were changed, and what calls leave that change nothing that is seen.
-use Rattle.std.specs.Prelude.{◌≡◌, ℕ, Bool, is_some, Option, Some, None, List, refl}
-use Rattle.std.proofs.Common.{sym, ap, subst, ◌∙◌}
+use Rattle.std.specs.Prelude.{◌≡◌, ℕ, is_some, Option, Some, None, refl}
+use Rattle.std.proofs.Common.{ap, subst}
 use Rattle.sf_path.specs.Names.{Name}
 use Rattle.sf_block.specs.Contents.{Stored}
 use Rattle.sf_call.specs.declared.metadata.Metadata.{Metadata}
@@ -13,7 +13,7 @@ use Rattle.sf_inode.specs.declared.node.Node.{Node}
 use Rattle.sf_inode.specs.declared.node.Content.{Content}
 use Rattle.sf_inode.specs.declared.node.Content.TheVariants as content
 use Rattle.sf_inode.specs.Nodes.{entry_in, object_in, with_content, with_stored, with_holder}
-use Rattle.sf_keeps.specs.Shows.{View, Shows}
+use Rattle.sf_keeps.specs.Shows.{Shows}
 use Rattle.sf_inode.specs.Stores.{StoreState, node_in, edited, edited_by, with_nodes, looked_up}
 use Rattle.sf_keeps.specs.Keeps.{view_of}
 use Rattle.sf_keeps.proofs.StoreLaws.{shows_edited, view_unseen}

@@ -1,7 +1,7 @@
 -- What can be seen of a store after each change of its nodes.
-use Rattle.std.specs.Prelude.{◌≡◌, ◌≢◌, ℕ, suc, zero, ◌+◌, ◌<◌, nat_eq, Bool, true, false, cond, not, ◌&&◌, List, [], ◌∷◌, ◌++◌, length, filter, is_some, option_map, option_and_then, Option, Some, None, slice_set, refl}
+use Rattle.std.specs.Prelude.{◌≡◌, ℕ, suc, zero, ◌<◌, nat_eq, Bool, true, false, cond, not, ◌&&◌, List, [], ◌∷◌, ◌++◌, length, is_some, option_map, option_and_then, Option, Some, None, slice_set, refl}
 use Rattle.std.proofs.Common.{sym, ap, subst, ◌∙◌, eqb-true, eq-eqb, arith, get_or-set_same, get_or-set_other}
-use Rattle.std.specs.Map.{lookup, set_value}
+use Rattle.std.specs.Map.{lookup}
 use Rattle.std.specs.FinMap.{find}
 use Rattle.std.specs.FinMap.Entries.{find-append}
 use Rattle.std.proofs.lemmas.Map.Entries.{lookup-filter-keys}
@@ -18,9 +18,9 @@ use Rattle.sf_inode.specs.declared.node.Node.{Node}
 use Rattle.sf_inode.specs.declared.node.Content.{Content}
 use Rattle.sf_inode.specs.declared.node.Content.TheVariants as content
 use Rattle.sf_inode.specs.declared.handle.OpenHandle.{OpenHandle}
-use Rattle.sf_inode.specs.Nodes.{entry_in, object_in, less_content, more_content, with_content, with_metadata, with_stored, without_name, is_unused}
-use Rattle.sf_keeps.specs.Steps.{Steps, walk, changed_step}
-use Rattle.sf_keeps.specs.Shows.{View, Shows, Shown, is_directory_by, changed_shown, with_step, with_shown}
+use Rattle.sf_inode.specs.Nodes.{entry_in, object_in, less_content, more_content, with_content, with_metadata, without_name, is_unused}
+use Rattle.sf_keeps.specs.Steps.{walk, changed_step}
+use Rattle.sf_keeps.specs.Shows.{View, Shows, is_directory_by, changed_shown, with_step, with_shown}
 use Rattle.sf_inode.specs.Stores.{StoreState, node_in, entry_of, shown_node, shown_of, edited_by, edited, entry_taken, entry_put, with_nodes, released_if, released, forgotten, unlinked_from, unlinked, Inserted}
 use Rattle.sf_keeps.specs.Keeps.{view_of}
 use Rattle.sf_keeps.proofs.Sound.{HasNoEntry, IsBare}

@@ -1,19 +1,17 @@
 -- What can be seen of a store after an entry was moved, and after a handle was closed.
 use Rattle.std.specs.Prelude.{◌≡◌, ℕ, nat_eq, Bool, true, false, cond, ◌&&◌, List, [], ◌∷◌, ◌++◌, is_some, option_map, option_and_then, Option, Some, None, IsSome, refl}
-use Rattle.std.proofs.Common.{sym, ap, subst, ◌∙◌, eqb-true, eq-eqb}
-use Rattle.std.specs.Ordering.{is_eq, eq_by_cmp}
+use Rattle.std.proofs.Common.{sym, ap, subst, ◌∙◌, eqb-true}
 use Rattle.std.specs.Cmp.{eq_by_cmp_equiv}
-use Rattle.std.specs.Map.{lookup, set_value}
+use Rattle.std.specs.Map.{lookup}
 use Rattle.std.proofs.lemmas.Map.{lookup-set_value}
 use Rattle.sf_path.specs.Names.{Name, Path}
-use Rattle.sf_path.specs.Order.{same_name, name_cmp, name_total}
+use Rattle.sf_path.specs.Order.{same_name, name_total}
 use Rattle.sf_call.specs.declared.handle.Handle.{Handle}
-use Rattle.sf_call.specs.declared.metadata.Metadata.{Metadata}
 use Rattle.sf_call.specs.Attributes.{Object}
 use Rattle.sf_call.specs.Tree.{Tree, after_front, directory_metadata}
 use Rattle.sf_call.specs.Changes.{changed}
 use Rattle.sf_call.specs.Changes.Change.{Move}
-use Rattle.sf_call.proofs.MovedNames.{same_name_is, same_name_itself, after_front-append}
+use Rattle.sf_call.proofs.MovedNames.{same_name_is}
 use Rattle.sf_inode.specs.declared.node.Node.{Node}
 use Rattle.sf_inode.specs.declared.node.Content.{Content}
 use Rattle.sf_inode.specs.declared.node.Content.TheVariants as content

@@ -1,5 +1,5 @@
 -- What a changed step does to the ways.
-use Rattle.std.specs.Prelude.{◌≡◌, ℕ, nat_eq, Bool, true, false, cond, ◌&&◌, List, [], ◌∷◌, ◌++◌, option_and_then, Option, Some, None, refl}
+use Rattle.std.specs.Prelude.{◌≡◌, ℕ, nat_eq, true, false, cond, ◌&&◌, [], ◌∷◌, ◌++◌, option_and_then, Option, Some, None, refl}
 use Rattle.std.proofs.Common.{sym, ap, ◌∙◌, eqb-true, eq-eqb}
 use Rattle.sf_path.specs.Names.{Name, Path}
 use Rattle.sf_path.specs.Order.{same_name}

@@ -1,17 +1,16 @@
 -- What a view shows of a whole tree after each change of objects and names.
-use Rattle.std.specs.Prelude.{◌≡◌, ℕ, ◌+◌, nat_eq, Bool, true, false, cond, T, ◌||◌, List, [], ◌∷◌, ◌++◌, length, option_and_then, is_some, Option, Some, None, IsSome, refl}
-use Rattle.std.proofs.Common.{sym, ap, subst, ◌∙◌, eqb-true, eq-eqb, arith, length-append}
-use Rattle.std.specs.List.{list_any}
+use Rattle.std.specs.Prelude.{◌≡◌, ℕ, nat_eq, Bool, true, false, cond, T, ◌||◌, [], ◌∷◌, ◌++◌, option_and_then, is_some, Option, Some, None, IsSome, refl}
+use Rattle.std.proofs.Common.{sym, ap, subst, ◌∙◌, eq-eqb}
 use Rattle.std.specs.Ordering.{nat_cmp}
 use Rattle.std.specs.Cmp.{nat_cmp_total}
 use Rattle.std.specs.Map.{remove_entry}
 use Rattle.std.specs.BTreeMap.{is_at}
 use Rattle.std.specs.FinMap.{is_sorted}
 use Rattle.sf_path.specs.Names.{Name, Path}
-use Rattle.sf_path.specs.Order.{same_path, path_cmp, path_total}
+use Rattle.sf_path.specs.Order.{path_cmp, path_total}
 use Rattle.sf_call.specs.declared.handle.Handle.{Handle}
 use Rattle.sf_call.specs.Attributes.{Object}
-use Rattle.sf_call.specs.Tree.{Tree, IsOrderedTree, MapsAlike, directory_metadata, label_at, object_of, handle_of, is_used, kept, with_names}
+use Rattle.sf_call.specs.Tree.{Tree, IsOrderedTree, directory_metadata, label_at, object_of, handle_of, is_used, with_names}
 use Rattle.sf_call.specs.Changes.{changed}
 use Rattle.sf_call.specs.Changes.Change.{SetObject, NewPath, GonePath}
 use Rattle.sf_call.proofs.MovedNames.{same_path_is}
