@@ -1,6 +1,6 @@
 -- A look-up in a directory's entries, one entry further.
-use Rattle.std.specs.List.{position, position_from}
-use Rattle.std.proofs.Common.{set, arith, suc, zero, ◌≡◌, ℕ, ◌+◌, ◌<◌, ◌≤◌, List, [], ◌∷◌, length, drop, get_or, Bool, true, false, cond, refl, sym, ap, ◌∙◌, add-one, Option, Some, None}
+use Rattle.std.specs.List.{position_from}
+use Rattle.std.proofs.Common.{set, arith, suc, zero, ◌≡◌, ℕ, ◌+◌, ◌<◌, ◌≤◌, List, [], ◌∷◌, length, drop, get_or, Bool, true, false, cond, refl, sym, ap, ◌∙◌, add-one, Some, None}
 use Rattle.std.specs.Map.{lookup, set_value}
 use Rattle.std.proofs.lemmas.List.Quantifiers.{position-Some}
 use Rattle.std.proofs.lemmas.Iterator.Adapters.{position_from-zero}

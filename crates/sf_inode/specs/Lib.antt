@@ -1,6 +1,2 @@
-pub mod Steps
-pub mod Shows
 pub mod Nodes
 pub mod Stores
-pub mod Keeps
-pub mod Listed

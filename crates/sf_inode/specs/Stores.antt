@@ -1,20 +1,18 @@
 -- What a contract sees of a store of nodes.
-use Rattle.std.specs.Prelude.{◌≡◌, ◌≢◌, ℕ, ◌+◌, ◌-◌, ◌^◌, min, nat_eq, Bool, true, false, if◌then◌else◌, List, [], ◌∷◌, fold, Option, Some, None, option_map, option_and_then, slice_index_or, slice_set}
+use Rattle.std.specs.Prelude.{◌≡◌, ◌≢◌, ℕ, ◌+◌, ◌-◌, ◌^◌, min, Bool, true, false, if◌then◌else◌, List, [], ◌∷◌, fold, Option, Some, None, option_map, option_and_then, slice_index_or, slice_set}
 use Rattle.std.specs.Option.{option_map_or}
 use Rattle.std.specs.Ordering.{nat_cmp}
 use Rattle.std.specs.Map.{lookup, set_value, remove_entry}
 use Rattle.std.specs.BTreeMap.{is_at, insert_entry}
 use Rattle.sf_path.specs.Names.{Name}
-use Rattle.sf_field.specs.declared.attrs.Attrs.{Attrs}
 use Rattle.sf_call.specs.declared.handle.Handle.{Handle}
-use Rattle.sf_call.specs.Attributes.{Object, made_at, with_parts, modified_at, attrs_of}
+use Rattle.sf_call.specs.Attributes.{Object, made_at}
 use Rattle.sf_block.specs.Contents.{Stored}
 use Rattle.sf_inode.specs.declared.node.Node.{Node}
 use Rattle.sf_inode.specs.declared.node.Content.TheVariants as content
 use Rattle.sf_inode.specs.declared.handle.OpenHandle.{OpenHandle}
 use Rattle.sf_inode.specs.declared.handle.Marks.{Marks}
-use Rattle.sf_inode.specs.Nodes.{entry_in, entries_in, object_in, is_directory_content, is_bare_content, less_content, more_content, set_content, stored_in, is_file_content, with_stored, with_content, with_metadata, with_holder, without_name, with_opened, is_unused}
-use Rattle.sf_inode.specs.Shows.{View}
+use Rattle.sf_inode.specs.Nodes.{entry_in, entries_in, object_in, is_directory_content, is_bare_content, less_content, more_content, set_content, stored_in, is_file_content, with_stored, with_content, without_name, with_opened, is_unused}
 
 -- a node or nothing at each number from 0 on, each session's handles by their numbers, and how many look-ups were made
 pub record StoreState : Type 0 where
@@ -44,15 +42,6 @@ handle_at s session number = option_and_then (λ handles. lookup (is_at (nat_cmp
 
 abbrev pub shown_handle : ℕ → OpenHandle → Handle
 shown_handle session h = record { session = session; label = h.label; read = h.marks.read; write = h.marks.write; append = h.marks.append; listed = h.listed }
-
--- what can be seen of a store
-abbrev pub view_of : StoreState → View
-view_of s = record {
-  step = entry_of s.nodes;
-  shown = shown_of s.nodes;
-  root = s.root;
-  opens = λ session number. option_map (shown_handle session) (handle_at s session number);
-}
 
 abbrev pub with_nodes : StoreState → List (Option Node) → StoreState
 with_nodes s nodes = record { nodes = nodes; root = s.root; sessions = s.sessions; look_ups = s.look_ups }

@@ -6,7 +6,7 @@ use Rattle.sf_call.specs.Handles.{Opened}
 use Rattle.sf_call.specs.Handles.Opened.{NotOpen, OpenDirectory, OpenFile}
 use Rattle.sf_call.specs.Calls.{stat_opened}
 use Rattle.sf_inode.specs.Stores.{StoreState}
-use Rattle.sf_inode.specs.Keeps.{Keeps}
+use Rattle.sf_keeps.specs.Keeps.{Keeps}
 use Rattle.sf_walk.specs.Served.{IsServed}
 
 pub stat_opened_served : (o : Opened) (s : StoreState) (t : Tree) (r : Reply) → Keeps s t → r ≡ (stat_opened o).reply → IsServed s t (stat_opened o) r

@@ -24,7 +24,7 @@ use Rattle.sf_inode.specs.declared.node.Content.TheVariants as content
 use Rattle.sf_inode.specs.declared.handle.OpenHandle.{OpenHandle}
 use Rattle.sf_inode.specs.Nodes.{object_in, stored_in, with_stored, with_content, with_metadata, is_file_content}
 use Rattle.sf_inode.specs.Stores.{StoreState, node_in, stored_of, bytes_set, is_file_at, shown_of, shown_node, shown_handle, edited}
-use Rattle.sf_inode.specs.Keeps.{Keeps}
+use Rattle.sf_keeps.specs.Keeps.{Keeps}
 use Rattle.sf_walk.specs.Files.{file_size}
 use Rattle.sf_walk.specs.Served.{IsServed}
 use Rattle.sf_walk.proofs.Told.{tells_served}

@@ -13,10 +13,10 @@ use Rattle.sf_inode.specs.declared.node.Node.{Node}
 use Rattle.sf_inode.specs.declared.node.Content.{Content}
 use Rattle.sf_inode.specs.declared.node.Content.TheVariants as content
 use Rattle.sf_inode.specs.Nodes.{object_in, is_directory_content}
-use Rattle.sf_inode.specs.Steps.{Steps, walk}
-use Rattle.sf_inode.specs.Shows.{label_by, is_directory_by}
-use Rattle.sf_inode.specs.Stores.{StoreState, node_in, entry_of, is_directory_at, shown_node, shown_of, view_of}
-use Rattle.sf_inode.specs.Keeps.{Keeps}
+use Rattle.sf_keeps.specs.Steps.{Steps, walk}
+use Rattle.sf_keeps.specs.Shows.{label_by, is_directory_by}
+use Rattle.sf_inode.specs.Stores.{StoreState, node_in, entry_of, is_directory_at, shown_node, shown_of}
+use Rattle.sf_keeps.specs.Keeps.{view_of, Keeps}
 use Rattle.sf_walk.specs.declared.finding.Located.{Located}
 use Rattle.sf_walk.specs.declared.finding.Located.TheVariants as located
 use Rattle.sf_walk.specs.Ways.{missing, way_from, found_content, found_node}

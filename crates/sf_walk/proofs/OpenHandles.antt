@@ -14,7 +14,7 @@ use Rattle.sf_inode.specs.declared.node.Node.{Node}
 use Rattle.sf_inode.specs.declared.handle.OpenHandle.{OpenHandle}
 use Rattle.sf_inode.specs.Nodes.{object_in, is_directory_content, is_file_content}
 use Rattle.sf_inode.specs.Stores.{StoreState, node_in, is_directory_at, is_file_at, handle_at, shown_handle, closed}
-use Rattle.sf_inode.specs.Keeps.{Keeps}
+use Rattle.sf_keeps.specs.Keeps.{Keeps}
 use Rattle.sf_walk.specs.Served.{IsServed}
 
 abbrev pub FindsHandle : Type 0

@@ -26,9 +26,9 @@ use Rattle.sf_inode.specs.declared.node.Content.TheVariants as content
 use Rattle.sf_inode.specs.declared.handle.OpenHandle as open_handle
 use Rattle.sf_inode.specs.declared.handle.Marks.{Marks}
 use Rattle.sf_inode.specs.Nodes.{object_in, stored_in, new_node, is_directory_content, with_opened, with_metadata, with_content, with_stored}
-use Rattle.sf_inode.specs.Steps.{walk}
+use Rattle.sf_keeps.specs.Steps.{walk}
 use Rattle.sf_inode.specs.Stores.{StoreState, node_in, entry_of, is_directory_at, shown_node, shown_of, shown_handle, stored_of, edited, bytes_set, handle_put, opened_at, opened}
-use Rattle.sf_inode.specs.Keeps.{Keeps}
+use Rattle.sf_keeps.specs.Keeps.{Keeps}
 use Rattle.sf_walk.specs.Ways.{missing, way_from, last_of, found_content, found_node}
 use Rattle.sf_walk.specs.declared.finding.Located.TheVariants as located
 use Rattle.sf_walk.specs.Opening.{marks_of, OpenedNew}

@@ -19,9 +19,9 @@ use Rattle.sf_inode.specs.declared.node.NewNode.{NewNode}
 use Rattle.sf_inode.specs.declared.node.Content.{Content}
 use Rattle.sf_inode.specs.declared.node.Content.TheVariants as content
 use Rattle.sf_inode.specs.Nodes.{object_in, new_content, new_node, entry_in, is_directory_content, is_bare_content, with_metadata}
-use Rattle.sf_inode.specs.Steps.{walk}
+use Rattle.sf_keeps.specs.Steps.{walk}
 use Rattle.sf_inode.specs.Stores.{StoreState, Inserted, node_in, entry_of, is_directory_at, is_bare_at, shown_of, shown_node, holder_of, edited, unlinked}
-use Rattle.sf_inode.specs.Keeps.{Keeps}
+use Rattle.sf_keeps.specs.Keeps.{Keeps}
 use Rattle.sf_walk.specs.declared.finding.Located.TheVariants as located
 use Rattle.sf_walk.specs.Ways.{way_from, last_of}
 use Rattle.sf_walk.specs.Served.{LookedUp, IsServed}

@@ -17,9 +17,9 @@ use Rattle.sf_inode.specs.declared.node.Node.{Node}
 use Rattle.sf_inode.specs.declared.node.Content.{Content}
 use Rattle.sf_inode.specs.declared.node.Content.TheVariants as content
 use Rattle.sf_inode.specs.Nodes.{object_in, is_directory_content, is_bare_content, with_metadata}
-use Rattle.sf_inode.specs.Steps.{walk}
+use Rattle.sf_keeps.specs.Steps.{walk}
 use Rattle.sf_inode.specs.Stores.{StoreState, node_in, entry_of, is_directory_at, is_bare_at, edited, unlinked}
-use Rattle.sf_inode.specs.Keeps.{Keeps}
+use Rattle.sf_keeps.specs.Keeps.{Keeps}
 use Rattle.sf_walk.specs.declared.finding.Located.TheVariants as located
 use Rattle.sf_walk.specs.Ways.{way_from, found_content, found_node}
 use Rattle.sf_walk.specs.Served.{LookedUp, IsServed, HoldersStay}

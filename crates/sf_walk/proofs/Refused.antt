@@ -9,10 +9,10 @@ use Rattle.sf_path.specs.Names.{Name, Path}
 use Rattle.sf_call.specs.Tree.{Tree}
 use Rattle.sf_inode.specs.declared.handle.OpenHandle.{OpenHandle}
 use Rattle.sf_inode.specs.Nodes.{entry_in}
-use Rattle.sf_inode.specs.Steps.{walk}
-use Rattle.sf_inode.specs.Shows.{View, Shows}
-use Rattle.sf_inode.specs.Stores.{StoreState, entry_of, shown_node, shown_handle, handles_of, handle_at, view_of}
-use Rattle.sf_inode.specs.Keeps.{Keeps}
+use Rattle.sf_keeps.specs.Steps.{walk}
+use Rattle.sf_keeps.specs.Shows.{View, Shows}
+use Rattle.sf_inode.specs.Stores.{StoreState, entry_of, shown_node, shown_handle, handles_of, handle_at}
+use Rattle.sf_keeps.specs.Keeps.{view_of, Keeps}
 use Rattle.sf_walk.specs.Served.{IsAlike}
 
 module _ (old new : StoreState) (t : Tree) (same : IsAlike old new) (kept : Keeps old t) where

@@ -23,9 +23,9 @@ use Rattle.sf_inode.specs.declared.node.Content.{Content}
 use Rattle.sf_inode.specs.declared.node.Content.TheVariants as content
 use Rattle.sf_inode.specs.declared.handle.OpenHandle.{OpenHandle}
 use Rattle.sf_inode.specs.Nodes.{object_in, sorted_past, is_directory_content}
-use Rattle.sf_inode.specs.Listed.{listed_entry}
+use Rattle.sf_keeps.specs.Listed.{listed_entry}
 use Rattle.sf_inode.specs.Stores.{StoreState, node_in, entries_at, is_directory_at, handle_at, shown_handle, handle_listed}
-use Rattle.sf_inode.specs.Keeps.{Keeps}
+use Rattle.sf_keeps.specs.Keeps.{Keeps}
 use Rattle.sf_walk.specs.Served.{IsServed}
 use Rattle.sf_walk.proofs.Told.{tells_served}
 use Rattle.sf_walk.proofs.OpenHandles.{IsOpen, directory_is}

@@ -21,7 +21,7 @@ use Rattle.sf_inode.specs.declared.node.Content.TheVariants as content
 use Rattle.sf_block.specs.Contents.{Stored}
 use Rattle.sf_inode.specs.Nodes.{object_in, stored_in, with_stored, with_content, is_directory_content, with_metadata}
 use Rattle.sf_inode.specs.Stores.{StoreState, node_in, stored_of, bytes_set, is_directory_at, shown_of, shown_node, edited}
-use Rattle.sf_inode.specs.Keeps.{Keeps}
+use Rattle.sf_keeps.specs.Keeps.{Keeps}
 use Rattle.sf_walk.specs.Served.{IsServed}
 
 pub not_above : (size : ℕ) → size ≤ MAX_FILE_SIZE → nat_lt MAX_FILE_SIZE size ≡ false

@@ -18,7 +18,7 @@ use Rattle.sf_inode.specs.declared.node.Content.TheVariants as content
 use Rattle.sf_inode.specs.declared.handle.OpenHandle.{OpenHandle}
 use Rattle.sf_inode.specs.Nodes.{object_in, is_directory_content}
 use Rattle.sf_inode.specs.Stores.{StoreState, node_in, is_directory_at, shown_handle}
-use Rattle.sf_inode.specs.Keeps.{Keeps}
+use Rattle.sf_keeps.specs.Keeps.{Keeps}
 use Rattle.sf_walk.specs.Served.{IsServed}
 use Rattle.sf_walk.proofs.Told.{tells_served, if_ok_map}
 use Rattle.sf_walk.proofs.OpenHandles.{IsOpen, directory_is}

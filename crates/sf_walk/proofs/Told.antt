@@ -7,7 +7,7 @@ use Rattle.sf_reply.specs.declared.reply.Reply.{Reply}
 use Rattle.sf_call.specs.Tree.{Tree}
 use Rattle.sf_call.specs.Calls.{Answer, tells, unless_root}
 use Rattle.sf_inode.specs.Stores.{StoreState}
-use Rattle.sf_inode.specs.Keeps.{Keeps}
+use Rattle.sf_keeps.specs.Keeps.{Keeps}
 use Rattle.sf_walk.specs.Served.{IsServed}
 
 pub tells_served : (new : StoreState) (t : Tree) (answer : Answer) (r : Reply) → answer ≡ tells r → Keeps new t → IsServed new t answer r

@@ -7,7 +7,7 @@ use Rattle.sf_call.specs.Changes.{done}
 use Rattle.sf_call.specs.Calls.{Answer}
 use Rattle.sf_inode.specs.declared.node.Node.{Node}
 use Rattle.sf_inode.specs.Stores.{StoreState, node_in, holder_of, looked_up}
-use Rattle.sf_inode.specs.Keeps.{Keeps}
+use Rattle.sf_keeps.specs.Keeps.{Keeps}
 
 -- the store after so many look-ups
 abbrev pub after_look_ups : ℕ → StoreState → StoreState

@@ -3,7 +3,7 @@
 ghost use Rattle.std.specs.Prelude.{◌⊎◌, IfOk, OnErr};
 ghost use Rattle.sf_call.specs.Tree.{Tree};
 ghost use Rattle.sf_call.specs.Calls.{answer_to};
-ghost use Rattle.sf_inode.specs.Keeps.{Keeps};
+ghost use Rattle.sf_keeps.specs.Keeps.{Keeps};
 ghost use Rattle.sf_walk.specs.Ways.{names_of};
 ghost use Rattle.sf_walk.specs.Served.{IsServed, IsRefused, IsAlike, LooksUp, HoldersStay, IsNewNumber};
 

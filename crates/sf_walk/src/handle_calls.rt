@@ -12,7 +12,7 @@ ghost use Rattle.sf_call.specs.Changes.Change.{SetObject};
 ghost use Rattle.sf_call.specs.Handles.{handle_in, opened};
 ghost use Rattle.sf_call.specs.Calls.{close, stat_opened, set_opened, read, write};
 ghost use Rattle.sf_inode.specs.Stores.{stored_of, is_file_at, shown_of};
-ghost use Rattle.sf_inode.specs.Keeps.{Keeps};
+ghost use Rattle.sf_keeps.specs.Keeps.{Keeps};
 ghost use Rattle.sf_walk.specs.Files.{file_size};
 ghost use Rattle.sf_walk.specs.Served.{IsServed, HoldersStay};
 
@@ -28,8 +28,8 @@ pub(crate) fn close(store: &mut Store, session: u64, number: u64) -> Reply
     ensures look_ups { store.new.look_ups ≡ store.old.look_ups }
     ensures holders { HoldersStay store.old store.new }
 {
-    sf_inode::found_handles();
-    sf_inode::closed_handles();
+    sf_keeps::found_handles();
+    sf_keeps::closed_handles();
     match store.handle(session, number) {
         None => Reply::Status(StatusCode::Failure),
         Some(_) => {
@@ -43,7 +43,7 @@ pub(crate) fn close(store: &mut Store, session: u64, number: u64) -> Reply
 pub(crate) fn stat_handle(store: &Store, session: u64, number: u64) -> Reply
     ensures { (t : Tree) → Keeps store.now t → result ≡ (stat_opened (opened t session number)).reply }
 {
-    sf_inode::found_handles();
+    sf_keeps::found_handles();
     match store.handle(session, number) {
         None => Reply::Status(StatusCode::Failure),
         Some(handle) => match store.attrs(handle.node) {
@@ -66,7 +66,7 @@ pub(crate) fn set_stat_handle(
     ensures look_ups { store.new.look_ups ≡ store.old.look_ups }
     ensures holders { HoldersStay store.old store.new }
 {
-    sf_inode::found_handles();
+    sf_keeps::found_handles();
     let Some(handle) = store.handle(session, number) else {
         return Ok(Reply::Status(StatusCode::Failure));
     };
@@ -106,7 +106,7 @@ pub(crate) fn read(
 ) -> Result<Reply, AllocError>
     ensures { (t : Tree) → Keeps store.now t → IfOk result (λ reply. reply ≡ (read offset len (opened t session number)).reply) }
 {
-    sf_inode::found_handles();
+    sf_keeps::found_handles();
     let Some(handle) = store.handle(session, number) else {
         return Ok(Reply::Status(StatusCode::Failure));
     };
@@ -148,7 +148,7 @@ pub(crate) fn write(
     ensures look_ups { store.new.look_ups ≡ store.old.look_ups }
     ensures holders { HoldersStay store.old store.new }
 {
-    sf_inode::found_handles();
+    sf_keeps::found_handles();
     let Some(handle) = store.handle(session, number) else {
         return Ok(Reply::Status(StatusCode::Failure));
     };
@@ -193,9 +193,9 @@ fn put_bytes(
     ensures look_ups { store.new.look_ups ≡ store.old.look_ups }
     ensures holders { HoldersStay store.old store.new }
 {
-    sf_inode::same_tree();
-    sf_inode::changed_object();
-    sf_inode::other_nodes();
+    sf_keeps::same_tree();
+    sf_keeps::changed_object();
+    sf_keeps::other_nodes();
     store.reserve_for(node, start, bytes.len())?;
     store.write(node, start, bytes.as_slice());
     store.touch(node, moment);

@@ -7,8 +7,8 @@ ghost use Rattle.sf_call.specs.ReplyKinds.{HasAllParts};
 ghost use Rattle.sf_call.specs.Tree.{Tree};
 ghost use Rattle.sf_call.specs.Handles.{opened};
 ghost use Rattle.sf_call.specs.Calls.{read_directory};
-ghost use Rattle.sf_inode.specs.Listed.{listed_entry};
-ghost use Rattle.sf_inode.specs.Keeps.{Keeps};
+ghost use Rattle.sf_keeps.specs.Listed.{listed_entry};
+ghost use Rattle.sf_keeps.specs.Keeps.{Keeps};
 ghost use Rattle.sf_walk.specs.Served.{IsServed, HoldersStay};
 
 use sf_call::MAX_ENTRIES;
@@ -29,9 +29,9 @@ pub(crate) fn read_directory(
     ensures look_ups { store.new.look_ups ≡ store.old.look_ups }
     ensures holders { HoldersStay store.old store.new }
 {
-    sf_inode::found_handles();
-    sf_inode::listed_handles();
-    sf_inode::listed_entries();
+    sf_keeps::found_handles();
+    sf_keeps::listed_handles();
+    sf_keeps::listed_entries();
     let Some(handle) = store.handle(session, number) else {
         return Ok(Reply::Status(StatusCode::Failure));
     };

@@ -13,8 +13,8 @@ ghost use Rattle.sf_call.specs.Tree.{Tree, found_at, place_at};
 ghost use Rattle.sf_call.specs.Calls.{has_all_handles, open_directory, open_present, open_file, unless_root};
 ghost use Rattle.sf_inode.specs.declared.node.Node.{Node};
 ghost use Rattle.sf_inode.specs.Stores.{StoreState, node_in, entry_of, shown_of, is_directory_at, bytes_set};
-ghost use Rattle.sf_inode.specs.Steps.{walk};
-ghost use Rattle.sf_inode.specs.Keeps.{Keeps};
+ghost use Rattle.sf_keeps.specs.Steps.{walk};
+ghost use Rattle.sf_keeps.specs.Keeps.{Keeps};
 ghost use Rattle.sf_walk.specs.Ways.{last_of, found_node};
 ghost use Rattle.sf_walk.specs.Opening.{marks_of, OpenedNew};
 ghost use Rattle.sf_walk.specs.Served.{IsServed, IsAlike, LooksUp, HoldersStay, IsNewNumber};
@@ -22,9 +22,9 @@ ghost use Rattle.sf_walk.specs.Served.{IsServed, IsAlike, LooksUp, HoldersStay, 
 use crate::finding::{Located, locate};
 use crate::path_calls::insert_last;
 use sf_call::{FileType, MAX_HANDLES, Metadata};
-use sf_inode::{
-    Marks, NewNode, NodeId, Store, changed_object, counted_handles, found_paths, new_path,
-    opened_handles, other_nodes,
+use sf_inode::{Marks, NewNode, NodeId, Store};
+use sf_keeps::{
+    changed_object, counted_handles, found_paths, new_path, opened_handles, other_nodes,
 };
 use sf_path::Path;
 use sf_wire::{Attrs, OpenFlags, Reply, StatusCode};

@@ -10,7 +10,7 @@ ghost use Rattle.sf_reply.specs.declared.reply.StatusCode.TheVariants.{Success};
 ghost use Rattle.sf_inode.specs.declared.node.Node.{Node};
 ghost use Rattle.sf_inode.specs.Nodes.{new_node, object_in, with_metadata};
 ghost use Rattle.sf_inode.specs.Stores.{Inserted, node_in, is_bare_at, edited, unlinked};
-ghost use Rattle.sf_inode.specs.Keeps.{Keeps};
+ghost use Rattle.sf_keeps.specs.Keeps.{Keeps};
 ghost use Rattle.sf_walk.specs.declared.finding.Located.TheVariants.{At};
 ghost use Rattle.sf_walk.specs.Ways.{last_of, way_from};
 ghost use Rattle.sf_walk.specs.Served.{IsServed, IsAlike, LooksUp, HoldersStay, IsNewNumber};
@@ -73,8 +73,8 @@ pub(crate) fn set_node(
     ensures look_ups { store.new.look_ups ≡ store.old.look_ups }
     ensures holders { HoldersStay store.old store.new }
 {
-    sf_inode::changed_object();
-    sf_inode::other_nodes();
+    sf_keeps::changed_object();
+    sf_keeps::other_nodes();
     match attrs.size {
         None => {
             store.set(node, attrs);
@@ -119,10 +119,10 @@ pub(crate) fn mkdir(
             };
             insert_last(store, parent, path, made)?;
             store.touch(parent, moment);
-            sf_inode::new_path();
-            sf_inode::other_nodes();
-            sf_inode::found_paths();
-            sf_inode::changed_object();
+            sf_keeps::new_path();
+            sf_keeps::other_nodes();
+            sf_keeps::found_paths();
+            sf_keeps::changed_object();
             Ok(Reply::Status(StatusCode::Success))
         }
     }
@@ -156,7 +156,7 @@ pub(crate) fn rmdir(store: &mut Store, moment: u32, path: &Path) -> Reply
         Located::NoWay => Reply::Status(StatusCode::NoSuchFile),
         Located::Missing { parent: _ } => Reply::Status(StatusCode::NoSuchFile),
         Located::At { parent, node } => {
-            sf_inode::found_paths();
+            sf_keeps::found_paths();
             if !store.is_directory(node) {
                 return Reply::Status(StatusCode::Failure);
             }
@@ -198,10 +198,10 @@ fn remove_last(store: &mut Store, moment: u32, dir: NodeId, path: &Path)
     ensures served { (t : Tree) (node : ℕ) → Keeps store.old t → way_from store.old.nodes store.old.root store.old.root path.now ≡ At dir node → is_bare_at store.old.nodes node ≡ true
         → IsServed store.new t (goes t moment path.now) (Status Success) }
 {
-    sf_inode::gone_path();
-    sf_inode::other_nodes();
-    sf_inode::found_paths();
-    sf_inode::changed_object();
+    sf_keeps::gone_path();
+    sf_keeps::other_nodes();
+    sf_keeps::found_paths();
+    sf_keeps::changed_object();
     store.unlink(dir, path.name(path.len() - 1));
     store.touch(dir, moment);
 }

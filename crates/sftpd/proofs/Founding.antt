@@ -12,7 +12,7 @@ use Rattle.sf_call.specs.Calls.{apply}
 use Rattle.sf_call.specs.Values.{IsCall}
 use Rattle.sf_call.specs.Histories.{after, replay, IsLegal, IsLegalAfter, MayFollow, CallMayFollow, IsNewNumber, IsPresent, IsGiven}
 use Rattle.sf_inode.specs.Stores.{StoreState}
-use Rattle.sf_inode.specs.Keeps.{Keeps}
+use Rattle.sf_keeps.specs.Keeps.{Keeps}
 use Rattle.sftpd.specs.Serving.{IsNumbered, IsFresh, IsGrown, IsFounded, Does}
 
 -- what the tree's definitions promise of numbers that no call has

@@ -7,7 +7,8 @@ ghost use Rattle.sftpd.specs.Serving.{Makes};
 use sf_call::{
     Answer, Call, CoreFault, Request, Stage, labels_of_paths, one_record_more, told_replies,
 };
-use sf_inode::{Store, kept_trees};
+use sf_inode::Store;
+use sf_keeps::kept_trees;
 use sf_session::Clock;
 use sf_walk::from_root;
 use std::alloc::{AllocError, Global};

@@ -7,7 +7,7 @@ ghost use Rattle.sftpd.specs.Serving.{Edges, edges, IsDrained, IsRounded, IsServ
 
 use crate::service::{Service, Turn};
 use sf_call::{labels_of_paths, one_record_more, told_replies};
-use sf_inode::kept_trees;
+use sf_keeps::kept_trees;
 use sf_line::{Line, LineFault};
 use sf_session::{Cause, Clock, ServeFault};
 use std::alloc::{AllocError, Global};

@@ -1,5 +1,5 @@
 use Rattle.std.proofs.Common.{◌≡◌, ◌++◌, filter_map}
-use Rattle.sf_inode.specs.Listed.{listed_entry}
+use Rattle.sf_keeps.specs.Listed.{listed_entry}
 use Rattle.sf_walk.proofs.listing.entries_of.Given as goal
 
 abbrev pub invariant-entries : goal.invariant-entries

@@ -1,4 +1,4 @@
-use Rattle.std.proofs.Common.{rules, ◌≡◌, not, filter, ◌∙◌, ap, sym}
+use Rattle.std.proofs.Common.{rules, not}
 use Rattle.std.proofs.lemmas.Fn.{filter_same}
 use Rattle.sf_path.specs.Order.{same_name}
 use Rattle.sf_inode.proofs.entries.Entries.keep_others.Goals as goal

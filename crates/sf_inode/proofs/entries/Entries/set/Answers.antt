@@ -1,4 +1,4 @@
-use Rattle.std.proofs.Common.{rules, arith, ◌≡◌, ◌<◌, ◌∙◌, sym, ap, length, List}
+use Rattle.std.proofs.Common.{◌∙◌, sym}
 use Rattle.sf_path.specs.Order.{same_name}
 use Rattle.sf_inode.proofs.EntryLists.{found_within, set_read, set_none}
 use Rattle.sf_inode.proofs.entries.Entries.set.Goals as goal

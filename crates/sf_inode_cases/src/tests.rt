@@ -1,0 +1,230 @@
+//! Each call of a store with ample memory, with what POSIX says of its like.
+
+use sf_call::{FileType, Metadata};
+use sf_inode::{Marks, NewNode, NodeId, Store};
+use sf_path::{Name, Path};
+use sf_wire::{NO_ATTRS, Owner, Times};
+use std::alloc::Global;
+use std::process::Abort;
+use std::test::*;
+
+fn name(alloc: Global, text: &[u8]) -> Result<Name, Fail> {
+    let mut names = Path::parse(alloc, text)?.into_names();
+    Ok(names.pop().ok_or("no name")?)
+}
+
+fn made(label: u64, file_type: FileType) -> NewNode {
+    let metadata = Metadata {
+        owner: Owner { uid: 1, gid: 2 },
+        permissions: 0o644,
+        times: Times { atime: 5, mtime: 5 },
+    };
+    NewNode {
+        label,
+        file_type,
+        metadata,
+    }
+}
+
+fn marks(read: bool) -> Marks {
+    Marks {
+        read,
+        write: true,
+        append: false,
+    }
+}
+
+/// The first bytes of a file, and zeros where it ends before the fourth.
+fn front(store: &Store, node: NodeId) -> [u8; 4] {
+    let mut buffer = [0; 4];
+    store.read(node, 0, &mut buffer);
+    buffer
+}
+
+/// The size of a node that is there.
+fn size(rt: &impl Abort, store: &Store, node: NodeId) -> Option<u64> {
+    match store.attrs(node) {
+        Some(attrs) => attrs.size,
+        None => panic!(rt; "no node"),
+    }
+}
+
+#[test]
+fn find_what_was_inserted(rt: HostRuntime) -> Result<(), Fail> {
+    let alloc = rt.alloc();
+    let mut store = Store::new(alloc)?;
+    let root = store.root();
+    assert!(rt; store.is_empty(root));
+    let a = store.insert(root, name(alloc, b"/a")?, made(1, FileType::Directory))?;
+    let b = store.insert(a, name(alloc, b"/b")?, made(2, FileType::File))?;
+    assert!(rt; !store.is_empty(root));
+    assert!(rt; store.is_directory(a));
+    assert!(rt; !store.is_directory(b));
+    assert_eq!(rt; store.find(root, &name(alloc, b"/a")?), Some(a));
+    assert_eq!(rt; store.find(a, &name(alloc, b"/b")?), Some(b));
+    assert_eq!(rt; store.find(root, &name(alloc, b"/b")?), None);
+    assert_eq!(rt; store.look_ups(), 3);
+    store.unlink(a, &name(alloc, b"/b")?);
+    assert_eq!(rt; store.find(a, &name(alloc, b"/b")?), None);
+    assert_eq!(rt; store.attrs(b), None);
+    assert!(rt; store.is_empty(a));
+    Ok(())
+}
+
+#[test]
+fn hold_set_and_touch(rt: HostRuntime) -> Result<(), Fail> {
+    let alloc = rt.alloc();
+    let mut store = Store::new(alloc)?;
+    let root = store.root();
+    let a = store.insert(root, name(alloc, b"/a")?, made(1, FileType::File))?;
+    store.hold(a, 7);
+    assert_eq!(rt; store.holder(a), Some(7));
+    assert_eq!(rt; store.holder(root), None);
+    store.free(a);
+    assert_eq!(rt; store.holder(a), None);
+    let mut attrs = NO_ATTRS;
+    attrs.permissions = Some(0o600);
+    store.set(a, &attrs);
+    store.touch(a, 9);
+    let attrs = store.attrs(a).ok_or("no attributes")?;
+    assert_eq!(rt; attrs.permissions, Some(0o100600));
+    assert_eq!(rt; attrs.times, Some(Times { atime: 5, mtime: 9 }));
+    Ok(())
+}
+
+#[test]
+fn bytes_outlive_the_name(rt: HostRuntime) -> Result<(), Fail> {
+    let alloc = rt.alloc();
+    let mut store = Store::new(alloc)?;
+    let root = store.root();
+    let a = store.insert(root, name(alloc, b"/a")?, made(1, FileType::File))?;
+    store.set_len(a, 2)?;
+    assert_eq!(rt; size(&rt, &store, a), Some(2));
+    store.open(3, 10, a, marks(true))?;
+    store.open(4, 11, a, marks(false))?;
+    assert_eq!(rt; store.handles(3), 1);
+    store.unlink(root, &name(alloc, b"/a")?);
+    assert_eq!(rt; front(&store, a), *b"\0\0\0\0");
+    store.close(3, 10);
+    assert_eq!(rt; size(&rt, &store, a), Some(2));
+    assert_eq!(rt; store.handles(3), 0);
+    store.close_all(4);
+    assert_eq!(rt; store.attrs(a), None);
+    Ok(())
+}
+
+/// A file's bytes, with a gap before those that were written.
+#[test]
+fn written_bytes_are_read(rt: HostRuntime) -> Result<(), Fail> {
+    let alloc = rt.alloc();
+    let mut store = Store::new(alloc)?;
+    let root = store.root();
+    let metadata = Metadata {
+        owner: Owner { uid: 1, gid: 2 },
+        permissions: 0o644,
+        times: Times { atime: 5, mtime: 5 },
+    };
+    let file_type = FileType::File;
+    let new = NewNode {
+        label: 1,
+        file_type,
+        metadata,
+    };
+    let a = store.insert(root, name(alloc, b"/a")?, new)?;
+    store.reserve_for(a, 1, 2)?;
+    store.write(a, 1, b"xy");
+    assert_eq!(rt; front(&store, a), *b"\0xy\0");
+    let mut rest = [7; 2];
+    assert_eq!(rt; store.read(a, 2, &mut rest), 1);
+    assert_eq!(rt; rest, [b'y', 7]);
+    store.set_len(a, 2)?;
+    assert_eq!(rt; size(&rt, &store, a), Some(2));
+    assert_eq!(rt; front(&store, a), *b"\0x\0\0");
+    Ok(())
+}
+
+#[test]
+fn a_named_node_stays_when_closed(rt: HostRuntime) -> Result<(), Fail> {
+    let alloc = rt.alloc();
+    let mut store = Store::new(alloc)?;
+    let root = store.root();
+    let a = store.insert(root, name(alloc, b"/a")?, made(1, FileType::Directory))?;
+    store.open(3, 10, a, marks(true))?;
+    store.listed(3, 10, &name(alloc, b"/k")?)?;
+    let handle = store.handle(3, 10).ok_or("no handle")?;
+    assert_eq!(rt; handle.node, a);
+    assert_eq!(rt; handle.label, 1);
+    assert_eq!(rt; handle.marks, marks(true));
+    let Some(listed) = &handle.listed else {
+        panic!(rt; "nothing listed");
+    };
+    assert_eq!(rt; listed.as_slice(), b"k".as_slice());
+    assert!(rt; store.handle(4, 10).is_none());
+    store.close(3, 10);
+    assert!(rt; store.handle(3, 10).is_none());
+    assert_eq!(rt; size(&rt, &store, a), Some(0));
+    Ok(())
+}
+
+#[test]
+fn rename_with_what_lies_below_and_over_a_file(rt: HostRuntime) -> Result<(), Fail> {
+    let alloc = rt.alloc();
+    let mut store = Store::new(alloc)?;
+    let root = store.root();
+    let a = store.insert(root, name(alloc, b"/a")?, made(1, FileType::Directory))?;
+    let b = store.insert(a, name(alloc, b"/b")?, made(2, FileType::File))?;
+    store.relink(root, &name(alloc, b"/a")?, root, name(alloc, b"/c")?)?;
+    assert_eq!(rt; store.find(root, &name(alloc, b"/a")?), None);
+    assert_eq!(rt; store.find(root, &name(alloc, b"/c")?), Some(a));
+    assert_eq!(rt; store.find(a, &name(alloc, b"/b")?), Some(b));
+    let f = store.insert(root, name(alloc, b"/f")?, made(3, FileType::File))?;
+    store.relink(a, &name(alloc, b"/b")?, root, name(alloc, b"/f")?)?;
+    assert_eq!(rt; store.find(root, &name(alloc, b"/f")?), Some(b));
+    assert_eq!(rt; store.find(a, &name(alloc, b"/b")?), None);
+    assert_eq!(rt; store.attrs(f), None);
+    Ok(())
+}
+
+#[test]
+fn entries_in_the_order_of_their_names(rt: HostRuntime) -> Result<(), Fail> {
+    let alloc = rt.alloc();
+    let mut store = Store::new(alloc)?;
+    let root = store.root();
+    for (label, text) in [(1, b"/m"), (2, b"/c"), (3, b"/x"), (4, b"/a")] {
+        store.insert(root, name(alloc, text)?, made(label, FileType::File))?;
+    }
+    let first = store.entries_after(root, None, 2)?;
+    let mut names = first.keys();
+    assert_eq!(rt; names.next().ok_or("none")?.as_slice(), b"a".as_slice());
+    assert_eq!(rt; names.next().ok_or("one")?.as_slice(), b"c".as_slice());
+    assert!(rt; names.next().is_none());
+    let next = store.entries_after(root, Some(&name(alloc, b"/c")?), 2)?;
+    let mut names = next.keys();
+    assert_eq!(rt; names.next().ok_or("none")?.as_slice(), b"m".as_slice());
+    assert_eq!(rt; names.next().ok_or("one")?.as_slice(), b"x".as_slice());
+    Ok(())
+}
+
+/// Of a chain of directories and a file the file is left, under its number.
+#[test]
+fn trimmed_nodes_stay(rt: HostRuntime) -> Result<(), Fail> {
+    let alloc = rt.alloc();
+    let mut store = Store::new(alloc)?;
+    let root = store.root();
+    let kept = store.insert(root, name(alloc, b"/k")?, made(1, FileType::File))?;
+    store.set_len(kept, 3)?;
+    let mut chain = Vec::new(alloc);
+    let mut last = root;
+    for label in 2..66 {
+        chain.push(last)?;
+        last = store.insert(last, name(alloc, b"/d")?, made(label, FileType::Directory))?;
+    }
+    for above in chain.iter().rev() {
+        store.unlink(*above, &name(alloc, b"/d")?);
+        store.trim();
+    }
+    assert_eq!(rt; store.attrs(last), None);
+    assert_eq!(rt; size(&rt, &store, kept), Some(3));
+    assert_eq!(rt; store.find(root, &name(alloc, b"/k")?), Some(kept));
+    Ok(())
+}

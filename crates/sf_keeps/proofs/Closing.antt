@@ -1,0 +1,194 @@
+-- A store keeps the tree after a handle was closed.
+use Rattle.std.specs.Prelude.{◌≡◌, ℕ, ◌+◌, ◌-◌, ◌<◌, ◌^◌, nat_eq, Bool, true, false, cond, not, ◌&&◌, if◌then◌else◌, List, slice_set, option_map, option_and_then, Option, Some, None, refl}
+use Rattle.std.proofs.Common.{sym, ap, subst, ◌∙◌, arith, eqb-true, eq-eqb}
+use Rattle.std.specs.Ordering.{nat_cmp}
+use Rattle.std.specs.Cmp.{nat_cmp_total}
+use Rattle.std.specs.Map.{remove_entry}
+use Rattle.std.specs.BTreeMap.{is_at}
+use Rattle.sf_path.specs.Order.{path_cmp}
+use Rattle.sf_call.specs.declared.handle.Handle.{Handle}
+use Rattle.sf_call.specs.Attributes.{Object}
+use Rattle.sf_call.specs.Tree.{Tree, handle_of, is_used, with_handles}
+use Rattle.sf_call.specs.Changes.{Change as change, changed}
+use Rattle.sf_inode.specs.declared.node.Node.{Node}
+use Rattle.sf_inode.specs.declared.handle.OpenHandle.{OpenHandle}
+use Rattle.sf_inode.specs.Nodes.{object_in, with_opened, is_unused}
+use Rattle.sf_keeps.specs.Shows.{View, Shows, label_by, with_opens, with_shown}
+use Rattle.sf_inode.specs.Stores.{StoreState, node_in, handle_at, shown_node, shown_handle, with_nodes, with_sessions, edited, released_if, released, let_go, handles_of, handle_dropped, closed_by, closed}
+use Rattle.sf_keeps.specs.Keeps.{view_of, Keeps, IsUnlinked, times_open}
+use Rattle.sf_keeps.proofs.Keyed.{lookup-removed, any_lookup}
+use Rattle.sf_keeps.proofs.Less.{is_named, is_opened, IsClosed, handle_there, opened_by}
+use Rattle.sf_keeps.proofs.Whole.{or_true, or_right}
+use Rattle.sf_keeps.proofs.Handled.{by_closed, shows_closed_last, shows_closed}
+use Rattle.sf_keeps.proofs.StoreLaws.{node_in-set, node_in-edited, view_stays, view_goes}
+use Rattle.sf_keeps.proofs.StoreHandles.{HandleSet, dropped_set, view_set}
+use Rattle.sf_keeps.proofs.Counts.{closed_times}
+use Rattle.sf_keeps.proofs.Openings.{any_counted, none_counted}
+use Rattle.sf_keeps.proofs.Alike.{single_alike, unlinked_alike, named_alike, counted_alike, counted_now, counted_there, gone_alike, gone_now, gone_there}
+
+is_unnamed : (named : Bool) (n : ℕ) → not named && nat_eq n 0 ≡ true → (named ≡ false) × (n ≡ 0)
+is_unnamed true n e = cc
+is_unnamed false n e = (refl, eqb-true n 0 e)
+
+module _ (s : StoreState) (t : Tree) (k : Keeps s t) (session number : ℕ) (h : OpenHandle) (at : handle_at s session number ≡ Some h) (node : Node) (here : node_in s.nodes h.node ≡ Some node) (same : node.label ≡ h.label) where
+  abbrev less : Node → Node
+  less it = with_opened (it.opens - 1) it
+
+  abbrev rest : Tree
+  rest = with_handles t (remove_entry (is_at (nat_cmp number)) t.handles)
+
+  abbrev after : Tree
+  after = changed t (change.CloseHandle number)
+
+  abbrev shown : Handle
+  shown = shown_handle session h
+
+  abbrev seen : View
+  seen = with_opens (view_of s) session number None
+
+  opens : (view_of s).opens session number ≡ Some shown
+  opens = ap (option_map (shown_handle session)) at
+
+  there : handle_of t.handles number ≡ Some shown
+  there = (handle_there t session number shown (k.shows.by.handles session number ∙ opens)).0
+
+  numbers_after : (q : ℕ) (x : Handle) → handle_of after.handles q ≡ Some x → (0 < q) × (q < 2 ^ 64)
+  numbers_after q x e =
+      elim (is_at (nat_cmp number) q) as (λ b. cond b None (handle_of t.handles q) ≡ Some x → (0 < q) × (q < 2 ^ 64)) [
+        | true ↦ λ f. cc
+        | false ↦ λ f. k.numbers q x f
+      ] (sym (lookup-removed nat_cmp nat_cmp_total t.handles number q k.shows.ordered.handles) ∙ e)
+
+  -- ---- how often the node is open now
+  others : (label : ℕ) → nat_eq node.label label ≡ false → times_open after label ≡ times_open t label
+  others label ne =
+      let a : times_open t label ≡ 0 + times_open after label = closed_times t number shown label there ∙ ap (λ b. cond b 1 0 + times_open after label) (ap (λ (l : ℕ). nat_eq l label) (sym same) ∙ ne) in
+      omega (arith, a)
+
+  counted : node.opens - 1 ≡ times_open after node.label
+  counted =
+      let a : times_open t node.label ≡ 1 + times_open after node.label = closed_times t number shown node.label there ∙ ap (λ b. cond b 1 0 + times_open after node.label) (eq-eqb h.label node.label (sym same)) in
+      let b = k.counted h.node node here in
+      omega (arith, a, b)
+
+  -- a handle that is open still is counted
+  closed_label : times_open after node.label ≡ 0 → IsClosed seen h.label
+  closed_label none a b x e label =
+      any_counted (λ e. nat_eq e.1.label node.label) rest.handles
+      (ap (is_opened rest) (same ∙ sym label) ∙ opened_by seen rest (by_closed (view_of s) t k.shows session number shown opens) a b x e) none
+
+  named_used : node.named ≡ true → is_named t h.label ≡ true
+  named_used named =
+      let w = k.named h.node node here named in
+      any_lookup path_cmp (λ v. nat_eq v h.label) t.names w.0 node.label
+      (k.shows.by.names w.0 ∙ ap (option_and_then (label_by (view_of s).shown)) w.1 ∙ ap (λ (o : Option Node). option_map (λ (x : ℕ × Object). x.0) (option_map shown_node o)) here)
+      (eq-eqb node.label h.label same)
+
+  opened_used : nat_eq (node.opens - 1) 0 ≡ false → is_opened rest h.label ≡ true
+  opened_used some = elim (is_opened rest h.label) as (λ b. is_opened rest h.label ≡ b → b ≡ true) [
+    | true ↦ λ e. refl
+    | false ↦ λ e.
+        let none : times_open after node.label ≡ 0 = none_counted (λ e. nat_eq e.1.label node.label) rest.handles (ap (is_opened rest) same ∙ e) in
+        let zero : nat_eq (node.opens - 1) 0 ≡ true = ap (λ (n : ℕ). nat_eq n 0) (counted ∙ none) in cc
+  ] refl
+
+  still_used : is_unused (less node) ≡ false → is_used rest.names rest.handles h.label ≡ true
+  still_used used = elim node.named as (λ b. node.named ≡ b → not b && nat_eq (node.opens - 1) 0 ≡ false → is_used rest.names rest.handles h.label ≡ true) [
+    | true ↦ λ e _. or_true (is_named rest h.label) (is_opened rest h.label) (named_used e)
+    | false ↦ λ e some. or_right (is_named rest h.label) (is_opened rest h.label) (opened_used some)
+  ] refl used
+
+  object : (view_of s).shown h.node ≡ Some (h.label, object_in node.metadata node.content)
+  object = ap (option_map shown_node) here ∙ (λ i. Some (same i, object_in node.metadata node.content))
+
+  module _ (new : List (ℕ × List (ℕ × OpenHandle))) (set : HandleSet s new session number None) where
+    abbrev mid : StoreState
+    mid = with_sessions s new
+
+    abbrev stays : StoreState
+    stays = edited less mid h.node
+
+    put : (i : ℕ) → node_in stays.nodes i ≡ cond (nat_eq h.node i) (Some (less node)) (node_in s.nodes i)
+    put = node_in-edited less mid h.node node here
+
+    put_here : node_in stays.nodes h.node ≡ Some (less node)
+    put_here = put h.node ∙ ap (λ b. cond b (Some (less node)) (node_in s.nodes h.node)) (eq-eqb h.node h.node refl)
+
+    view_mid : view_of mid ≡ seen
+    view_mid = view_set s new session number None set
+
+    -- a handle of the session's others
+    still_there : (a b : ℕ) (x : OpenHandle) → handle_at mid a b ≡ Some x → handle_at s a b ≡ Some x
+    still_there a b x e =
+        elim (nat_eq session a && nat_eq number b) as (λ z. cond z None (handle_at s a b) ≡ Some x → handle_at s a b ≡ Some x) [ true ↦ λ f. cc | false ↦ λ f. f ] (sym (set.at a b) ∙ e)
+
+    -- ---- it stays
+    keeps_stays : is_unused (less node) ≡ false → Keeps (let_go mid h.node) after
+    keeps_stays used =
+        let is : released stays h.node ≡ stays = ap (released_if stays h.node) put_here ∙ ap (λ (b : Bool). if b then with_nodes stays (slice_set stays.nodes h.node None) else stays) used in
+        let alike = counted_alike s t k h.node (less node).opens node here stays.nodes put in
+        subst (λ (x : StoreState). Keeps x after) (sym is) (record {
+          shows = subst (λ (v : View). Shows v after) (sym (ap view_of (sym is) ∙ view_stays less mid h.node node here (λ m. refl) refl used ∙ view_mid))
+              (shows_closed (view_of s) t k.shows session number shown opens h.node (object_in node.metadata node.content) object (still_used used));
+          single = single_alike s t k stays refl alike;
+          unlinked = unlinked_alike s t k stays refl alike;
+          named = named_alike s t k stays refl alike;
+          counted = counted_now s t k h.node (less node).opens node here stays.nodes put after counted others;
+          led = λ a b x e.
+              let w = k.led a b x (still_there a b x e) in
+              let y = counted_there s t k h.node (less node).opens node here stays.nodes put x.node w.0 w.1.0 in (y.0, (y.1, y.2 ∙ w.1.1));
+          sessions = set.sessions;
+          handles = set.handles;
+          numbers = numbers_after;
+        })
+
+    -- ---- it goes
+    abbrev goes : StoreState
+    goes = with_nodes stays (slice_set stays.nodes h.node None)
+
+    gone : (i : ℕ) → node_in goes.nodes i ≡ cond (nat_eq h.node i) None (node_in s.nodes i)
+    gone i = node_in-set stays.nodes h.node (less node) None put_here i
+        ∙ ap (cond (nat_eq h.node i) None) (put i)
+        ∙ elim (nat_eq h.node i) as (λ b. cond b None (cond b (Some (less node)) (node_in s.nodes i)) ≡ cond b None (node_in s.nodes i)) [ true ↦ refl | false ↦ refl ]
+
+    keeps_goes : is_unused (less node) ≡ true → Keeps (let_go mid h.node) after
+    keeps_goes unused =
+        let is : released stays h.node ≡ goes = ap (released_if stays h.node) put_here ∙ ap (λ (b : Bool). if b then with_nodes stays (slice_set stays.nodes h.node None) else stays) unused in
+        let why = is_unnamed node.named (node.opens - 1) unused in
+        let u : IsUnlinked s h.node = k.unlinked h.node node here why.0 in
+        let last : IsClosed seen h.label = closed_label (sym counted ∙ why.1) in
+        let alike = gone_alike s t k h.node node here goes.nodes gone u.bare in
+        subst (λ (x : StoreState). Keeps x after) (sym is) (record {
+          shows = subst (λ (v : View). Shows v after) (sym (ap view_of (sym is) ∙ view_goes less mid h.node node here (λ m. refl) refl u.bare unused ∙ ap (λ (v : View). with_shown v h.node None) view_mid))
+              (shows_closed_last (view_of s) t k.shows session number shown opens h.node (object_in node.metadata node.content) object u.free u.other u.bare last);
+          single = single_alike s t k goes refl alike;
+          unlinked = unlinked_alike s t k goes refl alike;
+          named = named_alike s t k goes refl alike;
+          counted = gone_now s t k h.node node here goes.nodes gone after others;
+          led = λ a b x e.
+              let w = k.led a b x (still_there a b x e) in (
+                w.0,
+                (
+                  gone_there s t k h.node node here goes.nodes gone x.node w.0
+                      (λ f.
+                      let one : Some node ≡ Some w.0 = sym here ∙ ap (node_in s.nodes) f ∙ w.1.0 in
+                      let is : node ≡ w.0 = cc in
+                      last a b (shown_handle a x) (sym (ap (λ (v : View). v.opens a b) view_mid) ∙ ap (option_map (shown_handle a)) e) (sym w.1.1 ∙ sym (ap (λ (y : Node). y.label) is) ∙ same)) w.1.0,
+                  w.1.1,
+                ),
+              );
+          sessions = set.sessions;
+          handles = set.handles;
+          numbers = numbers_after;
+        })
+
+    keeps_gone_or_not : Keeps (let_go mid h.node) after
+    keeps_gone_or_not = elim (is_unused (less node)) as (λ b. is_unused (less node) ≡ b → Keeps (let_go mid h.node) after) [ true ↦ λ e. keeps_goes e | false ↦ λ e. keeps_stays e ] refl
+
+pub keeps_closed : (s : StoreState) (t : Tree) → Keeps s t → (session number : ℕ) (h : OpenHandle) → handle_at s session number ≡ Some h → Keeps (closed s session number) (changed t (change.CloseHandle number))
+keeps_closed s t k session number h at =
+    let p = dropped_set s k.sessions k.handles session number h at in
+    let w = k.led session number h at in
+    subst (λ (x : StoreState). Keeps x (changed t (change.CloseHandle number)))
+    (sym (ap (λ (o : Option OpenHandle). closed_by (handle_dropped s session number (handles_of s session)) o) at ∙ ap (λ (z : StoreState). let_go z h.node) p.1))
+    (keeps_gone_or_not s t k session number h at w.0 w.1.0 w.1.1 p.0 p.2)

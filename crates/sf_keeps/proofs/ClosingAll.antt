@@ -1,0 +1,131 @@
+-- A store keeps the tree after a session's handles were all closed.
+use Rattle.std.specs.Prelude.{◌≡◌, ℕ, ◌-◌, nat_eq, Bool, true, false, cond, T, if◌then◌else◌, List, [], ◌∷◌, slice_set, option_map, option_and_then, Option, Some, None, IsSome, refl}
+use Rattle.std.proofs.Common.{sym, ap, subst, ◌∙◌, eqb-true}
+use Rattle.std.specs.Ordering.{nat_cmp}
+use Rattle.std.specs.Cmp.{nat_cmp_total}
+use Rattle.std.specs.Map.{lookup, remove_entry, set_value}
+use Rattle.std.specs.BTreeMap.{is_at}
+use Rattle.std.specs.FinMap.{is_sorted}
+use Rattle.sf_call.specs.Tree.{Tree, handle_of}
+use Rattle.sf_call.specs.Changes.{Change as change, changed}
+use Rattle.sf_call.specs.Calls.{leave}
+use Rattle.sf_inode.specs.declared.node.Node.{Node}
+use Rattle.sf_inode.specs.declared.handle.OpenHandle.{OpenHandle}
+use Rattle.sf_inode.specs.Nodes.{with_opened, is_unused}
+use Rattle.sf_keeps.specs.Shows.{View, Shows}
+use Rattle.sf_inode.specs.Stores.{StoreState, node_in, handle_at, handles_of, shown_handle, with_nodes, with_sessions, edited, released_if, let_go, handle_dropped, closed_by, closed, each_let_go, closed_each, closed_all}
+use Rattle.sf_keeps.specs.Keeps.{view_of, Keeps}
+use Rattle.sf_keeps.proofs.Keyed.{lookup-set, lookup-removed}
+use Rattle.sf_keeps.proofs.Orderly.{sorted_removed}
+use Rattle.sf_keeps.proofs.Shown.{nat_at_itself}
+use Rattle.sf_keeps.proofs.Less.{handle_there}
+use Rattle.sf_keeps.proofs.StoreLaws.{same_view}
+use Rattle.sf_keeps.proofs.StoreHandles.{AreOrdered, at_is}
+use Rattle.sf_keeps.proofs.Alike.{unlinked_alike}
+use Rattle.sf_keeps.proofs.Closing.{keeps_closed}
+use Rattle.sf_keeps.proofs.Leaving.{removed_set, leave_closed, leave_none}
+
+abbrev Handles : Type 0
+Handles = List (ℕ × OpenHandle)
+
+abbrev Sessions : Type 0
+Sessions = List (ℕ × Handles)
+
+-- ---- to let a node go has nothing to do with the handles
+released_apart : (s : StoreState) (sessions : Sessions) (c : ℕ) (o : Option Node) → released_if (with_sessions s sessions) c o ≡ with_sessions (released_if s c o) sessions
+released_apart s sessions c None = refl
+released_apart s sessions c (Some node) =
+    elim (is_unused node) as (λ b. (if b then with_nodes (with_sessions s sessions) (slice_set s.nodes c None) else with_sessions s sessions) ≡ with_sessions (if b then with_nodes s (slice_set s.nodes c None) else s) sessions) [ true ↦ refl | false ↦ refl ]
+
+let_go_apart : (s : StoreState) (sessions : Sessions) (c : ℕ) → let_go (with_sessions s sessions) c ≡ with_sessions (let_go s c) sessions
+let_go_apart s sessions c =
+    let now = edited (λ node. with_opened (node.opens - 1) node) s c in
+    released_apart now sessions c (node_in now.nodes c)
+
+-- ---- the same handles by look-ups
+module _ (s : StoreState) (t : Tree) (k : Keeps s t) (new : Sessions) (same : (a b : ℕ) → handle_at (with_sessions s new) a b ≡ handle_at s a b) (sorted : T (is_sorted nat_cmp new)) (own : AreOrdered new) where
+  keeps_same : Keeps (with_sessions s new) t
+  keeps_same = record {
+    shows = subst (λ (v : View). Shows v t) (sym (same_view (view_of s) (view_of (with_sessions s new)) (λ x m. refl) (λ x. refl) refl (λ a b. ap (option_map (shown_handle a)) (same a b)))) k.shows;
+    single = k.single;
+    unlinked = unlinked_alike s t k (with_sessions s new) refl (record { steps = λ x m. refl; back = λ i x e. record { node = x; there = e; label = refl; named = refl } });
+    named = k.named;
+    counted = k.counted;
+    led = λ a b x e. k.led a b x (sym (same a b) ∙ e);
+    sessions = sorted;
+    handles = own;
+    numbers = k.numbers;
+  }
+
+module _ (session : ℕ) where
+  abbrev here : ℕ → Bool
+  here = is_at (nat_cmp session)
+
+  -- a session that has no handle is left out
+  module _ (s : StoreState) (t : Tree) (k : Keeps s t) (none : (number : ℕ) → handle_at s session number ≡ None) where
+    left_none : leave t session ≡ t
+    left_none = leave_none (view_of s) t k.shows session (λ number. ap (option_map (shown_handle session)) (none number))
+
+    fewer : (a : ℕ) → lookup (is_at (nat_cmp a)) (remove_entry here s.sessions) ≡ cond (nat_eq session a) None (handles_of s a)
+    fewer a = lookup-removed nat_cmp nat_cmp_total s.sessions session a k.sessions ∙ ap (λ z. cond z None (handles_of s a)) (at_is session a)
+
+    same_handles : (a b : ℕ) → handle_at (with_sessions s (remove_entry here s.sessions)) a b ≡ handle_at s a b
+    same_handles a b =
+        ap (option_and_then (λ (handles : Handles). lookup (is_at (nat_cmp b)) handles)) (fewer a)
+        ∙ elim (nat_eq session a) as (λ z. nat_eq session a ≡ z → option_and_then (λ (handles : Handles). lookup (is_at (nat_cmp b)) handles) (cond z None (handles_of s a)) ≡ handle_at s a b) [
+          | true ↦ λ e. sym (ap (λ (x : ℕ). handle_at s x b) (sym (eqb-true session a e)) ∙ none b)
+          | false ↦ λ e. refl
+        ] refl
+
+    still_ordered : AreOrdered (remove_entry here s.sessions)
+    still_ordered a handles e =
+        elim (nat_eq session a) as (λ z. cond z None (handles_of s a) ≡ Some handles → T (is_sorted nat_cmp handles)) [ true ↦ λ f. cc | false ↦ λ f. k.handles a handles f ] (sym (fewer a) ∙ e)
+
+    keeps_left : Keeps (with_sessions s (remove_entry here s.sessions)) (leave t session)
+    keeps_left = subst (λ (x : Tree). Keeps (with_sessions s (remove_entry here s.sessions)) x) (sym left_none)
+        (keeps_same s t k (remove_entry here s.sessions) same_handles (sorted_removed nat_cmp here s.sessions k.sessions) still_ordered)
+
+  -- the first handle is closed, and then the others
+  module _ (s : StoreState) (t : Tree) (k : Keeps s t) (e : ℕ × OpenHandle) (rest : Handles) (is : handles_of s session ≡ Some (e ∷ rest)) where
+    at : handle_at s session e.0 ≡ Some e.1
+    at = ap (option_and_then (λ (handles : Handles). lookup (is_at (nat_cmp e.0)) handles)) is ∙ ap (λ b. cond b (Some e.1) (lookup (is_at (nat_cmp e.0)) rest)) (nat_at_itself e.0)
+
+    abbrev less : Sessions
+    less = set_value here s.sessions rest
+
+    first_closed : closed s session e.0 ≡ with_sessions (let_go s e.1.node) less
+    first_closed =
+        ap (closed_by (handle_dropped s session e.0 (handles_of s session))) at
+        ∙ ap (λ (o : Option Handles). let_go (handle_dropped s session e.0 o) e.1.node) is
+        ∙ ap (λ (b : Bool). let_go (with_sessions s (set_value here s.sessions (cond b rest (e ∷ remove_entry (is_at (nat_cmp e.0)) rest)))) e.1.node) (nat_at_itself e.0)
+        ∙ let_go_apart s less e.1.node
+
+    rest_there : lookup here less ≡ Some rest
+    rest_there = lookup-set nat_cmp nat_cmp_total s.sessions session rest session (subst (λ x. IsSome x) (sym is) refl) ∙ ap (λ b. cond b (Some rest) (lookup here s.sessions)) (nat_at_itself session)
+
+    keeps_first : Keeps (with_sessions (let_go s e.1.node) less) (changed t (change.CloseHandle e.0))
+    keeps_first = subst (λ (x : StoreState). Keeps x (changed t (change.CloseHandle e.0))) first_closed (keeps_closed s t k session e.0 e.1 at)
+
+    there : handle_of t.handles e.0 ≡ Some (shown_handle session e.1)
+    there = (handle_there t session e.0 (shown_handle session e.1) (k.shows.by.handles session e.0 ∙ ap (option_map (shown_handle session)) at)).0
+
+    left : leave (changed t (change.CloseHandle e.0)) session ≡ leave t session
+    left = leave_closed t session e.0 (shown_handle session e.1) there refl
+
+    -- the same nodes, without the session
+    same_nodes : with_sessions (with_sessions (let_go s e.1.node) less) (remove_entry here less) ≡ let_go (with_sessions s (remove_entry here s.sessions)) e.1.node
+    same_nodes = ap (with_sessions (let_go s e.1.node)) (removed_set here s.sessions rest) ∙ sym (let_go_apart s (remove_entry here s.sessions) e.1.node)
+
+  keeps_each : (handles : Handles) (s : StoreState) (t : Tree) → Keeps s t → handles_of s session ≡ Some handles → Keeps (each_let_go (with_sessions s (remove_entry here s.sessions)) handles) (leave t session)
+  keeps_each [] s t k is = keeps_left s t k (λ number. ap (option_and_then (λ (handles : Handles). lookup (is_at (nat_cmp number)) handles)) is)
+  keeps_each (e ∷ rest) s t k is =
+      subst (λ (x : StoreState). Keeps (each_let_go x rest) (leave t session)) (same_nodes s t k e rest is)
+      (subst (λ (x : Tree). Keeps (each_let_go (with_sessions (with_sessions (let_go s e.1.node) (less s t k e rest is)) (remove_entry here (less s t k e rest is))) rest) x) (left s t k e rest is)
+      (keeps_each rest (with_sessions (let_go s e.1.node) (less s t k e rest is)) (changed t (change.CloseHandle e.0)) (keeps_first s t k e rest is) (rest_there s t k e rest is)))
+
+  keeps_all : (s : StoreState) (t : Tree) → Keeps s t → (o : Option Handles) → handles_of s session ≡ o → Keeps (closed_each s session o) (leave t session)
+  keeps_all s t k None is = subst (λ (x : Tree). Keeps s x) (sym (left_none s t k (λ number. ap (option_and_then (λ (handles : Handles). lookup (is_at (nat_cmp number)) handles)) is))) k
+  keeps_all s t k (Some handles) is = keeps_each handles s t k is
+
+pub keeps_closed_all : (s : StoreState) (t : Tree) → Keeps s t → (session : ℕ) → Keeps (closed_all s session) (leave t session)
+keeps_closed_all s t k session = keeps_all session s t k (handles_of s session) refl

@@ -1,0 +1,109 @@
+-- What a kept store keeps after a node has lost its entry.
+use Rattle.std.specs.Prelude.{◌≡◌, ℕ, nat_eq, Bool, true, false, cond, List, [], ◌∷◌, option_map, option_and_then, slice_set, Option, Some, None, refl}
+use Rattle.std.specs.Option.{option_map_or}
+use Rattle.std.proofs.Common.{sym, ap, ◌∙◌}
+use Rattle.std.specs.Map.{lookup}
+use Rattle.sf_path.specs.Names.{Name}
+use Rattle.sf_path.specs.Order.{same_name}
+use Rattle.sf_call.specs.Tree.{Tree, is_nil}
+use Rattle.sf_inode.specs.declared.node.Node.{Node}
+use Rattle.sf_inode.specs.declared.node.Content.{Content}
+use Rattle.sf_inode.specs.declared.node.Content.TheVariants as content
+use Rattle.sf_inode.specs.Nodes.{entry_in, is_directory_content, is_bare_content, with_content, without_name, is_unused}
+use Rattle.sf_keeps.specs.Steps.{Steps}
+use Rattle.sf_keeps.specs.Shows.{View, Shows}
+use Rattle.sf_inode.specs.Stores.{StoreState, node_in, entry_of, handle_at, with_nodes, edited, released_if, forgotten}
+use Rattle.sf_keeps.specs.Keeps.{view_of, Keeps, times_open}
+use Rattle.sf_keeps.proofs.Sound.{IsBare}
+use Rattle.sf_keeps.proofs.StoreLaws.{node_in-edited, node_in-set, view_stays, view_goes, changed_there}
+use Rattle.sf_keeps.proofs.Openings.{counted_handle}
+use Rattle.sf_keeps.proofs.Counted.{Single, Loose, Reached, Mark, mark_of, marks_of, marked, keeps_marked, marked_lost}
+use Rattle.sf_keeps.proofs.KeepsEdited.{marks_same}
+
+-- ---- what is at a number
+pub directory_at : (nodes : List (Option Node)) (d : ℕ) → option_map_or (λ (it : Node). is_directory_content it.content) (node_in nodes d) false ≡ true
+    → (node : Node) × (es : List (Name × ℕ)) × (node_in nodes d ≡ Some node) × (node.content ≡ content.Directory es)
+directory_at nodes d is =
+    elim (node_in nodes d) as (λ o. node_in nodes d ≡ o → option_map_or (λ (it : Node). is_directory_content it.content) o false ≡ true → (node : Node) × (es : List (Name × ℕ)) × (node_in nodes d ≡ Some node) × (node.content ≡ content.Directory es)) [
+      | None ↦ λ e f. absurd (cc)
+      | Some node ↦ λ e f. elim node.content as (λ c. node.content ≡ c → is_directory_content c ≡ true → (node : Node) × (es : List (Name × ℕ)) × (node_in nodes d ≡ Some node) × (node.content ≡ content.Directory es)) [
+        | content.Directory es ↦ λ g _. (node, es, e, g)
+        | content.File contents ↦ λ g h. absurd (cc)
+      ] refl f
+    ] refl is
+
+-- a node that leads somewhere is there
+pub entry_above : (nodes : List (Option Node)) (d c : ℕ) (n : Name) → entry_of nodes d n ≡ Some c → (node : Node) × (node_in nodes d ≡ Some node)
+entry_above nodes d c n there =
+    elim (node_in nodes d) as (λ o. node_in nodes d ≡ o → option_and_then (λ (z : Node). entry_in z.content n) o ≡ Some c → (node : Node) × (node_in nodes d ≡ Some node)) [
+      | None ↦ λ e f. absurd (cc)
+      | Some node ↦ λ e f. (node, e)
+    ] refl there
+
+bare_nil : (es : List (Name × ℕ)) (m : Name) → is_nil es ≡ true → lookup (same_name m) es ≡ None
+bare_nil [] m e = refl
+bare_nil (x ∷ es) m e = absurd (cc)
+
+bare_content : (c : Content) (m : Name) → is_bare_content c ≡ true → entry_in c m ≡ None
+bare_content (content.Directory es) m e = bare_nil es m e
+bare_content (content.File contents) m e = refl
+
+-- what is a file or an empty directory has no entries
+pub bare_at : (nodes : List (Option Node)) (c : ℕ) → option_map_or (λ (it : Node). is_bare_content it.content) (node_in nodes c) false ≡ true → IsBare (entry_of nodes) c
+bare_at nodes c is m =
+    elim (node_in nodes c) as (λ o. option_map_or (λ (it : Node). is_bare_content it.content) o false ≡ true → option_and_then (λ (z : Node). entry_in z.content m) o ≡ None) [
+      | None ↦ λ e. refl
+      | Some node ↦ λ e. bare_content node.content m e
+    ] is
+
+-- ---- a node that no entry leads to any more
+kept_released : {A : Type 0} (f : StoreState → A) (s : StoreState) (id : ℕ) (o : Option Node) → ((nodes : List (Option Node)) → f (with_nodes s nodes) ≡ f s) → f (released_if s id o) ≡ f s
+kept_released f s id None same = refl
+kept_released f s id (Some node) same =
+    elim (is_unused node) as (λ b. f (cond b (with_nodes s (slice_set s.nodes id None)) s) ≡ f s) [ true ↦ same (slice_set s.nodes id None) | false ↦ refl ]
+
+module _ (s : StoreState) (c : ℕ) (node : Node) (here : node_in s.nodes c ≡ Some node) (bare : IsBare (entry_of s.nodes) c) where
+  abbrev pub mark_left : Option Mark
+  mark_left = cond (nat_eq node.opens 0) None (Some (node.label, false, node.opens))
+
+  abbrev unnamed : StoreState
+  unnamed = edited without_name s c
+
+  pub steps_forgotten : (x : ℕ) (m : Name) → entry_of (forgotten s c).nodes x m ≡ entry_of s.nodes x m
+  steps_forgotten x m = elim (nat_eq node.opens 0) as (λ b. nat_eq node.opens 0 ≡ b → entry_of (forgotten s c).nodes x m ≡ entry_of s.nodes x m) [
+    | true ↦ λ e. ap (λ (v : View). v.step x m) (view_goes without_name s c node here (λ m. refl) refl bare e)
+    | false ↦ λ e. ap (λ (v : View). v.step x m) (view_stays without_name s c node here (λ m. refl) refl e)
+  ] refl
+
+  marks_released : (i : ℕ) (b : Bool) → marks_of (cond b (with_nodes unnamed (slice_set unnamed.nodes c None)) unnamed).nodes i ≡ cond (nat_eq c i) (cond b None (Some (node.label, false, node.opens))) (marks_of s.nodes i)
+  marks_released i true =
+      ap (option_map mark_of) (node_in-set unnamed.nodes c (without_name node) None (changed_there without_name s c node here (λ m. refl) refl) i ∙ ap (cond (nat_eq c i) None) (node_in-edited without_name s c node here i))
+      ∙ elim (nat_eq c i) as (λ z. option_map mark_of (cond z None (cond z (Some (without_name node)) (node_in s.nodes i))) ≡ cond z None (marks_of s.nodes i)) [ true ↦ refl | false ↦ refl ]
+  marks_released i false =
+      ap (option_map mark_of) (node_in-edited without_name s c node here i)
+      ∙ elim (nat_eq c i) as (λ z. option_map mark_of (cond z (Some (without_name node)) (node_in s.nodes i)) ≡ cond z (Some (node.label, false, node.opens)) (marks_of s.nodes i)) [ true ↦ refl | false ↦ refl ]
+
+  pub marks_forgotten : (i : ℕ) → marks_of (forgotten s c).nodes i ≡ cond (nat_eq c i) mark_left (marks_of s.nodes i)
+  marks_forgotten i =
+      ap (λ (o : Option Node). marks_of (released_if unnamed c o).nodes i) (changed_there without_name s c node here (λ m. refl) refl)
+      ∙ marks_released i (nat_eq node.opens 0)
+
+-- a kept store with another entry, whose node then has none
+pub keeps_forgotten : (s mid : StoreState) (t after : Tree) (step : Steps) (c : ℕ) (node : Node) → Keeps s t → node_in mid.nodes c ≡ Some node → ((x : ℕ) (m : Name) → entry_of mid.nodes x m ≡ step x m)
+    → ((i : ℕ) → marks_of mid.nodes i ≡ marks_of s.nodes i) → mid.root ≡ s.root → mid.sessions ≡ s.sessions → Single step → ((id : ℕ) → Loose (entry_of s.nodes) s.root id → Loose step s.root id) → Loose step s.root c
+    → ((id : ℕ) → nat_eq c id ≡ false → Reached (entry_of s.nodes) s.root id → Reached step s.root id) → after.handles ≡ t.handles → Shows (view_of (forgotten mid c)) after → Keeps (forgotten mid c) after
+keeps_forgotten s mid t after step c node k here steps marks root sessions single loose gone reach handles shows =
+    let bare : IsBare (entry_of mid.nodes) c = λ m. steps c m ∙ gone.bare m in
+    let unnamed = edited without_name mid c in
+    keeps_marked s (forgotten mid c) t after step (λ i. cond (nat_eq c i) (mark_left mid c node here bare) (marks_of s.nodes i)) k shows
+    (λ x m. steps_forgotten mid c node here bare x m ∙ steps x m)
+    (λ i. marks_forgotten mid c node here bare i ∙ ap (cond (nat_eq c i) (mark_left mid c node here bare)) (marks i))
+    (kept_released (λ (x : StoreState). x.root) unnamed c (node_in unnamed.nodes c) (λ _. refl) ∙ root)
+    (kept_released (λ (x : StoreState). x.sessions) unnamed c (node_in unnamed.nodes c) (λ _. refl) ∙ sessions)
+    handles
+    (marked_lost (entry_of s.nodes) step s.root (marks_of s.nodes) (times_open t) (handle_at s) (marked s t k) single loose c node.label node.opens node.named
+    (sym (marks c) ∙ ap (option_map mark_of) here) gone reach (counted_handle s t k))
+
+-- an entry changes no node's marks
+pub marks_entries : (f : Content → Content) (s : StoreState) (d : ℕ) (above : Node) → node_in s.nodes d ≡ Some above → (i : ℕ) → marks_of (edited (with_content f) s d).nodes i ≡ marks_of s.nodes i
+marks_entries f s d above here = marks_same s.nodes (edited (with_content f) s d).nodes d above (with_content f above) here (node_in-edited (with_content f) s d above here) refl

@@ -1,0 +1,107 @@
+-- What a store keeps after an entry was put in or taken out.
+use Rattle.std.specs.Prelude.{◌≡◌, ℕ, nat_eq, true, false, cond, ◌&&◌, List, [], ◌∷◌, ◌++◌, option_map, option_and_then, is_some, Option, Some, None, refl}
+use Rattle.std.specs.Option.{option_map_or}
+use Rattle.std.proofs.Common.{sym, ap, subst, ◌∙◌, eqb-true}
+use Rattle.std.specs.Map.{lookup}
+use Rattle.sf_path.specs.Names.{Name, Path}
+use Rattle.sf_path.specs.Order.{same_name}
+use Rattle.sf_call.specs.Attributes.{Object}
+use Rattle.sf_call.specs.Tree.{Tree, directory_metadata, object_of}
+use Rattle.sf_call.specs.Changes.{changed}
+use Rattle.sf_call.specs.Changes.Change.{NewPath, GonePath}
+use Rattle.sf_call.specs.declared.metadata.FileType.{FileType}
+use Rattle.sf_call.specs.declared.metadata.FileType.TheVariants as file_type
+use Rattle.sf_inode.specs.declared.node.Node.{Node}
+use Rattle.sf_inode.specs.declared.node.NewNode.{NewNode}
+use Rattle.sf_inode.specs.declared.node.Content.{Content}
+use Rattle.sf_inode.specs.declared.node.Content.TheVariants as content
+use Rattle.sf_inode.specs.Nodes.{entry_in, object_in, is_directory_content, is_bare_content, new_content, new_node, more_content, less_content, with_content}
+use Rattle.sf_keeps.specs.Steps.{walk, changed_step}
+use Rattle.sf_keeps.specs.Shows.{View, Shows, is_directory_by}
+use Rattle.sf_inode.specs.Stores.{StoreState, node_in, entry_of, shown_node, shown_of, handle_at, entry_put, entry_taken, forgotten, unlinked, unlinked_from, Inserted}
+use Rattle.sf_keeps.specs.Keeps.{view_of, Keeps, times_open}
+use Rattle.sf_keeps.proofs.Sound.{directory_there}
+use Rattle.sf_keeps.proofs.Shown.{nat_eq_apart, same_apart}
+use Rattle.sf_keeps.proofs.StoreLaws.{node_in-edited, step_changed, more_says, view_taken, shows_inserted, shows_unlinked_gone, shows_unlinked_open}
+use Rattle.sf_keeps.proofs.Openings.{closed_label, opener, entry_node, unopened}
+use Rattle.sf_keeps.proofs.Counted.{Loose, Mark, mark_of, marks_of, marked, keeps_marked}
+use Rattle.sf_keeps.proofs.CountedSteps.{single_less, loose_less, none_left, bare_less, bare_apart, reach_less, marked_new}
+use Rattle.sf_keeps.proofs.Forgotten.{directory_at, entry_above, bare_at, keeps_forgotten, marks_entries}
+
+-- ---- an entry taken out
+pub keeps_unlinked : (s : StoreState) (t : Tree) (p : Path) (d : ℕ) (n : Name) (c : ℕ) → Keeps s t → walk (entry_of s.nodes) s.root p ≡ Some d → entry_of s.nodes d n ≡ Some c
+    → option_map_or (λ (it : Node). is_bare_content it.content) (node_in s.nodes c) false ≡ true → Keeps (unlinked s d n) (changed t (GonePath (p ++ n ∷ [])))
+keeps_unlinked s t p d n c k at there is_bare =
+    let above = entry_above s.nodes d c n there in
+    let node = entry_node s t k d c n there in
+    let bare = bare_at s.nodes c is_bare in
+    let step = changed_step (entry_of s.nodes) d n None in
+    let after = changed t (GonePath (p ++ n ∷ [])) in
+    let mid = entry_taken s d n in
+    let here : node_in mid.nodes c ≡ Some node.0 =
+    node_in-edited (with_content (less_content n)) s d above.0 above.1 c ∙ ap (λ b. cond b (Some (with_content (less_content n) above.0)) (node_in s.nodes c)) (bare_apart (entry_of s.nodes) d c n c there bare) ∙ node.1 in
+    let shows : Shows (view_of (unlinked s d n)) after =
+    elim (nat_eq node.0.opens 0) as (λ b. nat_eq node.0.opens 0 ≡ b → Shows (view_of (unlinked s d n)) after) [
+      | true ↦ λ e. shows_unlinked_gone s t k.shows p d n c above.0 node.0 at above.1 there node.1 bare (none_left (entry_of s.nodes) d n c k.single there)
+          (closed_label s t k node.0.label (sym (k.counted c node.0 node.1) ∙ eqb-true node.0.opens 0 e)) e
+      | false ↦ λ e.
+          let o = opener s t k node.0.label (ap (λ (x : ℕ). nat_eq x 0) (sym (k.counted c node.0 node.1)) ∙ e) in
+          shows_unlinked_open s t k.shows p d n c above.0 node.0 at above.1 there node.1 bare o.session o.number o.handle o.opens o.same e
+    ] refl in
+    let is : unlinked s d n ≡ forgotten mid c = ap (unlinked_from s d n) there in
+    subst (λ (x : StoreState). Keeps x after) (sym is)
+    (keeps_forgotten s mid t after step c node.0 k here (λ x m. ap (λ (v : View). v.step x m) (view_taken s d n above.0 above.1)) (marks_entries (less_content n) s d above.0 above.1) refl refl
+    (single_less (entry_of s.nodes) d n k.single) (loose_less (entry_of s.nodes) d n s.root)
+    (record { free = none_left (entry_of s.nodes) d n c k.single there; other = λ e. k.shows.by.sound.top d n (there ∙ ap Some (sym e)); bare = bare_less (entry_of s.nodes) d n c bare })
+    (reach_less (view_of s) t k.shows.by p d n at c there bare) refl (subst (λ (x : StoreState). Shows (view_of x) after) is shows))
+
+-- ---- a new node
+new_bare : (kind : FileType) (m : Name) → entry_in (new_content kind) m ≡ None
+new_bare file_type.Directory m = refl
+new_bare file_type.File m = refl
+
+module _ (old new : StoreState) (d : ℕ) (n : Name) (c : ℕ) (node above : Node) (es : List (Name × ℕ)) (did : Inserted old new d n c node) (here : node_in old.nodes d ≡ Some above)
+    (dir : above.content ≡ content.Directory es) (free : lookup (same_name n) es ≡ None) (bare : (m : Name) → entry_in node.content m ≡ None) where
+  abbrev mid : StoreState
+  mid = entry_put old d n c
+
+  node_new : (i : ℕ) (A : Type 0) (f : Option Node → A) (v : A) → f (Some node) ≡ v → f (node_in new.nodes i) ≡ cond (nat_eq c i) v (f (node_in mid.nodes i))
+  node_new i A f v is = elim (nat_eq c i) as (λ b. nat_eq c i ≡ b → f (node_in new.nodes i) ≡ cond b v (f (node_in mid.nodes i))) [
+    | true ↦ λ e. ap f (ap (node_in new.nodes) (sym (eqb-true c i e)) ∙ did.at) ∙ is
+    | false ↦ λ e. ap f (did.others i (λ g. same_apart c i e (sym g)))
+  ] refl
+
+  steps_new : (x : ℕ) (m : Name) → entry_of new.nodes x m ≡ changed_step (entry_of old.nodes) d n (Some c) x m
+  steps_new x m =
+      node_new x (Option ℕ) (option_and_then (λ (z : Node). entry_in z.content m)) None (bare m)
+      ∙ ap (cond (nat_eq c x) None) (step_changed old.nodes mid.nodes d above (with_content (more_content n c) above) here (node_in-edited (with_content (more_content n c)) old d above here) n (Some c)
+      (λ m. subst (λ (z : Content). entry_in (more_content n c z) m ≡ cond (same_name n m) (Some c) (entry_in z m)) (sym dir) (more_says n m c es free)) x m)
+      ∙ elim (nat_eq c x) as (λ b. nat_eq c x ≡ b → cond b None (changed_step (entry_of old.nodes) d n (Some c) x m) ≡ changed_step (entry_of old.nodes) d n (Some c) x m) [
+        | true ↦ λ e. sym (
+            ap (λ b. cond (b && same_name n m) (Some c) (entry_of old.nodes x m)) (nat_eq_apart d x (λ f. let g = ap (node_in old.nodes) (f ∙ sym (eqb-true c x e)) in let h = did.fresh in cc))
+            ∙ ap (option_and_then (λ (z : Node). entry_in z.content m)) (ap (node_in old.nodes) (sym (eqb-true c x e)) ∙ did.fresh))
+        | false ↦ λ e. refl
+      ] refl
+
+  marks_new : (i : ℕ) → marks_of new.nodes i ≡ cond (nat_eq c i) (Some (mark_of node)) (marks_of old.nodes i)
+  marks_new i = node_new i (Option Mark) (option_map mark_of) (Some (mark_of node)) refl ∙ ap (cond (nat_eq c i) (Some (mark_of node))) (marks_entries (more_content n c) old d above here i)
+
+pub keeps_inserted : (old new : StoreState) (t : Tree) (p : Path) (d : ℕ) (n : Name) (c : ℕ) (made : NewNode) → Keeps old t → Inserted old new d n c (new_node made)
+    → walk (entry_of old.nodes) old.root p ≡ Some d → option_map_or (λ (it : Node). is_directory_content it.content) (node_in old.nodes d) false ≡ true → entry_of old.nodes d n ≡ None → object_of t.objects made.label ≡ None
+    → Keeps new (changed t (NewPath (p ++ n ∷ []) made.label (object_in made.metadata (new_content made.file_type))))
+keeps_inserted old new t p d n c made k did at is_dir free fresh =
+    let w = directory_at old.nodes d is_dir in
+    let bare = new_bare made.file_type in
+    let none : lookup (same_name n) w.1 ≡ None = sym (ap (option_and_then (λ (z : Node). entry_in z.content n)) w.2 ∙ ap (λ (z : Content). entry_in z n) w.3) ∙ free in
+    let is : is_directory_by (shown_of old.nodes) d ≡ true = ap (λ (v : Option Node). is_some (option_and_then (λ (w : ℕ × Object). directory_metadata w.1) (option_map shown_node v))) w.2 ∙ ap (λ (z : Content). is_some (directory_metadata (object_in w.0.metadata z))) w.3 in
+    let gone : shown_of old.nodes c ≡ None = ap (option_map shown_node) did.fresh in
+    let lone : Loose (entry_of old.nodes) old.root c = record {
+      free = λ x m e. k.shows.by.sound.to x c m e gone;
+      other = λ e. directory_there (shown_of old.nodes) old.root k.shows.by.sound.rooted (ap (shown_of old.nodes) e ∙ gone);
+      bare = λ m. ap (option_and_then (λ (z : Node). entry_in z.content m)) did.fresh;
+    } in
+    keeps_marked old new t (changed t (NewPath (p ++ n ∷ []) made.label (object_in made.metadata (new_content made.file_type)))) (changed_step (entry_of old.nodes) d n (Some c))
+    (λ i. cond (nat_eq c i) (Some (made.label, true, 0)) (marks_of old.nodes i)) k
+    (shows_inserted old new t p d n c (new_node made) w.0 w.1 did k.shows at w.2 w.3 none bare fresh)
+    (steps_new old new d n c (new_node made) w.0 w.1 did w.2 w.3 none bare) (marks_new old new d n c (new_node made) w.0 w.1 did w.2 w.3 none bare) did.root did.sessions refl
+    (marked_new (view_of old) t k.shows.by p d n c made.label (marks_of old.nodes) (times_open t) (handle_at old) (marked old t k) at is free (ap (option_map mark_of) did.fresh) lone (unopened old t k made.label fresh))

@@ -1,0 +1,94 @@
+-- What a number shows, and what a store keeps after that was changed.
+use Rattle.std.specs.Prelude.{◌≡◌, ℕ, Bool, true, false, cond, List, [], ◌∷◌, option_map, Option, Some, None, refl}
+use Rattle.std.specs.Option.{option_map_or}
+use Rattle.std.proofs.Common.{ap, subst, ◌∙◌}
+use Rattle.std.specs.Ordering.{nat_cmp}
+use Rattle.std.specs.Map.{set_value}
+use Rattle.std.specs.BTreeMap.{is_at}
+use Rattle.sf_call.specs.declared.metadata.Metadata.{Metadata}
+use Rattle.sf_call.specs.Attributes.{Object}
+use Rattle.sf_call.specs.Attributes.Object.{Directory, File}
+use Rattle.sf_call.specs.Tree.{Tree, with_objects}
+use Rattle.sf_call.specs.Changes.{changed}
+use Rattle.sf_call.specs.Changes.Change.{SetObject}
+use Rattle.sf_inode.specs.declared.node.Node.{Node}
+use Rattle.sf_inode.specs.declared.node.Content.{Content}
+use Rattle.sf_inode.specs.declared.node.Content.TheVariants as content
+use Rattle.sf_inode.specs.Nodes.{object_in, is_directory_content, is_file_content, stored_in, with_metadata}
+use Rattle.sf_inode.specs.Stores.{StoreState, node_in, shown_node, shown_of, edited, bytes_set, stored_of, is_directory_at, is_file_at}
+use Rattle.sf_keeps.specs.Keeps.{Keeps}
+use Rattle.sf_keeps.proofs.KeepsEdited.{keeps_metadata, keeps_bytes}
+
+some_same : (a b : ℕ × Object) → ◌≡◌ {A = Option (ℕ × Object)} (Some a) (Some b) → a ≡ b
+some_same a b e = cc
+
+-- a node is there that shows it
+pub node_shown : (nodes : List (Option Node)) (id label : ℕ) (o : Object) → shown_of nodes id ≡ Some (label, o) → (node : Node) × (node_in nodes id ≡ Some node) × (node.label ≡ label) × (object_in node.metadata node.content ≡ o)
+node_shown nodes id label o e =
+    elim (node_in nodes id) as (λ v. node_in nodes id ≡ v → option_map shown_node v ≡ Some (label, o) → (node : Node) × (node_in nodes id ≡ Some node) × (node.label ≡ label) × (object_in node.metadata node.content ≡ o)) [
+      | None ↦ λ f g. absurd (cc)
+      | Some node ↦ λ f g. let same = some_same (shown_node node) (label, o) g in (node, f, ap (λ (w : ℕ × Object). w.0) same, ap (λ (w : ℕ × Object). w.1) same)
+    ] refl e
+
+directory_content : (k m : Metadata) (c : Content) → object_in k c ≡ Directory m → (k ≡ m) × (is_directory_content c ≡ true)
+directory_content k m (content.Directory es) e = (cc, refl)
+directory_content k m (content.File contents) e = absurd (cc)
+
+file_content : (k m : Metadata) (bytes : List ℕ) (c : Content) → object_in k c ≡ File m bytes → (k ≡ m) × (is_file_content c ≡ true) × ((stored_in c).bytes ≡ bytes)
+file_content k m bytes (content.Directory es) e = absurd (cc)
+file_content k m bytes (content.File contents) e = (cc, refl, cc)
+
+pub directory_shown : (nodes : List (Option Node)) (id label : ℕ) (m : Metadata) → shown_of nodes id ≡ Some (label, Directory m) → is_directory_at nodes id ≡ true
+directory_shown nodes id label m e =
+    let w = node_shown nodes id label (Directory m) e in
+    ap (λ (o : Option Node). option_map_or (λ (it : Node). is_directory_content it.content) o false) w.1 ∙ (directory_content w.0.metadata m w.0.content w.3).1
+
+pub file_shown : (nodes : List (Option Node)) (id label : ℕ) (m : Metadata) (bytes : List ℕ) → shown_of nodes id ≡ Some (label, File m bytes) → (is_file_at nodes id ≡ true) × ((stored_of nodes id).bytes ≡ bytes)
+file_shown nodes id label m bytes e =
+    let w = node_shown nodes id label (File m bytes) e in
+    let f = file_content w.0.metadata m bytes w.0.content w.3 in (
+      ap (λ (o : Option Node). option_map_or (λ (it : Node). is_file_content it.content) o false) w.1 ∙ f.1,
+      ap (λ (o : Option Node). (option_map_or (λ (it : Node). stored_in it.content) o (record { bytes = []; room = 0 })).bytes) w.1 ∙ f.2,
+    )
+
+-- ---- other metadata of a directory or a file, and other bytes
+other_directory : (f : Metadata → Metadata) (k m : Metadata) (c : Content) → object_in k c ≡ Directory m → object_in (f k) c ≡ Directory (f m)
+other_directory f k m (content.Directory es) e = ap (λ (x : Metadata). Directory (f x)) (directory_content k m (content.Directory es) e).0
+other_directory f k m (content.File contents) e = absurd (cc)
+
+other_file : (f : Metadata → Metadata) (k m : Metadata) (bytes : List ℕ) (c : Content) → object_in k c ≡ File m bytes → object_in (f k) c ≡ File (f m) bytes
+other_file f k m bytes (content.Directory es) e = absurd (cc)
+other_file f k m bytes (content.File contents) e = let w = file_content k m bytes (content.File contents) e in λ i. File (f (w.0 i)) (w.2 i)
+
+pub keeps_directory : (f : Metadata → Metadata) (s : StoreState) (t : Tree) (id label : ℕ) (m : Metadata) → Keeps s t → shown_of s.nodes id ≡ Some (label, Directory m)
+    → Keeps (edited (with_metadata f) s id) (changed t (SetObject label (Directory (f m))))
+keeps_directory f s t id label m k e =
+    let w = node_shown s.nodes id label (Directory m) e in
+    subst (λ (v : ℕ × Object). Keeps (edited (with_metadata f) s id) (changed t (SetObject v.0 v.1))) (λ i. (w.2 i, other_directory f w.0.metadata m w.0.content w.3 i))
+    (keeps_metadata f s t id w.0 k w.1)
+
+pub keeps_file : (f : Metadata → Metadata) (s : StoreState) (t : Tree) (id label : ℕ) (m : Metadata) (bytes : List ℕ) → Keeps s t → shown_of s.nodes id ≡ Some (label, File m bytes)
+    → Keeps (edited (with_metadata f) s id) (changed t (SetObject label (File (f m) bytes)))
+keeps_file f s t id label m bytes k e =
+    let w = node_shown s.nodes id label (File m bytes) e in
+    subst (λ (v : ℕ × Object). Keeps (edited (with_metadata f) s id) (changed t (SetObject v.0 v.1))) (λ i. (w.2 i, other_file f w.0.metadata m bytes w.0.content w.3 i))
+    (keeps_metadata f s t id w.0 k w.1)
+
+pub keeps_contents : (s after : StoreState) (t : Tree) (id label : ℕ) (m : Metadata) (old new : List ℕ) → Keeps s t → shown_of s.nodes id ≡ Some (label, File m old)
+    → Keeps (bytes_set s id new after) (changed t (SetObject label (File m new)))
+keeps_contents s after t id label m old new k e =
+    let w = node_shown s.nodes id label (File m old) e in
+    subst (λ (v : ℕ × Metadata). Keeps (bytes_set s id new after) (changed t (SetObject v.0 (File v.1 new)))) (λ i. (w.2 i, (file_content w.0.metadata m old w.0.content w.3).0 i))
+    (keeps_bytes s after t id w.0 new k w.1 (file_shown s.nodes id label m old e).0)
+
+-- ---- objects set twice
+set_again : {K X : Type 0} (test : K → Bool) (es : List (K × X)) (v w : X) → set_value test (set_value test es v) w ≡ set_value test es w
+set_again test [] v w = refl
+set_again test (e ∷ es) v w =
+    elim (test e.0) as (λ b. test e.0 ≡ b → set_value test (cond b ((e.0, v) ∷ es) (e ∷ set_value test es v)) w ≡ cond b ((e.0, w) ∷ es) (e ∷ set_value test es w)) [
+      | true ↦ λ f. ap (λ b. cond b ((e.0, w) ∷ es) ((e.0, v) ∷ set_value test es w)) f
+      | false ↦ λ f. ap (λ b. cond b ((e.0, w) ∷ set_value test es v) (e ∷ set_value test (set_value test es v) w)) f ∙ ap (λ rest. e ∷ rest) (set_again test es v w)
+    ] refl
+
+pub object_again : (t : Tree) (label : ℕ) (o u : Object) → changed (changed t (SetObject label o)) (SetObject label u) ≡ changed t (SetObject label u)
+object_again t label o u = ap (with_objects t) (set_again (is_at (nat_cmp label)) t.objects o u)

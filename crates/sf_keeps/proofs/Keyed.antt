@@ -1,0 +1,81 @@
+-- Lists of entries in the order of their keys: what look-ups find after each change, and what passes a test.
+use Rattle.std.specs.Prelude.{◌≡◌, Bool, true, false, cond, T, ◌||◌, List, [], ◌∷◌, Some, None, IsSome, refl}
+use Rattle.std.proofs.Common.{sym, ap, ◌∙◌}
+use Rattle.std.specs.List.{list_any, IsDistinct, AllByRecursion}
+use Rattle.std.specs.Ordering.{is_eq, is_lt, eq_by_cmp}
+use Rattle.std.specs.declared.cmp.Ordering.{Ordering}
+use Rattle.std.specs.declared.cmp.Ordering.TheVariants.{Less, Equal, Greater}
+use Rattle.std.specs.Cmp.{IsTotalOrder, tied_itself, eq_by_cmp_equiv}
+use Rattle.std.specs.Map.{lookup, remove_entry, set_value, keys_of}
+use Rattle.std.specs.BTreeMap.{is_at}
+use Rattle.std.specs.FinMap.{is_sorted}
+use Rattle.std.specs.FinMap.Entries.{below_all}
+use Rattle.sf_call.proofs.Ordered.{and_first, and_second}
+use Rattle.sf_call.proofs.MovedNames.{is_equal}
+use Rattle.std.proofs.lemmas.Map.{lookup-set_value, lookup-remove_entry}
+
+less_not_equal : (r : Ordering) → T (is_lt r) → is_eq r ≡ false
+less_not_equal Less p = refl
+less_not_equal Equal p = absurd p
+less_not_equal Greater p = refl
+
+tied_alike : {K : Type 0} {R : K → K → Ordering} → IsTotalOrder R → (k x y : K) → is_at (R k) x ≡ true → is_at (R k) y ≡ eq_by_cmp R x y
+tied_alike {R = R} o k x y t = ap is_eq (o.congr k x y (is_equal (R k x) t))
+
+module _ {K X : Type 0} where
+  -- without an entry that does not pass, as many pass
+  pub any-removed : (f : X → Bool) (test : K → Bool) (es : List (K × X)) (v : X) → lookup test es ≡ Some v → f v ≡ false → list_any (λ e. f e.1) (remove_entry test es) ≡ list_any (λ e. f e.1) es
+  any-removed f test [] v l t = refl
+  any-removed f test (e ∷ es) v l t =
+      elim (test e.0) as (λ b. cond b (Some e.1) (lookup test es) ≡ Some v → list_any (λ e. f e.1) (cond b es (e ∷ remove_entry test es)) ≡ (f e.1 || list_any (λ e. f e.1) es)) [
+        | true ↦ λ h. let w : v ≡ e.1 = cc in ap (λ b. b || list_any (λ e. f e.1) es) (sym t ∙ ap f w)
+        | false ↦ λ h. ap (λ b. f e.1 || b) (any-removed f test es v h t)
+      ] l
+
+module _ {K X : Type 0} (R : K → K → Ordering) where
+  pub any_lookup : (f : X → Bool) (es : List (K × X)) (q : K) (v : X) → lookup (is_at (R q)) es ≡ Some v → f v ≡ true → list_any (λ e. f e.1) es ≡ true
+  any_lookup f [] q v l t = cc
+  any_lookup f (e ∷ es) q v l t =
+      elim (is_at (R q) e.0) as (λ b. cond b (Some e.1) (lookup (is_at (R q)) es) ≡ Some v → (f e.1 || list_any (λ e. f e.1) es) ≡ true) [
+        | true ↦ λ h. let w : e.1 ≡ v = cc in ap (λ b. b || list_any (λ e. f e.1) es) (ap f w ∙ t)
+        | false ↦ λ h. elim (f e.1) as (λ b. (b || list_any (λ e. f e.1) es) ≡ true) [ true ↦ refl | false ↦ any_lookup f es q v h t ]
+      ] l
+
+  module _ (o : IsTotalOrder R) where
+    pub lookup-set : (es : List (K × X)) (k : K) (v : X) (q : K) → IsSome (lookup (is_at (R k)) es) → lookup (is_at (R q)) (set_value (is_at (R k)) es v) ≡ cond (is_at (R k) q) (Some v) (lookup (is_at (R q)) es)
+    lookup-set es k v q h = lookup-set_value (eq_by_cmp_equiv o) (is_at (R k)) (tied_alike o k) q v es h
+
+    apart : (x : K) (es : List (K × X)) → T (below_all R x es) → AllByRecursion (λ y. eq_by_cmp R x y ≡ false) (keys_of es)
+    apart x [] h = tt
+    apart x (e ∷ es) h = (less_not_equal _ (and_first _ _ h), apart x es (and_second _ _ h))
+
+    pub distinct : (es : List (K × X)) → T (is_sorted R es) → IsDistinct (eq_by_cmp R) (keys_of es)
+    unfolding IsDistinct
+    distinct [] h = tt
+    distinct (e ∷ es) h = (apart e.0 es (and_first _ _ h), distinct es (and_second _ _ h))
+
+    pub lookup-removed : (es : List (K × X)) (k q : K) → T (is_sorted R es) → lookup (is_at (R q)) (remove_entry (is_at (R k)) es) ≡ cond (is_at (R k) q) None (lookup (is_at (R q)) es)
+    lookup-removed es k q h = lookup-remove_entry (eq_by_cmp_equiv o) (is_at (R k)) (tied_alike o k) q es (distinct es h)
+
+    pub lookup_below : (q k : K) (es : List (K × X)) → R q k ≡ Equal → T (below_all R k es) → lookup (is_at (R q)) es ≡ None
+    lookup_below q k [] e h = refl
+    lookup_below q k (f ∷ es) e h =
+        ap (λ b. cond b (Some f.1) (lookup (is_at (R q)) es)) (ap is_eq (o.congr q k f.0 e) ∙ less_not_equal _ (and_first _ _ h))
+        ∙ lookup_below q k es e (and_second _ _ h)
+
+    pub lookup_any : (f : X → Bool) (es : List (K × X)) → T (is_sorted R es) → list_any (λ e. f e.1) es ≡ true → (q : K) × (v : X) × (lookup (is_at (R q)) es ≡ Some v) × (f v ≡ true)
+    lookup_any f [] h t = cc
+    lookup_any f (e ∷ es) h t =
+        elim (f e.1) as (λ b. f e.1 ≡ b → (b || list_any (λ e. f e.1) es) ≡ true → (q : K) × (v : X) × (lookup (is_at (R q)) (e ∷ es) ≡ Some v) × (f v ≡ true)) [
+          | true ↦ λ p _. (e.0, e.1, ap (λ r. cond (is_eq r) (Some e.1) (lookup (is_at (R e.0)) es)) (tied_itself o e.0), p)
+          | false ↦ λ p rest.
+              let found = lookup_any f es (and_second (below_all R e.0 es) (is_sorted R es) h) rest in (
+                found.0,
+                found.1,
+                elim (is_at (R found.0) e.0) as (λ b. is_at (R found.0) e.0 ≡ b → cond b (Some e.1) (lookup (is_at (R found.0)) es) ≡ Some found.1) [
+                  | true ↦ λ at. let none = lookup_below found.0 e.0 es (is_equal (R found.0 e.0) at) (and_first (below_all R e.0 es) (is_sorted R es) h) in let some = found.2 in cc
+                  | false ↦ λ at. found.2
+                ] refl,
+                found.3,
+              )
+        ] refl t

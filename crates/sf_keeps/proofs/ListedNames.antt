@@ -1,0 +1,151 @@
+-- The names of a directory past a name, in the tree and in the store.
+use Rattle.std.specs.Prelude.{◌≡◌, ℕ, true, false, cond, T, List, [], ◌∷◌, ◌++◌, filter_map, option_map, option_and_then, Option, Some, None, if◌then◌else◌, refl}
+use Rattle.std.proofs.Common.{sym, ap, subst, ◌∙◌}
+use Rattle.std.specs.List.{cons_option, AllByRecursion}
+use Rattle.std.specs.declared.cmp.Ordering.{Ordering}
+use Rattle.std.specs.declared.cmp.Ordering.TheVariants.{Less, Equal, Greater}
+use Rattle.std.specs.Ordering.{is_lt, is_eq}
+use Rattle.std.specs.Cmp.{IsTotalOrder, tied_itself}
+use Rattle.std.specs.Map.{lookup}
+use Rattle.std.specs.BTreeMap.{is_at, insert_entry}
+use Rattle.std.specs.FinMap.{is_sorted}
+use Rattle.std.specs.FinMap.Entries.{below_all}
+use Rattle.sf_path.specs.Names.{Name, Path}
+use Rattle.sf_path.specs.Order.{same_name, same_path, name_cmp, path_cmp, name_total}
+use Rattle.sf_call.specs.Tree.{after_front, only_name, label_at}
+use Rattle.sf_call.specs.Listings.{is_past, name_past}
+use Rattle.sf_call.proofs.LookUps.{lookup-put}
+use Rattle.sf_call.proofs.MovedNames.{is_equal, same_path_is, same_name_is, same_name_itself, after_front-append, append-after_front, path_cmp-front}
+use Rattle.sf_call.proofs.Ordered.{and_first, and_second}
+use Rattle.sf_inode.specs.Nodes.{sorted_past}
+use Rattle.sf_keeps.proofs.Keyed.{lookup_below}
+use Rattle.sf_keeps.proofs.Orderly.{and_both, sorted_put}
+use Rattle.sf_keeps.proofs.Shown.{same_path_itself}
+
+-- ---- what holds of all that look-ups find, holds of each entry
+module _ {K X : Type 0} (R : K → K → Ordering) (o : IsTotalOrder R) (P : K × X → Type 0) where
+  pub each_found : (es : List (K × X)) → T (is_sorted R es) → ((q : K) (v : X) → lookup (is_at (R q)) es ≡ Some v → P (q, v)) → AllByRecursion P es
+  each_found [] sorted h = tt
+  each_found (e ∷ es) sorted h = (
+    h e.0 e.1 (ap (λ r. cond (is_eq r) (Some e.1) (lookup (is_at (R e.0)) es)) (tied_itself o e.0)),
+    each_found es (and_second (below_all R e.0 es) (is_sorted R es) sorted) (λ q v l. h q v (elim (is_at (R q) e.0) as (λ b. is_at (R q) e.0 ≡ b → cond b (Some e.1) (lookup (is_at (R q)) es) ≡ Some v) [
+      | true ↦ λ t. let none = lookup_below R o q e.0 es (is_equal (R q e.0) t) (and_first (below_all R e.0 es) (is_sorted R es) sorted) in cc
+      | false ↦ λ t. l
+    ] refl)),
+  )
+
+abbrev pub with_label : ℕ → Name → Name × ℕ
+with_label label n = (n, label)
+
+module _ (last : Option Name) where
+  -- ---- a directory's entries
+  pub sorted_sorted : (es : List (Name × ℕ)) → T (is_sorted name_cmp (sorted_past last es))
+  sorted_sorted [] = tt
+  sorted_sorted (e ∷ es) = elim (is_past last e.0) as (λ b. T (is_sorted name_cmp (if b then insert_entry name_cmp (sorted_past last es) e.0 e.1 else sorted_past last es))) [
+    | true ↦ sorted_put name_cmp name_total (sorted_past last es) e.0 e.1 (sorted_sorted es)
+    | false ↦ sorted_sorted es
+  ]
+
+  pub sorted_found : (es : List (Name × ℕ)) (q : Name) → lookup (same_name q) (sorted_past last es) ≡ cond (is_past last q) (lookup (same_name q) es) None
+  sorted_found [] q = elim (is_past last q) as (λ b. ◌≡◌ {A = Option ℕ} None (cond b None None)) [ true ↦ refl | false ↦ refl ]
+  sorted_found (e ∷ es) q =
+      let rest = sorted_past last es in
+      elim (is_past last e.0) as (λ b. is_past last e.0 ≡ b → lookup (same_name q) (if b then insert_entry name_cmp rest e.0 e.1 else rest) ≡ cond (is_past last q) (cond (same_name q e.0) (Some e.1) (lookup (same_name q) es)) None) [
+        | true ↦ λ past. lookup-put name_cmp name_total rest e.0 e.1 q
+            ∙ elim (same_name q e.0) as (λ b. same_name q e.0 ≡ b → cond b (Some e.1) (lookup (same_name q) rest) ≡ cond (is_past last q) (cond b (Some e.1) (lookup (same_name q) es)) None) [
+              | true ↦ λ t. sym (ap (λ b. cond b (Some e.1) None) (ap (is_past last) (same_name_is q e.0 t) ∙ past))
+              | false ↦ λ t. sorted_found es q
+            ] refl
+        | false ↦ λ past. sorted_found es q
+            ∙ elim (same_name q e.0) as (λ b. same_name q e.0 ≡ b → cond (is_past last q) (lookup (same_name q) es) None ≡ cond (is_past last q) (cond b (Some e.1) (lookup (same_name q) es)) None) [
+              | true ↦ λ t.
+                  let out = ap (is_past last) (same_name_is q e.0 t) ∙ past in
+                  ap (λ b. cond b (lookup (same_name q) es) None) out ∙ sym (ap (λ b. cond b (Some e.1) None) out)
+              | false ↦ λ t. refl
+            ] refl
+      ] refl
+
+  -- ---- the tree's names right below a path, with their labels
+  module _ (p : Path) where
+    abbrev pub child : Path × ℕ → Option (Name × ℕ)
+    child e = option_map (with_label e.1) (name_past p last e.0)
+
+    abbrev past : Option Path → Option Name
+    past rest = option_and_then (λ n. if is_past last n then Some n else None) (only_name rest)
+
+    past_rest : (path rest : Path) (n : Name) → after_front p path ≡ Some rest → past (Some rest) ≡ Some n → path ≡ p ++ n ∷ []
+    past_rest path [] n e f = cc
+    past_rest path (m ∷ []) n e f =
+        let same : m ≡ n = elim (is_past last m) as (λ b. (if b then Some m else None) ≡ Some n → m ≡ n) [ true ↦ λ g. cc | false ↦ λ g. cc ] f in
+        append-after_front p path (m ∷ []) e ∙ ap (λ (z : Name). p ++ z ∷ []) same
+    past_rest path (m ∷ k ∷ r) n e f = cc
+
+    child_is : (e : Path × ℕ) (c : Name × ℕ) → child e ≡ Some c → e.0 ≡ p ++ c.0 ∷ []
+    child_is e c =
+        elim (after_front p e.0) as (λ o. after_front p e.0 ≡ o → option_map (with_label e.1) (past o) ≡ Some c → e.0 ≡ p ++ c.0 ∷ []) [
+          | None ↦ λ a f. cc
+          | Some rest ↦ λ a. elim (past (Some rest)) as (λ o. past (Some rest) ≡ o → option_map (with_label e.1) o ≡ Some c → e.0 ≡ p ++ c.0 ∷ []) [
+            | None ↦ λ g f. cc
+            | Some n ↦ λ g f. let same : n ≡ c.0 = ap (λ (o : Option (Name × ℕ)). elim o as (λ _. Name) [ None ↦ n | Some x ↦ x.0 ]) f in past_rest e.0 rest n a g ∙ ap (λ (z : Name). p ++ z ∷ []) same
+          ] refl
+        ] refl
+
+    child_at : (q : Name) (label : ℕ) → child (p ++ q ∷ [], label) ≡ cond (is_past last q) (Some (q, label)) None
+    child_at q label =
+        ap (λ (o : Option Path). option_map (with_label label) (past o)) (after_front-append p (q ∷ []))
+        ∙ elim (is_past last q) as (λ b. option_map (with_label label) (if b then Some q else None) ≡ cond b (Some (q, label)) None) [ true ↦ refl | false ↦ refl ]
+
+    pub child_found : (names : List (Path × ℕ)) (q : Name) → lookup (same_name q) (filter_map child names) ≡ cond (is_past last q) (label_at names (p ++ q ∷ [])) None
+    child_found [] q = elim (is_past last q) as (λ b. ◌≡◌ {A = Option ℕ} None (cond b None None)) [ true ↦ refl | false ↦ refl ]
+    child_found (e ∷ names) q =
+        let rest = filter_map child names in
+        elim (same_path (p ++ q ∷ []) e.0) as (λ b. same_path (p ++ q ∷ []) e.0 ≡ b → lookup (same_name q) (cons_option (child e) rest) ≡ cond (is_past last q) (cond b (Some e.1) (label_at names (p ++ q ∷ []))) None) [
+          | true ↦ λ t.
+              ap (λ (o : Option (Name × ℕ)). lookup (same_name q) (cons_option o rest)) (ap (λ (z : Path). child (z, e.1)) (sym (same_path_is (p ++ q ∷ []) e.0 t)) ∙ child_at q e.1)
+              ∙ elim (is_past last q) as (λ b. is_past last q ≡ b → lookup (same_name q) (cons_option (cond b (Some (q, e.1)) None) rest) ≡ cond b (Some e.1) None) [
+                | true ↦ λ _. ap (λ b. cond b (Some e.1) (lookup (same_name q) rest)) (same_name_itself q)
+                | false ↦ λ f. child_found names q ∙ ap (λ b. cond b (label_at names (p ++ q ∷ [])) None) f
+              ] refl
+          | false ↦ λ t.
+              elim (child e) as (λ o. child e ≡ o → lookup (same_name q) (cons_option o rest) ≡ lookup (same_name q) rest) [
+                | None ↦ λ c. refl
+                | Some x ↦ λ c. ap (λ b. cond b (Some x.1) (lookup (same_name q) rest)) (elim (same_name q x.0) as (λ b. same_name q x.0 ≡ b → b ≡ false) [
+                  | true ↦ λ s.
+                      let is : p ++ q ∷ [] ≡ e.0 = ap (λ (z : Name). p ++ z ∷ []) (same_name_is q x.0 s) ∙ sym (child_is e x c) in
+                      let yes : same_path (p ++ q ∷ []) e.0 ≡ true = sym (ap (same_path (p ++ q ∷ [])) is) ∙ same_path_itself (p ++ q ∷ []) in cc
+                  | false ↦ λ s. refl
+                ] refl)
+              ] refl
+              ∙ child_found names q
+        ] refl
+
+    -- they stand in order
+    less : (n m : Name) → T (is_lt (path_cmp (n ∷ []) (m ∷ []))) → T (is_lt (name_cmp n m))
+    less n m t =
+        elim (name_cmp n m) as (λ r. name_cmp n m ≡ r → T (is_lt r)) [
+          | Less ↦ λ _. tt
+          | Equal ↦ λ same. absurd (rw same at t)
+          | Greater ↦ λ same. absurd (rw same at t)
+        ] refl
+
+    child_below : (path : Path) (n : Name) (names : List (Path × ℕ)) → path ≡ p ++ n ∷ [] → T (below_all path_cmp path names) → T (below_all name_cmp n (filter_map child names))
+    child_below path n [] is below = tt
+    child_below path n (e ∷ names) is below =
+        let rest = child_below path n names is (and_second (is_lt (path_cmp path e.0)) (below_all path_cmp path names) below) in
+        elim (child e) as (λ o. child e ≡ o → T (below_all name_cmp n (cons_option o (filter_map child names)))) [
+          | None ↦ λ c. rest
+          | Some x ↦ λ c. and_both (is_lt (name_cmp n x.0)) (below_all name_cmp n (filter_map child names))
+              (less n x.0 (subst (λ r. T (is_lt r)) (path_cmp-front p (n ∷ []) (x.0 ∷ []))
+              (subst (λ (z : Path). T (is_lt (path_cmp z (p ++ x.0 ∷ [])))) is
+              (subst (λ (z : Path). T (is_lt (path_cmp path z))) (child_is e x c) (and_first (is_lt (path_cmp path e.0)) (below_all path_cmp path names) below))))) rest
+        ] refl
+
+    pub child_sorted : (names : List (Path × ℕ)) → T (is_sorted path_cmp names) → T (is_sorted name_cmp (filter_map child names))
+    child_sorted [] sorted = tt
+    child_sorted (e ∷ names) sorted =
+        let rest = child_sorted names (and_second (below_all path_cmp e.0 names) (is_sorted path_cmp names) sorted) in
+        elim (child e) as (λ o. child e ≡ o → T (is_sorted name_cmp (cons_option o (filter_map child names)))) [
+          | None ↦ λ c. rest
+          | Some x ↦ λ c. and_both (below_all name_cmp x.0 (filter_map child names)) (is_sorted name_cmp (filter_map child names))
+              (child_below e.0 x.0 names (child_is e x c) (and_first (below_all path_cmp e.0 names) (is_sorted path_cmp names) sorted)) rest
+        ] refl

@@ -1,0 +1,132 @@
+-- What a change leaves alone: what other nodes show, and who holds them.
+use Rattle.std.specs.Prelude.{◌≡◌, ◌≢◌, ℕ, nat_eq, true, false, cond, List, option_map, option_and_then, slice_set, Option, Some, None, refl}
+use Rattle.std.proofs.Common.{sym, ap, ◌∙◌, eqb-true}
+use Rattle.sf_path.specs.Names.{Name}
+use Rattle.sf_call.specs.Attributes.{Object}
+use Rattle.sf_inode.specs.declared.node.Node.{Node}
+use Rattle.sf_inode.specs.declared.node.Content.{Content}
+use Rattle.sf_inode.specs.declared.node.Content.TheVariants as content
+use Rattle.sf_inode.specs.Nodes.{object_in, less_content, more_content, set_content, with_content, without_name, is_unused}
+use Rattle.sf_inode.specs.Stores.{StoreState, node_in, entry_of, shown_node, shown_of, holder_of, with_nodes, edited, edited_by, entry_taken, entry_put, released_if, forgotten, unlinked, unlinked_from, relinked, relinked_from, Inserted}
+use Rattle.sf_keeps.proofs.Shown.{nat_eq_apart, same_apart}
+use Rattle.sf_keeps.proofs.StoreLaws.{node_in-set, object_less}
+
+-- what a node shows, and its holder
+abbrev Sight : Type 0
+Sight = (ℕ × Object) × Option ℕ
+
+abbrev sight : Node → Sight
+sight node = (shown_node node, node.holder)
+
+abbrev sights : List (Option Node) → ℕ → Option Sight
+sights nodes i = option_map sight (node_in nodes i)
+
+-- both can be told from it
+shown_sight : (o : Option Node) → option_map (λ (w : Sight). w.0) (option_map sight o) ≡ option_map shown_node o
+shown_sight None = refl
+shown_sight (Some node) = refl
+
+holder_sight : (o : Option Node) → option_and_then (λ (w : Sight). w.1) (option_map sight o) ≡ option_and_then (λ (node : Node). node.holder) o
+holder_sight None = refl
+holder_sight (Some node) = refl
+
+abbrev Alike : List (Option Node) → List (Option Node) → ℕ → Type 0
+Alike after before i = (shown_of after i ≡ shown_of before i) × (holder_of after i ≡ holder_of before i)
+
+alike : (after before : List (Option Node)) (i : ℕ) → sights after i ≡ sights before i → Alike after before i
+alike after before i e = (
+  sym (shown_sight (node_in after i)) ∙ ap (option_map (λ (w : Sight). w.0)) e ∙ shown_sight (node_in before i),
+  sym (holder_sight (node_in after i)) ∙ ap (option_and_then (λ (w : Sight). w.1)) e ∙ holder_sight (node_in before i),
+)
+
+-- ---- one node changed
+edited_at : (f : Node → Node) (s : StoreState) (id : ℕ) (o : Option Node) → node_in s.nodes id ≡ o → (i : ℕ) → node_in (edited_by f s.nodes id o) i ≡ cond (nat_eq id i) (option_map f o) (node_in s.nodes i)
+edited_at f s id None e i = elim (nat_eq id i) as (λ b. nat_eq id i ≡ b → node_in s.nodes i ≡ cond b None (node_in s.nodes i)) [
+  | true ↦ λ h. ap (node_in s.nodes) (sym (eqb-true id i h)) ∙ e
+  | false ↦ λ h. refl
+] refl
+edited_at f s id (Some node) e i = node_in-set s.nodes id node (Some (f node)) e i
+
+pub edited_apart : (f : Node → Node) (s : StoreState) (id i : ℕ) → i ≢ id → node_in (edited f s id).nodes i ≡ node_in s.nodes i
+edited_apart f s id i other =
+    edited_at f s id (node_in s.nodes id) refl i ∙ ap (λ b. cond b (option_map f (node_in s.nodes id)) (node_in s.nodes i)) (nat_eq_apart id i (λ e. other (sym e)))
+
+pub edited_itself : (f : Node → Node) (s : StoreState) (id : ℕ) → node_in (edited f s id).nodes id ≡ option_map f (node_in s.nodes id)
+edited_itself f s id =
+    edited_at f s id (node_in s.nodes id) refl id
+    ∙ elim (nat_eq id id) as (λ b. nat_eq id id ≡ b → cond b (option_map f (node_in s.nodes id)) (node_in s.nodes id) ≡ option_map f (node_in s.nodes id)) [
+      | true ↦ λ e. refl
+      | false ↦ λ e. absurd (same_apart id id e refl)
+    ] refl
+
+sight_mapped : (f : Node → Node) → ((node : Node) → sight (f node) ≡ sight node) → (o : Option Node) → option_map sight (option_map f o) ≡ option_map sight o
+sight_mapped f same None = refl
+sight_mapped f same (Some node) = ap Some (same node)
+
+sight_edited : (f : Node → Node) → ((node : Node) → sight (f node) ≡ sight node) → (s : StoreState) (id i : ℕ) → sights (edited f s id).nodes i ≡ sights s.nodes i
+sight_edited f same s id i =
+    ap (option_map sight) (edited_at f s id (node_in s.nodes id) refl i)
+    ∙ elim (nat_eq id i) as (λ b. nat_eq id i ≡ b → option_map sight (cond b (option_map f (node_in s.nodes id)) (node_in s.nodes i)) ≡ sights s.nodes i) [
+      | true ↦ λ e. sight_mapped f same (node_in s.nodes id) ∙ ap (sights s.nodes) (eqb-true id i e)
+      | false ↦ λ e. refl
+    ] refl
+
+-- entries are not seen
+sight_entries : (g : Content → Content) → ((node : Node) → object_in node.metadata (g node.content) ≡ object_in node.metadata node.content) → (node : Node) → sight (with_content g node) ≡ sight node
+sight_entries g same node = λ i. ((node.label, same node i), node.holder)
+
+more_alike : (n : Name) (id : ℕ) (node : Node) (c : Content) → object_in node.metadata (more_content n id c) ≡ object_in node.metadata c
+more_alike n id node (content.Directory es) = refl
+more_alike n id node (content.File contents) = refl
+
+set_alike : (n : Name) (id : ℕ) (node : Node) (c : Content) → object_in node.metadata (set_content n id c) ≡ object_in node.metadata c
+set_alike n id node (content.Directory es) = refl
+set_alike n id node (content.File contents) = refl
+
+sight_taken : (s : StoreState) (dir : ℕ) (n : Name) (i : ℕ) → sights (entry_taken s dir n).nodes i ≡ sights s.nodes i
+sight_taken s dir n i = sight_edited (with_content (less_content n)) (sight_entries (less_content n) (λ node. object_less n node.metadata node.content)) s dir i
+
+sight_put : (s : StoreState) (dir : ℕ) (n : Name) (id i : ℕ) → sights (entry_put s dir n id).nodes i ≡ sights s.nodes i
+sight_put s dir n id i = sight_edited (with_content (more_content n id)) (sight_entries (more_content n id) (λ node. more_alike n id node node.content)) s dir i
+
+sight_set : (s : StoreState) (dir : ℕ) (n : Name) (id i : ℕ) → sights (edited (with_content (set_content n id)) s dir).nodes i ≡ sights s.nodes i
+sight_set s dir n id i = sight_edited (with_content (set_content n id)) (sight_entries (set_content n id) (λ node. set_alike n id node node.content)) s dir i
+
+-- ---- one node gone
+released_apart : (s : StoreState) (c i : ℕ) (o : Option Node) → node_in s.nodes c ≡ o → nat_eq c i ≡ false → node_in (released_if s c o).nodes i ≡ node_in s.nodes i
+released_apart s c i None here other = refl
+released_apart s c i (Some node) here other =
+    elim (is_unused node) as (λ b. node_in (cond b (with_nodes s (slice_set s.nodes c None)) s).nodes i ≡ node_in s.nodes i) [
+      | true ↦ node_in-set s.nodes c node None here i ∙ ap (λ b. cond b None (node_in s.nodes i)) other
+      | false ↦ refl
+    ]
+
+sight_forgotten : (s : StoreState) (c i : ℕ) → nat_eq c i ≡ false → sights (forgotten s c).nodes i ≡ sights s.nodes i
+sight_forgotten s c i other =
+    let unnamed = edited without_name s c in
+    ap (option_map sight) (released_apart unnamed c i (node_in unnamed.nodes c) refl other) ∙ sight_edited without_name (λ node. refl) s c i
+
+-- ---- the methods
+pub inserted_alike : (old new : StoreState) (dir : ℕ) (n : Name) (id : ℕ) (node : Node) (i : ℕ) → Inserted old new dir n id node → i ≢ id → Alike new.nodes old.nodes i
+inserted_alike old new dir n id node i did other = alike new.nodes old.nodes i (ap (option_map sight) (did.others i other) ∙ sight_put old dir n id i)
+
+-- the entry did not lead there
+not_there : (o : Option ℕ) (c i : ℕ) → o ≡ Some c → o ≢ Some i → nat_eq c i ≡ false
+not_there o c i e other = nat_eq_apart c i (λ h. other (e ∙ ap Some h))
+
+sight_unlinked : (s : StoreState) (dir : ℕ) (n : Name) (i : ℕ) (o : Option ℕ) → entry_of s.nodes dir n ≡ o → entry_of s.nodes dir n ≢ Some i → sights (unlinked_from s dir n o).nodes i ≡ sights s.nodes i
+sight_unlinked s dir n i None e other = refl
+sight_unlinked s dir n i (Some c) e other = sight_forgotten (entry_taken s dir n) c i (not_there (entry_of s.nodes dir n) c i e other) ∙ sight_taken s dir n i
+
+pub unlinked_alike : (s : StoreState) (dir : ℕ) (n : Name) (i : ℕ) → entry_of s.nodes dir n ≢ Some i → Alike (unlinked s dir n).nodes s.nodes i
+unlinked_alike s dir n i other = alike (unlinked s dir n).nodes s.nodes i (sight_unlinked s dir n i (entry_of s.nodes dir n) refl other)
+
+sight_relinked : (s : StoreState) (dir : ℕ) (n : Name) (to : ℕ) (m : Name) (i : ℕ) (o r : Option ℕ) → entry_of s.nodes to m ≡ r → entry_of s.nodes to m ≢ Some i → sights (relinked_from s dir n to m o r).nodes i ≡ sights s.nodes i
+sight_relinked s dir n to m i None r e other = refl
+sight_relinked s dir n to m i (Some id) None e other = sight_taken (entry_put s to m id) dir n i ∙ sight_put s to m id i
+sight_relinked s dir n to m i (Some id) (Some c) e other =
+    let mid = edited (with_content (set_content m id)) s to in
+    sight_forgotten (entry_taken mid dir n) c i (not_there (entry_of s.nodes to m) c i e other) ∙ sight_taken mid dir n i ∙ sight_set s to m id i
+
+pub relinked_alike : (s : StoreState) (dir : ℕ) (n : Name) (to : ℕ) (m : Name) (i : ℕ) → entry_of s.nodes to m ≢ Some i → Alike (relinked s dir n to m).nodes s.nodes i
+relinked_alike s dir n to m i other = alike (relinked s dir n to m).nodes s.nodes i (sight_relinked s dir n to m i (entry_of s.nodes dir n) (entry_of s.nodes to m) refl other)

@@ -1,0 +1,158 @@
+-- What a view shows of a whole tree after each change of objects and names.
+use Rattle.std.specs.Prelude.{◌≡◌, ℕ, nat_eq, Bool, true, false, cond, T, ◌||◌, [], ◌∷◌, ◌++◌, option_and_then, is_some, Option, Some, None, IsSome, refl}
+use Rattle.std.proofs.Common.{sym, ap, subst, ◌∙◌, eq-eqb}
+use Rattle.std.specs.Ordering.{nat_cmp}
+use Rattle.std.specs.Cmp.{nat_cmp_total}
+use Rattle.std.specs.Map.{remove_entry}
+use Rattle.std.specs.BTreeMap.{is_at}
+use Rattle.std.specs.FinMap.{is_sorted}
+use Rattle.sf_path.specs.Names.{Name, Path}
+use Rattle.sf_path.specs.Order.{path_cmp, path_total}
+use Rattle.sf_call.specs.declared.handle.Handle.{Handle}
+use Rattle.sf_call.specs.Attributes.{Object}
+use Rattle.sf_call.specs.Tree.{Tree, IsOrderedTree, directory_metadata, label_at, object_of, handle_of, is_used, with_names}
+use Rattle.sf_call.specs.Changes.{changed}
+use Rattle.sf_call.specs.Changes.Change.{SetObject, NewPath, GonePath}
+use Rattle.sf_call.proofs.MovedNames.{same_path_is}
+use Rattle.sf_call.proofs.Ordered.{ordered_changed}
+use Rattle.sf_call.proofs.Orders.{same_tree}
+use Rattle.sf_call.proofs.LookUps.{lookup-put}
+use Rattle.sf_keeps.specs.Steps.{walk, changed_step}
+use Rattle.sf_keeps.specs.Shows.{View, ShowsBy, Shows, AllUsed, label_by, is_directory_by, with_step, with_shown}
+use Rattle.sf_keeps.proofs.Walks.{walk-append}
+use Rattle.sf_keeps.proofs.Keyed.{lookup-set, lookup_any, any_lookup, any-removed}
+use Rattle.sf_keeps.proofs.Sound.{HasNoEntry, IsBare}
+use Rattle.sf_keeps.proofs.Shown.{nat_same, same_path_itself, shows_object, shows_more}
+use Rattle.sf_keeps.proofs.Less.{is_named, is_opened, OthersUsed, IsClosed, kept_used, handle_there, handle_here, shows_less, opened_by, shows_kept, shows_kept_used}
+
+-- ---- another object
+-- an object that is there after the change was there before
+pub object_before : (t : Tree) (label : ℕ) (o old : Object) → object_of t.objects label ≡ Some old → (l : ℕ) (u : Object) → object_of (changed t (SetObject label o)).objects l ≡ Some u → (v : Object) × (object_of t.objects l ≡ Some v)
+object_before t label o old there l u e =
+    elim (is_at (nat_cmp label) l) as (λ b. is_at (nat_cmp label) l ≡ b → cond b (Some o) (object_of t.objects l) ≡ Some u → (v : Object) × (object_of t.objects l ≡ Some v)) [
+      | true ↦ λ b f. (old, ap (object_of t.objects) (sym (nat_same label l b)) ∙ there)
+      | false ↦ λ b f. (u, f)
+    ] refl (sym (lookup-set nat_cmp nat_cmp_total t.objects label o l (subst (λ x. IsSome x) (sym there) refl)) ∙ e)
+
+pub shows_set : (view : View) (t : Tree) → Shows view t → (d label : ℕ) (old o : Object) → view.shown d ≡ Some (label, old) → is_some (directory_metadata old) ≡ is_some (directory_metadata o)
+    → Shows (with_shown view d (Some (label, o))) (changed t (SetObject label o))
+shows_set view t h d label old o at kind = record {
+  by = shows_object view t h.by d label old o at kind;
+  ordered = ordered_changed t (SetObject label o) h.ordered;
+  used = λ l u e. let b = object_before t label o old (h.by.objects d label old at) l u e in h.used l b.0 b.1;
+}
+
+-- ---- a new entry
+pub or_true : (a b : Bool) → a ≡ true → a || b ≡ true
+or_true a b e = ap (λ x. x || b) e
+
+pub or_grows : (a b c : Bool) → (a ≡ true → c ≡ true) → a || b ≡ true → c || b ≡ true
+or_grows true b c h e = ap (λ x. x || b) (h refl)
+or_grows false b true h e = refl
+or_grows false b false h e = e
+
+pub or_grows_right : (a b c : Bool) → (b ≡ true → c ≡ true) → a || b ≡ true → a || c ≡ true
+or_grows_right true b c h e = refl
+or_grows_right false b c h e = h e
+
+pub or_right : (a b : Bool) → b ≡ true → a || b ≡ true
+or_right true b e = refl
+or_right false b e = e
+
+named_more : (t : Tree) (q : Path) (label l : ℕ) (o : Object) → T (is_sorted path_cmp t.names) → label_at t.names q ≡ None → is_named t l ≡ true → is_named (changed t (NewPath q label o)) l ≡ true
+named_more t q label l o sorted free any =
+    let w = lookup_any path_cmp path_total (λ v. nat_eq v l) t.names sorted any in
+    any_lookup path_cmp (λ v. nat_eq v l) (changed t (NewPath q label o)).names w.0 w.1
+    (lookup-put path_cmp path_total t.names q label w.0 ∙ elim (is_at (path_cmp w.0) q) as (λ b. is_at (path_cmp w.0) q ≡ b → cond b (Some label) (label_at t.names w.0) ≡ Some w.1) [
+      | true ↦ λ e. let same = same_path_is w.0 q e in let f = ap (label_at t.names) same in let g = w.2 in cc
+      | false ↦ λ e. w.2
+    ] refl) w.3
+
+new_named : (t : Tree) (q : Path) (label : ℕ) (o : Object) → is_named (changed t (NewPath q label o)) label ≡ true
+new_named t q label o = any_lookup path_cmp (λ v. nat_eq v label) (changed t (NewPath q label o)).names q label
+    (lookup-put path_cmp path_total t.names q label q ∙ ap (λ b. cond b (Some label) (label_at t.names q)) (same_path_itself q)) (eq-eqb label label refl)
+
+used_entry : (t : Tree) (q : Path) (label : ℕ) (o : Object) → T (is_sorted path_cmp t.names) → label_at t.names q ≡ None → AllUsed t → AllUsed (changed t (NewPath q label o))
+used_entry t q label o sorted free used l u e =
+    elim (is_at (nat_cmp l) label) as (λ b. is_at (nat_cmp l) label ≡ b → cond b (Some o) (object_of t.objects l) ≡ Some u → is_used (changed t (NewPath q label o)).names t.handles l ≡ true) [
+      | true ↦ λ b f. ap (λ (z : ℕ). is_used (changed t (NewPath q label o)).names t.handles z) (nat_same l label b) ∙ or_true _ _ (new_named t q label o)
+      | false ↦ λ b f. or_grows (is_named t l) (is_opened t l) (is_named (changed t (NewPath q label o)) l) (λ any. named_more t q label l o sorted free any) (used l u f)
+    ] refl (sym (lookup-put nat_cmp nat_cmp_total t.objects label o l) ∙ e)
+
+module _ (view : View) (t : Tree) (h : Shows view t) where
+  -- a path that goes on by a name leads to where the name leads
+  pub one_more : (p : Path) (d : ℕ) (n : Name) → walk view.step view.root p ≡ Some d → walk view.step view.root (p ++ n ∷ []) ≡ view.step d n
+  one_more p d n at =
+      walk-append view.step view.root p (n ∷ []) ∙ ap (option_and_then (λ y. walk view.step y (n ∷ []))) at
+      ∙ elim (view.step d n) as (λ o. option_and_then (λ z. Some z) o ≡ o) [ None ↦ refl | Some z ↦ refl ]
+
+  pub free_name : (p : Path) (d : ℕ) (n : Name) → walk view.step view.root p ≡ Some d → view.step d n ≡ None → label_at t.names (p ++ n ∷ []) ≡ None
+  free_name p d n at free = h.by.names (p ++ n ∷ []) ∙ ap (option_and_then (label_by view.shown)) (one_more p d n at ∙ free)
+
+  pub label_there : (p : Path) (d : ℕ) (n : Name) (c label : ℕ) (o : Object) → walk view.step view.root p ≡ Some d → view.step d n ≡ Some c → view.shown c ≡ Some (label, o) → label_at t.names (p ++ n ∷ []) ≡ Some label
+  label_there p d n c label o at there is =
+      h.by.names (p ++ n ∷ []) ∙ ap (option_and_then (label_by view.shown)) (one_more p d n at ∙ there) ∙ ap (λ (v : Option (ℕ × Object)). option_and_then (λ w. Some w.0) v) is
+
+  pub shows_new : (p : Path) (d : ℕ) (n : Name) (c label : ℕ) (o : Object) → walk view.step view.root p ≡ Some d → is_directory_by view.shown d ≡ true → view.step d n ≡ None → view.shown c ≡ None → object_of t.objects label ≡ None
+      → Shows (with_step (with_shown view c (Some (label, o))) d n (Some c)) (changed t (NewPath (p ++ n ∷ []) label o))
+  shows_new p d n c label o at is free new fresh = record {
+    by = shows_more view t h.by p d n c label o at is free new fresh;
+    ordered = ordered_changed t (NewPath (p ++ n ∷ []) label o) h.ordered;
+    used = used_entry t (p ++ n ∷ []) label o h.ordered.names (free_name p d n at free) h.used;
+  }
+
+  -- ---- an entry less
+  module _ (p : Path) (d : ℕ) (n : Name) (c label : ℕ) (o : Object) (at : walk view.step view.root p ≡ Some d) (there : view.step d n ≡ Some c) (bare : IsBare view.step c) (is : view.shown c ≡ Some (label, o)) where
+    abbrev less : Tree
+    less = with_names t (remove_entry (is_at (path_cmp (p ++ n ∷ []))) t.names)
+
+    ordered_less : IsOrderedTree less
+    ordered_less = record { names = (ordered_changed t (GonePath (p ++ n ∷ [])) h.ordered).names; objects = h.ordered.objects; handles = h.ordered.handles }
+
+    others_less : OthersUsed less label
+    others_less l u ne e =
+        ap (λ b. b || is_opened t l) (any-removed (λ v. nat_eq v l) (is_at (path_cmp (p ++ n ∷ []))) t.names label (label_there p d n c label o at there is) ne) ∙ h.used l u e
+
+    by_less : ShowsBy (with_step view d n None) less
+    by_less = shows_less view t h.by p d n c h.ordered.names at there bare
+
+    -- nothing else leads to the node, and nothing opens it
+    pub shows_gone : HasNoEntry (changed_step view.step d n None) c → IsBare (changed_step view.step d n None) c → IsClosed view label
+        → Shows (with_shown (with_step view d n None) c None) (changed t (GonePath (p ++ n ∷ [])))
+    shows_gone free still closed = record {
+      by = shows_kept (with_step view d n None) less by_less ordered_less c label o is free (λ e. h.by.sound.top d n (there ∙ ap Some (sym e))) still others_less closed;
+      ordered = ordered_changed t (GonePath (p ++ n ∷ [])) h.ordered;
+      used = kept_used less;
+    }
+
+    -- a handle opens the node
+    pub shows_gone_open : (session number : ℕ) (handle : Handle) → view.opens session number ≡ Some handle → handle.label ≡ label
+        → Shows (with_step view d n None) (changed t (GonePath (p ++ n ∷ [])))
+    shows_gone_open session number handle opens same =
+        let opened : is_opened t label ≡ true = ap (is_opened t) (sym same) ∙ opened_by view t h.by session number handle opens in
+        record {
+          by = shows_kept_used (with_step view d n None) less by_less ordered_less c label o is others_less (or_right (is_named less label) (is_opened t label) opened);
+          ordered = ordered_changed t (GonePath (p ++ n ∷ [])) h.ordered;
+          used = kept_used less;
+        }
+
+-- ---- one tree
+module _ (view : View) (s t : Tree) (hs : Shows view s) (ht : Shows view t) where
+  object_in_both : (l : ℕ) (o : Object) → object_of s.objects l ≡ Some o → object_of t.objects l ≡ Some o
+  object_in_both l o e = let w = hs.by.found l o e in ht.by.objects w.0 l o w.1
+
+  handle_in_both : (q : ℕ) (x : Handle) → handle_of s.handles q ≡ Some x → handle_of t.handles q ≡ Some x
+  handle_in_both q x e = (handle_there t x.session q x (ht.by.handles x.session q ∙ sym (hs.by.handles x.session q) ∙ handle_here s q x e)).0
+
+same_option : {A : Type 0} (a b : Option A) → ((x : A) → a ≡ Some x → b ≡ Some x) → ((x : A) → b ≡ Some x → a ≡ Some x) → a ≡ b
+same_option None None f g = refl
+same_option None (Some y) f g = g y refl
+same_option (Some x) b f g = sym (f x refl)
+
+-- a view shows at most one tree
+pub shows_one : (view : View) (s t : Tree) → Shows view s → Shows view t → s ≡ t
+shows_one view s t hs ht = same_tree s t hs.ordered ht.ordered (record {
+  names = λ q. hs.by.names q ∙ sym (ht.by.names q);
+  objects = λ l. same_option _ _ (object_in_both view s t hs ht l) (object_in_both view t s ht hs l);
+  handles = λ q. same_option _ _ (handle_in_both view s t hs ht q) (handle_in_both view t s ht hs q);
+})

@@ -1,0 +1,45 @@
+-- When a store keeps a tree: it shows the tree, and what its nodes count agrees with it.
+use Rattle.std.specs.Prelude.{◌≡◌, ℕ, ◌<◌, ◌^◌, nat_eq, true, false, T, List, Some, None, option_map}
+use Rattle.std.specs.List.{count_by}
+use Rattle.std.specs.Ordering.{nat_cmp}
+use Rattle.std.specs.FinMap.{is_sorted}
+use Rattle.sf_path.specs.Names.{Name, Path}
+use Rattle.sf_call.specs.declared.handle.Handle.{Handle}
+use Rattle.sf_call.specs.Tree.{Tree, handle_of}
+use Rattle.sf_inode.specs.declared.node.Node.{Node}
+use Rattle.sf_inode.specs.declared.handle.OpenHandle.{OpenHandle}
+use Rattle.sf_keeps.specs.Steps.{walk}
+use Rattle.sf_keeps.specs.Shows.{View, Shows}
+use Rattle.sf_inode.specs.Stores.{StoreState, node_in, entry_of, shown_of, handles_of, handle_at, shown_handle}
+
+-- what can be seen of a store
+abbrev pub view_of : StoreState → View
+view_of s = record {
+  step = entry_of s.nodes;
+  shown = shown_of s.nodes;
+  root = s.root;
+  opens = λ session number. option_map (shown_handle session) (handle_at s session number);
+}
+
+-- how many handles open an object
+abbrev pub times_open : Tree → ℕ → ℕ
+times_open t label = count_by (λ e. nat_eq e.1.label label) t.handles
+
+-- no entry leads to it, it is not the root, and it has no entries
+pub record IsUnlinked (s : StoreState) (id : ℕ) : Type 0 where
+  pub free : (x : ℕ) (n : Name) → entry_of s.nodes x n ≡ Some id → ⊥
+  pub other : s.root ≡ id → ⊥
+  pub bare : (n : Name) → entry_of s.nodes id n ≡ None
+
+-- The store shows the tree. Two entries never lead to one node. A node knows whether a path leads to it, and counts its handles; a
+-- handle knows its node. Handles stand in order, and their numbers are above 0 and fit 64 bits.
+pub record Keeps (s : StoreState) (t : Tree) : Type 0 where
+  pub shows : Shows (view_of s) t
+  pub single : (x y id : ℕ) (n m : Name) → entry_of s.nodes x n ≡ Some id → entry_of s.nodes y m ≡ Some id → (x ≡ y) × (n ≡ m)
+  pub unlinked : (id : ℕ) (node : Node) → node_in s.nodes id ≡ Some node → node.named ≡ false → IsUnlinked s id
+  pub named : (id : ℕ) (node : Node) → node_in s.nodes id ≡ Some node → node.named ≡ true → (path : Path) × (walk (entry_of s.nodes) s.root path ≡ Some id)
+  pub counted : (id : ℕ) (node : Node) → node_in s.nodes id ≡ Some node → node.opens ≡ times_open t node.label
+  pub led : (session number : ℕ) (h : OpenHandle) → handle_at s session number ≡ Some h → (node : Node) × ((node_in s.nodes h.node ≡ Some node) × (node.label ≡ h.label))
+  pub sessions : T (is_sorted nat_cmp s.sessions)
+  pub handles : (session : ℕ) (handles : List (ℕ × OpenHandle)) → handles_of s session ≡ Some handles → T (is_sorted nat_cmp handles)
+  pub numbers : (number : ℕ) (h : Handle) → handle_of t.handles number ≡ Some h → (0 < number) × (number < 2 ^ 64)

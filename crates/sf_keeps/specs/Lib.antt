@@ -1,0 +1,4 @@
+pub mod Steps
+pub mod Shows
+pub mod Keeps
+pub mod Listed
