@@ -1,5 +1,5 @@
 -- What a session answered, and the cutting of its stream.
-use Rattle.std.proofs.Common.{◌≡◌, ◌↔◌, ◌⊎◌, ℕ, List, [], ◌∷◌, ◌++◌, length, drop, Bool, refl, sym, ap, subst, ◌∙◌, inl, inr}
+use Rattle.std.proofs.Common.{◌≡◌, ◌↔◌, ℕ, List, [], ◌++◌, length, drop, Bool, refl, sym, subst, ◌∙◌, inl, inr}
 use Rattle.std.specs.List.{flat_map, AllByRecursion}
 use Rattle.sf_wire.specs.declared.cutting.Cut.{Cut}
 use Rattle.sf_wire.specs.declared.cutting.Cut.TheVariants as cut
@@ -10,7 +10,6 @@ use Rattle.sf_wire.specs.Streams.{CutsAfter}
 use Rattle.sf_session.specs.declared.cause.Cause.{Cause}
 use Rattle.sf_session.specs.declared.asking.Ask.TheVariants as ask
 use Rattle.sf_session.specs.Asking.{AsksFor}
-use Rattle.sf_session.specs.Sessions.{EndsBy}
 use Rattle.sf_service.specs.Transcripts.{IsServed, IsEnd, EndsWith, has_begun}
 
 -- what the format's laws promise

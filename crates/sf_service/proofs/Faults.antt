@@ -1,5 +1,5 @@
 -- When a line's fault is told.
-use Rattle.std.proofs.Common.{◌≡◌, ◌<◌, ◌≤◌, ◌-◌, ◌^◌, ◌⊎◌, ℕ, inl, inr, arith}
+use Rattle.std.proofs.Common.{◌≤◌, ℕ, inl, inr, arith}
 use Rattle.std.proofs.lemmas.Bool.{cases_lt}
 use Rattle.sf_line.specs.Lines.{Rose}
 

@@ -1,25 +1,22 @@
 -- How far a session was served: after what it was fed, what was answered, what was sent.
-use Rattle.std.proofs.Common.{◌≡◌, ◌+◌, ◌-◌, ◌<◌, ◌≤◌, ◌^◌, ◌⊎◌, ℕ, List, [], ◌∷◌, ◌++◌, length, take, drop, Bool, true, false, Option, Some, None, refl, sym, ap, subst, ◌∙◌, inl, inr, arith, append_assoc, append-nil, length-append}
-use Rattle.std.specs.Prelude.{fold, IfSome}
-use Rattle.std.specs.List.{flat_map, AllByRecursion}
-use Rattle.std.specs.Io.KnownBytes.{Appends, Consumes, IsAtEnd}
+use Rattle.std.proofs.Common.{◌≡◌, ◌+◌, ◌<◌, ℕ, List, [], ◌∷◌, ◌++◌, length, Bool, true, false, Option, refl, sym, ap, subst, ◌∙◌, append_assoc, append-nil}
+use Rattle.std.specs.Prelude.{fold}
+use Rattle.std.specs.List.{flat_map}
+use Rattle.std.specs.Io.KnownBytes.{Appends, Consumes}
 use Rattle.std.proofs.KnownBytes.{Appends-nil, Appends-trans, Consumes-trans}
 use Rattle.std.proofs.lemmas.List.{flat_map_more}
 use Rattle.std.proofs.lemmas.List.Sums.{fold-append}
 use Rattle.sf_reply.specs.declared.reply.Reply.{Reply}
-use Rattle.sf_reply.specs.declared.reply.Reply.TheVariants as reply
 use Rattle.sf_field.specs.Fields.{packet}
 use Rattle.sf_wire.specs.Packets.{IsBody}
 use Rattle.sf_call.specs.declared.request.Request.{Request}
 use Rattle.sf_call.specs.declared.record.Record.{Record}
-use Rattle.sf_call.specs.declared.record.Record.TheVariants.{Did, Left}
+use Rattle.sf_call.specs.declared.record.Record.TheVariants.{Did}
 use Rattle.sf_inode.specs.Stores.{StoreState}
-use Rattle.sf_call.specs.Calls.{apply}
-use Rattle.sf_call.specs.Histories.{after, after_reply, replay, IsLegal, MayFollow, IsNewNumber, IsPresent}
 use Rattle.sf_session.specs.Asking.{AsksFor}
 use Rattle.sf_session.specs.Sessions.{SessionView}
 use Rattle.sf_service.specs.Transcripts.{Answered, Version, Locally, ByCall, Refused, asked_by, packet_for, transcript, moment_of, moments_of, with_record, history_of, has_begun, AreAnswers, MayAnswer, last_number}
-use Rattle.sf_service.specs.Serving.{ServiceView, Edges, edges, HasEffect, Answers, IsNumbered, Progress, Serves, IsGrown}
+use Rattle.sf_service.specs.Serving.{ServiceView, Edges, edges, HasEffect, Answers, Progress, Serves, IsGrown}
 use Rattle.sf_service.proofs.Founding.{Laws, all_push, recorded}
 
 flat_push : {A : Type 0} (f : A → List ℕ) (xs : List A) (x : A) → flat_map f xs ++ f x ≡ flat_map f (xs ++ x ∷ [])

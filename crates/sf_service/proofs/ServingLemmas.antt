@@ -1,5 +1,5 @@
 -- What a session on a line comes to.
-use Rattle.std.proofs.Common.{◌≡◌, ◌≢◌, ◌≤◌, ◌<◌, ◌⊎◌, ℕ, List, [], ◌++◌, Bool, true, false, if◌then◌else◌, Option, Some, None, Result, Ok, Err, refl, sym, ap, subst, ◌∙◌, inl, inr, append_assoc, append-nil, lit<, lit≤, arith, ◌+◌, length, take, length-append}
+use Rattle.std.proofs.Common.{◌≡◌, ◌≢◌, ◌≤◌, ℕ, List, [], ◌++◌, Bool, true, false, if◌then◌else◌, Option, Some, None, Result, Ok, Err, refl, sym, ap, subst, ◌∙◌, inl, inr, append_assoc, append-nil, lit<, lit≤, arith, ◌+◌, length, take, length-append}
 use Rattle.std.specs.Prelude.{OnOk, IfSome, nat_lt}
 use Rattle.std.specs.List.{flat_map}
 use Rattle.std.specs.Io.KnownBytes.{Appends, Consumes, IsAtEnd}
@@ -11,7 +11,6 @@ use Rattle.sf_wire.specs.Packets.{IsCut}
 use Rattle.sf_session.specs.declared.cause.Cause.{Cause}
 use Rattle.sf_session.specs.declared.cause.Cause.TheVariants.{Closed, OldVersion}
 use Rattle.sf_session.specs.declared.cause.Cause.TheVariants.{ZeroLength, TooLong}
-use Rattle.sf_session.specs.declared.asking.Ask.{Ask}
 use Rattle.sf_session.specs.declared.asking.Ask.TheVariants as ask
 use Rattle.sf_request.specs.declared.request.WireRequest.TheVariants as wire
 use Rattle.sf_request.specs.declared.request.Asked.{Asked}
@@ -20,7 +19,6 @@ use Rattle.sf_path.specs.Names.{Path}
 use Rattle.sf_inode.specs.Stores.{StoreState}
 use Rattle.sf_inode.specs.Keeps.{Keeps}
 use Rattle.sf_call.specs.Tree.{empty_tree}
-use Rattle.sf_call.specs.Histories.{IsLegal, IsLegalAfter, replay}
 use Rattle.sf_session.specs.Asking.{is_init, path_at, call_of, call_ask, real_path_at, request_ask, ask_by}
 use Rattle.sf_call.specs.declared.request.Request.{Request}
 use Rattle.sf_request.specs.declared.request.WireRequest.{WireRequest}

@@ -30,7 +30,7 @@ use Rattle.sf_service.specs.declared.service.Turn.{Turn}
 use Rattle.sf_service.specs.declared.service.Turn.TheVariants as turn
 use Rattle.sf_session.specs.Asking.{AsksFor}
 use Rattle.sf_session.specs.Sessions.{SessionView, new_session, Begins, EndsBy}
-use Rattle.sf_service.specs.Transcripts.{Answered, Version, Locally, ByCall, Refused, asked_by, packet_for, transcript, moments_of, history_of, has_begun, AreAnswers, MayAnswer, last_number, IsServed}
+use Rattle.sf_service.specs.Transcripts.{Answered, Version, Locally, ByCall, Refused, asked_by, packet_for, transcript, moments_of, history_of, has_begun, AreAnswers, last_number, IsServed}
 
 -- a store, and how many calls were made on it
 pub record NumberedView : Type 0 where

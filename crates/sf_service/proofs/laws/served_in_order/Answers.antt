@@ -1,4 +1,4 @@
-use Rattle.sf_service.proofs.Cutting.{CutLaws, served_as_cut}
+use Rattle.sf_service.proofs.Cutting.{served_as_cut}
 use Rattle.sf_service.proofs.laws.served_in_order.Goals as goal
 
 pub returns : goal.returns

@@ -1,5 +1,3 @@
-use Rattle.std.proofs.Common.{◌≡◌, ◌≤◌, arith, rules, sym, ap, ◌∙◌}
-use Rattle.sf_service.specs.Serving.{Edges, edges, Serves, ServiceView}
 use Rattle.sf_service.proofs.ServingLemmas.{rounded_off, fed}
 use Rattle.sf_service.proofs.serving.round.Goals as goal
 

@@ -1,4 +1,3 @@
-use Rattle.std.proofs.Common.{◌≡◌, List, ℕ, Option, subst, sym}
 use Rattle.sf_service.proofs.ServingLemmas.{batch_sent}
 use Rattle.sf_service.proofs.serving.send_batch.Goals as goal
 

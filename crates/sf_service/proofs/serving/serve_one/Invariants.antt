@@ -1,4 +1,4 @@
-use Rattle.std.proofs.Common.{◌≡◌, ◌<◌, ◌≤◌, None, vec_len}
+use Rattle.std.proofs.Common.{◌<◌, ◌≤◌, None, vec_len}
 use Rattle.sf_service.specs.Serving.{edges, IsRounded, ReadsAtLeast}
 use Rattle.sf_service.proofs.serving.serve_one.Given as goal
 

@@ -1,4 +1,4 @@
-use Rattle.std.proofs.Common.{◌∙◌, arith, rules}
+use Rattle.std.proofs.Common.{◌∙◌, arith}
 use Rattle.sf_service.proofs.Writing.{writes_more}
 use Rattle.sf_service.proofs.serving.write_all.Goals as goal
 

@@ -1,4 +1,4 @@
-use Rattle.std.proofs.Common.{◌≡◌, subst}
+use Rattle.std.proofs.Common.{subst}
 use Rattle.std.specs.Prelude.{IfOk}
 use Rattle.sf_service.specs.Serving.{ServiceView, Answers, TurnGives}
 use Rattle.sf_service.proofs.Turns.{answered_locally, answered_by_call}
