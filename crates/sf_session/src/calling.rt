@@ -2,7 +2,7 @@
 
 ghost use Rattle.std.specs.Prelude.{◌≡◌, ◌≤◌, length, IfOk, IfSome};
 ghost use Rattle.sf_path.specs.Names.{text_of};
-ghost use Rattle.sf_session.specs.Asking.{path_at, handle_at, paths_at, call_of};
+ghost use Rattle.sf_session.specs.Asking.{path_at, handle_at, paths_at, call_of, handle_call};
 
 use sf_call::Request;
 use sf_path::{Path, PathFault};
@@ -35,67 +35,23 @@ pub(crate) fn call_of(alloc: Global, request: WireRequest) -> Result<Option<Requ
 {
     match request {
         WireRequest::RealPath { path: _path } => Ok(None),
-        WireRequest::Stat { path } => {
-            Ok(path_of(alloc, path.as_slice())?.map(|path| Request::Stat(path)))
-        }
-        WireRequest::LStat { path } => {
-            Ok(path_of(alloc, path.as_slice())?.map(|path| Request::Stat(path)))
-        }
+        WireRequest::Stat { path } => Ok(path_of(alloc, path.as_slice())?.map(Request::Stat)),
+        WireRequest::LStat { path } => Ok(path_of(alloc, path.as_slice())?.map(Request::Stat)),
         WireRequest::SetStat { path, attrs } => {
             Ok(path_of(alloc, path.as_slice())?.map(|path| Request::SetStat(path, attrs)))
         }
         WireRequest::Mkdir { path, attrs } => {
             Ok(path_of(alloc, path.as_slice())?.map(|path| Request::Mkdir(path, attrs)))
         }
-        WireRequest::Rmdir { path } => {
-            Ok(path_of(alloc, path.as_slice())?.map(|path| Request::Rmdir(path)))
-        }
-        WireRequest::Remove { path } => {
-            Ok(path_of(alloc, path.as_slice())?.map(|path| Request::Remove(path)))
-        }
-        WireRequest::OpenDir { path } => {
-            Ok(path_of(alloc, path.as_slice())?.map(|path| Request::OpenDir(path)))
-        }
+        WireRequest::Rmdir { path } => Ok(path_of(alloc, path.as_slice())?.map(Request::Rmdir)),
+        WireRequest::Remove { path } => Ok(path_of(alloc, path.as_slice())?.map(Request::Remove)),
+        WireRequest::OpenDir { path } => Ok(path_of(alloc, path.as_slice())?.map(Request::OpenDir)),
         WireRequest::Open {
             filename,
             flags,
             attrs,
         } => {
             Ok(path_of(alloc, filename.as_slice())?.map(|path| Request::Open(path, flags, attrs)))
-        }
-        WireRequest::Close { handle } => {
-            Ok(handle_of(handle.as_slice()).map(|handle| Request::Close(handle)))
-        }
-        WireRequest::FStat { handle } => {
-            Ok(handle_of(handle.as_slice()).map(|handle| Request::FStat(handle)))
-        }
-        WireRequest::FSetStat { handle, attrs } => {
-            Ok(handle_of(handle.as_slice()).map(|handle| Request::FSetStat(handle, attrs)))
-        }
-        WireRequest::ReadDir { handle } => {
-            Ok(handle_of(handle.as_slice()).map(|handle| Request::ReadDir(handle)))
-        }
-        WireRequest::Read {
-            handle,
-            offset,
-            len,
-        } => {
-            Ok(handle_of(handle.as_slice()).map(|handle| Request::Read {
-                handle,
-                offset,
-                len,
-            }))
-        }
-        WireRequest::Write {
-            handle,
-            offset,
-            data,
-        } => {
-            Ok(handle_of(handle.as_slice()).map(|handle| Request::Write {
-                handle,
-                offset,
-                data,
-            }))
         }
         WireRequest::Rename { old, new } => {
             let paths = paths_of(alloc, old.as_slice(), new.as_slice())?;
@@ -105,6 +61,44 @@ pub(crate) fn call_of(alloc: Global, request: WireRequest) -> Result<Option<Requ
             let paths = paths_of(alloc, old.as_slice(), new.as_slice())?;
             Ok(paths.map(|(old, new)| Request::PosixRename(old, new)))
         }
+        request => Ok(handle_call(request)),
+    }
+}
+
+/// The call by a handle, if it is a number. A request that names a path is none.
+fn handle_call(request: WireRequest) -> Option<Request>
+    ensures { result ≡ handle_call request }
+{
+    match request {
+        WireRequest::Close { handle } => handle_of(handle.as_slice()).map(Request::Close),
+        WireRequest::FStat { handle } => handle_of(handle.as_slice()).map(Request::FStat),
+        WireRequest::FSetStat { handle, attrs } => {
+            handle_of(handle.as_slice()).map(|handle| Request::FSetStat(handle, attrs))
+        }
+        WireRequest::ReadDir { handle } => handle_of(handle.as_slice()).map(Request::ReadDir),
+        WireRequest::Read {
+            handle,
+            offset,
+            len,
+        } => {
+            handle_of(handle.as_slice()).map(|handle| Request::Read {
+                handle,
+                offset,
+                len,
+            })
+        }
+        WireRequest::Write {
+            handle,
+            offset,
+            data,
+        } => {
+            handle_of(handle.as_slice()).map(|handle| Request::Write {
+                handle,
+                offset,
+                data,
+            })
+        }
+        _ => None,
     }
 }
 

@@ -14,6 +14,3 @@ pub use cause::Cause;
 pub use clock::Clock;
 pub use fault::ServeFault;
 pub use session::{Next, Session, SessionFault};
-
-#[cfg(test)]
-mod tests;

@@ -1,3 +1,1 @@
-pub mod Transcripts
-pub mod Serving
 pub mod Statuses

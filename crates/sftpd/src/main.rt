@@ -2,11 +2,7 @@
 #![tactic(auto)]
 
 mod clock;
-pub mod laws;
-mod numbered;
 mod program;
-mod service;
-pub mod serving;
 pub mod stdio;
 
 use std::process::ExitCode;

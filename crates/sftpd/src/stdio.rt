@@ -3,11 +3,11 @@
 ghost use Rattle.std.specs.Prelude.{◌≡◌, ◌⊎◌, Ok};
 ghost use Rattle.std.specs.Io.KnownBytes.{IsAtEnd, Keeps};
 ghost use Rattle.sf_session.specs.declared.cause.Cause.TheVariants.{Closed};
-ghost use Rattle.sftpd.specs.Serving.{edges, ServesLine};
+ghost use Rattle.sf_service.specs.Serving.{edges, ServesLine};
 ghost use Rattle.sftpd.specs.Statuses.{status_of};
 
-use crate::serving::serve_one;
 use sf_line::Line;
+use sf_service::serve_one;
 use sf_session::{Cause, Clock, ServeFault};
 use std::alloc::Global;
 use std::io::{self, Write};

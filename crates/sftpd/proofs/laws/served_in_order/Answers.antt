@@ -1,5 +1,0 @@
-use Rattle.sftpd.proofs.Cutting.{CutLaws, served_as_cut}
-use Rattle.sftpd.proofs.laws.served_in_order.Goals as goal
-
-pub returns : goal.returns
-returns c = served_as_cut (record { back = c.cut_after_packets.ensures.back; front = c.cut_by_packets.ensures; one = c.one_packet.ensures })
