@@ -29,6 +29,3 @@ pub use metadata::{FileType, Metadata};
 pub use place::Place;
 pub use record::Record;
 pub use request::Request;
-
-#[cfg(test)]
-mod tests;

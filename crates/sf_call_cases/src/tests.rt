@@ -1,6 +1,9 @@
 //! Attributes, copies and words, with values from the draft and POSIX.
 
-use super::*;
+use sf_call::{
+    Answer, Call, Calls, CoreFault, FileType, Handle, Metadata, Request, Stage, given_by_history,
+    history_cases,
+};
 use sf_path::Path;
 use sf_wire::{Attrs, ByteString, OpenFlags, Owner, Reply, StatusCode, Times};
 use std::alloc::{AllocError, Global};

@@ -4,7 +4,7 @@ use Rattle.sf_reply.specs.declared.reply.StatusCode.TheVariants.{NoSuchFile}
 use Rattle.sf_call.specs.declared.request.Request.TheVariants.{Stat, Mkdir}
 use Rattle.sf_call.specs.Histories.{IsAmong}
 use Rattle.sf_call.specs.Examples.{b, no_attrs, history}
-use Rattle.sf_call.proofs.tests.answers.Goals as goal
+use Rattle.sf_call_cases.proofs.tests.answers.Goals as goal
 
 pub new-absent-requires : goal.new-absent-requires
 unfolding IsAmong
