@@ -30,8 +30,8 @@ pub struct Store {
     root: NodeId,
     sessions: BTreeMap<u64, SessionHandles>,
     look_ups: u64,
-    /// How many nodes have gone since memory was last given back.
-    gone: usize,
+    /// How often it was trimmed since memory was last given back.
+    trims: usize,
 }
 
 impl Model for Store {
@@ -68,7 +68,7 @@ impl Store {
             root,
             sessions: BTreeMap::new(alloc),
             look_ups: 0,
-            gone: 0,
+            trims: 0,
         })
     }
 
@@ -79,19 +79,23 @@ impl Store {
         self.alloc
     }
 
-    /// Gives back the memory of nodes that are gone, where few are left of many. The root alone is few;
-    /// else a quarter of the room must have gone since the last time. The nodes that are left keep their
-    /// numbers, so the room up to the greatest of them stays.
+    /// Gives back the memory of nodes that are gone, where few are left of many: that past the node of
+    /// the greatest number, and at most once in as many calls as a quarter of the room. So a call of it
+    /// after each change costs little.
     pub fn trim(&mut self)
         ensures nodes { (id : ℕ) → node_in self.new.nodes id ≡ node_in self.old.nodes id }
         ensures rest { self.new ≡ with_nodes self.old self.new.nodes }
     {
+        self.trims = self.trims.saturating_add(1);
         let room = self.nodes.capacity();
-        let count = self.nodes.len();
         let few = room / 4;
-        if room >= 64 && count <= few && (count == 1 || self.gone >= few) {
+        if room < 64 || self.nodes.len() > few || self.trims < few {
+            return;
+        }
+        // The last place is free: else nothing can be given back.
+        if !self.nodes.contains(room - 1) {
             self.nodes.shrink_to_fit();
-            self.gone = 0;
+            self.trims = 0;
         }
     }
 
@@ -236,7 +240,6 @@ impl Store {
         };
         if is_unused {
             self.nodes.try_remove(node);
-            self.gone = self.gone.saturating_add(1);
         }
     }
 
