@@ -11,7 +11,7 @@ ghost use Rattle.sf_call.specs.Calls.{apply, leave};
 use crate::copies::copy_of;
 use crate::node::Node;
 use crate::sweep::{close_all, sweep};
-use sf_call::{Handle, Metadata, Place, Request};
+use sf_call::{Handle, Metadata, Place, Request, fronts, open_ways};
 use sf_path::{Name, Path};
 use sf_wire::{Attrs, Owner, Reply, StatusCode, Times};
 use std::alloc::{AllocError, Global};
@@ -151,10 +151,10 @@ impl PlainTree {
     }
 
     /// Whether a proper front of the path is absent or names a file.
-    #[tactic(auto, using(sf_call::proofs::Ways::one_front_more))]
     fn is_faulty_way(&self, path: &Path) -> Result<bool, AllocError>
         ensures { IfOk result (λ faulty. faulty ≡ is_faulty_way self.now path.now) }
     {
+        open_ways();
         for n in 0..path.len() {
             let front = path.front(self.alloc, n)?;
             if self.directory_at(&front).is_none() {
@@ -194,10 +194,10 @@ impl PlainTree {
 }
 
 /// The name that a path has in a directory, if it stands directly below it.
-#[tactic(auto, using(crate::proofs::Children::name_below, crate::proofs::Children::no_front, crate::proofs::Children::other_length))]
 pub(crate) fn name_in<'a>(directory: &Path, path: &'a Path) -> Option<&'a Name>
     ensures { option_copied result ≡ only_name (after_front directory.now path.now) }
 {
+    fronts();
     if path.begins_with(directory) && path.len().saturating_sub(directory.len()) == 1 {
         Some(path.name(directory.len()))
     } else {
