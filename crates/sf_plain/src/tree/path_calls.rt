@@ -254,8 +254,7 @@ impl PlainTree {
         self.handles
             .insert(number, file_handle(session, label, flags))?;
         if flags.truncate && flags.write {
-            let nothing = ByteString::from_vec(Vec::new(self.alloc));
-            self.set_object(label, Node::file(metadata.modified_at(moment), nothing));
+            self.set_contents(label, moment, metadata, Vec::new(self.alloc));
         }
         Ok(Reply::Handle(number))
     }
