@@ -7,7 +7,13 @@ use Rattle.std.specs.Cmp.{IsTotalOrder}
 use Rattle.std.specs.Ordering.{is_eq}
 use Rattle.std.specs.Map.{lookup, set_value}
 use Rattle.std.proofs.lemmas.Map.Lookups.{CmpEqualImpliesEq, btree_map_from_get}
+use Rattle.std.specs.FinMap.{nat_cmp-IsAntisymmetric, slice_cmp-IsAntisymmetric}
+use Rattle.sf_path.specs.Order.{path_cmp}
 use Rattle.sf_call.specs.Tree.{Tree}
+
+-- paths that compare alike are one
+pub exact_paths : CmpEqualImpliesEq path_cmp
+exact_paths = slice_cmp-IsAntisymmetric (slice_cmp-IsAntisymmetric nat_cmp-IsAntisymmetric)
 
 module _ {K X : Type 0} {R : K → K → Ordering} where
   nothing_there : (f : K → Option X) (k q : K) (v : X) → CmpEqualImpliesEq R → f k ≡ None → (r : Ordering) → R k q ≡ r → cond (is_eq r) None (cond (is_eq r) (Some v) (f q)) ≡ f q

@@ -1,21 +1,34 @@
 -- What is known of a path's way once some of its fronts were looked up.
-use Rattle.std.proofs.Common.{◌≡◌, ℕ, ◌<◌, ◌≤◌, true, false, not, length, take, List, [], Option, sym, ap, ◌∙◌}
+use Rattle.std.proofs.Common.{◌≡◌, ℕ, ◌<◌, ◌+◌, ◌↔◌, Bool, true, false, nat_lt, length, take, Option, refl, sym, ap, ◌∙◌, subst, arith}
 use Rattle.std.specs.Option.{is_some}
-use Rattle.std.specs.List.{list_any}
-use Rattle.std.proofs.lemmas.List.{take_all}
-use Rattle.std.proofs.lemmas.List.Folds.{list_any_at}
+use Rattle.std.proofs.lemmas.Bool.Decides.{nat_tests}
 use Rattle.sf_call.specs.declared.metadata.Metadata.{Metadata}
 use Rattle.sf_path.specs.Names.{Path}
-use Rattle.sf_call.specs.Tree.{Tree, directory_at, is_directory, proper_fronts, is_faulty_way}
-use Rattle.sf_call.proofs.Ways.{fails_within, length-proper_fronts, get_or-proper_fronts}
+use Rattle.sf_call.specs.Tree.{Tree, directory_at, is_directory, is_faulty_way}
+
+not_false : (b : Bool) → ¬ (b ≡ false) → b ≡ true
+not_false true _ = refl
+not_false false other = absurd (other refl)
 
 -- a front that is no directory makes the way faulty
-pub way_fails : (tree : Tree) (path front : Path) (n : ℕ) (found : Option (ℕ × Metadata)) → n < length path → front ≡ take n path → found ≡ directory_at tree front → is_some found ≡ false → is_faulty_way tree path ≡ true
-way_fails tree path front n found lt is looked none =
-    list_any_at (λ f. not (is_directory tree f)) (proper_fronts path) n [] (rw (length-proper_fronts path) lt)
-    (ap (λ (f : Path). not (is_directory tree f)) (get_or-proper_fronts path n [] lt ∙ sym is) ∙ ap (λ (o : Option (ℕ × Metadata)). not (is_some o)) (sym looked) ∙ ap not none)
+pub way_fails : (tree : Tree) (path front : Path) (n : ℕ) (found : Option (ℕ × Metadata))
+    → (is_faulty_way tree path ≡ false) ↔ ((k : ℕ) → k < length path → is_directory tree (take k path) ≡ true)
+    → n < length path → front ≡ take n path → found ≡ directory_at tree front → is_some found ≡ false → is_faulty_way tree path ≡ true
+way_fails tree path front n found ways lt is looked none =
+    not_false (is_faulty_way tree path) (λ passes.
+    let there : is_directory tree (take n path) ≡ true = ways.0 passes n lt in
+    let absent : is_directory tree (take n path) ≡ false = ap (is_directory tree) (sym is) ∙ ap (λ (o : Option (ℕ × Metadata)). is_some o) (sym looked) ∙ none in
+    cc)
 
--- where all fronts are directories it is not
-pub way_passes : (tree : Tree) (path : Path) (n : ℕ) → length path ≤ n → fails_within tree path n ≡ false → is_faulty_way tree path ≡ false
-way_passes tree path n le none =
-    ap (λ (fronts : List Path). list_any (λ f. not (is_directory tree f)) fronts) (sym (take_all n (proper_fronts path) (rw (length-proper_fronts path) le))) ∙ none
+one_more : (f : ℕ → Bool) (n : ℕ) → ((k : ℕ) → k < n → f k ≡ true) → f n ≡ true → (k : ℕ) → k < n + 1 → f k ≡ true
+one_more f n before last k lt =
+    elim (nat_lt k n) as (λ b. nat_lt k n ≡ b → f k ≡ true) [
+      | true ↦ λ less. before k (grind (arith, nat_tests))
+      | false ↦ λ not_less. let same : n ≡ k = grind (arith, nat_tests) in subst (λ m. f m ≡ true) same last
+    ] refl
+
+-- one directory more on the way
+pub way_goes_on : (tree : Tree) (path front : Path) (n : ℕ) (found : Option (ℕ × Metadata)) → ((k : ℕ) → k < n → is_directory tree (take k path) ≡ true)
+    → front ≡ take n path → found ≡ directory_at tree front → is_some found ≡ true → (k : ℕ) → k < n + 1 → is_directory tree (take k path) ≡ true
+way_goes_on tree path front n found before is looked there =
+    one_more (λ k. is_directory tree (take k path)) n before (ap (is_directory tree) (sym is) ∙ ap (λ (o : Option (ℕ × Metadata)). is_some o) (sym looked) ∙ there)

@@ -39,7 +39,10 @@ pub(crate) fn written(
 pub(crate) fn ends_past_limit(start: u64, count: usize) -> bool
     ensures { result ≡ nat_lt MAX_FILE_SIZE (start + count) }
 {
-    u128::from(start) + count as u128 > u128::from(MAX_FILE_SIZE)
+    match start.checked_add(count as u64) {
+        Some(end) => end > MAX_FILE_SIZE,
+        None => true,
+    }
 }
 
 /// The bytes that a READ gives, from an offset before the end on.

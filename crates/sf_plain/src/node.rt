@@ -16,12 +16,12 @@ use std::alloc::{AllocError, Global};
 use std::marker::Model;
 
 /// A directory, or a file with its bytes.
-#[derive(Debug, Drop)]
+#[derive(Drop)]
 pub(crate) struct Node {
     kind: Kind,
 }
 
-#[derive(Debug, Drop)]
+#[derive(Drop)]
 enum Kind {
     Directory(Metadata),
     File(Metadata, ByteString),

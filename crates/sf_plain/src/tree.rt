@@ -3,6 +3,8 @@
 ghost use Rattle.std.specs.List.{list_any};
 ghost use Rattle.std.specs.Option.{option_copied, is_some};
 ghost use Rattle.std.specs.Prelude.{◌≡◌, None, length, IfOk, OnOk, OnErr};
+ghost use Rattle.sf_call.specs.Attributes.{modified_at};
+ghost use Rattle.sf_call.specs.Attributes.Object.{File};
 ghost use Rattle.sf_call.specs.Tree.{empty_tree, label_at, directory_at, is_faulty_way, is_empty, only_name, after_front, place_at};
 ghost use Rattle.sf_call.specs.Changes.{changed, done, touch};
 ghost use Rattle.sf_call.specs.Changes.Change.{NewPath, SetObject, GonePath};
@@ -11,9 +13,9 @@ ghost use Rattle.sf_call.specs.Calls.{apply, leave};
 use crate::copies::copy_of;
 use crate::node::Node;
 use crate::sweep::{close_all, sweep};
-use sf_call::{Handle, Metadata, Place, Request};
+use sf_call::{Handle, Metadata, Place, Request, fronts, open_ways};
 use sf_path::{Name, Path};
-use sf_wire::{Attrs, Owner, Reply, StatusCode, Times};
+use sf_wire::{Attrs, ByteString, Owner, Reply, StatusCode, Times};
 use std::alloc::{AllocError, Global};
 use std::collections::BTreeMap;
 use std::marker::Model;
@@ -151,10 +153,10 @@ impl PlainTree {
     }
 
     /// Whether a proper front of the path is absent or names a file.
-    #[tactic(auto, using(sf_call::proofs::Ways::one_front_more))]
     fn is_faulty_way(&self, path: &Path) -> Result<bool, AllocError>
         ensures { IfOk result (λ faulty. faulty ≡ is_faulty_way self.now path.now) }
     {
+        open_ways();
         for n in 0..path.len() {
             let front = path.front(self.alloc, n)?;
             if self.directory_at(&front).is_none() {
@@ -194,10 +196,10 @@ impl PlainTree {
 }
 
 /// The name that a path has in a directory, if it stands directly below it.
-#[tactic(auto, using(crate::proofs::Children::name_below, crate::proofs::Children::no_front, crate::proofs::Children::other_length))]
 pub(crate) fn name_in<'a>(directory: &Path, path: &'a Path) -> Option<&'a Name>
     ensures { option_copied result ≡ only_name (after_front directory.now path.now) }
 {
+    fronts();
     if path.begins_with(directory) && path.len().saturating_sub(directory.len()) == 1 {
         Some(path.name(directory.len()))
     } else {
@@ -237,6 +239,14 @@ impl PlainTree {
         if let Some(node) = self.objects.get_mut(&label) {
             *node = object;
         }
+    }
+
+    /// Gives a file other bytes, at a moment.
+    fn set_contents(&mut self, label: u64, moment: u32, metadata: Metadata, bytes: Vec<u8>)
+        ensures { self.new ≡ changed self.old (SetObject label (File (modified_at moment metadata) bytes.items)) }
+    {
+        let file = Node::file(metadata.modified_at(moment), ByteString::from_vec(bytes));
+        self.set_object(label, file);
     }
 
     /// Marks a directory as modified at the moment.

@@ -5,15 +5,26 @@ ghost use Rattle.std.specs.Option.{option_copied};
 ghost use Rattle.sf_call.specs.Changes.{changed, done};
 ghost use Rattle.sf_call.specs.Changes.Change.{CloseHandle};
 ghost use Rattle.sf_call.specs.Handles.{handle_in, opened};
-ghost use Rattle.sf_call.specs.Calls.{close, stat_opened, set_opened, read, write};
+ghost use Rattle.sf_call.specs.Calls.{close, stat_opened, set_opened, read, start_of, write};
 
 use super::PlainTree;
 use crate::contents::{ends_past_limit, part, written};
-use crate::node::{Node, Parts};
+use crate::node::Parts;
 use crate::sweep::sweep;
 use sf_call::Handle;
 use sf_wire::{Attrs, ByteString, Reply, StatusCode};
 use std::alloc::AllocError;
+
+/// Where a WRITE starts: by a handle that appends, at the end.
+fn start_of(handle: &Handle, contents: &[u8], offset: u64) -> u64
+    ensures { result ≡ start_of handle.now contents.now offset }
+{
+    if handle.append {
+        contents.len() as u64
+    } else {
+        offset
+    }
+}
 
 impl PlainTree {
     /// The handle, if it is the session's.
@@ -155,17 +166,12 @@ impl PlainTree {
         if bytes.is_empty() {
             return Ok(Reply::Status(StatusCode::Success));
         }
-        let start = if handle.append {
-            contents.len() as u64
-        } else {
-            offset
-        };
+        let start = start_of(handle, contents, offset);
         if ends_past_limit(start, bytes.len()) {
             return Ok(Reply::Status(StatusCode::Failure));
         }
         let after = written(self.alloc, contents, start as usize, bytes.as_slice())?;
-        let file = Node::file(metadata.modified_at(moment), ByteString::from_vec(after));
-        self.set_object(label, file);
+        self.set_contents(label, moment, metadata, after);
         Ok(Reply::Status(StatusCode::Success))
     }
 }

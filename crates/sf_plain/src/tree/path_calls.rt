@@ -3,7 +3,7 @@
 ghost use Rattle.std.specs.Option.{is_some};
 ghost use Rattle.std.specs.Ordering.{nat_cmp};
 ghost use Rattle.std.specs.BTreeMap.{get, is_at, IsOrdered};
-ghost use Rattle.std.specs.Prelude.{◌≡◌, ℕ, true, cond, nat_eq, nat_le, count_by, IfOk, OnOk, OnErr};
+ghost use Rattle.std.specs.Prelude.{◌≡◌, ◌&&◌, ℕ, true, cond, nat_eq, nat_le, count_by, IfOk, OnOk, OnErr};
 ghost use Rattle.sf_call.specs.Tree.{place_at, found_at, found_object, object_of, is_empty, label_at};
 ghost use Rattle.sf_call.specs.Changes.{changed, done};
 ghost use Rattle.sf_call.specs.Changes.Change.{GonePath, NewPath, OpenHandle};
@@ -43,6 +43,13 @@ fn file_handle(session: u64, label: u64, flags: OpenFlags) -> Handle
         append: flags.append,
         listed: None,
     }
+}
+
+/// Whether opening cuts a file that is there.
+fn cuts(flags: OpenFlags) -> bool
+    ensures { result ≡ (flags.truncate && flags.write) }
+{
+    flags.truncate && flags.write
 }
 
 /// Brings back what stood at a number before a handle was put there. What is there already takes no memory to replace.
@@ -253,9 +260,8 @@ impl PlainTree {
         }
         self.handles
             .insert(number, file_handle(session, label, flags))?;
-        if flags.truncate && flags.write {
-            let nothing = ByteString::from_vec(Vec::new(self.alloc));
-            self.set_object(label, Node::file(metadata.modified_at(moment), nothing));
+        if cuts(flags) {
+            self.set_contents(label, moment, metadata, Vec::new(self.alloc));
         }
         Ok(Reply::Handle(number))
     }

@@ -3,7 +3,7 @@ use Rattle.std.specs.BTreeMap.{get, is_at}
 use Rattle.sf_path.specs.Order.{path_cmp, path_total}
 use Rattle.sf_path.specs.Names.{Path}
 use Rattle.sf_call.specs.Tree.{Tree, label_at}
-use Rattle.sf_call.proofs.Orders.{exact_paths}
+use Rattle.sf_plain.proofs.Undone.{exact_paths}
 use Rattle.sf_plain.proofs.Undone.{undone, same_tree}
 use Rattle.sf_plain.proofs.tree.PlainTree.add.Goals as goal
 
