@@ -1,9 +1,9 @@
 use Rattle.std.proofs.Common.{[], ◌∷◌, refl, inl, inr}
 use Rattle.sf_reply.specs.declared.reply.Reply.TheVariants as reply
-use Rattle.sf_reply.specs.declared.reply.StatusCode.TheVariants.{Success, NoSuchFile}
-use Rattle.sf_call.specs.declared.request.Request.TheVariants.{Stat, Mkdir}
+use Rattle.sf_reply.specs.declared.reply.StatusCode.TheVariants.{NoSuchFile}
+use Rattle.sf_call.specs.declared.request.Request.TheVariants.{Stat}
 use Rattle.sf_call.specs.Histories.{IsAmong}
-use Rattle.sf_call.specs.Examples.{b, no_attrs, history}
+use Rattle.sf_call.specs.Examples.{b, history}
 use Rattle.sf_session_cases.proofs.tests.an_answer_is_appended.Goals as goal
 
 pub new-requires : goal.new-requires
