@@ -22,8 +22,8 @@ use std::alloc::{AllocError, Global};
 use std::collections::BTreeMap;
 use std::marker::Model;
 
-/// So few nodes are never called few of many.
-const FEW: usize = 16;
+/// Room for fewer nodes isn't given back.
+const MANY: usize = 64;
 
 /// Files, directories and what is open.
 #[derive(Drop)]
@@ -33,8 +33,8 @@ pub struct Store {
     root: NodeId,
     sessions: BTreeMap<u64, SessionHandles>,
     look_ups: u64,
-    /// How many nodes have gone since room for nodes was last given back.
-    gone: usize,
+    /// How often the store was trimmed since room for nodes was last given back.
+    trims: usize,
 }
 
 impl Model for Store {
@@ -71,7 +71,7 @@ impl Store {
             root,
             sessions: BTreeMap::new(alloc),
             look_ups: 0,
-            gone: 0,
+            trims: 0,
         })
     }
 
@@ -82,19 +82,21 @@ impl Store {
         self.alloc
     }
 
-    /// Gives back the room of nodes that are gone, where few are left of many, and as many have gone since
-    /// it last did. Nodes keep their numbers, so the room up to the greatest of them stays.
+    /// Gives back the room of nodes that are gone, where few are left of many: at most once in as many
+    /// calls as a sixteenth of the room, so that a call of it after each change costs little. Nodes keep
+    /// their numbers, so the room up to the greatest of them stays.
     pub fn trim(&mut self)
         ensures nodes { (id : ℕ) → node_in self.new.nodes id ≡ node_in self.old.nodes id }
         ensures rest { self.new ≡ with_nodes self.old self.new.nodes }
     {
+        self.trims = self.trims.saturating_add(1);
         let room = self.nodes.capacity();
-        let few = room / 4;
-        if few >= FEW && self.nodes.len() <= few && self.gone >= few {
-            self.nodes.shrink_to_fit();
-            if self.nodes.capacity() < room {
-                self.gone = 0;
-            }
+        if room < MANY || self.nodes.len() > room / 4 || self.trims < room / 16 {
+            return;
+        }
+        self.nodes.shrink_to_fit();
+        if self.nodes.capacity() < room {
+            self.trims = 0;
         }
     }
 
@@ -239,7 +241,6 @@ impl Store {
         };
         if is_unused {
             self.nodes.try_remove(node);
-            self.gone = self.gone.saturating_add(1);
         }
     }
 
