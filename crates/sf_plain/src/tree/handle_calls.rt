@@ -4,7 +4,7 @@ ghost use Rattle.std.specs.Prelude.{◌≡◌, nat_eq, IfOk, OnOk, OnErr};
 ghost use Rattle.std.specs.Option.{option_copied};
 ghost use Rattle.sf_call.specs.Changes.{changed, done};
 ghost use Rattle.sf_call.specs.Changes.Change.{CloseHandle};
-ghost use Rattle.sf_call.specs.Handles.{handle_in, opened};
+ghost use Rattle.sf_call.specs.Handles.{if_of, handle_in, opened};
 ghost use Rattle.sf_call.specs.Calls.{close, stat_opened, set_opened, read, start_of, write};
 
 use super::PlainTree;
@@ -14,6 +14,17 @@ use crate::sweep::sweep;
 use sf_call::Handle;
 use sf_wire::{Attrs, ByteString, Reply, StatusCode};
 use std::alloc::AllocError;
+
+/// The handle, if it is the session's.
+fn if_of(handle: &Handle, session: u64) -> Option<&Handle>
+    ensures { option_copied result ≡ if_of session handle.now }
+{
+    if handle.session == session {
+        Some(handle)
+    } else {
+        None
+    }
+}
 
 /// Where a WRITE starts: by a handle that appends, at the end.
 fn start_of(handle: &Handle, contents: &[u8], offset: u64) -> u64
@@ -27,16 +38,11 @@ fn start_of(handle: &Handle, contents: &[u8], offset: u64) -> u64
 }
 
 impl PlainTree {
-    /// The handle, if it is the session's.
+    /// The handle of a number, if it is the session's.
     pub(super) fn handle_in(&self, session: u64, number: u64) -> Option<&Handle>
         ensures { option_copied result ≡ handle_in self.now session number }
     {
-        let handle = self.handles.get(&number)?;
-        if handle.session == session {
-            Some(handle)
-        } else {
-            None
-        }
+        if_of(self.handles.get(&number)?, session)
     }
 
     /// Closes a handle, and lets go of the object that it was the last to open.

@@ -3,7 +3,7 @@
 ghost use Rattle.std.specs.Option.{is_some};
 ghost use Rattle.std.specs.Ordering.{nat_cmp};
 ghost use Rattle.std.specs.BTreeMap.{get, is_at, IsOrdered};
-ghost use Rattle.std.specs.Prelude.{◌≡◌, ◌&&◌, ℕ, true, cond, nat_eq, nat_le, count_by, IfOk, OnOk, OnErr};
+ghost use Rattle.std.specs.Prelude.{◌≡◌, ◌&&◌, ℕ, true, cond, nat_eq, count_by, IfOk, OnOk, OnErr};
 ghost use Rattle.sf_call.specs.Tree.{place_at, found_at, found_object, object_of, is_empty, label_at};
 ghost use Rattle.sf_call.specs.Changes.{changed, done};
 ghost use Rattle.sf_call.specs.Changes.Change.{GonePath, NewPath, OpenHandle};
@@ -198,16 +198,21 @@ impl PlainTree {
 
 // Opening.
 impl PlainTree {
+    /// How many handles the session has open.
+    fn handle_count(&self, session: u64) -> usize
+        ensures { result ≡ count_by (λ e. nat_eq e.1.session session) self.now.handles }
+    {
+        self.handles
+            .iter()
+            .filter(|(_, handle)| handle.session == session)
+            .count()
+    }
+
     /// Whether the session has as many handles open as it may.
     fn has_all_handles(&self, session: u64) -> bool
         ensures { result ≡ has_all_handles self.now session }
     {
-        let open = self
-            .handles
-            .iter()
-            .filter(|(_, handle)| handle.session == session)
-            .count();
-        open >= MAX_HANDLES
+        self.handle_count(session) >= MAX_HANDLES
     }
 
     /// OPENDIR.
