@@ -37,6 +37,11 @@ impl Cause {
 }
 
 impl fmt::Display for Cause {
+    ghost use Rattle.std.specs.Prelude.{Some};
+    ghost use Rattle.sf_session.specs.Causes.{words_of};
+
+    ghost output = { λ cause. Some (words_of cause) };
+
     fn fmt<W: fmt::Write>(&self, f: &mut fmt::Formatter<W>) -> fmt::Result {
         f.write_str(self.words())
     }
