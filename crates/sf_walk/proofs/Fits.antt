@@ -5,10 +5,9 @@ use Rattle.std.specs.List.{list_any}
 use Rattle.std.proofs.Common.{sym, ap, subst, ◌∙◌, inl, inr, append_assoc, append-nil}
 use Rattle.sf_path.specs.Names.{Name, Path}
 use Rattle.sf_call.specs.declared.metadata.Metadata.{Metadata}
-use Rattle.sf_call.specs.declared.place.Place.{Place}
 use Rattle.sf_call.specs.declared.place.Place.TheVariants as place
 use Rattle.sf_call.specs.Attributes.{Object}
-use Rattle.sf_call.specs.Tree.{Tree, Found, label_at, object_of, directory_metadata, is_directory, proper_fronts, is_faulty_way, place_of, place_at, found_at, found_place, found_object}
+use Rattle.sf_call.specs.Tree.{Tree, label_at, object_of, directory_metadata, is_directory, proper_fronts, place_of, place_at, found_at, found_place, found_object}
 use Rattle.sf_inode.specs.declared.node.Node.{Node}
 use Rattle.sf_inode.specs.declared.node.Content.{Content}
 use Rattle.sf_inode.specs.declared.node.Content.TheVariants as content
@@ -16,7 +15,7 @@ use Rattle.sf_inode.specs.Nodes.{object_in, is_directory_content}
 use Rattle.sf_keeps.specs.Steps.{Steps, walk}
 use Rattle.sf_keeps.specs.Shows.{label_by, is_directory_by}
 use Rattle.sf_inode.specs.Stores.{StoreState, node_in, entry_of, is_directory_at, shown_node, shown_of}
-use Rattle.sf_keeps.specs.Keeps.{view_of, Keeps}
+use Rattle.sf_keeps.specs.Keeps.{Keeps}
 use Rattle.sf_walk.specs.declared.finding.Located.{Located}
 use Rattle.sf_walk.specs.declared.finding.Located.TheVariants as located
 use Rattle.sf_walk.specs.Ways.{missing, way_from, found_content, found_node}

@@ -1,12 +1,12 @@
 -- What the store's methods leave of holders and of the count of look-ups.
-use Rattle.std.specs.Prelude.{◌≡◌, ◌≢◌, ℕ, zero, suc, ◌+◌, ◌-◌, ◌<◌, ◌^◌, min, nat_eq, Bool, true, false, cond, List, [], ◌∷◌, length, option_and_then, Option, Some, None, slice_set, if◌then◌else◌, refl}
+use Rattle.std.specs.Prelude.{◌≡◌, ℕ, zero, suc, ◌+◌, ◌-◌, ◌<◌, ◌^◌, min, nat_eq, true, false, cond, List, [], ◌∷◌, length, option_and_then, Option, Some, None, slice_set, if◌then◌else◌, refl}
 use Rattle.std.proofs.Common.{sym, ap, ◌∙◌, eqb-true, eq-eqb, arith, get_or-set_same, get_or-set_other}
 use Rattle.sf_path.specs.Names.{Name}
 use Rattle.sf_inode.specs.declared.node.Node.{Node}
 use Rattle.sf_inode.specs.declared.handle.OpenHandle.{OpenHandle}
 use Rattle.sf_inode.specs.declared.handle.Marks.{Marks}
 use Rattle.sf_inode.specs.Nodes.{less_content, more_content, with_content, with_opened, without_name, is_unused}
-use Rattle.sf_inode.specs.Stores.{StoreState, node_in, entry_of, holder_of, edited_by, edited, entry_put, entry_taken, with_nodes, released_if, released, forgotten, let_go, unlinked_from, unlinked, handles_of, handles_put, handle_put, opened_at, opened, listed_at, handle_listed, handle_dropped, closed_by, closed, handle_at, Inserted}
+use Rattle.sf_inode.specs.Stores.{StoreState, node_in, entry_of, holder_of, edited_by, edited, entry_taken, with_nodes, released_if, released, unlinked_from, unlinked, handles_of, handles_put, handle_put, opened_at, opened, listed_at, handle_listed, handle_dropped, closed_by, closed, handle_at, Inserted}
 use Rattle.sf_walk.specs.Served.{HoldersStay, IsAlike, LookedUp, LooksUp, after_look_ups}
 use Rattle.sf_walk.proofs.LookUps.{looked_nodes}
 

@@ -1,5 +1,5 @@
 -- Look-ups, one more.
-use Rattle.std.proofs.Common.{◌≡◌, ℕ, ◌+◌, ◌≤◌, zero, suc, refl, sym, ap, ◌∙◌, arith}
+use Rattle.std.proofs.Common.{◌≡◌, ℕ, ◌+◌, ◌≤◌, zero, suc, refl, ap, ◌∙◌, arith}
 use Rattle.sf_inode.specs.Stores.{StoreState, looked_up}
 use Rattle.sf_walk.specs.Served.{LookedUp, after_look_ups}
 

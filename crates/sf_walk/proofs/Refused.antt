@@ -1,5 +1,5 @@
 -- A store in which nothing but the count of look-ups differs keeps the tree.
-use Rattle.std.specs.Prelude.{◌≡◌, ℕ, T, List, option_map, option_and_then, Option, Some}
+use Rattle.std.specs.Prelude.{◌≡◌, ℕ, T, List, option_map, option_and_then}
 use Rattle.std.proofs.Common.{sym, ap, subst, ◌∙◌}
 use Rattle.std.specs.Ordering.{nat_cmp}
 use Rattle.std.specs.Map.{lookup}

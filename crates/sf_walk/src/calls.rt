@@ -1,11 +1,11 @@
 //! Whole calls from the root.
 
-ghost use Rattle.std.specs.Prelude.{◌⊎◌, IfOk, OnErr};
+ghost use Rattle.std.specs.Prelude.{◌≡◌, ◌⊎◌, false, IfOk, IsOk, OnErr};
 ghost use Rattle.sf_call.specs.Tree.{Tree};
 ghost use Rattle.sf_call.specs.Calls.{answer_to};
 ghost use Rattle.sf_keeps.specs.Keeps.{Keeps};
 ghost use Rattle.sf_walk.specs.Ways.{names_of};
-ghost use Rattle.sf_walk.specs.Served.{IsServed, IsRefused, IsAlike, LooksUp, HoldersStay, IsNewNumber};
+ghost use Rattle.sf_walk.specs.Served.{IsServed, IsRefused, IsAlike, LooksUp, HoldersStay, IsNewNumber, may_want_memory};
 
 use crate::handle_calls::{close, read, set_stat_handle, stat_handle, write};
 use crate::listing::read_directory;
@@ -18,11 +18,13 @@ use std::alloc::AllocError;
 
 /// Answers a call whole, from the root on and without locks, whoever holds the nodes on its way. Its
 /// number is above 0, and no label and no handle of the tree. `NoMemory` changes nothing but the count
-/// of look-ups.
+/// of look-ups, and is never told where a call makes nothing, and neither gives nor takes bytes or names.
 #[tactic(auto, using(crate::proofs::Refused::keeps_alike, crate::proofs::Trimmed::served_trimmed, crate::proofs::Trimmed::stays_trimmed, crate::proofs::Trimmed::looks_trimmed))]
 pub fn from_root(store: &mut Store, call: &Call) -> Reply
     ensures served { (t : Tree) → Keeps store.old t → IsNewNumber t call.now.number
         → IsRefused store.old store.new t result ⊎ IsServed store.new t (answer_to t call.now.session call.now.number call.now.moment call.now.request) result }
+    ensures sure { may_want_memory call.now.request ≡ false → (t : Tree) → Keeps store.old t → IsNewNumber t call.now.number
+        → IsServed store.new t (answer_to t call.now.session call.now.number call.now.moment call.now.request) result }
     ensures look_ups { LooksUp store.old store.new (names_of call.now.request) }
     ensures holders { HoldersStay store.old store.new }
 {
@@ -37,6 +39,7 @@ pub fn from_root(store: &mut Store, call: &Call) -> Reply
 
 fn answer(store: &mut Store, call: &Call) -> Result<Reply, AllocError>
     ensures served { (t : Tree) → Keeps store.old t → IsNewNumber t call.now.number → IfOk result (λ reply. IsServed store.new t (answer_to t call.now.session call.now.number call.now.moment call.now.request) reply) }
+    ensures sure { may_want_memory call.now.request ≡ false → IsOk result }
     ensures err { OnErr result (IsAlike store.old store.new) }
     ensures look_ups { LooksUp store.old store.new (names_of call.now.request) }
     ensures holders { HoldersStay store.old store.new }

@@ -1,7 +1,7 @@
 //! Calls by handle. A call of one of the store's laws does nothing: the proof takes from it what the law
 //! says.
 
-ghost use Rattle.std.specs.Prelude.{◌≡◌, ◌+◌, ◌<◌, ◌≤◌, ◌^◌, ℕ, nat_lt, if◌then◌else◌, List, length, take, drop, true, Some, IfOk, OnOk, OnErr};
+ghost use Rattle.std.specs.Prelude.{◌≡◌, ◌+◌, ◌<◌, ◌≤◌, ◌^◌, ℕ, nat_lt, if◌then◌else◌, List, length, take, drop, true, false, is_some, Some, IsOk, IfOk, OnOk, OnErr};
 ghost use Rattle.sf_call.specs.declared.metadata.Metadata.{Metadata};
 ghost use Rattle.sf_call.specs.Attributes.{modified_at};
 ghost use Rattle.sf_call.specs.Attributes.Object.{File};
@@ -62,6 +62,7 @@ pub(crate) fn set_stat_handle(
     attrs: &Attrs,
 ) -> Result<Reply, AllocError>
     ensures served { (t : Tree) → Keeps store.old t → IfOk result (λ reply. IsServed store.new t (set_opened moment attrs.now (opened t session number)) reply) }
+    ensures sure { is_some attrs.now.size ≡ false → IsOk result }
     ensures err { OnErr result (store.new ≡ store.old) }
     ensures look_ups { store.new.look_ups ≡ store.old.look_ups }
     ensures holders { HoldersStay store.old store.new }

@@ -1,7 +1,7 @@
 //! Calls on paths, but those that open. A call of one of the store's laws does nothing: the proof takes
 //! from it what the law says.
 
-ghost use Rattle.std.specs.Prelude.{◌≡◌, ◌<◌, ℕ, true, length, Some, IfOk, OnErr};
+ghost use Rattle.std.specs.Prelude.{◌≡◌, ◌<◌, ℕ, true, false, is_some, length, Some, IsOk, IfOk, OnErr};
 ghost use Rattle.sf_call.specs.Attributes.{modified_at};
 ghost use Rattle.sf_call.specs.Tree.{Tree, found_at, place_at};
 ghost use Rattle.sf_call.specs.Calls.{stat, set_stat, sets, make_directory, remove_directory, remove_file, goes, unless_root};
@@ -46,6 +46,7 @@ pub(crate) fn set_stat(
     attrs: &Attrs,
 ) -> Result<Reply, AllocError>
     ensures served { (t : Tree) → Keeps store.old t → IfOk result (λ reply. IsServed store.new t (unless_root path.now (set_stat moment attrs.now (found_at t path.now))) reply) }
+    ensures sure { is_some attrs.now.size ≡ false → IsOk result }
     ensures err { OnErr result (IsAlike store.old store.new) }
     ensures look_ups { LooksUp store.old store.new (length path.now) }
     ensures holders { HoldersStay store.old store.new }
@@ -69,6 +70,7 @@ pub(crate) fn set_node(
     attrs: &Attrs,
 ) -> Result<Reply, AllocError>
     ensures served { (t : Tree) (it : Node) → Keeps store.old t → node_in store.old.nodes node ≡ Some it → IfOk result (λ reply. IsServed store.new t (sets moment it.label attrs.now (object_in it.metadata it.content)) reply) }
+    ensures sure { is_some attrs.now.size ≡ false → IsOk result }
     ensures err { OnErr result (store.new ≡ store.old) }
     ensures look_ups { store.new.look_ups ≡ store.old.look_ups }
     ensures holders { HoldersStay store.old store.new }

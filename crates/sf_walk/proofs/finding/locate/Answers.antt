@@ -1,5 +1,4 @@
-use Rattle.std.proofs.Common.{sym, ap, ◌∙◌, arith, ◌+◌, List, Option, true, false, None, Some}
-use Rattle.sf_path.specs.Names.{Name}
+use Rattle.std.proofs.Common.{sym, ap, ◌∙◌, arith, ◌+◌, List, Option}
 use Rattle.sf_inode.specs.declared.node.Node.{Node}
 use Rattle.sf_inode.specs.Stores.{entry_of, is_directory_at}
 use Rattle.sf_walk.proofs.WaySteps.{way_lacks, way_goes, missing_last, missing_on}
