@@ -1,17 +1,25 @@
--- What stands in a directory and comes next is listed, or the listing is full of names before it.
-use Rattle.std.proofs.Common.{◌≡◌, ◌⊎◌, ℕ, zero, suc, true, false, cond, List, [], ◌∷◌, ◌++◌, length, take, Option, Some, None, option_map, option_and_then, inl, inr, refl, sym, ap, ◌∙◌, subst, arith}
+-- What stands in a directory and comes next is listed, or the listing is full of names before it, and nothing else is listed.
+use Rattle.std.proofs.Common.{◌≡◌, ◌⊎◌, ℕ, zero, suc, true, false, T, cond, List, [], ◌∷◌, ◌++◌, length, take, Option, Some, None, option_map, option_and_then, inl, inr, refl, sym, ap, ◌∙◌, subst, arith}
+use Rattle.std.specs.Option.{IfSome}
 use Rattle.std.specs.List.{AllByRecursion, Contains, cons_option}
 use Rattle.std.specs.List.Sorted.{IsStrictlySortedBy}
-use Rattle.std.specs.Ordering.{is_lt}
+use Rattle.std.specs.Ordering.{is_lt, is_eq}
+use Rattle.std.specs.Cmp.{tied_itself, eq_by_cmp_equiv}
+use Rattle.std.specs.FinMap.{is_sorted}
+use Rattle.std.specs.FinMap.Entries.{below_all}
 use Rattle.sf_path.specs.Names.{Name, Path}
-use Rattle.sf_path.specs.Order.{name_cmp, same_path}
+use Rattle.sf_path.specs.Order.{name_cmp, path_cmp, path_total, same_path}
 use Rattle.sf_reply.specs.declared.reply.Entry.{Entry}
 use Rattle.sf_call.specs.declared.limits.TheConstants.{MAX_ENTRIES}
 use Rattle.sf_call.specs.Attributes.{Object}
-use Rattle.sf_call.specs.Tree.{Tree, IsOrderedTree, label_at, object_of, only_name}
+use Rattle.sf_call.specs.Tree.{Tree, IsOrderedTree, label_at, object_of, after_front, only_name}
 use Rattle.sf_call.specs.Listings.{is_past, entry_of, listed_entry, listing, names_of}
 use Rattle.sf_call.proofs.MovedNames.{after_front-append, same_path_is}
-use Rattle.sf_call.proofs.InOrder.{listed, in_order}
+use Rattle.sf_call.proofs.InOrder.{listed, at_name, in_order}
+use Rattle.sf_call.proofs.Ordered.{and_first, and_second}
+use Rattle.sf_call.proofs.LookUps.{not_at}
+use Rattle.sf_call.proofs.FittingTrees.{all_made}
+use Rattle.sf_call.proofs.FittingAnswers.{taken_short}
 
 -- an entry stands in a list
 abbrev pub IsIn : Entry → List Entry → Type 0
@@ -84,3 +92,56 @@ listing_complete tree last directory name label object o at there past =
       | inl is ↦ inl (contained (entry_of name object) (listing tree last directory) is)
       | inr full ↦ inr full
     ]
+
+-- the entries behind the first are found past it
+past_first : (e : Path × ℕ) (es fs : List (Path × ℕ)) → T (below_all path_cmp e.0 fs) → AllByRecursion (λ x. label_at es x.0 ≡ Some x.1) fs → AllByRecursion (λ x. label_at (e ∷ es) x.0 ≡ Some x.1) fs
+past_first e es [] below all = tt
+past_first e es (f ∷ fs) below all =
+    let other : same_path f.0 e.0 ≡ false =
+    (eq_by_cmp_equiv path_total).symm f.0 e.0 ∙ not_at (path_cmp e.0 f.0) (and_first _ (below_all path_cmp e.0 fs) below) in
+    (ap (λ b. cond b (Some e.1) (label_at es f.0)) other ∙ all.0, past_first e es fs (and_second _ (below_all path_cmp e.0 fs) below) all.1)
+
+-- each entry in order is found by its path
+each_found : (names : List (Path × ℕ)) → T (is_sorted path_cmp names) → AllByRecursion (λ e. label_at names e.0 ≡ Some e.1) names
+each_found [] sorted = tt
+each_found (e ∷ es) sorted = (
+  ap (λ r. cond (is_eq r) (Some e.1) (label_at es e.0)) (tied_itself path_total e.0),
+  past_first e es es (and_first (below_all path_cmp e.0 es) (is_sorted path_cmp es) sorted) (each_found es (and_second (below_all path_cmp e.0 es) (is_sorted path_cmp es) sorted)),
+)
+
+shown : (name : Name) (o : Option Object) (entry : Entry) → option_map (entry_of name) o ≡ Some entry → (object : Object) × (o ≡ Some object) × (entry ≡ entry_of entry.filename object)
+shown name None entry e = cc
+shown name (Some object) entry e = let same : entry_of name object ≡ entry = cc in (object, refl, subst (λ (x : Entry). x ≡ entry_of x.filename object) same refl)
+
+-- an entry that is listed shows its label's object
+shows_object : (last : Option Name) (o : Option Object) (rest : Option Path) (entry : Entry)
+    → option_and_then (λ name. option_map (entry_of name) o) (option_and_then (λ name. cond (is_past last name) (Some name) None) (only_name rest)) ≡ Some entry
+    → (object : Object) × (o ≡ Some object) × (entry ≡ entry_of entry.filename object)
+shows_object last o None entry e = cc
+shows_object last o (Some []) entry e = cc
+shows_object last o (Some (n ∷ m ∷ path)) entry e = cc
+shows_object last o (Some (n ∷ [])) entry e =
+    elim (is_past last n) as (λ b. option_and_then (λ name. option_map (entry_of name) o) (cond b (Some n) None) ≡ Some entry
+    → (object : Object) × (o ≡ Some object) × (entry ≡ entry_of entry.filename object)) [
+      | true ↦ λ k. shown n o entry k
+      | false ↦ λ k. cc
+    ] e
+
+-- an entry is of what stands in the directory under its name
+abbrev pub IsThere : Tree → Path → Entry → Type 0
+IsThere tree directory entry =
+    (label : ℕ) × (object : Object) × (label_at tree.names (directory ++ entry.filename ∷ []) ≡ Some label) × (object_of tree.objects label ≡ Some object) × (entry ≡ entry_of entry.filename object)
+
+entry_there : (tree : Tree) (last : Option Name) (directory : Path) (e : Path × ℕ) → label_at tree.names e.0 ≡ Some e.1 → IfSome (listed_entry tree directory last e) (IsThere tree directory)
+entry_there tree last directory e at =
+    elim (listed_entry tree directory last e) as (λ o. listed_entry tree directory last e ≡ o → IfSome o (IsThere tree directory)) [
+      | None ↦ λ _. tt
+      | Some entry ↦ λ is.
+          let of_object = shows_object last (object_of tree.objects e.1) (after_front directory e.0) entry is in
+          (e.1, of_object.0, subst (λ (p : Path). label_at tree.names p ≡ Some e.1) (at_name tree last directory e entry is).0 at, of_object.1, of_object.2)
+    ] refl
+
+pub listing_there : (tree : Tree) (last : Option Name) (directory : Path) → IsOrderedTree tree → AllByRecursion (IsThere tree directory) (listing tree last directory)
+listing_there tree last directory o =
+    taken_short (IsThere tree directory) 32 (listed tree last directory tree.names)
+    (all_made _ (IsThere tree directory) (listed_entry tree directory last) (entry_there tree last directory) tree.names (each_found tree.names o.names))

@@ -1,5 +1,5 @@
 -- A handle that a call makes is the calling session's, with the marks that were asked for.
-use Rattle.std.proofs.Common.{◌≡◌, ℕ, Bool, true, false, cond, not, nat_eq, ◌&&◌, ◌||◌, List, [], ◌∷◌, Option, Some, None, option_and_then, refl, sym, ap, ◌∙◌, subst}
+use Rattle.std.proofs.Common.{◌≡◌, ℕ, Bool, true, false, cond, not, ◌&&◌, ◌||◌, List, [], ◌∷◌, Option, Some, None, option_and_then, refl, ap, ◌∙◌, subst}
 use Rattle.std.specs.Ordering.{nat_cmp, is_eq}
 use Rattle.std.specs.Cmp.{nat_cmp_total, tied_itself}
 use Rattle.std.specs.BTreeMap.{insert_entry}
@@ -16,8 +16,8 @@ use Rattle.sf_call.specs.declared.place.Place.TheVariants.{NoWay, Absent, At}
 use Rattle.sf_call.specs.Attributes.{Object}
 use Rattle.sf_call.specs.Attributes.Object.{Directory, File}
 use Rattle.sf_call.specs.Tree.{Tree, Handle, label_at, object_of, handle_of, directory_at, place_at, found_object, found_place}
-use Rattle.sf_call.specs.Handles.{if_of, handle_in}
-use Rattle.sf_call.specs.Changes.{Change, done, touch}
+use Rattle.sf_call.specs.Handles.{if_of}
+use Rattle.sf_call.specs.Changes.{done, touch}
 use Rattle.sf_call.specs.Calls.{Answer, apply, has_all_handles, directory_handle, file_handle, open_directory, open_present, open_file, unless_root}
 use Rattle.sf_call.specs.NewHandles.{IsJustOpened}
 use Rattle.sf_call.proofs.LookUps.{lookup-put}
