@@ -103,7 +103,7 @@ past_name directory last path names =
       | Some name ↦ λ is_name. elim (is_past last name) as (λ b. IfSome (cond b (Some name) None) IsName) [ true ↦ is_name | false ↦ tt ]
     ] (name_short (after_front directory path) (rest_names directory path names))
 
-taken_short : {A : Type 0} (P : A → Type 0) (n : ℕ) (xs : List A) → AllByRecursion P xs → AllByRecursion P (take n xs)
+pub taken_short : {A : Type 0} (P : A → Type 0) (n : ℕ) (xs : List A) → AllByRecursion P xs → AllByRecursion P (take n xs)
 taken_short P zero xs all = tt
 taken_short P (suc n) [] all = tt
 taken_short P (suc n) (x ∷ xs) all = (all.0, taken_short P n xs all.1)

@@ -45,7 +45,7 @@ module _ (tree : Tree) (last : Option Name) (directory : Path) where
   abbrev pub listed : List (Path × ℕ) → List Entry
   listed names = filter_map (listed_entry tree directory last) names
 
-  at_name : (e : Path × ℕ) (entry : Entry) → listed_entry tree directory last e ≡ Some entry → (e.0 ≡ directory ++ entry.filename ∷ []) × (is_past last entry.filename ≡ true)
+  pub at_name : (e : Path × ℕ) (entry : Entry) → listed_entry tree directory last e ≡ Some entry → (e.0 ≡ directory ++ entry.filename ∷ []) × (is_past last entry.filename ≡ true)
   at_name e entry is =
       let there = entry_name last (object_of tree.objects e.1) (after_front directory e.0) entry is in
       (append-after_front directory e.0 (entry.filename ∷ []) there.0, there.1)
@@ -65,7 +65,7 @@ module _ (tree : Tree) (last : Option Name) (directory : Path) where
   each_below path [] below = tt
   each_below path (e ∷ es) below = (and_first (is_lt (path_cmp path e.0)) (below_all path_cmp path es) below, each_below path es (and_second (is_lt (path_cmp path e.0)) (below_all path_cmp path es) below))
 
-  in_order : (names : List (Path × ℕ)) → T (is_sorted path_cmp names) → IsStrictlySortedBy name_cmp (names_of (listed names))
+  pub in_order : (names : List (Path × ℕ)) → T (is_sorted path_cmp names) → IsStrictlySortedBy name_cmp (names_of (listed names))
   unfolding IsStrictlySortedBy
   in_order [] sorted = tt
   in_order (e ∷ es) sorted =

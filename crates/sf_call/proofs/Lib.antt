@@ -21,3 +21,5 @@ pub mod Idle
 pub mod SameKinds
 pub mod OwnChanges
 pub mod InOrder
+pub mod ListedAll
+pub mod NewHandles

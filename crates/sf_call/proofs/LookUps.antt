@@ -60,7 +60,7 @@ module _ {K X : Type 0} where
         | false ↦ none_filtered at p es (none_behind (at e.0) e.1 (lookup at es) none)
       ]
 
-not_at : (r : Ordering) → T (is_lt r) → is_eq r ≡ false
+pub not_at : (r : Ordering) → T (is_lt r) → is_eq r ≡ false
 not_at Less t = refl
 not_at Equal t = absurd t
 not_at Greater t = absurd t

@@ -9,6 +9,7 @@ pub mod LeftAlone
 pub mod Own
 pub mod Allowed
 pub mod Calls
+pub mod NewHandles
 pub mod ReplyKinds
 pub mod Values
 pub mod Histories

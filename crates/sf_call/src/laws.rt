@@ -1,9 +1,9 @@
 //! Laws of the tree and of histories, which no call needs.
 
-ghost use Rattle.std.specs.Prelude.{◌≡◌, ◌≢◌, ◌<◌, ◌≤◌, ◌↔◌, ℕ, true, false, List, [], ◌∷◌, ◌++◌, length, take, Some, None, Option, IsSome};
+ghost use Rattle.std.specs.Prelude.{◌≡◌, ◌≢◌, ◌<◌, ◌≤◌, ◌↔◌, ℕ, true, false, List, [], ◌∷◌, ◌++◌, length, take, Some, None, Option, IsSome, ◌⊎◌, not, ◌||◌};
 ghost use Rattle.sf_reply.specs.declared.reply.Reply.{Reply};
 ghost use Rattle.sf_call.specs.declared.request.Request.{Request};
-ghost use Rattle.sf_call.specs.declared.request.Request.TheVariants.{SetStat, FSetStat, Write};
+ghost use Rattle.sf_call.specs.declared.request.Request.TheVariants.{SetStat, OpenDir, Open, FSetStat, Write};
 ghost use Rattle.sf_call.specs.declared.record.Record.{Record};
 ghost use Rattle.sf_call.specs.declared.record.Record.TheVariants.{Did};
 ghost use Rattle.sf_path.specs.Names.{Name, Path};
@@ -16,10 +16,15 @@ ghost use Rattle.sf_call.specs.ReplyKinds.{IsReplyTo, HasAllParts};
 ghost use Rattle.sf_reply.specs.Longname.{HasType, longname_text};
 ghost use Rattle.sf_reply.specs.Replies.{ReplyFits, reply_body};
 ghost use Rattle.sf_call.specs.Listings.{entry_of, is_past, listing, names_of};
-ghost use Rattle.std.specs.List.{AllByRecursion};
+ghost use Rattle.std.specs.List.{AllByRecursion, Contains};
+ghost use Rattle.std.specs.Ordering.{is_lt};
+ghost use Rattle.sf_field.specs.declared.attrs.Attrs.{Attrs};
+ghost use Rattle.sf_field.specs.declared.open_flags.OpenFlags.{OpenFlags};
+ghost use Rattle.sf_call.specs.declared.limits.TheConstants.{MAX_ENTRIES};
+ghost use Rattle.sf_call.specs.NewHandles.{IsJustOpened};
 ghost use Rattle.std.specs.List.Sorted.{IsStrictlySortedBy};
 ghost use Rattle.sf_path.specs.Order.{name_cmp};
-ghost use Rattle.sf_reply.specs.declared.reply.Reply.TheVariants.{Status};
+ghost use Rattle.sf_reply.specs.declared.reply.Reply.TheVariants.{Status, Handle};
 ghost use Rattle.sf_reply.specs.declared.reply.StatusCode.{StatusCode};
 ghost use Rattle.sf_reply.specs.declared.reply.StatusCode.TheVariants.{Success};
 ghost use Rattle.sf_call.specs.Attributes.{Object, attrs_of, no_attrs};
@@ -114,6 +119,28 @@ pub fn own_changes()
 pub fn listed_in_order()
     ensures order { (tree : Tree) (last : Option Name) (directory : Path) → IsOrderedTree tree → IsStrictlySortedBy name_cmp (names_of (listing tree last directory)) }
     ensures past { (tree : Tree) (last : Option Name) (directory : Path) → AllByRecursion (λ name. is_past last name ≡ true) (names_of (listing tree last directory)) }
+{}
+
+/// A listing leaves nothing out: what stands in the directory after the last name that was given is listed as its object
+/// is, or the listing is full of names that come before. And what is listed stands there.
+pub fn listed_all()
+    ensures complete { (tree : Tree) (last : Option Name) (directory : Path) (name : Name) (label : ℕ) (object : Object) → IsOrderedTree tree
+        → label_at tree.names (directory ++ name ∷ []) ≡ Some label → object_of tree.objects label ≡ Some object → is_past last name ≡ true
+        → Contains (listing tree last directory) (entry_of name object)
+        ⊎ ((length (listing tree last directory) ≡ MAX_ENTRIES) × AllByRecursion (λ listed. is_lt (name_cmp listed name) ≡ true) (names_of (listing tree last directory))) }
+    ensures there { (tree : Tree) (last : Option Name) (directory : Path) → IsOrderedTree tree
+        → AllByRecursion (λ entry. (label : ℕ) × (object : Object) × (label_at tree.names (directory ++ entry.filename ∷ []) ≡ Some label)
+        × (object_of tree.objects label ≡ Some object) × (entry ≡ entry_of entry.filename object)) (listing tree last directory) }
+{}
+
+/// A handle that a call opens is the calling session's, to what the path names, with the marks that were asked for.
+pub fn new_handles()
+    ensures directory { (tree : Tree) (session number moment given : ℕ) (path : Path)
+        → (apply tree session number moment (OpenDir path)).reply ≡ Handle given
+        → IsJustOpened (apply tree session number moment (OpenDir path)).tree session given path false false false }
+    ensures file { (tree : Tree) (session number moment given : ℕ) (path : Path) (flags : OpenFlags) (attrs : Attrs)
+        → (apply tree session number moment (Open path flags attrs)).reply ≡ Handle given
+        → IsJustOpened (apply tree session number moment (Open path flags attrs)).tree session given path (flags.read || not flags.write) flags.write flags.append }
 {}
 
 /// What a request that may come next changes is allowed there, as each kind of change asks.

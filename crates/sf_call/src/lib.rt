@@ -20,9 +20,9 @@ pub use fault::CoreFault;
 pub use handle::Handle;
 pub use laws::{
     allowed_changes, equal_replies, found_by_number, fronts, given_by_history, idle_calls,
-    kinds_of_replies, kinds_stay, labels_of_paths, left_alone, listed_attributes, listed_in_order,
-    moved_names, nothing_unused, one_record_more, open_ways, ordered_trees, own_changes,
-    refusals_change_nothing, replies_fit, told_replies, ways_of_paths,
+    kinds_of_replies, kinds_stay, labels_of_paths, left_alone, listed_all, listed_attributes,
+    listed_in_order, moved_names, new_handles, nothing_unused, one_record_more, open_ways,
+    ordered_trees, own_changes, refusals_change_nothing, replies_fit, told_replies, ways_of_paths,
 };
 pub use limits::{MAX_ENTRIES, MAX_FILE_SIZE, MAX_HANDLES, MAX_READ};
 pub use metadata::{FileType, Metadata};
