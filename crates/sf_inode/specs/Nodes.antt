@@ -1,5 +1,5 @@
 -- What a node is, and its changes.
-use Rattle.std.specs.Prelude.{ℕ, nat_eq, ◌&&◌, Bool, true, false, not, if◌then◌else◌, filter, List, [], ◌∷◌, ◌++◌, Option, None}
+use Rattle.std.specs.Prelude.{ℕ, nat_eq, ◌&&◌, Bool, true, false, not, if◌then◌else◌, filter, List, [], ◌∷◌, ◌++◌, Option, None, is_some}
 use Rattle.std.specs.Map.{lookup, set_value}
 use Rattle.std.specs.BTreeMap.{insert_entry}
 use Rattle.sf_path.specs.Names.{Name}
@@ -101,3 +101,7 @@ put_past last es e = if is_past last e.0 then insert_entry name_cmp es e.0 e.1 e
 abbrev pub sorted_past : Option Name → List (Name × ℕ) → List (Name × ℕ)
 sorted_past last [] = []
 sorted_past last (e ∷ es) = put_past last (sorted_past last es) e
+
+-- an entry among others in the order of their names, unless one of its name is there
+abbrev pub put_new : List (Name × ℕ) → Name → ℕ → List (Name × ℕ)
+put_new es name node = if is_some (lookup (same_name name) es) then es else insert_entry name_cmp es name node

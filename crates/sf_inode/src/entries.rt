@@ -1,13 +1,14 @@
 //! The entries of a directory.
 
-ghost use Rattle.std.specs.Prelude.{◌≡◌, ◌++◌, [], ◌∷◌, ◌≤◌, not, filter, length, take, IfOk, OnOk, OnErr};
+ghost use Rattle.std.specs.Prelude.{◌≡◌, ◌++◌, [], ◌∷◌, ◌≤◌, ℕ, not, true, false, filter, length, take, All, None, IfOk, OnOk, OnErr};
+ghost use Rattle.std.specs.Ordering.{is_lt};
 ghost use Rattle.std.specs.Option.{option_copied};
-ghost use Rattle.std.specs.BTreeMap.{insert_entry};
+ghost use Rattle.std.specs.BTreeMap.{insert_entry, keys};
 ghost use Rattle.sf_call.specs.Listings.{is_past};
 ghost use Rattle.std.specs.List.{position_from};
 ghost use Rattle.std.specs.Map.{lookup, set_value};
 ghost use Rattle.sf_path.specs.Order.{same_name, name_cmp};
-ghost use Rattle.sf_inode.specs.Nodes.{sorted_past};
+ghost use Rattle.sf_inode.specs.Nodes.{put_new, sorted_past};
 ghost use Rattle.sf_call.specs.Tree.{is_nil};
 
 use crate::NodeId;
@@ -113,9 +114,8 @@ impl Entries {
         }
     }
 
-    /// The entries with the least names past the last one that was given, so many at most. Takes
-    /// memory for each name past it.
-    #[tactic(auto, using(crate::proofs::Least::least_in, crate::proofs::Least::least_out))]
+    /// The entries with the least names past the last one that was given, so many at most. A name
+    /// that is too great when its turn comes costs a comparison or two, and no memory.
     pub(crate) fn least_past(
         &self,
         alloc: Global,
@@ -125,10 +125,10 @@ impl Entries {
         ensures { IfOk result (λ found. found.entries ≡ take most (sorted_past (option_copied last.entry) self.now)) }
     {
         let mut found = BTreeMap::new(alloc);
-        // The first entry of a name counts, as in `find`: it is put in last.
-        for i in (0..self.items.len()).rev() {
+        // Forwards, since names that were made in order then mostly come too late to be put in.
+        for i in 0..self.items.len() {
             let entry = &self.items[i];
-            if is_past(last, &entry.0) {
+            if is_past(last, &entry.0) && has_place(&found, &entry.0, most) {
                 add_least(&mut found, entry.0.try_copy(alloc)?, entry.1, most)?;
             }
         }
@@ -142,6 +142,30 @@ fn is_past(last: Option<&Name>, name: &Name) -> bool
     match last {
         None => true,
         Some(last) => *last < *name,
+    }
+}
+
+/// Whether an entry of a name is to be put among the least ones that were found: none of its name
+/// is there, since the first entry of a name counts, and there are fewer than `most`, or one with a
+/// greater name.
+fn has_place(found: &BTreeMap<Name, NodeId>, name: &Name, most: usize) -> bool
+    requires { length found.now.entries ≤ most }
+    ensures new { result ≡ true → lookup (same_name name.now) found.now.entries ≡ None }
+    ensures kept { result ≡ false → (node : ℕ) → take most (put_new found.now.entries name.now node) ≡ found.now.entries }
+{
+    if found.len() >= most && !is_below_last(found, name) {
+        return false;
+    }
+    !found.contains_key(name)
+}
+
+/// Whether a name is below the greatest one that was found.
+fn is_below_last(found: &BTreeMap<Name, NodeId>, name: &Name) -> bool
+    ensures { result ≡ false → All (λ n. is_lt (name_cmp name.now n) ≡ false) (keys found.now) }
+{
+    match found.last_key_value() {
+        None => false,
+        Some((greatest, _node)) => *name < *greatest,
     }
 }
 
