@@ -35,6 +35,7 @@ impl Model for Entries {
 }
 
 impl Entries {
+    /// No entry, and no memory taken.
     pub(crate) fn new(alloc: Global) -> Entries
         ensures { result ≡ [] }
     {
@@ -43,6 +44,7 @@ impl Entries {
         }
     }
 
+    /// Whether there is no entry.
     pub(crate) fn is_empty(&self) -> bool
         ensures { result ≡ is_nil self.now }
     {
@@ -63,6 +65,7 @@ impl Entries {
         None
     }
 
+    /// A new name leads to a node. The name isn't looked for first.
     pub(crate) fn push(&mut self, name: Name, node: NodeId) -> Result<(), AllocError>
         ensures ok { OnOk result (self.new ≡ self.old ++ (name, node) ∷ []) }
         ensures err { OnErr result (self.new ≡ self.old) }
@@ -71,6 +74,7 @@ impl Entries {
         Ok(())
     }
 
+    /// Takes a name out, and gives room back where few entries are left of many.
     pub(crate) fn remove(&mut self, name: &Name)
         ensures { self.new ≡ filter (λ e. not (same_name name.now e.0)) self.old }
     {

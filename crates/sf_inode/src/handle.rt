@@ -48,6 +48,7 @@ impl Model for SessionHandles {
 ghost use Rattle.sf_inode.specs.Stores.{listed_of};
 
 impl SessionHandles {
+    /// The first handle of a session.
     pub(crate) fn of_one(
         alloc: Global,
         number: u64,
@@ -60,6 +61,7 @@ impl SessionHandles {
         Ok(SessionHandles { handles })
     }
 
+    /// One handle more. A refused one changes nothing.
     pub(crate) fn insert(&mut self, number: u64, handle: OpenHandle) -> Result<(), AllocError>
         ensures ok { OnOk result (self.new ≡ insert_entry nat_cmp self.old number handle) }
         ensures err { OnErr result (self.new ≡ self.old) }
@@ -68,6 +70,7 @@ impl SessionHandles {
         Ok(())
     }
 
+    /// Takes a handle out, if it is there.
     pub(crate) fn remove(&mut self, number: u64) -> Option<OpenHandle>
         ensures value { result ≡ lookup (is_at (nat_cmp number)) self.old }
         ensures rest { self.new ≡ remove_entry (is_at (nat_cmp number)) self.old }
@@ -75,12 +78,14 @@ impl SessionHandles {
         self.handles.remove(&number)
     }
 
+    /// The handle of a number.
     pub(crate) fn get(&self, number: u64) -> Option<&OpenHandle>
         ensures { option_copied result ≡ lookup (is_at (nat_cmp number)) self.now }
     {
         self.handles.get(&number)
     }
 
+    /// Sets the last name that a listing by a handle gave, if the handle is there.
     pub(crate) fn set_listed(&mut self, number: u64, name: Name)
         ensures { self.new ≡ listed_of number name self.old }
     {
@@ -89,12 +94,14 @@ impl SessionHandles {
         }
     }
 
+    /// How many handles there are.
     pub(crate) fn len(&self) -> usize
         ensures { result ≡ length self.now }
     {
         self.handles.len()
     }
 
+    /// Takes out the handle of the least number.
     pub(crate) fn pop_first(&mut self) -> Option<OpenHandle>
         ensures some { IfSome result (λ handle. (number : ℕ) × (self.old ≡ (number, handle) ∷ self.new)) }
         ensures none { IfNone result (self.old ≡ []) }

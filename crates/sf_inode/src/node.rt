@@ -45,6 +45,7 @@ pub(crate) struct Node {
 }
 
 impl Node {
+    /// A new file or directory, which an entry is about to lead to; nothing holds it and no handle opens it.
     pub(crate) fn new(alloc: Global, made: NewNode) -> Node
         ensures { result ≡ new_node made }
     {
@@ -62,6 +63,7 @@ impl Node {
         }
     }
 
+    /// Whether it is a directory, and not a file.
     pub(crate) fn is_directory(&self) -> bool
         ensures { result ≡ is_directory_content self.now.content }
     {
@@ -78,6 +80,7 @@ impl Node {
         }
     }
 
+    /// The node that a name leads to; a file has no entries.
     pub(crate) fn entry(&self, name: &Name) -> Option<NodeId>
         ensures { result ≡ entry_in self.now.content name.now }
     {
@@ -102,6 +105,7 @@ impl Node {
         }
     }
 
+    /// All attributes, as they are sent; the size of a directory is 0.
     pub(crate) fn attrs(&self) -> Attrs
         ensures { result ≡ attrs_of (object_in self.now.metadata self.now.content) }
     {
@@ -111,6 +115,7 @@ impl Node {
         }
     }
 
+    /// Takes a name out of a directory; of a file nothing changes.
     pub(crate) fn remove_entry(&mut self, name: &Name)
         ensures { self.new ≡ with_content (less_content name.now) self.old }
     {
@@ -119,6 +124,7 @@ impl Node {
         }
     }
 
+    /// A new name of a directory leads to a node; of a file nothing changes.
     pub(crate) fn push_entry(&mut self, name: Name, node: NodeId) -> Result<(), AllocError>
         ensures ok { OnOk result (self.new ≡ with_content (more_content name node) self.old) }
         ensures err { OnErr result (self.new ≡ self.old) }
@@ -129,18 +135,21 @@ impl Node {
         Ok(())
     }
 
+    /// Sets the parts that are given, all but a size.
     pub(crate) fn set(&mut self, attrs: &Attrs)
         ensures { self.new ≡ with_metadata (λ m. with_parts m attrs.now) self.old }
     {
         self.metadata = self.metadata.with_parts(attrs);
     }
 
+    /// Sets the time of change, in seconds since 1970.
     pub(crate) fn touch(&mut self, moment: u32)
         ensures { self.new ≡ with_metadata (modified_at moment) self.old }
     {
         self.metadata = self.metadata.modified_at(moment);
     }
 
+    /// A name of a directory leads to another node, if it is there.
     pub(crate) fn set_entry(&mut self, name: &Name, node: NodeId)
         ensures { self.new ≡ with_content (set_content name.now node) self.old }
     {
@@ -149,6 +158,7 @@ impl Node {
         }
     }
 
+    /// Puts bytes from an offset on into a buffer, and tells how many; a directory has none.
     pub(crate) fn read(&self, offset: u64, buffer: &mut [u8]) -> usize
         ensures count { result ≡ count_from (stored_in self.now.content).bytes offset (length buffer.old) }
         ensures buffer { buffer.new ≡ with_front (take result (drop offset (stored_in self.now.content).bytes)) buffer.old }
@@ -159,6 +169,7 @@ impl Node {
         }
     }
 
+    /// Gets memory for `n` bytes from an offset on. A refused growth changes nothing.
     pub(crate) fn reserve_for(&mut self, offset: u64, n: usize) -> Result<(), AllocError>
         requires { offset + n < 2 ^ 64 }
         ensures same { self.new ≡ with_bytes (stored_in self.old.content).bytes self.new.content self.old }
@@ -172,6 +183,7 @@ impl Node {
         }
     }
 
+    /// Replaces bytes from an offset on, in reserved room; a gap before them is filled with zeros.
     pub(crate) fn write(&mut self, offset: u64, bytes: &[u8])
         requires { offset + length bytes.now ≤ (stored_in self.old.content).room }
         ensures bytes { self.new ≡ with_bytes (written (stored_in self.old.content).bytes offset bytes.now) self.new.content self.old }
@@ -182,6 +194,7 @@ impl Node {
         }
     }
 
+    /// Cuts the bytes at a size, or fills them up to it with zeros.
     pub(crate) fn set_len(&mut self, n: u64) -> Result<(), AllocError>
         ensures ok { OnOk result (self.new ≡ with_bytes (resized (stored_in self.old.content).bytes n) self.new.content self.old) }
         ensures room { (stored_in self.old.content).room ≤ (stored_in self.new.content).room }
