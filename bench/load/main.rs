@@ -3,8 +3,8 @@
 //!
 //!   load [--seconds S] [--files N] [--names N] [--only WORD] NAME=COMMAND..
 //!
-//! Each workload runs in five rounds, of S / 5 seconds or of one whole file or listing where that
-//! takes longer, and the servers take turns from round to round. A rate is the median round's.
+//! Each workload runs in five rounds, of S / 5 seconds or of one whole file, listing or directory
+//! of new files where that takes longer, and the servers take turns from round to round. A rate is the median round's.
 //! Ratios are those of the first server to each other one. A server with `:` at the end of its
 //! name keeps no tree: of its attributes and names only the form is checked.
 //! The first wrong reply ends the run with status 1.
@@ -50,7 +50,7 @@ fn value<T: std::str::FromStr>(word: &str, words: &mut dyn Iterator<Item = Strin
 
 fn read_options(mut words: impl Iterator<Item = String>) -> Outcome<Options> {
     let mut options =
-        Options { seconds: 3.0, files: 1000, names: 10_000, only: String::new(), servers: vec![] };
+        Options { seconds: 3.0, files: 1000, names: 100_000, only: String::new(), servers: vec![] };
     while let Some(word) = words.next() {
         match word.as_str() {
             "--seconds" => options.seconds = value(&word, &mut words)?,
@@ -183,7 +183,7 @@ fn run() -> Outcome<()> {
         rows.push((row, measure(row, &options)?));
     }
     println!(
-        "{} files in the tree, {} names to list, {} s for a cell",
+        "{} files in the tree, {} names in a large directory, {} s for a cell",
         options.files, options.names, options.seconds
     );
     print_ratios(&options, &rows);

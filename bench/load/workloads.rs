@@ -18,7 +18,7 @@ const PIECE: usize = 32768;
 pub struct Setting {
     /// Files in the tree.
     pub files: usize,
-    /// Names in the directory that is listed.
+    /// Names in a large directory.
     pub names: usize,
     /// The server keeps no tree: of attributes and names only the form is checked.
     pub is_constant: bool,
@@ -39,6 +39,7 @@ pub struct Unit {
 
 const CALLS: Unit = Unit { name: "calls", size: 1.0 };
 const NAMES: Unit = Unit { name: "names", size: 1.0 };
+const FILES: Unit = Unit { name: "files", size: 1.0 };
 const MEGABYTES: Unit = Unit { name: "MB", size: 1e6 };
 
 /// A workload's row of the table.
@@ -52,7 +53,10 @@ const fn row(title: &'static str, unit: Unit, make: fn(Setting) -> Box<dyn Workl
     Row { title, unit, make }
 }
 
-pub const ROWS: [Row; 9] = [
+/// The names of a small directory.
+const FEW: usize = 10;
+
+pub const ROWS: [Row; 16] = [
     row("STAT at a depth of 4, one at a time", CALLS, |setting| Stat::new(setting, 1)),
     row("STAT at a depth of 4, 64 sent ahead", CALLS, |setting| Stat::new(setting, 64)),
     row("MKDIR and RMDIR, one at a time", CALLS, |setting| MakeDirectories::new(setting, 1)),
@@ -61,7 +65,24 @@ pub const ROWS: [Row; 9] = [
     row("open, close and remove, 64 sent ahead", CALLS, |setting| MakeFiles::new(setting, 64)),
     row("WRITE of 32768 bytes, 64 sent ahead", MEGABYTES, |_| WriteFile::new()),
     row("READ of 32768 bytes, 64 sent ahead", MEGABYTES, |_| ReadFile::new()),
-    row("READDIR of a large directory", NAMES, List::new),
+    row("STAT in a small directory, one at a time", CALLS, |setting| {
+        StatNames::new(Setting { names: FEW, ..setting }, 1)
+    }),
+    row("STAT in a large directory, one at a time", CALLS, |setting| StatNames::new(setting, 1)),
+    row("STAT in a small directory, 64 sent ahead", CALLS, |setting| {
+        StatNames::new(Setting { names: FEW, ..setting }, 64)
+    }),
+    row("STAT in a large directory, 64 sent ahead", CALLS, |setting| StatNames::new(setting, 64)),
+    row("open and close of new files in one directory, 64 sent ahead", FILES, MakeNames::new),
+    row("READDIR of a large directory, made in rising order", NAMES, |setting| {
+        List::new(setting, Order::Rising)
+    }),
+    row("READDIR of a large directory, made in falling order", NAMES, |setting| {
+        List::new(setting, Order::Falling)
+    }),
+    row("READDIR of a large directory, made in random order", NAMES, |setting| {
+        List::new(setting, Order::Random)
+    }),
 ];
 
 fn open(request: Request, path: &[u8], flags: u32) {
@@ -134,22 +155,27 @@ fn make_tree(session: &mut Session, files: usize) -> Outcome<()> {
     Ok(())
 }
 
+/// Numbers as if by chance, the same in each run.
+struct Chance(u64);
+
+impl Chance {
+    /// A number below a limit.
+    fn below(&mut self, limit: usize) -> usize {
+        self.0 = self.0.wrapping_mul(6364136223846793005).wrapping_add(1442695040888963407);
+        (self.0 >> 33) as usize % limit
+    }
+}
+
 /// STAT of files of the tree, chosen as if by chance.
 struct Stat {
     setting: Setting,
     ahead: usize,
-    chance: u64,
+    chance: Chance,
 }
 
 impl Stat {
     fn new(setting: Setting, ahead: usize) -> Box<dyn Workload> {
-        Box::new(Stat { setting, ahead, chance: 1 })
-    }
-
-    fn choose(&mut self) -> usize {
-        self.chance =
-            self.chance.wrapping_mul(6364136223846793005).wrapping_add(1442695040888963407);
-        (self.chance >> 33) as usize % self.setting.files
+        Box::new(Stat { setting, ahead, chance: Chance(1) })
     }
 
     fn check(&self, reply: Reply, file: usize) -> Outcome<()> {
@@ -175,7 +201,7 @@ impl Workload for Stat {
                     return Ok(false);
                 }
             }
-            files[slot] = self.choose();
+            files[slot] = self.chance.below(self.setting.files);
             request.send(STAT, &[Field::Bytes(&path_of(files[slot]))]);
             Ok(true)
         })
@@ -377,20 +403,137 @@ impl Workload for ReadFile {
     }
 }
 
-/// Lists a directory of many empty directories, one READDIR at a time.
+/// The order in which the names of a directory are made.
+#[derive(Clone, Copy)]
+enum Order {
+    Rising,
+    Falling,
+    Random,
+}
+
+/// The numbers of so many names in the order in which they are made.
+fn numbers(order: Order, names: usize) -> Vec<usize> {
+    let mut numbers: Vec<usize> = (0..names).collect();
+    match order {
+        Order::Rising => {}
+        Order::Falling => numbers.reverse(),
+        Order::Random => {
+            let mut chance = Chance(1);
+            for i in (1..names).rev() {
+                numbers.swap(i, chance.below(i + 1));
+            }
+        }
+    }
+    numbers
+}
+
+/// The path of a file of a directory. Names stand in the order of their numbers.
+fn name_in(directory: &str, number: usize) -> Vec<u8> {
+    format!("{directory}/f{number:06}").into_bytes()
+}
+
+/// Makes a directory with an empty file for each number.
+fn make_names(session: &mut Session, directory: &str, numbers: &[usize]) -> Outcome<()> {
+    session.succeed(&|request| make_directory(request, directory.as_bytes()))?;
+    let mut left = numbers.iter();
+    let mut is_open = [false; 64];
+    session.pump(64, &mut |slot, reply, request| {
+        if let Some(reply) = reply {
+            if !is_open[slot] {
+                close(request, &reply.handle()?);
+                is_open[slot] = true;
+                return Ok(true);
+            }
+            reply.status(OK)?;
+        }
+        is_open[slot] = false;
+        match left.next() {
+            None => Ok(false),
+            Some(number) => {
+                open(request, &name_in(directory, *number), FOR_WRITING | CREATE | EXCLUSIVE);
+                Ok(true)
+            }
+        }
+    })?;
+    Ok(())
+}
+
+/// Makes a directory of many files, over and over a new one, their names in random order.
+struct MakeNames {
+    setting: Setting,
+    made: usize,
+}
+
+impl MakeNames {
+    fn new(setting: Setting) -> Box<dyn Workload> {
+        Box::new(MakeNames { setting, made: 0 })
+    }
+}
+
+impl Workload for MakeNames {
+    fn prepare(&mut self, _session: &mut Session) -> Outcome<()> {
+        Ok(())
+    }
+
+    fn round(&mut self, session: &mut Session, _until: Instant) -> Outcome<u64> {
+        let numbers = numbers(Order::Random, self.setting.names);
+        make_names(session, &format!("n{}", self.made), &numbers)?;
+        self.made += 1;
+        Ok(self.setting.names as u64)
+    }
+}
+
+/// STAT of the files of one directory, chosen as if by chance.
+struct StatNames {
+    setting: Setting,
+    ahead: usize,
+    chance: Chance,
+}
+
+impl StatNames {
+    fn new(setting: Setting, ahead: usize) -> Box<dyn Workload> {
+        Box::new(StatNames { setting, ahead, chance: Chance(1) })
+    }
+}
+
+impl Workload for StatNames {
+    fn prepare(&mut self, session: &mut Session) -> Outcome<()> {
+        make_names(session, "n", &numbers(Order::Random, self.setting.names))
+    }
+
+    fn round(&mut self, session: &mut Session, until: Instant) -> Outcome<u64> {
+        session.pump(self.ahead, &mut |_, reply, request| {
+            if let Some(reply) = reply {
+                let size = reply.file_size()?;
+                if size != 0 {
+                    return Err(format!("STAT of an empty file: size {size}"));
+                }
+                if Instant::now() >= until {
+                    return Ok(false);
+                }
+            }
+            let number = self.chance.below(self.setting.names);
+            request.send(STAT, &[Field::Bytes(&name_in("n", number))]);
+            Ok(true)
+        })
+    }
+}
+
+/// Lists a directory of many files, one READDIR at a time.
 struct List {
     setting: Setting,
+    order: Order,
 }
 
 impl List {
-    fn new(setting: Setting) -> Box<dyn Workload> {
-        Box::new(List { setting })
+    fn new(setting: Setting, order: Order) -> Box<dyn Workload> {
+        Box::new(List { setting, order })
     }
 
-    /// Marks the number in a name `dNNN`; refuses other names, and a name that came before.
+    /// Marks the number in a name `fNNNNNN`; refuses other names, and a name that came before.
     fn mark(seen: &mut [bool], name: &[u8]) -> Outcome<()> {
         let number = name
-            .strip_prefix(b"d")
+            .strip_prefix(b"f")
             .and_then(|digits| std::str::from_utf8(digits).ok()?.parse::<usize>().ok());
         match number.and_then(|number| seen.get_mut(number)) {
             Some(mark) if !*mark => *mark = true,
@@ -433,20 +576,7 @@ impl List {
 
 impl Workload for List {
     fn prepare(&mut self, session: &mut Session) -> Outcome<()> {
-        session.succeed(&|request| make_directory(request, b"l"))?;
-        let mut made = 0;
-        session.pump(64, &mut |_, reply, request| {
-            if let Some(reply) = reply {
-                reply.status(OK)?;
-            }
-            if made == self.setting.names {
-                return Ok(false);
-            }
-            make_directory(request, format!("l/d{made}").as_bytes());
-            made += 1;
-            Ok(true)
-        })?;
-        Ok(())
+        make_names(session, "l", &numbers(self.order, self.setting.names))
     }
 
     fn round(&mut self, session: &mut Session, until: Instant) -> Outcome<u64> {

@@ -1,8 +1,7 @@
 -- A write over bytes that are filled up to its end.
 use Rattle.std.proofs.Common.{rules, arith, sym, ap, ◌∙◌, ◌≡◌, ℕ, ◌+◌, ◌≤◌, List, ◌++◌, length, take, drop}
 use Rattle.std.proofs.lemmas.List.{places, same_lists, take_at}
-use Rattle.sf_call.specs.Contents.{resized, written}
-use Rattle.sf_block.specs.Contents.{filled_to}
+use Rattle.sf_block.specs.Contents.{resized, written, filled_to}
 
 take_filled : (bytes : List ℕ) (n size : ℕ) → n ≤ size → take n (filled_to bytes size) ≡ resized bytes n
 take_filled bytes n size h = same_lists _ _ (search (rules, places)) (λ k d l. grind (arith, places))

@@ -1,8 +1,7 @@
 //! A file's bytes in one vector.
 
 ghost use Rattle.std.specs.Prelude.{◌≡◌, ◌+◌, ◌<◌, ◌≤◌, ◌^◌, [], ◌++◌, length, take, drop, vec_capacity, IsOk, OnOk, OnErr};
-ghost use Rattle.sf_call.specs.Contents.{resized, written};
-ghost use Rattle.sf_block.specs.Contents.{Stored, count_from, with_front, filled_to};
+ghost use Rattle.sf_block.specs.Contents.{resized, written, Stored, HasRoom, with_room, count_from, with_front, filled_to};
 
 use std::alloc::{AllocError, Global};
 use std::marker::Model;
@@ -11,12 +10,16 @@ use std::marker::Model;
 #[derive(Debug, Drop)]
 pub struct Contents {
     bytes: Vec<u8>,
+    /// How many bytes memory was got for. The vector has room for as many, or for more.
+    room: u64,
 }
 
 impl Model for Contents {
     ghost Value = { Stored };
 
-    ghost view = { λ contents. record { bytes = contents.bytes.items; room = vec_capacity contents.bytes } };
+    ghost view = { λ contents. record { bytes = contents.bytes.items; room = contents.room } };
+
+    ghost invariant = { λ contents. contents.room ≤ vec_capacity contents.bytes };
 }
 
 impl Contents {
@@ -26,6 +29,7 @@ impl Contents {
     {
         Contents {
             bytes: Vec::new(alloc),
+            room: 0,
         }
     }
 
@@ -51,22 +55,24 @@ impl Contents {
     /// Gets memory for `n` bytes from an offset on, and for all before them.
     pub fn reserve_for(&mut self, offset: u64, n: usize) -> Result<(), AllocError>
         requires { offset + n < 2 ^ 64 }
-        ensures bytes { self.new.bytes ≡ self.old.bytes }
-        ensures grows { self.old.room ≤ self.new.room }
-        ensures room { OnOk result (offset + n ≤ self.new.room) }
-        ensures enough { offset + n ≤ self.old.room → IsOk result }
+        ensures ok { OnOk result (self.new ≡ with_room self.old offset n) }
+        ensures enough { HasRoom self.old offset n → IsOk result }
         ensures err { OnErr result (self.new ≡ self.old) }
     {
-        let end = offset as usize + n;
-        self.bytes.reserve(end.saturating_sub(self.bytes.len()))
+        let end = offset + n as u64;
+        if end > self.room {
+            let more = (end as usize).saturating_sub(self.bytes.len());
+            self.bytes.reserve(more)?;
+            self.room = end;
+        }
+        Ok(())
     }
 
     /// Replaces bytes from an offset on, as POSIX's `pwrite` does: a gap before them is filled with
     /// zeros. Where no bytes are given, too, the end moves up to the offset.
     pub fn write(&mut self, offset: u64, bytes: &[u8])
-        requires { offset + length bytes.now ≤ self.old.room }
-        ensures bytes { self.new.bytes ≡ written self.old.bytes offset bytes.now }
-        ensures room { self.old.room ≤ self.new.room }
+        requires { HasRoom self.old offset (length bytes.now) }
+        ensures { self.new ≡ record self.old { bytes = written self.old.bytes offset bytes.now } }
     {
         // Tells that the room is a number of 64 bits.
         let _ = self.bytes.capacity();
@@ -77,14 +83,23 @@ impl Contents {
 
     /// Cuts the bytes at a size, or fills them up to it with zeros, as POSIX's `ftruncate` does.
     pub fn set_len(&mut self, n: u64) -> Result<(), AllocError>
-        ensures ok { OnOk result (self.new.bytes ≡ resized self.old.bytes n) }
-        ensures room { self.old.room ≤ self.new.room }
-        ensures enough { n ≤ self.old.room → IsOk result }
+        ensures ok { OnOk result (self.new ≡ record (with_room self.old n 0) { bytes = resized self.old.bytes n }) }
+        ensures enough { HasRoom self.old n 0 → IsOk result }
         ensures err { OnErr result (self.new ≡ self.old) }
     {
         self.reserve_for(n, 0)?;
-        self.bytes.resize(n as usize, 0)
+        set_size(&mut self.bytes, n as usize);
+        Ok(())
     }
+}
+
+/// Cuts bytes at a size, or appends zeros up to it, in memory that is there.
+fn set_size(bytes: &mut Vec<u8>, size: usize)
+    requires { size ≤ vec_capacity bytes.old }
+    ensures bytes { bytes.new.items ≡ resized bytes.old.items size }
+    ensures room { vec_capacity bytes.old ≤ vec_capacity bytes.new }
+{
+    bytes.resize(size, 0).unwrap();
 }
 
 /// Appends zeros up to a size, in memory that is there.
@@ -94,7 +109,7 @@ fn fill_to(bytes: &mut Vec<u8>, size: usize)
     ensures room { vec_capacity bytes.old ≤ vec_capacity bytes.new }
 {
     if bytes.len() < size {
-        bytes.resize(size, 0).unwrap();
+        set_size(bytes, size);
     }
 }
 

@@ -16,6 +16,7 @@ use Rattle.sf_reply.specs.declared.reply.Reply.{Reply}
 use Rattle.sf_reply.specs.declared.reply.Reply.TheVariants as reply
 use Rattle.sf_field.specs.Attributes.{AttrsFit, OwnerFits, TimesFit}
 use Rattle.sf_reply.specs.Longname.{longname_text}
+use Rattle.sf_reply.proofs.Laws.{longname_short}
 use Rattle.sf_call.specs.declared.limits.TheConstants.{MAX_FILE_SIZE, MAX_READ, MAX_ENTRIES}
 use Rattle.sf_call.specs.declared.metadata.Metadata.{Metadata}
 use Rattle.sf_call.specs.declared.place.Place.{Place}
@@ -24,7 +25,7 @@ use Rattle.sf_call.specs.declared.request.Request.{Request}
 use Rattle.sf_call.specs.declared.request.Request.TheVariants.{Stat, SetStat, Mkdir, Rmdir, Remove, OpenDir, Open, Close, FStat, FSetStat, Read, Write, ReadDir, Rename, PosixRename}
 use Rattle.sf_call.specs.Attributes.{Object, made_at, modified_at, with_parts, attrs_of}
 use Rattle.sf_call.specs.Attributes.Object.{Directory, File}
-use Rattle.sf_call.specs.Contents.{resized, written}
+use Rattle.sf_block.specs.Contents.{resized, written}
 use Rattle.sf_call.specs.Tree.{Tree, Handle, Found, label_at, object_of, directory_metadata, directory_at, place_at, found_object, found_place, found_at, after_front, only_name, is_nil, is_empty}
 use Rattle.sf_call.specs.Tree.Found.{Nowhere, Nothing, DirectoryAt, FileAt}
 use Rattle.sf_call.specs.Handles.{Opened, handle_in, opened_object, opened_by, opened}
@@ -34,10 +35,6 @@ use Rattle.sf_call.specs.Changes.{touch, touched}
 use Rattle.sf_call.specs.Values.{IsRequest, IsCall}
 use Rattle.sf_call.specs.Calls.{Answer, answer_to, stat, refuses_size, with_size, sets, set_stat, make_directory, remove_directory, remove_file, has_all_handles, open_directory, open_present, open_file, close, stat_opened, set_opened, read, start_of, write, lists, read_directory, unless_root}
 use Rattle.sf_call.proofs.FittingTrees.{MetadataFits, ObjectFits, TreeFits, ChangeFits, all_made, found_value, rest_names}
-
--- how long the line of a file with such attributes and one link is
-abbrev pub HasShortLines : Type 0
-HasShortLines = (attrs : Attrs) (name line : List ℕ) → AttrsFit attrs → longname_text attrs 1 name ≡ Some line → length line ≤ 88 + length name
 
 pub record EntryIsShort (e : Entry) : Type 0 where
   pub filename : length e.filename ≤ 255
@@ -108,229 +105,228 @@ taken_short P zero xs all = tt
 taken_short P (suc n) [] all = tt
 taken_short P (suc n) (x ∷ xs) all = (all.0, taken_short P n xs all.1)
 
-module _ (line_short : HasShortLines) where
-  shown_short : (attrs : Attrs) (name : Name) → AttrsFit attrs → length name ≤ 255 → (line : Option (List ℕ)) → longname_text attrs 1 name ≡ line → length (unwrap_or line []) ≤ 343
-  shown_short attrs name fits short None e = omega arith
-  shown_short attrs name fits short (Some line) e = omega (arith, line_short attrs name line fits e)
+shown_short : (attrs : Attrs) (name : Name) → AttrsFit attrs → length name ≤ 255 → (line : Option (List ℕ)) → longname_text attrs 1 name ≡ line → length (unwrap_or line []) ≤ 343
+shown_short attrs name fits short None e = omega arith
+shown_short attrs name fits short (Some line) e = omega (arith, longname_short attrs 1 name line fits (omega arith) e)
 
-  entry_short : (name : Name) (object : Object) → IsName name → ObjectFits object → EntryIsShort (entry_of name object)
-  entry_short name object is_name fits = record {
-    filename = is_name.part.short;
-    longname = shown_short (attrs_of object) name (attrs_fit object fits) is_name.part.short (longname_text (attrs_of object) 1 name) refl;
-    attrs = attrs_fit object fits;
-  }
+entry_short : (name : Name) (object : Object) → IsName name → ObjectFits object → EntryIsShort (entry_of name object)
+entry_short name object is_name fits = record {
+  filename = is_name.part.short;
+  longname = shown_short (attrs_of object) name (attrs_fit object fits) is_name.part.short (longname_text (attrs_of object) 1 name) refl;
+  attrs = attrs_fit object fits;
+}
 
-  module _ (tree : Tree) (fits : TreeFits tree) where
-    there : (label : ℕ) → IfSome (object_of tree.objects label) ObjectFits
-    there label = found_value ObjectFits (is_at (nat_cmp label)) tree.objects fits.objects
+module _ (tree : Tree) (fits : TreeFits tree) where
+  there : (label : ℕ) → IfSome (object_of tree.objects label) ObjectFits
+  there label = found_value ObjectFits (is_at (nat_cmp label)) tree.objects fits.objects
 
-    listed_short : (directory : Path) (last : Option Name) (e : Path × ℕ) → IsPath e.0 → IfSome (listed_entry tree directory last e) EntryIsShort
-    listed_short directory last e names =
-        elim (name_past directory last e.0) as (λ o. IfSome o IsName → IfSome (option_and_then (λ name. option_map (entry_of name) (object_of tree.objects e.1)) o) EntryIsShort) [
-          | None ↦ λ _. tt
-          | Some name ↦ λ is_name.
-              elim (object_of tree.objects e.1) as (λ o. IfSome o ObjectFits → IfSome (option_map (entry_of name) o) EntryIsShort) [
-                | None ↦ λ _. tt
-                | Some object ↦ λ object_fits. entry_short name object is_name object_fits
-              ] (there e.1)
-        ] (past_name directory last e.0 names)
+  listed_short : (directory : Path) (last : Option Name) (e : Path × ℕ) → IsPath e.0 → IfSome (listed_entry tree directory last e) EntryIsShort
+  listed_short directory last e names =
+      elim (name_past directory last e.0) as (λ o. IfSome o IsName → IfSome (option_and_then (λ name. option_map (entry_of name) (object_of tree.objects e.1)) o) EntryIsShort) [
+        | None ↦ λ _. tt
+        | Some name ↦ λ is_name.
+            elim (object_of tree.objects e.1) as (λ o. IfSome o ObjectFits → IfSome (option_map (entry_of name) o) EntryIsShort) [
+              | None ↦ λ _. tt
+              | Some object ↦ λ object_fits. entry_short name object is_name object_fits
+            ] (there e.1)
+      ] (past_name directory last e.0 names)
 
-    listing_short : (last : Option Name) (directory : Option Path) → IsShort (reply.Names (listing_of tree last directory))
-    listing_short last None = (omega arith, tt)
-    listing_short last (Some directory) =
-        let entries = filter_map (listed_entry tree directory last) tree.names in (
-          simp length-take (omega arith),
-          taken_short EntryIsShort MAX_ENTRIES entries (all_made (λ e. IsPath e.0) EntryIsShort (listed_entry tree directory last) (listed_short directory last) tree.names fits.names),
-        )
+  listing_short : (last : Option Name) (directory : Option Path) → IsShort (reply.Names (listing_of tree last directory))
+  listing_short last None = (omega arith, tt)
+  listing_short last (Some directory) =
+      let entries = filter_map (listed_entry tree directory last) tree.names in (
+        simp length-take (omega arith),
+        taken_short EntryIsShort MAX_ENTRIES entries (all_made (λ e. IsPath e.0) EntryIsShort (listed_entry tree directory last) (listed_short directory last) tree.names fits.names),
+      )
 
-    -- ---- what a path or a handle leads to
+  -- ---- what a path or a handle leads to
 
-    object_found : (label : ℕ) (o : Option Object) → IfSome o ObjectFits → FoundFits (found_object label o)
-    object_found label None f = tt
-    object_found label (Some (Directory m)) f = f
-    object_found label (Some (File m contents)) f = f
+  object_found : (label : ℕ) (o : Option Object) → IfSome o ObjectFits → FoundFits (found_object label o)
+  object_found label None f = tt
+  object_found label (Some (Directory m)) f = f
+  object_found label (Some (File m contents)) f = f
 
-    place_found : (place : Place) → FoundFits (found_place tree.objects place)
-    place_found NoWay = tt
-    place_found Absent = tt
-    place_found (At label) = object_found label (object_of tree.objects label) (there label)
+  place_found : (place : Place) → FoundFits (found_place tree.objects place)
+  place_found NoWay = tt
+  place_found Absent = tt
+  place_found (At label) = object_found label (object_of tree.objects label) (there label)
 
-    path_found : (path : Path) → FoundFits (found_at tree path)
-    path_found path = place_found (place_at tree path)
+  path_found : (path : Path) → FoundFits (found_at tree path)
+  path_found path = place_found (place_at tree path)
 
-    object_opened : (h : Handle) (o : Option Object) → IfSome o ObjectFits → OpenedFits (opened_object h o)
-    object_opened h None f = tt
-    object_opened h (Some (Directory m)) f = f
-    object_opened h (Some (File m contents)) f = f
+  object_opened : (h : Handle) (o : Option Object) → IfSome o ObjectFits → OpenedFits (opened_object h o)
+  object_opened h None f = tt
+  object_opened h (Some (Directory m)) f = f
+  object_opened h (Some (File m contents)) f = f
 
-    handle_opened : (o : Option Handle) → OpenedFits (opened_by tree o)
-    handle_opened None = tt
-    handle_opened (Some h) = object_opened h (object_of tree.objects h.label) (there h.label)
+  handle_opened : (o : Option Handle) → OpenedFits (opened_by tree o)
+  handle_opened None = tt
+  handle_opened (Some h) = object_opened h (object_of tree.objects h.label) (there h.label)
 
-    directory_there : (o : Option Object) → IfSome o ObjectFits → IfSome (option_and_then directory_metadata o) MetadataFits
-    directory_there None f = tt
-    directory_there (Some (Directory m)) f = f
-    directory_there (Some (File m contents)) f = tt
+  directory_there : (o : Option Object) → IfSome o ObjectFits → IfSome (option_and_then directory_metadata o) MetadataFits
+  directory_there None f = tt
+  directory_there (Some (Directory m)) f = f
+  directory_there (Some (File m contents)) f = tt
 
-    directory_fits : (path : Path) → IfSome (directory_at tree path) (λ e. MetadataFits e.1)
-    directory_fits path =
-        elim (label_at tree.names path) as (λ o. IfSome {T = ℕ × Metadata} (option_and_then (λ label. option_map (λ m. (label, m)) (option_and_then directory_metadata (object_of tree.objects label))) o) (λ e. MetadataFits e.1)) [
-          | None ↦ tt
-          | Some label ↦
-              elim (option_and_then directory_metadata (object_of tree.objects label)) as (λ o. IfSome o MetadataFits → IfSome {T = ℕ × Metadata} (option_map (λ m. (label, m)) o) (λ e. MetadataFits e.1)) [
-                | None ↦ λ _. tt
-                | Some m ↦ λ f. f
-              ] (directory_there (object_of tree.objects label) (there label))
-        ]
+  directory_fits : (path : Path) → IfSome (directory_at tree path) (λ e. MetadataFits e.1)
+  directory_fits path =
+      elim (label_at tree.names path) as (λ o. IfSome {T = ℕ × Metadata} (option_and_then (λ label. option_map (λ m. (label, m)) (option_and_then directory_metadata (object_of tree.objects label))) o) (λ e. MetadataFits e.1)) [
+        | None ↦ tt
+        | Some label ↦
+            elim (option_and_then directory_metadata (object_of tree.objects label)) as (λ o. IfSome o MetadataFits → IfSome {T = ℕ × Metadata} (option_map (λ m. (label, m)) o) (λ e. MetadataFits e.1)) [
+              | None ↦ λ _. tt
+              | Some m ↦ λ f. f
+            ] (directory_there (object_of tree.objects label) (there label))
+      ]
 
-    -- ---- answers
+  -- ---- answers
 
-    module _ (session number moment : ℕ) (number_fits : number < 2 ^ 64) (moment_fits : moment < 2 ^ 32) where
-      either : (b : Bool) (this that : Answer) → AnswerFits this → AnswerFits that → AnswerFits (cond b this that)
-      either true this that p q = p
-      either false this that p q = q
+  module _ (session number moment : ℕ) (number_fits : number < 2 ^ 64) (moment_fits : moment < 2 ^ 32) where
+    either : (b : Bool) (this that : Answer) → AnswerFits this → AnswerFits that → AnswerFits (cond b this that)
+    either true this that p q = p
+    either false this that p q = q
 
-      if_not : (b : Bool) (this that : Answer) → AnswerFits this → (b ≡ false → AnswerFits that) → AnswerFits (cond b this that)
-      if_not true this that p q = p
-      if_not false this that p q = q refl
+    if_not : (b : Bool) (this that : Answer) → AnswerFits this → (b ≡ false → AnswerFits that) → AnswerFits (cond b this that)
+    if_not true this that p q = p
+    if_not false this that p q = q refl
 
-      modified_fits : (m : Metadata) → MetadataFits m → MetadataFits (modified_at moment m)
-      modified_fits m f = record { owner = f.owner; times = record { atime = f.times.atime; mtime = moment_fits } }
+    modified_fits : (m : Metadata) → MetadataFits m → MetadataFits (modified_at moment m)
+    modified_fits m f = record { owner = f.owner; times = record { atime = f.times.atime; mtime = moment_fits } }
 
-      made_fits : (permissions : ℕ) (attrs : Attrs) → AttrsFit attrs → MetadataFits (with_parts (made_at permissions moment) attrs)
-      made_fits permissions attrs a = parts_fit (made_at permissions moment) attrs (record {
-        owner = record { uid = omega arith; gid = omega arith };
-        times = record { atime = moment_fits; mtime = moment_fits };
-      }) a
+    made_fits : (permissions : ℕ) (attrs : Attrs) → AttrsFit attrs → MetadataFits (with_parts (made_at permissions moment) attrs)
+    made_fits permissions attrs a = parts_fit (made_at permissions moment) attrs (record {
+      owner = record { uid = omega arith; gid = omega arith };
+      times = record { atime = moment_fits; mtime = moment_fits };
+    }) a
 
-      touch_fits : (o : Option (ℕ × Metadata)) → IfSome o (λ e. MetadataFits e.1) → AllByRecursion ChangeFits (touch moment o)
-      touch_fits None f = tt
-      touch_fits (Some e) f = (modified_fits e.1 f, tt)
+    touch_fits : (o : Option (ℕ × Metadata)) → IfSome o (λ e. MetadataFits e.1) → AllByRecursion ChangeFits (touch moment o)
+    touch_fits None f = tt
+    touch_fits (Some e) f = (modified_fits e.1 f, tt)
 
-      touched_fits : (path : Path) → AllByRecursion ChangeFits (touched tree moment path)
-      touched_fits path = touch_fits (directory_at tree path) (directory_fits path)
+    touched_fits : (path : Path) → AllByRecursion ChangeFits (touched tree moment path)
+    touched_fits path = touch_fits (directory_at tree path) (directory_fits path)
 
-      told : (found : Found) → FoundFits found → AnswerFits (stat found)
-      told Nowhere f = (tt, tt)
-      told Nothing f = (tt, tt)
-      told (DirectoryAt label m) f = (attrs_fit (Directory m) f, tt)
-      told (FileAt label m contents) f = (attrs_fit (File m contents) f, tt)
+    told : (found : Found) → FoundFits found → AnswerFits (stat found)
+    told Nowhere f = (tt, tt)
+    told Nothing f = (tt, tt)
+    told (DirectoryAt label m) f = (attrs_fit (Directory m) f, tt)
+    told (FileAt label m contents) f = (attrs_fit (File m contents) f, tt)
 
-      size_set : (attrs : Attrs) (size : Option ℕ) (m : Metadata) (contents : List ℕ) → AttrsFit attrs → ObjectFits (File m contents) → refuses_size (File m contents) size ≡ false
-          → ObjectFits (with_size moment attrs size m contents)
-      size_set attrs None m contents a f small = (parts_fit m attrs f.0 a, f.1)
-      size_set attrs (Some size) m contents a f small =
-          (parts_fit (modified_at moment m) attrs (modified_fits m f.0) a, omega (arith, length-resized contents size, ltb-false MAX_FILE_SIZE size small))
+    size_set : (attrs : Attrs) (size : Option ℕ) (m : Metadata) (contents : List ℕ) → AttrsFit attrs → ObjectFits (File m contents) → refuses_size (File m contents) size ≡ false
+        → ObjectFits (with_size moment attrs size m contents)
+    size_set attrs None m contents a f small = (parts_fit m attrs f.0 a, f.1)
+    size_set attrs (Some size) m contents a f small =
+        (parts_fit (modified_at moment m) attrs (modified_fits m f.0) a, omega (arith, length-resized contents size, ltb-false MAX_FILE_SIZE size small))
 
-      parts_set : (label : ℕ) (attrs : Attrs) (object : Object) → AttrsFit attrs → ObjectFits object → AnswerFits (sets moment label attrs object)
-      parts_set label attrs (Directory m) a f = either (refuses_size (Directory m) attrs.size) _ _ (tt, tt) (tt, (parts_fit m attrs f a, tt))
-      parts_set label attrs (File m contents) a f =
-          if_not (refuses_size (File m contents) attrs.size) _ _ (tt, tt) (λ small. (tt, (size_set attrs attrs.size m contents a f small, tt)))
+    parts_set : (label : ℕ) (attrs : Attrs) (object : Object) → AttrsFit attrs → ObjectFits object → AnswerFits (sets moment label attrs object)
+    parts_set label attrs (Directory m) a f = either (refuses_size (Directory m) attrs.size) _ _ (tt, tt) (tt, (parts_fit m attrs f a, tt))
+    parts_set label attrs (File m contents) a f =
+        if_not (refuses_size (File m contents) attrs.size) _ _ (tt, tt) (λ small. (tt, (size_set attrs attrs.size m contents a f small, tt)))
 
-      set_found : (attrs : Attrs) (found : Found) → AttrsFit attrs → FoundFits found → AnswerFits (set_stat moment attrs found)
-      set_found attrs Nowhere a f = (tt, tt)
-      set_found attrs Nothing a f = (tt, tt)
-      set_found attrs (DirectoryAt label m) a f = parts_set label attrs (Directory m) a f
-      set_found attrs (FileAt label m contents) a f = parts_set label attrs (File m contents) a f
+    set_found : (attrs : Attrs) (found : Found) → AttrsFit attrs → FoundFits found → AnswerFits (set_stat moment attrs found)
+    set_found attrs Nowhere a f = (tt, tt)
+    set_found attrs Nothing a f = (tt, tt)
+    set_found attrs (DirectoryAt label m) a f = parts_set label attrs (Directory m) a f
+    set_found attrs (FileAt label m contents) a f = parts_set label attrs (File m contents) a f
 
-      made : (path : Path) (attrs : Attrs) (place : Place) → IsPath path → AttrsFit attrs → AnswerFits (make_directory tree number moment path attrs place)
-      made path attrs NoWay p a = (tt, tt)
-      made path attrs (At label) p a = (tt, tt)
-      made path attrs Absent p a = (tt, ((p, made_fits 0o755 attrs a), touched_fits (parent path)))
+    made : (path : Path) (attrs : Attrs) (place : Place) → IsPath path → AttrsFit attrs → AnswerFits (make_directory tree number moment path attrs place)
+    made path attrs NoWay p a = (tt, tt)
+    made path attrs (At label) p a = (tt, tt)
+    made path attrs Absent p a = (tt, ((p, made_fits 0o755 attrs a), touched_fits (parent path)))
 
-      directory_removed : (path : Path) (found : Found) → AnswerFits (remove_directory tree moment path found)
-      directory_removed path Nowhere = (tt, tt)
-      directory_removed path Nothing = (tt, tt)
-      directory_removed path (FileAt label m contents) = (tt, tt)
-      directory_removed path (DirectoryAt label m) = either (is_empty tree.names path) _ _ (tt, (tt, touched_fits (parent path))) (tt, tt)
+    directory_removed : (path : Path) (found : Found) → AnswerFits (remove_directory tree moment path found)
+    directory_removed path Nowhere = (tt, tt)
+    directory_removed path Nothing = (tt, tt)
+    directory_removed path (FileAt label m contents) = (tt, tt)
+    directory_removed path (DirectoryAt label m) = either (is_empty tree.names path) _ _ (tt, (tt, touched_fits (parent path))) (tt, tt)
 
-      file_removed : (path : Path) (found : Found) → AnswerFits (remove_file tree moment path found)
-      file_removed path Nowhere = (tt, tt)
-      file_removed path Nothing = (tt, tt)
-      file_removed path (DirectoryAt label m) = (tt, tt)
-      file_removed path (FileAt label m contents) = (tt, (tt, touched_fits (parent path)))
+    file_removed : (path : Path) (found : Found) → AnswerFits (remove_file tree moment path found)
+    file_removed path Nowhere = (tt, tt)
+    file_removed path Nothing = (tt, tt)
+    file_removed path (DirectoryAt label m) = (tt, tt)
+    file_removed path (FileAt label m contents) = (tt, (tt, touched_fits (parent path)))
 
-      directory_opened : (found : Found) → AnswerFits (open_directory tree session number found)
-      directory_opened Nowhere = (tt, tt)
-      directory_opened Nothing = (tt, tt)
-      directory_opened (FileAt label m contents) = (tt, tt)
-      directory_opened (DirectoryAt label m) = either (has_all_handles tree session) _ _ (tt, tt) (number_fits, (tt, tt))
+    directory_opened : (found : Found) → AnswerFits (open_directory tree session number found)
+    directory_opened Nowhere = (tt, tt)
+    directory_opened Nothing = (tt, tt)
+    directory_opened (FileAt label m contents) = (tt, tt)
+    directory_opened (DirectoryAt label m) = either (has_all_handles tree session) _ _ (tt, tt) (number_fits, (tt, tt))
 
-      present_opened : (flags : OpenFlags) (found : Found) → FoundFits found → AnswerFits (open_present tree session number moment flags found)
-      present_opened flags Nowhere f = (tt, tt)
-      present_opened flags Nothing f = (tt, tt)
-      present_opened flags (DirectoryAt label m) f = (tt, tt)
-      present_opened flags (FileAt label m contents) f =
-          either (has_all_handles tree session) _ _ (tt, tt)
-          (either (flags.truncate && flags.write) _ _ (number_fits, (tt, ((modified_fits m f.0, omega arith), tt))) (number_fits, (tt, tt)))
+    present_opened : (flags : OpenFlags) (found : Found) → FoundFits found → AnswerFits (open_present tree session number moment flags found)
+    present_opened flags Nowhere f = (tt, tt)
+    present_opened flags Nothing f = (tt, tt)
+    present_opened flags (DirectoryAt label m) f = (tt, tt)
+    present_opened flags (FileAt label m contents) f =
+        either (has_all_handles tree session) _ _ (tt, tt)
+        (either (flags.truncate && flags.write) _ _ (number_fits, (tt, ((modified_fits m f.0, omega arith), tt))) (number_fits, (tt, tt)))
 
-      file_opened : (path : Path) (flags : OpenFlags) (attrs : Attrs) (place : Place) → IsPath path → AttrsFit attrs → AnswerFits (open_file tree session number moment path flags attrs place)
-      file_opened path flags attrs NoWay p a = (tt, tt)
-      file_opened path flags attrs (At label) p a =
-          either (flags.create && flags.exclusive) _ _ (tt, tt)
-          (present_opened flags (found_object label (object_of tree.objects label)) (object_found label (object_of tree.objects label) (there label)))
-      file_opened path flags attrs Absent p a =
-          either (not flags.create) _ _ (tt, tt) (either (has_all_handles tree session) _ _ (tt, tt)
-          (number_fits, (tt, ((p, (made_fits 0o644 attrs a, omega arith)), touched_fits (parent path)))))
+    file_opened : (path : Path) (flags : OpenFlags) (attrs : Attrs) (place : Place) → IsPath path → AttrsFit attrs → AnswerFits (open_file tree session number moment path flags attrs place)
+    file_opened path flags attrs NoWay p a = (tt, tt)
+    file_opened path flags attrs (At label) p a =
+        either (flags.create && flags.exclusive) _ _ (tt, tt)
+        (present_opened flags (found_object label (object_of tree.objects label)) (object_found label (object_of tree.objects label) (there label)))
+    file_opened path flags attrs Absent p a =
+        either (not flags.create) _ _ (tt, tt) (either (has_all_handles tree session) _ _ (tt, tt)
+        (number_fits, (tt, ((p, (made_fits 0o644 attrs a, omega arith)), touched_fits (parent path)))))
 
-      closed : (handle : ℕ) (o : Option Handle) → AnswerFits (close handle o)
-      closed handle None = (tt, tt)
-      closed handle (Some h) = (tt, (tt, tt))
+    closed : (handle : ℕ) (o : Option Handle) → AnswerFits (close handle o)
+    closed handle None = (tt, tt)
+    closed handle (Some h) = (tt, (tt, tt))
 
-      told_opened : (o : Opened) → OpenedFits o → AnswerFits (stat_opened o)
-      told_opened NotOpen f = (tt, tt)
-      told_opened (OpenDirectory h m) f = (attrs_fit (Directory m) f, tt)
-      told_opened (OpenFile h m contents) f = (attrs_fit (File m contents) f, tt)
+    told_opened : (o : Opened) → OpenedFits o → AnswerFits (stat_opened o)
+    told_opened NotOpen f = (tt, tt)
+    told_opened (OpenDirectory h m) f = (attrs_fit (Directory m) f, tt)
+    told_opened (OpenFile h m contents) f = (attrs_fit (File m contents) f, tt)
 
-      set_by_handle : (attrs : Attrs) (o : Opened) → AttrsFit attrs → OpenedFits o → AnswerFits (set_opened moment attrs o)
-      set_by_handle attrs NotOpen a f = (tt, tt)
-      set_by_handle attrs (OpenDirectory h m) a f = either (nat_eq h.label 0) _ _ (tt, tt) (parts_set h.label attrs (Directory m) a f)
-      set_by_handle attrs (OpenFile h m contents) a f = either (is_some attrs.size && not h.write) _ _ (tt, tt) (parts_set h.label attrs (File m contents) a f)
+    set_by_handle : (attrs : Attrs) (o : Opened) → AttrsFit attrs → OpenedFits o → AnswerFits (set_opened moment attrs o)
+    set_by_handle attrs NotOpen a f = (tt, tt)
+    set_by_handle attrs (OpenDirectory h m) a f = either (nat_eq h.label 0) _ _ (tt, tt) (parts_set h.label attrs (Directory m) a f)
+    set_by_handle attrs (OpenFile h m contents) a f = either (is_some attrs.size && not h.write) _ _ (tt, tt) (parts_set h.label attrs (File m contents) a f)
 
-      was_read : (offset len : ℕ) (o : Opened) → AnswerFits (read offset len o)
-      was_read offset len NotOpen = (tt, tt)
-      was_read offset len (OpenDirectory h m) = (tt, tt)
-      was_read offset len (OpenFile h m contents) =
-          either (not h.read) _ _ (tt, tt) (either (nat_le (length contents) offset) _ _ (tt, tt) (simp length-take (omega arith), tt))
+    was_read : (offset len : ℕ) (o : Opened) → AnswerFits (read offset len o)
+    was_read offset len NotOpen = (tt, tt)
+    was_read offset len (OpenDirectory h m) = (tt, tt)
+    was_read offset len (OpenFile h m contents) =
+        either (not h.read) _ _ (tt, tt) (either (nat_le (length contents) offset) _ _ (tt, tt) (simp length-take (omega arith), tt))
 
-      was_written : (offset : ℕ) (bytes : List ℕ) (o : Opened) → OpenedFits o → AnswerFits (write moment offset bytes o)
-      was_written offset bytes NotOpen f = (tt, tt)
-      was_written offset bytes (OpenDirectory h m) f = (tt, tt)
-      was_written offset bytes (OpenFile h m contents) f =
-          either (not h.write) _ _ (tt, tt) (either (is_nil bytes) _ _ (tt, tt)
-          (if_not (nat_lt MAX_FILE_SIZE (start_of h contents offset + length bytes)) _ _ (tt, tt)
-          (λ small. (tt, ((modified_fits m f.0, length-written contents (start_of h contents offset) bytes f.1 (ltb-false MAX_FILE_SIZE (start_of h contents offset + length bytes) small)), tt)))))
+    was_written : (offset : ℕ) (bytes : List ℕ) (o : Opened) → OpenedFits o → AnswerFits (write moment offset bytes o)
+    was_written offset bytes NotOpen f = (tt, tt)
+    was_written offset bytes (OpenDirectory h m) f = (tt, tt)
+    was_written offset bytes (OpenFile h m contents) f =
+        either (not h.write) _ _ (tt, tt) (either (is_nil bytes) _ _ (tt, tt)
+        (if_not (nat_lt MAX_FILE_SIZE (start_of h contents offset + length bytes)) _ _ (tt, tt)
+        (λ small. (tt, ((modified_fits m f.0, length-written contents (start_of h contents offset) bytes f.1 (ltb-false MAX_FILE_SIZE (start_of h contents offset + length bytes) small)), tt)))))
 
-      listed : (handle : ℕ) (h : Handle) (entries : List Entry) → IsShort (reply.Names entries) → AnswerFits (lists handle h entries)
-      listed handle h [] short = (tt, tt)
-      listed handle h (e ∷ es) short = (short, (tt, tt))
+    listed : (handle : ℕ) (h : Handle) (entries : List Entry) → IsShort (reply.Names entries) → AnswerFits (lists handle h entries)
+    listed handle h [] short = (tt, tt)
+    listed handle h (e ∷ es) short = (short, (tt, tt))
 
-      directory_read : (handle : ℕ) (o : Opened) → AnswerFits (read_directory tree handle o)
-      directory_read handle NotOpen = (tt, tt)
-      directory_read handle (OpenFile h m contents) = (tt, tt)
-      directory_read handle (OpenDirectory h m) = listed handle h (listing_of tree h.listed (path_of tree.names h.label)) (listing_short h.listed (path_of tree.names h.label))
+    directory_read : (handle : ℕ) (o : Opened) → AnswerFits (read_directory tree handle o)
+    directory_read handle NotOpen = (tt, tt)
+    directory_read handle (OpenFile h m contents) = (tt, tt)
+    directory_read handle (OpenDirectory h m) = listed handle h (listing_of tree h.listed (path_of tree.names h.label)) (listing_short h.listed (path_of tree.names h.label))
 
-      rooted : (path : Path) (answer : Answer) → AnswerFits answer → AnswerFits (unless_root path answer)
-      rooted [] answer f = (tt, tt)
-      rooted (n ∷ path) answer f = f
+    rooted : (path : Path) (answer : Answer) → AnswerFits answer → AnswerFits (unless_root path answer)
+    rooted [] answer f = (tt, tt)
+    rooted (n ∷ path) answer f = f
 
-      answered : (request : Request) → IsRequest request → AnswerFits (answer_to tree session number moment request)
-      answered (Stat path) r = told (found_at tree path) (path_found path)
-      answered (SetStat path attrs) r = rooted path _ (set_found attrs (found_at tree path) r.1 (path_found path))
-      answered (Mkdir path attrs) r = rooted path _ (made path attrs (place_at tree path) r.0 r.1)
-      answered (Rmdir path) r = rooted path _ (directory_removed path (found_at tree path))
-      answered (Remove path) r = rooted path _ (file_removed path (found_at tree path))
-      answered (OpenDir path) r = directory_opened (found_at tree path)
-      answered (Open path flags attrs) r = rooted path _ (file_opened path flags attrs (place_at tree path) r.0 r.1)
-      answered (Close handle) r = closed handle (handle_in tree session handle)
-      answered (FStat handle) r = told_opened (opened tree session handle) (handle_opened (handle_in tree session handle))
-      answered (FSetStat handle attrs) r = set_by_handle attrs (opened tree session handle) r.1 (handle_opened (handle_in tree session handle))
-      answered (Read handle offset len) r = was_read offset len (opened tree session handle)
-      answered (Write handle offset bytes) r = was_written offset bytes (opened tree session handle) (handle_opened (handle_in tree session handle))
-      answered (ReadDir handle) r = directory_read handle (opened tree session handle)
-      answered (Rename old new) r = (tt, tt)
-      answered (PosixRename old new) r = (tt, tt)
+    answered : (request : Request) → IsRequest request → AnswerFits (answer_to tree session number moment request)
+    answered (Stat path) r = told (found_at tree path) (path_found path)
+    answered (SetStat path attrs) r = rooted path _ (set_found attrs (found_at tree path) r.1 (path_found path))
+    answered (Mkdir path attrs) r = rooted path _ (made path attrs (place_at tree path) r.0 r.1)
+    answered (Rmdir path) r = rooted path _ (directory_removed path (found_at tree path))
+    answered (Remove path) r = rooted path _ (file_removed path (found_at tree path))
+    answered (OpenDir path) r = directory_opened (found_at tree path)
+    answered (Open path flags attrs) r = rooted path _ (file_opened path flags attrs (place_at tree path) r.0 r.1)
+    answered (Close handle) r = closed handle (handle_in tree session handle)
+    answered (FStat handle) r = told_opened (opened tree session handle) (handle_opened (handle_in tree session handle))
+    answered (FSetStat handle attrs) r = set_by_handle attrs (opened tree session handle) r.1 (handle_opened (handle_in tree session handle))
+    answered (Read handle offset len) r = was_read offset len (opened tree session handle)
+    answered (Write handle offset bytes) r = was_written offset bytes (opened tree session handle) (handle_opened (handle_in tree session handle))
+    answered (ReadDir handle) r = directory_read handle (opened tree session handle)
+    answered (Rename old new) r = (tt, tt)
+    answered (PosixRename old new) r = (tt, tt)
 
-  -- the answer to a call
-  pub answer_fits : (tree : Tree) (session number moment : ℕ) (request : Request) → TreeFits tree → IsCall number session moment request → AnswerFits (answer_to tree session number moment request)
-  answer_fits tree session number moment request fits call = answered tree fits session number moment call.number_fits call.moment_fits request call.request_fits
+-- the answer to a call
+pub answer_fits : (tree : Tree) (session number moment : ℕ) (request : Request) → TreeFits tree → IsCall number session moment request → AnswerFits (answer_to tree session number moment request)
+answer_fits tree session number moment request fits call = answered tree fits session number moment call.number_fits call.moment_fits request call.request_fits

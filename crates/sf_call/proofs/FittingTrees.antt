@@ -1,5 +1,5 @@
 -- Trees of values that types can hold, and of files below the limit; no change leads away from them.
-use Rattle.std.proofs.Common.{ℕ, ◌≤◌, Bool, true, false, cond, not, nat_eq, List, [], ◌∷◌, ◌++◌, length, filter, filter_map, Option, Some, None, option_map, IfSome, arith}
+use Rattle.std.proofs.Common.{◌≡◌, ℕ, ◌≤◌, Bool, true, false, cond, not, nat_eq, List, [], ◌∷◌, ◌++◌, length, filter, filter_map, Option, Some, None, option_map, IfSome, refl, sym, subst, arith}
 use Rattle.std.specs.List.{AllByRecursion, cons_option}
 use Rattle.std.specs.declared.cmp.Ordering.{Ordering}
 use Rattle.std.specs.declared.cmp.Ordering.TheVariants.{Less, Equal, Greater}
@@ -8,16 +8,17 @@ use Rattle.std.specs.Map.{lookup, remove_entry, set_value}
 use Rattle.std.specs.BTreeMap.{insert_entry, is_at}
 use Rattle.std.proofs.lemmas.List.Elements.{All-nil, All-tail, All-append}
 use Rattle.sf_path.specs.Names.{Path, IsName, IsPath}
-use Rattle.sf_path.specs.Order.{path_cmp, same_name}
+use Rattle.sf_path.specs.Order.{path_cmp, same_name, same_path}
 use Rattle.sf_field.specs.Attributes.{OwnerFits, TimesFit}
 use Rattle.sf_call.specs.declared.limits.TheConstants.{MAX_FILE_SIZE}
 use Rattle.sf_call.specs.declared.metadata.Metadata.{Metadata}
 use Rattle.sf_call.specs.Attributes.{Object}
 use Rattle.sf_call.specs.Attributes.Object.{Directory, File}
-use Rattle.sf_call.specs.Tree.{Tree, is_used, kept, with_names, with_handles, after_front, empty_tree}
+use Rattle.sf_call.specs.Tree.{Tree, label_at, is_used, kept, with_names, with_handles, after_front, empty_tree}
 use Rattle.sf_call.specs.Moves.{is_outside, carried, with_entries, moved}
 use Rattle.sf_call.specs.Changes.{Change, changed, done}
 use Rattle.sf_call.specs.Changes.Change.{SetObject, NewPath, GonePath, Move, OpenHandle, SetHandle, CloseHandle}
+use Rattle.sf_call.proofs.MovedNames.{same_path_is}
 use Rattle.sf_call.proofs.Used.{all_inserted}
 
 pub record MetadataFits (m : Metadata) : Type 0 where
@@ -50,7 +51,7 @@ all_filtered P test (x ∷ xs) all =
       | false ↦ all_filtered P test xs all.1
     ]
 
-all_removed : {K X : Type 0} (P : K × X → Type 0) (test : K → Bool) (es : List (K × X)) → AllByRecursion P es → AllByRecursion P (remove_entry test es)
+pub all_removed : {K X : Type 0} (P : K × X → Type 0) (test : K → Bool) (es : List (K × X)) → AllByRecursion P es → AllByRecursion P (remove_entry test es)
 all_removed P test [] all = tt
 all_removed P test (e ∷ es) all =
     elim (test e.0) as (λ b. AllByRecursion P (cond b es (e ∷ remove_entry test es))) [
@@ -69,7 +70,7 @@ all_made {B = B} P Q f made (x ∷ xs) all =
 
 -- of values
 module _ {K X : Type 0} (P : X → Type 0) where
-  all_put : (cmp : K → K → Ordering) (k : K) (v : X) (es : List (K × X)) → P v → AllByRecursion (λ e. P e.1) es → AllByRecursion (λ e. P e.1) (insert_entry cmp es k v)
+  pub all_put : (cmp : K → K → Ordering) (k : K) (v : X) (es : List (K × X)) → P v → AllByRecursion (λ e. P e.1) es → AllByRecursion (λ e. P e.1) (insert_entry cmp es k v)
   all_put cmp k v [] p all = (p, tt)
   all_put cmp k v (e ∷ es) p all =
       elim (cmp k e.0) as (λ r. AllByRecursion (λ e. P e.1) (match_ordering r ((k, v) ∷ e ∷ es) ((e.0, v) ∷ es) (e ∷ insert_entry cmp es k v))) [
@@ -78,7 +79,7 @@ module _ {K X : Type 0} (P : X → Type 0) where
         | Greater ↦ (all.0, all_put cmp k v es p all.1)
       ]
 
-  all_set : (test : K → Bool) (v : X) (es : List (K × X)) → P v → AllByRecursion (λ e. P e.1) es → AllByRecursion (λ e. P e.1) (set_value test es v)
+  pub all_set : (test : K → Bool) (v : X) (es : List (K × X)) → P v → AllByRecursion (λ e. P e.1) es → AllByRecursion (λ e. P e.1) (set_value test es v)
   all_set test v [] p all = tt
   all_set test v (e ∷ es) p all =
       elim (test e.0) as (λ b. AllByRecursion (λ e. P e.1) (cond b ((e.0, v) ∷ es) (e ∷ set_value test es v))) [
@@ -93,6 +94,15 @@ module _ {K X : Type 0} (P : X → Type 0) where
         | true ↦ all.0
         | false ↦ found_value test es all.1
       ]
+
+-- a path that is found is of names
+pub found_path : (names : List (Path × ℕ)) (path : Path) (label : ℕ) → AllByRecursion (λ e. IsPath e.0) names → label_at names path ≡ Some label → IsPath path
+found_path [] path label all is = cc
+found_path (e ∷ es) path label all is =
+    elim (same_path path e.0) as (λ b. same_path path e.0 ≡ b → cond b (Some e.1) (label_at es path) ≡ Some label → IsPath path) [
+      | true ↦ λ same k. subst IsPath (sym (same_path_is path e.0 same)) all.0
+      | false ↦ λ other k. found_path es path label all.1 k
+    ] refl is
 
 -- what follows a front of a path has names
 pub rest_names : (front path : Path) → IsPath path → IfSome (after_front front path) IsPath

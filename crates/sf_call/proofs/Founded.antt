@@ -1,5 +1,5 @@
 -- After a history each path that is named leads over directories to an object.
-use Rattle.std.proofs.Common.{◌≡◌, ◌≢◌, ℕ, zero, suc, ◌<◌, nat_eq, Bool, true, false, cond, not, ◌||◌, List, [], ◌∷◌, ◌++◌, length, filter, take, Option, Some, None, option_map, option_and_then, refl, sym, ap, ◌∙◌, eq-eqb, arith}
+use Rattle.std.proofs.Common.{◌≡◌, ◌≢◌, ℕ, zero, suc, ◌<◌, nat_eq, Bool, true, false, cond, not, ◌||◌, List, [], ◌∷◌, ◌++◌, length, filter, take, Option, Some, None, option_map, option_and_then, refl, sym, ap, ◌∙◌, eq-eqb, inl, inr, arith}
 use Rattle.std.specs.List.{list_any}
 use Rattle.std.specs.Option.{is_some}
 use Rattle.std.specs.declared.cmp.Ordering.TheVariants.{Less, Equal, Greater}
@@ -15,16 +15,17 @@ use Rattle.sf_path.specs.Order.{path_cmp, same_path}
 use Rattle.sf_call.specs.declared.metadata.Metadata.{Metadata}
 use Rattle.sf_call.specs.Attributes.{Object}
 use Rattle.sf_call.specs.Attributes.Object.{Directory, File}
-use Rattle.sf_call.specs.Tree.{Tree, IsOrderedTree, label_at, object_of, directory_metadata, is_directory, is_faulty_way, is_used, kept, with_names, with_handles, empty_tree}
+use Rattle.sf_call.specs.Tree.{Tree, IsOrderedTree, label_at, object_of, directory_metadata, is_directory, is_faulty_way, after_front, is_used, kept, with_names, with_handles, empty_tree}
 use Rattle.sf_call.specs.Changes.{Change, changed}
 use Rattle.sf_call.specs.Changes.Change.{SetObject, NewPath, GonePath, Move, OpenHandle, SetHandle, CloseHandle}
 use Rattle.sf_call.specs.declared.metadata.FileType.TheVariants as file_type
-use Rattle.sf_call.specs.Allowed.{kind_of, IsSetRightly, MayChange}
+use Rattle.sf_call.specs.Moves.{moved}
+use Rattle.sf_call.specs.Allowed.{kind_of, IsSetRightly, IsMove, MayChange}
 use Rattle.sf_call.proofs.Orders.{exact_paths, find_is}
 use Rattle.sf_call.proofs.Ordered.{put_is}
 use Rattle.sf_call.proofs.LookUps.{found_removed, other_removed}
 use Rattle.sf_call.proofs.Ways.{open_way}
-use Rattle.sf_call.proofs.MovedNames.{is_equal, lookup-insert_entry, same_path_is}
+use Rattle.sf_call.proofs.MovedNames.{is_equal, lookup-insert_entry, same_path_is, moved_to_new, moved_outside, came_from, no_front, no_proper_front, fronts_append, fronts_behind}
 use Rattle.sf_call.proofs.Labels.{root_alone}
 
 -- a named path leads over directories to an object
@@ -259,12 +260,45 @@ gone_founded tree gone none o f = record {
       ((open_way tree q).0 (f.way q label was) n lt));
 }
 
+-- ---- a move
+module _ (tree : Tree) (old new : Path) (may : IsMove tree old new) where
+  abbrev renamed : Tree
+  renamed = with_names tree (moved tree.names old new)
+
+  -- a path with another's label is a directory where that is one
+  directory_moved : (p q : Path) → label_at (moved tree.names old new) q ≡ label_at tree.names p → is_directory tree p ≡ true → is_directory renamed q ≡ true
+  directory_moved p q same h = is_directory_is renamed q ∙ ap (is_directory_label tree.objects) same ∙ sym (is_directory_is tree p) ∙ h
+
+  outside_stays : (q : Path) → after_front old q ≡ None → after_front new q ≡ None → is_directory tree q ≡ true → is_directory renamed q ≡ true
+  outside_stays q not_old not_new h = directory_moved q q (moved_outside tree.names old new q not_old not_new) h
+
+  carried_way : (rest : Path) → is_faulty_way tree (old ++ rest) ≡ false → is_faulty_way renamed (new ++ rest) ≡ false
+  carried_way rest open_before =
+      (open_way renamed (new ++ rest)).1
+      (fronts_append (λ q. is_directory renamed q ≡ true) new rest
+      (λ n lt. outside_stays (take n new) (no_front old new n may.not_inside) (no_proper_front new n lt) ((open_way tree new).0 may.way n lt))
+      (λ n lt. directory_moved (old ++ take n rest) (new ++ take n rest) (moved_to_new tree.names old new (take n rest))
+      (fronts_behind (λ q. is_directory tree q ≡ true) old rest ((open_way tree (old ++ rest)).0 open_before) n lt)))
+
+  move_founded : IsFounded tree → IsFounded renamed
+  move_founded f = record {
+    object = λ q label e. elim (came_from tree.names old new q label e) [
+      | inl c ↦ f.object (old ++ c.0) label c.2
+      | inr c ↦ f.object q label c.2
+    ];
+    way = λ q label e. elim (came_from tree.names old new q label e) [
+      | inl c ↦ ap (is_faulty_way renamed) c.1 ∙ carried_way c.0 (f.way (old ++ c.0) label c.2)
+      | inr c ↦ (open_way renamed q).1
+          (λ n lt. outside_stays (take n q) (no_front old q n c.0) (no_front new q n c.1) ((open_way tree q).0 (f.way q label c.2) n lt))
+    ];
+  }
+
 -- ---- all changes
 pub founded_changed : (number : ℕ) (tree : Tree) (change : Change) → MayChange number tree change → IsOrderedTree tree → IsFounded tree → IsFounded (changed tree change)
 founded_changed number tree (SetObject label object) may o f = set_founded tree label object may f
 founded_changed number tree (NewPath path label object) may o f = new_founded tree path label object may.free may.unused may.way f
 founded_changed number tree (GonePath gone) may o f = kept_founded _ (gone_founded tree gone may o f)
-founded_changed number tree (Move old new) may o f = absurd may
+founded_changed number tree (Move old new) may o f = kept_founded _ (move_founded tree old new may f)
 founded_changed number tree (OpenHandle handle opened) may o f = record { object = f.object; way = f.way }
 founded_changed number tree (SetHandle handle opened) may o f = record { object = f.object; way = f.way }
 founded_changed number tree (CloseHandle handle) may o f = kept_founded _ (record { object = f.object; way = f.way })

@@ -3,11 +3,13 @@ use Rattle.std.proofs.Common.{◌≡◌, ℕ, false, List, [], ◌∷◌, ◌++�
 use Rattle.std.proofs.lemmas.List.{append-nil}
 use Rattle.std.proofs.lemmas.List.Sums.{fold-append}
 use Rattle.sf_reply.specs.declared.reply.Reply.{Reply}
+use Rattle.sf_reply.specs.declared.reply.Reply.TheVariants as reply
 use Rattle.sf_call.specs.declared.request.Request.{Request}
 use Rattle.sf_call.specs.declared.record.Record.{Record}
 use Rattle.sf_call.specs.declared.record.Record.TheVariants.{Did, Left}
-use Rattle.sf_call.specs.Tree.{empty_tree}
-use Rattle.sf_call.specs.Histories.{after, replay, IsOther, IsNewNumber, MayFollow, IsLegalAfter, IsLegal, IsAmong, is_of, record_of}
+use Rattle.sf_call.specs.Tree.{Tree, empty_tree}
+use Rattle.sf_call.specs.Calls.{apply, leave}
+use Rattle.sf_call.specs.Histories.{after, after_reply, replay, IsOther, IsNewNumber, CallMayFollow, MayFollow, IsLegalAfter, IsLegal, IsAmong, is_of, record_of}
 
 pub replay-push : (history : List Record) (r : Record) → replay (history ++ r ∷ []) ≡ after (replay history) r
 unfolding replay
@@ -47,9 +49,6 @@ last_other number (y ∷ before) x new = last_other number before x new.1
 
 -- a later call's number is none of those before
 module _ (number session moment : ℕ) (request : Request) (reply : Reply) where
-  of_call : Record
-  of_call = Did number session moment request reply
-
   new_before : (before rs : List Record) → IsLegalAfter before rs → IsAmong (Did number session moment request reply) rs → IsNewNumber number before
   unfolding IsLegalAfter IsAmong
   new_before before [] legal among = absurd among
@@ -77,3 +76,36 @@ module _ (number session moment : ℕ) (request : Request) (reply : Reply) where
   pub record_of-legal : (history : List Record) → IsLegal history → IsAmong (Did number session moment request reply) history → record_of number history ≡ Some (Did number session moment request reply)
   unfolding IsLegal
   record_of-legal history legal among = found_after [] history legal among
+
+-- what holds of the root alone, and still holds after each call that may come and each leaving, holds after each legal
+-- history
+module _ (P : Tree → Type 0) where
+  -- a call that may come keeps it
+  abbrev pub CallsKeep : Type 0
+  CallsKeep = (history : List Record) (number session moment : ℕ) (request : Request) (given : Reply) → IsLegal history
+      → CallMayFollow history number session moment request given → P (replay history) → P (apply (replay history) session number moment request).tree
+
+  module _ (calls : CallsKeep) (leavings : (tree : Tree) (session : ℕ) → P tree → P (leave tree session)) where
+    by_reply : (tree next : Tree) (given : Reply) → P tree → P next → P (after_reply tree next given)
+    by_reply tree next reply.NoMemory here then = here
+    by_reply tree next (reply.Status code) here then = then
+    by_reply tree next (reply.Handle number) here then = then
+    by_reply tree next (reply.Data bytes) here then = then
+    by_reply tree next (reply.Names entries) here then = then
+    by_reply tree next (reply.Attrs attrs) here then = then
+
+    by_record : (history : List Record) (r : Record) → IsLegal history → MayFollow history r → P (replay history) → P (after (replay history) r)
+    by_record history (Did number session moment request given) legal may here =
+        by_reply (replay history) (apply (replay history) session number moment request).tree given here (calls history number session moment request given legal may here)
+    by_record history (Left session) legal may here = leavings (replay history) session here
+
+    by_records : (before rs : List Record) → IsLegal before → IsLegalAfter before rs → P (replay before) → P (replay (before ++ rs))
+    unfolding IsLegalAfter
+    by_records before [] legal more here = subst (λ (h : List Record). P (replay h)) (sym (append-nil before)) here
+    by_records before (r ∷ rs) legal more here =
+        subst (λ (h : List Record). P (replay h)) (append_assoc before (r ∷ []) rs)
+        (by_records (before ++ r ∷ []) rs (IsLegal-push before r legal more.0) more.1 (subst P (sym (replay-push before r)) (by_record before r legal more.0 here)))
+
+    pub holds_after : P empty_tree → (history : List Record) → IsLegal history → P (replay history)
+    unfolding IsLegal IsLegalAfter replay
+    holds_after start history legal = by_records [] history tt legal start

@@ -1,5 +1,5 @@
 -- No number of a call to come is a label or a handle, and one path at most has a label.
-use Rattle.std.proofs.Common.{◌≡◌, ◌≢◌, ◌<◌, ◌⊎◌, ℕ, true, false, cond, not, nat_eq, List, [], ◌∷◌, filter, Some, None, refl, sym, ap, ◌∙◌, subst, inl, inr, arith}
+use Rattle.std.proofs.Common.{◌≡◌, ◌≢◌, ◌<◌, ◌⊎◌, ℕ, true, false, cond, not, nat_eq, List, [], ◌∷◌, ◌++◌, filter, Some, None, refl, sym, ap, ◌∙◌, subst, inl, inr, arith}
 use Rattle.std.specs.Ordering.{nat_cmp}
 use Rattle.std.specs.Cmp.{nat_cmp_total}
 use Rattle.std.specs.Map.{lookup, remove_entry}
@@ -9,13 +9,14 @@ use Rattle.sf_path.specs.Names.{Path}
 use Rattle.sf_path.specs.Order.{path_cmp, same_path}
 use Rattle.sf_call.specs.Attributes.{made_at}
 use Rattle.sf_call.specs.Attributes.Object.{Directory}
-use Rattle.sf_call.specs.Tree.{Tree, IsOrderedTree, label_at, object_of, handle_of, is_used, kept, with_handles, empty_tree}
+use Rattle.sf_call.specs.Tree.{Tree, IsOrderedTree, label_at, object_of, handle_of, is_used, kept, after_front, with_handles, empty_tree}
 use Rattle.sf_call.specs.Changes.{Change, changed}
 use Rattle.sf_call.specs.Changes.Change.{SetObject, NewPath, GonePath, Move, OpenHandle, SetHandle, CloseHandle}
+use Rattle.sf_call.specs.Moves.{moved}
 use Rattle.sf_call.specs.Allowed.{MayChange}
 use Rattle.sf_call.proofs.Orders.{exact_paths}
 use Rattle.sf_call.proofs.LookUps.{lookup-put, none_set, none_removed, none_filtered, found_removed}
-use Rattle.sf_call.proofs.MovedNames.{lookup-insert_entry, same_path_is, is_equal}
+use Rattle.sf_call.proofs.MovedNames.{lookup-insert_entry, same_path_is, is_equal, after_front-append, came_from}
 
 -- no path, no object and no handle has a free number, and no two paths have one label
 pub record IsLabelled (Free : ℕ → Type 0) (tree : Tree) : Type 0 where
@@ -48,6 +49,15 @@ other_entry entries number n x other none =
       | true ↦ λ tied. absurd (other (nat_cmp-IsAntisymmetric n number (is_equal (nat_cmp n number) tied)))
       | false ↦ λ _. none
     ] refl
+
+-- what follows one front is one, and a path that doesn't begin with the front isn't below it
+same_rest : (p r s : Path) → p ++ r ≡ p ++ s → r ≡ s
+same_rest p r s same =
+    let rests : Some r ≡ Some s = sym (after_front-append p r) ∙ ap (after_front p) same ∙ after_front-append p s in cc
+
+not_below : (p r q : Path) → p ++ r ≡ q → after_front p q ≡ None → ⊥
+not_below p r q same none =
+    let some : Some r ≡ None = sym (after_front-append p r) ∙ ap (after_front p) same ∙ none in cc
 
 pub labelled_changed : (Free : ℕ → Type 0) (number : ℕ) → ¬ Free number → (tree : Tree) (change : Change) → MayChange number tree change → IsOrderedTree tree → IsLabelled Free tree → IsLabelled Free (changed tree change)
 labelled_changed Free number taken tree (SetObject label object) may o h = record {
@@ -83,7 +93,25 @@ labelled_changed Free number taken tree (GonePath gone) may o h =
       unopened = h.unopened;
       one_path = λ path other label e f. h.one_path path other label (back path label e) (back other label f);
     }
-labelled_changed Free number taken tree (Move old new) may o h = absurd may
+labelled_changed Free number taken tree (Move old new) may o h =
+    record {
+      unused = λ n free path e. elim (came_from tree.names old new path n e) [
+        | inl c ↦ h.unused n free (old ++ c.0) c.2
+        | inr c ↦ h.unused n free path c.2
+      ];
+      no_object = λ n free. none_filtered (is_at (nat_cmp n)) (λ e. is_used (moved tree.names old new) tree.handles e.0) tree.objects (h.no_object n free);
+      unopened = h.unopened;
+      one_path = λ path other label e f. elim (came_from tree.names old new path label e) [
+        | inl c ↦ elim (came_from tree.names old new other label f) [
+          | inl d ↦ c.1 ∙ ap (λ (rest : Path). new ++ rest) (same_rest old c.0 d.0 (h.one_path (old ++ c.0) (old ++ d.0) label c.2 d.2)) ∙ sym d.1
+          | inr d ↦ absurd (not_below old c.0 other (h.one_path (old ++ c.0) other label c.2 d.2) d.0)
+        ]
+        | inr c ↦ elim (came_from tree.names old new other label f) [
+          | inl d ↦ absurd (not_below old d.0 path (h.one_path (old ++ d.0) path label d.2 c.2) c.0)
+          | inr d ↦ h.one_path path other label c.2 d.2
+        ]
+      ];
+    }
 labelled_changed Free number taken tree (OpenHandle handle opened) may o h = record {
   unused = h.unused;
   no_object = h.no_object;

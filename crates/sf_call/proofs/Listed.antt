@@ -1,5 +1,5 @@
 -- What is shown of an object has all parts, and its type.
-use Rattle.std.proofs.Common.{◌≡◌, Some, IsSome, refl, inl, inr, arith}
+use Rattle.std.proofs.Common.{◌≡◌, Some, refl, inl, inr, arith}
 use Rattle.sf_path.specs.Names.{Name}
 use Rattle.sf_reply.specs.Longname.{HasType, longname_text}
 use Rattle.sf_call.specs.Attributes.{Object, attrs_of}
@@ -14,15 +14,6 @@ all_parts (File m contents) = record { size = refl; owner = refl; permissions = 
 pub has_type : (object : Object) → HasType (attrs_of object).permissions
 has_type (Directory m) = inr (omega arith)
 has_type (File m contents) = inl (omega arith)
-
-pub has_size : (object : Object) → IsSome (attrs_of object).size
-has_size object = (all_parts object).size
-
-pub has_owner : (object : Object) → IsSome (attrs_of object).owner
-has_owner object = (all_parts object).owner
-
-pub has_times : (object : Object) → IsSome (attrs_of object).times
-has_times object = (all_parts object).times
 
 -- the line of an entry is that of its attributes
 pub has_line : (name : Name) (object : Object) → longname_text (attrs_of object) 1 name ≡ Some (entry_of name object).longname

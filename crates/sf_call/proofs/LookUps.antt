@@ -22,6 +22,15 @@ none_behind : {X : Type 0} (b : Bool) (x : X) (o : Option X) → cond b (Some x)
 none_behind true x o e = cc
 none_behind false x o e = e
 
+-- where something is found, the value that is set there is found
+pub set_there : {K X : Type 0} (at : K → Bool) (es : List (K × X)) (v w : X) → lookup at es ≡ Some v → lookup at (set_value at es w) ≡ Some w
+set_there at [] v w there = cc
+set_there at (e ∷ es) v w there =
+    elim (at e.0) as (λ b. at e.0 ≡ b → cond b (Some e.1) (lookup at es) ≡ Some v → lookup at (cond b ((e.0, w) ∷ es) (e ∷ set_value at es w)) ≡ Some w) [
+      | true ↦ λ here k. rw here
+      | false ↦ λ other k. rw other (set_there at es v w k)
+    ] refl there
+
 module _ {K X : Type 0} where
   -- where nothing is found, nothing is found after a setting, a removal or a keeping
   pub none_set : (at test : K → Bool) (es : List (K × X)) (w : X) → lookup at es ≡ None → lookup at (set_value test es w) ≡ None
@@ -102,4 +111,25 @@ module _ {K X : Type 0} (R : K → K → Ordering) (exact : IsAntisymmetric R) w
               | false ↦ λ _. refl
             ] refl
         | false ↦ λ _. ap (cond (is_at (R q) x.0) (Some x.1)) (other_removed p q es other)
+      ] refl
+
+  -- an entry that is put or set leaves what stands at other keys
+  pub other_put : IsTotalOrder R → (es : List (K × X)) (p : K) (v : X) (q : K) → q ≢ p → lookup (is_at (R q)) (insert_entry R es p v) ≡ lookup (is_at (R q)) es
+  other_put o es p v q other =
+      lookup-put R o es p v q
+      ∙ elim (is_at (R q) p) as (λ b. is_at (R q) p ≡ b → cond b (Some v) (lookup (is_at (R q)) es) ≡ lookup (is_at (R q)) es) [
+        | true ↦ λ tied. absurd (other (exact q p (is_equal (R q p) tied)))
+        | false ↦ λ _. refl
+      ] refl
+
+  pub other_set : (es : List (K × X)) (p : K) (v : X) (q : K) → q ≢ p → lookup (is_at (R q)) (set_value (is_at (R p)) es v) ≡ lookup (is_at (R q)) es
+  other_set [] p v q other = refl
+  other_set (x ∷ es) p v q other =
+      elim (is_at (R p) x.0) as (λ b. is_at (R p) x.0 ≡ b → lookup (is_at (R q)) (cond b ((x.0, v) ∷ es) (x ∷ set_value (is_at (R p)) es v)) ≡ cond (is_at (R q) x.0) (Some x.1) (lookup (is_at (R q)) es)) [
+        | true ↦ λ tied. let same : p ≡ x.0 = exact p x.0 (is_equal (R p x.0) tied) in
+            elim (is_at (R q) x.0) as (λ b. is_at (R q) x.0 ≡ b → cond b (Some v) (lookup (is_at (R q)) es) ≡ cond b (Some x.1) (lookup (is_at (R q)) es)) [
+              | true ↦ λ also. absurd (other (exact q x.0 (is_equal (R q x.0) also) ∙ sym same))
+              | false ↦ λ _. refl
+            ] refl
+        | false ↦ λ _. ap (cond (is_at (R q) x.0) (Some x.1)) (other_set es p v q other)
       ] refl

@@ -1,5 +1,5 @@
 -- What a move leaves at each path.
-use Rattle.std.proofs.Common.{◌≡◌, ℕ, Bool, true, false, cond, ◌&&◌, List, [], ◌∷◌, ◌++◌, filter, filter_map, option_map, is_none, Option, Some, None, refl, sym, ap, ◌∙◌}
+use Rattle.std.proofs.Common.{◌≡◌, ◌<◌, ◌⊎◌, ℕ, zero, suc, Bool, true, false, cond, ◌&&◌, List, [], ◌∷◌, ◌++◌, filter, filter_map, length, take, option_map, is_none, Option, Some, None, refl, sym, ap, ◌∙◌, inl, inr, arith}
 use Rattle.std.specs.List.{cons_option}
 use Rattle.std.specs.Option.{option_or}
 use Rattle.std.specs.Ordering.{is_eq, match_ordering}
@@ -153,3 +153,54 @@ moved_from_old names old new path rest some_old none_new =
     lookup-moved names old new path
     ∙ ap (λ (f : Option Path). option_or (at_old names old f) (cond (is_none (after_front old path) && is_none f) (label_at names path) None)) none_new
     ∙ ap (λ (f : Option Path). cond (is_none f && true) (label_at names path) None) some_old
+
+-- where a label after a move was before it: below old, for a path at or below new, or at the path itself
+abbrev pub IsCarried : List (Path × ℕ) → Path → Path → Path → ℕ → Type 0
+IsCarried names old new q label = (rest : Path) × (q ≡ new ++ rest) × (label_at names (old ++ rest) ≡ Some label)
+
+abbrev pub IsUntouched : List (Path × ℕ) → Path → Path → Path → ℕ → Type 0
+IsUntouched names old new q label = (after_front old q ≡ None) × (after_front new q ≡ None) × (label_at names q ≡ Some label)
+
+pub came_from : (names : List (Path × ℕ)) (old new q : Path) (label : ℕ) → label_at (moved names old new) q ≡ Some label
+    → IsCarried names old new q label ⊎ IsUntouched names old new q label
+came_from names old new q label e =
+    elim (after_front new q) as (λ f. after_front new q ≡ f → IsCarried names old new q label ⊎ IsUntouched names old new q label) [
+      | Some r ↦ λ some. let is : q ≡ new ++ r = append-after_front new q r some in
+          inl (r, is, sym (moved_to_new names old new r) ∙ ap (label_at (moved names old new)) (sym is) ∙ e)
+      | None ↦ λ none_new. elim (after_front old q) as (λ f. after_front old q ≡ f → IsCarried names old new q label ⊎ IsUntouched names old new q label) [
+        | Some r ↦ λ some_old. let gone : label_at (moved names old new) q ≡ None = moved_from_old names old new q r some_old none_new in cc
+        | None ↦ λ none_old. inr (none_old, none_new, sym (moved_outside names old new q none_old none_new) ∙ e)
+      ] refl
+    ] refl
+
+-- ---- fronts of a path
+-- a path that doesn't begin with p has no front that does
+pub no_front : (p q : Path) (n : ℕ) → after_front p q ≡ None → after_front p (take n q) ≡ None
+no_front [] q n none = cc
+no_front (x ∷ p) [] zero none = refl
+no_front (x ∷ p) [] (suc n) none = refl
+no_front (x ∷ p) (y ∷ q) zero none = refl
+no_front (x ∷ p) (y ∷ q) (suc n) none =
+    elim (same_name x y) as (λ b. cond b (after_front p q) None ≡ None → cond b (after_front p (take n q)) None ≡ None) [
+      | true ↦ λ k. no_front p q n k
+      | false ↦ λ k. refl
+    ] none
+
+-- no path is the beginning of a proper front of it
+pub no_proper_front : (p : Path) (n : ℕ) → n < length p → after_front p (take n p) ≡ None
+no_proper_front [] n lt = absurd (omega arith)
+no_proper_front (x ∷ p) zero lt = refl
+no_proper_front (x ∷ p) (suc n) lt =
+    let short : n < length p = omega arith in
+    ap (λ b. cond b (after_front p (take n p)) None) (same_name_itself x) ∙ no_proper_front p n short
+
+-- the proper fronts of p ++ r are those of p, and p with those of r behind it
+pub fronts_append : (P : Path → Type 0) (p r : Path) → ((n : ℕ) → n < length p → P (take n p)) → ((n : ℕ) → n < length r → P (p ++ take n r)) → (n : ℕ) → n < length (p ++ r) → P (take n (p ++ r))
+fronts_append P [] r first second n lt = second n lt
+fronts_append P (x ∷ p) r first second zero lt = first zero (omega arith)
+fronts_append P (x ∷ p) r first second (suc n) lt =
+    fronts_append (λ q. P (x ∷ q)) p r (λ m short. first (suc m) (omega arith)) second n (omega arith)
+
+pub fronts_behind : (P : Path → Type 0) (p r : Path) → ((n : ℕ) → n < length (p ++ r) → P (take n (p ++ r))) → (n : ℕ) → n < length r → P (p ++ take n r)
+fronts_behind P [] r all n lt = all n lt
+fronts_behind P (x ∷ p) r all n lt = fronts_behind (λ q. P (x ∷ q)) p r (λ m short. all (suc m) (omega arith)) n lt

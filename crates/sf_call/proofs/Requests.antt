@@ -32,8 +32,7 @@ use Rattle.sf_call.specs.Calls.{Answer, answer_to, stat, refuses_size, with_size
 use Rattle.sf_call.proofs.Ways.{open_way}
 use Rattle.sf_call.proofs.MovedNames.{same_path_is, after_front-append}
 use Rattle.sf_call.proofs.Orders.{exact_paths}
-use Rattle.sf_call.proofs.LookUps.{other_removed}
-use Rattle.sf_call.proofs.LeftAlone.{other_put}
+use Rattle.sf_call.proofs.LookUps.{other_put, other_removed}
 use Rattle.sf_call.proofs.Founded.{IsFounded, is_file, kept_object, is_directory_object, is_directory_label, is_directory_is, not_both}
 
 -- the place of a path that has a label

@@ -1,5 +1,5 @@
 -- What holds of the tree after every legal history.
-use Rattle.std.proofs.Common.{◌<◌, ℕ, List, [], ◌∷◌, ◌++◌, refl, sym, subst, append_assoc}
+use Rattle.std.proofs.Common.{◌≢◌, ◌<◌, ℕ, List, [], ◌∷◌, ◌++◌, refl, sym, subst, append_assoc}
 use Rattle.std.proofs.lemmas.List.{append-nil}
 use Rattle.sf_reply.specs.declared.reply.Reply.{Reply}
 use Rattle.sf_reply.specs.declared.reply.Reply.TheVariants as reply
@@ -8,14 +8,14 @@ use Rattle.sf_call.specs.declared.record.Record.{Record}
 use Rattle.sf_call.specs.declared.record.Record.TheVariants.{Did, Left}
 use Rattle.sf_call.specs.Tree.{Tree, IsOrderedTree, empty_tree}
 use Rattle.sf_call.specs.Changes.{Change, changed, done}
-use Rattle.sf_call.specs.Allowed.{MayChange, AreAllowed}
+use Rattle.sf_call.specs.Allowed.{MayChange, AreAllowed, IsWellFormed}
 use Rattle.sf_call.specs.Calls.{answer_to, apply}
 use Rattle.sf_call.specs.Histories.{after, after_reply, replay, IsNewNumber, MayFollow, IsLegal, IsLegalAfter}
 use Rattle.sf_call.proofs.Growth.{replay-push, front_new, last_other}
 use Rattle.sf_call.proofs.Ordered.{ordered_changed, ordered_left}
 use Rattle.sf_call.proofs.Labels.{IsLabelled, labelled_less, labelled_changed, labelled_left, labelled_empty}
 use Rattle.sf_call.proofs.Founded.{IsFounded, founded_changed, founded_left, founded_empty}
-use Rattle.sf_call.proofs.Used.{AllUsed, used_changed, used_left, used_empty}
+use Rattle.sf_call.proofs.Used.{AllUsed, kept-used, used_changed, used_left, used_empty}
 use Rattle.sf_call.proofs.Requests.{allowed}
 
 -- the tree is in order, free numbers are unused in it, its paths lead to objects, and its objects are named or open
@@ -97,3 +97,23 @@ sound_empty = record {
 pub sound_replay : (history : List Record) → IsLegal history → IsSound (FreeAfter history) (replay history)
 unfolding IsLegal replay
 sound_replay history legal = sound_from [] history legal sound_empty
+
+-- what is allowed after a legal history keeps the tree well formed
+pub well_formed : (history : List Record) (number : ℕ) (changes : List Change) → IsLegal history → AreAllowed number (replay history) changes
+    → IsWellFormed (done (replay history) changes)
+well_formed history number changes legal may =
+    let s = sound_replay history legal in
+    let free : ℕ → Type 0 = λ n. FreeAfter history n × (n ≢ number) in
+    let after = sound_done free number (λ f. f.1 refl) (replay history) changes may (record {
+      ordered = s.ordered;
+      labelled = labelled_less (FreeAfter history) free (replay history) (λ n f. f.0) s.labelled;
+      founded = s.founded;
+      used = s.used;
+    }) in
+    record {
+      ordered = after.ordered;
+      object = after.founded.object;
+      way = after.founded.way;
+      one_path = after.labelled.one_path;
+      used = kept-used _ after.used;
+    }

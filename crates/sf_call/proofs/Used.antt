@@ -6,13 +6,17 @@ use Rattle.std.specs.declared.cmp.Ordering.TheVariants.{Less, Equal, Greater}
 use Rattle.std.specs.Ordering.{nat_cmp, is_eq, match_ordering}
 use Rattle.std.specs.Map.{lookup, remove_entry, set_value}
 use Rattle.std.specs.BTreeMap.{insert_entry, is_at}
+use Rattle.std.specs.FinMap.{nat_cmp-IsAntisymmetric}
+use Rattle.std.proofs.lemmas.Map.Entries.{lookup-filter-keys}
 use Rattle.sf_path.specs.Order.{path_cmp}
 use Rattle.sf_path.specs.Names.{Path}
 use Rattle.sf_call.specs.Attributes.{Object}
-use Rattle.sf_call.specs.Tree.{Tree, Handle, label_at, handle_of, is_used, kept, with_names, with_handles, empty_tree}
+use Rattle.sf_call.specs.Tree.{Tree, Handle, label_at, object_of, handle_of, is_used, kept, with_names, with_handles, empty_tree}
 use Rattle.sf_call.specs.Changes.{Change, changed}
 use Rattle.sf_call.specs.Changes.Change.{SetObject, NewPath, GonePath, Move, OpenHandle, SetHandle, CloseHandle}
+use Rattle.sf_call.specs.Moves.{moved}
 use Rattle.sf_call.specs.Allowed.{MayChange}
+use Rattle.sf_call.proofs.MovedNames.{is_equal}
 
 or_true : (a b : Bool) → b ≡ true → a || b ≡ true
 or_true true b t = refl
@@ -41,6 +45,15 @@ all_filter p (x ∷ xs) =
 all_by : {X : Type 0} (P Q : X → Type 0) (xs : List X) → ((x : X) → P x → Q x) → AllByRecursion P xs → AllByRecursion Q xs
 all_by P Q [] more all = tt
 all_by P Q (x ∷ xs) more all = (more x all.0, all_by P Q xs more all.1)
+
+tied : (label k : ℕ) → is_at (nat_cmp label) k ≡ true → label ≡ k
+tied label k t = nat_cmp-IsAntisymmetric label k (is_equal (nat_cmp label k) t)
+
+-- an object is kept where it is used, and let go of elsewhere
+pub object_kept : (tree : Tree) (label : ℕ) → object_of (kept tree).objects label ≡ cond (is_used tree.names tree.handles label) (object_of tree.objects label) None
+object_kept tree label =
+    lookup-filter-keys (is_at (nat_cmp label)) (is_used tree.names tree.handles) (is_used tree.names tree.handles label)
+    (λ k t. ap (is_used tree.names tree.handles) (sym (tied label k t))) tree.objects
 
 -- maps with an entry more, or with another value at a key
 module _ {K X : Type 0} (cmp : K → K → Ordering) (k : K) (v : X) where
@@ -116,7 +129,7 @@ pub used_changed : (number : ℕ) (tree : Tree) (change : Change) → MayChange 
 used_changed number tree (SetObject label object) may used = all_set (is_at (nat_cmp label)) _ (λ l. is_used tree.names tree.handles l ≡ true) tree.objects used
 used_changed number tree (NewPath path label object) may used = used_new tree path label object may.free used
 used_changed number tree (GonePath path) may used = used_kept (with_names tree (remove_entry (is_at (path_cmp path)) tree.names))
-used_changed number tree (Move old new) may used = absurd may
+used_changed number tree (Move old new) may used = used_kept (with_names tree (moved tree.names old new))
 used_changed number tree (OpenHandle handle opened) may used =
     all_by (λ e. is_used tree.names tree.handles e.0 ≡ true) (λ e. is_used tree.names (insert_entry nat_cmp tree.handles handle opened) e.0 ≡ true) tree.objects
     (λ e t. or_right (list_any (λ n. nat_eq n.1 e.0) tree.names) _ (list_any (λ h. nat_eq h.1.label e.0) (insert_entry nat_cmp tree.handles handle opened))

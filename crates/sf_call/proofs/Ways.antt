@@ -1,8 +1,8 @@
 -- The fronts of a path.
-use Rattle.std.proofs.Common.{◌≡◌, ℕ, zero, suc, ◌+◌, ◌<◌, ◌↔◌, Bool, true, false, not, ◌||◌, List, [], ◌∷◌, length, take, get_or, refl, sym, ap, ◌∙◌, arith}
+use Rattle.std.proofs.Common.{◌≡◌, ℕ, zero, suc, ◌<◌, ◌↔◌, Bool, true, false, not, List, [], ◌∷◌, length, take, get_or, refl, sym, ap, ◌∙◌, arith}
 use Rattle.std.specs.List.{list_any}
 use Rattle.std.proofs.lemmas.List.{length-map, get_or-map}
-use Rattle.std.proofs.lemmas.List.Folds.{list_any_more, list_any_none, list_any_at}
+use Rattle.std.proofs.lemmas.List.Folds.{list_any_none, list_any_at}
 use Rattle.sf_path.specs.Names.{Path}
 use Rattle.sf_call.specs.Tree.{Tree, is_directory, proper_fronts, is_faulty_way}
 
@@ -16,15 +16,6 @@ get_or-proper_fronts (name ∷ path) zero d lt = refl
 get_or-proper_fronts (name ∷ path) (suc n) d lt =
     let short : n < length path = omega arith in
     get_or-map (λ (front : Path). name ∷ front) (proper_fronts path) n [] d (rw (length-proper_fronts path) short) ∙ ap (λ (front : Path). name ∷ front) (get_or-proper_fronts path n [] short)
-
--- whether one of the first n fronts is no directory
-abbrev pub fails_within : Tree → Path → ℕ → Bool
-fails_within tree path n = list_any (λ front. not (is_directory tree front)) (take n (proper_fronts path))
-
-pub one_front_more : (tree : Tree) (path : Path) (n : ℕ) → n < length path → fails_within tree path (n + 1) ≡ (fails_within tree path n || not (is_directory tree (take n path)))
-one_front_more tree path n lt =
-    list_any_more (λ front. not (is_directory tree front)) (proper_fronts path) n [] (rw (length-proper_fronts path) lt)
-    ∙ ap (λ (front : Path). fails_within tree path n || not (is_directory tree front)) (get_or-proper_fronts path n [] lt)
 
 is_there : (b : Bool) → not b ≡ false → b ≡ true
 is_there true e = refl

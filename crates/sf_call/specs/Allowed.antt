@@ -1,11 +1,11 @@
 -- What a request may change.
-use Rattle.std.specs.Prelude.{◌≡◌, ◌≢◌, ℕ, false, List, [], ◌∷◌, ◌++◌, Some, None, option_map}
+use Rattle.std.specs.Prelude.{◌≡◌, ◌≢◌, ℕ, false, List, [], ◌∷◌, ◌++◌, Some, None, IsSome, option_map}
 use Rattle.sf_path.specs.Names.{Name, Path}
 use Rattle.sf_call.specs.declared.metadata.FileType.{FileType}
 use Rattle.sf_call.specs.declared.metadata.FileType.TheVariants as file_type
 use Rattle.sf_call.specs.Attributes.{Object}
 use Rattle.sf_call.specs.Attributes.Object.{Directory, File}
-use Rattle.sf_call.specs.Tree.{Tree, Handle, label_at, object_of, handle_of, is_faulty_way}
+use Rattle.sf_call.specs.Tree.{Tree, Handle, IsOrderedTree, label_at, object_of, handle_of, is_faulty_way, after_front, kept}
 use Rattle.sf_call.specs.Changes.{Change, changed}
 use Rattle.sf_call.specs.Changes.Change.{SetObject, NewPath, GonePath, Move, OpenHandle, SetHandle, CloseHandle}
 
@@ -30,13 +30,24 @@ pub record IsNewHandle (number : ℕ) (tree : Tree) (handle : ℕ) : Type 0 wher
   pub is_number : handle ≡ number
   pub free : handle_of tree.handles handle ≡ None
 
+-- A move: old is named, neither path begins with the other, new's way is open with nothing below new, and what new named
+-- is of the kind of what old names (POSIX, rename).
+pub record IsMove (tree : Tree) (old new : Path) : Type 0 where
+  pub label : ℕ
+  pub named : label_at tree.names old ≡ Some label
+  pub not_inside : after_front old new ≡ None
+  pub not_around : after_front new old ≡ None
+  pub way : is_faulty_way tree new ≡ false
+  pub bare : (name : Name) (rest : Path) → label_at tree.names (new ++ name ∷ rest) ≡ None
+  pub alike : (replaced : ℕ) → label_at tree.names new ≡ Some replaced → option_map kind_of (object_of tree.objects replaced) ≡ option_map kind_of (object_of tree.objects label)
+
 -- What a change of the call with this number asks of the tree before it. A path that goes has nothing below it, and a
--- handle stays with its object. No request moves.
+-- handle stays with its object.
 abbrev pub MayChange : ℕ → Tree → Change → Type 0
 MayChange number tree (SetObject label object) = IsSetRightly tree label object
 MayChange number tree (NewPath path label object) = IsNewPath number tree path label
 MayChange number tree (GonePath path) = (name : Name) (rest : Path) → label_at tree.names (path ++ name ∷ rest) ≡ None
-MayChange number tree (Move old new) = ⊥
+MayChange number tree (Move old new) = IsMove tree old new
 MayChange number tree (OpenHandle handle opened) = IsNewHandle number tree handle
 MayChange number tree (SetHandle handle opened) = (before : Handle) × (handle_of tree.handles handle ≡ Some before) × (before.label ≡ opened.label)
 MayChange number tree (CloseHandle handle) = Unit {0}
@@ -45,3 +56,12 @@ MayChange number tree (CloseHandle handle) = Unit {0}
 abbrev pub AreAllowed : ℕ → Tree → List Change → Type 0
 AreAllowed number tree [] = Unit {0}
 AreAllowed number tree (change ∷ changes) = MayChange number tree change × AreAllowed number (changed tree change) changes
+
+-- What holds of the tree after a legal history, and still holds after changes that are allowed: each path that is named
+-- leads over directories to an object, one path at most has a label, and each object is named or open.
+pub record IsWellFormed (tree : Tree) : Type 0 where
+  pub ordered : IsOrderedTree tree
+  pub object : (path : Path) (label : ℕ) → label_at tree.names path ≡ Some label → IsSome (object_of tree.objects label)
+  pub way : (path : Path) (label : ℕ) → label_at tree.names path ≡ Some label → is_faulty_way tree path ≡ false
+  pub one_path : (path other : Path) (label : ℕ) → label_at tree.names path ≡ Some label → label_at tree.names other ≡ Some label → path ≡ other
+  pub used : kept tree ≡ tree

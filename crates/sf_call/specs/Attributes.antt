@@ -27,10 +27,6 @@ modified_at moment m = record {
   times = record { atime = m.times.atime; mtime = moment };
 }
 
--- no part is given
-abbrev pub no_attrs : Attrs
-no_attrs = record { size = None; owner = None; permissions = None; times = None }
-
 -- The parts that are given replace those that were kept (draft, section 5). Of the permissions the lowest twelve bits
 -- count; a size is not kept here.
 abbrev pub with_parts : Metadata → Attrs → Metadata

@@ -15,7 +15,7 @@ use Rattle.sf_call.specs.declared.request.Request.TheVariants.{Stat, SetStat, Mk
 use Rattle.sf_call.specs.declared.place.Place.TheVariants.{NoWay, Absent, At}
 use Rattle.sf_call.specs.Attributes.{Metadata, Object, new_metadata, with_parts, modified_at, attrs_of}
 use Rattle.sf_call.specs.Attributes.Object.{Directory, File}
-use Rattle.sf_call.specs.Contents.{resized, written}
+use Rattle.sf_block.specs.Contents.{resized, written}
 use Rattle.sf_call.specs.Tree.{Tree, Handle, Place, Found, place_at, found_object, found_at, object_of, is_empty, is_nil, kept, with_handles}
 use Rattle.sf_call.specs.Tree.Found.{Nowhere, Nothing, DirectoryAt, FileAt}
 use Rattle.sf_call.specs.Handles.{Opened, handle_in, opened, with_listed}

@@ -4,7 +4,8 @@ use Rattle.sf_field.specs.declared.attrs.Attrs.{Attrs}
 use Rattle.sf_reply.specs.declared.reply.Reply.{Reply}
 use Rattle.sf_reply.specs.declared.reply.Reply.TheVariants as reply
 use Rattle.sf_call.specs.declared.request.Request.{Request}
-use Rattle.sf_call.specs.declared.request.Request.TheVariants.{Stat, SetStat, Mkdir, Rmdir, Remove, OpenDir, Open, Close, FStat, FSetStat, Read, Write, ReadDir, Rename, PosixRename}
+use Rattle.sf_call.specs.Requests.{Wanted, wanted_by}
+use Rattle.sf_call.specs.Requests.Wanted.{StatusAlone, Attributes, NewHandle, Bytes, Entries}
 
 abbrev pub IsStatus : Reply → Type 0
 IsStatus (reply.Status code) = Unit {0}
@@ -55,19 +56,12 @@ IsStatusOrNames (reply.Names entries) = Unit {0}
 IsStatusOrNames (reply.Attrs attrs) = ⊥
 
 -- a status, or what the request asks for; a handle has the number of the call that opened it
+abbrev pub IsWanted : ℕ → Wanted → Reply → Type 0
+IsWanted number StatusAlone given = IsStatus given
+IsWanted number Attributes given = IsStatusOrAttrs given
+IsWanted number NewHandle given = IsStatusOrHandle number given
+IsWanted number Bytes given = IsStatusOrData given
+IsWanted number Entries given = IsStatusOrNames given
+
 abbrev pub IsReplyTo : ℕ → Request → Reply → Type 0
-IsReplyTo number (Stat path) given = IsStatusOrAttrs given
-IsReplyTo number (SetStat path attrs) given = IsStatus given
-IsReplyTo number (Mkdir path attrs) given = IsStatus given
-IsReplyTo number (Rmdir path) given = IsStatus given
-IsReplyTo number (Remove path) given = IsStatus given
-IsReplyTo number (OpenDir path) given = IsStatusOrHandle number given
-IsReplyTo number (Open path flags attrs) given = IsStatusOrHandle number given
-IsReplyTo number (Close handle) given = IsStatus given
-IsReplyTo number (FStat handle) given = IsStatusOrAttrs given
-IsReplyTo number (FSetStat handle attrs) given = IsStatus given
-IsReplyTo number (Read handle offset len) given = IsStatusOrData given
-IsReplyTo number (Write handle offset bytes) given = IsStatus given
-IsReplyTo number (ReadDir handle) given = IsStatusOrNames given
-IsReplyTo number (Rename old new) given = IsStatus given
-IsReplyTo number (PosixRename old new) given = IsStatus given
+IsReplyTo number request given = IsWanted number (wanted_by request) given

@@ -4,7 +4,7 @@ ghost use Rattle.std.specs.Prelude.{◌≡◌};
 ghost use Rattle.sf_call.specs.Answers.{Answered};
 ghost use Rattle.sf_call.specs.Histories.{IsGiven};
 
-use sf_wire::Reply;
+use sf_reply::Reply;
 use std::marker::Model;
 
 /// The reply to a call of a session. Some legal history leads to it: it is what the tree after that history answers to the

@@ -3,7 +3,7 @@
 ghost use Rattle.std.specs.Prelude.{◌≡◌};
 ghost use Rattle.sf_call.specs.Attributes.{new_metadata, modified_at, with_parts, sent, type_bits};
 
-use sf_wire::{Attrs, Owner, Times};
+use sf_field::{Attrs, Owner, Times};
 
 /// Of the permissions the lowest twelve bits count.
 #[derive(Clone, Copy, Debug, PartialEq, Eq)]

@@ -1,7 +1,7 @@
 //! Records of a history.
 
 use crate::request::Request;
-use sf_wire::Reply;
+use sf_reply::Reply;
 
 /// A call that was made, with its reply, or a session that left. The moment is in seconds since 1970.
 #[derive(Debug, Drop)]

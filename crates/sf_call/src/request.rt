@@ -5,8 +5,8 @@ ghost use Rattle.sf_field.specs.Attributes.{AttrsFit};
 ghost use Rattle.sf_field.specs.Fields.{AreBytes};
 ghost use Rattle.sf_call.specs.Values.{IsRequest, IsCall};
 
+use sf_field::{Attrs, ByteString, OpenFlags};
 use sf_path::Path;
-use sf_wire::{Attrs, ByteString, OpenFlags};
 use std::alloc::{AllocError, Global};
 
 /// LSTAT is `Stat` too: the tree has no links. A handle is the number of the call that opened it.

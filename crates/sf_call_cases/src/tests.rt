@@ -1,11 +1,9 @@
 //! Attributes, copies and words, with values from the draft and POSIX.
 
-use sf_call::{
-    Answer, Call, Calls, CoreFault, FileType, Handle, Metadata, Request, Stage, given_by_history,
-    history_cases,
-};
+use sf_call::{Answer, Call, Calls, CoreFault, FileType, Handle, Metadata, Request, Stage};
+use sf_field::{Attrs, ByteString, OpenFlags, Owner, Times};
 use sf_path::Path;
-use sf_wire::{Attrs, ByteString, OpenFlags, Owner, Reply, StatusCode, Times};
+use sf_reply::{Reply, StatusCode};
 use std::alloc::{AllocError, Global};
 use std::test::*;
 
@@ -146,8 +144,6 @@ fn copies_of_handles(rt: HostRuntime) -> Result<(), Fail> {
 
 #[test]
 fn answers(rt: HostRuntime) {
-    history_cases();
-    given_by_history();
     let absent = Answer::new(8, 1, Reply::Status(StatusCode::NoSuchFile));
     assert_eq!(rt; absent.number(), 8);
     assert_eq!(rt; absent.session(), 1);

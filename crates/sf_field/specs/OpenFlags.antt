@@ -1,5 +1,5 @@
 -- How a file is to be opened, by the bits of a number.
-use Rattle.std.specs.Prelude.{ℕ, Bool, not}
+use Rattle.std.specs.Prelude.{ℕ, ◌+◌, Bool, true, false, not}
 use Rattle.sf_field.specs.declared.open_flags.OpenFlags.{OpenFlags}
 use Rattle.sf_field.specs.Attributes.{lacks}
 
@@ -15,3 +15,13 @@ open_flags bits = record {
   truncate = has bits 0x10;
   exclusive = has bits 0x20;
 }
+
+-- the bits of the flags that are set, which are sent
+abbrev pub bit_of : ℕ → Bool → ℕ
+bit_of flag true = flag
+bit_of flag false = 0
+
+abbrev pub bits_of : OpenFlags → ℕ
+bits_of flags =
+    bit_of 0x1 flags.read + bit_of 0x2 flags.write + bit_of 0x4 flags.append + bit_of 0x8 flags.create
+    + bit_of 0x10 flags.truncate + bit_of 0x20 flags.exclusive

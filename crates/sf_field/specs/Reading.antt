@@ -72,3 +72,9 @@ attrs_at bytes = do
 
 unfoldable pub flags_at : List ℕ → Option (OpenFlags × List ℕ)
 flags_at bytes = number_at w32 bytes >>= λ bits. Some (open_flags bits.0, bits.1)
+
+-- attributes as they are sent: without other flags, and without pairs
+unfoldable pub sent_attrs_at : List ℕ → Option (Attrs × List ℕ)
+sent_attrs_at bytes = do
+  flags ← number_at w32 bytes
+  if nat_lt flags.0 0x10 then attrs_at bytes else None

@@ -1,7 +1,7 @@
 //! How a file is to be opened, section 6.3 of draft-ietf-secsh-filexfer-02.
 
 ghost use Rattle.std.specs.Prelude.{◌≡◌};
-ghost use Rattle.sf_field.specs.OpenFlags.{open_flags};
+ghost use Rattle.sf_field.specs.OpenFlags.{open_flags, bit_of, bits_of};
 
 const READ: u32 = 0x1;
 
@@ -40,4 +40,21 @@ impl OpenFlags {
             exclusive: bits & EXCLUSIVE != 0,
         }
     }
+    /// The bits of the flags that are set.
+    pub fn bits(self) -> u32
+        ensures { result ≡ bits_of self }
+    {
+        bit(READ, self.read)
+            + bit(WRITE, self.write)
+            + bit(APPEND, self.append)
+            + bit(CREATE, self.create)
+            + bit(TRUNCATE, self.truncate)
+            + bit(EXCLUSIVE, self.exclusive)
+    }
+}
+
+fn bit(flag: u32, is_set: bool) -> u32
+    ensures { result ≡ bit_of flag is_set }
+{
+    if is_set { flag } else { 0 }
 }

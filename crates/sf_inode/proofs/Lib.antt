@@ -1,2 +1,1 @@
-pub mod EntryLists
-pub mod Least
+pub mod Firsts

@@ -1,5 +1,5 @@
 -- What a contract sees of a store of nodes.
-use Rattle.std.specs.Prelude.{◌≡◌, ◌≢◌, ℕ, ◌+◌, ◌-◌, ◌^◌, min, Bool, true, false, if◌then◌else◌, List, [], ◌∷◌, fold, Option, Some, None, option_map, option_and_then, slice_index_or, slice_set}
+use Rattle.std.specs.Prelude.{◌≡◌, ◌≢◌, ℕ, ◌+◌, ◌-◌, ◌^◌, min, Bool, false, if◌then◌else◌, List, [], ◌∷◌, fold, Option, Some, None, option_map, option_and_then, slice_index_or, slice_set, length}
 use Rattle.std.specs.Option.{option_map_or}
 use Rattle.std.specs.Ordering.{nat_cmp}
 use Rattle.std.specs.Map.{lookup, set_value, remove_entry}
@@ -12,7 +12,7 @@ use Rattle.sf_inode.specs.declared.node.Node.{Node}
 use Rattle.sf_inode.specs.declared.node.Content.TheVariants as content
 use Rattle.sf_inode.specs.declared.handle.OpenHandle.{OpenHandle}
 use Rattle.sf_inode.specs.declared.handle.Marks.{Marks}
-use Rattle.sf_inode.specs.Nodes.{entry_in, entries_in, object_in, is_directory_content, is_bare_content, less_content, more_content, set_content, stored_in, is_file_content, with_stored, with_content, without_name, with_opened, is_unused}
+use Rattle.sf_inode.specs.Nodes.{entry_in, entries_in, object_in, is_directory_content, is_bare_content, nothing_stored, less_content, more_content, stored_in, is_file_content, with_stored, with_content, without_name, with_opened, is_unused}
 
 -- a node or nothing at each number from 0 on, each session's handles by their numbers, and how many look-ups were made
 pub record StoreState : Type 0 where
@@ -44,10 +44,10 @@ abbrev pub shown_handle : ℕ → OpenHandle → Handle
 shown_handle session h = record { session = session; label = h.label; read = h.marks.read; write = h.marks.write; append = h.marks.append; listed = h.listed }
 
 abbrev pub with_nodes : StoreState → List (Option Node) → StoreState
-with_nodes s nodes = record { nodes = nodes; root = s.root; sessions = s.sessions; look_ups = s.look_ups }
+with_nodes s nodes = record s { nodes = nodes }
 
 abbrev pub looked_up : StoreState → StoreState
-looked_up s = record { nodes = s.nodes; root = s.root; sessions = s.sessions; look_ups = min (s.look_ups + 1) (2 ^ 64 - 1) }
+looked_up s = record s { look_ups = min (s.look_ups + 1) (2 ^ 64 - 1) }
 
 -- with a node changed, if it is there
 abbrev pub edited_by : (Node → Node) → List (Option Node) → ℕ → Option Node → List (Option Node)
@@ -63,7 +63,7 @@ entry_taken s dir n = edited (with_content (less_content n)) s dir
 abbrev pub entry_put : StoreState → ℕ → Name → ℕ → StoreState
 entry_put s dir n id = edited (with_content (more_content n id)) s dir
 
--- without a node that no entry and no handle names
+-- without a node that no name and no handle leads to
 abbrev pub released_if : StoreState → ℕ → Option Node → StoreState
 released_if s id None = s
 released_if s id (Some node) = if is_unused node then with_nodes s (slice_set s.nodes id None) else s
@@ -71,7 +71,7 @@ released_if s id (Some node) = if is_unused node then with_nodes s (slice_set s.
 abbrev pub released : StoreState → ℕ → StoreState
 released s id = released_if s id (node_in s.nodes id)
 
--- no entry leads to a node any more
+-- one name less leads to a node
 abbrev pub forgotten : StoreState → ℕ → StoreState
 forgotten s id = released (edited without_name s id) id
 
@@ -83,16 +83,18 @@ abbrev pub unlinked_from : StoreState → ℕ → Name → Option ℕ → StoreS
 unlinked_from s dir n None = s
 unlinked_from s dir n (Some id) = forgotten (entry_taken s dir n) id
 
--- an entry is taken out, and its node goes if no handle opens it
+-- an entry is taken out, and its node goes if nothing else leads to it
 abbrev pub unlinked : StoreState → ℕ → Name → StoreState
 unlinked s dir n = unlinked_from s dir n (entry_of s.nodes dir n)
 
--- An entry is moved: onto nothing, or in the place of another, whose node goes if no handle opens it.
+-- An entry is moved: to a new name, or to one that leads to another node, which goes if nothing else leads to it.
+abbrev pub moved_entry : StoreState → ℕ → Name → ℕ → Name → ℕ → StoreState
+moved_entry s old_dir old_name new_dir new_name id = entry_taken (entry_put s new_dir new_name id) old_dir old_name
+
 abbrev pub relinked_from : StoreState → ℕ → Name → ℕ → Name → Option ℕ → Option ℕ → StoreState
 relinked_from s old_dir old_name new_dir new_name None target = s
-relinked_from s old_dir old_name new_dir new_name (Some id) None = entry_taken (entry_put s new_dir new_name id) old_dir old_name
-relinked_from s old_dir old_name new_dir new_name (Some id) (Some target) =
-    forgotten (entry_taken (edited (with_content (set_content new_name id)) s new_dir) old_dir old_name) target
+relinked_from s old_dir old_name new_dir new_name (Some id) None = moved_entry s old_dir old_name new_dir new_name id
+relinked_from s old_dir old_name new_dir new_name (Some id) (Some target) = forgotten (moved_entry s old_dir old_name new_dir new_name id) target
 
 abbrev pub relinked : StoreState → ℕ → Name → ℕ → Name → StoreState
 relinked s old_dir old_name new_dir new_name =
@@ -100,14 +102,18 @@ relinked s old_dir old_name new_dir new_name =
 
 -- a node's bytes, if it is a file, and their room
 abbrev pub stored_of : List (Option Node) → ℕ → Stored
-stored_of nodes id = option_map_or (λ node. stored_in node.content) (node_in nodes id) (record { bytes = []; room = 0 })
+stored_of nodes id = option_map_or (λ node. stored_in node.content) (node_in nodes id) nothing_stored
 
--- a directory's entries, in no order
+-- a directory's entries, in the order of their names; a file has none
 abbrev pub entries_at : List (Option Node) → ℕ → List (Name × ℕ)
 entries_at nodes id = option_map_or (λ node. entries_in node.content) (node_in nodes id) []
 
 abbrev pub is_file_at : List (Option Node) → ℕ → Bool
 is_file_at nodes id = option_map_or (λ node. is_file_content node.content) (node_in nodes id) false
+
+-- a file's size; a directory has none
+abbrev pub file_size : List (Option Node) → ℕ → Option ℕ
+file_size nodes id = if is_file_at nodes id then Some (length (stored_of nodes id).bytes) else None
 
 abbrev pub is_directory_at : List (Option Node) → ℕ → Bool
 is_directory_at nodes id = option_map_or (λ node. is_directory_content node.content) (node_in nodes id) false
@@ -116,13 +122,13 @@ is_directory_at nodes id = option_map_or (λ node. is_directory_content node.con
 abbrev pub is_bare_at : List (Option Node) → ℕ → Bool
 is_bare_at nodes id = option_map_or (λ node. is_bare_content node.content) (node_in nodes id) false
 
--- with other bytes of a file, and the room that they have in another state
-abbrev pub bytes_set : StoreState → ℕ → List ℕ → StoreState → StoreState
-bytes_set s id bytes after = edited (with_content (with_stored (record { bytes = bytes; room = (stored_of after.nodes id).room }))) s id
+-- with other bytes of a file and other room
+abbrev pub stored_set : StoreState → ℕ → Stored → StoreState
+stored_set s id new = edited (with_content (with_stored new)) s id
 
 -- ---- handles
 abbrev pub with_sessions : StoreState → List (ℕ × List (ℕ × OpenHandle)) → StoreState
-with_sessions s sessions = record { nodes = s.nodes; root = s.root; sessions = sessions; look_ups = s.look_ups }
+with_sessions s sessions = record s { sessions = sessions }
 
 abbrev pub handles_of : StoreState → ℕ → Option (List (ℕ × OpenHandle))
 handles_of s session = lookup (is_at (nat_cmp session)) s.sessions
@@ -146,7 +152,7 @@ opened s session number id marks = opened_at s session number id marks (node_in 
 
 -- with the last name that a listing gave
 abbrev pub with_last : Name → OpenHandle → OpenHandle
-with_last name h = record { node = h.node; label = h.label; marks = h.marks; listed = Some name }
+with_last name h = record h { listed = Some name }
 
 abbrev pub listed_by : ℕ → Name → List (ℕ × OpenHandle) → Option OpenHandle → List (ℕ × OpenHandle)
 listed_by number name handles None = handles
@@ -198,7 +204,7 @@ pub record Inserted (old new : StoreState) (dir : ℕ) (n : Name) (id : ℕ) (no
 
 -- the root alone: label 0, permissions 0o755, and 0 for its owner and its times
 pub record IsFirst (s : StoreState) : Type 0 where
-  pub root : node_in s.nodes s.root ≡ Some (record { label = 0; metadata = made_at 0o755 0; content = content.Directory []; holder = None; named = true; opens = 0 })
+  pub root : node_in s.nodes s.root ≡ Some (record { label = 0; metadata = made_at 0o755 0; content = content.Directory []; holder = None; names = 1; opens = 0 })
   pub others : (i : ℕ) → i ≢ s.root → node_in s.nodes i ≡ None
   pub sessions : s.sessions ≡ []
   pub look_ups : s.look_ups ≡ 0

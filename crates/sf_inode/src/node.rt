@@ -1,21 +1,19 @@
 //! A file, or a directory with its entries.
 
-ghost use Rattle.std.specs.Prelude.{◌≡◌, ◌+◌, ◌<◌, ◌≤◌, ◌^◌, length, take, drop, true, IsOk, IfOk, OnOk, OnErr, Some, None};
+ghost use Rattle.std.specs.Prelude.{◌≡◌, ◌+◌, ◌<◌, ◌^◌, Some, None, if◌then◌else◌, length, take, drop, IsOk, IfOk, OnOk, OnErr};
 ghost use Rattle.std.specs.Option.{option_copied};
 ghost use Rattle.sf_field.specs.declared.attrs.Attrs.{Attrs};
 ghost use Rattle.sf_call.specs.Attributes.{attrs_of, with_parts, modified_at};
-ghost use Rattle.sf_inode.specs.Nodes.{entry_in, entries_in, sorted_past, is_directory_content, is_bare_content, object_in, new_node, with_content, with_metadata, with_holder, less_content, more_content, set_content, stored_in, is_file_content, with_bytes, is_unused};
-ghost use Rattle.sf_call.specs.Contents.{resized, written};
-ghost use Rattle.sf_block.specs.Contents.{count_from, with_front};
+ghost use Rattle.sf_inode.specs.Nodes.{entry_in, entries_in, entries_past, is_directory_content, is_file_content, is_bare_content, object_in, new_node, with_content, with_metadata, less_content, more_content, stored_in, with_stored, is_unused};
+ghost use Rattle.sf_block.specs.Contents.{resized, written, HasRoom, with_room, count_from, with_front};
 
 use crate::NodeId;
 use crate::entries::Entries;
 use sf_block::Contents;
 use sf_call::{FileType, Metadata};
+use sf_field::Attrs;
 use sf_path::Name;
-use sf_wire::Attrs;
 use std::alloc::{AllocError, Global};
-use std::collections::BTreeMap;
 
 /// A new directory without entries, or a new file without bytes.
 #[derive(Clone, Copy, Debug)]
@@ -38,14 +36,14 @@ pub(crate) struct Node {
     pub(crate) metadata: Metadata,
     pub(crate) content: Content,
     pub(crate) holder: Option<u64>,
-    /// Whether an entry leads to it.
-    pub(crate) named: bool,
+    /// How many names lead to it.
+    pub(crate) names: u64,
     /// How many handles open it.
     pub(crate) opens: u64,
 }
 
 impl Node {
-    /// A new file or directory, which an entry is about to lead to; nothing holds it and no handle opens it.
+    /// A new file or directory, which a name is about to lead to; nothing holds it and no handle opens it.
     pub(crate) fn new(alloc: Global, made: NewNode) -> Node
         ensures { result ≡ new_node made }
     {
@@ -58,7 +56,7 @@ impl Node {
             metadata: made.metadata,
             content,
             holder: None,
-            named: true,
+            names: 1,
             opens: 0,
         }
     }
@@ -90,18 +88,18 @@ impl Node {
         }
     }
 
-    /// The entries with the least names past the last one that was given, so many at most.
-    pub(crate) fn least_past(
+    /// The first entries whose names come after the last one that was given, so many at most.
+    pub(crate) fn first_past(
         &self,
         alloc: Global,
         last: Option<&Name>,
         most: usize,
-    ) -> Result<BTreeMap<Name, NodeId>, AllocError>
-        ensures { IfOk result (λ found. found.entries ≡ take most (sorted_past (option_copied last.entry) (entries_in self.now.content))) }
+    ) -> Result<Vec<(Name, NodeId)>, AllocError>
+        ensures { IfOk result (λ found. found.items ≡ take most (entries_past (option_copied last.entry) (entries_in self.now.content))) }
     {
         match &self.content {
-            Content::Directory(entries) => entries.least_past(alloc, last, most),
-            Content::File(_) => Ok(BTreeMap::new(alloc)),
+            Content::Directory(entries) => entries.first_past(alloc, last, most),
+            Content::File(_) => Ok(Vec::new(alloc)),
         }
     }
 
@@ -124,13 +122,13 @@ impl Node {
         }
     }
 
-    /// A new name of a directory leads to a node; of a file nothing changes.
-    pub(crate) fn push_entry(&mut self, name: Name, node: NodeId) -> Result<(), AllocError>
+    /// A name of a directory leads to a node from now on; of a file nothing changes.
+    pub(crate) fn insert_entry(&mut self, name: Name, node: NodeId) -> Result<(), AllocError>
         ensures ok { OnOk result (self.new ≡ with_content (more_content name node) self.old) }
         ensures err { OnErr result (self.new ≡ self.old) }
     {
         if let Content::Directory(entries) = &mut self.content {
-            entries.push(name, node)?;
+            entries.insert(name, node)?;
         }
         Ok(())
     }
@@ -149,15 +147,6 @@ impl Node {
         self.metadata = self.metadata.modified_at(moment);
     }
 
-    /// A name of a directory leads to another node, if it is there.
-    pub(crate) fn set_entry(&mut self, name: &Name, node: NodeId)
-        ensures { self.new ≡ with_content (set_content name.now node) self.old }
-    {
-        if let Content::Directory(entries) = &mut self.content {
-            entries.set(name, node);
-        }
-    }
-
     /// Puts bytes from an offset on into a buffer, and tells how many; a directory has none.
     pub(crate) fn read(&self, offset: u64, buffer: &mut [u8]) -> usize
         ensures count { result ≡ count_from (stored_in self.now.content).bytes offset (length buffer.old) }
@@ -169,12 +158,20 @@ impl Node {
         }
     }
 
+    /// How many bytes a file has.
+    pub(crate) fn file_len(&self) -> Option<u64>
+        ensures { result ≡ (if is_file_content self.now.content then Some (length (stored_in self.now.content).bytes) else None) }
+    {
+        match &self.content {
+            Content::Directory(_) => None,
+            Content::File(contents) => Some(contents.len()),
+        }
+    }
+
     /// Gets memory for `n` bytes from an offset on. A refused growth changes nothing.
     pub(crate) fn reserve_for(&mut self, offset: u64, n: usize) -> Result<(), AllocError>
         requires { offset + n < 2 ^ 64 }
-        ensures same { self.new ≡ with_bytes (stored_in self.old.content).bytes self.new.content self.old }
-        ensures grows { (stored_in self.old.content).room ≤ (stored_in self.new.content).room }
-        ensures room { is_file_content self.old.content ≡ true → OnOk result (offset + n ≤ (stored_in self.new.content).room) }
+        ensures ok { OnOk result (self.new ≡ with_content (with_stored (with_room (stored_in self.old.content) offset n)) self.old) }
         ensures err { OnErr result (self.new ≡ self.old) }
     {
         match &mut self.content {
@@ -185,9 +182,8 @@ impl Node {
 
     /// Replaces bytes from an offset on, in reserved room; a gap before them is filled with zeros.
     pub(crate) fn write(&mut self, offset: u64, bytes: &[u8])
-        requires { offset + length bytes.now ≤ (stored_in self.old.content).room }
-        ensures bytes { self.new ≡ with_bytes (written (stored_in self.old.content).bytes offset bytes.now) self.new.content self.old }
-        ensures room { (stored_in self.old.content).room ≤ (stored_in self.new.content).room }
+        requires { HasRoom (stored_in self.old.content) offset (length bytes.now) }
+        ensures { self.new ≡ with_content (with_stored (record (stored_in self.old.content) { bytes = written (stored_in self.old.content).bytes offset bytes.now })) self.old }
     {
         if let Content::File(contents) = &mut self.content {
             contents.write(offset, bytes);
@@ -196,9 +192,8 @@ impl Node {
 
     /// Cuts the bytes at a size, or fills them up to it with zeros.
     pub(crate) fn set_len(&mut self, n: u64) -> Result<(), AllocError>
-        ensures ok { OnOk result (self.new ≡ with_bytes (resized (stored_in self.old.content).bytes n) self.new.content self.old) }
-        ensures room { (stored_in self.old.content).room ≤ (stored_in self.new.content).room }
-        ensures enough { n ≤ (stored_in self.old.content).room → IsOk result }
+        ensures ok { OnOk result (self.new ≡ with_content (with_stored (record (with_room (stored_in self.old.content) n 0) { bytes = resized (stored_in self.old.content).bytes n })) self.old) }
+        ensures enough { HasRoom (stored_in self.old.content) n 0 → IsOk result }
         ensures err { OnErr result (self.new ≡ self.old) }
     {
         match &mut self.content {
@@ -207,10 +202,10 @@ impl Node {
         }
     }
 
-    /// Whether no entry and no handle names it.
+    /// Whether no name and no handle leads to it.
     pub(crate) fn is_unused(&self) -> bool
         ensures { result ≡ is_unused self.now }
     {
-        !self.named && self.opens == 0
+        self.names == 0 && self.opens == 0
     }
 }

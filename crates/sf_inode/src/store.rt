@@ -1,22 +1,21 @@
 //! The nodes, and what is open.
 
-ghost use Rattle.std.specs.Prelude.{◌≡◌, ℕ, ◌+◌, ◌<◌, ◌≤◌, ◌^◌, ◌-◌, min, length, take, drop, Some, None, true, false, IsOk, IfOk, OnOk, OnErr, option_map, option_and_then};
+ghost use Rattle.std.specs.Prelude.{◌≡◌, ℕ, ◌+◌, ◌<◌, ◌^◌, length, take, drop, Some, None, IsOk, IfOk, OnOk, OnErr, option_map};
 ghost use Rattle.std.specs.Option.{option_map_or};
 ghost use Rattle.std.specs.declared.alloc.Global.{Global};
 ghost use Rattle.sf_call.specs.Attributes.{attrs_of, with_parts, modified_at};
-ghost use Rattle.sf_inode.specs.Nodes.{new_node, object_in, with_metadata, with_holder, with_content, set_content, sorted_past};
-ghost use Rattle.sf_inode.specs.Stores.{IsFirst, Inserted, with_nodes, node_in, entry_of, holder_of, looked_up, edited, entry_taken, entry_put, released, forgotten, let_go, unlinked, relinked, stored_of, is_file_at, is_directory_at, is_bare_at, bytes_set, opened, handle_put, handle_at, handles_of, handle_dropped, handle_listed, entries_at, closed, each_let_go, closed_all};
+ghost use Rattle.sf_inode.specs.Nodes.{new_node, object_in, with_metadata, with_holder, entries_past};
+ghost use Rattle.sf_inode.specs.Stores.{IsFirst, Inserted, with_nodes, node_in, entry_of, holder_of, looked_up, edited, entry_taken, entry_put, released, forgotten, let_go, unlinked, relinked, stored_of, file_size, is_directory_at, is_bare_at, stored_set, opened, handle_put, handle_at, handles_of, handle_dropped, handle_listed, entries_at, closed, each_let_go, closed_all};
 ghost use Rattle.std.specs.Option.{option_copied};
-ghost use Rattle.sf_call.specs.Contents.{resized, written};
-ghost use Rattle.sf_block.specs.Contents.{count_from, with_front};
+ghost use Rattle.sf_block.specs.Contents.{resized, written, HasRoom, with_room, count_from, with_front};
 
 use crate::NodeId;
 use crate::entries::Entries;
 use crate::handle::{Marks, OpenHandle, SessionHandles};
 use crate::node::{Content, NewNode, Node};
 use sf_call::Metadata;
+use sf_field::{Attrs, Owner, Times};
 use sf_path::Name;
-use sf_wire::{Attrs, Owner, Times};
 use slab::Slab;
 use std::alloc::{AllocError, Global};
 use std::collections::BTreeMap;
@@ -62,7 +61,7 @@ impl Store {
             metadata,
             content: Content::Directory(Entries::new(alloc)),
             holder: None,
-            named: true,
+            names: 1,
             opens: 0,
         });
         Ok(Store {
@@ -216,7 +215,7 @@ impl Store {
         self.nodes.reserve(1)?;
         let id = self.nodes.vacant_key();
         if let Some(above) = self.nodes.get_mut(dir) {
-            above.push_entry(name, id)?;
+            above.insert_entry(name, id)?;
         }
         self.nodes.insert_reserved(Node::new(self.alloc, made));
         Ok(id)
@@ -231,7 +230,7 @@ impl Store {
         }
     }
 
-    /// Lets a node go that no entry and no handle names.
+    /// Lets a node go that no name and no handle leads to.
     fn release(&mut self, node: NodeId)
         ensures { self.new ≡ released self.old node }
     {
@@ -244,12 +243,12 @@ impl Store {
         }
     }
 
-    /// No entry leads to a node any more.
+    /// One name less leads to a node.
     fn forget(&mut self, node: NodeId)
         ensures { self.new ≡ forgotten self.old node }
     {
         if let Some(it) = self.nodes.get_mut(node) {
-            it.named = false;
+            it.names = it.names.saturating_sub(1);
         }
         self.release(node);
     }
@@ -264,7 +263,7 @@ impl Store {
         self.release(node);
     }
 
-    /// Takes a name out of a directory, and lets its node go if no handle opens it.
+    /// Takes a name out of a directory, and lets its node go if nothing else leads to it.
     pub fn unlink(&mut self, dir: NodeId, name: &Name)
         ensures { self.new ≡ unlinked self.old dir name.now }
     {
@@ -274,8 +273,8 @@ impl Store {
         }
     }
 
-    /// Moves an entry to another name: a new one, or one that stands for another node, which goes if
-    /// no handle opens it.
+    /// Moves an entry to another name: a new one, or one that leads to another node, which goes if
+    /// nothing else leads to it.
     pub fn relink(
         &mut self,
         old_dir: NodeId,
@@ -286,42 +285,34 @@ impl Store {
         ensures ok { OnOk result (self.new ≡ relinked self.old old_dir old_name.now new_dir new_name) }
         ensures err { OnErr result (self.new ≡ self.old) }
     {
-        let node = match self.entry(old_dir, old_name) {
-            Some(node) => node,
-            None => return Ok(()),
+        let Some(node) = self.entry(old_dir, old_name) else {
+            return Ok(());
         };
-        match self.entry(new_dir, &new_name) {
-            Some(target) => {
-                self.set_entry(new_dir, &new_name, node);
-                self.take_entry(old_dir, old_name);
-                self.forget(target);
-            }
-            None => {
-                self.put_entry(new_dir, new_name, node)?;
-                self.take_entry(old_dir, old_name);
-            }
+        let target = self.entry(new_dir, &new_name);
+        self.put_entry(new_dir, new_name, node)?;
+        self.take_entry(old_dir, old_name);
+        if let Some(target) = target {
+            self.forget(target);
         }
         Ok(())
     }
 
-    /// A name of a directory leads to another node.
-    fn set_entry(&mut self, dir: NodeId, name: &Name, node: NodeId)
-        ensures { self.new ≡ edited (with_content (set_content name.now node)) self.old dir }
-    {
-        if let Some(above) = self.nodes.get_mut(dir) {
-            above.set_entry(name, node);
-        }
-    }
-
-    /// A new name of a directory leads to a node.
+    /// A name of a directory leads to a node from now on.
     fn put_entry(&mut self, dir: NodeId, name: Name, node: NodeId) -> Result<(), AllocError>
         ensures ok { OnOk result (self.new ≡ entry_put self.old dir name node) }
         ensures err { OnErr result (self.new ≡ self.old) }
     {
         if let Some(above) = self.nodes.get_mut(dir) {
-            above.push_entry(name, node)?;
+            above.insert_entry(name, node)?;
         }
         Ok(())
+    }
+
+    /// How many bytes a file has. A directory has none.
+    pub fn file_len(&self, node: NodeId) -> Option<u64>
+        ensures { result ≡ file_size self.now.nodes node }
+    {
+        self.nodes.get(node)?.file_len()
     }
 
     /// Puts a file's bytes from an offset on into a buffer, as many as there are and as fit, and tells
@@ -338,10 +329,8 @@ impl Store {
 
     /// Gets memory for `n` bytes of a file from an offset on, and for all before them.
     pub fn reserve_for(&mut self, node: NodeId, offset: u64, n: usize) -> Result<(), AllocError>
-        requires fits { offset + n < 2 ^ 64 }
-        requires file { is_file_at self.old.nodes node ≡ true }
-        ensures same { self.new ≡ bytes_set self.old node (stored_of self.old.nodes node).bytes self.new }
-        ensures room { OnOk result (offset + n ≤ (stored_of self.new.nodes node).room) }
+        requires { offset + n < 2 ^ 64 }
+        ensures ok { OnOk result (self.new ≡ stored_set self.old node (with_room (stored_of self.old.nodes node) offset n)) }
         ensures err { OnErr result (self.new ≡ self.old) }
     {
         match self.nodes.get_mut(node) {
@@ -353,8 +342,8 @@ impl Store {
     /// Replaces a file's bytes from an offset on, where room was reserved; a gap before them is filled
     /// with zeros.
     pub fn write(&mut self, node: NodeId, offset: u64, bytes: &[u8])
-        requires { offset + length bytes.now ≤ (stored_of self.old.nodes node).room }
-        ensures { self.new ≡ bytes_set self.old node (written (stored_of self.old.nodes node).bytes offset bytes.now) self.new }
+        requires { HasRoom (stored_of self.old.nodes node) offset (length bytes.now) }
+        ensures { self.new ≡ stored_set self.old node (record (stored_of self.old.nodes node) { bytes = written (stored_of self.old.nodes node).bytes offset bytes.now }) }
     {
         if let Some(it) = self.nodes.get_mut(node) {
             it.write(offset, bytes);
@@ -363,8 +352,8 @@ impl Store {
 
     /// Cuts a file's bytes at a size, or fills them up to it with zeros.
     pub fn set_len(&mut self, node: NodeId, n: u64) -> Result<(), AllocError>
-        ensures ok { OnOk result (self.new ≡ bytes_set self.old node (resized (stored_of self.old.nodes node).bytes n) self.new) }
-        ensures enough { n ≤ (stored_of self.old.nodes node).room → IsOk result }
+        ensures ok { OnOk result (self.new ≡ stored_set self.old node (record (with_room (stored_of self.old.nodes node) n 0) { bytes = resized (stored_of self.old.nodes node).bytes n })) }
+        ensures enough { HasRoom (stored_of self.old.nodes node) n 0 → IsOk result }
         ensures err { OnErr result (self.new ≡ self.old) }
     {
         match self.nodes.get_mut(node) {
@@ -491,19 +480,19 @@ impl Store {
         Ok(())
     }
 
-    /// The entries of a directory with the least names past the last one that was given, so many at
-    /// most. Takes memory for each name past it.
+    /// The first entries of a directory whose names come after the last one that was given, so many at
+    /// most. Takes memory for these alone.
     pub fn entries_after(
         &self,
         dir: NodeId,
         last: Option<&Name>,
         most: usize,
-    ) -> Result<BTreeMap<Name, NodeId>, AllocError>
-        ensures { IfOk result (λ found. found.entries ≡ take most (sorted_past (option_copied last.entry) (entries_at self.now.nodes dir))) }
+    ) -> Result<Vec<(Name, NodeId)>, AllocError>
+        ensures { IfOk result (λ found. found.items ≡ take most (entries_past (option_copied last.entry) (entries_at self.now.nodes dir))) }
     {
         match self.nodes.get(dir) {
-            Some(it) => it.least_past(self.alloc, last, most),
-            None => Ok(BTreeMap::new(self.alloc)),
+            Some(it) => it.first_past(self.alloc, last, most),
+            None => Ok(Vec::new(self.alloc)),
         }
     }
 }

@@ -1,9 +1,9 @@
 //! Each call of a store with ample memory, with what POSIX says of its like.
 
 use sf_call::{FileType, Metadata};
+use sf_field::{NO_ATTRS, Owner, Times};
 use sf_inode::{Marks, NewNode, NodeId, Store};
 use sf_path::{Name, Path};
-use sf_wire::{NO_ATTRS, Owner, Times};
 use std::alloc::Global;
 use std::process::Abort;
 use std::test::*;
@@ -194,14 +194,80 @@ fn entries_in_the_order_of_their_names(rt: HostRuntime) -> Result<(), Fail> {
         store.insert(root, name(alloc, text)?, made(label, FileType::File))?;
     }
     let first = store.entries_after(root, None, 2)?;
-    let mut names = first.keys();
-    assert_eq!(rt; names.next().ok_or("none")?.as_slice(), b"a".as_slice());
-    assert_eq!(rt; names.next().ok_or("one")?.as_slice(), b"c".as_slice());
-    assert!(rt; names.next().is_none());
-    let next = store.entries_after(root, Some(&name(alloc, b"/c")?), 2)?;
-    let mut names = next.keys();
-    assert_eq!(rt; names.next().ok_or("none")?.as_slice(), b"m".as_slice());
-    assert_eq!(rt; names.next().ok_or("one")?.as_slice(), b"x".as_slice());
+    assert_eq!(rt; first.len(), 2);
+    assert_eq!(rt; first[0].0.as_slice(), b"a".as_slice());
+    assert_eq!(rt; first[1].0.as_slice(), b"c".as_slice());
+    let next = store.entries_after(root, Some(&name(alloc, b"/c")?), 9)?;
+    assert_eq!(rt; next.len(), 2);
+    assert_eq!(rt; next[0].0.as_slice(), b"m".as_slice());
+    assert_eq!(rt; next[1].0.as_slice(), b"x".as_slice());
+    assert_eq!(rt; store.find(root, &next[1].0), Some(next[1].1));
+    assert_eq!(rt; store.entries_after(root, Some(&next[1].0), 9)?.len(), 0);
+    Ok(())
+}
+
+const MANY: u64 = 1000;
+
+/// The name of a number below `MANY`, so that names stand in the order of their numbers.
+fn numbered(alloc: Global, number: u64) -> Result<Name, Fail> {
+    let text = format!(in alloc; "/{:04}", number)?;
+    name(alloc, text.as_bytes())
+}
+
+/// Lists a directory 32 names at a time. Each name and its node are those of the numbers from `first`
+/// on, `step` apart.
+fn assert_listed(
+    rt: &impl Abort,
+    alloc: Global,
+    store: &mut Store,
+    first: u64,
+    step: u64,
+) -> Result<(), Fail> {
+    let root = store.root();
+    let mut want = first;
+    let mut last = None;
+    for _ in 0..MANY {
+        let found = store.entries_after(root, last.as_ref(), 32)?;
+        for entry in &found {
+            let named = numbered(alloc, want)?;
+            assert!(rt; entry.0 == named, "{want}");
+            assert_eq!(rt; store.find(root, &named), Some(entry.1), "{want}");
+            want = want.saturating_add(step);
+        }
+        match found.last() {
+            Some(entry) => last = Some(entry.0.try_copy(alloc)?),
+            None => {
+                assert!(rt; want >= MANY, "{want}");
+                return Ok(());
+            }
+        }
+    }
+    panic!(rt; "no end")
+}
+
+#[test]
+fn many_names_in_any_order(rt: HostRuntime) -> Result<(), Fail> {
+    let alloc = rt.alloc();
+    // Rising, falling, and in no order.
+    for factor in [1, MANY - 1, 377] {
+        let mut store = Store::new(alloc)?;
+        let root = store.root();
+        for i in 1..MANY + 1 {
+            let number = i * factor % MANY;
+            store.insert(root, numbered(alloc, number)?, made(i, FileType::File))?;
+        }
+        assert_listed(&rt, alloc, &mut store, 0, 1)?;
+        for i in 0..MANY / 2 {
+            let number = i * factor * 2 % MANY;
+            store.unlink(root, &numbered(alloc, number)?);
+        }
+        assert_listed(&rt, alloc, &mut store, 1, 2)?;
+        for i in 0..MANY / 2 {
+            store.unlink(root, &numbered(alloc, 2 * i + 1)?);
+        }
+        assert!(rt; store.is_empty(root));
+        assert_eq!(rt; store.entries_after(root, None, 32)?.len(), 0);
+    }
     Ok(())
 }
 

@@ -1,5 +1,5 @@
 -- What stays true of a store that keeps a tree, where entries and what nodes are stay.
-use Rattle.std.specs.Prelude.{◌≡◌, ◌⊎◌, ℕ, nat_eq, true, false, cond, List, option_and_then, Option, Some, None, refl}
+use Rattle.std.specs.Prelude.{◌≡◌, ◌⊎◌, ℕ, ◌≤◌, nat_eq, true, false, cond, List, option_and_then, Option, Some, None, refl}
 use Rattle.std.proofs.Common.{sym, ap, subst, ◌∙◌, inl, inr, eqb-true}
 use Rattle.sf_path.specs.Names.{Name, Path}
 use Rattle.sf_call.specs.Tree.{Tree}
@@ -11,18 +11,20 @@ use Rattle.sf_keeps.specs.Keeps.{Keeps, IsUnlinked, times_open}
 use Rattle.sf_keeps.proofs.Sound.{IsBare}
 use Rattle.sf_keeps.proofs.Shown.{nat_eq_apart, same_apart}
 use Rattle.sf_keeps.proofs.StoreLaws.{entry_same}
+use Rattle.sf_keeps.proofs.InOrder.{InOrder, node_in_order, in_order_put}
 use Rattle.sf_keeps.proofs.Openings.{one_node}
 
--- a node of before, with its label and whether it is named
+-- a node of before, with its label and its names
 pub record Before (before : List (Option Node)) (i : ℕ) (after : Node) : Type 0 where
   pub node : Node
   pub there : node_in before i ≡ Some node
   pub label : after.label ≡ node.label
-  pub named : after.named ≡ node.named
+  pub named : after.names ≡ node.names
 
 pub record AreAlike (before after : List (Option Node)) : Type 0 where
   pub steps : (x : ℕ) (n : Name) → entry_of after x n ≡ entry_of before x n
   pub back : (i : ℕ) (node : Node) → node_in after i ≡ Some node → Before before i node
+  pub ordered : InOrder before → InOrder after
 
 module _ (s : StoreState) (t : Tree) (k : Keeps s t) (after : StoreState) (root : after.root ≡ s.root) (a : AreAlike s.nodes after.nodes) where
   walk_alike : (path : Path) → walk (entry_of after.nodes) after.root path ≡ walk (entry_of s.nodes) s.root path
@@ -31,17 +33,22 @@ module _ (s : StoreState) (t : Tree) (k : Keeps s t) (after : StoreState) (root 
   pub single_alike : (x y id : ℕ) (n m : Name) → entry_of after.nodes x n ≡ Some id → entry_of after.nodes y m ≡ Some id → (x ≡ y) × (n ≡ m)
   single_alike x y id n m e f = k.single x y id n m (sym (a.steps x n) ∙ e) (sym (a.steps y m) ∙ f)
 
-  pub unlinked_alike : (id : ℕ) (node : Node) → node_in after.nodes id ≡ Some node → node.named ≡ false → IsUnlinked after id
+  pub unlinked_alike : (id : ℕ) (node : Node) → node_in after.nodes id ≡ Some node → node.names ≡ 0 → IsUnlinked after id
   unlinked_alike id node at named =
       let b = a.back id node at in
       let u = k.unlinked id b.node b.there (sym b.named ∙ named) in
       record { free = λ x n e. u.free x n (sym (a.steps x n) ∙ e); other = λ e. u.other (sym root ∙ e); bare = λ n. a.steps id n ∙ u.bare n }
 
-  pub named_alike : (id : ℕ) (node : Node) → node_in after.nodes id ≡ Some node → node.named ≡ true → (path : Path) × (walk (entry_of after.nodes) after.root path ≡ Some id)
+  pub named_alike : (id : ℕ) (node : Node) → node_in after.nodes id ≡ Some node → node.names ≡ 1 → (path : Path) × (walk (entry_of after.nodes) after.root path ≡ Some id)
   named_alike id node at named =
       let b = a.back id node at in
       let w = k.named id b.node b.there (sym b.named ∙ named) in
       (w.0, walk_alike w.0 ∙ w.1)
+
+  pub once_alike : (id : ℕ) (node : Node) → node_in after.nodes id ≡ Some node → node.names ≤ 1
+  once_alike id node at =
+      let b = a.back id node at in
+      subst (λ (n : ℕ). n ≤ 1) (sym b.named) (k.once id b.node b.there)
 
 -- ---- another count at a node
 module _ (s : StoreState) (t : Tree) (k : Keeps s t) (c n : ℕ) (node : Node) (here : node_in s.nodes c ≡ Some node) (nodes : List (Option Node))
@@ -57,9 +64,10 @@ module _ (s : StoreState) (t : Tree) (k : Keeps s t) (c n : ℕ) (node : Node) (
   counted_alike = record {
     steps = entry_same s.nodes nodes c node (with_opened n node) here put (λ m. refl);
     back = λ i x at. elim (counted_back i x at) [
-      | inl e ↦ record { node = node; there = ap (node_in s.nodes) (sym e.0) ∙ here; label = sym (ap (λ (y : Node). y.label) e.1); named = sym (ap (λ (y : Node). y.named) e.1) }
+      | inl e ↦ record { node = node; there = ap (node_in s.nodes) (sym e.0) ∙ here; label = sym (ap (λ (y : Node). y.label) e.1); named = sym (ap (λ (y : Node). y.names) e.1) }
       | inr e ↦ record { node = x; there = e.1; label = refl; named = refl }
     ];
+    ordered = λ h. in_order_put s.nodes nodes c (Some (with_opened n node)) h put (node_in_order s.nodes c node h here);
   }
 
   pub counted_now : (after : Tree) → n ≡ times_open after node.label → ((label : ℕ) → nat_eq node.label label ≡ false → times_open after label ≡ times_open t label)
@@ -97,6 +105,7 @@ module _ (s : StoreState) (t : Tree) (k : Keeps s t) (c : ℕ) (node : Node) (he
           | false ↦ λ e. refl
         ] refl;
     back = λ i x at. record { node = x; there = (gone_back i x at).1; label = refl; named = refl };
+    ordered = λ h. in_order_put s.nodes nodes c None h put tt;
   }
 
   pub gone_now : (after : Tree) → ((label : ℕ) → nat_eq node.label label ≡ false → times_open after label ≡ times_open t label)

@@ -7,7 +7,7 @@ use Rattle.std.proofs.Common.{sym, ap, ◌∙◌}
 use Rattle.sf_path.specs.Names.{Name, Path}
 use Rattle.sf_path.specs.Order.{same_name, same_path}
 use Rattle.sf_call.specs.Tree.{Tree, after_front, label_at, only_name, children, is_nil, is_empty}
-use Rattle.sf_call.proofs.MovedNames.{same_path_is, same_name_itself, after_front-append, append-after_front}
+use Rattle.sf_call.proofs.Laws.{same_path_is, same_name_itself, after_front-append, append-after_front}
 use Rattle.sf_inode.specs.declared.node.Node.{Node}
 use Rattle.sf_inode.specs.declared.node.Content.{Content}
 use Rattle.sf_inode.specs.declared.node.Content.TheVariants as content

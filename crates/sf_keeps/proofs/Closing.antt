@@ -1,5 +1,5 @@
 -- A store keeps the tree after a handle was closed.
-use Rattle.std.specs.Prelude.{◌≡◌, ℕ, ◌+◌, ◌-◌, ◌<◌, ◌^◌, nat_eq, Bool, true, false, cond, not, ◌&&◌, if◌then◌else◌, List, slice_set, option_map, option_and_then, Option, Some, None, refl}
+use Rattle.std.specs.Prelude.{◌≡◌, ℕ, ◌+◌, ◌-◌, ◌<◌, ◌^◌, nat_eq, Bool, true, false, cond, ◌&&◌, if◌then◌else◌, List, slice_set, option_map, option_and_then, Option, Some, None, refl}
 use Rattle.std.proofs.Common.{sym, ap, subst, ◌∙◌, arith, eqb-true, eq-eqb}
 use Rattle.std.specs.Ordering.{nat_cmp}
 use Rattle.std.specs.Cmp.{nat_cmp_total}
@@ -23,12 +23,14 @@ use Rattle.sf_keeps.proofs.Handled.{by_closed, shows_closed_last, shows_closed}
 use Rattle.sf_keeps.proofs.StoreLaws.{node_in-set, node_in-edited, view_stays, view_goes}
 use Rattle.sf_keeps.proofs.StoreHandles.{HandleSet, dropped_set, view_set}
 use Rattle.sf_keeps.proofs.Counts.{closed_times}
-use Rattle.sf_keeps.proofs.Openings.{any_counted, none_counted}
-use Rattle.sf_keeps.proofs.Alike.{single_alike, unlinked_alike, named_alike, counted_alike, counted_now, counted_there, gone_alike, gone_now, gone_there}
+use Rattle.sf_keeps.proofs.Openings.{any_counted, none_counted, one_name}
+use Rattle.sf_keeps.proofs.Alike.{single_alike, unlinked_alike, named_alike, once_alike, counted_alike, counted_now, counted_there, gone_alike, gone_now, gone_there}
 
-is_unnamed : (named : Bool) (n : ℕ) → not named && nat_eq n 0 ≡ true → (named ≡ false) × (n ≡ 0)
-is_unnamed true n e = cc
-is_unnamed false n e = (refl, eqb-true n 0 e)
+is_unnamed : (names n : ℕ) → nat_eq names 0 && nat_eq n 0 ≡ true → (names ≡ 0) × (n ≡ 0)
+is_unnamed names n = elim (nat_eq names 0) as (λ b. nat_eq names 0 ≡ b → b && nat_eq n 0 ≡ true → (names ≡ 0) × (n ≡ 0)) [
+  | true ↦ λ none e. (eqb-true names 0 none, eqb-true n 0 e)
+  | false ↦ λ none e. cc
+] refl
 
 module _ (s : StoreState) (t : Tree) (k : Keeps s t) (session number : ℕ) (h : OpenHandle) (at : handle_at s session number ≡ Some h) (node : Node) (here : node_in s.nodes h.node ≡ Some node) (same : node.label ≡ h.label) where
   abbrev less : Node → Node
@@ -77,7 +79,7 @@ module _ (s : StoreState) (t : Tree) (k : Keeps s t) (session number : ℕ) (h :
       any_counted (λ e. nat_eq e.1.label node.label) rest.handles
       (ap (is_opened rest) (same ∙ sym label) ∙ opened_by seen rest (by_closed (view_of s) t k.shows session number shown opens) a b x e) none
 
-  named_used : node.named ≡ true → is_named t h.label ≡ true
+  named_used : node.names ≡ 1 → is_named t h.label ≡ true
   named_used named =
       let w = k.named h.node node here named in
       any_lookup path_cmp (λ v. nat_eq v h.label) t.names w.0 node.label
@@ -93,9 +95,9 @@ module _ (s : StoreState) (t : Tree) (k : Keeps s t) (session number : ℕ) (h :
   ] refl
 
   still_used : is_unused (less node) ≡ false → is_used rest.names rest.handles h.label ≡ true
-  still_used used = elim node.named as (λ b. node.named ≡ b → not b && nat_eq (node.opens - 1) 0 ≡ false → is_used rest.names rest.handles h.label ≡ true) [
-    | true ↦ λ e _. or_true (is_named rest h.label) (is_opened rest h.label) (named_used e)
-    | false ↦ λ e some. or_right (is_named rest h.label) (is_opened rest h.label) (opened_used some)
+  still_used used = elim (nat_eq node.names 0) as (λ b. nat_eq node.names 0 ≡ b → b && nat_eq (node.opens - 1) 0 ≡ false → is_used rest.names rest.handles h.label ≡ true) [
+    | false ↦ λ e _. or_true (is_named rest h.label) (is_opened rest h.label) (named_used (one_name node.names (k.once h.node node here) e))
+    | true ↦ λ e some. or_right (is_named rest h.label) (is_opened rest h.label) (opened_used some)
   ] refl used
 
   object : (view_of s).shown h.node ≡ Some (h.label, object_in node.metadata node.content)
@@ -130,9 +132,11 @@ module _ (s : StoreState) (t : Tree) (k : Keeps s t) (session number : ℕ) (h :
         subst (λ (x : StoreState). Keeps x after) (sym is) (record {
           shows = subst (λ (v : View). Shows v after) (sym (ap view_of (sym is) ∙ view_stays less mid h.node node here (λ m. refl) refl used ∙ view_mid))
               (shows_closed (view_of s) t k.shows session number shown opens h.node (object_in node.metadata node.content) object (still_used used));
+          entries = alike.ordered k.entries;
           single = single_alike s t k stays refl alike;
           unlinked = unlinked_alike s t k stays refl alike;
           named = named_alike s t k stays refl alike;
+          once = once_alike s t k stays refl alike;
           counted = counted_now s t k h.node (less node).opens node here stays.nodes put after counted others;
           led = λ a b x e.
               let w = k.led a b x (still_there a b x e) in
@@ -154,16 +158,18 @@ module _ (s : StoreState) (t : Tree) (k : Keeps s t) (session number : ℕ) (h :
     keeps_goes : is_unused (less node) ≡ true → Keeps (let_go mid h.node) after
     keeps_goes unused =
         let is : released stays h.node ≡ goes = ap (released_if stays h.node) put_here ∙ ap (λ (b : Bool). if b then with_nodes stays (slice_set stays.nodes h.node None) else stays) unused in
-        let why = is_unnamed node.named (node.opens - 1) unused in
+        let why = is_unnamed node.names (node.opens - 1) unused in
         let u : IsUnlinked s h.node = k.unlinked h.node node here why.0 in
         let last : IsClosed seen h.label = closed_label (sym counted ∙ why.1) in
         let alike = gone_alike s t k h.node node here goes.nodes gone u.bare in
         subst (λ (x : StoreState). Keeps x after) (sym is) (record {
           shows = subst (λ (v : View). Shows v after) (sym (ap view_of (sym is) ∙ view_goes less mid h.node node here (λ m. refl) refl u.bare unused ∙ ap (λ (v : View). with_shown v h.node None) view_mid))
               (shows_closed_last (view_of s) t k.shows session number shown opens h.node (object_in node.metadata node.content) object u.free u.other u.bare last);
+          entries = alike.ordered k.entries;
           single = single_alike s t k goes refl alike;
           unlinked = unlinked_alike s t k goes refl alike;
           named = named_alike s t k goes refl alike;
+          once = once_alike s t k goes refl alike;
           counted = gone_now s t k h.node node here goes.nodes gone after others;
           led = λ a b x e.
               let w = k.led a b x (still_there a b x e) in (

@@ -47,9 +47,11 @@ module _ (s : StoreState) (t : Tree) (k : Keeps s t) (new : Sessions) (same : (a
   keeps_same : Keeps (with_sessions s new) t
   keeps_same = record {
     shows = subst (λ (v : View). Shows v t) (sym (same_view (view_of s) (view_of (with_sessions s new)) (λ x m. refl) (λ x. refl) refl (λ a b. ap (option_map (shown_handle a)) (same a b)))) k.shows;
+    entries = k.entries;
     single = k.single;
-    unlinked = unlinked_alike s t k (with_sessions s new) refl (record { steps = λ x m. refl; back = λ i x e. record { node = x; there = e; label = refl; named = refl } });
+    unlinked = unlinked_alike s t k (with_sessions s new) refl (record { steps = λ x m. refl; back = λ i x e. record { node = x; there = e; label = refl; named = refl }; ordered = λ h. h });
     named = k.named;
+    once = k.once;
     counted = k.counted;
     led = λ a b x e. k.led a b x (sym (same a b) ∙ e);
     sessions = sorted;

@@ -1,10 +1,10 @@
 -- What stays true of the nodes' counts after an entry is taken out, put in or moved.
-use Rattle.std.specs.Prelude.{◌≡◌, ℕ, nat_eq, Bool, true, false, cond, ◌&&◌, [], ◌∷◌, ◌++◌, option_and_then, Option, Some, None, refl}
-use Rattle.std.proofs.Common.{sym, ap, subst, ◌∙◌, inl, inr, eqb-true}
+use Rattle.std.specs.Prelude.{◌≡◌, ℕ, ◌≤◌, nat_eq, true, false, cond, ◌&&◌, [], ◌∷◌, ◌++◌, option_and_then, Option, Some, None, refl}
+use Rattle.std.proofs.Common.{sym, ap, subst, ◌∙◌, arith, inl, inr, eqb-true}
 use Rattle.sf_path.specs.Names.{Name, Path}
 use Rattle.sf_path.specs.Order.{same_name}
 use Rattle.sf_call.specs.Tree.{Tree, after_front}
-use Rattle.sf_call.proofs.MovedNames.{after_front-append, append-after_front}
+use Rattle.sf_call.proofs.Laws.{after_front-append, append-after_front}
 use Rattle.sf_inode.specs.declared.handle.OpenHandle.{OpenHandle}
 use Rattle.sf_keeps.specs.Steps.{Steps, walk, changed_step}
 use Rattle.sf_keeps.specs.Shows.{View, ShowsBy, is_directory_by}
@@ -112,7 +112,7 @@ module _ (view : View) (t : Tree) (s : ShowsBy view t) (p : Path) (d : ℕ) (n :
   step = changed_step view.step d n (Some c)
 
   abbrev fresh : Mark
-  fresh = (label, true, 0)
+  fresh = (label, 1, 0)
 
   -- the mark of a node: of the new one, or of one that was there
   marked_by : (id : ℕ) (v : Mark) (A : Type 0) → (c ≡ id → fresh ≡ v → A) → ((c ≡ id → ⊥) → marks id ≡ Some v → A) → cond (nat_eq c id) (Some fresh) (marks id) ≡ Some v → A
@@ -121,7 +121,7 @@ module _ (view : View) (t : Tree) (s : ShowsBy view t) (p : Path) (d : ℕ) (n :
     | false ↦ λ e f. there (same_apart c id e) f
   ] refl
 
-  led_new : (session number : ℕ) (h : OpenHandle) → handles session number ≡ Some h → (b : Bool) × (o : ℕ) × (cond (nat_eq c h.node) (Some fresh) (marks h.node) ≡ Some (h.label, b, o))
+  led_new : (session number : ℕ) (h : OpenHandle) → handles session number ≡ Some h → (b : ℕ) × (o : ℕ) × (cond (nat_eq c h.node) (Some fresh) (marks h.node) ≡ Some (h.label, b, o))
   led_new session number h e =
       let w = m.led session number h e in
       (w.0, w.1, ap (λ b. cond b (Some fresh) (marks h.node)) (nat_eq_apart c h.node (λ f. let g = ap marks f in let k = w.2 in cc)) ∙ w.2)
@@ -131,12 +131,13 @@ module _ (view : View) (t : Tree) (s : ShowsBy view t) (p : Path) (d : ℕ) (n :
       let apart : nat_eq d c ≡ false = reached_apart view.step view.root d c p at lone in
       record {
         single = single_more view.step d n c m.single lone.free;
-        loose = λ id l o. marked_by id (l, false, o) (Loose step view.root id) (λ e f. let not : true ≡ false = ap (λ (z : Mark). z.1) f in absurd (cc))
+        loose = λ id l o. marked_by id (l, 0, o) (Loose step view.root id) (λ e f. let not : 1 ≡ 0 = ap (λ (z : Mark). z.1) f in absurd (omega (arith, not)))
             (λ other e. let was = m.loose id l o e in loose_more view.step d n c view.root id (reached_apart view.step view.root d id p at was) other was);
-        named = λ id l o. marked_by id (l, true, o) (Reached step view.root id)
+        named = λ id l o. marked_by id (l, 1, o) (Reached step view.root id)
             (λ e f. subst (λ (x : ℕ). Reached step view.root x) e (reach_new view t s p d n at c is lone.bare (same_apart d c apart)))
             (λ other e. reach_more view t s p d n at c is lone.bare (same_apart d c apart) free id (m.named id l o e));
-        counted = λ id l o b. marked_by id (l, b, o) (o ≡ count l) (λ e f. sym (ap (λ (z : Mark). z.2) f) ∙ sym closed ∙ ap (λ (z : Mark). count z.0) f) (λ other e. m.counted id l o b e);
+        once = λ id l b o. marked_by id (l, b, o) (b ≤ 1) (λ e f. let one : 1 ≡ b = ap (λ (z : Mark). z.1) f in omega (arith, one)) (λ other e. m.once id l b o e);
+        counted = λ id l b o. marked_by id (l, b, o) (o ≡ count l) (λ e f. sym (ap (λ (z : Mark). z.2) f) ∙ sym closed ∙ ap (λ (z : Mark). count z.0) f) (λ other e. m.counted id l b o e);
         led = led_new;
       }
 

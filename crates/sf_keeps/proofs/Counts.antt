@@ -15,7 +15,7 @@ use Rattle.sf_call.specs.declared.handle.Handle.{Handle}
 use Rattle.sf_call.specs.Tree.{Tree, handle_of}
 use Rattle.sf_call.specs.Changes.{changed}
 use Rattle.sf_call.specs.Changes.Change.{OpenHandle, SetHandle, CloseHandle}
-use Rattle.sf_call.proofs.Ordered.{and_first, and_second}
+use Rattle.sf_call.proofs.Laws.{and_first, and_second}
 use Rattle.sf_keeps.specs.Keeps.{times_open}
 use Rattle.sf_keeps.proofs.Shown.{nat_same, nat_at_itself}
 

@@ -19,7 +19,7 @@ use Rattle.sf_keeps.proofs.Sound.{is_directory_shown}
 use Rattle.sf_keeps.proofs.Shown.{nat_same}
 
 abbrev pub root_node : Node
-root_node = record { label = 0; metadata = made_at 0o755 0; content = content.Directory []; holder = None; named = true; opens = 0 }
+root_node = record { label = 0; metadata = made_at 0o755 0; content = content.Directory []; holder = None; names = 1; opens = 0 }
 
 abbrev root_object : Object
 root_object = Directory (made_at 0o755 0)

@@ -1,7 +1,7 @@
 -- What a kept store keeps after a node has lost its entry.
-use Rattle.std.specs.Prelude.{◌≡◌, ℕ, nat_eq, Bool, true, false, cond, List, [], ◌∷◌, option_map, option_and_then, slice_set, Option, Some, None, refl}
+use Rattle.std.specs.Prelude.{◌≡◌, ℕ, ◌-◌, nat_eq, Bool, true, false, cond, List, [], ◌∷◌, option_map, option_and_then, slice_set, Option, Some, None, refl}
 use Rattle.std.specs.Option.{option_map_or}
-use Rattle.std.proofs.Common.{sym, ap, ◌∙◌}
+use Rattle.std.proofs.Common.{sym, ap, subst, ◌∙◌}
 use Rattle.std.specs.Map.{lookup}
 use Rattle.sf_path.specs.Names.{Name}
 use Rattle.sf_path.specs.Order.{same_name}
@@ -15,9 +15,10 @@ use Rattle.sf_keeps.specs.Shows.{View, Shows}
 use Rattle.sf_inode.specs.Stores.{StoreState, node_in, entry_of, handle_at, with_nodes, edited, released_if, forgotten}
 use Rattle.sf_keeps.specs.Keeps.{view_of, Keeps, times_open}
 use Rattle.sf_keeps.proofs.Sound.{IsBare}
-use Rattle.sf_keeps.proofs.StoreLaws.{node_in-edited, node_in-set, view_stays, view_goes, changed_there}
+use Rattle.sf_keeps.proofs.StoreLaws.{node_in-edited, node_in-set, view_stays, view_goes, changed_there, unused_left}
 use Rattle.sf_keeps.proofs.Openings.{counted_handle}
 use Rattle.sf_keeps.proofs.Counted.{Single, Loose, Reached, Mark, mark_of, marks_of, marked, keeps_marked, marked_lost}
+use Rattle.sf_keeps.proofs.InOrder.{InOrder, IsInOrder, node_in_order, in_order_put}
 use Rattle.sf_keeps.proofs.KeepsEdited.{marks_same}
 
 -- ---- what is at a number
@@ -62,48 +63,67 @@ kept_released f s id None same = refl
 kept_released f s id (Some node) same =
     elim (is_unused node) as (λ b. f (cond b (with_nodes s (slice_set s.nodes id None)) s) ≡ f s) [ true ↦ same (slice_set s.nodes id None) | false ↦ refl ]
 
-module _ (s : StoreState) (c : ℕ) (node : Node) (here : node_in s.nodes c ≡ Some node) (bare : IsBare (entry_of s.nodes) c) where
+module _ (s : StoreState) (c : ℕ) (node : Node) (here : node_in s.nodes c ≡ Some node) (one : node.names ≡ 1) (bare : IsBare (entry_of s.nodes) c) where
   abbrev pub mark_left : Option Mark
-  mark_left = cond (nat_eq node.opens 0) None (Some (node.label, false, node.opens))
+  mark_left = cond (nat_eq node.opens 0) None (Some (node.label, 0, node.opens))
 
   abbrev unnamed : StoreState
   unnamed = edited without_name s c
 
   pub steps_forgotten : (x : ℕ) (m : Name) → entry_of (forgotten s c).nodes x m ≡ entry_of s.nodes x m
   steps_forgotten x m = elim (nat_eq node.opens 0) as (λ b. nat_eq node.opens 0 ≡ b → entry_of (forgotten s c).nodes x m ≡ entry_of s.nodes x m) [
-    | true ↦ λ e. ap (λ (v : View). v.step x m) (view_goes without_name s c node here (λ m. refl) refl bare e)
-    | false ↦ λ e. ap (λ (v : View). v.step x m) (view_stays without_name s c node here (λ m. refl) refl e)
+    | true ↦ λ e. ap (λ (v : View). v.step x m) (view_goes without_name s c node here (λ m. refl) refl bare (unused_left node one ∙ e))
+    | false ↦ λ e. ap (λ (v : View). v.step x m) (view_stays without_name s c node here (λ m. refl) refl (unused_left node one ∙ e))
   ] refl
 
-  marks_released : (i : ℕ) (b : Bool) → marks_of (cond b (with_nodes unnamed (slice_set unnamed.nodes c None)) unnamed).nodes i ≡ cond (nat_eq c i) (cond b None (Some (node.label, false, node.opens))) (marks_of s.nodes i)
+  marks_released : (i : ℕ) (b : Bool) → marks_of (cond b (with_nodes unnamed (slice_set unnamed.nodes c None)) unnamed).nodes i ≡ cond (nat_eq c i) (cond b None (Some (node.label, 0, node.opens))) (marks_of s.nodes i)
   marks_released i true =
       ap (option_map mark_of) (node_in-set unnamed.nodes c (without_name node) None (changed_there without_name s c node here (λ m. refl) refl) i ∙ ap (cond (nat_eq c i) None) (node_in-edited without_name s c node here i))
       ∙ elim (nat_eq c i) as (λ z. option_map mark_of (cond z None (cond z (Some (without_name node)) (node_in s.nodes i))) ≡ cond z None (marks_of s.nodes i)) [ true ↦ refl | false ↦ refl ]
   marks_released i false =
       ap (option_map mark_of) (node_in-edited without_name s c node here i)
-      ∙ elim (nat_eq c i) as (λ z. option_map mark_of (cond z (Some (without_name node)) (node_in s.nodes i)) ≡ cond z (Some (node.label, false, node.opens)) (marks_of s.nodes i)) [ true ↦ refl | false ↦ refl ]
+      ∙ elim (nat_eq c i) as (λ z. option_map mark_of (cond z (Some (without_name node)) (node_in s.nodes i)) ≡ cond z (Some (node.label, 0, node.opens)) (marks_of s.nodes i)) [
+        | true ↦ ap (λ (n : ℕ). Some (node.label, n - 1, node.opens)) one
+        | false ↦ refl
+      ]
 
   pub marks_forgotten : (i : ℕ) → marks_of (forgotten s c).nodes i ≡ cond (nat_eq c i) mark_left (marks_of s.nodes i)
   marks_forgotten i =
       ap (λ (o : Option Node). marks_of (released_if unnamed c o).nodes i) (changed_there without_name s c node here (λ m. refl) refl)
+      ∙ ap (λ (b : Bool). marks_of (cond b (with_nodes unnamed (slice_set unnamed.nodes c None)) unnamed).nodes i) (unused_left node one)
       ∙ marks_released i (nat_eq node.opens 0)
 
+  -- the entries of the others stay
+  pub in_order_forgotten : InOrder s.nodes → InOrder (forgotten s c).nodes
+  in_order_forgotten h =
+      let less = in_order_put s.nodes unnamed.nodes c (Some (without_name node)) h (node_in-edited without_name s c node here) (node_in_order s.nodes c node h here) in
+      subst (λ (o : Option Node). InOrder (released_if unnamed c o).nodes) (sym (changed_there without_name s c node here (λ m. refl) refl))
+      (elim (is_unused (without_name node)) as (λ b. InOrder (cond b (with_nodes unnamed (slice_set unnamed.nodes c None)) unnamed).nodes) [
+        | true ↦ in_order_put unnamed.nodes (slice_set unnamed.nodes c None) c None less (node_in-set unnamed.nodes c (without_name node) None (changed_there without_name s c node here (λ m. refl) refl)) tt
+        | false ↦ less
+      ])
+
 -- a kept store with another entry, whose node then has none
-pub keeps_forgotten : (s mid : StoreState) (t after : Tree) (step : Steps) (c : ℕ) (node : Node) → Keeps s t → node_in mid.nodes c ≡ Some node → ((x : ℕ) (m : Name) → entry_of mid.nodes x m ≡ step x m)
+pub keeps_forgotten : (s mid : StoreState) (t after : Tree) (step : Steps) (c : ℕ) (node : Node) → Keeps s t → node_in mid.nodes c ≡ Some node → node.names ≡ 1 → InOrder mid.nodes → ((x : ℕ) (m : Name) → entry_of mid.nodes x m ≡ step x m)
     → ((i : ℕ) → marks_of mid.nodes i ≡ marks_of s.nodes i) → mid.root ≡ s.root → mid.sessions ≡ s.sessions → Single step → ((id : ℕ) → Loose (entry_of s.nodes) s.root id → Loose step s.root id) → Loose step s.root c
     → ((id : ℕ) → nat_eq c id ≡ false → Reached (entry_of s.nodes) s.root id → Reached step s.root id) → after.handles ≡ t.handles → Shows (view_of (forgotten mid c)) after → Keeps (forgotten mid c) after
-keeps_forgotten s mid t after step c node k here steps marks root sessions single loose gone reach handles shows =
+keeps_forgotten s mid t after step c node k here one ordered steps marks root sessions single loose gone reach handles shows =
     let bare : IsBare (entry_of mid.nodes) c = λ m. steps c m ∙ gone.bare m in
     let unnamed = edited without_name mid c in
-    keeps_marked s (forgotten mid c) t after step (λ i. cond (nat_eq c i) (mark_left mid c node here bare) (marks_of s.nodes i)) k shows
-    (λ x m. steps_forgotten mid c node here bare x m ∙ steps x m)
-    (λ i. marks_forgotten mid c node here bare i ∙ ap (cond (nat_eq c i) (mark_left mid c node here bare)) (marks i))
+    keeps_marked s (forgotten mid c) t after step (λ i. cond (nat_eq c i) (mark_left mid c node here one bare) (marks_of s.nodes i)) k shows
+    (λ x m. steps_forgotten mid c node here one bare x m ∙ steps x m)
+    (λ i. marks_forgotten mid c node here one bare i ∙ ap (cond (nat_eq c i) (mark_left mid c node here one bare)) (marks i))
     (kept_released (λ (x : StoreState). x.root) unnamed c (node_in unnamed.nodes c) (λ _. refl) ∙ root)
     (kept_released (λ (x : StoreState). x.sessions) unnamed c (node_in unnamed.nodes c) (λ _. refl) ∙ sessions)
     handles
-    (marked_lost (entry_of s.nodes) step s.root (marks_of s.nodes) (times_open t) (handle_at s) (marked s t k) single loose c node.label node.opens node.named
+    (marked_lost (entry_of s.nodes) step s.root (marks_of s.nodes) (times_open t) (handle_at s) (marked s t k) single loose c node.label node.names node.opens
     (sym (marks c) ∙ ap (option_map mark_of) here) gone reach (counted_handle s t k))
+    (in_order_forgotten mid c node here one bare ordered)
 
 -- an entry changes no node's marks
 pub marks_entries : (f : Content → Content) (s : StoreState) (d : ℕ) (above : Node) → node_in s.nodes d ≡ Some above → (i : ℕ) → marks_of (edited (with_content f) s d).nodes i ≡ marks_of s.nodes i
 marks_entries f s d above here = marks_same s.nodes (edited (with_content f) s d).nodes d above (with_content f above) here (node_in-edited (with_content f) s d above here) refl
+
+-- entries in order stay so where one directory's are changed
+pub in_order_entries : (f : Content → Content) (s : StoreState) (d : ℕ) (above : Node) → node_in s.nodes d ≡ Some above → InOrder s.nodes → IsInOrder (f above.content) → InOrder (edited (with_content f) s d).nodes
+in_order_entries f s d above here h own = in_order_put s.nodes (edited (with_content f) s d).nodes d (Some (with_content f above)) h (node_in-edited (with_content f) s d above here) own

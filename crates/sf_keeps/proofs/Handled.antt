@@ -1,5 +1,5 @@
 -- What a view shows after a handle was opened, set or closed.
-use Rattle.std.specs.Prelude.{◌≡◌, ℕ, nat_eq, Bool, true, false, cond, ◌&&◌, ◌||◌, List, option_and_then, Option, Some, None, IsSome, if◌then◌else◌, refl}
+use Rattle.std.specs.Prelude.{if◌then◌else◌, ◌≡◌, ℕ, nat_eq, Bool, true, false, cond, ◌&&◌, ◌||◌, List, option_and_then, Option, Some, None, IsSome, refl}
 use Rattle.std.proofs.Common.{sym, ap, subst, ◌∙◌, eqb-true, eq-eqb}
 use Rattle.std.specs.Ordering.{nat_cmp}
 use Rattle.std.specs.Cmp.{nat_cmp_total}
@@ -11,14 +11,13 @@ use Rattle.sf_call.specs.Tree.{Tree, IsOrderedTree, handle_of, is_used, with_han
 use Rattle.sf_call.specs.Handles.{if_of}
 use Rattle.sf_call.specs.Changes.{changed}
 use Rattle.sf_call.specs.Changes.Change.{OpenHandle, SetHandle, CloseHandle}
-use Rattle.sf_call.proofs.Ordered.{ordered_changed}
-use Rattle.sf_call.proofs.LookUps.{lookup-put}
+use Rattle.sf_call.proofs.Laws.{ordered_changed, lookup-put}
 use Rattle.sf_keeps.specs.Shows.{View, ShowsBy, Shows, with_shown, changed_opens, with_opens}
 use Rattle.sf_keeps.proofs.Keyed.{lookup-set, lookup-removed, lookup_any, any_lookup, any-removed}
 use Rattle.sf_keeps.proofs.Sound.{HasNoEntry, IsBare}
 use Rattle.sf_keeps.proofs.Shown.{nat_same, nat_at_itself, nat_eq_apart}
-use Rattle.sf_keeps.proofs.Less.{is_named, is_opened, OthersUsed, IsClosed, kept_used, handle_there, handle_here, opened_by, shows_kept, shows_kept_used}
-use Rattle.sf_keeps.proofs.Whole.{or_grows_right, or_right}
+use Rattle.sf_keeps.proofs.Less.{is_named, is_opened, OthersUsed, IsClosed, kept_used, handle_there, handle_here, shows_kept, shows_kept_used}
+use Rattle.sf_keeps.proofs.Whole.{or_grows_right}
 
 -- what handles and a changed handle have in common
 module _ (view : View) (t : Tree) (h : ShowsBy view t) (session number : ℕ) (r : Option Handle) (of : (x : Handle) → r ≡ Some x → x.session ≡ session)
@@ -149,9 +148,3 @@ module _ (view : View) (t : Tree) (h : Shows view t) where
       ordered = ordered_changed t (CloseHandle number) h.ordered;
       used = kept_used closed;
     }
-
-    -- another handle opens it
-    pub shows_closed_open : (c : ℕ) (o : Object) (a b : ℕ) (other : Handle) → view.shown c ≡ Some (handle.label, o) → changed_opens view.opens session number None a b ≡ Some other → other.label ≡ handle.label
-        → Shows (with_opens view session number None) (changed t (CloseHandle number))
-    shows_closed_open c o a b other is opens same =
-        shows_closed c o is (or_right (is_named closed handle.label) (is_opened closed handle.label) (ap (is_opened closed) (sym same) ∙ opened_by (with_opens view session number None) closed by_closed a b other opens))

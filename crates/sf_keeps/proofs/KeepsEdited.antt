@@ -1,9 +1,9 @@
 -- What a store keeps after one node was changed and no entry.
-use Rattle.std.specs.Prelude.{◌≡◌, ℕ, nat_eq, true, false, cond, List, [], is_some, option_map, Option, Some, None, refl}
+use Rattle.std.specs.Prelude.{◌≡◌, ℕ, nat_eq, true, false, cond, List, is_some, option_map, Option, Some, None, refl}
 use Rattle.std.specs.Option.{option_map_or}
 use Rattle.std.proofs.Common.{sym, ap, subst, ◌∙◌, eqb-true}
 use Rattle.sf_path.specs.Names.{Name}
-use Rattle.sf_block.specs.Contents.{Stored}
+use Rattle.sf_block.specs.Contents.{Stored, with_room}
 use Rattle.sf_call.specs.declared.metadata.Metadata.{Metadata}
 use Rattle.sf_call.specs.Attributes.{Object}
 use Rattle.sf_call.specs.Attributes.Object.{File}
@@ -13,12 +13,13 @@ use Rattle.sf_call.specs.Changes.Change.{SetObject}
 use Rattle.sf_inode.specs.declared.node.Node.{Node}
 use Rattle.sf_inode.specs.declared.node.Content.{Content}
 use Rattle.sf_inode.specs.declared.node.Content.TheVariants as content
-use Rattle.sf_inode.specs.Nodes.{entry_in, object_in, stored_in, is_file_content, with_content, with_metadata, with_stored, with_holder}
+use Rattle.sf_inode.specs.Nodes.{entry_in, object_in, nothing_stored, stored_in, is_file_content, with_content, with_metadata, with_stored, with_holder}
 use Rattle.sf_keeps.specs.Shows.{View, Shows}
-use Rattle.sf_inode.specs.Stores.{StoreState, node_in, entry_of, shown_node, edited, edited_by, with_nodes, looked_up, stored_of, is_file_at, bytes_set}
+use Rattle.sf_inode.specs.Stores.{StoreState, node_in, entry_of, shown_node, edited, edited_by, with_nodes, looked_up, stored_of, is_file_at, stored_set}
 use Rattle.sf_keeps.specs.Keeps.{view_of, Keeps}
 use Rattle.sf_keeps.proofs.StoreLaws.{node_in-edited, entry_same, shows_edited, view_unseen, kind_metadata}
 use Rattle.sf_keeps.proofs.StoreBytes.{entry_stored, kind_stored}
+use Rattle.sf_keeps.proofs.InOrder.{IsInOrder, node_in_order, in_order_put, stored_in_order}
 use Rattle.sf_keeps.proofs.Counted.{Mark, mark_of, marks_of, marked, keeps_marked}
 
 -- marks that stay where one node has changed
@@ -32,13 +33,14 @@ marks_same before after d node node' at put same i =
     ] refl
 
 module _ (f : Node → Node) (s : StoreState) (t : Tree) (id : ℕ) (node : Node) (k : Keeps s t) (here : node_in s.nodes id ≡ Some node)
-    (entries : (m : Name) → entry_in (f node).content m ≡ entry_in node.content m) (same : mark_of (f node) ≡ mark_of node) where
+    (entries : (m : Name) → entry_in (f node).content m ≡ entry_in node.content m) (same : mark_of (f node) ≡ mark_of node) (own : IsInOrder (f node).content) where
   keeps_by : (after : Tree) → after.handles ≡ t.handles → Shows (view_of (edited f s id)) after → Keeps (edited f s id) after
   keeps_by after handles shows =
       keeps_marked s (edited f s id) t after (entry_of s.nodes) (marks_of s.nodes) k shows
       (entry_same s.nodes (edited f s id).nodes id node (f node) here (node_in-edited f s id node here) entries)
       (marks_same s.nodes (edited f s id).nodes id node (f node) here (node_in-edited f s id node here) same)
       refl refl handles (marked s t k)
+      (in_order_put s.nodes (edited f s id).nodes id (Some (f node)) k.entries (node_in-edited f s id node here) own)
 
   -- another object of the node
   pub keeps_edited : is_some (directory_metadata (object_in node.metadata node.content)) ≡ is_some (directory_metadata (object_in (f node).metadata (f node).content))
@@ -53,7 +55,7 @@ module _ (f : Node → Node) (s : StoreState) (t : Tree) (id : ℕ) (node : Node
 -- other metadata
 pub keeps_metadata : (f : Metadata → Metadata) (s : StoreState) (t : Tree) (id : ℕ) (node : Node) → Keeps s t → node_in s.nodes id ≡ Some node
     → Keeps (edited (with_metadata f) s id) (changed t (SetObject node.label (object_in (f node.metadata) node.content)))
-keeps_metadata f s t id node k here = keeps_edited (with_metadata f) s t id node k here (λ m. refl) refl (kind_metadata node.metadata (f node.metadata) node.content)
+keeps_metadata f s t id node k here = keeps_edited (with_metadata f) s t id node k here (λ m. refl) refl (node_in_order s.nodes id node k.entries here) (kind_metadata node.metadata (f node.metadata) node.content)
 
 -- a file at a number is a node
 file_there : (nodes : List (Option Node)) (id : ℕ) (node : Node) → node_in nodes id ≡ Some node → is_file_at nodes id ≡ true → (contents : Stored) × (node.content ≡ content.File contents)
@@ -65,14 +67,13 @@ file_there nodes id node here file =
     ] is
 
 -- other bytes of a file
-pub keeps_bytes : (s after : StoreState) (t : Tree) (id : ℕ) (node : Node) (bytes : List ℕ) → Keeps s t → node_in s.nodes id ≡ Some node → is_file_at s.nodes id ≡ true
-    → Keeps (bytes_set s id bytes after) (changed t (SetObject node.label (File node.metadata bytes)))
-keeps_bytes s after t id node bytes k here file =
-    let new : Stored = record { bytes = bytes; room = (stored_of after.nodes id).room } in
+pub keeps_bytes : (new : Stored) (s : StoreState) (t : Tree) (id : ℕ) (node : Node) → Keeps s t → node_in s.nodes id ≡ Some node → is_file_at s.nodes id ≡ true
+    → Keeps (stored_set s id new) (changed t (SetObject node.label (File node.metadata new.bytes)))
+keeps_bytes new s t id node k here file =
     let w = file_there s.nodes id node here file in
-    subst (λ (o : Object). Keeps (bytes_set s id bytes after) (changed t (SetObject node.label o)))
+    subst (λ (o : Object). Keeps (stored_set s id new) (changed t (SetObject node.label o)))
     (ap (λ (c : Content). object_in node.metadata (with_stored new c)) w.1)
-    (keeps_edited (with_content (with_stored new)) s t id node k here (entry_stored new node.content) refl (kind_stored new node.metadata node.content))
+    (keeps_edited (with_content (with_stored new)) s t id node k here (entry_stored new node.content) refl (stored_in_order new node.content (node_in_order s.nodes id node k.entries here)) (kind_stored new node.metadata node.content))
 
 -- ---- what is not seen
 -- the same bytes with other room
@@ -87,21 +88,22 @@ keeps_none f s t id k none = subst (λ (x : StoreState). Keeps x t) (sym (ap (λ
 -- what changes each node that may be there in nothing that is seen
 keeps_always : (f : Node → Node) (s : StoreState) (t : Tree) (id : ℕ) → Keeps s t
     → ((node : Node) → node_in s.nodes id ≡ Some node → (m : Name) → entry_in (f node).content m ≡ entry_in node.content m) → ((node : Node) → mark_of (f node) ≡ mark_of node)
+    → ((node : Node) → IsInOrder node.content → IsInOrder (f node).content)
     → ((node : Node) → node_in s.nodes id ≡ Some node → shown_node (f node) ≡ shown_node node) → Keeps (edited f s id) t
-keeps_always f s t id k entries same alike = elim (node_in s.nodes id) as (λ o. node_in s.nodes id ≡ o → Keeps (edited f s id) t) [
+keeps_always f s t id k entries same own alike = elim (node_in s.nodes id) as (λ o. node_in s.nodes id ≡ o → Keeps (edited f s id) t) [
   | None ↦ λ e. keeps_none f s t id k e
-  | Some node ↦ λ e. keeps_unseen f s t id node k e (entries node e) (same node) (alike node e)
+  | Some node ↦ λ e. keeps_unseen f s t id node k e (entries node e) (same node) (own node (node_in_order s.nodes id node k.entries e)) (alike node e)
 ] refl
 
 pub keeps_held : (r : Option ℕ) (s : StoreState) (t : Tree) (id : ℕ) → Keeps s t → Keeps (edited (with_holder r) s id) t
-keeps_held r s t id k = keeps_always (with_holder r) s t id k (λ node e m. refl) (λ node. refl) (λ node e. refl)
+keeps_held r s t id k = keeps_always (with_holder r) s t id k (λ node e m. refl) (λ node. refl) (λ node h. h) (λ node e. refl)
 
-pub keeps_reserved : (s after : StoreState) (t : Tree) (id : ℕ) → Keeps s t → Keeps (bytes_set s id (stored_of s.nodes id).bytes after) t
-keeps_reserved s after t id k =
-    let new : Stored = record { bytes = (stored_of s.nodes id).bytes; room = (stored_of after.nodes id).room } in
-    keeps_always (with_content (with_stored new)) s t id k (λ node e m. entry_stored new node.content m) (λ node. refl) (λ node e.
-    let is : stored_of s.nodes id ≡ stored_in node.content = ap (λ (o : Option Node). option_map_or (λ (it : Node). stored_in it.content) o (record { bytes = []; room = 0 })) e in
+pub keeps_reserved : (s : StoreState) (t : Tree) (id offset n : ℕ) → Keeps s t → Keeps (stored_set s id (with_room (stored_of s.nodes id) offset n)) t
+keeps_reserved s t id offset n k =
+    let new : Stored = with_room (stored_of s.nodes id) offset n in
+    keeps_always (with_content (with_stored new)) s t id k (λ node e m. entry_stored new node.content m) (λ node. refl) (λ node h. stored_in_order new node.content h) (λ node e.
+    let is : stored_of s.nodes id ≡ stored_in node.content = ap (λ (o : Option Node). option_map_or (λ (it : Node). stored_in it.content) o nothing_stored) e in
     λ i. (node.label, (ap (λ (x : Stored). object_in node.metadata (with_stored (record { bytes = x.bytes; room = new.room }) node.content)) is ∙ stored_alike new.room node.metadata node.content) i))
 
 pub keeps_looked : (s : StoreState) (t : Tree) → Keeps s t → Keeps (looked_up s) t
-keeps_looked s t k = keeps_marked s (looked_up s) t t (entry_of s.nodes) (marks_of s.nodes) k k.shows (λ x m. refl) (λ i. refl) refl refl refl (marked s t k)
+keeps_looked s t k = keeps_marked s (looked_up s) t t (entry_of s.nodes) (marks_of s.nodes) k k.shows (λ x m. refl) (λ i. refl) refl refl refl (marked s t k) k.entries

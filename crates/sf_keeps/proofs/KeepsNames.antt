@@ -26,7 +26,8 @@ use Rattle.sf_keeps.proofs.StoreLaws.{node_in-edited, step_changed, more_says, v
 use Rattle.sf_keeps.proofs.Openings.{closed_label, opener, entry_node, unopened}
 use Rattle.sf_keeps.proofs.Counted.{Loose, Mark, mark_of, marks_of, marked, keeps_marked}
 use Rattle.sf_keeps.proofs.CountedSteps.{single_less, loose_less, none_left, bare_less, bare_apart, reach_less, marked_new}
-use Rattle.sf_keeps.proofs.Forgotten.{directory_at, entry_above, bare_at, keeps_forgotten, marks_entries}
+use Rattle.sf_keeps.proofs.Forgotten.{directory_at, entry_above, bare_at, keeps_forgotten, marks_entries, in_order_entries}
+use Rattle.sf_keeps.proofs.InOrder.{InOrder, IsInOrder, node_in_order, in_order_put, less_in_order, more_in_order}
 
 -- ---- an entry taken out
 pub keeps_unlinked : (s : StoreState) (t : Tree) (p : Path) (d : ℕ) (n : Name) (c : ℕ) → Keeps s t → walk (entry_of s.nodes) s.root p ≡ Some d → entry_of s.nodes d n ≡ Some c
@@ -35,6 +36,7 @@ keeps_unlinked s t p d n c k at there is_bare =
     let above = entry_above s.nodes d c n there in
     let node = entry_node s t k d c n there in
     let bare = bare_at s.nodes c is_bare in
+    let ordered = node_in_order s.nodes d above.0 k.entries above.1 in
     let step = changed_step (entry_of s.nodes) d n None in
     let after = changed t (GonePath (p ++ n ∷ [])) in
     let mid = entry_taken s d n in
@@ -42,15 +44,15 @@ keeps_unlinked s t p d n c k at there is_bare =
     node_in-edited (with_content (less_content n)) s d above.0 above.1 c ∙ ap (λ b. cond b (Some (with_content (less_content n) above.0)) (node_in s.nodes c)) (bare_apart (entry_of s.nodes) d c n c there bare) ∙ node.1 in
     let shows : Shows (view_of (unlinked s d n)) after =
     elim (nat_eq node.0.opens 0) as (λ b. nat_eq node.0.opens 0 ≡ b → Shows (view_of (unlinked s d n)) after) [
-      | true ↦ λ e. shows_unlinked_gone s t k.shows p d n c above.0 node.0 at above.1 there node.1 bare (none_left (entry_of s.nodes) d n c k.single there)
+      | true ↦ λ e. shows_unlinked_gone s t k.shows p d n c above.0 node.0 ordered at above.1 there node.1 node.2 bare (none_left (entry_of s.nodes) d n c k.single there)
           (closed_label s t k node.0.label (sym (k.counted c node.0 node.1) ∙ eqb-true node.0.opens 0 e)) e
       | false ↦ λ e.
           let o = opener s t k node.0.label (ap (λ (x : ℕ). nat_eq x 0) (sym (k.counted c node.0 node.1)) ∙ e) in
-          shows_unlinked_open s t k.shows p d n c above.0 node.0 at above.1 there node.1 bare o.session o.number o.handle o.opens o.same e
+          shows_unlinked_open s t k.shows p d n c above.0 node.0 ordered at above.1 there node.1 node.2 bare o.session o.number o.handle o.opens o.same e
     ] refl in
     let is : unlinked s d n ≡ forgotten mid c = ap (unlinked_from s d n) there in
     subst (λ (x : StoreState). Keeps x after) (sym is)
-    (keeps_forgotten s mid t after step c node.0 k here (λ x m. ap (λ (v : View). v.step x m) (view_taken s d n above.0 above.1)) (marks_entries (less_content n) s d above.0 above.1) refl refl
+    (keeps_forgotten s mid t after step c node.0 k here node.2 (in_order_entries (less_content n) s d above.0 above.1 k.entries (less_in_order n above.0.content ordered)) (λ x m. ap (λ (v : View). v.step x m) (view_taken s d n above.0 ordered above.1)) (marks_entries (less_content n) s d above.0 above.1) refl refl
     (single_less (entry_of s.nodes) d n k.single) (loose_less (entry_of s.nodes) d n s.root)
     (record { free = none_left (entry_of s.nodes) d n c k.single there; other = λ e. k.shows.by.sound.top d n (there ∙ ap Some (sym e)); bare = bare_less (entry_of s.nodes) d n c bare })
     (reach_less (view_of s) t k.shows.by p d n at c there bare) refl (subst (λ (x : StoreState). Shows (view_of x) after) is shows))
@@ -61,7 +63,7 @@ new_bare file_type.Directory m = refl
 new_bare file_type.File m = refl
 
 module _ (old new : StoreState) (d : ℕ) (n : Name) (c : ℕ) (node above : Node) (es : List (Name × ℕ)) (did : Inserted old new d n c node) (here : node_in old.nodes d ≡ Some above)
-    (dir : above.content ≡ content.Directory es) (free : lookup (same_name n) es ≡ None) (bare : (m : Name) → entry_in node.content m ≡ None) where
+    (dir : above.content ≡ content.Directory es) (bare : (m : Name) → entry_in node.content m ≡ None) where
   abbrev mid : StoreState
   mid = entry_put old d n c
 
@@ -75,7 +77,7 @@ module _ (old new : StoreState) (d : ℕ) (n : Name) (c : ℕ) (node above : Nod
   steps_new x m =
       node_new x (Option ℕ) (option_and_then (λ (z : Node). entry_in z.content m)) None (bare m)
       ∙ ap (cond (nat_eq c x) None) (step_changed old.nodes mid.nodes d above (with_content (more_content n c) above) here (node_in-edited (with_content (more_content n c)) old d above here) n (Some c)
-      (λ m. subst (λ (z : Content). entry_in (more_content n c z) m ≡ cond (same_name n m) (Some c) (entry_in z m)) (sym dir) (more_says n m c es free)) x m)
+      (λ m. subst (λ (z : Content). entry_in (more_content n c z) m ≡ cond (same_name n m) (Some c) (entry_in z m)) (sym dir) (more_says n m c es)) x m)
       ∙ elim (nat_eq c x) as (λ b. nat_eq c x ≡ b → cond b None (changed_step (entry_of old.nodes) d n (Some c) x m) ≡ changed_step (entry_of old.nodes) d n (Some c) x m) [
         | true ↦ λ e. sym (
             ap (λ b. cond (b && same_name n m) (Some c) (entry_of old.nodes x m)) (nat_eq_apart d x (λ f. let g = ap (node_in old.nodes) (f ∙ sym (eqb-true c x e)) in let h = did.fresh in cc))
@@ -85,6 +87,14 @@ module _ (old new : StoreState) (d : ℕ) (n : Name) (c : ℕ) (node above : Nod
 
   marks_new : (i : ℕ) → marks_of new.nodes i ≡ cond (nat_eq c i) (Some (mark_of node)) (marks_of old.nodes i)
   marks_new i = node_new i (Option Mark) (option_map mark_of) (Some (mark_of node)) refl ∙ ap (cond (nat_eq c i) (Some (mark_of node))) (marks_entries (more_content n c) old d above here i)
+
+  in_order_new : InOrder old.nodes → IsInOrder node.content → InOrder new.nodes
+  in_order_new h own = in_order_put mid.nodes new.nodes c (Some node) (in_order_entries (more_content n c) old d above here h (more_in_order n c above.content (node_in_order old.nodes d above h here)))
+      (λ i. node_new i (Option Node) (λ (o : Option Node). o) (Some node) refl) own
+
+new_in_order : (kind : FileType) → IsInOrder (new_content kind)
+new_in_order file_type.Directory = tt
+new_in_order file_type.File = tt
 
 pub keeps_inserted : (old new : StoreState) (t : Tree) (p : Path) (d : ℕ) (n : Name) (c : ℕ) (made : NewNode) → Keeps old t → Inserted old new d n c (new_node made)
     → walk (entry_of old.nodes) old.root p ≡ Some d → option_map_or (λ (it : Node). is_directory_content it.content) (node_in old.nodes d) false ≡ true → entry_of old.nodes d n ≡ None → object_of t.objects made.label ≡ None
@@ -101,7 +111,8 @@ keeps_inserted old new t p d n c made k did at is_dir free fresh =
       bare = λ m. ap (option_and_then (λ (z : Node). entry_in z.content m)) did.fresh;
     } in
     keeps_marked old new t (changed t (NewPath (p ++ n ∷ []) made.label (object_in made.metadata (new_content made.file_type)))) (changed_step (entry_of old.nodes) d n (Some c))
-    (λ i. cond (nat_eq c i) (Some (made.label, true, 0)) (marks_of old.nodes i)) k
+    (λ i. cond (nat_eq c i) (Some (made.label, 1, 0)) (marks_of old.nodes i)) k
     (shows_inserted old new t p d n c (new_node made) w.0 w.1 did k.shows at w.2 w.3 none bare fresh)
-    (steps_new old new d n c (new_node made) w.0 w.1 did w.2 w.3 none bare) (marks_new old new d n c (new_node made) w.0 w.1 did w.2 w.3 none bare) did.root did.sessions refl
+    (steps_new old new d n c (new_node made) w.0 w.1 did w.2 w.3 bare) (marks_new old new d n c (new_node made) w.0 w.1 did w.2 w.3 bare) did.root did.sessions refl
     (marked_new (view_of old) t k.shows.by p d n c made.label (marks_of old.nodes) (times_open t) (handle_at old) (marked old t k) at is free (ap (option_map mark_of) did.fresh) lone (unopened old t k made.label fresh))
+    (in_order_new old new d n c (new_node made) w.0 w.1 did w.2 w.3 bare k.entries (new_in_order made.file_type))

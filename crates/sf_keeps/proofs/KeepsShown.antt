@@ -15,7 +15,8 @@ use Rattle.sf_inode.specs.declared.node.Node.{Node}
 use Rattle.sf_inode.specs.declared.node.Content.{Content}
 use Rattle.sf_inode.specs.declared.node.Content.TheVariants as content
 use Rattle.sf_inode.specs.Nodes.{object_in, is_directory_content, is_file_content, stored_in, with_metadata}
-use Rattle.sf_inode.specs.Stores.{StoreState, node_in, shown_node, shown_of, edited, bytes_set, stored_of, is_directory_at, is_file_at}
+use Rattle.sf_block.specs.Contents.{Stored}
+use Rattle.sf_inode.specs.Stores.{StoreState, node_in, shown_node, shown_of, edited, stored_set, stored_of, is_directory_at, is_file_at}
 use Rattle.sf_keeps.specs.Keeps.{Keeps}
 use Rattle.sf_keeps.proofs.KeepsEdited.{keeps_metadata, keeps_bytes}
 
@@ -74,12 +75,12 @@ keeps_file f s t id label m bytes k e =
     subst (λ (v : ℕ × Object). Keeps (edited (with_metadata f) s id) (changed t (SetObject v.0 v.1))) (λ i. (w.2 i, other_file f w.0.metadata m bytes w.0.content w.3 i))
     (keeps_metadata f s t id w.0 k w.1)
 
-pub keeps_contents : (s after : StoreState) (t : Tree) (id label : ℕ) (m : Metadata) (old new : List ℕ) → Keeps s t → shown_of s.nodes id ≡ Some (label, File m old)
-    → Keeps (bytes_set s id new after) (changed t (SetObject label (File m new)))
-keeps_contents s after t id label m old new k e =
+pub keeps_contents : (new : Stored) (s : StoreState) (t : Tree) (id label : ℕ) (m : Metadata) (old : List ℕ) → Keeps s t → shown_of s.nodes id ≡ Some (label, File m old)
+    → Keeps (stored_set s id new) (changed t (SetObject label (File m new.bytes)))
+keeps_contents new s t id label m old k e =
     let w = node_shown s.nodes id label (File m old) e in
-    subst (λ (v : ℕ × Metadata). Keeps (bytes_set s id new after) (changed t (SetObject v.0 (File v.1 new)))) (λ i. (w.2 i, (file_content w.0.metadata m old w.0.content w.3).0 i))
-    (keeps_bytes s after t id w.0 new k w.1 (file_shown s.nodes id label m old e).0)
+    subst (λ (v : ℕ × Metadata). Keeps (stored_set s id new) (changed t (SetObject v.0 (File v.1 new.bytes)))) (λ i. (w.2 i, (file_content w.0.metadata m old w.0.content w.3).0 i))
+    (keeps_bytes new s t id w.0 k w.1 (file_shown s.nodes id label m old e).0)
 
 -- ---- objects set twice
 set_again : {K X : Type 0} (test : K → Bool) (es : List (K × X)) (v w : X) → set_value test (set_value test es v) w ≡ set_value test es w

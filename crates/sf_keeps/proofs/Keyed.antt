@@ -10,8 +10,7 @@ use Rattle.std.specs.Map.{lookup, remove_entry, set_value, keys_of}
 use Rattle.std.specs.BTreeMap.{is_at}
 use Rattle.std.specs.FinMap.{is_sorted}
 use Rattle.std.specs.FinMap.Entries.{below_all}
-use Rattle.sf_call.proofs.Ordered.{and_first, and_second}
-use Rattle.sf_call.proofs.MovedNames.{is_equal}
+use Rattle.sf_call.proofs.Laws.{and_first, and_second, is_equal}
 use Rattle.std.proofs.lemmas.Map.{lookup-set_value, lookup-remove_entry}
 
 less_not_equal : (r : Ordering) → T (is_lt r) → is_eq r ≡ false

@@ -2,6 +2,8 @@ pub mod Walks
 pub mod Once
 pub mod Sound
 pub mod Keyed
+pub mod Orderly
+pub mod InOrder
 pub mod Shown
 pub mod Less
 pub mod Whole
@@ -22,7 +24,6 @@ pub mod KeepsNames
 pub mod KeepsMoved
 pub mod Finding
 pub mod Bare
-pub mod Orderly
 pub mod Counts
 pub mod Alike
 pub mod Opening
@@ -34,3 +35,4 @@ pub mod KeepsShown
 pub mod SessionHandles
 pub mod ListedNames
 pub mod Listings
+pub mod Laws

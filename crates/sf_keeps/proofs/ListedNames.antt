@@ -7,19 +7,18 @@ use Rattle.std.specs.declared.cmp.Ordering.TheVariants.{Less, Equal, Greater}
 use Rattle.std.specs.Ordering.{is_lt, is_eq}
 use Rattle.std.specs.Cmp.{IsTotalOrder, tied_itself}
 use Rattle.std.specs.Map.{lookup}
-use Rattle.std.specs.BTreeMap.{is_at, insert_entry}
+use Rattle.std.proofs.lemmas.Map.Entries.{lookup-filter-keys}
+use Rattle.std.specs.BTreeMap.{is_at}
 use Rattle.std.specs.FinMap.{is_sorted}
 use Rattle.std.specs.FinMap.Entries.{below_all}
 use Rattle.sf_path.specs.Names.{Name, Path}
-use Rattle.sf_path.specs.Order.{same_name, same_path, name_cmp, path_cmp, name_total}
+use Rattle.sf_path.specs.Order.{same_name, same_path, name_cmp, path_cmp}
 use Rattle.sf_call.specs.Tree.{after_front, only_name, label_at}
 use Rattle.sf_call.specs.Listings.{is_past, name_past}
-use Rattle.sf_call.proofs.LookUps.{lookup-put}
-use Rattle.sf_call.proofs.MovedNames.{is_equal, same_path_is, same_name_is, same_name_itself, after_front-append, append-after_front, path_cmp-front}
-use Rattle.sf_call.proofs.Ordered.{and_first, and_second}
-use Rattle.sf_inode.specs.Nodes.{sorted_past}
+use Rattle.sf_call.proofs.Laws.{is_equal, same_path_is, same_name_is, same_name_itself, after_front-append, append-after_front, path_cmp-front, and_first, and_second}
+use Rattle.sf_inode.specs.Nodes.{entries_past}
 use Rattle.sf_keeps.proofs.Keyed.{lookup_below}
-use Rattle.sf_keeps.proofs.Orderly.{and_both, sorted_put}
+use Rattle.sf_keeps.proofs.Orderly.{and_both, sorted_filtered}
 use Rattle.sf_keeps.proofs.Shown.{same_path_itself}
 
 -- ---- what holds of all that look-ups find, holds of each entry
@@ -39,31 +38,11 @@ with_label label n = (n, label)
 
 module _ (last : Option Name) where
   -- ---- a directory's entries
-  pub sorted_sorted : (es : List (Name × ℕ)) → T (is_sorted name_cmp (sorted_past last es))
-  sorted_sorted [] = tt
-  sorted_sorted (e ∷ es) = elim (is_past last e.0) as (λ b. T (is_sorted name_cmp (if b then insert_entry name_cmp (sorted_past last es) e.0 e.1 else sorted_past last es))) [
-    | true ↦ sorted_put name_cmp name_total (sorted_past last es) e.0 e.1 (sorted_sorted es)
-    | false ↦ sorted_sorted es
-  ]
+  pub past_sorted : (es : List (Name × ℕ)) → T (is_sorted name_cmp es) → T (is_sorted name_cmp (entries_past last es))
+  past_sorted es h = sorted_filtered name_cmp (λ e. is_past last e.0) es h
 
-  pub sorted_found : (es : List (Name × ℕ)) (q : Name) → lookup (same_name q) (sorted_past last es) ≡ cond (is_past last q) (lookup (same_name q) es) None
-  sorted_found [] q = elim (is_past last q) as (λ b. ◌≡◌ {A = Option ℕ} None (cond b None None)) [ true ↦ refl | false ↦ refl ]
-  sorted_found (e ∷ es) q =
-      let rest = sorted_past last es in
-      elim (is_past last e.0) as (λ b. is_past last e.0 ≡ b → lookup (same_name q) (if b then insert_entry name_cmp rest e.0 e.1 else rest) ≡ cond (is_past last q) (cond (same_name q e.0) (Some e.1) (lookup (same_name q) es)) None) [
-        | true ↦ λ past. lookup-put name_cmp name_total rest e.0 e.1 q
-            ∙ elim (same_name q e.0) as (λ b. same_name q e.0 ≡ b → cond b (Some e.1) (lookup (same_name q) rest) ≡ cond (is_past last q) (cond b (Some e.1) (lookup (same_name q) es)) None) [
-              | true ↦ λ t. sym (ap (λ b. cond b (Some e.1) None) (ap (is_past last) (same_name_is q e.0 t) ∙ past))
-              | false ↦ λ t. sorted_found es q
-            ] refl
-        | false ↦ λ past. sorted_found es q
-            ∙ elim (same_name q e.0) as (λ b. same_name q e.0 ≡ b → cond (is_past last q) (lookup (same_name q) es) None ≡ cond (is_past last q) (cond b (Some e.1) (lookup (same_name q) es)) None) [
-              | true ↦ λ t.
-                  let out = ap (is_past last) (same_name_is q e.0 t) ∙ past in
-                  ap (λ b. cond b (lookup (same_name q) es) None) out ∙ sym (ap (λ b. cond b (Some e.1) None) out)
-              | false ↦ λ t. refl
-            ] refl
-      ] refl
+  pub past_lookup : (es : List (Name × ℕ)) (q : Name) → lookup (same_name q) (entries_past last es) ≡ cond (is_past last q) (lookup (same_name q) es) None
+  past_lookup es q = lookup-filter-keys (same_name q) (is_past last) (is_past last q) (λ k t. ap (is_past last) (sym (same_name_is q k t))) es
 
   -- ---- the tree's names right below a path, with their labels
   module _ (p : Path) where

@@ -14,11 +14,10 @@ use Rattle.sf_call.specs.Attributes.{Object}
 use Rattle.sf_call.specs.Tree.{Tree, directory_metadata, label_at, object_of}
 use Rattle.sf_call.specs.Listings as listings
 use Rattle.sf_call.specs.Listings.{is_past, name_past, listing, listing_of, names_of, path_of}
-use Rattle.sf_call.proofs.Orders.{exact_names}
-use Rattle.sf_call.proofs.MovedNames.{same_name_itself}
+use Rattle.sf_call.proofs.Laws.{exact_names, same_name_itself}
 use Rattle.sf_inode.specs.declared.node.Node.{Node}
 use Rattle.sf_inode.specs.declared.node.Content.TheVariants as content
-use Rattle.sf_inode.specs.Nodes.{entry_in, entries_in, object_in, is_directory_content, sorted_past}
+use Rattle.sf_inode.specs.Nodes.{entry_in, entries_in, object_in, is_directory_content, entries_past}
 use Rattle.sf_keeps.specs.Steps.{walk}
 use Rattle.sf_keeps.specs.Shows.{label_by, is_directory_by}
 use Rattle.sf_inode.specs.Stores.{StoreState, node_in, entry_of, entries_at, is_directory_at, shown_node}
@@ -29,8 +28,8 @@ use Rattle.sf_keeps.proofs.Shown.{once}
 use Rattle.sf_keeps.proofs.Sound.{never_reached}
 use Rattle.sf_keeps.proofs.Less.{led_by, unnamed}
 use Rattle.sf_keeps.proofs.Whole.{one_more}
-use Rattle.sf_keeps.proofs.Openings.{object_there, entry_node}
-use Rattle.sf_keeps.proofs.ListedNames.{each_found, sorted_sorted, sorted_found, with_label, child, child_found, child_sorted}
+use Rattle.sf_keeps.proofs.Openings.{object_there, entry_node, one_name}
+use Rattle.sf_keeps.proofs.ListedNames.{each_found, past_sorted, past_lookup, with_label, child, child_found, child_sorted}
 
 -- ---- a directory's path
 find_one : (p : Path) (label : ℕ) (names : List (Path × ℕ)) → AllByRecursion (λ e. nat_eq e.1 label ≡ true → e.0 ≡ p) names → label_at names p ≡ Some label → path_of names label ≡ Some p
@@ -94,7 +93,7 @@ module _ (s : StoreState) (t : Tree) (k : Keeps s t) (d : ℕ) where
 
   module _ (last : Option Name) where
     abbrev past : List (Name × ℕ)
-    past = sorted_past last (entries_at s.nodes d)
+    past = entries_past last (entries_at s.nodes d)
 
     abbrev labelled : Name × ℕ → Name × ℕ
     labelled e = (e.0, label_in e.1)
@@ -115,7 +114,7 @@ module _ (s : StoreState) (t : Tree) (k : Keeps s t) (d : ℕ) where
         entries_found q ∙ elim (is_past last q) as (λ b. cond b (lookup (same_name q) (entries_at s.nodes d)) None ≡ Some c → lookup (same_name q) (entries_at s.nodes d) ≡ Some c) [
           | true ↦ λ e. e
           | false ↦ λ e. cc
-        ] (sym (sorted_found last (entries_at s.nodes d) q) ∙ l)
+        ] (sym (past_lookup last (entries_at s.nodes d) q) ∙ l)
 
     is_listed : (q : Name) (c : ℕ) → lookup (same_name q) past ≡ Some c → IsListed (q, c)
     is_listed q c l =
@@ -126,7 +125,7 @@ module _ (s : StoreState) (t : Tree) (k : Keeps s t) (d : ℕ) where
         )
 
     all_listed : AllByRecursion IsListed past
-    all_listed = each_found name_cmp name_total IsListed past (sorted_sorted last (entries_at s.nodes d)) is_listed
+    all_listed = each_found name_cmp name_total IsListed past (past_sorted last (entries_at s.nodes d) (k.entries d)) is_listed
 
     listed_first : (n : ℕ) (es : List (Name × ℕ)) → AllByRecursion IsListed es → take n (filter_map shown_label (map labelled es)) ≡ filter_map (listed_entry s.nodes) (take n es)
     listed_first zero [] all = refl
@@ -175,11 +174,11 @@ module _ (s : StoreState) (t : Tree) (k : Keeps s t) (d : ℕ) where
 
       same_names : filter_map (child last p) t.names ≡ map labelled past
       same_names = same_sorted name_cmp name_total exact_names (filter_map (child last p) t.names) (map labelled past)
-          (child_sorted last p t.names k.shows.ordered.names) (sorted_mapped name_cmp label_in past (sorted_sorted last (entries_at s.nodes d)))
+          (child_sorted last p t.names k.shows.ordered.names) (sorted_mapped name_cmp label_in past (past_sorted last (entries_at s.nodes d) (k.entries d)))
           (λ q. child_found last p t.names q
           ∙ ap (λ (o : Option ℕ). cond (is_past last q) o None) (name_found q ∙ ap (option_map label_in) (entries_found q))
           ∙ mapped (is_past last q) (lookup (same_name q) (entries_at s.nodes d))
-          ∙ sym (lookup-map_values label_in (same_name q) past ∙ ap (option_map label_in) (sorted_found last (entries_at s.nodes d) q)))
+          ∙ sym (lookup-map_values label_in (same_name q) past ∙ ap (option_map label_in) (past_lookup last (entries_at s.nodes d) q)))
 
       by_labels : (names : List (Path × ℕ)) → filter_map (listings.listed_entry t p last) names ≡ filter_map shown_label (filter_map (child last p) names)
       by_labels [] = refl
@@ -195,12 +194,12 @@ module _ (s : StoreState) (t : Tree) (k : Keeps s t) (d : ℕ) where
 
     -- ---- a directory that is there, by its label: one that no path leads to any more has no entries
     pub label_listed : (node : Node) → node_in s.nodes d ≡ Some node → is_directory_content node.content ≡ true → listing_of t last (path_of t.names node.label) ≡ filter_map (listed_entry s.nodes) (take MAX_ENTRIES past)
-    label_listed node here dir = elim node.named as (λ b. node.named ≡ b → listing_of t last (path_of t.names node.label) ≡ filter_map (listed_entry s.nodes) (take MAX_ENTRIES past)) [
-      | true ↦ λ e.
-          let w = k.named d node here e in
-          ap (listing_of t last) (path_found node here w.0 w.1 dir) ∙ listing_found w.0 w.1
+    label_listed node here dir = elim (nat_eq node.names 0) as (λ b. nat_eq node.names 0 ≡ b → listing_of t last (path_of t.names node.label) ≡ filter_map (listed_entry s.nodes) (take MAX_ENTRIES past)) [
       | false ↦ λ e.
-          let u = k.unlinked d node here e in
+          let w = k.named d node here (one_name node.names (k.once d node here) e) in
+          ap (listing_of t last) (path_found node here w.0 w.1 dir) ∙ listing_found w.0 w.1
+      | true ↦ λ e.
+          let u = k.unlinked d node here (eqb-true node.names 0 e) in
           ap (listing_of t last) (no_path node here u)
-          ∙ sym (ap (λ (es : List (Name × ℕ)). filter_map (listed_entry s.nodes) (take MAX_ENTRIES (sorted_past last es))) (no_entries (entries_at s.nodes d) (λ q. sym (entries_found q) ∙ u.bare q)))
+          ∙ sym (ap (λ (es : List (Name × ℕ)). filter_map (listed_entry s.nodes) (take MAX_ENTRIES (entries_past last es))) (no_entries (entries_at s.nodes d) (λ q. sym (entries_found q) ∙ u.bare q)))
     ] refl

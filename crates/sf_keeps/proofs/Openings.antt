@@ -1,5 +1,5 @@
 -- What opens a node of a kept store, and what names it.
-use Rattle.std.specs.Prelude.{◌≡◌, ℕ, ◌+◌, nat_eq, Bool, true, false, cond, ◌||◌, List, [], ◌∷◌, option_map, Some, None, refl}
+use Rattle.std.specs.Prelude.{◌≡◌, ℕ, zero, suc, ◌+◌, ◌≤◌, nat_eq, Bool, true, false, cond, ◌||◌, List, [], ◌∷◌, option_map, Some, None, refl}
 use Rattle.std.proofs.Common.{sym, ap, ◌∙◌, arith, eqb-true}
 use Rattle.std.specs.List.{list_any, count_by}
 use Rattle.std.proofs.lemmas.List.Sums.{sum_by-cons}
@@ -33,6 +33,11 @@ none_counted f (e ∷ es) a =
       | true ↦ λ a. cc
       | false ↦ λ a. omega (arith, none_counted f es a)
     ] a
+
+-- a name at most that is not none
+pub one_name : (n : ℕ) → n ≤ 1 → nat_eq n 0 ≡ false → n ≡ 1
+one_name zero h e = cc
+one_name (suc n) h e = omega (arith, h)
 
 -- a handle of the label
 pub record Opener (s : StoreState) (label : ℕ) : Type 0 where
@@ -79,16 +84,16 @@ module _ (s : StoreState) (t : Tree) (k : Keeps s t) where
   object_there i x at = k.shows.by.objects i x.label (object_in x.metadata x.content) (ap (option_map shown_node) at)
 
   -- an entry leads to a node that has one
-  pub entry_node : (x c : ℕ) (n : Name) → entry_of s.nodes x n ≡ Some c → (node : Node) × (node_in s.nodes c ≡ Some node) × (node.named ≡ true)
+  pub entry_node : (x c : ℕ) (n : Name) → entry_of s.nodes x n ≡ Some c → (node : Node) × (node_in s.nodes c ≡ Some node) × (node.names ≡ 1)
   entry_node x c n there =
-      elim (node_in s.nodes c) as (λ o. node_in s.nodes c ≡ o → (node : Node) × (o ≡ Some node) × (node.named ≡ true)) [
+      elim (node_in s.nodes c) as (λ o. node_in s.nodes c ≡ o → (node : Node) × (o ≡ Some node) × (node.names ≡ 1)) [
         | None ↦ λ e. absurd (k.shows.by.sound.to x c n there (ap (option_map shown_node) e))
         | Some node ↦ λ e. (
           node,
           refl,
-          elim node.named as (λ b. node.named ≡ b → b ≡ true) [
-            | true ↦ λ _. refl
-            | false ↦ λ f. absurd ((k.unlinked c node e f).free x n there)
+          elim (nat_eq node.names 0) as (λ b. nat_eq node.names 0 ≡ b → node.names ≡ 1) [
+            | true ↦ λ f. absurd ((k.unlinked c node e (eqb-true node.names 0 f)).free x n there)
+            | false ↦ λ f. one_name node.names (k.once c node e) f
           ] refl,
         )
       ] refl

@@ -9,8 +9,7 @@ use Rattle.std.specs.BTreeMap.{is_at, insert_entry}
 use Rattle.std.specs.FinMap.{is_sorted, IsAntisymmetric}
 use Rattle.std.specs.FinMap.Entries as entries
 use Rattle.std.specs.FinMap.Entries.{below_all, is_sorted-put}
-use Rattle.sf_call.proofs.Ordered.{put_is, and_first, and_second}
-use Rattle.sf_call.proofs.Orders.{find_is}
+use Rattle.sf_call.proofs.Laws.{put_is, and_first, and_second, find_is}
 
 pub and_both : (a b : Bool) → T a → T b → T (a && b)
 and_both true b p q = q

@@ -10,8 +10,7 @@ use Rattle.sf_call.specs.Tree.{Tree, IsOrderedTree, after_front, label_at, objec
 use Rattle.sf_call.specs.Moves.{moved}
 use Rattle.sf_call.specs.Changes.{changed}
 use Rattle.sf_call.specs.Changes.Change.{Move}
-use Rattle.sf_call.proofs.MovedNames.{after_front-append, append-after_front, at_old, lookup-moved, moved_to_new, moved_outside}
-use Rattle.sf_call.proofs.Ordered.{ordered_changed}
+use Rattle.sf_call.proofs.Laws.{after_front-append, append-after_front, at_old, lookup-moved, moved_to_new, moved_outside, ordered_changed}
 use Rattle.sf_keeps.specs.Steps.{Steps, walk, changed_step}
 use Rattle.sf_keeps.specs.Shows.{View, ShowsBy, Shows, label_by, is_directory_by, with_step, with_shown}
 use Rattle.sf_keeps.proofs.Walks.{walk-append, Avoids, LeadsOnce, led, walk_changed, walk_apart}

@@ -11,8 +11,7 @@ use Rattle.sf_call.specs.Attributes.{Object}
 use Rattle.sf_call.specs.Tree.{Tree, directory_metadata, after_front, label_at, object_of}
 use Rattle.sf_call.specs.Changes.{changed}
 use Rattle.sf_call.specs.Changes.Change.{SetObject, NewPath}
-use Rattle.sf_call.proofs.MovedNames.{is_equal, same_path_is, after_front-append, append-after_front}
-use Rattle.sf_call.proofs.LookUps.{lookup-put}
+use Rattle.sf_call.proofs.Laws.{is_equal, same_path_is, after_front-append, append-after_front, lookup-put}
 use Rattle.sf_keeps.specs.Steps.{walk}
 use Rattle.sf_keeps.specs.Shows.{View, ShowsBy, label_by, is_directory_by, changed_shown, with_step, with_shown}
 use Rattle.sf_keeps.proofs.Walks.{walk-append, Avoids, LeadsOnce, led, walk_changed}

@@ -5,7 +5,7 @@ use Rattle.sf_path.specs.Names.{Name, Path}
 use Rattle.sf_path.specs.Order.{same_name}
 use Rattle.sf_call.specs.Attributes.{Object}
 use Rattle.sf_call.specs.Tree.{directory_metadata}
-use Rattle.sf_call.proofs.MovedNames.{same_name_is, same_name_itself}
+use Rattle.sf_call.proofs.Laws.{same_name_is, same_name_itself}
 use Rattle.sf_keeps.specs.Steps.{Steps, walk, changed_step}
 use Rattle.sf_keeps.specs.Shows.{Shown, IsSound, is_directory_by, changed_shown}
 

@@ -7,7 +7,7 @@ use Rattle.std.specs.Map.{lookup, set_value, remove_entry}
 use Rattle.std.specs.BTreeMap.{is_at, insert_entry}
 use Rattle.std.specs.FinMap.{is_sorted}
 use Rattle.sf_path.specs.Names.{Name}
-use Rattle.sf_call.proofs.LookUps.{lookup-put}
+use Rattle.sf_call.proofs.Laws.{lookup-put}
 use Rattle.sf_inode.specs.declared.handle.OpenHandle.{OpenHandle}
 use Rattle.sf_keeps.specs.Shows.{with_opens}
 use Rattle.sf_inode.specs.Stores.{StoreState, handle_at, handles_of, shown_handle, with_sessions, handles_put, handle_put, handle_dropped, with_last, listed_by, listed_at, handle_listed}

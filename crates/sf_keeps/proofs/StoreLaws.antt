@@ -1,10 +1,7 @@
 -- What can be seen of a store after each change of its nodes.
-use Rattle.std.specs.Prelude.{◌≡◌, ℕ, suc, zero, ◌<◌, nat_eq, Bool, true, false, cond, not, ◌&&◌, List, [], ◌∷◌, ◌++◌, length, is_some, option_map, option_and_then, Option, Some, None, slice_set, refl}
+use Rattle.std.specs.Prelude.{◌≡◌, ℕ, suc, zero, ◌-◌, ◌<◌, nat_eq, Bool, true, false, cond, ◌&&◌, List, [], ◌∷◌, ◌++◌, length, is_some, option_map, option_and_then, Option, Some, None, slice_set, refl}
 use Rattle.std.proofs.Common.{sym, ap, subst, ◌∙◌, eqb-true, eq-eqb, arith, get_or-set_same, get_or-set_other}
 use Rattle.std.specs.Map.{lookup}
-use Rattle.std.specs.FinMap.{find}
-use Rattle.std.specs.FinMap.Entries.{find-append}
-use Rattle.std.proofs.lemmas.Map.Entries.{lookup-filter-keys}
 use Rattle.sf_path.specs.Names.{Name, Path}
 use Rattle.sf_path.specs.Order.{same_name, name_cmp, name_total}
 use Rattle.sf_call.specs.declared.handle.Handle.{Handle}
@@ -13,7 +10,7 @@ use Rattle.sf_call.specs.Attributes.{Object}
 use Rattle.sf_call.specs.Tree.{Tree, directory_metadata, object_of}
 use Rattle.sf_call.specs.Changes.{changed}
 use Rattle.sf_call.specs.Changes.Change.{SetObject, NewPath, GonePath}
-use Rattle.sf_call.proofs.MovedNames.{same_name_is, same_name_itself}
+use Rattle.sf_call.proofs.Laws.{same_name_is, same_name_itself, lookup-put}
 use Rattle.sf_inode.specs.declared.node.Node.{Node}
 use Rattle.sf_inode.specs.declared.node.Content.{Content}
 use Rattle.sf_inode.specs.declared.node.Content.TheVariants as content
@@ -23,6 +20,8 @@ use Rattle.sf_keeps.specs.Steps.{walk, changed_step}
 use Rattle.sf_keeps.specs.Shows.{View, Shows, is_directory_by, changed_shown, with_step, with_shown}
 use Rattle.sf_inode.specs.Stores.{StoreState, node_in, entry_of, shown_node, shown_of, edited_by, edited, entry_taken, entry_put, with_nodes, released_if, released, forgotten, unlinked_from, unlinked, Inserted}
 use Rattle.sf_keeps.specs.Keeps.{view_of}
+use Rattle.sf_keeps.proofs.Keyed.{lookup-removed}
+use Rattle.sf_keeps.proofs.InOrder.{IsInOrder}
 use Rattle.sf_keeps.proofs.Sound.{HasNoEntry, IsBare}
 use Rattle.sf_keeps.proofs.Shown.{nat_eq_apart, same_apart}
 use Rattle.sf_keeps.proofs.Less.{IsClosed}
@@ -86,11 +85,9 @@ module _ (before after : List (Option Node)) (d : ℕ) (node node' : Node) (at :
       ] refl
 
 -- ---- entries of a directory
-pub less_says : (n m : Name) (c : Content) → entry_in (less_content n c) m ≡ cond (same_name n m) None (entry_in c m)
-less_says n m (content.File contents) = elim (same_name n m) as (λ b. ◌≡◌ {A = Option ℕ} None (cond b None None)) [ true ↦ refl | false ↦ refl ]
-less_says n m (content.Directory es) =
-    lookup-filter-keys (same_name m) (λ k. not (same_name n k)) (not (same_name n m)) (λ k t. ap (λ (z : Name). not (same_name n z)) (sym (same_name_is m k t))) es
-    ∙ elim (same_name n m) as (λ b. cond (not b) (lookup (same_name m) es) None ≡ cond b None (lookup (same_name m) es)) [ true ↦ refl | false ↦ refl ]
+pub less_says : (n m : Name) (c : Content) → IsInOrder c → entry_in (less_content n c) m ≡ cond (same_name n m) None (entry_in c m)
+less_says n m (content.File contents) h = elim (same_name n m) as (λ b. ◌≡◌ {A = Option ℕ} None (cond b None None)) [ true ↦ refl | false ↦ refl ]
+less_says n m (content.Directory es) h = lookup-removed name_cmp name_total es n m h
 
 flip_name : (n m : Name) → same_name n m ≡ same_name m n
 flip_name n m = elim (same_name n m) as (λ b. same_name n m ≡ b → b ≡ same_name m n) [
@@ -101,25 +98,19 @@ flip_name n m = elim (same_name n m) as (λ b. same_name n m ≡ b → b ≡ sam
   ] refl
 ] refl
 
-find_is : (es : List (Name × ℕ)) (q : Name) → lookup (same_name q) es ≡ find name_cmp q es
-find_is [] q = refl
-find_is (e ∷ es) q = ap (cond (same_name q e.0) (Some e.1)) (find_is es q)
-
-pub more_says : (n m : Name) (c : ℕ) (es : List (Name × ℕ)) → lookup (same_name n) es ≡ None → entry_in (more_content n c (content.Directory es)) m ≡ cond (same_name n m) (Some c) (lookup (same_name m) es)
-more_says n m c es free =
-    find_is (es ++ (n, c) ∷ []) m ∙ find-append name_cmp name_total es n c m (sym (find_is es n) ∙ free)
-    ∙ ap (λ b. cond b (Some c) (find name_cmp m es)) (flip_name m n) ∙ ap (cond (same_name n m) (Some c)) (sym (find_is es m))
+pub more_says : (n m : Name) (c : ℕ) (es : List (Name × ℕ)) → entry_in (more_content n c (content.Directory es)) m ≡ cond (same_name n m) (Some c) (lookup (same_name m) es)
+more_says n m c es = lookup-put name_cmp name_total es n c m ∙ ap (λ b. cond b (Some c) (lookup (same_name m) es)) (flip_name m n)
 
 pub object_less : (n : Name) (m : Metadata) (c : Content) → object_in m (less_content n c) ≡ object_in m c
 object_less n m (content.Directory es) = refl
 object_less n m (content.File contents) = refl
 
 -- an entry less is a step less, and nothing else is seen
-pub view_taken : (s : StoreState) (d : ℕ) (n : Name) (node : Node) → node_in s.nodes d ≡ Some node → view_of (entry_taken s d n) ≡ with_step (view_of s) d n None
-view_taken s d n node here =
+pub view_taken : (s : StoreState) (d : ℕ) (n : Name) (node : Node) → IsInOrder node.content → node_in s.nodes d ≡ Some node → view_of (entry_taken s d n) ≡ with_step (view_of s) d n None
+view_taken s d n node ordered here =
     let put = node_in-edited (with_content (less_content n)) s d node here in
     same_view (with_step (view_of s) d n None) (view_of (entry_taken s d n))
-    (step_changed s.nodes (entry_taken s d n).nodes d node (with_content (less_content n) node) here put n None (λ m. less_says n m node.content))
+    (step_changed s.nodes (entry_taken s d n).nodes d node (with_content (less_content n) node) here put n None (λ m. less_says n m node.content ordered))
     (shown_same s.nodes (entry_taken s d n).nodes d node (with_content (less_content n) node) here put (λ i. (node.label, object_less n node.metadata node.content i)))
     refl (λ a b. refl)
 
@@ -161,7 +152,7 @@ shows_inserted old new t p d n c node above es did h at here dir free bare fresh
     let mid_c : node_in mid c ≡ None = put c ∙ ap (λ b. cond b (Some more) (node_in old.nodes c)) apart ∙ did.fresh in
     let all : (i : ℕ) → node_in new.nodes i ≡ cond (nat_eq c i) (Some node) (node_in mid i) = λ i. sym (at_id (Option Node) c i (Some node) (node_in mid i) (node_in new.nodes i) (λ e. sym (ap (node_in new.nodes) (sym (eqb-true c i e)) ∙ did.at)) (λ e. sym (did.others i (λ f. same_apart c i e (sym f))))) in
     let says : (m : Name) → entry_in (more_content n c above.content) m ≡ cond (same_name n m) (Some c) (entry_in above.content m) =
-    λ m. subst (λ (z : Content). entry_in (more_content n c z) m ≡ cond (same_name n m) (Some c) (entry_in z m)) (sym dir) (more_says n m c es free) in
+    λ m. subst (λ (z : Content). entry_in (more_content n c z) m ≡ cond (same_name n m) (Some c) (entry_in z m)) (sym dir) (more_says n m c es) in
     let same : shown_node more ≡ shown_node above = λ i. (above.label, subst (λ (z : Content). object_in above.metadata (more_content n c z) ≡ object_in above.metadata z) (sym dir) refl i) in
     let is : is_directory_by (shown_of old.nodes) d ≡ true = ap (λ (v : Option Node). is_some (option_and_then (λ (w : ℕ × Object). directory_metadata w.1) (option_map shown_node v))) here ∙ ap (λ (z : Content). is_some (directory_metadata (object_in above.metadata z))) dir in
     along (with_step (with_shown (view_of old) c (Some (shown_node node))) d n (Some c)) (view_of new) (changed t (NewPath (p ++ n ∷ []) node.label o))
@@ -220,9 +211,13 @@ module _ (f : Node → Node) (s : StoreState) (c : ℕ) (node : Node) (here : no
       refl (λ a b. refl)
       ∙ ap (λ (v : View). with_shown v c None) view_unseen
 
+-- what lost its only name is unused unless it is open
+pub unused_left : (node : Node) → node.names ≡ 1 → is_unused (without_name node) ≡ nat_eq node.opens 0
+unused_left node one = ap (λ (n : ℕ). nat_eq (n - 1) 0 && nat_eq node.opens 0) one
+
 -- ---- an entry taken out, and its node let go
 module _ (s : StoreState) (t : Tree) (h : Shows (view_of s) t) (p : Path) (d : ℕ) (n : Name) (c : ℕ) (above node : Node)
-    (at : walk (entry_of s.nodes) s.root p ≡ Some d) (here : node_in s.nodes d ≡ Some above) (there : entry_of s.nodes d n ≡ Some c) (is : node_in s.nodes c ≡ Some node) (bare : IsBare (entry_of s.nodes) c) where
+    (ordered : IsInOrder above.content) (at : walk (entry_of s.nodes) s.root p ≡ Some d) (here : node_in s.nodes d ≡ Some above) (there : entry_of s.nodes d n ≡ Some c) (is : node_in s.nodes c ≡ Some node) (one : node.names ≡ 1) (bare : IsBare (entry_of s.nodes) c) where
   apart : nat_eq d c ≡ false
   apart = nat_eq_apart d c (λ e. let f = ap (λ (x : ℕ). entry_of s.nodes x n) e in let g = bare n in cc)
 
@@ -230,7 +225,7 @@ module _ (s : StoreState) (t : Tree) (h : Shows (view_of s) t) (p : Path) (d : �
   still = node_in-edited (with_content (less_content n)) s d above here c ∙ ap (λ b. cond b (Some (with_content (less_content n) above)) (node_in s.nodes c)) apart ∙ is
 
   view_less : view_of (entry_taken s d n) ≡ with_step (view_of s) d n None
-  view_less = view_taken s d n above here
+  view_less = view_taken s d n above ordered here
 
   bare_less : IsBare (entry_of (entry_taken s d n).nodes) c
   bare_less m = ap (λ (v : View). v.step c m) view_less ∙ ap (λ b. cond (b && same_name n m) None (entry_of s.nodes c m)) apart ∙ bare m
@@ -242,11 +237,11 @@ module _ (s : StoreState) (t : Tree) (h : Shows (view_of s) t) (p : Path) (d : �
   shows_unlinked_gone free closed unopened =
       let bare_step : IsBare (changed_step (entry_of s.nodes) d n None) c = λ m. sym (ap (λ (v : View). v.step c m) view_less) ∙ bare_less m in
       subst (λ (v : View). Shows v (changed t (GonePath (p ++ n ∷ []))))
-      (sym (ap view_of is_unlinked ∙ view_goes without_name (entry_taken s d n) c node still (λ m. refl) refl bare_less unopened ∙ ap (λ (v : View). with_shown v c None) view_less))
+      (sym (ap view_of is_unlinked ∙ view_goes without_name (entry_taken s d n) c node still (λ m. refl) refl bare_less (unused_left node one ∙ unopened) ∙ ap (λ (v : View). with_shown v c None) view_less))
       (shows_gone (view_of s) t h p d n c node.label (object_in node.metadata node.content) at there bare (ap (option_map shown_node) is) free bare_step closed)
 
   pub shows_unlinked_open : (session number : ℕ) (handle : Handle) → (view_of s).opens session number ≡ Some handle → handle.label ≡ node.label → nat_eq node.opens 0 ≡ false → Shows (view_of (unlinked s d n)) (changed t (GonePath (p ++ n ∷ [])))
   shows_unlinked_open session number handle opens same opened =
       subst (λ (v : View). Shows v (changed t (GonePath (p ++ n ∷ []))))
-      (sym (ap view_of is_unlinked ∙ view_stays without_name (entry_taken s d n) c node still (λ m. refl) refl opened ∙ view_less))
+      (sym (ap view_of is_unlinked ∙ view_stays without_name (entry_taken s d n) c node still (λ m. refl) refl (unused_left node one ∙ opened) ∙ view_less))
       (shows_gone_open (view_of s) t h p d n c node.label (object_in node.metadata node.content) at there bare (ap (option_map shown_node) is) session number handle opens same)

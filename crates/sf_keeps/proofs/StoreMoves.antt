@@ -1,34 +1,28 @@
 -- What can be seen of a store after an entry was moved, and after a handle was closed.
-use Rattle.std.specs.Prelude.{◌≡◌, ℕ, nat_eq, Bool, true, false, cond, ◌&&◌, List, [], ◌∷◌, ◌++◌, is_some, option_map, option_and_then, Option, Some, None, IsSome, refl}
+use Rattle.std.specs.Prelude.{◌≡◌, ℕ, nat_eq, Bool, true, false, cond, ◌&&◌, List, [], ◌∷◌, ◌++◌, is_some, option_map, option_and_then, Option, Some, None, refl}
 use Rattle.std.proofs.Common.{sym, ap, subst, ◌∙◌, eqb-true}
-use Rattle.std.specs.Cmp.{eq_by_cmp_equiv}
-use Rattle.std.specs.Map.{lookup}
-use Rattle.std.proofs.lemmas.Map.{lookup-set_value}
 use Rattle.sf_path.specs.Names.{Name, Path}
-use Rattle.sf_path.specs.Order.{same_name, name_total}
+use Rattle.sf_path.specs.Order.{same_name}
 use Rattle.sf_call.specs.declared.handle.Handle.{Handle}
 use Rattle.sf_call.specs.Attributes.{Object}
 use Rattle.sf_call.specs.Tree.{Tree, after_front, directory_metadata}
 use Rattle.sf_call.specs.Changes.{changed}
 use Rattle.sf_call.specs.Changes.Change.{Move}
-use Rattle.sf_call.proofs.MovedNames.{same_name_is}
+use Rattle.sf_call.proofs.Laws.{same_name_is}
 use Rattle.sf_inode.specs.declared.node.Node.{Node}
 use Rattle.sf_inode.specs.declared.node.Content.{Content}
 use Rattle.sf_inode.specs.declared.node.Content.TheVariants as content
-use Rattle.sf_inode.specs.Nodes.{entry_in, object_in, less_content, more_content, set_content, with_content, without_name}
+use Rattle.sf_inode.specs.Nodes.{entry_in, object_in, less_content, more_content, with_content, without_name}
 use Rattle.sf_keeps.specs.Steps.{walk, changed_step}
 use Rattle.sf_keeps.specs.Shows.{View, Shows, is_directory_by, with_step, with_shown}
-use Rattle.sf_inode.specs.Stores.{StoreState, node_in, entry_of, shown_node, shown_of, edited, entry_taken, entry_put, forgotten, relinked_from, relinked}
+use Rattle.sf_inode.specs.Stores.{StoreState, node_in, entry_of, shown_node, shown_of, edited, entry_put, forgotten, moved_entry, relinked_from, relinked}
 use Rattle.sf_keeps.specs.Keeps.{view_of}
+use Rattle.sf_keeps.proofs.InOrder.{InOrder, node_in_order, in_order_put, less_in_order, more_in_order}
 use Rattle.sf_keeps.proofs.Sound.{HasNoEntry, IsBare}
 use Rattle.sf_keeps.proofs.Shown.{once, nat_eq_apart, after_front-self}
 use Rattle.sf_keeps.proofs.Less.{IsClosed}
 use Rattle.sf_keeps.proofs.Relinked.{shows_move, shows_replaced, shows_replaced_open}
-use Rattle.sf_keeps.proofs.StoreLaws.{same_view, node_in-edited, step_changed, shown_same, view_taken, more_says, view_stays, view_goes}
-
--- a name that leads to another node
-pub set_says : (n m : Name) (c : ℕ) (es : List (Name × ℕ)) → IsSome (lookup (same_name n) es) → entry_in (set_content n c (content.Directory es)) m ≡ cond (same_name n m) (Some c) (lookup (same_name m) es)
-set_says n m c es h = lookup-set_value (eq_by_cmp_equiv name_total) (same_name n) (λ x y t. ap (λ (z : Name). same_name z y) (same_name_is n x t)) m c es h
+use Rattle.sf_keeps.proofs.StoreLaws.{same_view, node_in-edited, step_changed, shown_same, view_taken, more_says, view_stays, view_goes, unused_left}
 
 both_true : (a b : Bool) → a && b ≡ true → (a ≡ true) × (b ≡ true)
 both_true true b = λ t. (refl, t)
@@ -66,12 +60,9 @@ other_there f s d x above node here there other =
 module _ (s : StoreState) (t : Tree) (h : Shows (view_of s) t) (po : Path) (od : ℕ) (on : Name) (pn : Path) (nd : ℕ) (nn : Name) (c : ℕ) (from above : Node) (es : List (Name × ℕ))
     (at_from : walk (entry_of s.nodes) s.root po ≡ Some od) (here_from : node_in s.nodes od ≡ Some from) (there : entry_of s.nodes od on ≡ Some c)
     (at_to : walk (entry_of s.nodes) s.root pn ≡ Some nd) (here_to : node_in s.nodes nd ≡ Some above) (dir : above.content ≡ content.Directory es)
-    (not_inside : after_front (po ++ on ∷ []) (pn ++ nn ∷ []) ≡ None) where
+    (not_inside : after_front (po ++ on ∷ []) (pn ++ nn ∷ []) ≡ None) (ordered : InOrder s.nodes) where
   pub is_to : is_directory_by (shown_of s.nodes) nd ≡ true
   is_to = ap (λ (v : Option Node). is_some (option_and_then (λ (w : ℕ × Object). directory_metadata w.1) (option_map shown_node v))) here_to ∙ ap (λ (z : Content). is_some (directory_metadata (object_in above.metadata z))) dir
-
-  pub entries_to : (m : Name) → entry_of s.nodes nd m ≡ lookup (same_name m) es
-  entries_to m = ap (option_and_then (λ (z : Node). entry_in z.content m)) here_to ∙ ap (λ (z : Content). entry_in z m) dir
 
   -- the entries are two
   pub apart : (x : ℕ) (m : Name) → nat_eq od x && same_name on m ≡ true → nat_eq nd x && same_name nn m ≡ true → ⊥
@@ -84,69 +75,69 @@ module _ (s : StoreState) (t : Tree) (h : Shows (view_of s) t) (po : Path) (od :
       let same : after_front (po ++ on ∷ []) (pn ++ nn ∷ []) ≡ after_front (po ++ on ∷ []) (po ++ on ∷ []) = λ i. after_front (po ++ on ∷ []) (way i ++ n i ∷ []) in
       let self = after_front-self (po ++ on ∷ []) in cc
 
-  module _ (g : Content → Content) (says : (m : Name) → entry_in (g above.content) m ≡ cond (same_name nn m) (Some c) (entry_in above.content m)) (keeps : object_in above.metadata (g above.content) ≡ object_in above.metadata above.content) where
-    pub view_moved : view_of (entry_taken (edited (with_content g) s nd) od on) ≡ with_step (with_step (view_of s) od on None) nd nn (Some c)
-    view_moved =
-        let mid = edited (with_content g) s nd in
-        let f = still_there (with_content g) s nd od above from here_to here_from in
-        view_taken mid od on f.0 f.1 ∙ ap (λ (v : View). with_step v od on None) (view_put g s nd nn c above here_to says keeps)
-        ∙ same_view (with_step (with_step (view_of s) od on None) nd nn (Some c)) (with_step (with_step (view_of s) nd nn (Some c)) od on None)
-        (λ x m. swapped (nat_eq od x && same_name on m) (nat_eq nd x && same_name nn m) c (entry_of s.nodes x m) (apart x m)) (λ x. refl) refl (λ a b. refl)
+  pub says_put : (m : Name) → entry_in (more_content nn c above.content) m ≡ cond (same_name nn m) (Some c) (entry_in above.content m)
+  says_put m = subst (λ (z : Content). entry_in (more_content nn c z) m ≡ cond (same_name nn m) (Some c) (entry_in z m)) (sym dir) (more_says nn m c es)
+
+  keeps_put : object_in above.metadata (more_content nn c above.content) ≡ object_in above.metadata above.content
+  keeps_put = subst (λ (z : Content). object_in above.metadata (more_content nn c z) ≡ object_in above.metadata z) (sym dir) refl
+
+  abbrev pub put : StoreState
+  put = entry_put s nd nn c
+
+  pub in_order_put_in : InOrder put.nodes
+  in_order_put_in = in_order_put s.nodes put.nodes nd (Some (with_content (more_content nn c) above)) ordered (node_in-edited (with_content (more_content nn c)) s nd above here_to)
+      (more_in_order nn c above.content (node_in_order s.nodes nd above ordered here_to))
+
+  pub view_moved : view_of (moved_entry s od on nd nn c) ≡ with_step (with_step (view_of s) od on None) nd nn (Some c)
+  view_moved =
+      let f = still_there (with_content (more_content nn c)) s nd od above from here_to here_from in
+      view_taken put od on f.0 (node_in_order put.nodes od f.0 in_order_put_in f.1) f.1 ∙ ap (λ (v : View). with_step v od on None) (view_put (more_content nn c) s nd nn c above here_to says_put keeps_put)
+      ∙ same_view (with_step (with_step (view_of s) od on None) nd nn (Some c)) (with_step (with_step (view_of s) nd nn (Some c)) od on None)
+      (λ x m. swapped (nat_eq od x && same_name on m) (nat_eq nd x && same_name nn m) c (entry_of s.nodes x m) (apart x m)) (λ x. refl) refl (λ a b. refl)
+
+  pub in_order_moved : InOrder (moved_entry s od on nd nn c).nodes
+  in_order_moved =
+      let f = still_there (with_content (more_content nn c)) s nd od above from here_to here_from in
+      in_order_put put.nodes (moved_entry s od on nd nn c).nodes od (Some (with_content (less_content on) f.0)) in_order_put_in (node_in-edited (with_content (less_content on)) put od f.0 f.1)
+      (less_in_order on f.0.content (node_in_order put.nodes od f.0 in_order_put_in f.1))
 
   -- ---- onto nothing
-  pub shows_relinked : lookup (same_name nn) es ≡ None → Shows (view_of (relinked s od on nd nn)) (changed t (Move (po ++ on ∷ []) (pn ++ nn ∷ [])))
-  shows_relinked free =
-      let none = entries_to nn ∙ free in
-      let is : relinked s od on nd nn ≡ entry_taken (entry_put s nd nn c) od on = ap (λ o. relinked_from s od on nd nn o (entry_of s.nodes nd nn)) there ∙ ap (relinked_from s od on nd nn (Some c)) none in
-      let says : (m : Name) → entry_in (more_content nn c above.content) m ≡ cond (same_name nn m) (Some c) (entry_in above.content m) =
-      λ m. subst (λ (z : Content). entry_in (more_content nn c z) m ≡ cond (same_name nn m) (Some c) (entry_in z m)) (sym dir) (more_says nn m c es free) in
-      let keeps : object_in above.metadata (more_content nn c above.content) ≡ object_in above.metadata above.content = subst (λ (z : Content). object_in above.metadata (more_content nn c z) ≡ object_in above.metadata z) (sym dir) refl in
-      subst (λ (v : View). Shows v (changed t (Move (po ++ on ∷ []) (pn ++ nn ∷ [])))) (sym (ap view_of is ∙ view_moved (more_content nn c) says keeps))
+  pub shows_relinked : entry_of s.nodes nd nn ≡ None → Shows (view_of (relinked s od on nd nn)) (changed t (Move (po ++ on ∷ []) (pn ++ nn ∷ [])))
+  shows_relinked none =
+      let is : relinked s od on nd nn ≡ moved_entry s od on nd nn c = ap (λ o. relinked_from s od on nd nn o (entry_of s.nodes nd nn)) there ∙ ap (relinked_from s od on nd nn (Some c)) none in
+      subst (λ (v : View). Shows v (changed t (Move (po ++ on ∷ []) (pn ++ nn ∷ [])))) (sym (ap view_of is ∙ view_moved))
       (shows_move (view_of s) t h po on od pn nn nd c at_from there at_to is_to not_inside none)
 
   -- ---- onto another node
-  module _ (target : ℕ) (gone : Node) (stood : lookup (same_name nn) es ≡ Some target) (is : node_in s.nodes target ≡ Some gone) (bare : IsBare (entry_of s.nodes) target) where
-    stood_step : entry_of s.nodes nd nn ≡ Some target
-    stood_step = entries_to nn ∙ stood
+  module _ (target : ℕ) (gone : Node) (stood : entry_of s.nodes nd nn ≡ Some target) (is : node_in s.nodes target ≡ Some gone) (one : gone.names ≡ 1) (bare : IsBare (entry_of s.nodes) target) where
+    pub is_relinked : relinked s od on nd nn ≡ forgotten (moved_entry s od on nd nn c) target
+    is_relinked = ap (λ o. relinked_from s od on nd nn o (entry_of s.nodes nd nn)) there ∙ ap (relinked_from s od on nd nn (Some c)) stood
 
-    pub is_relinked : relinked s od on nd nn ≡ forgotten (entry_taken (edited (with_content (set_content nn c)) s nd) od on) target
-    is_relinked = ap (λ o. relinked_from s od on nd nn o (entry_of s.nodes nd nn)) there ∙ ap (relinked_from s od on nd nn (Some c)) stood_step
-
-    says_set : (m : Name) → entry_in (set_content nn c above.content) m ≡ cond (same_name nn m) (Some c) (entry_in above.content m)
-    says_set m = subst (λ (z : Content). entry_in (set_content nn c z) m ≡ cond (same_name nn m) (Some c) (entry_in z m)) (sym dir) (set_says nn m c es (subst (λ x. IsSome x) (sym stood) refl))
-
-    keeps_set : object_in above.metadata (set_content nn c above.content) ≡ object_in above.metadata above.content
-    keeps_set = subst (λ (z : Content). object_in above.metadata (set_content nn c z) ≡ object_in above.metadata z) (sym dir) refl
-
-    pub view_set : view_of (entry_taken (edited (with_content (set_content nn c)) s nd) od on) ≡ with_step (with_step (view_of s) od on None) nd nn (Some c)
-    view_set = view_moved (set_content nn c) says_set keeps_set
-
-    pub target_there : node_in (entry_taken (edited (with_content (set_content nn c)) s nd) od on).nodes target ≡ Some gone
+    pub target_there : node_in (moved_entry s od on nd nn c).nodes target ≡ Some gone
     target_there =
-        let mid = edited (with_content (set_content nn c)) s nd in
-        let f = still_there (with_content (set_content nn c)) s nd od above from here_to here_from in
-        let first = other_there (with_content (set_content nn c)) s nd target above gone here_to is (λ e. let a = ap (λ (x : ℕ). entry_of s.nodes x nn) e in let b = bare nn in let d = stood_step in cc) in
-        other_there (with_content (less_content on)) mid od target f.0 gone f.1 first (λ e. let a = ap (λ (x : ℕ). entry_of s.nodes x on) e in let b = bare on in cc)
+        let f = still_there (with_content (more_content nn c)) s nd od above from here_to here_from in
+        let first = other_there (with_content (more_content nn c)) s nd target above gone here_to is (λ e. let a = ap (λ (x : ℕ). entry_of s.nodes x nn) e in let b = bare nn in cc) in
+        other_there (with_content (less_content on)) put od target f.0 gone f.1 first (λ e. let a = ap (λ (x : ℕ). entry_of s.nodes x on) e in let b = bare on in cc)
 
     -- the new entry is not the target's
     bare_moved : IsBare (changed_step (changed_step (entry_of s.nodes) od on None) nd nn (Some c)) target
     bare_moved m =
-        ap (λ b. cond (b && same_name nn m) (Some c) (changed_step (entry_of s.nodes) od on None target m)) (nat_eq_apart nd target (λ e. let a = ap (λ (x : ℕ). entry_of s.nodes x nn) e in let b = bare nn in let d = stood_step in cc))
+        ap (λ b. cond (b && same_name nn m) (Some c) (changed_step (entry_of s.nodes) od on None target m)) (nat_eq_apart nd target (λ e. let a = ap (λ (x : ℕ). entry_of s.nodes x nn) e in let b = bare nn in cc))
         ∙ ap (λ b. cond (b && same_name on m) None (entry_of s.nodes target m)) (nat_eq_apart od target (λ e. let a = ap (λ (x : ℕ). entry_of s.nodes x on) e in let b = bare on in cc)) ∙ bare m
 
     pub shows_relinked_gone : HasNoEntry (changed_step (changed_step (entry_of s.nodes) od on None) nd nn (Some c)) target → IsClosed (view_of s) gone.label → nat_eq gone.opens 0 ≡ true
         → Shows (view_of (relinked s od on nd nn)) (changed t (Move (po ++ on ∷ []) (pn ++ nn ∷ [])))
     shows_relinked_gone free closed unopened =
-        let after = entry_taken (edited (with_content (set_content nn c)) s nd) od on in
-        let bare_after : IsBare (entry_of after.nodes) target = λ m. ap (λ (v : View). v.step target m) view_set ∙ bare_moved m in
+        let after = moved_entry s od on nd nn c in
+        let bare_after : IsBare (entry_of after.nodes) target = λ m. ap (λ (v : View). v.step target m) view_moved ∙ bare_moved m in
         subst (λ (v : View). Shows v (changed t (Move (po ++ on ∷ []) (pn ++ nn ∷ []))))
-        (sym (ap view_of is_relinked ∙ view_goes without_name after target gone target_there (λ m. refl) refl bare_after unopened ∙ ap (λ (v : View). with_shown v target None) view_set))
-        (shows_replaced (view_of s) t h po on od pn nn nd c at_from there at_to is_to not_inside target gone.label (object_in gone.metadata gone.content) stood_step (ap (option_map shown_node) is) bare free bare_moved closed)
+        (sym (ap view_of is_relinked ∙ view_goes without_name after target gone target_there (λ m. refl) refl bare_after (unused_left gone one ∙ unopened) ∙ ap (λ (v : View). with_shown v target None) view_moved))
+        (shows_replaced (view_of s) t h po on od pn nn nd c at_from there at_to is_to not_inside target gone.label (object_in gone.metadata gone.content) stood (ap (option_map shown_node) is) bare free bare_moved closed)
 
     pub shows_relinked_open : (session number : ℕ) (handle : Handle) → (view_of s).opens session number ≡ Some handle → handle.label ≡ gone.label → nat_eq gone.opens 0 ≡ false
         → Shows (view_of (relinked s od on nd nn)) (changed t (Move (po ++ on ∷ []) (pn ++ nn ∷ [])))
     shows_relinked_open session number handle opens same opened =
-        let after = entry_taken (edited (with_content (set_content nn c)) s nd) od on in
+        let after = moved_entry s od on nd nn c in
         subst (λ (v : View). Shows v (changed t (Move (po ++ on ∷ []) (pn ++ nn ∷ []))))
-        (sym (ap view_of is_relinked ∙ view_stays without_name after target gone target_there (λ m. refl) refl opened ∙ view_set))
-        (shows_replaced_open (view_of s) t h po on od pn nn nd c at_from there at_to is_to not_inside target gone.label (object_in gone.metadata gone.content) stood_step (ap (option_map shown_node) is) bare session number handle opens same)
+        (sym (ap view_of is_relinked ∙ view_stays without_name after target gone target_there (λ m. refl) refl (unused_left gone one ∙ opened) ∙ view_moved))
+        (shows_replaced_open (view_of s) t h po on od pn nn nd c at_from there at_to is_to not_inside target gone.label (object_in gone.metadata gone.content) stood (ap (option_map shown_node) is) bare session number handle opens same)

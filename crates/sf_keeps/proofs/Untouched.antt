@@ -6,8 +6,8 @@ use Rattle.sf_call.specs.Attributes.{Object}
 use Rattle.sf_inode.specs.declared.node.Node.{Node}
 use Rattle.sf_inode.specs.declared.node.Content.{Content}
 use Rattle.sf_inode.specs.declared.node.Content.TheVariants as content
-use Rattle.sf_inode.specs.Nodes.{object_in, less_content, more_content, set_content, with_content, without_name, is_unused}
-use Rattle.sf_inode.specs.Stores.{StoreState, node_in, entry_of, shown_node, shown_of, holder_of, with_nodes, edited, edited_by, entry_taken, entry_put, released_if, forgotten, unlinked, unlinked_from, relinked, relinked_from, Inserted}
+use Rattle.sf_inode.specs.Nodes.{object_in, less_content, more_content, with_content, without_name, is_unused}
+use Rattle.sf_inode.specs.Stores.{StoreState, node_in, entry_of, shown_node, shown_of, holder_of, with_nodes, edited, edited_by, entry_taken, entry_put, released_if, forgotten, unlinked, unlinked_from, moved_entry, relinked, relinked_from, Inserted}
 use Rattle.sf_keeps.proofs.Shown.{nat_eq_apart, same_apart}
 use Rattle.sf_keeps.proofs.StoreLaws.{node_in-set, object_less}
 
@@ -79,18 +79,11 @@ more_alike : (n : Name) (id : ℕ) (node : Node) (c : Content) → object_in nod
 more_alike n id node (content.Directory es) = refl
 more_alike n id node (content.File contents) = refl
 
-set_alike : (n : Name) (id : ℕ) (node : Node) (c : Content) → object_in node.metadata (set_content n id c) ≡ object_in node.metadata c
-set_alike n id node (content.Directory es) = refl
-set_alike n id node (content.File contents) = refl
-
 sight_taken : (s : StoreState) (dir : ℕ) (n : Name) (i : ℕ) → sights (entry_taken s dir n).nodes i ≡ sights s.nodes i
 sight_taken s dir n i = sight_edited (with_content (less_content n)) (sight_entries (less_content n) (λ node. object_less n node.metadata node.content)) s dir i
 
 sight_put : (s : StoreState) (dir : ℕ) (n : Name) (id i : ℕ) → sights (entry_put s dir n id).nodes i ≡ sights s.nodes i
 sight_put s dir n id i = sight_edited (with_content (more_content n id)) (sight_entries (more_content n id) (λ node. more_alike n id node node.content)) s dir i
-
-sight_set : (s : StoreState) (dir : ℕ) (n : Name) (id i : ℕ) → sights (edited (with_content (set_content n id)) s dir).nodes i ≡ sights s.nodes i
-sight_set s dir n id i = sight_edited (with_content (set_content n id)) (sight_entries (set_content n id) (λ node. set_alike n id node node.content)) s dir i
 
 -- ---- one node gone
 released_apart : (s : StoreState) (c i : ℕ) (o : Option Node) → node_in s.nodes c ≡ o → nat_eq c i ≡ false → node_in (released_if s c o).nodes i ≡ node_in s.nodes i
@@ -125,8 +118,7 @@ sight_relinked : (s : StoreState) (dir : ℕ) (n : Name) (to : ℕ) (m : Name) (
 sight_relinked s dir n to m i None r e other = refl
 sight_relinked s dir n to m i (Some id) None e other = sight_taken (entry_put s to m id) dir n i ∙ sight_put s to m id i
 sight_relinked s dir n to m i (Some id) (Some c) e other =
-    let mid = edited (with_content (set_content m id)) s to in
-    sight_forgotten (entry_taken mid dir n) c i (not_there (entry_of s.nodes to m) c i e other) ∙ sight_taken mid dir n i ∙ sight_set s to m id i
+    sight_forgotten (moved_entry s dir n to m id) c i (not_there (entry_of s.nodes to m) c i e other) ∙ sight_taken (entry_put s to m id) dir n i ∙ sight_put s to m id i
 
 pub relinked_alike : (s : StoreState) (dir : ℕ) (n : Name) (to : ℕ) (m : Name) (i : ℕ) → entry_of s.nodes to m ≢ Some i → Alike (relinked s dir n to m).nodes s.nodes i
 relinked_alike s dir n to m i other = alike (relinked s dir n to m).nodes s.nodes i (sight_relinked s dir n to m i (entry_of s.nodes dir n) (entry_of s.nodes to m) refl other)

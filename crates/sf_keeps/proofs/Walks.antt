@@ -4,7 +4,7 @@ use Rattle.std.proofs.Common.{sym, ap, ◌∙◌, eqb-true, eq-eqb}
 use Rattle.sf_path.specs.Names.{Name, Path}
 use Rattle.sf_path.specs.Order.{same_name}
 use Rattle.sf_call.specs.Tree.{after_front}
-use Rattle.sf_call.proofs.MovedNames.{same_name_is, same_name_itself}
+use Rattle.sf_call.proofs.Laws.{same_name_is, same_name_itself}
 use Rattle.sf_keeps.specs.Steps.{Steps, walk, changed_step}
 
 pub walk-append : (step : Steps) (x : ℕ) (p q : Path) → walk step x (p ++ q) ≡ option_and_then (λ y. walk step y q) (walk step x p)

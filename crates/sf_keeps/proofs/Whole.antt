@@ -13,10 +13,7 @@ use Rattle.sf_call.specs.Attributes.{Object}
 use Rattle.sf_call.specs.Tree.{Tree, IsOrderedTree, directory_metadata, label_at, object_of, handle_of, is_used, with_names}
 use Rattle.sf_call.specs.Changes.{changed}
 use Rattle.sf_call.specs.Changes.Change.{SetObject, NewPath, GonePath}
-use Rattle.sf_call.proofs.MovedNames.{same_path_is}
-use Rattle.sf_call.proofs.Ordered.{ordered_changed}
-use Rattle.sf_call.proofs.Orders.{same_tree}
-use Rattle.sf_call.proofs.LookUps.{lookup-put}
+use Rattle.sf_call.proofs.Laws.{same_path_is, ordered_changed, same_tree, lookup-put}
 use Rattle.sf_keeps.specs.Steps.{walk, changed_step}
 use Rattle.sf_keeps.specs.Shows.{View, ShowsBy, Shows, AllUsed, label_by, is_directory_by, with_step, with_shown}
 use Rattle.sf_keeps.proofs.Walks.{walk-append}

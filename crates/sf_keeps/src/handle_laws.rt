@@ -14,7 +14,7 @@ ghost use Rattle.sf_call.specs.declared.limits.TheConstants.{MAX_ENTRIES};
 ghost use Rattle.sf_inode.specs.declared.node.Node.{Node};
 ghost use Rattle.sf_inode.specs.declared.handle.Marks.{Marks};
 ghost use Rattle.sf_inode.specs.declared.handle.OpenHandle.{OpenHandle};
-ghost use Rattle.sf_inode.specs.Nodes.{object_in, sorted_past};
+ghost use Rattle.sf_inode.specs.Nodes.{object_in, entries_past};
 ghost use Rattle.sf_keeps.specs.Steps.{walk};
 ghost use Rattle.sf_keeps.specs.Listed.{listed_entry};
 ghost use Rattle.sf_inode.specs.Stores.{StoreState, node_in, entry_of, entries_at, is_directory_at, handle_at, handles_of, shown_handle, opened, handle_listed, closed, closed_all};
@@ -59,8 +59,8 @@ pub fn listed_entries()
     ensures path { (s : StoreState) (t : Tree) (p : Path) (dir : ℕ) (node : Node) → Keeps s t → walk (entry_of s.nodes) s.root p ≡ Some dir → node_in s.nodes dir ≡ Some node → is_directory_at s.nodes dir ≡ true
         → path_of t.names node.label ≡ Some p }
     ensures listing { (s : StoreState) (t : Tree) (dir : ℕ) (node : Node) (last : Option Name) → Keeps s t → node_in s.nodes dir ≡ Some node → is_directory_at s.nodes dir ≡ true
-        → listing_of t last (path_of t.names node.label) ≡ filter_map (listed_entry s.nodes) (take MAX_ENTRIES (sorted_past last (entries_at s.nodes dir))) }
-    ensures nodes { (s : StoreState) (t : Tree) (dir : ℕ) (last : Option Name) → Keeps s t → All (λ e. (node : Node) × (node_in s.nodes e.1 ≡ Some node)) (take MAX_ENTRIES (sorted_past last (entries_at s.nodes dir))) }
+        → listing_of t last (path_of t.names node.label) ≡ filter_map (listed_entry s.nodes) (take MAX_ENTRIES (entries_past last (entries_at s.nodes dir))) }
+    ensures nodes { (s : StoreState) (t : Tree) (dir : ℕ) (last : Option Name) → Keeps s t → All (λ e. (node : Node) × (node_in s.nodes e.1 ≡ Some node)) (take MAX_ENTRIES (entries_past last (entries_at s.nodes dir))) }
     ensures names { (s : StoreState) (t : Tree) (dir : ℕ) (last : Option Name) → Keeps s t
-        → names_of (filter_map (listed_entry s.nodes) (take MAX_ENTRIES (sorted_past last (entries_at s.nodes dir)))) ≡ map (λ e. e.0) (take MAX_ENTRIES (sorted_past last (entries_at s.nodes dir))) }
+        → names_of (filter_map (listed_entry s.nodes) (take MAX_ENTRIES (entries_past last (entries_at s.nodes dir)))) ≡ map (λ e. e.0) (take MAX_ENTRIES (entries_past last (entries_at s.nodes dir))) }
 {}

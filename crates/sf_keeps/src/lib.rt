@@ -2,12 +2,12 @@
 #![tactic(auto)]
 
 mod handle_laws;
-mod laws;
+mod tree_laws;
 
 pub use handle_laws::{
     closed_handles, counted_handles, found_handles, listed_entries, listed_handles, opened_handles,
 };
-pub use laws::{
+pub use tree_laws::{
     changed_object, found_paths, gone_path, kept_nodes, kept_trees, moved_path, new_path,
     other_nodes, same_tree, shown_nodes,
 };

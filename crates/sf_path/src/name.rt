@@ -10,8 +10,9 @@ use std::alloc::{AllocError, Global};
 use std::cmp::Ordering;
 use std::marker::Model;
 
-/// How many bytes of a name need no block of memory of their own.
-const SHORT_NAME: usize = 24;
+/// How many bytes of a name need no block of memory of their own. With them a name takes 64 bytes, and the
+/// blocks of an ordered map of names are such as the C library gives back.
+const SHORT_NAME: usize = 48;
 
 /// The name of a file or a directory: 1 to 255 bytes without a slash and a byte 0, and neither `.` nor `..`.
 /// It need not be UTF-8.

@@ -5,6 +5,7 @@ use Rattle.std.proofs.lemmas.Bool.Decides.{nat_tests}
 use Rattle.sf_call.specs.declared.metadata.Metadata.{Metadata}
 use Rattle.sf_path.specs.Names.{Path}
 use Rattle.sf_call.specs.Tree.{Tree, directory_at, is_directory, is_faulty_way}
+use Rattle.sf_call.proofs.Laws.{open_way}
 
 not_false : (b : Bool) → ¬ (b ≡ false) → b ≡ true
 not_false true _ = refl
@@ -12,11 +13,10 @@ not_false false other = absurd (other refl)
 
 -- a front that is no directory makes the way faulty
 pub way_fails : (tree : Tree) (path front : Path) (n : ℕ) (found : Option (ℕ × Metadata))
-    → (is_faulty_way tree path ≡ false) ↔ ((k : ℕ) → k < length path → is_directory tree (take k path) ≡ true)
     → n < length path → front ≡ take n path → found ≡ directory_at tree front → is_some found ≡ false → is_faulty_way tree path ≡ true
-way_fails tree path front n found ways lt is looked none =
+way_fails tree path front n found lt is looked none =
     not_false (is_faulty_way tree path) (λ passes.
-    let there : is_directory tree (take n path) ≡ true = ways.0 passes n lt in
+    let there : is_directory tree (take n path) ≡ true = (open_way tree path).0 passes n lt in
     let absent : is_directory tree (take n path) ≡ false = ap (is_directory tree) (sym is) ∙ ap (λ (o : Option (ℕ × Metadata)). is_some o) (sym looked) ∙ none in
     cc)
 

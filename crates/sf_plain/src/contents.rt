@@ -1,7 +1,7 @@
 //! Bytes of files.
 
 ghost use Rattle.std.specs.Prelude.{◌≡◌, ◌+◌, ◌≤◌, ◌<◌, nat_lt, length, take, drop, min, IfOk};
-ghost use Rattle.sf_call.specs.Contents.{resized, written};
+ghost use Rattle.sf_block.specs.Contents.{resized, written};
 
 use sf_call::{MAX_FILE_SIZE, MAX_READ};
 use std::alloc::{AllocError, Global};

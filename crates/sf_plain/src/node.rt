@@ -11,7 +11,7 @@ ghost use Rattle.sf_plain.specs.Nodes.{object_of_parts};
 use crate::contents::resized;
 use crate::copies::TryCopy;
 use sf_call::{FileType, MAX_FILE_SIZE, Metadata};
-use sf_wire::{Attrs, ByteString};
+use sf_field::{Attrs, ByteString};
 use std::alloc::{AllocError, Global};
 use std::marker::Model;
 

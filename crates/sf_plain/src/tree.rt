@@ -13,9 +13,10 @@ ghost use Rattle.sf_call.specs.Calls.{apply, leave};
 use crate::copies::copy_of;
 use crate::node::Node;
 use crate::sweep::{close_all, sweep};
-use sf_call::{Handle, Metadata, Place, Request, fronts, open_ways};
+use sf_call::{Handle, Metadata, Place, Request};
+use sf_field::{Attrs, ByteString, Owner, Times};
 use sf_path::{Name, Path};
-use sf_wire::{Attrs, ByteString, Owner, Reply, StatusCode, Times};
+use sf_reply::{Reply, StatusCode};
 use std::alloc::{AllocError, Global};
 use std::collections::BTreeMap;
 use std::marker::Model;
@@ -156,7 +157,6 @@ impl PlainTree {
     fn is_faulty_way(&self, path: &Path) -> Result<bool, AllocError>
         ensures { IfOk result (λ faulty. faulty ≡ is_faulty_way self.now path.now) }
     {
-        open_ways();
         for n in 0..path.len() {
             let front = path.front(self.alloc, n)?;
             if self.directory_at(&front).is_none() {
@@ -199,7 +199,6 @@ impl PlainTree {
 pub(crate) fn name_in<'a>(directory: &Path, path: &'a Path) -> Option<&'a Name>
     ensures { option_copied result ≡ only_name (after_front directory.now path.now) }
 {
-    fronts();
     if path.begins_with(directory) && path.len().saturating_sub(directory.len()) == 1 {
         Some(path.name(directory.len()))
     } else {

@@ -1,9 +1,14 @@
 //! Each case of the calls, told by the replies and by the calls that follow.
 
 use sf_call::Request;
-use sf_path::Path;
+use sf_cases::requests::{
+    close, mkdir, open, open_dir, path, read, read_dir, remove, rmdir, set_handle, set_stat, stat,
+    stat_handle, write,
+};
+use sf_cases::{sized, whole};
+use sf_field::{Attrs, NO_ATTRS, Owner, Times};
 use sf_plain::PlainTree;
-use sf_wire::{Attrs, ByteString, Entry, NO_ATTRS, OpenFlags, Owner, Reply, StatusCode, Times};
+use sf_reply::{Entry, Reply, StatusCode};
 use std::alloc::Global;
 use std::process::Abort;
 use std::test::*;
@@ -98,96 +103,5 @@ impl Client {
             Reply::Names(listing) => listing.into_vec(),
             reply => panic!(rt; "call {}: {reply:?}", self.number),
         }
-    }
-}
-
-fn path(alloc: Global, text: &[u8]) -> Result<Path, Fail> {
-    Ok(Path::parse(alloc, text)?)
-}
-
-fn stat(alloc: Global, text: &[u8]) -> Result<Request, Fail> {
-    Ok(Request::Stat(path(alloc, text)?))
-}
-
-fn mkdir(alloc: Global, text: &[u8]) -> Result<Request, Fail> {
-    Ok(Request::Mkdir(path(alloc, text)?, NO_ATTRS))
-}
-
-fn rmdir(alloc: Global, text: &[u8]) -> Result<Request, Fail> {
-    Ok(Request::Rmdir(path(alloc, text)?))
-}
-
-fn remove(alloc: Global, text: &[u8]) -> Result<Request, Fail> {
-    Ok(Request::Remove(path(alloc, text)?))
-}
-
-fn open_dir(alloc: Global, text: &[u8]) -> Result<Request, Fail> {
-    Ok(Request::OpenDir(path(alloc, text)?))
-}
-
-fn set_stat(alloc: Global, text: &[u8], attrs: Attrs) -> Result<Request, Fail> {
-    Ok(Request::SetStat(path(alloc, text)?, attrs))
-}
-
-/// The letters of READ, WRITE, APPEND, CREAT, TRUNC and EXCL (`x`).
-fn open(alloc: Global, text: &[u8], letters: &[u8]) -> Result<Request, Fail> {
-    let flags = OpenFlags {
-        read: letters.contains(&b'r'),
-        write: letters.contains(&b'w'),
-        append: letters.contains(&b'a'),
-        create: letters.contains(&b'c'),
-        truncate: letters.contains(&b't'),
-        exclusive: letters.contains(&b'x'),
-    };
-    Ok(Request::Open(path(alloc, text)?, flags, NO_ATTRS))
-}
-
-fn read(handle: u64, offset: u64, len: u32) -> Result<Request, Fail> {
-    Ok(Request::Read {
-        handle,
-        offset,
-        len,
-    })
-}
-
-fn write(alloc: Global, handle: u64, offset: u64, bytes: &[u8]) -> Result<Request, Fail> {
-    let data = ByteString::from_slice(alloc, bytes)?;
-    Ok(Request::Write {
-        handle,
-        offset,
-        data,
-    })
-}
-
-fn close(handle: u64) -> Result<Request, Fail> {
-    Ok(Request::Close(handle))
-}
-
-fn stat_handle(handle: u64) -> Result<Request, Fail> {
-    Ok(Request::FStat(handle))
-}
-
-fn set_handle(handle: u64, attrs: Attrs) -> Result<Request, Fail> {
-    Ok(Request::FSetStat(handle, attrs))
-}
-
-fn read_dir(handle: u64) -> Result<Request, Fail> {
-    Ok(Request::ReadDir(handle))
-}
-
-fn sized(size: u64) -> Attrs {
-    Attrs {
-        size: Some(size),
-        ..NO_ATTRS
-    }
-}
-
-/// All four parts, of user 0 and group 0.
-fn whole(size: u64, permissions: u32, atime: u32, mtime: u32) -> Attrs {
-    Attrs {
-        size: Some(size),
-        owner: Some(Owner { uid: 0, gid: 0 }),
-        permissions: Some(permissions),
-        times: Some(Times { atime, mtime }),
     }
 }

@@ -2,3 +2,6 @@ pub mod Entries
 pub mod OneReply
 pub mod Columns
 pub mod LineLengths
+pub mod Laws
+pub mod ReplyReading
+pub mod ReadingLoop

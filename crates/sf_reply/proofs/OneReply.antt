@@ -14,9 +14,9 @@ use Rattle.sf_field.specs.Fields.{string}
 use Rattle.sf_field.specs.Attributes.{attrs_text, AttrsFit}
 use Rattle.sf_reply.specs.Replies.{entry_text, fields_of, kind_of_reply, reply_body, EntryFits, ReplyFits}
 use Rattle.sf_field.specs.Reading.{number_at, string_at, attrs_at}
-use Rattle.sf_field.proofs.FieldLaws.{reads_u32, reads_u64, reads_string}
-use Rattle.sf_field.proofs.AttributeLaws.{attrs_again}
-use Rattle.sf_field.proofs.SentAttributes.{sent_is_spelled}
+use Rattle.sf_field.proofs.Laws.{reads_u32, reads_u64, reads_string}
+use Rattle.sf_field.proofs.Laws.{attrs_again}
+use Rattle.sf_field.proofs.Laws.{sent_is_spelled}
 
 -- what is read from the front of equal bytes is equal
 same_front : {A : Type 0} (read : List ℕ → Option (A × List ℕ)) (x y : A) (s t a b : List ℕ) → read s ≡ Some (x, a) → read t ≡ Some (y, b) → s ≡ t → (x ≡ y) × (a ≡ b)

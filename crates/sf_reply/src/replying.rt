@@ -14,15 +14,15 @@ use std::alloc::AllocError;
 // The types of the packets that the server sends.
 const VERSION: u8 = 2;
 
-const STATUS: u8 = 101;
+pub(crate) const STATUS: u8 = 101;
 
-const HANDLE: u8 = 102;
+pub(crate) const HANDLE: u8 = 102;
 
-const DATA: u8 = 103;
+pub(crate) const DATA: u8 = 103;
 
-const NAME: u8 = 104;
+pub(crate) const NAME: u8 = 104;
 
-const ATTRS: u8 = 105;
+pub(crate) const ATTRS: u8 = 105;
 
 fn status_len(message: &[u8]) -> usize
     requires { length message.now < 2 ^ 32 }

@@ -12,7 +12,7 @@ use Rattle.sf_field.specs.Fields.{be32}
 use Rattle.sf_request.specs.Requests.{kind_of, is_request, posix_rename, SpellsFields, HasId, HasOtherName, IsUnknown, Asks}
 use Rattle.sf_field.specs.Reading.{number_at, string_at}
 use Rattle.sf_request.specs.Reading.{other_name, is_unknown, request_at, answer_of, call_of, asked_of}
-use Rattle.sf_field.proofs.FieldLaws.{IsBytes, IsBytes-rest, reads_u32, reads_string, number_none, number_short}
+use Rattle.sf_field.proofs.Laws.{IsBytes, IsBytes-rest, reads_u32, reads_string, number_none, number_short}
 use Rattle.sf_request.proofs.SpelledFields.{as_string}
 use Rattle.sf_request.proofs.RequestLaws.{request_takes, request_again}
 

@@ -1,3 +1,4 @@
 pub mod SpelledFields
 pub mod RequestLaws
 pub mod AskedLaws
+pub mod SentRequests

@@ -12,7 +12,7 @@ use Rattle.sf_request.specs.declared.request.WireRequest.TheVariants as request
 use Rattle.sf_request.specs.Requests.{kind_of, posix_rename, IsU32, IsU64, IsString, IsAttrs, IsFlags, ◌⨾◌, SpellsFields}
 use Rattle.sf_field.specs.Reading.{number_at, string_at, attrs_at, flags_at}
 use Rattle.sf_request.specs.Reading.{both_at, fields, two_strings_at, rename_at, string_request_at, attrs_request_at, extended_by, extended_at, readers, by_kind, request_at}
-use Rattle.sf_field.proofs.FieldLaws.{IsBytes, some_is}
+use Rattle.sf_field.proofs.Laws.{IsBytes, some_is}
 use Rattle.sf_request.proofs.SpelledFields.{ReadsAs, as_u32, as_u64, as_string, as_attrs, as_flags, Both, as_both, fields_take, fields_again}
 
 -- a request that is spelled at the front of the bytes

@@ -7,8 +7,8 @@ use Rattle.sf_field.specs.OpenFlags.{open_flags}
 use Rattle.sf_request.specs.Requests.{IsU32, IsU64, IsString, IsAttrs, IsFlags, ◌⨾◌}
 use Rattle.sf_field.specs.Reading.{number_at, string_at, attrs_at, flags_at}
 use Rattle.sf_request.specs.Reading.{both_at, fields}
-use Rattle.sf_field.proofs.FieldLaws.{IsBytes, bind_some, some_is, Takes, Takes-then, reads_u32, reads_u64, reads_string}
-use Rattle.sf_field.proofs.AttributeLaws.{attrs_take, attrs_again}
+use Rattle.sf_field.proofs.Laws.{IsBytes, bind_some, some_is, Takes, Takes-then, reads_u32, reads_u64, reads_string}
+use Rattle.sf_field.proofs.Laws.{attrs_take, attrs_again}
 
 pub record ReadsAs {A : Type 0} (read : List ℕ → Option (A × List ℕ)) (Is : A → List ℕ → Type 0) : Type 0 where
   pub takes : (bytes : List ℕ) (x : A) (rest : List ℕ) → IsBytes bytes → read bytes ≡ Some (x, rest) → (text : List ℕ) × Takes bytes text rest × Is x text

@@ -7,8 +7,8 @@ use Rattle.sf_request.specs.declared.request.WireRequest.TheVariants as request
 use Rattle.sf_request.specs.declared.request.Asked.{Asked}
 use Rattle.sf_request.specs.declared.request.Asked.TheVariants.{Init, Request, BadFields, Unknown, NoId}
 use Rattle.sf_field.specs.Fields.{be32, be64, string}
-use Rattle.sf_field.specs.Attributes.{SpellsAttrs}
-use Rattle.sf_field.specs.OpenFlags.{open_flags}
+use Rattle.sf_field.specs.Attributes.{SpellsAttrs, AttrsFit, attrs_text}
+use Rattle.sf_field.specs.OpenFlags.{open_flags, bits_of}
 
 -- the type byte
 abbrev pub kind_of : WireRequest → ℕ
@@ -112,3 +112,54 @@ Asks body (BadFields id) = (kind : ℕ) × (rest : List ℕ) × HasId body kind 
     × ((request : WireRequest) (text more : List ℕ) → kind_of request ≡ kind → SpellsFields text request → rest ≡ text ++ more → ⊥)
 Asks body (Unknown id) = (kind : ℕ) × (rest : List ℕ) × HasId body kind id rest × IsUnknown kind rest
 Asks body NoId = length body < 5
+
+-- The spelling that is sent: the bits of the flags that are set, and no other; attributes without other flags and pairs.
+abbrev pub fields_text : WireRequest → List ℕ
+fields_text (request.Open filename flags attrs) = string filename ++ be32 (bits_of flags) ++ attrs_text attrs
+fields_text (request.Close handle) = string handle
+fields_text (request.Read handle offset len) = string handle ++ be64 offset ++ be32 len
+fields_text (request.Write handle offset bytes) = string handle ++ be64 offset ++ string bytes
+fields_text (request.LStat path) = string path
+fields_text (request.FStat handle) = string handle
+fields_text (request.SetStat path attrs) = string path ++ attrs_text attrs
+fields_text (request.FSetStat handle attrs) = string handle ++ attrs_text attrs
+fields_text (request.OpenDir path) = string path
+fields_text (request.ReadDir handle) = string handle
+fields_text (request.Remove path) = string path
+fields_text (request.Mkdir path attrs) = string path ++ attrs_text attrs
+fields_text (request.Rmdir path) = string path
+fields_text (request.RealPath path) = string path
+fields_text (request.Stat path) = string path
+fields_text (request.Rename old new) = string old ++ string new
+fields_text (request.PosixRename old new) = string posix_rename ++ string old ++ string new
+
+-- the body of a request: its type, its id, and its fields
+abbrev pub request_body : ℕ → WireRequest → List ℕ
+request_body id r = kind_of r ∷ be32 id ++ fields_text r
+
+-- the body of the first packet, with the version 3
+abbrev pub init_body : List ℕ
+init_body = 1 ∷ be32 3
+
+-- the numbers and the strings have a spelling
+abbrev pub IsShort : List ℕ → Type 0
+IsShort bytes = length bytes < 2 ^ 32
+
+abbrev pub RequestFits : WireRequest → Type 0
+RequestFits (request.Open filename flags attrs) = IsShort filename × AttrsFit attrs
+RequestFits (request.Close handle) = IsShort handle
+RequestFits (request.Read handle offset len) = IsShort handle × (offset < 2 ^ 64) × (len < 2 ^ 32)
+RequestFits (request.Write handle offset bytes) = IsShort handle × (offset < 2 ^ 64) × IsShort bytes
+RequestFits (request.LStat path) = IsShort path
+RequestFits (request.FStat handle) = IsShort handle
+RequestFits (request.SetStat path attrs) = IsShort path × AttrsFit attrs
+RequestFits (request.FSetStat handle attrs) = IsShort handle × AttrsFit attrs
+RequestFits (request.OpenDir path) = IsShort path
+RequestFits (request.ReadDir handle) = IsShort handle
+RequestFits (request.Remove path) = IsShort path
+RequestFits (request.Mkdir path attrs) = IsShort path × AttrsFit attrs
+RequestFits (request.Rmdir path) = IsShort path
+RequestFits (request.RealPath path) = IsShort path
+RequestFits (request.Stat path) = IsShort path
+RequestFits (request.Rename old new) = IsShort old × IsShort new
+RequestFits (request.PosixRename old new) = IsShort old × IsShort new

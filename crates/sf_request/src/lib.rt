@@ -1,13 +1,16 @@
-//! Requests of the SSH File Transfer Protocol, version 3: what a packet's body asks.
+//! Requests of the SSH File Transfer Protocol, version 3: what a packet's body asks, and requests
+//! written as packets.
 #![tactic(auto)]
 
 mod laws;
 mod reading;
 mod request;
+mod requesting;
 
-pub use laws::one_question;
+pub use laws::{one_question, sent_requests};
 pub use reading::read_request;
 pub use request::{Asked, WireRequest};
+pub use requesting::{close_packet, init_packet, write_request};
 
 #[cfg(test)]
 mod tests;

@@ -11,41 +11,44 @@ use sf_field::{Attrs, ByteString, OpenFlags, attrs_of, bytes_at, u32_at, u64_at}
 use std::alloc::{AllocError, Global};
 
 // The types of the packets that a client sends. All from OPEN to RENAME are requests.
-const INIT: u8 = 1;
+pub(crate) const INIT: u8 = 1;
 
-const OPEN: u8 = 3;
+pub(crate) const OPEN: u8 = 3;
 
-const CLOSE: u8 = 4;
+pub(crate) const CLOSE: u8 = 4;
 
-const READ: u8 = 5;
+pub(crate) const READ: u8 = 5;
 
-const WRITE: u8 = 6;
+pub(crate) const WRITE: u8 = 6;
 
-const LSTAT: u8 = 7;
+pub(crate) const LSTAT: u8 = 7;
 
-const FSTAT: u8 = 8;
+pub(crate) const FSTAT: u8 = 8;
 
-const SETSTAT: u8 = 9;
+pub(crate) const SETSTAT: u8 = 9;
 
-const FSETSTAT: u8 = 10;
+pub(crate) const FSETSTAT: u8 = 10;
 
-const OPENDIR: u8 = 11;
+pub(crate) const OPENDIR: u8 = 11;
 
-const READDIR: u8 = 12;
+pub(crate) const READDIR: u8 = 12;
 
-const REMOVE: u8 = 13;
+pub(crate) const REMOVE: u8 = 13;
 
-const MKDIR: u8 = 14;
+pub(crate) const MKDIR: u8 = 14;
 
-const RMDIR: u8 = 15;
+pub(crate) const RMDIR: u8 = 15;
 
-const REALPATH: u8 = 16;
+pub(crate) const REALPATH: u8 = 16;
 
-const STAT: u8 = 17;
+pub(crate) const STAT: u8 = 17;
 
-const RENAME: u8 = 18;
+pub(crate) const RENAME: u8 = 18;
 
-const EXTENDED: u8 = 200;
+pub(crate) const EXTENDED: u8 = 200;
+
+/// The name of the one extension that is known, of OpenSSH.
+pub(crate) const POSIX_RENAME: &[u8] = b"posix-rename@openssh.com";
 
 #[tactic(auto, unfolding(crate::specs::Reading::fields))]
 fn string(alloc: Global, bytes: &[u8]) -> Result<Option<ByteString>, AllocError>

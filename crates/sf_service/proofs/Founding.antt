@@ -1,33 +1,19 @@
 -- The history that a tree and its number of calls belong to.
-use Rattle.std.proofs.Common.{◌≡◌, ◌≢◌, ◌+◌, ◌<◌, ◌⊎◌, ℕ, List, [], ◌∷◌, ◌++◌, length, Some, None, refl, sym, ap, subst, ◌∙◌, inl, inr, arith, length-append}
+use Rattle.std.proofs.Common.{◌≡◌, ◌+◌, ◌<◌, ◌⊎◌, ℕ, List, [], ◌∷◌, ◌++◌, length, refl, sym, ap, subst, ◌∙◌, inl, inr, arith, length-append}
 use Rattle.std.specs.List.{AllByRecursion}
 use Rattle.sf_reply.specs.declared.reply.Reply.{Reply}
 use Rattle.sf_reply.specs.declared.reply.Reply.TheVariants as reply
 use Rattle.sf_call.specs.declared.request.Request.{Request}
 use Rattle.sf_call.specs.declared.record.Record.{Record}
 use Rattle.sf_call.specs.declared.record.Record.TheVariants.{Did, Left}
-use Rattle.sf_path.specs.Names.{Path}
-use Rattle.sf_call.specs.Tree.{Tree, empty_tree, label_at, object_of, handle_of}
+use Rattle.sf_call.specs.Tree.{Tree, empty_tree}
 use Rattle.sf_call.specs.Calls.{apply}
 use Rattle.sf_call.specs.Values.{IsCall}
-use Rattle.sf_call.specs.Histories.{after, replay, IsLegal, IsLegalAfter, MayFollow, CallMayFollow, IsNewNumber, IsPresent, IsGiven}
+use Rattle.sf_call.specs.Histories.{after, replay, IsLegal, IsLegalAfter, CallMayFollow, IsNewNumber, IsPresent}
+use Rattle.sf_call.proofs.Laws.{after_told, replay-push, IsLegal-push, unused_number, no_object, no_handle}
 use Rattle.sf_inode.specs.Stores.{StoreState}
 use Rattle.sf_keeps.specs.Keeps.{Keeps}
 use Rattle.sf_service.specs.Serving.{IsNumbered, IsFresh, IsGrown, IsFounded, Does}
-
--- what the tree's definitions promise of numbers that no call has
-pub record LabelLaws : Type 0 where
-  pub no_path : (history : List Record) (number : ℕ) (path : Path) → IsLegal history → 0 < number → IsNewNumber number history → label_at (replay history).names path ≢ Some number
-  pub no_object : (history : List Record) (number : ℕ) → IsLegal history → 0 < number → IsNewNumber number history → object_of (replay history).objects number ≡ None
-  pub no_handle : (history : List Record) (number : ℕ) → IsLegal history → 0 < number → IsNewNumber number history → handle_of (replay history).handles number ≡ None
-
--- what they promise
-pub record Laws : Type 0 where
-  pub replayed : (history : List Record) (r : Record) → replay (history ++ r ∷ []) ≡ after (replay history) r
-  pub legal : (history : List Record) (r : Record) → IsLegal history → MayFollow history r → IsLegal (history ++ r ∷ [])
-  pub told : (tree : Tree) (session number moment : ℕ) (request : Request)
-      → after tree (Did number session moment request (apply tree session number moment request).reply) ≡ (apply tree session number moment request).tree
-  pub labels : LabelLaws
 
 -- one more at the end
 pub all_push : {A : Type 0} (P : A → Type 0) (xs : List A) (x : A) → AllByRecursion P xs → P x → AllByRecursion P (xs ++ x ∷ [])
@@ -41,14 +27,14 @@ numbers_new n later (Did number session moment request given ∷ history) less h
 numbers_new n later (Left session ∷ history) less h = absurd h.0
 
 -- so a later number is fresh
-fresh_after : LabelLaws → (history : List Record) (number : ℕ) → IsLegal history → length history < number
+fresh_after : (history : List Record) (number : ℕ) → IsLegal history → length history < number
     → AllByRecursion (IsNumbered (length history)) history → IsFresh number (replay history)
-fresh_after laws history number legal less numbered =
+fresh_after history number legal less numbered =
     let new = numbers_new (length history) number history less numbered in
     record {
-      no_path = λ path. laws.no_path history number path legal (omega (arith, less)) new;
-      no_object = laws.no_object history number legal (omega (arith, less)) new;
-      no_handle = laws.no_handle history number legal (omega (arith, less)) new;
+      no_path = λ path. unused_number history number path legal (omega (arith, less)) new;
+      no_object = no_object history number legal (omega (arith, less)) new;
+      no_handle = no_handle history number legal (omega (arith, less)) new;
     }
 
 numbers_stay : (n : ℕ) (history : List Record) → AllByRecursion (IsNumbered n) history → IsPresent 1 history
@@ -84,23 +70,23 @@ may_follow history store store' calls moment request given grown is_call does = 
 }
 
 -- the store keeps the tree after it
-next_tree : Laws → (history : List Record) (store' : StoreState) (number moment : ℕ) (request : Request) (given : Reply) → DoesHere history number moment request given store'
+next_tree : (history : List Record) (store' : StoreState) (number moment : ℕ) (request : Request) (given : Reply) → DoesHere history number moment request given store'
     → Keeps store' (after (replay history) (Did number 1 moment request given))
-next_tree laws history store' number moment request given (inl e) =
+next_tree history store' number moment request given (inl e) =
     subst (λ (t : Tree). Keeps store' t)
-    (sym (laws.told (replay history) 1 number moment request) ∙ ap (λ (g : Reply). after (replay history) (Did number 1 moment request g)) (sym e.0)) e.1
-next_tree laws history store' number moment request given (inr e) =
+    (sym (after_told (replay history) 1 number moment request) ∙ ap (λ (g : Reply). after (replay history) (Did number 1 moment request g)) (sym e.0)) e.1
+next_tree history store' number moment request given (inr e) =
     subst (λ (t : Tree). Keeps store' t) (ap (λ (g : Reply). after (replay history) (Did number 1 moment request g)) (sym e.0)) e.1
 
 -- its record comes next
-pub recorded : Laws → (history : List Record) (store store' : StoreState) (calls moment : ℕ) (request : Request) (given : Reply) → IsGrown history store calls → IsCall (calls + 1) 1 moment request
+pub recorded : (history : List Record) (store store' : StoreState) (calls moment : ℕ) (request : Request) (given : Reply) → IsGrown history store calls → IsCall (calls + 1) 1 moment request
     → Does store (calls + 1) moment request given store' → IsGrown (history ++ Did (calls + 1) 1 moment request given ∷ []) store' (calls + 1)
-recorded laws history store store' calls moment request given grown is_call does =
+recorded history store store' calls moment request given grown is_call does =
     let r = Did (calls + 1) 1 moment request given in
     let here = does_here history store store' calls moment request given grown does in
     let counted : length (history ++ r ∷ []) ≡ length history + 1 = omega (arith, length-append history (r ∷ [])) in
-    let legal = laws.legal history r grown.legal (may_follow history store store' calls moment request given grown is_call here) in
-    let kept = subst (λ (t : Tree). Keeps store' t) (sym (laws.replayed history r)) (next_tree laws history store' (calls + 1) moment request given here) in
+    let legal = IsLegal-push history r grown.legal (may_follow history store store' calls moment request given grown is_call here) in
+    let kept = subst (λ (t : Tree). Keeps store' t) (sym (replay-push history r)) (next_tree history store' (calls + 1) moment request given here) in
     let numbered : AllByRecursion (IsNumbered (length (history ++ r ∷ []))) (history ++ r ∷ []) = subst (λ (k : ℕ). AllByRecursion (IsNumbered k) (history ++ r ∷ [])) (sym counted)
     (all_push (IsNumbered (length history + 1)) history r (numbers_more (length history) history grown.numbered) (omega (arith, grown.counted))) in
     record {
@@ -108,20 +94,13 @@ recorded laws history store store' calls moment request given grown is_call does
       kept = kept;
       counted = omega (arith, counted, grown.counted);
       numbered = numbered;
-      fresh = λ number less. fresh_after laws.labels (history ++ r ∷ []) number legal (omega (arith, less, counted, grown.counted)) numbered;
+      fresh = λ number less. fresh_after (history ++ r ∷ []) number legal (omega (arith, less, counted, grown.counted)) numbered;
     }
 
--- a call's reply is given by the history of the tree that the store keeps, which then keeps that of one record more
-pub given_now : (store store' : StoreState) (calls moment : ℕ) (request : Request) (given : Reply) → IsFounded store calls → IsCall (calls + 1) 1 moment request
-    → Does store (calls + 1) moment request given store' → IsGiven (calls + 1) 1 given
-given_now store store' calls moment request given founded is_call does =
-    let here = does_here founded.0 store store' calls moment request given founded.1 does in
-    (founded.0, moment, request, founded.1.legal, may_follow founded.0 store store' calls moment request given founded.1 is_call here)
-
-pub founded_after : Laws → (store store' : StoreState) (calls moment : ℕ) (request : Request) (given : Reply) → IsFounded store calls → IsCall (calls + 1) 1 moment request
+pub founded_after : (store store' : StoreState) (calls moment : ℕ) (request : Request) (given : Reply) → IsFounded store calls → IsCall (calls + 1) 1 moment request
     → Does store (calls + 1) moment request given store' → IsFounded store' (calls + 1)
-founded_after laws store store' calls moment request given founded is_call does =
-    (founded.0 ++ Did (calls + 1) 1 moment request given ∷ [], recorded laws founded.0 store store' calls moment request given founded.1 is_call does)
+founded_after store store' calls moment request given founded is_call does =
+    (founded.0 ++ Did (calls + 1) 1 moment request given ∷ [], recorded founded.0 store store' calls moment request given founded.1 is_call does)
 
 nothing_legal : IsLegal []
 unfolding IsLegal IsLegalAfter
@@ -132,11 +111,11 @@ unfolding replay
 nothing_replayed = refl
 
 -- a new store keeps the tree of no record
-pub founded_on_nothing : LabelLaws → (store : StoreState) → Keeps store empty_tree → IsGrown [] store 0
-founded_on_nothing laws store kept = record {
+pub founded_on_nothing : (store : StoreState) → Keeps store empty_tree → IsGrown [] store 0
+founded_on_nothing store kept = record {
   legal = nothing_legal;
   kept = subst (λ (t : Tree). Keeps store t) nothing_replayed kept;
   counted = refl;
   numbered = tt;
-  fresh = λ number less. fresh_after laws [] number nothing_legal less tt;
+  fresh = λ number less. fresh_after [] number nothing_legal less tt;
 }

@@ -17,7 +17,7 @@ use Rattle.sf_session.specs.Asking.{AsksFor}
 use Rattle.sf_session.specs.Sessions.{SessionView}
 use Rattle.sf_service.specs.Transcripts.{Answered, Version, Locally, ByCall, Refused, asked_by, packet_for, transcript, moment_of, moments_of, with_record, history_of, has_begun, AreAnswers, MayAnswer, last_number}
 use Rattle.sf_service.specs.Serving.{ServiceView, Edges, edges, HasEffect, Answers, Progress, Serves, IsGrown}
-use Rattle.sf_service.proofs.Founding.{Laws, all_push, recorded}
+use Rattle.sf_service.proofs.Founding.{all_push, recorded}
 
 flat_push : {A : Type 0} (f : A → List ℕ) (xs : List A) (x : A) → flat_map f xs ++ f x ≡ flat_map f (xs ++ x ∷ [])
 flat_push f xs x = flat_map_more f [] xs x
@@ -65,23 +65,23 @@ grown_more : (history : List Record) (store' : StoreState) (calls calls' moment 
 grown_more history store' calls calls' moment request given grown number h =
     rw number (subst (λ (n : ℕ). IsGrown (history ++ Did (n + 1) 1 moment request given ∷ []) store' (calls + 1)) grown.counted h)
 
-grows : Laws → (history : List Record) (store store' : StoreState) (calls calls' : ℕ) (told told' : Option (List ℕ)) (a : Answered) → IsGrown history store calls
+grows : (history : List Record) (store store' : StoreState) (calls calls' : ℕ) (told told' : Option (List ℕ)) (a : Answered) → IsGrown history store calls
     → HasEffect store calls told a store' calls' told' → MayAnswer history a × IsGrown (with_record history a) store' calls'
-grows laws history store store' calls calls' told told' Version grown h = (tt, unchanged history store store' calls calls' grown h.0 h.1)
-grows laws history store store' calls calls' told told' (Locally id given) grown h = (tt, unchanged history store store' calls calls' grown h.0 h.1)
-grows laws history store store' calls calls' told told' (ByCall id moment request given) grown h = (
+grows history store store' calls calls' told told' Version grown h = (tt, unchanged history store store' calls calls' grown h.0 h.1)
+grows history store store' calls calls' told told' (Locally id given) grown h = (tt, unchanged history store store' calls calls' grown h.0 h.1)
+grows history store store' calls calls' told told' (ByCall id moment request given) grown h = (
   subst (λ n. n < last_number) grown.counted h.room,
-  grown_more history store' calls calls' moment request given grown h.number (recorded laws history store store' calls moment request given grown h.is_call h.does),
+  grown_more history store' calls calls' moment request given grown h.number (recorded history store store' calls moment request given grown h.is_call h.does),
 )
-grows laws history store store' calls calls' told told' (Refused id request) grown h =
+grows history store store' calls calls' told told' (Refused id request) grown h =
     (sym grown.counted ∙ h.0, unchanged history store store' calls calls' grown h.1.0 h.1.1)
 
 -- one packet more is answered
-pub serves_answered : Laws → (start : Edges) (i o t t' : Option (List ℕ)) (v w : ServiceView) → Serves start (edges i o t) v → Answers v t w t' → Serves start (edges i o t') w
-serves_answered laws start i o t t' v w s h =
+pub serves_answered : (start : Edges) (i o t t' : Option (List ℕ)) (v w : ServiceView) → Serves start (edges i o t) v → Answers v t w t' → Serves start (edges i o t') w
+serves_answered start i o t t' v w s h =
     let p = s.progress in
     let more = fold-append with_record [] p.answers (h.answer ∷ []) in
-    let grown = grows laws (history_of p.answers) v.store w.store v.calls w.calls t t' h.answer p.grown h.effect in
+    let grown = grows (history_of p.answers) v.store w.store v.calls w.calls t t' h.answer p.grown h.effect in
     let g = subst (λ (history : List Record). IsGrown history w.store w.calls) (sym more) grown.1 in
     record {
       open_session = (ap (λ (x : SessionView). x.waiting) h.session, ap (λ (x : SessionView). x.ended) h.session);

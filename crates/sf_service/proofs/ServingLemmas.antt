@@ -1,32 +1,27 @@
 -- What a session on a line comes to.
-use Rattle.std.proofs.Common.{◌≡◌, ◌≢◌, ◌≤◌, ℕ, List, [], ◌++◌, Bool, true, false, if◌then◌else◌, Option, Some, None, Result, Ok, Err, refl, sym, ap, subst, ◌∙◌, inl, inr, append_assoc, append-nil, lit<, lit≤, arith, ◌+◌, length, take, length-append}
-use Rattle.std.specs.Prelude.{OnOk, IfSome, nat_lt}
+use Rattle.std.proofs.Common.{◌≡◌, ◌≤◌, ℕ, List, [], ◌++◌, Bool, false, Option, Some, None, Result, Ok, Err, refl, sym, ap, subst, ◌∙◌, inl, inr, append_assoc, append-nil, lit<, lit≤, arith, ◌+◌, length-append}
+use Rattle.std.specs.Prelude.{OnOk, IfSome}
 use Rattle.std.specs.List.{flat_map}
-use Rattle.std.specs.Io.KnownBytes.{Appends, Consumes, IsAtEnd}
+use Rattle.std.specs.Io.KnownBytes.{Appends, Consumes}
 use Rattle.std.proofs.KnownBytes.{Appends-nil, Consumes-nil, Consumes-trans}
-use Rattle.std.proofs.lemmas.List.{length-take-le}
 use Rattle.sf_wire.specs.declared.cutting.Cut.TheVariants as cut
 use Rattle.sf_field.specs.Fields.{packet, be32}
-use Rattle.sf_wire.specs.Packets.{IsCut}
 use Rattle.sf_session.specs.declared.cause.Cause.{Cause}
-use Rattle.sf_session.specs.declared.cause.Cause.TheVariants.{Closed, OldVersion}
-use Rattle.sf_session.specs.declared.cause.Cause.TheVariants.{ZeroLength, TooLong}
+use Rattle.sf_session.specs.declared.cause.Cause.TheVariants.{Closed}
 use Rattle.sf_session.specs.declared.asking.Ask.TheVariants as ask
 use Rattle.sf_request.specs.declared.request.WireRequest.TheVariants as wire
-use Rattle.sf_request.specs.declared.request.Asked.{Asked}
 use Rattle.sf_request.specs.declared.request.Asked.TheVariants as asked
 use Rattle.sf_path.specs.Names.{Path}
 use Rattle.sf_inode.specs.Stores.{StoreState}
 use Rattle.sf_keeps.specs.Keeps.{Keeps}
 use Rattle.sf_call.specs.Tree.{empty_tree}
-use Rattle.sf_session.specs.Asking.{is_init, path_at, call_of, call_ask, real_path_at, request_ask, ask_by}
+use Rattle.sf_session.specs.Asking.{call_ask, real_path_at}
 use Rattle.sf_call.specs.declared.request.Request.{Request}
-use Rattle.sf_request.specs.declared.request.WireRequest.{WireRequest}
 use Rattle.sf_service.specs.declared.service.Turn.TheVariants as turn
 use Rattle.sf_session.specs.Sessions.{SessionView, EndsBy}
 use Rattle.sf_service.specs.Transcripts.{moments_of, AreAnswers, IsServed, IsEnd}
 use Rattle.sf_service.specs.Serving.{ServiceView, IsNewService, IsGrown, Edges, edges, Answers, TurnGives, Progress, Serves, HasEnded, ServesLine, IsDrained, IsRounded, ReadsAtLeast}
-use Rattle.sf_service.proofs.Founding.{LabelLaws, founded_on_nothing}
+use Rattle.sf_service.proofs.Founding.{founded_on_nothing}
 use Rattle.sf_service.proofs.Progressing.{sends_all, reads_piece}
 
 abbrev pub sent_all : ServiceView → ServiceView
@@ -62,48 +57,6 @@ real_path_not_closed : (id : ℕ) (found : Option Path) → real_path_at id foun
 real_path_not_closed id None e = cc
 real_path_not_closed id (Some path) e = cc
 
-request_not_closed : (id : ℕ) (request : WireRequest) → request_ask id request ≡ ask.End Closed → ⊥
-request_not_closed id (wire.RealPath text) e = real_path_not_closed id (path_at text) e
-request_not_closed id (wire.Open text flags attrs) e = call_not_closed id (call_of (wire.Open text flags attrs)) e
-request_not_closed id (wire.Close handle) e = call_not_closed id (call_of (wire.Close handle)) e
-request_not_closed id (wire.Read handle offset len) e = call_not_closed id (call_of (wire.Read handle offset len)) e
-request_not_closed id (wire.Write handle offset bytes) e = call_not_closed id (call_of (wire.Write handle offset bytes)) e
-request_not_closed id (wire.LStat text) e = call_not_closed id (call_of (wire.LStat text)) e
-request_not_closed id (wire.FStat handle) e = call_not_closed id (call_of (wire.FStat handle)) e
-request_not_closed id (wire.SetStat text attrs) e = call_not_closed id (call_of (wire.SetStat text attrs)) e
-request_not_closed id (wire.FSetStat handle attrs) e = call_not_closed id (call_of (wire.FSetStat handle attrs)) e
-request_not_closed id (wire.OpenDir text) e = call_not_closed id (call_of (wire.OpenDir text)) e
-request_not_closed id (wire.ReadDir handle) e = call_not_closed id (call_of (wire.ReadDir handle)) e
-request_not_closed id (wire.Remove text) e = call_not_closed id (call_of (wire.Remove text)) e
-request_not_closed id (wire.Mkdir text attrs) e = call_not_closed id (call_of (wire.Mkdir text attrs)) e
-request_not_closed id (wire.Rmdir text) e = call_not_closed id (call_of (wire.Rmdir text)) e
-request_not_closed id (wire.Stat text) e = call_not_closed id (call_of (wire.Stat text)) e
-request_not_closed id (wire.Rename old new) e = call_not_closed id (call_of (wire.Rename old new)) e
-request_not_closed id (wire.PosixRename old new) e = call_not_closed id (call_of (wire.PosixRename old new)) e
-
-version_not_closed : (old : Bool) → (if old then ask.End OldVersion else ask.Version) ≡ ask.End Closed → ⊥
-version_not_closed true e = cc
-version_not_closed false e = cc
-
-ask_not_closed : (begun init : Bool) (a : Asked) → ask_by begun init a ≡ ask.End Closed → ⊥
-ask_not_closed true true a e = cc
-ask_not_closed true false (asked.Init version) e = cc
-ask_not_closed true false asked.NoId e = cc
-ask_not_closed true false (asked.Unknown id) e = cc
-ask_not_closed true false (asked.BadFields id) e = cc
-ask_not_closed true false (asked.Request id request) e = request_not_closed id request e
-ask_not_closed false false a e = cc
-ask_not_closed false true (asked.Init version) e = version_not_closed (nat_lt version 3) e
-ask_not_closed false true asked.NoId e = cc
-ask_not_closed false true (asked.Unknown id) e = cc
-ask_not_closed false true (asked.BadFields id) e = cc
-ask_not_closed false true (asked.Request id request) e = cc
-
-pub not_closed : (begun : Bool) (bytes : List ℕ) (cause : Cause) → EndsBy begun bytes cause → cause ≢ Closed
-not_closed begun bytes cause (inl (inl zero_length)) e = let e' : ZeroLength ≡ Closed = sym zero_length.1 ∙ e in cc
-not_closed begun bytes cause (inl (inr too_long)) e = let e' : TooLong ≡ Closed = sym too_long.1 ∙ e in cc
-not_closed begun bytes cause (inr ending) e = ask_not_closed begun (is_init ending.0) ending.3.0 (sym ending.3.2 ∙ ap ask.End e)
-
 -- what ends a session ends it, whatever follows
 ends_more : (begun : Bool) (bytes more : List ℕ) (cause : Cause) → EndsBy begun bytes cause → EndsBy begun (bytes ++ more) cause
 ends_more begun bytes more cause (inl (inl h)) = inl (inl ((h.0.0 ++ more, ap (λ (xs : List ℕ). xs ++ more) h.0.1 ∙ append_assoc (be32 0) h.0.0 more), h.1))
@@ -116,11 +69,6 @@ front_read : (a b : Option (List ℕ)) (bytes : List ℕ) (P : List ℕ → Type
 front_read None b bytes P h f = tt
 front_read (Some input) None bytes P h f = absurd h
 front_read (Some input) (Some left) bytes P h f = subst P (sym h) (f left)
-
-all_read : (a b : Option (List ℕ)) (bytes : List ℕ) (P : List ℕ → Type 0) → Consumes a b bytes → IsAtEnd b → P bytes → IfSome a P
-all_read None b bytes P h end f = tt
-all_read (Some input) None bytes P h end f = absurd h
-all_read (Some input) (Some left) bytes P h end f = subst P (sym (h ∙ ap (λ (xs : List ℕ). bytes ++ xs) end ∙ append-nil bytes)) f
 
 served_by : (start now : Edges) (rest input : List ℕ) (begun : Bool) (calls : ℕ) (store : StoreState) (cause : Cause) → (p : Progress start now rest [] begun calls store) → (left : List ℕ)
     → input ≡ flat_map packet p.bodies ++ left → IsEnd begun left cause → IsServed input p.sent (moments_of p.answers) cause
@@ -149,17 +97,6 @@ line_ended start now rest begun calls store cause p ends = (
       (λ more. served_by start now rest _ begun calls store cause p (rest ++ more) (append_assoc (flat_map packet p.bodies) rest more) (inr (ends_more begun rest more cause ends))),
 )
 
--- the input has ended, and all was sent
-pub line_closed : (start now : Edges) (rest : List ℕ) (begun : Bool) (calls : ℕ) (store : StoreState) → Progress start now rest [] begun calls store → IsCut rest cut.More → IsAtEnd now.incoming
-    → ServesLine start now Closed
-line_closed start now rest begun calls store p partial end = (
-  p.sent,
-  moments_of p.answers,
-  p.wrote,
-  p.told,
-  all_read start.incoming now.incoming (flat_map packet p.bodies ++ rest) _ p.read end (served_by start now rest _ begun calls store Closed p rest refl (inl (refl, partial))),
-)
-
 -- a round is over when what was drained is sent
 pub rounded_off : (start : Edges) (i i' o o' t : Option (List ℕ)) (v w : ServiceView) (ended : Option Cause) → i' ≡ i → Appends o o' v.session.output → w ≡ sent_all v
     → IsDrained start (edges i o t) v ended → IsRounded start (edges i' o' t) w ended
@@ -169,21 +106,13 @@ rounded_off start i i' o o' t v w (Some cause) same sent now h =
     line_ended start (edges i o' t) h.rest v.session.begun v.calls v.store cause
     (sends_all start i o o' t h.rest v.session.output v.session.begun v.calls v.store h.progress sent) h.ends
 
--- the end of the input ends a round
-pub rounded_at_end : (start : Edges) (i i' o o' t : Option (List ℕ)) (v : ServiceView) → Consumes i i' [] → o' ≡ o → IsAtEnd i' → IsRounded start (edges i o t) v None
-    → IsRounded start (edges i' o' t) v (Some Closed)
-rounded_at_end start i i' o o' t v nothing same end h =
-    let p : Progress start (edges i o t) v.session.unread [] v.session.begun v.calls v.store = subst (λ (out : List ℕ). Progress start (edges i o t) v.session.unread out v.session.begun v.calls v.store) h.2 h.0.progress in
-    let q = reads_piece start i i' o t v.session.unread [] v.session.begun v.calls v.store [] p nothing in
-    rw same (line_closed start (edges i' o t) (v.session.unread ++ []) v.session.begun v.calls v.store q (rw append-nil h.1) end)
-
 nothing_asked : AreAnswers false [] [] []
 unfolding AreAnswers
 nothing_asked = tt
 
 -- a new service has read and sent nothing
-pub starts : LabelLaws → (start : Edges) → (v : ServiceView) → IsNewService v → Keeps v.store empty_tree → IsRounded start start v None
-starts laws start v new kept = subst (λ (x : SessionView). IsRounded start start (record { session = x; store = v.store; calls = v.calls }) None) (sym new.session) (
+pub starts : (start : Edges) → (v : ServiceView) → IsNewService v → Keeps v.store empty_tree → IsRounded start start v None
+starts start v new kept = subst (λ (x : SessionView). IsRounded start start (record { session = x; store = v.store; calls = v.calls }) None) (sym new.session) (
   record {
     open_session = (refl, refl);
     progress = record {
@@ -197,7 +126,7 @@ starts laws start v new kept = subst (λ (x : SessionView). IsRounded start star
       asked = nothing_asked;
       has_begun = refl;
       packets = refl;
-      grown = subst (λ (n : ℕ). IsGrown [] v.store n) (sym new.calls) (founded_on_nothing laws v.store kept);
+      grown = subst (λ (n : ℕ). IsGrown [] v.store n) (sym new.calls) (founded_on_nothing v.store kept);
     };
   },
   inl (lit< tt),
@@ -226,6 +155,3 @@ nothing_read a = ([], Consumes-nil a, lit≤ tt)
 -- each round reads a byte at least
 pub reads_more : (a b d : Option (List ℕ)) (n : ℕ) → ReadsAtLeast n a b → ReadsAtLeast 1 b d → ReadsAtLeast (n + 1) a d
 reads_more a b d n h k = (h.0 ++ k.0, Consumes-trans a b d h.0 k.0 h.1 k.1, omega (arith, length-append h.0 k.0, h.2, k.2))
-
-pub piece_read : (a b d : Option (List ℕ)) (buffer : List ℕ) (n : ℕ) → Consumes a b (take n buffer) → n ≤ length buffer → n ≢ 0 → d ≡ b → ReadsAtLeast 1 a d
-piece_read a b d buffer n h within some same = rw same (take n buffer, h, omega (arith, length-take-le n buffer within, some))

@@ -4,11 +4,8 @@ ghost use Rattle.std.specs.Prelude.{◌≡◌, IfOk};
 ghost use Rattle.sf_inode.specs.Stores.{IsFirst};
 ghost use Rattle.sf_service.specs.Serving.{Makes};
 
-use sf_call::{
-    Answer, Call, CoreFault, Request, Stage, labels_of_paths, one_record_more, told_replies,
-};
+use sf_call::{Answer, Call, CoreFault, Request, Stage};
 use sf_inode::Store;
-use sf_keeps::kept_trees;
 use sf_session::Clock;
 use sf_walk::from_root;
 use std::alloc::{AllocError, Global};
@@ -44,8 +41,6 @@ impl NumberedStore {
     pub(crate) fn new(alloc: Global) -> Result<NumberedStore, AllocError>
         ensures { IfOk result (λ new. IsFirst new.store × (new.calls ≡ 0)) }
     {
-        labels_of_paths();
-        kept_trees();
         Ok(NumberedStore {
             store: Store::new(alloc)?,
             calls: 0,
@@ -60,9 +55,6 @@ impl NumberedStore {
     ) -> Result<Answer, CoreFault>
         ensures { Makes self.old (C.told clock.old) request result self.new (C.told clock.new) }
     {
-        one_record_more();
-        told_replies();
-        labels_of_paths();
         if self.calls == LAST_NUMBER {
             return Err(CoreFault::NumbersSpent);
         }

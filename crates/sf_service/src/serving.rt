@@ -6,8 +6,6 @@ ghost use Rattle.sf_line.specs.Lines.{Rose};
 ghost use Rattle.sf_service.specs.Serving.{Edges, edges, IsDrained, IsRounded, IsServeFault, ReadsAtLeast, Serves, ServesLine};
 
 use crate::service::{Service, Turn};
-use sf_call::{labels_of_paths, one_record_more, told_replies};
-use sf_keeps::kept_trees;
 use sf_line::{Line, LineFault};
 use sf_session::{Cause, Clock, ServeFault};
 use std::alloc::{AllocError, Global};
@@ -79,9 +77,6 @@ fn drain<L: Line, C: Clock>(
     ensures failures { L.failed line.old ≤ L.failed line.new }
     ensures fault { IfErr result (λ fault. IsServeFault fault (L.failed line.old) (L.failed line.new)) }
 {
-    one_record_more();
-    told_replies();
-    labels_of_paths();
     'packets: loop {
         match service.turn(clock)? {
             Turn::More => return Ok(None),
@@ -141,8 +136,6 @@ pub fn serve_one<L: Line, C: Clock>(
     ensures spent { result ≡ Err ServeFault.NumbersSpent → ReadsAtLeast (2 ^ 64 - 1) (L.incoming line.old) (L.incoming line.new) }
     ensures fault { IfErr result (λ fault. IsServeFault fault (L.failed line.old) (L.failed line.new)) }
 {
-    labels_of_paths();
-    kept_trees();
     let mut service = Service::new(alloc)?;
     let mut piece = zeros(alloc, PIECE)?;
     for _ in 0..u64::MAX {

@@ -1,8 +1,6 @@
 //! What a body asks of a session.
 
-ghost use Rattle.std.specs.Prelude.{◌≡◌, ℕ, ◌≤◌, length, IfOk};
-ghost use Rattle.sf_path.specs.Names.{text_of};
-ghost use Rattle.sf_reply.specs.Replies.{reply_body};
+ghost use Rattle.std.specs.Prelude.{◌≡◌, IfOk};
 ghost use Rattle.sf_session.specs.Asking.{AsksFor, FitsPacket, first_ask, later_ask, request_ask, call_ask, is_init, real_path_ask, real_path_reply};
 
 use crate::calling::{call_of, path_of};
@@ -11,7 +9,6 @@ use sf_call::Request;
 use sf_path::Path;
 use sf_wire::{
     Asked, Attrs, ByteString, Entry, Listing, Reply, StatusCode, WireRequest, read_request,
-    reply_lengths,
 };
 use std::alloc::{AllocError, Global};
 
@@ -123,11 +120,8 @@ fn real_path(alloc: Global, id: u32, text: &[u8]) -> Result<Ask, AllocError>
 }
 
 fn real_path_reply(alloc: Global, path: &Path) -> Result<Reply, AllocError>
-    requires { length (text_of path.now) ≤ 4097 }
-    ensures reply { IfOk result (λ reply. reply ≡ real_path_reply path.now) }
-    ensures fits { (id : ℕ) → length (reply_body id (real_path_reply path.now)) ≤ 262144 }
+    ensures { IfOk result (λ reply. reply ≡ real_path_reply path.now) }
 {
-    reply_lengths();
     let text = path.text(alloc)?;
     let filename = ByteString::from_slice(alloc, &text)?;
     let longname = ByteString::from_vec(text);

@@ -9,15 +9,16 @@ use crate::asking::Ask;
 use crate::cause::Cause;
 use crate::front::{Front, front_of};
 use bytes::BytesMut;
-use sf_call::{Answer, CoreFault, Request, replies_fit};
+use sf_call::{Answer, CoreFault, Request};
 use sf_wire::{Reply, StatusCode, write_reply, write_version};
 use std::alloc::{AllocError, Global};
 use std::marker::Model;
 use std::mem;
 use thiserror::Error;
 
-/// The room of the longest packet that refuses a call.
-const REFUSAL: usize = 34;
+/// Room for the next replies, above the 34 bytes of the longest packet that refuses a call. The C
+/// library keeps small blocks for reuse, wherever they lie, and gives back larger ones.
+const REPLIES: usize = 4096;
 
 /// Why a call of a session was refused. The session is unchanged then.
 #[derive(Clone, Copy, Debug, PartialEq, Eq, Error)]
@@ -180,7 +181,7 @@ impl Session {
         ensures err { OnErr result (self.new ≡ self.old) }
         ensures fault { result ≢ Err SessionFault.Ended }
     {
-        if self.output.reserve(REFUSAL).is_err() {
+        if self.output.reserve(REPLIES).is_err() {
             return Err(SessionFault::OutOfMemory);
         }
         self.waiting = Some(id);
@@ -198,7 +199,6 @@ impl Session {
         let Some(id) = self.waiting else {
             return Ok(());
         };
-        replies_fit();
         if write_reply(id, answer.reply(), &mut self.output).is_err() {
             return Err(SessionFault::OutOfMemory);
         }

@@ -2,7 +2,7 @@
 
 ghost use Rattle.std.specs.Prelude.{IfOk, IsSome};
 
-use sf_call::{Answer, CoreFault, Request, given_by_history, history_cases};
+use sf_call::{Answer, CoreFault, Request};
 use sf_path::Path;
 use sf_session::{Cause, Next, ServeFault, Session, SessionFault};
 use sf_wire::{Reply, StatusCode};
@@ -60,8 +60,6 @@ fn bytes_wait_for_a_whole_packet(rt: HostRuntime) -> Result<(), Fail> {
 
 #[test]
 fn an_answer_is_appended(rt: HostRuntime) -> Result<(), Fail> {
-    history_cases();
-    given_by_history();
     let mut session = waiting(&rt, rt.alloc())?;
     session.answer(&Answer::new(8, 1, Reply::Status(StatusCode::NoSuchFile)))?;
     assert_eq!(rt;

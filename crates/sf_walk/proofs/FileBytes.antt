@@ -1,5 +1,5 @@
 -- Reading and writing a file's bytes.
-use Rattle.std.specs.Prelude.{◌≡◌, ◌↔◌, IsTrue, ℕ, ◌+◌, ◌-◌, ◌<◌, min, nat_lt, nat_le, Bool, true, false, not, if◌then◌else◌, List, [], ◌∷◌, length, take, drop, option_map, Option, Some, None, refl}
+use Rattle.std.specs.Prelude.{if◌then◌else◌, ◌≡◌, ◌↔◌, IsTrue, ℕ, ◌+◌, ◌-◌, ◌<◌, min, nat_lt, nat_le, Bool, true, false, not, List, [], ◌∷◌, length, take, drop, option_map, Option, Some, None, refl}
 use Rattle.std.specs.Option.{option_map_or}
 use Rattle.std.proofs.lemmas.Bool.Decides.{nat_tests}
 use Rattle.std.proofs.lemmas.List.{length-drop, take_min}
@@ -11,7 +11,7 @@ use Rattle.sf_call.specs.declared.metadata.Metadata.{Metadata}
 use Rattle.sf_call.specs.declared.limits.TheConstants.{MAX_FILE_SIZE, MAX_READ}
 use Rattle.sf_call.specs.Attributes.{modified_at}
 use Rattle.sf_call.specs.Attributes.Object.{File}
-use Rattle.sf_call.specs.Contents.{written}
+use Rattle.sf_block.specs.Contents.{written, Stored, with_room}
 use Rattle.sf_call.specs.Tree.{Tree, is_nil}
 use Rattle.sf_call.specs.Handles.{Opened, opened, opened_object}
 use Rattle.sf_call.specs.Handles.Opened.{OpenDirectory, OpenFile}
@@ -23,18 +23,27 @@ use Rattle.sf_inode.specs.declared.node.Content.{Content}
 use Rattle.sf_inode.specs.declared.node.Content.TheVariants as content
 use Rattle.sf_inode.specs.declared.handle.OpenHandle.{OpenHandle}
 use Rattle.sf_inode.specs.Nodes.{object_in, stored_in, with_stored, with_content, with_metadata, is_file_content}
-use Rattle.sf_inode.specs.Stores.{StoreState, node_in, stored_of, bytes_set, is_file_at, shown_of, shown_node, shown_handle, edited}
+use Rattle.sf_inode.specs.Stores.{StoreState, node_in, stored_of, stored_set, file_size, is_file_at, shown_of, shown_node, shown_handle, edited}
 use Rattle.sf_keeps.specs.Keeps.{Keeps}
-use Rattle.sf_walk.specs.Files.{file_size}
+use Rattle.sf_keeps.proofs.Laws.{keeps_reserved, keeps_contents, keeps_file, object_again, edited_itself}
 use Rattle.sf_walk.specs.Served.{IsServed}
 use Rattle.sf_walk.proofs.Told.{tells_served}
-use Rattle.sf_walk.proofs.SetNodes.{SetsFile, SetsBytes, SetsAgain, EditsItself, shown_stored, stored_bytes}
+use Rattle.sf_walk.proofs.SetNodes.{shown_stored, stored_bytes}
 use Rattle.sf_walk.proofs.OpenHandles.{IsOpen, file_is}
 
 no_file : (f : Opened → Answer) → ((handle : Handle) (m : Metadata) → f (OpenDirectory handle m) ≡ refuses Failure) → (handle : Handle) (m : Metadata) (c : Content) → is_file_content c ≡ false
     → f (opened_object handle (Some (object_in m c))) ≡ refuses Failure
 no_file f law handle m (content.Directory es) e = law handle m
 no_file f law handle m (content.File contents) e = cc
+
+write_denied : (moment offset : ℕ) (bytes : List ℕ) (handle : Handle) (m : Metadata) (contents : List ℕ) → handle.write ≡ false → write moment offset bytes (OpenFile handle m contents) ≡ refuses PermissionDenied
+write_denied moment offset bytes handle m contents w =
+    let ok = succeeds (SetObject handle.label (File (modified_at moment m) (written contents (start_of handle contents offset) bytes)) ∷ []) in
+    λ i. if not (w i) then refuses PermissionDenied else if is_nil bytes then succeeds [] else if nat_lt MAX_FILE_SIZE (start_of handle contents offset + length bytes) then refuses Failure else ok
+
+write_nothing : (moment offset : ℕ) (bytes : List ℕ) (handle : Handle) (m : Metadata) (contents : List ℕ) → handle.write ≡ true → bytes ≡ [] → write moment offset bytes (OpenFile handle m contents) ≡ succeeds []
+write_nothing moment offset bytes handle m contents w none =
+    (λ i. write moment offset (none i) (OpenFile handle m contents)) ∙ (λ i. if not (w i) then refuses PermissionDenied else succeeds [])
 
 write_past : (moment offset start : ℕ) (bytes : List ℕ) (handle : Handle) (m : Metadata) (contents : List ℕ) → handle.write ≡ true → is_nil bytes ≡ false → start_of handle contents offset ≡ start
     → nat_lt MAX_FILE_SIZE (start + length bytes) ≡ true → write moment offset bytes (OpenFile handle m contents) ≡ refuses Failure
@@ -84,12 +93,6 @@ no_size nodes id e =
       | false ↦ λ f q. f
     ] refl e
 
-pub size_file : (nodes : List (Option Node)) (id size : ℕ) → Some size ≡ file_size nodes id → is_file_at nodes id ≡ true
-size_file nodes id size e = (size_is nodes id size e).0
-
-pub size_length : (nodes : List (Option Node)) (id size : ℕ) → Some size ≡ file_size nodes id → size ≡ length (stored_of nodes id).bytes
-size_length nodes id size e = (size_is nodes id size e).1
-
 -- what a file shows, and what is open then
 abbrev pub IsOpenFile : List (Option Node) → ℕ → ℕ → Handle → Opened → Type 0
 IsOpenFile nodes id label handle o = (m : Metadata) × ((shown_of nodes id ≡ Some (label, File m (stored_of nodes id).bytes)) × (o ≡ OpenFile handle m (stored_of nodes id).bytes))
@@ -128,6 +131,18 @@ module _ (s : StoreState) (t : Tree) (session number : ℕ) (h : OpenHandle) (o 
       counted ∙ ap (λ k. min (min len MAX_READ) (k - offset)) (size_is s.nodes h.node size e).1 ∙ ap (min (min len MAX_READ)) (sym (length-drop offset (stored_of s.nodes h.node).bytes)) in
       ap reply.Data (taken ∙ ap (λ k. take k rest) most ∙ take_min (min len MAX_READ) rest) ∙ sym (read_is offset len size e r less)
 
+  pub write_unmarked : (moment offset size : ℕ) (bytes : List ℕ) → Some size ≡ file_size s.nodes h.node → h.marks.write ≡ false → IsServed s t (write moment offset bytes (opened t session number)) (reply.Status PermissionDenied)
+  write_unmarked moment offset size bytes e w =
+      let f = open_file (size_is s.nodes h.node size e).0 in
+      tells_served s t (write moment offset bytes (opened t session number)) (reply.Status PermissionDenied)
+      (ap (write moment offset bytes) f.1.1 ∙ write_denied moment offset bytes (shown_handle session h) f.0 (stored_of s.nodes h.node).bytes w) o.keeps
+
+  pub write_none : (moment offset size : ℕ) (bytes : List ℕ) → Some size ≡ file_size s.nodes h.node → h.marks.write ≡ true → bytes ≡ [] → IsServed s t (write moment offset bytes (opened t session number)) (reply.Status Success)
+  write_none moment offset size bytes e w none =
+      let f = open_file (size_is s.nodes h.node size e).0 in
+      tells_served s t (write moment offset bytes (opened t session number)) (reply.Status Success)
+      (ap (write moment offset bytes) f.1.1 ∙ write_nothing moment offset bytes (shown_handle session h) f.0 (stored_of s.nodes h.node).bytes w none) o.keeps
+
   module _ (offset start size : ℕ) (bytes : List ℕ) (e : Some size ≡ file_size s.nodes h.node) (marked : h.marks.write ≡ true) (some : is_nil bytes ≡ false) (from : start ≡ (if h.marks.append then size else offset)) where
     starts : start_of (shown_handle session h) (stored_of s.nodes h.node).bytes offset ≡ start
     starts = sym (from ∙ ap (λ k. if h.marks.append then k else offset) (size_is s.nodes h.node size e).1)
@@ -147,28 +162,24 @@ module _ (s : StoreState) (t : Tree) (session number : ℕ) (h : OpenHandle) (o 
         (sym (ap (write moment offset bytes) f.1.1 ∙ write_within moment offset start bytes (shown_handle session h) f.0 (stored_of s.nodes h.node).bytes marked some starts (sym past)))
         (record { told = refl; tree = law t h.label f.0 (stored_of s.nodes h.node).bytes o.keeps f.1.0 })
 
-abbrev pub Reserves : Type 0
-Reserves = (s after : StoreState) (t : Tree) (id : ℕ) → Keeps s t → Keeps (bytes_set s id (stored_of s.nodes id).bytes after) t
-
 -- ---- bytes are put into a file
-module _ (reserves : Reserves) (puts : SetsBytes) (marks : SetsFile) (again : SetsAgain) (itself : EditsItself) where
-  shows_bytes : (s new : StoreState) (id label : ℕ) (m : Metadata) (old bytes : List ℕ) → shown_of s.nodes id ≡ Some (label, File m old) → new ≡ bytes_set s id bytes new → shown_of new.nodes id ≡ Some (label, File m bytes)
-  shows_bytes s new id label m old bytes shows state =
-      ap (λ (x : StoreState). shown_of x.nodes id) state ∙ ap (option_map shown_node) (itself (with_content (with_stored (record { bytes = bytes; room = (stored_of new.nodes id).room }))) s id)
-      ∙ shown_stored (node_in s.nodes id) label m old (record { bytes = bytes; room = (stored_of new.nodes id).room }) shows
+shows_stored : (s new : StoreState) (id label : ℕ) (m : Metadata) (old : List ℕ) (stored : Stored) → shown_of s.nodes id ≡ Some (label, File m old) → new ≡ stored_set s id stored → shown_of new.nodes id ≡ Some (label, File m stored.bytes)
+shows_stored s new id label m old stored shows state =
+    ap (λ (x : StoreState). shown_of x.nodes id) state ∙ ap (option_map shown_node) (edited_itself (with_content (with_stored stored)) s id) ∙ shown_stored (node_in s.nodes id) label m old stored shows
 
-  pub put_keeps : (s first second new : StoreState) (t : Tree) (id label moment start : ℕ) (m : Metadata) (old bytes : List ℕ) → Keeps s t → shown_of s.nodes id ≡ Some (label, File m old)
-      → first ≡ bytes_set s id (stored_of s.nodes id).bytes first → second ≡ bytes_set first id (written (stored_of first.nodes id).bytes start bytes) second → new ≡ edited (with_metadata (modified_at moment)) second id
-      → Keeps new (changed t (SetObject label (File (modified_at moment m) (written old start bytes))))
-  put_keeps s first second new t id label moment start m old bytes keeps shows reserved put marked =
-      let keeps_first : Keeps first t = subst (λ (x : StoreState). Keeps x t) (sym reserved) (reserves s first t id keeps) in
-      let shows_first : shown_of first.nodes id ≡ Some (label, File m old) =
-      shows_bytes s first id label m old (stored_of s.nodes id).bytes shows reserved ∙ ap (λ (b : List ℕ). Some (label, File m b)) (stored_bytes (node_in s.nodes id) label m old shows) in
-      let after = written old start bytes in
-      let state : second ≡ bytes_set first id after second = put ∙ ap (λ (b : List ℕ). bytes_set first id (written b start bytes) second) (stored_bytes (node_in first.nodes id) label m old shows_first) in
-      let one = changed t (SetObject label (File m after)) in
-      let keeps_second : Keeps second one = subst (λ (x : StoreState). Keeps x one) (sym state) (puts first second t id label m old after keeps_first shows_first) in
-      let shows_second : shown_of second.nodes id ≡ Some (label, File m after) = shows_bytes first second id label m old after shows_first state in
-      let keeps_new : Keeps new (changed one (SetObject label (File (modified_at moment m) after))) =
-      subst (λ (x : StoreState). Keeps x (changed one (SetObject label (File (modified_at moment m) after)))) (sym marked) (marks (modified_at moment) second one id label m after keeps_second shows_second) in
-      subst (λ (u : Tree). Keeps new u) (again t label (File m after) (File (modified_at moment m) after)) keeps_new
+pub put_keeps : (s first second new : StoreState) (t : Tree) (id label moment start n : ℕ) (m : Metadata) (old bytes : List ℕ) → Keeps s t → shown_of s.nodes id ≡ Some (label, File m old)
+    → first ≡ stored_set s id (with_room (stored_of s.nodes id) start n) → second ≡ stored_set first id (record (stored_of first.nodes id) { bytes = written (stored_of first.nodes id).bytes start bytes }) → new ≡ edited (with_metadata (modified_at moment)) second id
+    → Keeps new (changed t (SetObject label (File (modified_at moment m) (written old start bytes))))
+put_keeps s first second new t id label moment start n m old bytes keeps shows reserved put marked =
+    let keeps_first : Keeps first t = subst (λ (x : StoreState). Keeps x t) (sym reserved) (keeps_reserved s t id start n keeps) in
+    let shows_first : shown_of first.nodes id ≡ Some (label, File m old) =
+    shows_stored s first id label m old (with_room (stored_of s.nodes id) start n) shows reserved ∙ ap (λ (b : List ℕ). Some (label, File m b)) (stored_bytes (node_in s.nodes id) label m old shows) in
+    let stored : Stored = record (stored_of first.nodes id) { bytes = written (stored_of first.nodes id).bytes start bytes } in
+    let after : stored.bytes ≡ written old start bytes = ap (λ (b : List ℕ). written b start bytes) (stored_bytes (node_in first.nodes id) label m old shows_first) in
+    let one = changed t (SetObject label (File m stored.bytes)) in
+    let keeps_second : Keeps second one = subst (λ (x : StoreState). Keeps x one) (sym put) (keeps_contents stored first t id label m old keeps_first shows_first) in
+    let shows_second : shown_of second.nodes id ≡ Some (label, File m stored.bytes) = shows_stored first second id label m old stored shows_first put in
+    let keeps_new : Keeps new (changed one (SetObject label (File (modified_at moment m) stored.bytes))) =
+    subst (λ (x : StoreState). Keeps x (changed one (SetObject label (File (modified_at moment m) stored.bytes)))) (sym marked) (keeps_file (modified_at moment) second one id label m stored.bytes keeps_second shows_second) in
+    subst (λ (b : List ℕ). Keeps new (changed t (SetObject label (File (modified_at moment m) b)))) after
+    (subst (λ (u : Tree). Keeps new u) (object_again t label (File m stored.bytes) (File (modified_at moment m) stored.bytes)) keeps_new)

@@ -1,13 +1,14 @@
 -- What the store's methods leave of holders and of the count of look-ups.
-use Rattle.std.specs.Prelude.{◌≡◌, ℕ, zero, suc, ◌+◌, ◌-◌, ◌<◌, ◌^◌, min, nat_eq, true, false, cond, List, [], ◌∷◌, length, option_and_then, Option, Some, None, slice_set, if◌then◌else◌, refl}
+use Rattle.std.specs.Prelude.{if◌then◌else◌, ◌≡◌, ℕ, zero, suc, ◌+◌, ◌-◌, ◌<◌, ◌^◌, min, nat_eq, true, false, cond, List, [], ◌∷◌, length, option_and_then, Option, Some, None, slice_set, refl}
 use Rattle.std.proofs.Common.{sym, ap, ◌∙◌, eqb-true, eq-eqb, arith, get_or-set_same, get_or-set_other}
 use Rattle.sf_path.specs.Names.{Name}
+use Rattle.sf_block.specs.Contents.{Stored}
 use Rattle.sf_inode.specs.declared.node.Node.{Node}
 use Rattle.sf_inode.specs.declared.handle.OpenHandle.{OpenHandle}
 use Rattle.sf_inode.specs.declared.handle.Marks.{Marks}
-use Rattle.sf_inode.specs.Nodes.{less_content, more_content, with_content, with_opened, without_name, is_unused}
-use Rattle.sf_inode.specs.Stores.{StoreState, node_in, entry_of, holder_of, edited_by, edited, entry_taken, with_nodes, released_if, released, unlinked_from, unlinked, handles_of, handles_put, handle_put, opened_at, opened, listed_at, handle_listed, handle_dropped, closed_by, closed, handle_at, Inserted}
-use Rattle.sf_walk.specs.Served.{HoldersStay, IsAlike, LookedUp, LooksUp, after_look_ups}
+use Rattle.sf_inode.specs.Nodes.{less_content, more_content, with_content, with_stored, with_opened, without_name, is_unused}
+use Rattle.sf_inode.specs.Stores.{StoreState, node_in, entry_of, holder_of, edited_by, edited, stored_set, entry_taken, with_nodes, released_if, released, unlinked_from, unlinked, handles_of, handles_put, handle_put, opened_at, opened, handle_dropped, closed_by, closed, handle_at, Inserted}
+use Rattle.sf_walk.specs.Served.{HoldersStay, IsAlike, LookedUp, after_look_ups}
 use Rattle.sf_walk.proofs.LookUps.{looked_nodes}
 
 -- a change of a node that leaves its holder
@@ -48,6 +49,10 @@ stays_edited f leaves old s id h =
             | false ↦ λ q w. h i m w
           ] refl (sym (node_in-set s.nodes id n (Some (f n)) e i) ∙ at)
     ] refl
+
+-- a file has other bytes, or other room
+pub stays_stored : (old s : StoreState) (id : ℕ) (stored : Stored) → HoldersStay old s → HoldersStay old (stored_set s id stored)
+stays_stored old s id stored = stays_edited (with_content (with_stored stored)) (λ node. refl) old s id
 
 -- a node went, or not
 pub stays_released : (old s : StoreState) (id : ℕ) → HoldersStay old s → HoldersStay old (released s id)
@@ -106,48 +111,7 @@ stays_closed old s session number h =
       | Some x ↦ stays_released old (edited (λ node. with_opened (node.opens - 1) node) mid x.node) x.node (stays_edited (λ node. with_opened (node.opens - 1) node) (λ node. refl) old mid x.node kept)
     ]
 
-listed_nodes : (s : StoreState) (session number : ℕ) (name : Name) → (handle_listed s session number name).nodes ≡ s.nodes
-listed_nodes s session number name = elim (handles_of s session) as (λ o. (listed_at s session number name o).nodes ≡ s.nodes) [ None ↦ refl | Some hs ↦ refl ]
-
-pub stays_listed : (old s : StoreState) (session number : ℕ) (name : Name) → HoldersStay old s → HoldersStay old (handle_listed s session number name)
-stays_listed old s session number name h i m at = h i m (sym (ap (λ (ns : List (Option Node)). node_in ns i) (listed_nodes s session number name)) ∙ at)
-
 -- ---- look-ups
-pub looks_after : (old mid new : StoreState) (most : ℕ) → LookedUp old mid most → new.look_ups ≡ mid.look_ups → LooksUp old new most
-looks_after old mid new most h e = record { count = h.count; few = h.few; look_ups = e ∙ ap (λ (s : StoreState). s.look_ups) h.state }
-
-pub looks_alone : (old new : StoreState) (most : ℕ) → new.look_ups ≡ old.look_ups → LooksUp old new most
-looks_alone old new most e = record { count = 0; few = omega arith; look_ups = e }
-
-pub looks_released : (s : StoreState) (id : ℕ) → (released s id).look_ups ≡ s.look_ups
-looks_released s id = elim (node_in s.nodes id) as (λ o. (released_if s id o).look_ups ≡ s.look_ups) [
-  | None ↦ refl
-  | Some n ↦ elim (is_unused n) as (λ b. (if b then with_nodes s (slice_set s.nodes id None) else s).look_ups ≡ s.look_ups) [ true ↦ refl | false ↦ refl ]
-]
-
-pub looks_unlinked : (s : StoreState) (dir : ℕ) (n : Name) → (unlinked s dir n).look_ups ≡ s.look_ups
-looks_unlinked s dir n = elim (entry_of s.nodes dir n) as (λ o. (unlinked_from s dir n o).look_ups ≡ s.look_ups) [
-  | None ↦ refl
-  | Some id ↦ looks_released (edited without_name (entry_taken s dir n) id) id
-]
-
-pub looks_opened : (s : StoreState) (session number id : ℕ) (marks : Marks) → (opened s session number id marks).look_ups ≡ s.look_ups
-looks_opened s session number id marks = elim (node_in s.nodes id) as (λ o. (opened_at s session number id marks o).look_ups ≡ s.look_ups) [
-  | None ↦ refl
-  | Some n ↦ elim (handles_of s session) as (λ o. (handles_put s session number (record { node = id; label = n.label; marks = marks; listed = None }) o).look_ups ≡ s.look_ups) [ None ↦ refl | Some hs ↦ refl ]
-]
-
-pub looks_closed : (s : StoreState) (session number : ℕ) → (closed s session number).look_ups ≡ s.look_ups
-looks_closed s session number =
-    let mid = handle_dropped s session number (handles_of s session) in
-    let kept : mid.look_ups ≡ s.look_ups = elim (handles_of s session) as (λ o. (handle_dropped s session number o).look_ups ≡ s.look_ups) [ None ↦ refl | Some hs ↦ refl ] in
-    elim (handle_at s session number) as (λ o. (closed_by mid o).look_ups ≡ s.look_ups) [
-      | None ↦ kept
-      | Some x ↦ looks_released (edited (λ node. with_opened (node.opens - 1) node) mid x.node) x.node ∙ kept
-    ]
-
-pub looks_listed : (s : StoreState) (session number : ℕ) (name : Name) → (handle_listed s session number name).look_ups ≡ s.look_ups
-looks_listed s session number name = elim (handles_of s session) as (λ o. (listed_at s session number name o).look_ups ≡ s.look_ups) [ None ↦ refl | Some hs ↦ refl ]
 
 -- ---- nothing but look-ups
 after_root : (k : ℕ) (s : StoreState) → (after_look_ups k s).root ≡ s.root
@@ -164,6 +128,3 @@ alike_looked old new most h = record {
   root = ap (λ (s : StoreState). s.root) h.state ∙ after_root h.count old;
   sessions = ap (λ (s : StoreState). s.sessions) h.state ∙ after_sessions h.count old;
 }
-
-pub alike_itself : (s : StoreState) → IsAlike s s
-alike_itself s = record { nodes = λ id. refl; root = refl; sessions = refl }

@@ -16,7 +16,7 @@ keeps_after : (k : ℕ) (s : StoreState) (t : Tree) → Keeps s t → Keeps (aft
 keeps_after zero s t h = h
 keeps_after (suc k) s t h =
     let m = keeps_after k s t h in
-    record { shows = m.shows; single = m.single; unlinked = λ id node at off. let u = m.unlinked id node at off in record { free = u.free; other = u.other; bare = u.bare }; named = m.named; counted = m.counted; led = m.led; sessions = m.sessions; handles = m.handles; numbers = m.numbers }
+    record { shows = m.shows; entries = m.entries; single = m.single; unlinked = λ id node at off. let u = m.unlinked id node at off in record { free = u.free; other = u.other; bare = u.bare }; named = m.named; once = m.once; counted = m.counted; led = m.led; sessions = m.sessions; handles = m.handles; numbers = m.numbers }
 
 pub keeps_looked : (old new : StoreState) (t : Tree) (most : ℕ) → LookedUp old new most → Keeps old t → Keeps new t
 keeps_looked old new t most looked h = subst (λ (s : StoreState). Keeps s t) (sym looked.state) (keeps_after looked.count old t h)

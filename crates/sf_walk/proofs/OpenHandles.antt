@@ -15,17 +15,8 @@ use Rattle.sf_inode.specs.declared.handle.OpenHandle.{OpenHandle}
 use Rattle.sf_inode.specs.Nodes.{object_in, is_directory_content, is_file_content}
 use Rattle.sf_inode.specs.Stores.{StoreState, node_in, is_directory_at, is_file_at, handle_at, shown_handle, closed}
 use Rattle.sf_keeps.specs.Keeps.{Keeps}
+use Rattle.sf_keeps.proofs.Laws.{found_node, keeps_closed}
 use Rattle.sf_walk.specs.Served.{IsServed}
-
-abbrev pub FindsHandle : Type 0
-FindsHandle = (s : StoreState) (t : Tree) (session number : ℕ) → Keeps s t → handle_in t session number ≡ option_map (shown_handle session) (handle_at s session number)
-
-abbrev pub FindsNode : Type 0
-FindsNode = (s : StoreState) (t : Tree) (session number : ℕ) (h : OpenHandle) → Keeps s t → handle_at s session number ≡ Some h
-    → (node : Node) × ((node_in s.nodes h.node ≡ Some node) × (node.label ≡ h.label) × (object_of t.objects h.label ≡ Some (object_in node.metadata node.content)))
-
-abbrev pub ClosesOne : Type 0
-ClosesOne = (s : StoreState) (t : Tree) (session number : ℕ) (h : OpenHandle) → Keeps s t → handle_at s session number ≡ Some h → Keeps (closed s session number) (changed t (CloseHandle number))
 
 -- A session's handle, whose node is there. The tree has the handle too, and the node's object.
 pub record IsOpen (s : StoreState) (t : Tree) (session number : ℕ) (h : OpenHandle) : Type 0 where
@@ -37,10 +28,10 @@ pub record IsOpen (s : StoreState) (t : Tree) (session number : ℕ) (h : OpenHa
   pub label : node.label ≡ h.label
   pub opens : opened t session number ≡ opened_object (shown_handle session h) (Some (object_in node.metadata node.content))
 
-pub is_open : FindsHandle → FindsNode → (s : StoreState) (t : Tree) (session number : ℕ) (h : OpenHandle) → Keeps s t → Some h ≡ handle_at s session number → IsOpen s t session number h
-is_open finds nodes s t session number h keeps at =
-    let found = nodes s t session number h keeps (sym at) in
-    let handle : handle_in t session number ≡ Some (shown_handle session h) = finds s t session number keeps ∙ ap (option_map (shown_handle session)) (sym at) in
+pub is_open : (s : StoreState) (t : Tree) (session number : ℕ) (h : OpenHandle) → Keeps s t → Some h ≡ handle_at s session number → IsOpen s t session number h
+is_open s t session number h keeps at =
+    let found = found_node s t keeps session number h (sym at) in
+    let handle : handle_in t session number ≡ Some (shown_handle session h) = keeps.shows.by.handles session number ∙ ap (option_map (shown_handle session)) (sym at) in
     record { keeps = keeps; at = sym at; handle = handle; node = found.0; there = found.1.0; label = found.1.1; opens = ap (opened_by t) handle ∙ ap (opened_object (shown_handle session h)) found.1.2 }
 
 module _ (s : StoreState) (t : Tree) (session number : ℕ) (h : OpenHandle) (o : IsOpen s t session number h) where
@@ -51,7 +42,7 @@ module _ (s : StoreState) (t : Tree) (session number : ℕ) (h : OpenHandle) (o 
   file_is = ap (λ (n : Option Node). option_map_or (λ (node : Node). is_file_content node.content) n false) o.there
 
   -- ---- CLOSE
-  pub close_served : ClosesOne → (new : StoreState) → new ≡ closed s session number → IsServed new t (close number (handle_in t session number)) (reply.Status Success)
-  close_served law new state =
+  pub close_served : (new : StoreState) → new ≡ closed s session number → IsServed new t (close number (handle_in t session number)) (reply.Status Success)
+  close_served new state =
       subst (λ (x : StoreState). IsServed x t (close number (handle_in t session number)) (reply.Status Success)) (sym state)
-      (subst (λ (a : Option Handle). IsServed (closed s session number) t (close number a) (reply.Status Success)) (sym o.handle) (record { told = refl; tree = law s t session number h o.keeps o.at }))
+      (subst (λ (a : Option Handle). IsServed (closed s session number) t (close number a) (reply.Status Success)) (sym o.handle) (record { told = refl; tree = keeps_closed s t o.keeps session number h o.at }))

@@ -19,6 +19,7 @@ use Rattle.sf_call.specs.Tree.{Tree, Found, handle_of, object_of, place_at, foun
 use Rattle.sf_call.specs.Changes.{changed, done, touched}
 use Rattle.sf_call.specs.Changes.Change.{SetObject, NewPath, OpenHandle}
 use Rattle.sf_call.specs.Calls.{Answer, refuses, opens, has_all_handles, directory_handle, file_handle, open_directory, open_present, open_file, unless_root}
+use Rattle.sf_block.specs.Contents.{Stored}
 use Rattle.sf_inode.specs.declared.node.Node.{Node}
 use Rattle.sf_inode.specs.declared.node.NewNode.{NewNode}
 use Rattle.sf_inode.specs.declared.node.Content.{Content}
@@ -27,8 +28,9 @@ use Rattle.sf_inode.specs.declared.handle.OpenHandle as open_handle
 use Rattle.sf_inode.specs.declared.handle.Marks.{Marks}
 use Rattle.sf_inode.specs.Nodes.{object_in, stored_in, new_node, is_directory_content, with_opened, with_metadata, with_content, with_stored}
 use Rattle.sf_keeps.specs.Steps.{walk}
-use Rattle.sf_inode.specs.Stores.{StoreState, node_in, entry_of, is_directory_at, shown_node, shown_of, shown_handle, stored_of, edited, bytes_set, handle_put, opened_at, opened}
+use Rattle.sf_inode.specs.Stores.{StoreState, node_in, entry_of, is_directory_at, shown_node, shown_of, shown_handle, edited, stored_set, handle_put, opened_at, opened}
 use Rattle.sf_keeps.specs.Keeps.{Keeps}
+use Rattle.sf_keeps.proofs.Laws.{keeps_opened, keeps_inserted, keeps_contents, keeps_file, object_again, inserted_alike}
 use Rattle.sf_walk.specs.Ways.{missing, way_from, last_of, found_content, found_node}
 use Rattle.sf_walk.specs.declared.finding.Located.TheVariants as located
 use Rattle.sf_walk.specs.Opening.{marks_of, OpenedNew}
@@ -40,7 +42,7 @@ use Rattle.sf_walk.proofs.Undone.{edited_node, edited_itself}
 use Rattle.sf_walk.proofs.Looked.{keeps_looked, way_looked, alike_after}
 use Rattle.sf_walk.proofs.LastNames.{last_is}
 use Rattle.sf_walk.proofs.Told.{tells_served, past_root, if_ok_map, on_err_map}
-use Rattle.sf_walk.proofs.Parents.{shown_directory, touches, SetsDirectory, FindsDirectory, InsertsNode, MakesPath}
+use Rattle.sf_walk.proofs.Parents.{shown_directory, touches}
 use Rattle.sf_walk.proofs.PathCalls.{node_located}
 
 -- ---- what nodes show
@@ -72,33 +74,16 @@ file_there : (l : ℕ) (m : Metadata) (c : Content) → is_directory_content c �
 file_there l m (content.Directory es) e = cc
 file_there l m (content.File contents) e = refl
 
--- ---- the law of opening
-abbrev pub OpensNode : Type 0
-OpensNode = (s : StoreState) (t : Tree) (session number id : ℕ) (marks : Marks) (node : Node) → Keeps s t → 0 < number → number < 2 ^ 64 → handle_of t.handles number ≡ None → node_in s.nodes id ≡ Some node
-    → Keeps (opened s session number id marks) (changed t (OpenHandle number (shown_handle session (record { node = id; label = node.label; marks = marks; listed = None }))))
-
--- ---- the laws of other objects
-abbrev pub SetsContents : Type 0
-SetsContents = (s after : StoreState) (t : Tree) (id label : ℕ) (m : Metadata) (old new : List ℕ) → Keeps s t → shown_of s.nodes id ≡ Some (label, File m old)
-    → Keeps (bytes_set s id new after) (changed t (SetObject label (File m new)))
-
-abbrev pub SetsFile : Type 0
-SetsFile = (f : Metadata → Metadata) (s : StoreState) (t : Tree) (id label : ℕ) (m : Metadata) (bytes : List ℕ) → Keeps s t → shown_of s.nodes id ≡ Some (label, File m bytes)
-    → Keeps (edited (with_metadata f) s id) (changed t (SetObject label (File (f m) bytes)))
-
-abbrev pub SetsAgain : Type 0
-SetsAgain = (t : Tree) (label : ℕ) (o u : Object) → changed (changed t (SetObject label o)) (SetObject label u) ≡ changed t (SetObject label u)
-
 -- ---- OPENDIR
 module _ (t : Tree) (session number : ℕ) where
   listing_opens : (l : ℕ) (m : Metadata) (c : Content) → is_directory_content c ≡ true → has_all_handles t session ≡ false → open_directory t session number (found_content l m c) ≡ opens number (directory_handle session l) []
   listing_opens l m (content.Directory es) d e = ap (λ b. cond b (refuses Failure) (opens number (directory_handle session l) [])) e
   listing_opens l m (content.File contents) d e = cc
 
-  pub listing_served : OpensNode → (s new : StoreState) (it : Node) (id : ℕ) → Keeps s t → IsNewNumber t number → number < 2 ^ 64 → node_in s.nodes id ≡ Some it → is_directory_content it.content ≡ true → has_all_handles t session ≡ false
+  pub listing_served : (s new : StoreState) (it : Node) (id : ℕ) → Keeps s t → IsNewNumber t number → number < 2 ^ 64 → node_in s.nodes id ≡ Some it → is_directory_content it.content ≡ true → has_all_handles t session ≡ false
       → new ≡ opened s session number id (record { read = false; write = false; append = false }) → IsServed new t (open_directory t session number (found_node it)) (reply.Handle number)
-  listing_served law s new it id k fresh fits at d e state =
-      let kept = law s t session number id (record { read = false; write = false; append = false }) it k fresh.above fits fresh.handle at in
+  listing_served s new it id k fresh fits at d e state =
+      let kept = keeps_opened s t k session number id (record { read = false; write = false; append = false }) it fresh.above fits fresh.handle at in
       subst (λ (a : Answer). IsServed new t a (reply.Handle number)) (sym (listing_opens it.label it.metadata it.content d e))
       (record { told = refl; tree = subst (λ (x : StoreState). Keeps x (changed t (OpenHandle number (directory_handle session it.label)))) (sym state) kept })
 
@@ -111,10 +96,10 @@ module _ (t : Tree) (session number moment : ℕ) (flags : OpenFlags) where
   present_opens l m (content.Directory es) cuts d e f = cc
   present_opens l m (content.File contents) cuts d e f = (λ i. opens_file l m (e i) (f i))
 
-  pub present_served : OpensNode → (s new : StoreState) (it : Node) (id : ℕ) → Keeps s t → IsNewNumber t number → number < 2 ^ 64 → node_in s.nodes id ≡ Some it → is_directory_content it.content ≡ false → has_all_handles t session ≡ false
+  pub present_served : (s new : StoreState) (it : Node) (id : ℕ) → Keeps s t → IsNewNumber t number → number < 2 ^ 64 → node_in s.nodes id ≡ Some it → is_directory_content it.content ≡ false → has_all_handles t session ≡ false
       → (flags.truncate && flags.write) ≡ false → new ≡ opened s session number id (marks_of flags) → IsServed new t (open_present t session number moment flags (found_node it)) (reply.Handle number)
-  present_served law s new it id k fresh fits at d e f state =
-      let kept = law s t session number id (marks_of flags) it k fresh.above fits fresh.handle at in
+  present_served s new it id k fresh fits at d e f state =
+      let kept = keeps_opened s t k session number id (marks_of flags) it fresh.above fits fresh.handle at in
       subst (λ (a : Answer). IsServed new t a (reply.Handle number)) (sym (present_opens it.label it.metadata it.content false d e f))
       (record { told = refl; tree = subst (λ (x : StoreState). Keeps x (changed t (OpenHandle number (file_handle session it.label flags)))) (sym state) kept })
 
@@ -122,11 +107,11 @@ module _ (t : Tree) (session number moment : ℕ) (flags : OpenFlags) where
   abbrev pub CutsFile : StoreState → StoreState → ℕ → Type 0
   CutsFile mid new id = (u : Tree) (label : ℕ) (m : Metadata) (bytes : List ℕ) → Keeps mid u → shown_of mid.nodes id ≡ Some (label, File m bytes) → Keeps new (changed u (SetObject label (File (modified_at moment m) [])))
 
-  pub present_cut : OpensNode → (s mid new : StoreState) (it : Node) (id : ℕ) → Keeps s t → IsNewNumber t number → number < 2 ^ 64 → node_in s.nodes id ≡ Some it → is_directory_content it.content ≡ false → has_all_handles t session ≡ false
+  pub present_cut : (s mid new : StoreState) (it : Node) (id : ℕ) → Keeps s t → IsNewNumber t number → number < 2 ^ 64 → node_in s.nodes id ≡ Some it → is_directory_content it.content ≡ false → has_all_handles t session ≡ false
       → (flags.truncate && flags.write) ≡ true → mid ≡ opened s session number id (marks_of flags) → CutsFile mid new id → IsServed new t (open_present t session number moment flags (found_node it)) (reply.Handle number)
-  present_cut law s mid new it id k fresh fits at d e f state cuts =
+  present_cut s mid new it id k fresh fits at d e f state cuts =
       let kept : Keeps mid (changed t (OpenHandle number (file_handle session it.label flags))) =
-      subst (λ (x : StoreState). Keeps x (changed t (OpenHandle number (file_handle session it.label flags)))) (sym state) (law s t session number id (marks_of flags) it k fresh.above fits fresh.handle at) in
+      subst (λ (x : StoreState). Keeps x (changed t (OpenHandle number (file_handle session it.label flags)))) (sym state) (keeps_opened s t k session number id (marks_of flags) it fresh.above fits fresh.handle at) in
       let shown : shown_of mid.nodes id ≡ Some (it.label, File it.metadata (stored_in it.content).bytes) =
       ap (λ (x : StoreState). shown_of x.nodes id) state ∙ shown_opened s session number id (marks_of flags) id ∙ ap (option_map shown_node) at ∙ file_there it.label it.metadata it.content d in
       subst (λ (a : Answer). IsServed new t a (reply.Handle number)) (sym (present_opens it.label it.metadata it.content true d e f))
@@ -140,24 +125,24 @@ module _ (t : Tree) (session number moment : ℕ) (path : Path) (flags : OpenFla
   absent_is : (lacks full : Bool) → not flags.create ≡ lacks → has_all_handles t session ≡ full → open_file t session number moment path flags attrs Absent ≡ creates lacks full
   absent_is lacks full c f = λ i. creates (c i) (f i)
 
-  pub absent_served : OpensNode → SetsDirectory → FindsDirectory → InsertsNode → MakesPath → (s mid new : StoreState) (front : Path) (dir : ℕ) (metadata : Metadata)
+  pub absent_served : (s mid new : StoreState) (front : Path) (dir : ℕ) (metadata : Metadata)
       → Keeps s t → IsNewNumber t number → number < 2 ^ 64 → path ≡ front ++ last_of path ∷ [] → walk (entry_of s.nodes) s.root front ≡ Some dir → is_directory_at s.nodes dir ≡ true → entry_of s.nodes dir (last_of path) ≡ None
       → not flags.create ≡ false → has_all_handles t session ≡ false → metadata ≡ new_metadata 0o644 moment attrs
       → OpenedNew s mid session number dir (last_of path) (marks_of flags) (record { label = number; file_type = file_type.File; metadata = metadata }) → new ≡ edited (with_metadata (modified_at moment)) mid dir
       → IsServed new t (open_file t session number moment path flags attrs Absent) (reply.Handle number)
-  absent_served opens_law put_law finds inserts makes s mid new front dir metadata k fresh fits is at d none c f asked did state =
+  absent_served s mid new front dir metadata k fresh fits is at d none c f asked did state =
       let n = last_of path in
       let it : NewNode = record { label = number; file_type = file_type.File; metadata = metadata } in
       let made = changed t (NewPath (front ++ n ∷ []) number (File metadata [])) in
-      let put : Keeps did.mid made = makes s did.mid t front dir n did.id it k did.inserted at d none fresh.label in
+      let put : Keeps did.mid made = keeps_inserted s did.mid t front dir n did.id it k did.inserted at d none fresh.label in
       let opens_it : Keeps (opened did.mid session number did.id (marks_of flags)) (changed made (OpenHandle number (file_handle session number flags))) =
-      opens_law did.mid made session number did.id (marks_of flags) (new_node it) put fresh.above fits fresh.handle did.inserted.at in
+      keeps_opened did.mid made put session number did.id (marks_of flags) (new_node it) fresh.above fits fresh.handle did.inserted.at in
       let other : dir ≢ did.id = λ same. (let w = shown_directory s.nodes dir d in let gone = ap (node_in s.nodes) same ∙ did.inserted.fresh in let nothing = ap (option_map shown_node) gone in let x : ⊥ = cc (w.1.1) in x) in
       let shown : shown_of mid.nodes dir ≡ shown_of s.nodes dir =
-      ap (λ (x : StoreState). shown_of x.nodes dir) did.state ∙ shown_opened did.mid session number did.id (marks_of flags) dir ∙ (inserts s did.mid dir n did.id (new_node it) dir did.inserted other).0 in
+      ap (λ (x : StoreState). shown_of x.nodes dir) did.state ∙ shown_opened did.mid session number did.id (marks_of flags) dir ∙ (inserted_alike s did.mid dir n did.id (new_node it) dir did.inserted other).0 in
       let u = changed made (OpenHandle number (file_handle session number flags)) in
       let after : Keeps (edited (with_metadata (modified_at moment)) mid dir) (done u (touched t moment (parent (front ++ n ∷ [])))) =
-      touches put_law finds s mid t u front n dir moment k at d (subst (λ (x : StoreState). Keeps x u) (sym did.state) opens_it) shown in
+      touches s mid t u front n dir moment k at d (subst (λ (x : StoreState). Keeps x u) (sym did.state) opens_it) shown in
       let whole : Keeps new (done t (OpenHandle number (file_handle session number flags) ∷ NewPath path number (File (new_metadata 0o644 moment attrs) []) ∷ touched t moment (parent path))) =
       subst (λ (x : StoreState). Keeps x (done t (OpenHandle number (file_handle session number flags) ∷ NewPath path number (File (new_metadata 0o644 moment attrs) []) ∷ touched t moment (parent path)))) (sym state)
       (subst (λ (m : Metadata). Keeps (edited (with_metadata (modified_at moment)) mid dir) (done t (OpenHandle number (file_handle session number flags) ∷ NewPath path number (File m []) ∷ touched t moment (parent path)))) asked
@@ -182,17 +167,17 @@ cut_shown : (room : ℕ) (o : Option Node) (label : ℕ) (m : Metadata) (bytes :
 cut_shown room None label m bytes e = cc
 cut_shown room (Some node) label m bytes e = cut_node room node.content node.label label node.metadata m bytes e
 
-pub cut_served : SetsContents → SetsFile → SetsAgain → (s mid new : StoreState) (t : Tree) (id moment label : ℕ) (m : Metadata) (bytes : List ℕ) → Keeps s t → shown_of s.nodes id ≡ Some (label, File m bytes)
-    → mid ≡ bytes_set s id [] mid → new ≡ edited (with_metadata (modified_at moment)) mid id → Keeps new (changed t (SetObject label (File (modified_at moment m) [])))
-cut_served contents_law file_law again_law s mid new t id moment label m bytes k at is state =
-    let kept : Keeps mid (changed t (SetObject label (File m []))) = subst (λ (x : StoreState). Keeps x (changed t (SetObject label (File m [])))) (sym is) (contents_law s mid t id label m bytes [] k at) in
+pub cut_served : (room : ℕ) (s mid new : StoreState) (t : Tree) (id moment label : ℕ) (m : Metadata) (bytes : List ℕ) → Keeps s t → shown_of s.nodes id ≡ Some (label, File m bytes)
+    → mid ≡ stored_set s id (record { bytes = []; room = room }) → new ≡ edited (with_metadata (modified_at moment)) mid id → Keeps new (changed t (SetObject label (File (modified_at moment m) [])))
+cut_served room s mid new t id moment label m bytes k at is state =
+    let kept : Keeps mid (changed t (SetObject label (File m []))) = subst (λ (x : StoreState). Keeps x (changed t (SetObject label (File m [])))) (sym is) (keeps_contents (record { bytes = []; room = room }) s t id label m bytes k at) in
     let shown : shown_of mid.nodes id ≡ Some (label, File m []) =
     ap (λ (x : StoreState). shown_of x.nodes id) is
-    ∙ ap (option_map shown_node) (edited_itself (with_content (with_stored (record { bytes = []; room = (stored_of mid.nodes id).room }))) s id)
-    ∙ cut_shown (stored_of mid.nodes id).room (node_in s.nodes id) label m bytes at in
+    ∙ ap (option_map shown_node) (edited_itself (with_content (with_stored (record { bytes = []; room = room }))) s id)
+    ∙ cut_shown room (node_in s.nodes id) label m bytes at in
     subst (λ (x : StoreState). Keeps x (changed t (SetObject label (File (modified_at moment m) [])))) (sym state)
-    (subst (λ (u : Tree). Keeps (edited (with_metadata (modified_at moment)) mid id) u) (again_law t label (File m []) (File (modified_at moment m) []))
-    (file_law (modified_at moment) mid (changed t (SetObject label (File m []))) id label m [] kept shown))
+    (subst (λ (u : Tree). Keeps (edited (with_metadata (modified_at moment)) mid id) u) (object_again t label (File m []) (File (modified_at moment m) []))
+    (keeps_file (modified_at moment) mid (changed t (SetObject label (File m []))) id label m [] kept shown))
 
 -- ---- what opening leaves of holders
 pub stays_opened_new : (before s new : StoreState) (session number dir : ℕ) (n : Name) (marks : Marks) (made : NewNode) → s.nodes ≡ before.nodes → OpenedNew s new session number dir n marks made → HoldersStay before new

@@ -22,6 +22,7 @@ use Rattle.sf_inode.specs.Nodes.{object_in, new_content, new_node, entry_in, is_
 use Rattle.sf_keeps.specs.Steps.{walk}
 use Rattle.sf_inode.specs.Stores.{StoreState, Inserted, node_in, entry_of, is_directory_at, is_bare_at, shown_of, shown_node, holder_of, edited, unlinked}
 use Rattle.sf_keeps.specs.Keeps.{Keeps}
+use Rattle.sf_keeps.proofs.Laws.{directory_found, keeps_directory, keeps_inserted, keeps_unlinked, inserted_alike, unlinked_alike}
 use Rattle.sf_walk.specs.declared.finding.Located.TheVariants as located
 use Rattle.sf_walk.specs.Ways.{way_from, last_of}
 use Rattle.sf_walk.specs.Served.{LookedUp, IsServed}
@@ -69,47 +70,22 @@ bare_above nodes d n =
       | Some node ↦ λ e. content_bare node.content n e
     ]
 
--- ---- laws of the store, as they are told
-abbrev pub SetsDirectory : Type 0
-SetsDirectory = (f : Metadata → Metadata) (s : StoreState) (t : Tree) (id label : ℕ) (m : Metadata) → Keeps s t → shown_of s.nodes id ≡ Some (label, Directory m)
-    → Keeps (edited (with_metadata f) s id) (changed t (SetObject label (Directory (f m))))
-
-abbrev pub FindsDirectory : Type 0
-FindsDirectory = (s : StoreState) (t : Tree) (p : Path) (dir label : ℕ) (m : Metadata) → Keeps s t → walk (entry_of s.nodes) s.root p ≡ Some dir → shown_of s.nodes dir ≡ Some (label, Directory m)
-    → directory_at t p ≡ Some (label, m)
-
-abbrev pub InsertsNode : Type 0
-InsertsNode = (old new : StoreState) (dir : ℕ) (n : Name) (id : ℕ) (node : Node) (i : ℕ) → Inserted old new dir n id node → i ≢ id → (shown_of new.nodes i ≡ shown_of old.nodes i) × (holder_of new.nodes i ≡ holder_of old.nodes i)
-
-abbrev pub UnlinksNode : Type 0
-UnlinksNode = (s : StoreState) (dir : ℕ) (n : Name) (i : ℕ) → entry_of s.nodes dir n ≢ Some i
-    → (shown_of (unlinked s dir n).nodes i ≡ shown_of s.nodes i) × (holder_of (unlinked s dir n).nodes i ≡ holder_of s.nodes i)
-
-abbrev pub MakesPath : Type 0
-MakesPath = (old new : StoreState) (t : Tree) (p : Path) (dir : ℕ) (n : Name) (id : ℕ) (made : NewNode) → Keeps old t → Inserted old new dir n id (new_node made)
-    → walk (entry_of old.nodes) old.root p ≡ Some dir → is_directory_at old.nodes dir ≡ true → entry_of old.nodes dir n ≡ None → object_of t.objects made.label ≡ None
-    → Keeps new (changed t (NewPath (p ++ n ∷ []) made.label (object_in made.metadata (new_content made.file_type))))
-
-abbrev pub TakesPath : Type 0
-TakesPath = (s : StoreState) (t : Tree) (p : Path) (dir : ℕ) (n : Name) (id : ℕ) → Keeps s t → walk (entry_of s.nodes) s.root p ≡ Some dir → entry_of s.nodes dir n ≡ Some id → is_bare_at s.nodes id ≡ true
-    → Keeps (unlinked s dir n) (changed t (GonePath (p ++ n ∷ [])))
-
 -- a directory that a path's last name stands in is modified, in the store and in the tree
-pub touches : SetsDirectory → FindsDirectory → (s new : StoreState) (t u : Tree) (r : Path) (n : Name) (dir moment : ℕ) → Keeps s t → walk (entry_of s.nodes) s.root r ≡ Some dir → is_directory_at s.nodes dir ≡ true
+pub touches : (s new : StoreState) (t u : Tree) (r : Path) (n : Name) (dir moment : ℕ) → Keeps s t → walk (entry_of s.nodes) s.root r ≡ Some dir → is_directory_at s.nodes dir ≡ true
     → Keeps new u → shown_of new.nodes dir ≡ shown_of s.nodes dir → Keeps (edited (with_metadata (modified_at moment)) new dir) (done u (touched t moment (parent (r ++ n ∷ []))))
-touches put_law finds s new t u r n dir moment h at d kept same =
+touches s new t u r n dir moment h at d kept same =
     let w = shown_directory s.nodes dir d in
-    let is : directory_at t (parent (r ++ n ∷ [])) ≡ Some (w.0, w.1.0) = ap (directory_at t) (parent_is r n) ∙ finds s t r dir w.0 w.1.0 h at w.1.1 in
+    let is : directory_at t (parent (r ++ n ∷ [])) ≡ Some (w.0, w.1.0) = ap (directory_at t) (parent_is r n) ∙ directory_found s t h r dir w.0 w.1.0 at w.1.1 in
     subst (λ (o : Option (ℕ × Metadata)). Keeps (edited (with_metadata (modified_at moment)) new dir) (done u (touch moment o))) (sym is)
-    (put_law (modified_at moment) new u dir w.0 w.1.0 kept (same ∙ w.1.1))
+    (keeps_directory (modified_at moment) new u dir w.0 w.1.0 kept (same ∙ w.1.1))
 
 -- ---- MKDIR of a missing name
-pub make_served : SetsDirectory → FindsDirectory → InsertsNode → MakesPath → (old mid made new : StoreState) (t : Tree) (p : Path) (most number moment : ℕ) (attrs : Attrs) (dir id : ℕ) (it : NewNode)
+pub make_served : (old mid made new : StoreState) (t : Tree) (p : Path) (most number moment : ℕ) (attrs : Attrs) (dir id : ℕ) (it : NewNode)
     → LookedUp old mid most → Keeps old t → object_of t.objects number ≡ None → located.Missing dir ≡ way_from old.nodes old.root old.root p
     → Inserted mid made dir (last_of p) id (new_node it) → it.label ≡ number → object_in it.metadata (new_content it.file_type) ≡ Directory (new_metadata 0o755 moment attrs)
     → new ≡ edited (with_metadata (modified_at moment)) made dir
     → IsServed new t (make_directory t number moment p attrs (place_at t p)) (reply.Status Success)
-make_served put_law finds inserts makes old mid made new t p most number moment attrs dir id it looked h fresh e did label object state =
+make_served old mid made new t p most number moment attrs dir id it looked h fresh e did label object state =
     let k = keeps_looked old mid t most looked h in
     let f = name_missing mid t k p dir (way_looked old mid p most (located.Missing dir) looked e) in
     let r = f.1.0 in
@@ -117,10 +93,10 @@ make_served put_law finds inserts makes old mid made new t p most number moment 
     let is : p ≡ r ++ n ∷ [] = f.1.2 in
     let put = subst (λ (m : Name). Inserted mid made dir m id (new_node it)) (ap last_of is ∙ last_is r n) did in
     let u = changed t (NewPath (r ++ n ∷ []) it.label (object_in it.metadata (new_content it.file_type))) in
-    let kept : Keeps made u = makes mid made t r dir n id it k put f.1.3 f.1.5 f.1.4 (ap (object_of t.objects) label ∙ fresh) in
+    let kept : Keeps made u = keeps_inserted mid made t r dir n id it k put f.1.3 f.1.5 f.1.4 (ap (object_of t.objects) label ∙ fresh) in
     let other : dir ≢ id = λ same. (let w = shown_directory mid.nodes dir f.1.5 in let gone = ap (node_in mid.nodes) same ∙ put.fresh in let none = ap (option_map shown_node) gone in let x : ⊥ = cc (w.1.1) in x) in
     let after : Keeps (edited (with_metadata (modified_at moment)) made dir) (done u (touched t moment (parent (r ++ n ∷ [])))) =
-    touches put_law finds mid made t u r n dir moment k f.1.3 f.1.5 kept (inserts mid made dir n id (new_node it) dir put other).0 in
+    touches mid made t u r n dir moment k f.1.3 f.1.5 kept (inserted_alike mid made dir n id (new_node it) dir put other).0 in
     let whole : Keeps new (done t (NewPath p number (Directory (new_metadata 0o755 moment attrs)) ∷ touched t moment (parent p))) =
     subst (λ (s : StoreState). Keeps s (done t (NewPath p number (Directory (new_metadata 0o755 moment attrs)) ∷ touched t moment (parent p)))) (sym state)
     (subst (λ (q : Path). Keeps (edited (with_metadata (modified_at moment)) made dir) (done t (NewPath q number (Directory (new_metadata 0o755 moment attrs)) ∷ touched t moment (parent q)))) (sym is)
@@ -129,19 +105,19 @@ make_served put_law finds inserts makes old mid made new t p most number moment 
     subst (λ (a : Answer). IsServed new t a (reply.Status Success)) (sym (ap (make_directory t number moment p attrs) f.0)) (record { told = refl; tree = whole })
 
 -- ---- a path less
-pub goes_served : SetsDirectory → FindsDirectory → UnlinksNode → TakesPath → (s new : StoreState) (t : Tree) (p : Path) (moment dir y : ℕ)
+pub goes_served : (s new : StoreState) (t : Tree) (p : Path) (moment dir y : ℕ)
     → Keeps s t → 0 < length p → way_from s.nodes s.root s.root p ≡ located.At dir y → is_bare_at s.nodes y ≡ true → new ≡ edited (with_metadata (modified_at moment)) (unlinked s dir (last_of p)) dir
     → IsServed new t (goes t moment p) (reply.Status Success)
-goes_served put_law finds unlinks takes s new t p moment dir y h some e bare state = elim (node_at s t h p dir y e).1 [
+goes_served s new t p moment dir y h some e bare state = elim (node_at s t h p dir y e).1 [
   | inl root ↦ let z = ap (λ (q : Path). length q) root in absurd (omega arith)
   | inr f ↦
       let r = f.0 in
       let n = f.1 in
       let is : p ≡ r ++ n ∷ [] = f.2 in
-      let kept : Keeps (unlinked s dir n) (changed t (GonePath (r ++ n ∷ []))) = takes s t r dir n y h f.3 f.4 bare in
+      let kept : Keeps (unlinked s dir n) (changed t (GonePath (r ++ n ∷ []))) = keeps_unlinked s t r dir n y h f.3 f.4 bare in
       let other : entry_of s.nodes dir n ≢ Some dir = λ own. (let same : dir ≡ y = (let g = f.4 in cc) in let none = bare_above s.nodes dir n (ap (is_bare_at s.nodes) same ∙ bare) in let x : ⊥ = cc in x) in
       let after : Keeps (edited (with_metadata (modified_at moment)) (unlinked s dir n) dir) (done (changed t (GonePath (r ++ n ∷ []))) (touched t moment (parent (r ++ n ∷ [])))) =
-      touches put_law finds s (unlinked s dir n) t (changed t (GonePath (r ++ n ∷ []))) r n dir moment h f.3 (entry_owns s.nodes dir n y f.4) kept (unlinks s dir n dir other).0 in
+      touches s (unlinked s dir n) t (changed t (GonePath (r ++ n ∷ []))) r n dir moment h f.3 (entry_owns s.nodes dir n y f.4) kept (unlinked_alike s dir n dir other).0 in
       let whole : Keeps new (done t (GonePath p ∷ touched t moment (parent p))) =
       subst (λ (x : StoreState). Keeps x (done t (GonePath p ∷ touched t moment (parent p)))) (sym state)
       (subst (λ (x : Name). Keeps (edited (with_metadata (modified_at moment)) (unlinked s dir x) dir) (done t (GonePath p ∷ touched t moment (parent p)))) (sym (ap last_of is ∙ last_is r n))

@@ -20,6 +20,7 @@ use Rattle.sf_inode.specs.Nodes.{object_in, is_directory_content, is_bare_conten
 use Rattle.sf_keeps.specs.Steps.{walk}
 use Rattle.sf_inode.specs.Stores.{StoreState, node_in, entry_of, is_directory_at, is_bare_at, edited, unlinked}
 use Rattle.sf_keeps.specs.Keeps.{Keeps}
+use Rattle.sf_keeps.proofs.Laws.{bare_found}
 use Rattle.sf_walk.specs.declared.finding.Located.TheVariants as located
 use Rattle.sf_walk.specs.Ways.{way_from, found_content, found_node}
 use Rattle.sf_walk.specs.Served.{LookedUp, IsServed, HoldersStay}
@@ -159,21 +160,20 @@ module _ (old mid : StoreState) (t : Tree) (p : Path) (most : ℕ) (looked : Loo
       tells_served mid t (remove_directory t moment p (found_at t p)) (reply.Status Failure)
       (remove_directory_located moment above y e ∙ ap (λ b. cond {A = Answer} b (if is_empty t.names p then goes t moment p else refuses Failure) (refuses Failure)) (sym d)) mid_keeps
 
-  module _ (empties : (s : StoreState) (u : Tree) (q : Path) (id : ℕ) → Keeps s u → walk (entry_of s.nodes) s.root q ≡ Some id → is_empty u.names q ≡ is_bare_at s.nodes id) where
-    remove_directory_is : (moment above y : ℕ) → located.At above y ≡ way_from old.nodes old.root old.root p → true ≡ is_directory_at mid.nodes y
-        → remove_directory t moment p (found_at t p) ≡ (if is_bare_at mid.nodes y then goes t moment p else refuses Failure)
-    remove_directory_is moment above y e d =
-        remove_directory_located moment above y e ∙ ap (λ b. cond {A = Answer} b (if is_empty t.names p then goes t moment p else refuses Failure) (refuses Failure)) (sym d)
-        ∙ ap (λ b. if b then goes t moment p else refuses Failure) (empties mid t p y mid_keeps (walk_located above y e))
+  remove_directory_is : (moment above y : ℕ) → located.At above y ≡ way_from old.nodes old.root old.root p → true ≡ is_directory_at mid.nodes y
+      → remove_directory t moment p (found_at t p) ≡ (if is_bare_at mid.nodes y then goes t moment p else refuses Failure)
+  remove_directory_is moment above y e d =
+      remove_directory_located moment above y e ∙ ap (λ b. cond {A = Answer} b (if is_empty t.names p then goes t moment p else refuses Failure) (refuses Failure)) (sym d)
+      ∙ ap (λ b. if b then goes t moment p else refuses Failure) (bare_found mid t mid_keeps p y (walk_located above y e))
 
-    pub remove_directory_full : (moment above y : ℕ) → located.At above y ≡ way_from old.nodes old.root old.root p → true ≡ is_directory_at mid.nodes y → false ≡ is_bare_at mid.nodes y
-        → IsServed mid t (remove_directory t moment p (found_at t p)) (reply.Status Failure)
-    remove_directory_full moment above y e d full =
-        tells_served mid t (remove_directory t moment p (found_at t p)) (reply.Status Failure) (remove_directory_is moment above y e d ∙ ap (λ b. if b then goes t moment p else refuses Failure) (sym full)) mid_keeps
+  pub remove_directory_full : (moment above y : ℕ) → located.At above y ≡ way_from old.nodes old.root old.root p → true ≡ is_directory_at mid.nodes y → false ≡ is_bare_at mid.nodes y
+      → IsServed mid t (remove_directory t moment p (found_at t p)) (reply.Status Failure)
+  remove_directory_full moment above y e d full =
+      tells_served mid t (remove_directory t moment p (found_at t p)) (reply.Status Failure) (remove_directory_is moment above y e d ∙ ap (λ b. if b then goes t moment p else refuses Failure) (sym full)) mid_keeps
 
-    pub remove_directory_served : (new : StoreState) (moment above y : ℕ) → located.At above y ≡ way_from old.nodes old.root old.root p → true ≡ is_directory_at mid.nodes y → true ≡ is_bare_at mid.nodes y
-        → ((u : Tree) (node : ℕ) → Keeps mid u → way_from mid.nodes mid.root mid.root p ≡ located.At above node → is_bare_at mid.nodes node ≡ true → IsServed new u (goes u moment p) (reply.Status Success))
-        → IsServed new t (remove_directory t moment p (found_at t p)) (reply.Status Success)
-    remove_directory_served new moment above y e d bare served =
-        subst (λ (a : Answer). IsServed new t a (reply.Status Success)) (sym (remove_directory_is moment above y e d ∙ ap (λ b. if b then goes t moment p else refuses Failure) (sym bare)))
-        (served t y mid_keeps (way_looked old mid p most (located.At above y) looked e) (sym bare))
+  pub remove_directory_served : (new : StoreState) (moment above y : ℕ) → located.At above y ≡ way_from old.nodes old.root old.root p → true ≡ is_directory_at mid.nodes y → true ≡ is_bare_at mid.nodes y
+      → ((u : Tree) (node : ℕ) → Keeps mid u → way_from mid.nodes mid.root mid.root p ≡ located.At above node → is_bare_at mid.nodes node ≡ true → IsServed new u (goes u moment p) (reply.Status Success))
+      → IsServed new t (remove_directory t moment p (found_at t p)) (reply.Status Success)
+  remove_directory_served new moment above y e d bare served =
+      subst (λ (a : Answer). IsServed new t a (reply.Status Success)) (sym (remove_directory_is moment above y e d ∙ ap (λ b. if b then goes t moment p else refuses Failure) (sym bare)))
+      (served t y mid_keeps (way_looked old mid p most (located.At above y) looked e) (sym bare))

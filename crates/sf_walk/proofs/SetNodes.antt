@@ -1,5 +1,5 @@
 -- The attributes of a node that are set.
-use Rattle.std.specs.Prelude.{◌≡◌, ℕ, ◌≤◌, nat_lt, true, false, if◌then◌else◌, List, [], ◌∷◌, option_map, Option, Some, None, refl}
+use Rattle.std.specs.Prelude.{if◌then◌else◌, ◌≡◌, ℕ, ◌≤◌, nat_lt, false, List, [], ◌∷◌, option_map, Option, Some, None, refl}
 use Rattle.std.specs.Option.{option_map_or}
 use Rattle.std.proofs.lemmas.Bool.Decides.{nat_tests}
 use Rattle.std.proofs.Common.{sym, ap, subst, ◌∙◌, arith}
@@ -10,7 +10,7 @@ use Rattle.sf_call.specs.declared.metadata.Metadata.{Metadata}
 use Rattle.sf_call.specs.declared.limits.TheConstants.{MAX_FILE_SIZE}
 use Rattle.sf_call.specs.Attributes.{Object, modified_at, with_parts}
 use Rattle.sf_call.specs.Attributes.Object.{Directory, File}
-use Rattle.sf_call.specs.Contents.{resized}
+use Rattle.sf_block.specs.Contents.{resized, Stored, with_room}
 use Rattle.sf_call.specs.Tree.{Tree}
 use Rattle.sf_call.specs.Changes.{changed}
 use Rattle.sf_call.specs.Changes.Change.{SetObject}
@@ -18,10 +18,10 @@ use Rattle.sf_call.specs.Calls.{Answer, refuses, succeeds, sets, refuses_size, w
 use Rattle.sf_inode.specs.declared.node.Node.{Node}
 use Rattle.sf_inode.specs.declared.node.Content.{Content}
 use Rattle.sf_inode.specs.declared.node.Content.TheVariants as content
-use Rattle.sf_block.specs.Contents.{Stored}
-use Rattle.sf_inode.specs.Nodes.{object_in, stored_in, with_stored, with_content, is_directory_content, with_metadata}
-use Rattle.sf_inode.specs.Stores.{StoreState, node_in, stored_of, bytes_set, is_directory_at, shown_of, shown_node, edited}
+use Rattle.sf_inode.specs.Nodes.{object_in, nothing_stored, stored_in, with_stored, with_content, is_directory_content, with_metadata}
+use Rattle.sf_inode.specs.Stores.{StoreState, node_in, stored_of, stored_set, is_directory_at, shown_of, shown_node, edited}
 use Rattle.sf_keeps.specs.Keeps.{Keeps}
+use Rattle.sf_keeps.proofs.Laws.{keeps_metadata, keeps_contents, keeps_file, object_again, edited_itself}
 use Rattle.sf_walk.specs.Served.{IsServed}
 
 pub not_above : (size : ℕ) → size ≤ MAX_FILE_SIZE → nat_lt MAX_FILE_SIZE size ≡ false
@@ -30,16 +30,6 @@ not_above size h = grind (arith, nat_tests)
 sets_plain : (moment l : ℕ) (attrs : Attrs) (m : Metadata) (c : Content) → attrs.size ≡ None → sets moment l attrs (object_in m c) ≡ succeeds (SetObject l (object_in (with_parts m attrs) c) ∷ [])
 sets_plain moment l attrs m (content.Directory es) e = λ i. if refuses_size (Directory m) (e i) then refuses Failure else succeeds (SetObject l (Directory (with_parts m attrs)) ∷ [])
 sets_plain moment l attrs m (content.File c) e = λ i. if refuses_size (File m c.bytes) (e i) then refuses Failure else succeeds (SetObject l (with_size moment attrs (e i) m c.bytes) ∷ [])
-
-sets_directory : (moment l : ℕ) (attrs : Attrs) (m : Metadata) (c : Content) (size : ℕ) → attrs.size ≡ Some size → is_directory_content c ≡ true → sets moment l attrs (object_in m c) ≡ refuses Failure
-sets_directory moment l attrs m (content.Directory es) size e d = λ i. if refuses_size (Directory m) (e i) then refuses Failure else succeeds (SetObject l (Directory (with_parts m attrs)) ∷ [])
-sets_directory moment l attrs m (content.File c) size e d = cc
-
-sets_above : (moment l : ℕ) (attrs : Attrs) (m : Metadata) (c : Content) (size : ℕ) → attrs.size ≡ Some size → nat_lt MAX_FILE_SIZE size ≡ true → sets moment l attrs (object_in m c) ≡ refuses Failure
-sets_above moment l attrs m (content.Directory es) size e d = sets_directory moment l attrs m (content.Directory es) size e refl
-sets_above moment l attrs m (content.File c) size e d =
-    (λ i. if refuses_size (File m c.bytes) (e i) then refuses Failure else succeeds (SetObject l (with_size moment attrs (e i) m c.bytes) ∷ []))
-    ∙ (λ i. if d i then refuses Failure else succeeds (SetObject l (with_size moment attrs (Some size) m c.bytes) ∷ []))
 
 sets_cut : (moment l : ℕ) (attrs : Attrs) (m : Metadata) (bytes : List ℕ) (size : ℕ) → attrs.size ≡ Some size → nat_lt MAX_FILE_SIZE size ≡ false
     → sets moment l attrs (File m bytes) ≡ succeeds (SetObject l (File (with_parts (modified_at moment m) attrs) (resized bytes size)) ∷ [])
@@ -82,71 +72,52 @@ pub shown_marked : (f : Metadata → Metadata) (o : Option Node) (l : ℕ) (m : 
 shown_marked f None l m bytes e = cc
 shown_marked f (Some node) l m bytes e = marked_content f l node.label m node.metadata node.content bytes e
 
-pub stored_bytes : (o : Option Node) (l : ℕ) (m : Metadata) (old : List ℕ) → option_map shown_node o ≡ Some (l, File m old) → (option_map_or (λ (node : Node). stored_in node.content) o (record { bytes = []; room = 0 })).bytes ≡ old
+pub stored_bytes : (o : Option Node) (l : ℕ) (m : Metadata) (old : List ℕ) → option_map shown_node o ≡ Some (l, File m old) → (option_map_or (λ (node : Node). stored_in node.content) o nothing_stored).bytes ≡ old
 stored_bytes None l m old e = cc
 stored_bytes (Some node) l m old e = content_bytes l node.label m node.metadata node.content old e
 
-abbrev pub SetsMetadata : Type 0
-SetsMetadata = (f : Metadata → Metadata) (s : StoreState) (t : Tree) (id : ℕ) (node : Node) → Keeps s t → node_in s.nodes id ≡ Some node
-    → Keeps (edited (with_metadata f) s id) (changed t (SetObject node.label (object_in (f node.metadata) node.content)))
-
-abbrev pub SetsFile : Type 0
-SetsFile = (f : Metadata → Metadata) (s : StoreState) (t : Tree) (id label : ℕ) (m : Metadata) (bytes : List ℕ) → Keeps s t → shown_of s.nodes id ≡ Some (label, File m bytes)
-    → Keeps (edited (with_metadata f) s id) (changed t (SetObject label (File (f m) bytes)))
-
-abbrev pub SetsBytes : Type 0
-SetsBytes = (s after : StoreState) (t : Tree) (id label : ℕ) (m : Metadata) (old new : List ℕ) → Keeps s t → shown_of s.nodes id ≡ Some (label, File m old)
-    → Keeps (bytes_set s id new after) (changed t (SetObject label (File m new)))
-
-abbrev pub SetsAgain : Type 0
-SetsAgain = (t : Tree) (label : ℕ) (o u : Object) → changed (changed t (SetObject label o)) (SetObject label u) ≡ changed t (SetObject label u)
-
-abbrev pub EditsItself : Type 0
-EditsItself = (f : Node → Node) (s : StoreState) (id : ℕ) → node_in (edited f s id).nodes id ≡ option_map f (node_in s.nodes id)
-
-pub set_plain : SetsMetadata → (s new : StoreState) (t : Tree) (id moment : ℕ) (attrs : Attrs) (it : Node) → Keeps s t → node_in s.nodes id ≡ Some it → attrs.size ≡ None
+pub set_plain : (s new : StoreState) (t : Tree) (id moment : ℕ) (attrs : Attrs) (it : Node) → Keeps s t → node_in s.nodes id ≡ Some it → attrs.size ≡ None
     → new ≡ edited (with_metadata (λ m. with_parts m attrs)) s id → IsServed new t (sets moment it.label attrs (object_in it.metadata it.content)) (reply.Status Success)
-set_plain law s new t id moment attrs it h at none state =
+set_plain s new t id moment attrs it h at none state =
     subst (λ (x : StoreState). IsServed x t (sets moment it.label attrs (object_in it.metadata it.content)) (reply.Status Success)) (sym state)
     (subst (λ (a : Answer). IsServed (edited (with_metadata (λ m. with_parts m attrs)) s id) t a (reply.Status Success)) (sym (sets_plain moment it.label attrs it.metadata it.content none))
-    (record { told = refl; tree = law (λ m. with_parts m attrs) s t id it h at }))
+    (record { told = refl; tree = keeps_metadata (λ m. with_parts m attrs) s t id it h at }))
 
-module _ (law : SetsFile) (cuts : SetsBytes) (again : SetsAgain) (itself : EditsItself) where
-  set_cut : (s first second new : StoreState) (t : Tree) (id label moment size : ℕ) (attrs : Attrs) (m : Metadata) (old : List ℕ) → Keeps s t → shown_of s.nodes id ≡ Some (label, File m old)
-      → attrs.size ≡ Some size → nat_lt MAX_FILE_SIZE size ≡ false
-      → first ≡ bytes_set s id (resized old size) first → second ≡ edited (with_metadata (modified_at moment)) first id → new ≡ edited (with_metadata (λ k. with_parts k attrs)) second id
-      → IsServed new t (sets moment label attrs (File m old)) (reply.Status Success)
-  set_cut s first second new t id label moment size attrs m old h shows some fits cut marked set =
-      let bytes = resized old size in
-      let one = changed t (SetObject label (File m bytes)) in
-      let keeps_one : Keeps first one = subst (λ (x : StoreState). Keeps x one) (sym cut) (cuts s first t id label m old bytes h shows) in
-      let shows_one : shown_of first.nodes id ≡ Some (label, File m bytes) =
-      ap (λ (x : StoreState). shown_of x.nodes id) cut ∙ ap (option_map shown_node) (itself (with_content (with_stored (record { bytes = bytes; room = (stored_of first.nodes id).room }))) s id)
-      ∙ shown_stored (node_in s.nodes id) label m old (record { bytes = bytes; room = (stored_of first.nodes id).room }) shows in
-      let two = changed one (SetObject label (File (modified_at moment m) bytes)) in
-      let keeps_two : Keeps second two = subst (λ (x : StoreState). Keeps x two) (sym marked) (law (modified_at moment) first one id label m bytes keeps_one shows_one) in
-      let shows_two : shown_of second.nodes id ≡ Some (label, File (modified_at moment m) bytes) =
-      ap (λ (x : StoreState). shown_of x.nodes id) marked ∙ ap (option_map shown_node) (itself (with_metadata (modified_at moment)) first id) ∙ shown_marked (modified_at moment) (node_in first.nodes id) label m bytes shows_one in
-      let last : Object = File (with_parts (modified_at moment m) attrs) bytes in
-      let keeps_new : Keeps new (changed two (SetObject label last)) =
-      subst (λ (x : StoreState). Keeps x (changed two (SetObject label last))) (sym set) (law (λ k. with_parts k attrs) second two id label (modified_at moment m) bytes keeps_two shows_two) in
-      let folded : changed two (SetObject label last) ≡ changed t (SetObject label last) = again one label (File (modified_at moment m) bytes) last ∙ again t label (File m bytes) last in
-      subst (λ (a : Answer). IsServed new t a (reply.Status Success)) (sym (sets_cut moment label attrs m old size some fits))
-      (record { told = refl; tree = subst (λ (u : Tree). Keeps new u) folded keeps_new })
+set_cut : (s first second new : StoreState) (t : Tree) (id label moment size : ℕ) (attrs : Attrs) (m : Metadata) (old : List ℕ) (cut_to : Stored) → cut_to.bytes ≡ resized old size → Keeps s t → shown_of s.nodes id ≡ Some (label, File m old)
+    → attrs.size ≡ Some size → nat_lt MAX_FILE_SIZE size ≡ false
+    → first ≡ stored_set s id cut_to → second ≡ edited (with_metadata (modified_at moment)) first id → new ≡ edited (with_metadata (λ k. with_parts k attrs)) second id
+    → IsServed new t (sets moment label attrs (File m old)) (reply.Status Success)
+set_cut s first second new t id label moment size attrs m old cut_to is_cut h shows some fits cut marked set =
+    let bytes = cut_to.bytes in
+    let one = changed t (SetObject label (File m bytes)) in
+    let keeps_one : Keeps first one = subst (λ (x : StoreState). Keeps x one) (sym cut) (keeps_contents cut_to s t id label m old h shows) in
+    let shows_one : shown_of first.nodes id ≡ Some (label, File m bytes) =
+    ap (λ (x : StoreState). shown_of x.nodes id) cut ∙ ap (option_map shown_node) (edited_itself (with_content (with_stored cut_to)) s id)
+    ∙ shown_stored (node_in s.nodes id) label m old cut_to shows in
+    let two = changed one (SetObject label (File (modified_at moment m) bytes)) in
+    let keeps_two : Keeps second two = subst (λ (x : StoreState). Keeps x two) (sym marked) (keeps_file (modified_at moment) first one id label m bytes keeps_one shows_one) in
+    let shows_two : shown_of second.nodes id ≡ Some (label, File (modified_at moment m) bytes) =
+    ap (λ (x : StoreState). shown_of x.nodes id) marked ∙ ap (option_map shown_node) (edited_itself (with_metadata (modified_at moment)) first id) ∙ shown_marked (modified_at moment) (node_in first.nodes id) label m bytes shows_one in
+    let last : Object = File (with_parts (modified_at moment m) attrs) bytes in
+    let keeps_new : Keeps new (changed two (SetObject label last)) =
+    subst (λ (x : StoreState). Keeps x (changed two (SetObject label last))) (sym set) (keeps_file (λ k. with_parts k attrs) second two id label (modified_at moment m) bytes keeps_two shows_two) in
+    let folded : changed two (SetObject label last) ≡ changed t (SetObject label last) = object_again one label (File (modified_at moment m) bytes) last ∙ object_again t label (File m bytes) last in
+    subst (λ (a : Answer). IsServed new t a (reply.Status Success)) (sym (sets_cut moment label attrs m old size some fits))
+    (record { told = refl; tree = subst (λ (b : List ℕ). Keeps new (changed t (SetObject label (File (with_parts (modified_at moment m) attrs) b)))) is_cut (subst (λ (u : Tree). Keeps new u) folded keeps_new) })
 
-  set_content_cut : (s first second new : StoreState) (t : Tree) (id label moment size : ℕ) (attrs : Attrs) (m : Metadata) (c : Content) → Keeps s t → shown_of s.nodes id ≡ Some (label, object_in m c) → is_directory_content c ≡ false
-      → attrs.size ≡ Some size → nat_lt MAX_FILE_SIZE size ≡ false
-      → first ≡ bytes_set s id (resized (stored_of s.nodes id).bytes size) first → second ≡ edited (with_metadata (modified_at moment)) first id → new ≡ edited (with_metadata (λ k. with_parts k attrs)) second id
-      → IsServed new t (sets moment label attrs (object_in m c)) (reply.Status Success)
-  set_content_cut s first second new t id label moment size attrs m (content.Directory es) h shows d some fits cut marked set = absurd (let x : ⊥ = cc in x)
-  set_content_cut s first second new t id label moment size attrs m (content.File c) h shows d some fits cut marked set =
-      set_cut s first second new t id label moment size attrs m c.bytes h shows some fits
-      (cut ∙ ap (λ (bytes : List ℕ). bytes_set s id (resized bytes size) first) (stored_bytes (node_in s.nodes id) label m c.bytes shows)) marked set
+set_content_cut : (s first second new : StoreState) (t : Tree) (id label moment size : ℕ) (attrs : Attrs) (m : Metadata) (c : Content) → Keeps s t → shown_of s.nodes id ≡ Some (label, object_in m c) → is_directory_content c ≡ false
+    → attrs.size ≡ Some size → nat_lt MAX_FILE_SIZE size ≡ false
+    → first ≡ stored_set s id (record (with_room (stored_of s.nodes id) size 0) { bytes = resized (stored_of s.nodes id).bytes size }) → second ≡ edited (with_metadata (modified_at moment)) first id → new ≡ edited (with_metadata (λ k. with_parts k attrs)) second id
+    → IsServed new t (sets moment label attrs (object_in m c)) (reply.Status Success)
+set_content_cut s first second new t id label moment size attrs m (content.Directory es) h shows d some fits cut marked set = absurd (let x : ⊥ = cc in x)
+set_content_cut s first second new t id label moment size attrs m (content.File c) h shows d some fits cut marked set =
+    set_cut s first second new t id label moment size attrs m c.bytes (record (with_room (stored_of s.nodes id) size 0) { bytes = resized (stored_of s.nodes id).bytes size })
+    (ap (λ (bytes : List ℕ). resized bytes size) (stored_bytes (node_in s.nodes id) label m c.bytes shows)) h shows some fits cut marked set
 
-  pub set_sized : (s first second new : StoreState) (t : Tree) (id moment size : ℕ) (attrs : Attrs) (it : Node) → Keeps s t → node_in s.nodes id ≡ Some it → is_directory_at s.nodes id ≡ false
-      → attrs.size ≡ Some size → nat_lt MAX_FILE_SIZE size ≡ false
-      → first ≡ bytes_set s id (resized (stored_of s.nodes id).bytes size) first → second ≡ edited (with_metadata (modified_at moment)) first id → new ≡ edited (with_metadata (λ k. with_parts k attrs)) second id
-      → IsServed new t (sets moment it.label attrs (object_in it.metadata it.content)) (reply.Status Success)
-  set_sized s first second new t id moment size attrs it h at d =
-      set_content_cut s first second new t id it.label moment size attrs it.metadata it.content h (ap (option_map shown_node) at)
-      (sym (ap (λ (o : Option Node). option_map_or (λ (node : Node). is_directory_content node.content) o false) at) ∙ d)
+pub set_sized : (s first second new : StoreState) (t : Tree) (id moment size : ℕ) (attrs : Attrs) (it : Node) → Keeps s t → node_in s.nodes id ≡ Some it → is_directory_at s.nodes id ≡ false
+    → attrs.size ≡ Some size → nat_lt MAX_FILE_SIZE size ≡ false
+    → first ≡ stored_set s id (record (with_room (stored_of s.nodes id) size 0) { bytes = resized (stored_of s.nodes id).bytes size }) → second ≡ edited (with_metadata (modified_at moment)) first id → new ≡ edited (with_metadata (λ k. with_parts k attrs)) second id
+    → IsServed new t (sets moment it.label attrs (object_in it.metadata it.content)) (reply.Status Success)
+set_sized s first second new t id moment size attrs it h at d =
+    set_content_cut s first second new t id it.label moment size attrs it.metadata it.content h (ap (option_map shown_node) at)
+    (sym (ap (λ (o : Option Node). option_map_or (λ (node : Node). is_directory_content node.content) o false) at) ∙ d)

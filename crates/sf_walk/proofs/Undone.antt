@@ -1,11 +1,14 @@
 -- A new node whose entry is taken out again: what was there before is there.
-use Rattle.std.specs.Prelude.{◌≡◌, ◌≢◌, ℕ, nat_eq, true, false, cond, not, List, [], ◌∷◌, ◌++◌, filter, option_map, option_and_then, Option, Some, None, slice_set, refl}
+use Rattle.std.specs.Prelude.{◌≡◌, ◌≢◌, ℕ, ◌-◌, nat_eq, true, false, cond, ◌&&◌, List, [], ◌∷◌, option_map, option_and_then, Option, Some, None, slice_set, refl}
 use Rattle.std.specs.Option.{option_map_or}
-use Rattle.std.specs.Map.{lookup}
+use Rattle.std.specs.Ordering.{is_eq, match_ordering}
+use Rattle.std.specs.declared.cmp.Ordering.TheVariants.{Less, Equal, Greater}
+use Rattle.std.specs.Map.{lookup, remove_entry}
+use Rattle.std.specs.BTreeMap.{insert_entry}
 use Rattle.std.proofs.Common.{sym, ap, subst, ◌∙◌, eqb-true, eq-eqb}
 use Rattle.std.proofs.lemmas.Cmp.{eq_by_cmp_equiv}
 use Rattle.sf_path.specs.Names.{Name}
-use Rattle.sf_path.specs.Order.{same_name, name_total}
+use Rattle.sf_path.specs.Order.{same_name, name_cmp, name_total}
 use Rattle.sf_inode.specs.declared.node.Node.{Node}
 use Rattle.sf_inode.specs.declared.node.Content.{Content}
 use Rattle.sf_inode.specs.declared.node.Content.TheVariants as content
@@ -18,28 +21,31 @@ same_name_itself : (n : Name) → same_name n n ≡ true
 same_name_itself n = (eq_by_cmp_equiv name_total).refl n
 
 -- ---- entries
-put_last : (n : Name) (id : ℕ) (es : List (Name × ℕ)) → lookup (same_name n) es ≡ None → lookup (same_name n) (es ++ (n, id) ∷ []) ≡ Some id
-put_last n id [] = λ h. ap (λ b. cond b (Some id) None) (same_name_itself n)
-put_last n id (e ∷ es) =
-    elim (same_name n e.0) as (λ b. cond b (Some e.1) (lookup (same_name n) es) ≡ None → cond b (Some e.1) (lookup (same_name n) (es ++ (n, id) ∷ [])) ≡ Some id) [
-      | true ↦ λ h. cc
-      | false ↦ λ h. put_last n id es h
-    ]
+put_here : (n : Name) (id : ℕ) (es : List (Name × ℕ)) → lookup (same_name n) (insert_entry name_cmp es n id) ≡ Some id
+put_here n id [] = ap (λ b. cond b (Some id) None) (same_name_itself n)
+put_here n id (e ∷ es) =
+    elim (name_cmp n e.0) as (λ r. name_cmp n e.0 ≡ r → lookup (same_name n) (match_ordering r ((n, id) ∷ e ∷ es) ((e.0, id) ∷ es) (e ∷ insert_entry name_cmp es n id)) ≡ Some id) [
+      | Less ↦ λ p. ap (λ b. cond b (Some id) (lookup (same_name n) (e ∷ es))) (same_name_itself n)
+      | Equal ↦ λ p. ap (λ r. cond (is_eq r) (Some id) (lookup (same_name n) es)) p
+      | Greater ↦ λ p. ap (λ r. cond (is_eq r) (Some e.1) (lookup (same_name n) (insert_entry name_cmp es n id))) p ∙ put_here n id es
+    ] refl
 
-last_out : (n : Name) (id : ℕ) (es : List (Name × ℕ)) → lookup (same_name n) es ≡ None → filter (λ e. not (same_name n e.0)) (es ++ (n, id) ∷ []) ≡ es
-last_out n id [] = λ h. ap (λ b. cond (not b) ((n, id) ∷ []) []) (same_name_itself n)
-last_out n id (e ∷ es) =
-    elim (same_name n e.0) as (λ b. cond b (Some e.1) (lookup (same_name n) es) ≡ None → cond (not b) (e ∷ filter (λ x. not (same_name n x.0)) (es ++ (n, id) ∷ [])) (filter (λ x. not (same_name n x.0)) (es ++ (n, id) ∷ [])) ≡ e ∷ es) [
-      | true ↦ λ h. cc
-      | false ↦ λ h. ap (λ (rest : List (Name × ℕ)). e ∷ rest) (last_out n id es h)
-    ]
+-- a new name that is taken out again
+taken_out : (n : Name) (id : ℕ) (es : List (Name × ℕ)) → lookup (same_name n) es ≡ None → remove_entry (same_name n) (insert_entry name_cmp es n id) ≡ es
+taken_out n id [] = λ h. ap (λ b. cond b [] ((n, id) ∷ [])) (same_name_itself n)
+taken_out n id (e ∷ es) =
+    elim (name_cmp n e.0) as (λ r. name_cmp n e.0 ≡ r → cond (is_eq r) (Some e.1) (lookup (same_name n) es) ≡ None → remove_entry (same_name n) (match_ordering r ((n, id) ∷ e ∷ es) ((e.0, id) ∷ es) (e ∷ insert_entry name_cmp es n id)) ≡ e ∷ es) [
+      | Less ↦ λ p h. ap (λ b. cond b (e ∷ es) ((n, id) ∷ remove_entry (same_name n) (e ∷ es))) (same_name_itself n)
+      | Equal ↦ λ p h. cc
+      | Greater ↦ λ p h. ap (λ r. cond (is_eq r) (insert_entry name_cmp es n id) (e ∷ remove_entry (same_name n) (insert_entry name_cmp es n id))) p ∙ ap (λ (rest : List (Name × ℕ)). e ∷ rest) (taken_out n id es h)
+    ] refl
 
 entry_made : (n : Name) (id : ℕ) (c : Content) → is_directory_content c ≡ true → entry_in c n ≡ None → entry_in (more_content n id c) n ≡ Some id
-entry_made n id (content.Directory es) d h = put_last n id es h
+entry_made n id (content.Directory es) d h = put_here n id es
 entry_made n id (content.File contents) d h = cc
 
 entry_out : (n : Name) (id : ℕ) (c : Content) → entry_in c n ≡ None → less_content n (more_content n id c) ≡ c
-entry_out n id (content.Directory es) h = ap content.Directory (last_out n id es h)
+entry_out n id (content.Directory es) h = ap content.Directory (taken_out n id es h)
 entry_out n id (content.File contents) h = refl
 
 -- ---- nodes
@@ -73,7 +79,7 @@ edited_apart f s id i h = edited_node f s id i ∙ ap (λ b. cond b (option_map 
 
 module _ (old mid : StoreState) (dir : ℕ) (n : Name) (id : ℕ) (node above : Node)
     (at : node_in old.nodes dir ≡ Some above) (isdir : is_directory_content above.content ≡ true) (none : entry_in above.content n ≡ None)
-    (closed : node.opens ≡ 0) (did : Inserted old mid dir n id node) where
+    (closed : node.opens ≡ 0) (one : node.names ≡ 1) (did : Inserted old mid dir n id node) where
   other : dir ≢ id
   other e = let f = did.fresh in let h = ap (node_in old.nodes) e in cc
 
@@ -93,7 +99,7 @@ module _ (old mid : StoreState) (dir : ℕ) (n : Name) (id : ℕ) (node above : 
   unnamed = edited_here without_name taken id node (edited_apart (with_content (less_content n)) mid dir id other ∙ did.at)
 
   gone : unlinked mid dir n ≡ with_nodes bare (slice_set bare.nodes id None)
-  gone = ap (unlinked_from mid dir n) found ∙ ap (released_if bare id) unnamed ∙ ap (λ k. cond (nat_eq k 0) (with_nodes bare (slice_set bare.nodes id None)) bare) closed
+  gone = ap (unlinked_from mid dir n) found ∙ ap (released_if bare id) unnamed ∙ (λ i. cond (nat_eq (one i - 1) 0 && nat_eq (closed i) 0) (with_nodes bare (slice_set bare.nodes id None)) bare)
 
   back : node_in taken.nodes dir ≡ Some above
   back = edited_here (with_content (less_content n)) mid dir (with_content (more_content n id) above) here
@@ -116,12 +122,12 @@ module _ (old mid : StoreState) (dir : ℕ) (n : Name) (id : ℕ) (node above : 
   alike_again new state = subst (λ (s : StoreState). IsAlike old s) (sym (state ∙ gone)) (record { nodes = node_back; root = did.root; sessions = did.sessions })
 
 pub undone : (old mid new : StoreState) (dir : ℕ) (n : Name) (id : ℕ) (node : Node) → is_directory_at old.nodes dir ≡ true → entry_of old.nodes dir n ≡ None
-    → node.opens ≡ 0 → Inserted old mid dir n id node → new ≡ unlinked mid dir n → IsAlike old new
-undone old mid new dir n id node d none closed did state =
+    → node.opens ≡ 0 → node.names ≡ 1 → Inserted old mid dir n id node → new ≡ unlinked mid dir n → IsAlike old new
+undone old mid new dir n id node d none closed one did state =
     elim (node_in old.nodes dir) as (λ o. node_in old.nodes dir ≡ o → IsAlike old new) [
       | None ↦ λ e. let off = ap (λ (o : Option Node). option_map_or (λ (it : Node). is_directory_content it.content) o false) e in absurd (let x : ⊥ = cc in x)
       | Some above ↦ λ e. alike_again old mid dir n id node above e
           (sym (ap (λ (o : Option Node). option_map_or (λ (it : Node). is_directory_content it.content) o false) e) ∙ d)
           (sym (ap (option_and_then (λ (it : Node). entry_in it.content n)) e) ∙ none)
-          closed did new state
+          closed one did new state
     ] refl

@@ -1,4 +1,3 @@
 pub mod Ways
 pub mod Opening
 pub mod Served
-pub mod Files

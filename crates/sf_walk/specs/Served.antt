@@ -4,6 +4,8 @@ use Rattle.sf_reply.specs.declared.reply.Reply.{Reply}
 use Rattle.sf_reply.specs.declared.reply.Reply.TheVariants as reply
 use Rattle.sf_call.specs.declared.request.Request.{Request}
 use Rattle.sf_call.specs.declared.request.Request.TheVariants as request
+use Rattle.sf_call.specs.Requests.{Wanted, wanted_by}
+use Rattle.sf_call.specs.Requests.Wanted.{StatusAlone, Attributes, NewHandle, Bytes, Entries}
 use Rattle.sf_call.specs.Tree.{Tree, object_of, handle_of}
 use Rattle.sf_call.specs.Changes.{done}
 use Rattle.sf_call.specs.Calls.{Answer}
@@ -55,20 +57,18 @@ pub record IsRefused (old new : StoreState) (t : Tree) (given : Reply) : Type 0 
   pub alike : IsAlike old new
   pub tree : Keeps new t
 
--- the requests that may want memory: to make something, for a file's bytes, or for what is told of them and of entries
+-- The requests that may want memory: what is told takes it, but for a status and attributes, and so does
+-- what is made, and a file's bytes.
+abbrev pub takes_memory : Wanted → Bool
+takes_memory StatusAlone = false
+takes_memory Attributes = false
+takes_memory NewHandle = true
+takes_memory Bytes = true
+takes_memory Entries = true
+
 abbrev pub may_want_memory : Request → Bool
-may_want_memory (request.Stat path) = false
-may_want_memory (request.SetStat path attrs) = is_some attrs.size
 may_want_memory (request.Mkdir path attrs) = true
-may_want_memory (request.Rmdir path) = false
-may_want_memory (request.Remove path) = false
-may_want_memory (request.OpenDir path) = true
-may_want_memory (request.Open path flags attrs) = true
-may_want_memory (request.Close handle) = false
-may_want_memory (request.FStat handle) = false
-may_want_memory (request.FSetStat handle attrs) = is_some attrs.size
-may_want_memory (request.Read handle offset len) = true
 may_want_memory (request.Write handle offset bytes) = true
-may_want_memory (request.ReadDir handle) = true
-may_want_memory (request.Rename old new) = false
-may_want_memory (request.PosixRename old new) = false
+may_want_memory (request.SetStat path attrs) = is_some attrs.size
+may_want_memory (request.FSetStat handle attrs) = is_some attrs.size
+may_want_memory other = takes_memory (wanted_by other)

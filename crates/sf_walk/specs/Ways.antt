@@ -4,7 +4,8 @@ use Rattle.std.specs.Option.{option_map_or}
 use Rattle.sf_path.specs.Names.{Name, Path}
 use Rattle.sf_call.specs.declared.metadata.Metadata.{Metadata}
 use Rattle.sf_call.specs.declared.request.Request.{Request}
-use Rattle.sf_call.specs.declared.request.Request.TheVariants.{Stat, SetStat, Mkdir, Rmdir, Remove, OpenDir, Open, Close, FStat, FSetStat, Read, Write, ReadDir, Rename, PosixRename}
+use Rattle.sf_call.specs.Requests.{Target, target_of}
+use Rattle.sf_call.specs.Requests.Target.{ByHandle, OnPath, OnPaths}
 use Rattle.sf_call.specs.Tree.{Found}
 use Rattle.sf_call.specs.Tree.Found.{DirectoryAt, FileAt}
 use Rattle.sf_inode.specs.declared.node.Node.{Node}
@@ -36,20 +37,11 @@ found_content label m (content.File contents) = FileAt label m contents.bytes
 abbrev pub found_node : Node → Found
 found_node node = found_content node.label node.metadata node.content
 
--- how many names a request's path has; a rename isn't walked
+-- how many names are walked: those of a request's one path, for now
+abbrev pub names_at : Target → ℕ
+names_at (ByHandle handle) = 0
+names_at (OnPath path) = length path
+names_at (OnPaths old new) = 0
+
 abbrev pub names_of : Request → ℕ
-names_of (Stat path) = length path
-names_of (SetStat path attrs) = length path
-names_of (Mkdir path attrs) = length path
-names_of (Rmdir path) = length path
-names_of (Remove path) = length path
-names_of (OpenDir path) = length path
-names_of (Open path flags attrs) = length path
-names_of (Close handle) = 0
-names_of (FStat handle) = 0
-names_of (FSetStat handle attrs) = 0
-names_of (Read handle offset len) = 0
-names_of (Write handle offset bytes) = 0
-names_of (ReadDir handle) = 0
-names_of (Rename old new) = 0
-names_of (PosixRename old new) = 0
+names_of request = names_at (target_of request)

@@ -13,7 +13,7 @@ use crate::opening::{open, open_directory};
 use crate::path_calls::{mkdir, remove, rmdir, set_stat, stat};
 use sf_call::{Call, Request};
 use sf_inode::Store;
-use sf_wire::{Reply, StatusCode};
+use sf_reply::{Reply, StatusCode};
 use std::alloc::AllocError;
 
 /// Answers a call whole, from the root on and without locks, whoever holds the nodes on its way. Its

@@ -1,11 +1,10 @@
-//! Calls by handle. A call of one of the store's laws does nothing: the proof takes from it what the law
-//! says.
+//! Calls by handle.
 
 ghost use Rattle.std.specs.Prelude.{◌≡◌, ◌+◌, ◌<◌, ◌≤◌, ◌^◌, ℕ, nat_lt, if◌then◌else◌, List, length, take, drop, true, false, is_some, Some, IsOk, IfOk, OnOk, OnErr};
 ghost use Rattle.sf_call.specs.declared.metadata.Metadata.{Metadata};
 ghost use Rattle.sf_call.specs.Attributes.{modified_at};
 ghost use Rattle.sf_call.specs.Attributes.Object.{File};
-ghost use Rattle.sf_call.specs.Contents.{written};
+ghost use Rattle.sf_block.specs.Contents.{written};
 ghost use Rattle.sf_call.specs.Tree.{Tree};
 ghost use Rattle.sf_call.specs.Changes.{changed};
 ghost use Rattle.sf_call.specs.Changes.Change.{SetObject};
@@ -13,13 +12,13 @@ ghost use Rattle.sf_call.specs.Handles.{handle_in, opened};
 ghost use Rattle.sf_call.specs.Calls.{close, stat_opened, set_opened, read, write};
 ghost use Rattle.sf_inode.specs.Stores.{stored_of, is_file_at, shown_of};
 ghost use Rattle.sf_keeps.specs.Keeps.{Keeps};
-ghost use Rattle.sf_walk.specs.Files.{file_size};
 ghost use Rattle.sf_walk.specs.Served.{IsServed, HoldersStay};
 
 use crate::path_calls::set_node;
 use sf_call::{MAX_FILE_SIZE, MAX_READ};
+use sf_field::{Attrs, ByteString};
 use sf_inode::{Marks, NodeId, Store};
-use sf_wire::{Attrs, ByteString, Reply, StatusCode};
+use sf_reply::{Reply, StatusCode};
 use std::alloc::AllocError;
 
 /// CLOSE.
@@ -28,8 +27,6 @@ pub(crate) fn close(store: &mut Store, session: u64, number: u64) -> Reply
     ensures look_ups { store.new.look_ups ≡ store.old.look_ups }
     ensures holders { HoldersStay store.old store.new }
 {
-    sf_keeps::found_handles();
-    sf_keeps::closed_handles();
     match store.handle(session, number) {
         None => Reply::Status(StatusCode::Failure),
         Some(_) => {
@@ -40,10 +37,10 @@ pub(crate) fn close(store: &mut Store, session: u64, number: u64) -> Reply
 }
 
 /// FSTAT.
+#[tactic(auto, using(sf_keeps::proofs::Laws::found_node))]
 pub(crate) fn stat_handle(store: &Store, session: u64, number: u64) -> Reply
     ensures { (t : Tree) → Keeps store.now t → result ≡ (stat_opened (opened t session number)).reply }
 {
-    sf_keeps::found_handles();
     match store.handle(session, number) {
         None => Reply::Status(StatusCode::Failure),
         Some(handle) => match store.attrs(handle.node) {
@@ -67,7 +64,6 @@ pub(crate) fn set_stat_handle(
     ensures look_ups { store.new.look_ups ≡ store.old.look_ups }
     ensures holders { HoldersStay store.old store.new }
 {
-    sf_keeps::found_handles();
     let Some(handle) = store.handle(session, number) else {
         return Ok(Reply::Status(StatusCode::Failure));
     };
@@ -84,20 +80,8 @@ pub(crate) fn set_stat_handle(
     set_node(store, moment, node, attrs)
 }
 
-/// The size of a file; a directory has none.
-fn file_size(store: &Store, node: NodeId) -> Option<u64>
-    ensures { result ≡ file_size store.now.nodes node }
-{
-    if store.is_directory(node) {
-        return None;
-    }
-    match store.attrs(node) {
-        None => None,
-        Some(attrs) => attrs.size,
-    }
-}
-
 /// READ.
+#[tactic(auto, using(sf_keeps::proofs::Laws::found_node))]
 pub(crate) fn read(
     store: &Store,
     session: u64,
@@ -107,11 +91,10 @@ pub(crate) fn read(
 ) -> Result<Reply, AllocError>
     ensures { (t : Tree) → Keeps store.now t → IfOk result (λ reply. reply ≡ (read offset len (opened t session number)).reply) }
 {
-    sf_keeps::found_handles();
     let Some(handle) = store.handle(session, number) else {
         return Ok(Reply::Status(StatusCode::Failure));
     };
-    let Some(size) = file_size(store, handle.node) else {
+    let Some(size) = store.file_len(handle.node) else {
         return Ok(Reply::Status(StatusCode::Failure));
     };
     if !handle.marks.read {
@@ -149,12 +132,11 @@ pub(crate) fn write(
     ensures look_ups { store.new.look_ups ≡ store.old.look_ups }
     ensures holders { HoldersStay store.old store.new }
 {
-    sf_keeps::found_handles();
     let Some(handle) = store.handle(session, number) else {
         return Ok(Reply::Status(StatusCode::Failure));
     };
     let node = handle.node;
-    let Some(size) = file_size(store, node) else {
+    let Some(size) = store.file_len(node) else {
         return Ok(Reply::Status(StatusCode::Failure));
     };
     if !handle.marks.write {
@@ -194,9 +176,6 @@ fn put_bytes(
     ensures look_ups { store.new.look_ups ≡ store.old.look_ups }
     ensures holders { HoldersStay store.old store.new }
 {
-    sf_keeps::same_tree();
-    sf_keeps::changed_object();
-    sf_keeps::other_nodes();
     store.reserve_for(node, start, bytes.len())?;
     store.write(node, start, bytes.as_slice());
     store.touch(node, moment);

@@ -1,5 +1,4 @@
-//! Listing a directory. A call of one of the store's laws does nothing: the proof takes from it what the
-//! law says.
+//! Listing a directory.
 
 ghost use Rattle.std.specs.Prelude.{◌≡◌, Some, filter_map, IfOk, OnErr};
 ghost use Rattle.sf_reply.specs.Longname.{HasType, longname_text};
@@ -12,11 +11,11 @@ ghost use Rattle.sf_keeps.specs.Keeps.{Keeps};
 ghost use Rattle.sf_walk.specs.Served.{IsServed, HoldersStay};
 
 use sf_call::MAX_ENTRIES;
+use sf_field::{Attrs, ByteString};
 use sf_inode::{NodeId, Store};
 use sf_path::Name;
-use sf_wire::{Attrs, ByteString, Entry, Listing, Reply, StatusCode, longname};
+use sf_reply::{Entry, Listing, Reply, StatusCode, longname};
 use std::alloc::{AllocError, Global};
-use std::collections::BTreeMap;
 
 /// READDIR. The last name that is given is remembered in the handle.
 pub(crate) fn read_directory(
@@ -29,9 +28,6 @@ pub(crate) fn read_directory(
     ensures look_ups { store.new.look_ups ≡ store.old.look_ups }
     ensures holders { HoldersStay store.old store.new }
 {
-    sf_keeps::found_handles();
-    sf_keeps::listed_handles();
-    sf_keeps::listed_entries();
     let Some(handle) = store.handle(session, number) else {
         return Ok(Reply::Status(StatusCode::Failure));
     };
@@ -39,7 +35,7 @@ pub(crate) fn read_directory(
         return Ok(Reply::Status(StatusCode::Failure));
     }
     let found = store.entries_after(handle.node, handle.listed.as_ref(), MAX_ENTRIES)?;
-    let Some((last, _)) = found.last_key_value() else {
+    let Some((last, _)) = found.last() else {
         return Ok(Reply::Status(StatusCode::EndOfFile));
     };
     let entries = entries_of(store, &found)?;
@@ -48,8 +44,8 @@ pub(crate) fn read_directory(
 }
 
 /// The entries as they are listed. A name that leads to no node is left out.
-fn entries_of(store: &Store, found: &BTreeMap<Name, NodeId>) -> Result<Vec<Entry>, AllocError>
-    ensures { IfOk result (λ entries. entries.items ≡ filter_map (listed_entry store.now.nodes) found.now.entries) }
+fn entries_of(store: &Store, found: &[(Name, NodeId)]) -> Result<Vec<Entry>, AllocError>
+    ensures { IfOk result (λ entries. entries.items ≡ filter_map (listed_entry store.now.nodes) found.now) }
 {
     let mut entries = Vec::new(store.alloc());
     'entries: for (name, node) in found {

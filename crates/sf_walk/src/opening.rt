@@ -11,8 +11,9 @@ ghost use Rattle.sf_call.specs.Changes.{changed};
 ghost use Rattle.sf_call.specs.Changes.Change.{SetObject};
 ghost use Rattle.sf_call.specs.Tree.{Tree, found_at, place_at};
 ghost use Rattle.sf_call.specs.Calls.{has_all_handles, open_directory, open_present, open_file, unless_root};
+ghost use Rattle.sf_block.specs.Contents.{with_room};
 ghost use Rattle.sf_inode.specs.declared.node.Node.{Node};
-ghost use Rattle.sf_inode.specs.Stores.{StoreState, node_in, entry_of, shown_of, is_directory_at, bytes_set};
+ghost use Rattle.sf_inode.specs.Stores.{StoreState, node_in, entry_of, shown_of, is_directory_at, stored_of, stored_set};
 ghost use Rattle.sf_keeps.specs.Steps.{walk};
 ghost use Rattle.sf_keeps.specs.Keeps.{Keeps};
 ghost use Rattle.sf_walk.specs.Ways.{last_of, found_node};
@@ -22,12 +23,10 @@ ghost use Rattle.sf_walk.specs.Served.{IsServed, IsAlike, LooksUp, HoldersStay, 
 use crate::finding::{Located, locate};
 use crate::path_calls::insert_last;
 use sf_call::{FileType, MAX_HANDLES, Metadata};
+use sf_field::{Attrs, OpenFlags};
 use sf_inode::{Marks, NewNode, NodeId, Store};
-use sf_keeps::{
-    changed_object, counted_handles, found_paths, new_path, opened_handles, other_nodes,
-};
 use sf_path::Path;
-use sf_wire::{Attrs, OpenFlags, Reply, StatusCode};
+use sf_reply::{Reply, StatusCode};
 use std::alloc::AllocError;
 
 /// A directory's handle has no marks.
@@ -51,7 +50,6 @@ fn file_marks(flags: OpenFlags) -> Marks
 fn has_all_handles(store: &Store, session: u64) -> bool
     ensures { (t : Tree) → Keeps store.now t → result ≡ has_all_handles t session }
 {
-    counted_handles();
     store.handles(session) >= MAX_HANDLES
 }
 
@@ -86,7 +84,6 @@ fn open_listing(
     ensures look_ups { store.new.look_ups ≡ store.old.look_ups }
     ensures holders { HoldersStay store.old store.new }
 {
-    opened_handles();
     if !store.is_directory(node) {
         return Ok(Reply::Status(StatusCode::Failure));
     }
@@ -143,7 +140,6 @@ fn open_present(
     ensures look_ups { store.new.look_ups ≡ store.old.look_ups }
     ensures holders { HoldersStay store.old store.new }
 {
-    opened_handles();
     if store.is_directory(node) {
         return Ok(Reply::Status(StatusCode::Failure));
     }
@@ -163,14 +159,13 @@ fn truncate(store: &mut Store, moment: u32, node: NodeId)
     ensures look_ups { store.new.look_ups ≡ store.old.look_ups }
     ensures holders { (before : StoreState) → HoldersStay before store.old → HoldersStay before store.new }
 {
-    changed_object();
     cut(store, node);
     store.touch(node, moment);
 }
 
 /// Takes out a file's bytes, which takes no memory.
 fn cut(store: &mut Store, node: NodeId)
-    ensures { store.new ≡ bytes_set store.old node [] store.new }
+    ensures { store.new ≡ stored_set store.old node (record (with_room (stored_of store.old.nodes node) 0 0) { bytes = [] }) }
 {
     match store.set_len(node, 0) {
         Ok(()) => {}
@@ -204,11 +199,6 @@ fn open_absent(
     if has_all_handles(store, session) {
         return Ok(Reply::Status(StatusCode::Failure));
     }
-    new_path();
-    opened_handles();
-    changed_object();
-    found_paths();
-    other_nodes();
     let metadata = Metadata::new_object(0o644, moment, attrs);
     open_new(store, session, number, parent, path, flags, metadata)?;
     store.touch(parent, moment);

@@ -1,5 +1,4 @@
-//! Calls on paths, but those that open. A call of one of the store's laws does nothing: the proof takes
-//! from it what the law says.
+//! Calls on paths, but those that open.
 
 ghost use Rattle.std.specs.Prelude.{◌≡◌, ◌<◌, ℕ, true, false, is_some, length, Some, IsOk, IfOk, OnErr};
 ghost use Rattle.sf_call.specs.Attributes.{modified_at};
@@ -17,9 +16,10 @@ ghost use Rattle.sf_walk.specs.Served.{IsServed, IsAlike, LooksUp, HoldersStay, 
 
 use crate::finding::{Located, locate};
 use sf_call::{FileType, MAX_FILE_SIZE, Metadata};
+use sf_field::Attrs;
 use sf_inode::{NewNode, NodeId, Store};
 use sf_path::Path;
-use sf_wire::{Attrs, Reply, StatusCode};
+use sf_reply::{Reply, StatusCode};
 use std::alloc::AllocError;
 
 /// STAT.
@@ -75,8 +75,6 @@ pub(crate) fn set_node(
     ensures look_ups { store.new.look_ups ≡ store.old.look_ups }
     ensures holders { HoldersStay store.old store.new }
 {
-    sf_keeps::changed_object();
-    sf_keeps::other_nodes();
     match attrs.size {
         None => {
             store.set(node, attrs);
@@ -121,10 +119,6 @@ pub(crate) fn mkdir(
             };
             insert_last(store, parent, path, made)?;
             store.touch(parent, moment);
-            sf_keeps::new_path();
-            sf_keeps::other_nodes();
-            sf_keeps::found_paths();
-            sf_keeps::changed_object();
             Ok(Reply::Status(StatusCode::Success))
         }
     }
@@ -158,7 +152,6 @@ pub(crate) fn rmdir(store: &mut Store, moment: u32, path: &Path) -> Reply
         Located::NoWay => Reply::Status(StatusCode::NoSuchFile),
         Located::Missing { parent: _ } => Reply::Status(StatusCode::NoSuchFile),
         Located::At { parent, node } => {
-            sf_keeps::found_paths();
             if !store.is_directory(node) {
                 return Reply::Status(StatusCode::Failure);
             }
@@ -200,10 +193,6 @@ fn remove_last(store: &mut Store, moment: u32, dir: NodeId, path: &Path)
     ensures served { (t : Tree) (node : ℕ) → Keeps store.old t → way_from store.old.nodes store.old.root store.old.root path.now ≡ At dir node → is_bare_at store.old.nodes node ≡ true
         → IsServed store.new t (goes t moment path.now) (Status Success) }
 {
-    sf_keeps::gone_path();
-    sf_keeps::other_nodes();
-    sf_keeps::found_paths();
-    sf_keeps::changed_object();
     store.unlink(dir, path.name(path.len() - 1));
     store.touch(dir, moment);
 }

@@ -2,9 +2,10 @@
 
 use super::*;
 use sf_call::{Call, Request, Stage};
+use sf_field::{ByteString, NO_ATTRS, OpenFlags};
 use sf_inode::Store;
 use sf_path::Path;
-use sf_wire::{ByteString, NO_ATTRS, OpenFlags, Reply, StatusCode};
+use sf_reply::{Reply, StatusCode};
 use std::alloc::Global;
 use std::process::Abort;
 use std::test::*;

@@ -11,7 +11,7 @@ use Rattle.sf_field.specs.Fields.{AreBytes, be32, packet}
 use Rattle.sf_wire.specs.Packets.{IsBody, IsCut, End, More, Bad, Ends, Cuts}
 use Rattle.sf_wire.specs.Streams.{IfWhole, HasBody, CutsAfter, IsSpelled, Stays, GrowsTo}
 use Rattle.sf_wire.specs.Cutting.{cut_of}
-use Rattle.sf_field.proofs.FieldLaws.{IsBytes, IsBytes-of}
+use Rattle.sf_field.proofs.Laws.{IsBytes, IsBytes-of}
 use Rattle.sf_wire.proofs.Cuts.{cut_found, cut_only}
 use Rattle.sf_wire.proofs.OneForm.{one_packet}
 

@@ -1,4 +1,4 @@
-//! The words, the statuses, the clock, and the store beside the slow tree.
+//! The words, the statuses and the clock.
 
 ghost use Rattle.std.specs.Prelude.{None};
 
@@ -11,8 +11,6 @@ use std::alloc::Global;
 use std::process::Abort;
 use std::test::*;
 use std::time::Duration;
-
-mod store_equals_plain;
 
 /// A clock that stands still.
 #[derive(Drop)]

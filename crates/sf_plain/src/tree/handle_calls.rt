@@ -12,7 +12,8 @@ use crate::contents::{ends_past_limit, part, written};
 use crate::node::Parts;
 use crate::sweep::sweep;
 use sf_call::Handle;
-use sf_wire::{Attrs, ByteString, Reply, StatusCode};
+use sf_field::{Attrs, ByteString};
+use sf_reply::{Reply, StatusCode};
 use std::alloc::AllocError;
 
 /// The handle, if it is the session's.

@@ -10,9 +10,10 @@ ghost use Rattle.sf_call.specs.Calls.{read_directory};
 
 use super::{PlainTree, name_in};
 use crate::node::Node;
-use sf_call::{Handle, MAX_ENTRIES, listed_attributes};
+use sf_call::{Handle, MAX_ENTRIES};
+use sf_field::ByteString;
 use sf_path::{Name, Path};
-use sf_wire::{ByteString, Entry, Listing, Reply, StatusCode, longname};
+use sf_reply::{Entry, Listing, Reply, StatusCode, longname};
 use std::alloc::{AllocError, Global};
 
 /// Entries, and the name of the last of them.
@@ -43,11 +44,10 @@ fn name_past<'a>(directory: &Path, last: &Option<Name>, path: &'a Path) -> Optio
     }
 }
 
-#[tactic(auto, using(crate::proofs::Listed::entry_is))]
+#[tactic(auto, using(crate::proofs::Listed::entry_is, sf_call::proofs::Laws::all_parts, sf_call::proofs::Laws::has_type, sf_call::proofs::Laws::has_line))]
 fn entry_of(alloc: Global, name: &Name, node: &Node) -> Result<Entry, AllocError>
     ensures { IfOk result (λ entry. entry ≡ entry_of name.now node.now) }
 {
-    listed_attributes();
     let attrs = node.attrs();
     let line = longname(alloc, &attrs, 1, name.as_slice())?;
     Ok(Entry {

@@ -12,8 +12,9 @@ ghost use Rattle.sf_call.specs.Calls.{stat, set_stat, make_directory, remove_dir
 use super::PlainTree;
 use crate::node::{Node, Parts};
 use sf_call::{Handle, MAX_HANDLES, Metadata, Place};
+use sf_field::{Attrs, ByteString, OpenFlags};
 use sf_path::Path;
-use sf_wire::{Attrs, ByteString, OpenFlags, Reply, StatusCode};
+use sf_reply::{Reply, StatusCode};
 use std::alloc::AllocError;
 use std::collections::BTreeMap;
 

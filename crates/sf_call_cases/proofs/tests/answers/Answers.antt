@@ -3,15 +3,18 @@ use Rattle.sf_reply.specs.declared.reply.Reply.TheVariants as reply
 use Rattle.sf_reply.specs.declared.reply.StatusCode.TheVariants.{NoSuchFile}
 use Rattle.sf_call.specs.declared.request.Request.TheVariants.{Stat, Mkdir}
 use Rattle.sf_call.specs.Histories.{IsAmong}
-use Rattle.sf_call.specs.Examples.{b, no_attrs, history}
+use Rattle.sf_field.specs.Attributes.{no_attrs}
+use Rattle.sf_laws.specs.Examples.{b, history}
+use Rattle.sf_call.proofs.Laws.{given_before}
+use Rattle.sf_laws.proofs.Laws.{legal_history}
 use Rattle.sf_call_cases.proofs.tests.answers.Goals as goal
 
 pub new-absent-requires : goal.new-absent-requires
 unfolding IsAmong
 new-absent-requires g c =
-    c.given_by_history.ensures 8 1 300 (Stat (b ∷ [])) (reply.Status NoSuchFile) history c.history_cases.ensures.legal (inr (inr (inl refl)))
+    given_before 8 1 300 (Stat (b ∷ [])) (reply.Status NoSuchFile) history legal_history (inr (inr (inl refl)))
 
 pub new-unserved-requires : goal.new-unserved-requires
 unfolding IsAmong
 new-unserved-requires g c =
-    c.given_by_history.ensures 9 1 200 (Mkdir (b ∷ []) no_attrs) reply.NoMemory history c.history_cases.ensures.legal (inr (inl refl))
+    given_before 9 1 200 (Mkdir (b ∷ []) no_attrs) reply.NoMemory history legal_history (inr (inl refl))

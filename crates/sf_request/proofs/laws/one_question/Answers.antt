@@ -1,7 +1,7 @@
 use Rattle.std.proofs.Common.{sym, ◌∙◌}
 use Rattle.sf_request.specs.Reading.{asked_of}
 use Rattle.sf_request.proofs.AskedLaws.{asked_found, asked_only}
-use Rattle.sf_field.proofs.FieldLaws.{IsBytes-of}
+use Rattle.sf_field.proofs.Laws.{IsBytes-of}
 use Rattle.sf_request.proofs.laws.one_question.Goals as goal
 
 pub returns-clause-exists : goal.returns-clause-exists

@@ -2,4 +2,4 @@ use Rattle.sf_service.proofs.Cutting.{served_as_cut}
 use Rattle.sf_service.proofs.laws.served_in_order.Goals as goal
 
 pub returns : goal.returns
-returns c = served_as_cut (record { back = c.cut_after_packets.ensures.back; front = c.cut_by_packets.ensures; one = c.one_packet.ensures })
+returns c = served_as_cut

@@ -1,24 +1,16 @@
 use Rattle.std.proofs.Common.{◌∙◌, arith}
-use Rattle.sf_service.proofs.Founding.{Laws}
 use Rattle.sf_service.proofs.Progressing.{serves_answered}
 use Rattle.sf_service.proofs.ServingLemmas.{has_ended, stays_open}
 use Rattle.sf_service.proofs.serving.drain.Goals as goal
 
 pub packets-preserved : goal.packets-preserved
 packets-preserved g c =
-    let labels = c.labels_of_paths.ensures in
-    let laws : Laws = record {
-      replayed = c.one_record_more.ensures.replayed;
-      legal = c.one_record_more.ensures.legal;
-      told = c.told_replies.ensures;
-      labels = record { no_path = labels.unused; no_object = labels.no_object; no_handle = labels.no_handle };
-    } in
     let answered = rw c.in-Answered.is at c.in_ok-turn.ensures.ok in
     let sent = c.in_ok-send_batch-in-Answered.ensures in
     let still = stays_open _ _ _ _ _ answered sent.session in (
       still.0,
       still.1,
-      (λ start s. sent.serves start _ (serves_answered laws start _ _ _ _ _ _ (c.packets.invariant.2 start s) answered)),
+      (λ start s. sent.serves start _ (serves_answered start _ _ _ _ _ _ (c.packets.invariant.2 start s) answered)),
       omega (arith, sent.failures, c.packets.invariant.3),
       sent.incoming ∙ c.packets.invariant.4,
     )

@@ -1,15 +1,13 @@
 use Rattle.std.proofs.Common.{arith, ap, Ok}
+use Rattle.sf_keeps.proofs.Laws.{keeps_first}
 use Rattle.sf_service.specs.Serving.{edges}
-use Rattle.sf_service.proofs.Founding.{LabelLaws}
 use Rattle.sf_service.proofs.ServingLemmas.{starts, going_on, none_left, nothing_read, reads_more}
 use Rattle.sf_service.proofs.serving.serve_one.Goals as goal
 
 pub loop-init : goal.loop-init
 loop-init g c =
-    let labels = c.labels_of_paths.ensures in
-    let laws : LabelLaws = record { no_path = labels.unused; no_object = labels.no_object; no_handle = labels.no_handle } in
     let start = edges (g.L.Line.incoming c.args.line.now) (g.L.Line.outgoing c.args.line.now) (g.C.Clock.told c.args.clock.now) in
-    (starts laws start _ c.in_ok-service.ensures (c.kept_trees.ensures.first _ c.in_ok-service.ensures.store), omega (arith, c.in_ok-piece.ensures), omega arith, nothing_read _)
+    (starts start _ c.in_ok-service.ensures (keeps_first _ c.in_ok-service.ensures.store), omega (arith, c.in_ok-piece.ensures), omega arith, nothing_read _)
 
 pub returns-in-Some-clause-served : goal.returns-in-Some-clause-served
 returns-in-Some-clause-served g c =

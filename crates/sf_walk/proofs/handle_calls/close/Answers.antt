@@ -8,8 +8,8 @@ use Rattle.sf_walk.proofs.handle_calls.close.Goals as goal
 pub returns-in-Some-clause-served : goal.returns-in-Some-clause-served
 returns-in-Some-clause-served c = λ t h.
     close_served c.args.store.now t c.args.session c.args.number c.in-Some.field-0.now
-    (is_open c.found_handles.ensures.same c.found_handles.ensures.node c.args.store.now t c.args.session c.args.number c.in-Some.field-0.now h c.in-Some.ensures)
-    c.closed_handles.ensures.one c.close.new.self c.close.ensures
+    (is_open c.args.store.now t c.args.session c.args.number c.in-Some.field-0.now h c.in-Some.ensures)
+    c.close.new.self c.close.ensures
 
 pub returns-in-Some-clause-holders : goal.returns-in-Some-clause-holders
 returns-in-Some-clause-holders c =

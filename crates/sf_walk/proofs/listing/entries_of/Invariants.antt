@@ -1,6 +1,6 @@
-use Rattle.std.proofs.Common.{◌≡◌, ◌++◌, filter_map}
+use Rattle.std.proofs.Common.{◌≡◌, ◌++◌, drop, filter_map}
 use Rattle.sf_keeps.specs.Listed.{listed_entry}
 use Rattle.sf_walk.proofs.listing.entries_of.Given as goal
 
 abbrev pub invariant-entries : goal.invariant-entries
-invariant-entries l = l.entries.items ++ filter_map (listed_entry l.store.nodes) l.name-iterator ≡ filter_map (listed_entry l.store.nodes) l.found.entries
+invariant-entries l = l.entries.items ++ filter_map (listed_entry l.store.nodes) (drop l.name-index l.found) ≡ filter_map (listed_entry l.store.nodes) l.found

@@ -9,7 +9,6 @@ use Rattle.sf_walk.proofs.opening.open_absent.Goals as goal
 pub returns-clause-served : goal.returns-clause-served
 returns-clause-served c = λ t front k fresh is at.
     absent_served t c.args.session c.args.number c.args.moment c.args.path.now c.args.flags c.args.attrs.now
-    c.opened_handles.ensures c.changed_object.ensures.directory c.found_paths.ensures.directory c.other_nodes.ensures.inserted c.new_path.ensures
     c.args.store.now c.open_new.new.store c.touch.new.self front c.args.parent c.new_object-metadata.result k fresh c.ranges.number.fits is at c.requires.directory c.requires.missing
     c.if-not-flags.false (sym (c.if-has_all_handles.ensures t k)) c.new_object-metadata.ensures c.in_ok-open_new.ensures.ok c.touch.ensures
 

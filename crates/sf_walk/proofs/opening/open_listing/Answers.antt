@@ -4,5 +4,5 @@ use Rattle.sf_walk.proofs.opening.open_listing.Goals as goal
 
 pub returns-clause-served : goal.returns-clause-served
 returns-clause-served c = λ t it k fresh at.
-    listing_served t c.args.session c.args.number c.opened_handles.ensures c.args.store.now c.open.new.self it c.args.node k fresh c.ranges.number.fits at
+    listing_served t c.args.session c.args.number c.args.store.now c.open.new.self it c.args.node k fresh c.ranges.number.fits at
     (kind_there c.args.store.now.nodes c.args.node it _ at c.if-not-is_directory.ensures) (sym (c.if-has_all_handles.ensures t k)) c.in_ok-open.ensures.ok

@@ -14,10 +14,10 @@ returns-clause-served c = λ t it k fresh at.
     let opens : c.open.new.self ≡ opened c.args.store.now c.args.session c.args.number c.args.node (marks_of c.args.flags) =
     c.in_ok-open.ensures.ok ∙ ap (opened c.args.store.now c.args.session c.args.number c.args.node) c.file_marks.ensures in
     let uncut = λ (not_both : (c.args.flags.truncate && c.args.flags.write) ≡ false).
-    present_served t c.args.session c.args.number c.args.moment c.args.flags c.opened_handles.ensures c.args.store.now c.open.new.self it c.args.node k fresh c.ranges.number.fits at file some not_both opens in
+    present_served t c.args.session c.args.number c.args.moment c.args.flags c.args.store.now c.open.new.self it c.args.node k fresh c.ranges.number.fits at file some not_both opens in
     elim c.if-flags.branch [
       | then-flags+then-flags-2 w ↦ rw w.store-is
-          (present_cut t c.args.session c.args.number c.args.moment c.args.flags c.opened_handles.ensures c.args.store.now c.open.new.self w.truncate.new.store it c.args.node k fresh c.ranges.number.fits at file some
+          (present_cut t c.args.session c.args.number c.args.moment c.args.flags c.args.store.now c.open.new.self w.truncate.new.store it c.args.node k fresh c.ranges.number.fits at file some
           (λ i. w.if-flags.true i && w.if-flags-2.true i) opens w.truncate.ensures.tree)
       | else-flags w ↦ elim w.else-flags.branch [
         | else-flags-via-then-flags+else-flags-2 v ↦ rw w.store-is (uncut (λ i. v.if-flags.true i && v.if-flags-2.false i))

@@ -41,8 +41,7 @@ returns-in-At-clause-holders c = stays_looked _ _ _ c.locate.ensures.looked
 pub returns-in_ok-insert_last-in-Missing-clause-served : goal.returns-in_ok-insert_last-in-Missing-clause-served
 returns-in_ok-insert_last-in-Missing-clause-served c = λ t h fresh.
     past_root _ t c.args.path.now _ _ (not_root c.is_root.result c.args.path.now c.is_root.ensures c.if-is_root.false)
-    (make_served c.changed_object.ensures.directory c.found_paths.ensures.directory c.other_nodes.ensures.inserted c.new_path.ensures
-    _ _ c.insert_last.new.store _ t c.args.path.now _ c.args.number c.args.moment c.args.attrs.now c.in-Missing.parent c.in_ok-insert_last-in-Missing.field-0
+    (make_served _ _ c.insert_last.new.store _ t c.args.path.now _ c.args.number c.args.moment c.args.attrs.now c.in-Missing.parent c.in_ok-insert_last-in-Missing.field-0
     (record { label = c.args.number; file_type = file_type.Directory; metadata = c.new_object.result })
     c.locate.ensures.looked h fresh.label c.in-Missing.ensures.found c.in_ok-insert_last-in-Missing.ensures.ok refl (ap Directory c.new_object.ensures) c.touch.ensures)
 

@@ -17,7 +17,7 @@ returns-then-not-is_directory-clause-holders c = stays_looked _ _ _ c.locate.ens
 pub returns-then-not-is_empty-clause-served : goal.returns-then-not-is_empty-clause-served
 returns-then-not-is_empty-clause-served c = λ t h.
     past_root _ t c.args.path.now _ _ (not_root c.is_root.result c.args.path.now c.is_root.ensures c.if-is_root.false)
-    (remove_directory_full _ _ t c.args.path.now _ c.locate.ensures.looked h c.found_paths.ensures.empty c.args.moment _ _ c.in-At.ensures.found c.if-not-is_directory.ensures c.if-not-is_empty.ensures)
+    (remove_directory_full _ _ t c.args.path.now _ c.locate.ensures.looked h c.args.moment _ _ c.in-At.ensures.found c.if-not-is_directory.ensures c.if-not-is_empty.ensures)
 
 pub returns-then-not-is_empty-clause-holders : goal.returns-then-not-is_empty-clause-holders
 returns-then-not-is_empty-clause-holders c = stays_looked _ _ _ c.locate.ensures.looked
@@ -41,7 +41,7 @@ returns-in-Missing-clause-holders c = stays_looked _ _ _ c.locate.ensures.looked
 pub returns-else-not-is_empty-clause-served : goal.returns-else-not-is_empty-clause-served
 returns-else-not-is_empty-clause-served c = λ t h.
     past_root _ t c.args.path.now _ _ (not_root c.is_root.result c.args.path.now c.is_root.ensures c.if-is_root.false)
-    (remove_directory_served _ _ t c.args.path.now _ c.locate.ensures.looked h c.found_paths.ensures.empty _ c.args.moment _ _ c.in-At.ensures.found c.if-not-is_directory.ensures c.if-not-is_empty.ensures c.remove_last.ensures.served)
+    (remove_directory_served _ _ t c.args.path.now _ c.locate.ensures.looked h _ c.args.moment _ _ c.in-At.ensures.found c.if-not-is_directory.ensures c.if-not-is_empty.ensures c.remove_last.ensures.served)
 
 pub returns-else-not-is_empty-clause-holders : goal.returns-else-not-is_empty-clause-holders
 returns-else-not-is_empty-clause-holders c = stays_gone c.args.store.now c.locate.new.store c.remove_last.new.store _ c.args.moment c.in-At.parent _ c.locate.ensures.looked c.remove_last.ensures.state

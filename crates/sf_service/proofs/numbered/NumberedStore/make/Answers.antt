@@ -2,22 +2,15 @@ use Rattle.std.proofs.Common.{inl, inr, arith, ap, sym, subst, refl, ◌+◌, �
 use Rattle.sf_reply.specs.declared.reply.Reply.{Reply}
 use Rattle.sf_call.specs.Answers.{Answered}
 use Rattle.sf_service.specs.Serving.{NumberedView, Does, IsMade}
-use Rattle.sf_service.proofs.Founding.{Laws, founded_after}
+use Rattle.sf_service.proofs.Founding.{founded_after}
 use Rattle.sf_service.proofs.numbered.NumberedStore.make.Goals as goal
 
 pub invariant_of-self : goal.invariant_of-self
 invariant_of-self g c =
-    let labels = c.labels_of_paths.ensures in
-    let laws : Laws = record {
-      replayed = c.one_record_more.ensures.replayed;
-      legal = c.one_record_more.ensures.legal;
-      told = c.told_replies.ensures;
-      labels = record { no_path = labels.unused; no_object = labels.no_object; no_handle = labels.no_handle };
-    } in
     let does : Does c.self.inside.store (c.self.inside.calls + 1) c.now-moment.result c.args.request c.from_root-reply.result c.from_root-reply.new.store =
     λ t h n. elim (c.from_root-reply.ensures.served t h n) [ inl e ↦ inr (e.told, e.tree) | inr s ↦ inl (s.told, s.tree) ] in (
       omega (arith, c.self.invariant.0, c.if-self-eq-LAST_NUMBER.false),
-      founded_after laws c.self.inside.store c.from_root-reply.new.store c.self.inside.calls c.now-moment.result c.args.request c.from_root-reply.result c.self.invariant.1 c.is_call.ensures does,
+      founded_after c.self.inside.store c.from_root-reply.new.store c.self.inside.calls c.now-moment.result c.args.request c.from_root-reply.result c.self.invariant.1 c.is_call.ensures does,
     )
 
 pub returns : goal.returns

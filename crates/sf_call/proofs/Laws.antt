@@ -1,0 +1,151 @@
+-- For the crates above: laws of trees and histories. They speak of definitions alone. All other files here are
+-- private to this crate.
+use Rattle.std.proofs.Common.{◌≡◌, ◌≢◌, ◌<◌, ◌≤◌, ◌↔◌, ℕ, true, false, List, [], ◌∷◌, ◌++◌, length, take, Option, Some, None, IsSome, IfSome, subst}
+use Rattle.std.specs.Ordering.{nat_cmp}
+use Rattle.std.specs.BTreeMap.{is_at}
+use Rattle.sf_path.specs.Names.{Name, Path, IsPath}
+use Rattle.sf_reply.specs.Longname.{HasType, longname_text}
+use Rattle.sf_reply.specs.Replies.{ReplyFits, reply_body}
+use Rattle.sf_reply.specs.declared.reply.Reply.{Reply}
+use Rattle.sf_call.specs.declared.limits.TheConstants.{MAX_FILE_SIZE}
+use Rattle.sf_call.specs.declared.metadata.Metadata.{Metadata}
+use Rattle.sf_call.specs.declared.request.Request.{Request}
+use Rattle.sf_call.specs.declared.record.Record.{Record}
+use Rattle.sf_call.specs.declared.record.Record.TheVariants.{Did}
+use Rattle.sf_call.specs.Attributes.{Object, attrs_of}
+use Rattle.sf_call.specs.Attributes.Object.{File}
+use Rattle.sf_call.specs.Tree.{Tree, label_at, object_of, handle_of, is_directory, is_faulty_way, kept}
+use Rattle.sf_call.specs.Listings.{entry_of}
+use Rattle.sf_call.specs.Changes.{Change, done}
+use Rattle.sf_call.specs.Allowed.{AreAllowed, IsWellFormed}
+use Rattle.sf_call.specs.Calls.{answer_to, apply}
+use Rattle.sf_call.specs.Histories.{after, replay, IsNewNumber, IsLegal, MayFollow, IsAmong, IsGiven}
+use Rattle.sf_call.specs.ReplyKinds.{HasAllParts}
+use Rattle.sf_call.proofs.Ways as ways
+use Rattle.sf_call.proofs.Listed as listed
+use Rattle.sf_call.proofs.Growth as growth
+use Rattle.sf_call.proofs.KindsOfReplies as kinds
+use Rattle.sf_call.proofs.FittingReplies as fitting
+use Rattle.sf_call.proofs.Sound as sound
+use Rattle.sf_call.proofs.Used.{kept-used}
+use Rattle.sf_call.proofs.FittingTrees.{ObjectFits, found_path}
+use Rattle.sf_call.proofs.Sound.{FreeAfter, allowed_by_sound, sound_replay}
+-- names that compare alike are one; a test that passes tells two names, or two paths, equal
+pub use Rattle.sf_call.proofs.Orders.{exact_names, exact_paths}
+pub use Rattle.sf_call.proofs.MovedNames.{is_equal, same_path_is, same_name_is, same_name_itself}
+-- what follows a front of a path, and the order of two paths with one front
+pub use Rattle.sf_call.proofs.MovedNames.{after_front-append, append-after_front, path_cmp-front}
+-- lists of entries in the order of their keys: what is found in one, and what after an entry was put, set or removed
+pub use Rattle.sf_call.proofs.Orders.{find_is}
+pub use Rattle.sf_call.proofs.Ordered.{put_is, and_first, and_second}
+pub use Rattle.sf_call.proofs.LookUps.{lookup-put, set_there, none_set, not_at, other_put, other_set, other_removed}
+-- what holds of all is kept by a choice and by a beginning, and by entries that are put, set and removed
+pub use Rattle.sf_call.proofs.FittingTrees.{all_made, all_filtered, all_removed, all_put, all_set, found_value}
+pub use Rattle.sf_call.proofs.FittingAnswers.{taken_short}
+-- trees in order that map alike are equal, and a change keeps the order
+pub use Rattle.sf_call.proofs.Orders.{same_tree}
+pub use Rattle.sf_call.proofs.Ordered.{ordered_changed, ordered_replay}
+-- what a move leaves at a path, and letting go of what nothing names or opens at a label
+pub use Rattle.sf_call.proofs.MovedNames.{at_old, label_after_move, lookup-moved, moved_to_new, moved_outside, moved_from_old}
+pub use Rattle.sf_call.proofs.Used.{object_kept}
+-- what stands where a path leads
+pub use Rattle.sf_call.proofs.Requests.{place_label, directory_there}
+pub use Rattle.sf_call.proofs.Founded.{kept_object}
+-- what holds of the root alone, and still holds after each call that may come and each leaving, holds after each legal
+-- history
+pub use Rattle.sf_call.proofs.Growth.{CallsKeep, holds_after}
+
+-- ---- trees
+
+-- a way is open where each proper front of the path is a directory
+pub open_way : (tree : Tree) (path : Path) → (is_faulty_way tree path ≡ false) ↔ ((n : ℕ) → n < length path → is_directory tree (take n path) ≡ true)
+open_way = ways.open_way
+
+-- the attributes that are sent of an object have all parts, and its type among the permissions
+pub all_parts : (object : Object) → HasAllParts (attrs_of object)
+all_parts = listed.all_parts
+
+pub has_type : (object : Object) → HasType (attrs_of object).permissions
+has_type = listed.has_type
+
+-- the line of an entry is that of its attributes
+pub has_line : (name : Name) (object : Object) → longname_text (attrs_of object) 1 name ≡ Some (entry_of name object).longname
+has_line = listed.has_line
+
+-- a record with the tree's own reply leads to the tree after it
+pub after_told : (tree : Tree) (session number moment : ℕ) (request : Request)
+    → after tree (Did number session moment request (apply tree session number moment request).reply) ≡ (apply tree session number moment request).tree
+after_told = kinds.after_told
+
+-- ---- histories
+
+-- a history goes on by one record
+pub replay-push : (history : List Record) (r : Record) → replay (history ++ r ∷ []) ≡ after (replay history) r
+replay-push = growth.replay-push
+
+pub IsLegal-push : (history : List Record) (r : Record) → IsLegal history → MayFollow history r → IsLegal (history ++ r ∷ [])
+IsLegal-push = growth.IsLegal-push
+
+-- the reply of a call in a legal history is given by some legal history before it
+pub given_before : (number session moment : ℕ) (request : Request) (reply : Reply) (history : List Record)
+    → IsLegal history → IsAmong (Did number session moment request reply) history → IsGiven number session reply
+given_before number session moment request reply history legal among =
+    let earlier = growth.given history (Did number session moment request reply) legal among in (earlier.0, moment, request, earlier.1, earlier.2)
+
+-- after a legal history no path, no object and no handle has the number of a call to come
+pub unused_number : (history : List Record) (number : ℕ) (path : Path) → IsLegal history → 0 < number → IsNewNumber number history
+    → label_at (replay history).names path ≢ Some number
+unused_number history number path legal above new = (sound_replay history legal).labelled.unused number (above, new) path
+
+pub no_object : (history : List Record) (number : ℕ) → IsLegal history → 0 < number → IsNewNumber number history
+    → object_of (replay history).objects number ≡ None
+no_object history number legal above new = (sound_replay history legal).labelled.no_object number (above, new)
+
+pub no_handle : (history : List Record) (number : ℕ) → IsLegal history → 0 < number → IsNewNumber number history
+    → handle_of (replay history).handles number ≡ None
+no_handle history number legal above new = (sound_replay history legal).labelled.unopened number (above, new)
+
+-- one path at most has a label
+pub one_path : (history : List Record) (path other : Path) (label : ℕ) → IsLegal history
+    → label_at (replay history).names path ≡ Some label → label_at (replay history).names other ≡ Some label → path ≡ other
+one_path history path other label legal = (sound_replay history legal).labelled.one_path path other label
+
+-- a path that is named leads over directories to an object
+pub named_object : (history : List Record) (path : Path) (label : ℕ) → IsLegal history
+    → label_at (replay history).names path ≡ Some label → IsSome (object_of (replay history).objects label)
+named_object history path label legal = (sound_replay history legal).founded.object path label
+
+pub named_way : (history : List Record) (path : Path) (label : ℕ) → IsLegal history
+    → label_at (replay history).names path ≡ Some label → is_faulty_way (replay history) path ≡ false
+named_way history path label legal = (sound_replay history legal).founded.way path label
+
+-- each object is named or open, so that letting go changes nothing
+pub all_kept : (history : List Record) → IsLegal history → kept (replay history) ≡ replay history
+all_kept history legal = kept-used (replay history) (sound_replay history legal).used
+
+-- what a request that may come next changes is allowed
+pub allowed_changes : (history : List Record) (number session moment : ℕ) (request : Request) → IsLegal history → 0 < number → IsNewNumber number history
+    → AreAllowed number (replay history) (answer_to (replay history) session number moment request).changes
+allowed_changes history number session moment request legal above new =
+    allowed_by_sound (FreeAfter history) (replay history) session number moment request (above, new) (sound_replay history legal)
+
+-- and what is allowed keeps the tree well formed
+pub well_formed : (history : List Record) (number : ℕ) (changes : List Change) → IsLegal history → AreAllowed number (replay history) changes
+    → IsWellFormed (done (replay history) changes)
+well_formed = sound.well_formed
+
+-- no file is above the limit, and each path is of names
+pub short_file : (history : List Record) (label : ℕ) (m : Metadata) (contents : List ℕ) → IsLegal history
+    → object_of (replay history).objects label ≡ Some (File m contents) → length contents ≤ MAX_FILE_SIZE
+short_file history label m contents legal is =
+    (subst (λ (o : Option Object). IfSome o ObjectFits) is (found_value ObjectFits (is_at (nat_cmp label)) (replay history).objects (fitting.fits_replay history legal).objects)).1
+
+pub named_path : (history : List Record) (path : Path) (label : ℕ) → IsLegal history → label_at (replay history).names path ≡ Some label → IsPath path
+named_path history path label legal = found_path (replay history).names path label (fitting.fits_replay history legal).names
+
+-- each reply of a call that may come after a legal history fits a packet, and its numbers and its strings have a spelling
+pub packet_fits : (number session id : ℕ) (reply : Reply) → IsGiven number session reply → length (reply_body id reply) ≤ 262144
+packet_fits number session id reply given = fitting.short_packet id reply (fitting.given_short number session reply given)
+
+pub reply_fits : (number session : ℕ) (reply : Reply) → IsGiven number session reply → ReplyFits reply
+reply_fits number session reply given = fitting.short_fits reply (fitting.given_short number session reply given)

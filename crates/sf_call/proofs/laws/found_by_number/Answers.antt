@@ -1,5 +1,0 @@
-use Rattle.sf_call.proofs.Growth.{record_of-legal}
-use Rattle.sf_call.proofs.laws.found_by_number.Goals as goal
-
-pub returns : goal.returns
-returns c = record_of-legal

@@ -1,5 +1,0 @@
-use Rattle.sf_call.proofs.KindsOfReplies.{applied}
-use Rattle.sf_call.proofs.laws.kinds_of_replies.Goals as goal
-
-pub returns : goal.returns
-returns c = applied

@@ -1,8 +1,0 @@
-use Rattle.sf_call.proofs.Growth.{replay-push, IsLegal-push}
-use Rattle.sf_call.proofs.laws.one_record_more.Goals as goal
-
-pub returns-clause-replayed : goal.returns-clause-replayed
-returns-clause-replayed c = replay-push
-
-pub returns-clause-legal : goal.returns-clause-legal
-returns-clause-legal c = IsLegal-push

@@ -1,7 +1,0 @@
-use Rattle.std.proofs.Common.{List, ap}
-use Rattle.sf_call.specs.Changes.{Change, done}
-use Rattle.sf_call.proofs.Refusals.{refused_still}
-use Rattle.sf_call.proofs.laws.refusals_change_nothing.Goals as goal
-
-pub returns : goal.returns
-returns c tree session number moment request code is other = ap (λ (changes : List Change). done tree changes) (refused_still tree session number moment request code is other)

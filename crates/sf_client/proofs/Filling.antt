@@ -1,0 +1,65 @@
+-- Filling a buffer from a line.
+use Rattle.std.proofs.Common.{◌≡◌, ℕ, ◌+◌, ◌^◌, ◌<◌, ◌≤◌, List, [], ◌++◌, length, take, drop, Option, Some, None, refl, sym, ap, subst, ◌∙◌, append_assoc, arith}
+use Rattle.std.specs.Int.{w32, from_be_bytes}
+use Rattle.std.specs.Io.KnownBytes.{Consumes, IsAtEnd}
+use Rattle.std.proofs.KnownBytes.{Consumes-trans}
+use Rattle.std.proofs.Math.Seq.{take-append-add}
+use Rattle.std.proofs.lemmas.Nat.{from_be_bytes-to_be_bytes_4}
+use Rattle.std.proofs.lemmas.List.{length-take-le, length-append, append-nil, take_at, drop_at, take-append-le}
+use borrow.Rule.Slice.PartMut.{put_mid, post_of}
+use Rattle.sf_field.specs.Fields.{be32, packet}
+use Rattle.sf_wire.specs.Packets.{IsBody}
+use Rattle.sf_client.specs.Packets.{Ends, HasNoPacket}
+
+-- at its end, fewer bytes were there than the buffer holds
+pub ends : (a b : Option (List ℕ)) (bytes : List ℕ) (n : ℕ) → Consumes a b bytes → IsAtEnd b → length bytes < n → Ends a n
+ends None b bytes n read end lt = tt
+ends (Some input) None bytes n read end lt = absurd read
+ends (Some input) (Some left) bytes n read end lt = let all : input ≡ bytes = read ∙ ap (λ (t : List ℕ). bytes ++ t) end ∙ append-nil bytes in omega (arith, ap length all)
+
+-- what was read after what was there
+pub taken_more : (a k n : ℕ) (xs ys : List ℕ) → a ≤ length xs → n ≤ length ys → take (a + n) (put_mid a k xs ys) ≡ take a xs ++ take n ys
+taken_more a k n xs ys within fits =
+    let len = length-take-le a xs within in
+    ap (λ (m : ℕ). take (m + n) (put_mid a k xs ys)) (sym len) ∙ take-append-add (take a xs) (ys ++ post_of a k xs) n ∙ ap (λ (l : List ℕ). take a xs ++ l) (take-append-le n ys (post_of a k xs) fits)
+
+-- ---- packets at the front
+
+pub same_number : (n m : ℕ) → n < 2 ^ 32 → m < 2 ^ 32 → be32 n ≡ be32 m → n ≡ m
+same_number n m p q e = sym (from_be_bytes-to_be_bytes_4 n p) ∙ ap (from_be_bytes w32) e ∙ from_be_bytes-to_be_bytes_4 m q
+
+-- the header of a packet is its body's length, and its body is after it
+pub header_is : (body rest header left : List ℕ) → length header ≡ 4 → packet body ++ rest ≡ header ++ left → (header ≡ be32 (length body)) × (left ≡ body ++ rest)
+header_is body rest header left len e =
+    let whole : be32 (length body) ++ (body ++ rest) ≡ header ++ left = sym (append_assoc (be32 (length body)) body rest) ∙ e in
+    (sym (take_at header left 4 len) ∙ ap (take 4) (sym whole), sym (drop_at header left 4 len) ∙ ap (drop 4) (sym whole))
+
+-- the input ended in the header
+pub ends_in_header : (a : Option (List ℕ)) (n : ℕ) → n ≡ 4 → Ends a n → HasNoPacket a
+ends_in_header None n four h = tt
+ends_in_header (Some input) n four h = λ body rest is e. omega (arith, h, ap length e, length-append (packet body) rest, length-append (be32 (length body)) body)
+
+-- the header is no body's length
+pub wrong_header : (a b : Option (List ℕ)) (header : List ℕ) → Consumes a b header → length header ≡ 4 → ((n : ℕ) → 0 < n → n ≤ 262144 → header ≡ be32 n → ⊥) → HasNoPacket a
+wrong_header None b header read len wrong = tt
+wrong_header (Some input) None header read len wrong = absurd read
+wrong_header (Some input) (Some left) header read len wrong = λ body rest is_body e.
+    let parts = header_is body rest header left len (sym e ∙ read) in
+    wrong (length body) is_body.some is_body.short parts.0
+
+-- the input ended in the body
+pub ends_in_body : (a b : Option (List ℕ)) (header : List ℕ) (n : ℕ) → Consumes a b header → n ≤ 262144 → header ≡ be32 n → (k : ℕ) → k ≡ n → Ends b k → HasNoPacket a
+ends_in_body None b header n read short is k same_k ends = tt
+ends_in_body (Some input) None header n read short is k same_k ends = absurd read
+ends_in_body (Some input) (Some left) header n read short is k same_k ends = λ body rest is_body e.
+    let parts = header_is body rest header left (ap length is) (sym e ∙ read) in
+    let same : n ≡ length body = same_number n (length body) (omega arith) (omega (arith, is_body.short)) (sym is ∙ parts.0) in
+    omega (arith, ends, ap length parts.1, length-append body rest)
+
+-- a header and a body of its length are a packet
+pub whole_packet : (a b c : Option (List ℕ)) (header body buffer : List ℕ) (n : ℕ) → Consumes a b header → Consumes b c body → header ≡ be32 n → length body ≡ n
+    → Consumes a c (packet (take n (body ++ buffer)))
+whole_packet a b c header body buffer n first second is same =
+    let taken : take n (body ++ buffer) ≡ body = take_at body buffer n same in
+    let parts : header ++ body ≡ packet (take n (body ++ buffer)) = rw (taken, is, same) refl in
+    subst (Consumes a c) parts (Consumes-trans a b c header body first second)

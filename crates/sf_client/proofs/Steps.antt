@@ -1,0 +1,155 @@
+-- One request and its reply.
+use Rattle.std.proofs.Common.{◌≡◌, ◌+◌, ◌^◌, ◌<◌, ◌≤◌, ℕ, List, [], ◌∷◌, ◌++◌, length, take, drop, Bool, true, false, Option, Some, None, Result, Ok, Err, inl, inr, refl, sym, ap, subst, ◌∙◌, append_assoc, append-nil, arith, lit<, lit≤}
+use Rattle.std.specs.Prelude.{◌||◌, IfSome}
+use Rattle.std.specs.Io.KnownBytes.{Appends, Consumes}
+use Rattle.std.proofs.lemmas.Bool.{cases_lt}
+use Rattle.std.proofs.lemmas.List.{take_at}
+use Rattle.sf_line.specs.Lines.{Rose}
+use Rattle.sf_field.specs.Fields.{be32, packet}
+use Rattle.sf_wire.specs.Packets.{IsBody}
+use Rattle.sf_request.specs.declared.request.WireRequest.{WireRequest}
+use Rattle.sf_request.specs.Requests.{request_body}
+use Rattle.sf_reply.specs.declared.reply.Reply.{Reply}
+use Rattle.sf_reply.specs.declared.reply.Reply.TheVariants as reply
+use Rattle.sf_reply.specs.declared.reply.StatusCode.{StatusCode}
+use Rattle.sf_reply.specs.declared.reply.StatusCode.TheVariants as status
+use Rattle.sf_reply.specs.Replies.{reply_body, version_body, ReplyFits}
+use Rattle.sf_reply.specs.Reading.{IsReply}
+use Rattle.sf_client.specs.declared.due.Due.{Due}
+use Rattle.sf_client.specs.declared.due.Due.TheVariants as due
+use Rattle.sf_client.specs.declared.fault.ClientFault.{ClientFault}
+use Rattle.sf_client.specs.declared.fault.ClientFault.TheVariants as fault
+use Rattle.sf_client.specs.Packets.{HasNoPacket}
+use Rattle.sf_client.specs.Dues.{due_of, is_answer, is_refusal, is_due, Refuses}
+use Rattle.sf_client.specs.Exchanges.{ClientView, Exchange, Exchanged, Unanswered, Took, HasNoReply, HasNoVersion, id_after, last_id, requests_from, replies_from}
+use Rattle.sf_client.specs.Outcomes.{asked, Broke, Comes, Settles, Takes}
+use Rattle.sf_client.proofs.Filling.{header_is, same_number}
+
+-- ---- no reply
+
+-- where no packet stands, no reply does
+pub no_packet : (a : Option (List ℕ)) (id : ℕ) (d : Due) → HasNoPacket a → HasNoReply a id d
+no_packet None id d h = tt
+no_packet (Some input) id d h = λ r rest fits due short e. h (reply_body id r) rest (record { some = omega arith; short = short }) e
+
+-- the body of the packet at the front
+same_body : (a b x y : List ℕ) → length a ≤ 262144 → length b ≤ 262144 → packet a ++ x ≡ packet b ++ y → a ≡ b
+same_body a b x y short_a short_b e =
+    let parts = header_is a x (be32 (length b)) (b ++ y) refl (e ∙ append_assoc (be32 (length b)) b y) in
+    let len : length a ≡ length b = same_number (length a) (length b) (omega arith) (omega arith) (sym parts.0) in
+    sym (take_at a x (length b) len) ∙ ap (take (length b)) (sym parts.1) ∙ take_at b y (length b) refl
+
+-- where the packet's body spells no due reply, none stands
+pub no_due : (a b : Option (List ℕ)) (id : ℕ) (d : Due) (body : List ℕ) → Consumes a b (packet body) → length body ≤ 262144 → id < 2 ^ 32 → ((r : Reply) → IsReply body id r → is_due d r ≡ true → ⊥)
+    → HasNoReply a id d
+no_due None b id d body read short fits none = tt
+no_due (Some input) None id d body read short fits none = absurd read
+no_due (Some input) (Some left) id d body read short fits none = λ r rest reply_fits due small e.
+    let same : body ≡ reply_body id r = same_body body (reply_body id r) left rest short small (sym read ∙ e) in
+    none r (record { id_fits = fits; fits = reply_fits; parts = same }) due
+
+-- the packet's body spells a reply
+pub a_reply : (a b : Option (List ℕ)) (id : ℕ) (body : List ℕ) (r : Reply) → Consumes a b (packet body) → IsReply body id r → Consumes a b (packet (reply_body id r))
+a_reply a b id body r read is = subst (λ (t : List ℕ). Consumes a b (packet t)) is.parts read
+
+-- ---- one exchange
+
+-- what a request that is sent leaves
+pub record Sent (v : ClientView) (bytes : List ℕ) (u : ClientView) : Type 0 where
+  pub wrote : Appends v.outgoing u.outgoing bytes
+  pub client : u ≡ record v { outgoing = u.outgoing; failures = u.failures }
+  pub failures : v.failures ≤ u.failures
+
+pub one_exchanged : (v u w : ClientView) (bytes : List ℕ) (q : WireRequest) (r : Reply) → v.failed ≡ false → Sent v bytes u → bytes ≡ packet (request_body v.next q) → is_due (due_of q) r ≡ true → Took u r w
+    → Exchanged v (asked q r ∷ []) w
+unfolding last_id requests_from replies_from
+one_exchanged v u w bytes q r began sent is due took =
+    let next : u.next ≡ v.next = ap (λ (z : ClientView). z.next) sent.client in
+    let failed : u.failed ≡ v.failed = ap (λ (z : ClientView). z.failed) sent.client in
+    let incoming : u.incoming ≡ v.incoming = ap (λ (z : ClientView). z.incoming) sent.client in
+    let wrote : Appends v.outgoing w.outgoing bytes = rw took.outgoing sent.wrote in
+    let wrote_packet : Appends v.outgoing w.outgoing (packet (request_body v.next q) ++ []) = subst (Appends v.outgoing w.outgoing) (is ∙ sym (append-nil (packet (request_body v.next q)))) wrote in
+    let read : Consumes v.incoming w.incoming (packet (reply_body u.next r)) = rw (← incoming) took.read in
+    let read_packet : Consumes v.incoming w.incoming (packet (reply_body v.next r) ++ []) =
+    subst (Consumes v.incoming w.incoming) (ap (λ (n : ℕ). packet (reply_body n r)) next ∙ sym (append-nil (packet (reply_body v.next r)))) read in
+    record {
+      began = began;
+      going = took.same ∙ failed ∙ began;
+      next = took.next ∙ ap id_after next;
+      wrote = wrote_packet;
+      read = read_packet;
+      due = (due, tt);
+      failures = omega (arith, sent.failures, took.failures);
+    }
+
+rose_since : (a b c : ℕ) → a ≤ b → b ≤ c → Rose b c → Rose a c
+rose_since a b c le grew (inl more) = inl (omega arith)
+rose_since a b c le grew (inr end) = elim (cases_lt a c) [ inl lt ↦ inl lt | inr ge ↦ inr (omega arith) ]
+
+pub broke_since : (u v w : ClientView) → u.failures ≤ v.failures → Broke v w → Broke u w
+broke_since u v w le broke = record { failed = broke.failed; grew = omega (arith, broke.grew); rose = rose_since u.failures v.failures w.failures le broke.grew broke.rose }
+
+-- the reply didn't come, or found no memory
+pub settled_err : (v u w : ClientView) (bytes : List ℕ) (d : Due) (f : ClientFault) → v.failed ≡ false → Sent v bytes u → Takes u d (Err f) w
+    → (q : WireRequest) → bytes ≡ packet (request_body v.next q) → d ≡ due_of q → Settles {X = Reply} (λ r. r) v q (Err f) w
+settled_err v u w bytes d fault.Stream began sent takes q is due = broke_since v u w sent.failures takes
+settled_err v u w bytes d fault.Protocol began sent takes q is due =
+    let next : u.next ≡ v.next = ap (λ (z : ClientView). z.next) sent.client in
+    let incoming : u.incoming ≡ v.incoming = ap (λ (z : ClientView). z.incoming) sent.client in
+    record {
+      began = began;
+      failed = takes.0;
+      wrote = rw (takes.1, ← is) sent.wrote;
+      none = rw (← next, ← incoming, ← due) takes.2;
+    }
+settled_err v u w bytes d (fault.Status code) began sent takes q is due = absurd takes
+settled_err v u w bytes d fault.OutOfMemory began sent takes q is due = (takes.0, one_exchanged v u w bytes q takes.0 began sent is (rw (← due) takes.1) takes.2)
+settled_err v u w bytes d fault.Failed began sent takes q is due = absurd takes
+
+pub settled_ok : (v u w : ClientView) (bytes : List ℕ) (d : Due) (r : Reply) → v.failed ≡ false → Sent v bytes u → Takes u d (Ok r) w
+    → (q : WireRequest) → bytes ≡ packet (request_body v.next q) → d ≡ due_of q → Exchanged v (asked q r ∷ []) w
+settled_ok v u w bytes d r began sent takes q is due = one_exchanged v u w bytes q r began sent is (rw (← due) takes.0) takes.1
+
+pub no_refusal : (a b : Bool) → (a || b) ≡ true → b ≡ false → a ≡ true
+no_refusal true b e f = refl
+no_refusal false b e f = absurd cc
+
+pub success_is : (r : Reply) → is_answer due.Success r ≡ true → r ≡ reply.Status status.Success
+success_is (reply.Status status.Success) e = refl
+success_is (reply.Status status.EndOfFile) e = absurd cc
+success_is (reply.Status status.NoSuchFile) e = absurd cc
+success_is (reply.Status status.PermissionDenied) e = absurd cc
+success_is (reply.Status status.Failure) e = absurd cc
+success_is (reply.Status status.BadMessage) e = absurd cc
+success_is (reply.Status status.OpUnsupported) e = absurd cc
+success_is reply.NoMemory e = absurd cc
+success_is (reply.Handle number) e = absurd cc
+success_is (reply.Data bytes) e = absurd cc
+success_is (reply.Names entries) e = absurd cc
+success_is (reply.Attrs attrs) e = absurd cc
+
+-- a fault says the same whatever was to be told
+pub same_fault : {X Y : Type 0} (told : X → Reply) (other : Y → Reply) (v w : ClientView) (q : WireRequest) (f : ClientFault) → Settles told v q (Err f) w → Settles other v q (Err f) w
+same_fault told other v w q fault.Stream h = h
+same_fault told other v w q fault.Protocol h = h
+same_fault told other v w q (fault.Status code) h = h
+same_fault told other v w q fault.OutOfMemory h = h
+same_fault told other v w q fault.Failed h = h
+
+pub settled_comes : {X : Type 0} (told : X → Reply) (v w : ClientView) (q : WireRequest) (f : ClientFault) → v.failed ≡ false → Settles told v q (Err f) w → Comes told v q (Err f) w
+settled_comes told v w q fault.Stream began h = h
+settled_comes told v w q fault.Protocol began h = h
+settled_comes told v w q (fault.Status code) began h = h
+settled_comes told v w q fault.OutOfMemory began h = (began, inr h)
+settled_comes told v w q fault.Failed began h = absurd h
+
+-- ---- VERSION
+
+pub no_version : (a : Option (List ℕ)) → HasNoPacket a → HasNoVersion a
+no_version None h = tt
+no_version (Some input) h = λ rest e. h version_body rest (record { some = lit< tt; short = lit≤ tt }) e
+
+pub other_version : (a b : Option (List ℕ)) (body : List ℕ) → Consumes a b (packet body) → length body ≤ 262144 → (body ≡ version_body → ⊥) → HasNoVersion a
+other_version None b body read short other = tt
+other_version (Some input) None body read short other = absurd read
+other_version (Some input) (Some left) body read short other = λ rest e. other (same_body body version_body left rest short (lit≤ tt) (sym read ∙ e))

@@ -1,0 +1,62 @@
+-- What a request's reply has to be.
+use Rattle.std.specs.Prelude.{◌≡◌, ◌≢◌, ◌<◌, ◌≤◌, ◌⊎◌, ℕ, length, Bool, true, false, nat_lt, nat_le, not, ◌&&◌, ◌||◌}
+use Rattle.sf_request.specs.declared.request.WireRequest.{WireRequest}
+use Rattle.sf_request.specs.declared.request.WireRequest.TheVariants as request
+use Rattle.sf_reply.specs.declared.reply.Reply.{Reply}
+use Rattle.sf_reply.specs.declared.reply.Reply.TheVariants as reply
+use Rattle.sf_reply.specs.declared.reply.StatusCode.{StatusCode}
+use Rattle.sf_reply.specs.declared.reply.StatusCode.TheVariants.{Success, Failure}
+use Rattle.sf_client.specs.declared.due.Due.{Due}
+use Rattle.sf_client.specs.declared.due.Due.TheVariants as due
+
+-- what answers a request that succeeds
+abbrev pub due_of : WireRequest → Due
+due_of (request.Open filename flags attrs) = due.Handle
+due_of (request.Close handle) = due.Success
+due_of (request.Read handle offset len) = due.Data len
+due_of (request.Write handle offset bytes) = due.Success
+due_of (request.LStat path) = due.Attrs
+due_of (request.FStat handle) = due.Attrs
+due_of (request.SetStat path attrs) = due.Success
+due_of (request.FSetStat handle attrs) = due.Success
+due_of (request.OpenDir path) = due.Handle
+due_of (request.ReadDir handle) = due.Names
+due_of (request.Remove path) = due.Success
+due_of (request.Mkdir path attrs) = due.Success
+due_of (request.Rmdir path) = due.Success
+due_of (request.RealPath path) = due.Names
+due_of (request.Stat path) = due.Attrs
+due_of (request.Rename old new) = due.Success
+due_of (request.PosixRename old new) = due.Success
+
+-- Whether the reply is the due one: STATUS OK, a handle, one byte at least and no more than were asked for, one name at
+-- least, or attributes.
+abbrev pub is_answer : Due → Reply → Bool
+is_answer due.Success (reply.Status Success) = true
+is_answer due.Handle (reply.Handle number) = true
+is_answer (due.Data most) (reply.Data bytes) = nat_lt 0 (length bytes) && nat_le (length bytes) most
+is_answer due.Names (reply.Names entries) = nat_lt 0 (length entries)
+is_answer due.Attrs (reply.Attrs attrs) = true
+is_answer _ _ = false
+
+-- whether the reply refuses, whatever was due
+abbrev pub is_refusal : Reply → Bool
+is_refusal (reply.Status Success) = false
+is_refusal (reply.Status _) = true
+is_refusal reply.NoMemory = true
+is_refusal (reply.Handle number) = false
+is_refusal (reply.Data bytes) = false
+is_refusal (reply.Names entries) = false
+is_refusal (reply.Attrs attrs) = false
+
+abbrev pub is_due : Due → Reply → Bool
+is_due d r = is_answer d r || is_refusal r
+
+-- the reply refuses by this code
+abbrev pub Refuses : Reply → StatusCode → Type 0
+Refuses (reply.Status code) told = (code ≢ Success) × (told ≡ code)
+Refuses reply.NoMemory told = told ≡ Failure
+Refuses (reply.Handle number) told = ⊥
+Refuses (reply.Data bytes) told = ⊥
+Refuses (reply.Names entries) told = ⊥
+Refuses (reply.Attrs attrs) told = ⊥

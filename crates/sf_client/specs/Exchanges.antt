@@ -1,0 +1,90 @@
+-- Requests that were sent, and the replies that were taken for them.
+use Rattle.std.specs.Prelude.{◌≡◌, ◌≤◌, ◌+◌, ◌-◌, ◌^◌, ℕ, List, [], ◌∷◌, ◌++◌, length, Bool, true, false, Option, IfSome, ◌==◌, if◌then◌else◌}
+use Rattle.std.specs.List.{AllByRecursion}
+use Rattle.std.specs.Io.KnownBytes.{Appends, Consumes}
+use Rattle.sf_request.specs.declared.request.WireRequest.{WireRequest}
+use Rattle.sf_request.specs.Requests.{request_body, init_body}
+use Rattle.sf_reply.specs.declared.reply.Reply.{Reply}
+use Rattle.sf_reply.specs.Replies.{reply_body, version_body, ReplyFits}
+use Rattle.sf_field.specs.Fields.{packet}
+use Rattle.sf_client.specs.declared.due.Due.{Due}
+use Rattle.sf_client.specs.Dues.{due_of, is_due}
+
+-- What can be seen of a client: the id of its next request, whether it has failed, what its line has still to give and
+-- has taken where it tells that, and how many calls of its line failed.
+pub record ClientView : Type 0 where
+  pub next : ℕ
+  pub failed : Bool
+  pub incoming : Option (List ℕ)
+  pub outgoing : Option (List ℕ)
+  pub failures : ℕ
+
+pub record Exchange : Type 0 where
+  pub request : WireRequest
+  pub reply : Reply
+
+-- ids are 1, 2, 3 and so on, modulo 2^32
+abbrev pub id_after : ℕ → ℕ
+id_after id = if id == 2 ^ 32 - 1 then 0 else id + 1
+
+unfoldable pub last_id : ℕ → List Exchange → ℕ
+last_id id [] = id
+last_id id (x ∷ xs) = last_id (id_after id) xs
+
+-- the packets of the requests, and of the replies, which have the same ids
+unfoldable pub requests_from : ℕ → List Exchange → List ℕ
+requests_from id [] = []
+requests_from id (x ∷ xs) = packet (request_body id x.request) ++ requests_from (id_after id) xs
+
+unfoldable pub replies_from : ℕ → List Exchange → List ℕ
+replies_from id [] = []
+replies_from id (x ∷ xs) = packet (reply_body id x.reply) ++ replies_from (id_after id) xs
+
+-- the reply is one that its request may have
+abbrev pub IsDue : Exchange → Type 0
+IsDue x = is_due (due_of x.request) x.reply ≡ true
+
+-- The client sent these requests, in order, and took their replies, and is in step.
+pub record Exchanged (v : ClientView) (xs : List Exchange) (w : ClientView) : Type 0 where
+  pub began : v.failed ≡ false
+  pub going : w.failed ≡ false
+  pub next : w.next ≡ last_id v.next xs
+  pub wrote : Appends v.outgoing w.outgoing (requests_from v.next xs)
+  pub read : Consumes v.incoming w.incoming (replies_from v.next xs)
+  pub due : AllByRecursion IsDue xs
+  pub failures : v.failures ≤ w.failures
+
+-- No due reply under this id stands at the front of the input.
+abbrev pub HasNoReply : Option (List ℕ) → ℕ → Due → Type 0
+HasNoReply incoming id d = IfSome incoming (λ input. (r : Reply) (rest : List ℕ) → ReplyFits r → is_due d r ≡ true → length (reply_body id r) ≤ 262144
+    → input ≡ packet (reply_body id r) ++ rest → ⊥)
+
+-- A request was sent, and no due reply came for it. The client has failed.
+pub record Unanswered (v : ClientView) (q : WireRequest) (w : ClientView) : Type 0 where
+  pub began : v.failed ≡ false
+  pub failed : w.failed ≡ true
+  pub wrote : Appends v.outgoing w.outgoing (packet (request_body v.next q))
+  pub none : HasNoReply v.incoming v.next (due_of q)
+
+-- A reply was taken, under the id of the request that was sent last.
+pub record Took (v : ClientView) (r : Reply) (w : ClientView) : Type 0 where
+  pub same : w.failed ≡ v.failed
+  pub next : w.next ≡ id_after v.next
+  pub outgoing : w.outgoing ≡ v.outgoing
+  pub read : Consumes v.incoming w.incoming (packet (reply_body v.next r))
+  pub failures : v.failures ≤ w.failures
+
+-- INIT was sent, and VERSION was taken.
+pub record IsGreeted (incoming outgoing incoming' outgoing' : Option (List ℕ)) : Type 0 where
+  pub wrote : Appends outgoing outgoing' (packet init_body)
+  pub read : Consumes incoming incoming' (packet version_body)
+
+-- a client whose session was opened over a line
+pub record IsStarted (incoming outgoing : Option (List ℕ)) (v : ClientView) : Type 0 where
+  pub next : v.next ≡ 1
+  pub going : v.failed ≡ false
+  pub greeted : IsGreeted incoming outgoing v.incoming v.outgoing
+
+-- VERSION doesn't stand at the front of the input
+abbrev pub HasNoVersion : Option (List ℕ) → Type 0
+HasNoVersion incoming = IfSome incoming (λ input. (rest : List ℕ) → input ≡ packet version_body ++ rest → ⊥)

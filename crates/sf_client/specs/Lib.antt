@@ -1,0 +1,5 @@
+pub mod Packets
+pub mod Dues
+pub mod Exchanges
+pub mod Outcomes
+pub mod Calls

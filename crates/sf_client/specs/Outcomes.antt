@@ -1,0 +1,71 @@
+-- What came of a call.
+use Rattle.std.specs.Prelude.{◌≡◌, ◌≢◌, ◌≤◌, ◌+◌, ◌/◌, ◌*◌, ◌⊎◌, ℕ, zero, suc, List, [], ◌∷◌, ◌++◌, length, take, drop, Bool, true, false, Option, None, Result, Ok, Err}
+use Rattle.std.specs.List.{concat}
+use Rattle.std.specs.Io.KnownBytes.{Consumes}
+use Rattle.sf_line.specs.Lines.{Rose}
+use Rattle.sf_field.specs.Fields.{packet}
+use Rattle.sf_reply.specs.Replies.{reply_body}
+use Rattle.sf_request.specs.declared.request.WireRequest.{WireRequest}
+use Rattle.sf_request.specs.declared.request.WireRequest.TheVariants as request
+use Rattle.sf_reply.specs.declared.reply.Reply.{Reply}
+use Rattle.sf_reply.specs.declared.reply.Reply.TheVariants as reply
+use Rattle.sf_reply.specs.declared.reply.StatusCode.{StatusCode}
+use Rattle.sf_client.specs.declared.fault.ClientFault.{ClientFault}
+use Rattle.sf_client.specs.declared.fault.ClientFault.TheVariants as fault
+use Rattle.sf_client.specs.declared.due.Due.{Due}
+use Rattle.sf_client.specs.Dues.{Refuses, is_refusal, is_due}
+use Rattle.sf_client.specs.Exchanges.{ClientView, Exchange, Exchanged, Unanswered, Took, HasNoReply}
+
+abbrev pub asked : WireRequest → Reply → Exchange
+asked q r = record { request = q; reply = r }
+
+-- The line's failures rose, and the client has failed.
+pub record Broke (v w : ClientView) : Type 0 where
+  pub failed : w.failed ≡ true
+  pub grew : v.failures ≤ w.failures
+  pub rose : Rose v.failures w.failures
+
+-- What came of one request: its one reply was taken, which told this, or refused it; the line failed; no due reply came;
+-- or memory was wanting, before anything was sent or once the reply was taken. A client that failed before does nothing.
+abbrev pub Comes : {X : Type 0} → (X → Reply) → ClientView → WireRequest → Result X ClientFault → ClientView → Type 0
+Comes told v q (Ok x) w = Exchanged v (asked q (told x) ∷ []) w
+Comes told v q (Err fault.Stream) w = Broke v w
+Comes told v q (Err fault.Protocol) w = Unanswered v q w
+Comes told v q (Err (fault.Status code)) w = (r : Reply) × Refuses r code × Exchanged v (asked q r ∷ []) w
+Comes told v q (Err fault.OutOfMemory) w = (v.failed ≡ false) × ((w ≡ v) ⊎ ((r : Reply) × Exchanged v (asked q r ∷ []) w))
+Comes told v q (Err fault.Failed) w = (v.failed ≡ true) × (w ≡ v)
+
+-- The same of a request that was sent without memory: its one reply was taken in any case.
+abbrev pub Settles : {X : Type 0} → (X → Reply) → ClientView → WireRequest → Result X ClientFault → ClientView → Type 0
+Settles told v q (Ok x) w = Exchanged v (asked q (told x) ∷ []) w
+Settles told v q (Err fault.Stream) w = Broke v w
+Settles told v q (Err fault.Protocol) w = Unanswered v q w
+Settles told v q (Err (fault.Status code)) w = (r : Reply) × Refuses r code × Exchanged v (asked q r ∷ []) w
+Settles told v q (Err fault.OutOfMemory) w = (r : Reply) × Exchanged v (asked q r ∷ []) w
+Settles told v q (Err fault.Failed) w = ⊥
+
+-- what came of taking a reply
+abbrev pub Takes : ClientView → Due → Result Reply ClientFault → ClientView → Type 0
+Takes v d (Ok r) w = (is_due d r ≡ true) × Took v r w
+Takes v d (Err fault.Stream) w = Broke v w
+Takes v d (Err fault.Protocol) w = (w.failed ≡ true) × (w.outgoing ≡ v.outgoing) × HasNoReply v.incoming v.next d
+Takes v d (Err (fault.Status code)) w = ⊥
+Takes v d (Err fault.OutOfMemory) w = (r : Reply) × (is_due d r ≡ true) × Took v r w
+Takes v d (Err fault.Failed) w = ⊥
+
+-- what came of reading a reply, under an id
+abbrev pub ReadsDue : Option (List ℕ) → Option (List ℕ) → ℕ → Due → Result Reply ClientFault → Type 0
+ReadsDue incoming incoming' id d (Ok r) = (is_due d r ≡ true) × Consumes incoming incoming' (packet (reply_body id r))
+ReadsDue incoming incoming' id d (Err fault.Stream) = Unit {0}
+ReadsDue incoming incoming' id d (Err fault.Protocol) = HasNoReply incoming id d
+ReadsDue incoming incoming' id d (Err (fault.Status code)) = ⊥
+ReadsDue incoming incoming' id d (Err fault.OutOfMemory) = (r : Reply) × (is_due d r ≡ true) × Consumes incoming incoming' (packet (reply_body id r))
+ReadsDue incoming incoming' id d (Err fault.Failed) = ⊥
+
+-- Nothing was sent: the client has failed before, or there was no memory.
+abbrev pub IsUnsent : ClientView → ClientFault → Type 0
+IsUnsent v fault.Stream = ⊥
+IsUnsent v fault.Protocol = ⊥
+IsUnsent v (fault.Status code) = ⊥
+IsUnsent v fault.OutOfMemory = v.failed ≡ false
+IsUnsent v fault.Failed = v.failed ≡ true

@@ -1,0 +1,12 @@
+-- What stands at the front of a line's input.
+use Rattle.std.specs.Prelude.{◌≡◌, ◌<◌, ℕ, List, ◌++◌, length, Option, IfSome}
+use Rattle.sf_field.specs.Fields.{packet}
+use Rattle.sf_wire.specs.Packets.{IsBody}
+
+-- the input has fewer bytes than these
+abbrev pub Ends : Option (List ℕ) → ℕ → Type 0
+Ends incoming n = IfSome incoming (λ input. length input < n)
+
+-- no packet stands at the front of the input
+abbrev pub HasNoPacket : Option (List ℕ) → Type 0
+HasNoPacket incoming = IfSome incoming (λ input. (body rest : List ℕ) → IsBody body → input ≡ packet body ++ rest → ⊥)

@@ -1,0 +1,95 @@
+//! The calls of one request each.
+
+ghost use Rattle.std.specs.Prelude.{◌≡◌, ◌+◌, ◌<◌, ◌^◌, length, Ok, Err};
+ghost use Rattle.sf_field.specs.Attributes.{no_attrs};
+ghost use Rattle.sf_request.specs.declared.request.WireRequest.TheVariants as request;
+ghost use Rattle.sf_request.specs.Requests.{request_body};
+ghost use Rattle.sf_reply.specs.declared.reply.Reply.TheVariants as reply;
+ghost use Rattle.sf_reply.specs.declared.reply.StatusCode.TheVariants.{Success};
+ghost use Rattle.sf_client.specs.Dues.{due_of};
+ghost use Rattle.sf_client.specs.Outcomes.{Comes};
+
+use crate::client::Client;
+use crate::due::Due;
+use crate::fault::ClientFault;
+use sf_field::{Attrs, NO_ATTRS};
+use sf_line::Line;
+use sf_reply::Reply;
+use sf_request::WireRequest;
+
+impl<L: Line + Drop> Client<L> {
+    /// Sends a request that STATUS OK answers.
+    pub(crate) fn done(&mut self, request: &WireRequest) -> Result<(), ClientFault>
+        requires short { length (request_body self.old.next request.now) < 2 ^ 32 }
+        requires due { due_of request.now ≡ Due.Success }
+        ensures { Comes (λ _. reply.Status Success) self.old request.now result self.new }
+    {
+        match self.exchange(request) {
+            Ok(_reply) => Ok(()),
+            Err(fault) => Err(fault),
+        }
+    }
+
+    /// The attributes of what the path names.
+    pub fn stat(&mut self, path: &[u8]) -> Result<Attrs, ClientFault>
+        requires { length path.now < 2 ^ 31 }
+        ensures { Comes reply.Attrs self.old (request.Stat path.now) result self.new }
+    {
+        let path = self.copy(path)?;
+        match self.exchange(&WireRequest::Stat { path }) {
+            Ok(Reply::Attrs(attrs)) => Ok(attrs),
+            Ok(_) => unreachable!(),
+            Err(fault) => Err(fault),
+        }
+    }
+
+    /// Makes a directory.
+    pub fn mkdir(&mut self, path: &[u8]) -> Result<(), ClientFault>
+        requires { length path.now < 2 ^ 31 }
+        ensures { Comes (λ _. reply.Status Success) self.old (request.Mkdir path.now no_attrs) result self.new }
+    {
+        let path = self.copy(path)?;
+        self.done(&WireRequest::Mkdir {
+            path,
+            attrs: NO_ATTRS,
+        })
+    }
+
+    /// Removes an empty directory.
+    pub fn rmdir(&mut self, path: &[u8]) -> Result<(), ClientFault>
+        requires { length path.now < 2 ^ 31 }
+        ensures { Comes (λ _. reply.Status Success) self.old (request.Rmdir path.now) result self.new }
+    {
+        let path = self.copy(path)?;
+        self.done(&WireRequest::Rmdir { path })
+    }
+
+    /// Removes a file.
+    pub fn remove(&mut self, path: &[u8]) -> Result<(), ClientFault>
+        requires { length path.now < 2 ^ 31 }
+        ensures { Comes (λ _. reply.Status Success) self.old (request.Remove path.now) result self.new }
+    {
+        let path = self.copy(path)?;
+        self.done(&WireRequest::Remove { path })
+    }
+
+    /// Renames, which fails where `new` is there.
+    pub fn rename(&mut self, old: &[u8], new: &[u8]) -> Result<(), ClientFault>
+        requires { length old.now + length new.now < 2 ^ 31 }
+        ensures { Comes (λ _. reply.Status Success) self.old (request.Rename old.now new.now) result self.new }
+    {
+        let old = self.copy(old)?;
+        let new = self.copy(new)?;
+        self.done(&WireRequest::Rename { old, new })
+    }
+
+    /// Renames, in the place of what `new` names, as POSIX's `rename`.
+    pub fn posix_rename(&mut self, old: &[u8], new: &[u8]) -> Result<(), ClientFault>
+        requires { length old.now + length new.now < 2 ^ 31 }
+        ensures { Comes (λ _. reply.Status Success) self.old (request.PosixRename old.now new.now) result self.new }
+    {
+        let old = self.copy(old)?;
+        let new = self.copy(new)?;
+        self.done(&WireRequest::PosixRename { old, new })
+    }
+}

@@ -1,0 +1,264 @@
+//! A client, and one request with its reply.
+
+ghost use Rattle.std.specs.Prelude.{◌≡◌, ◌≢◌, ◌+◌, ◌<◌, ◌≤◌, ◌^◌, ℕ, length, true, false, Ok, Err, IfOk, IfErr, OnOk, OnErr, vec_len, ◌⊎◌};
+ghost use Rattle.std.specs.Io.KnownBytes.{Appends, Consumes};
+ghost use Rattle.sf_line.specs.Lines.{Rose};
+ghost use Rattle.sf_field.specs.Fields.{be64, packet};
+ghost use Rattle.sf_request.specs.declared.request.WireRequest.{WireRequest};
+ghost use Rattle.sf_request.specs.declared.request.WireRequest.TheVariants.{Close};
+ghost use Rattle.sf_request.specs.Requests.{request_body};
+ghost use Rattle.sf_reply.specs.declared.reply.Reply.TheVariants.{Status};
+ghost use Rattle.sf_reply.specs.declared.reply.StatusCode.TheVariants.{Success};
+ghost use Rattle.sf_client.specs.Dues.{due_of, is_answer};
+ghost use Rattle.sf_client.specs.Exchanges.{id_after, IsGreeted, IsStarted, HasNoVersion};
+ghost use Rattle.sf_client.specs.Outcomes.{Broke, Comes, IsUnsent, ReadsDue, Settles, Takes};
+
+use crate::due::{Due, find_due, refusal};
+use crate::fault::ClientFault;
+use crate::lines::{MAX_BODY, read_packet, write_all};
+use bytes::BytesMut;
+use sf_field::ByteString;
+use sf_line::Line;
+use sf_reply::{Reply, is_version};
+use sf_request::{WireRequest, close_packet, init_packet, write_request};
+use std::alloc::{AllocError, Global};
+use std::marker::Model;
+
+/// The id after this one.
+fn id_following(id: u32) -> u32
+    ensures { result ≡ id_after id }
+{
+    if id == u32::MAX { 0 } else { id + 1 }
+}
+
+/// The packet of a request.
+fn packet_of(alloc: Global, id: u32, request: &WireRequest) -> Result<BytesMut, AllocError>
+    requires { length (request_body id request.now) < 2 ^ 32 }
+    ensures { IfOk result (λ bytes. bytes.items ≡ packet (request_body id request.now)) }
+{
+    let mut out = BytesMut::new(alloc);
+    write_request(id, request, &mut out)?;
+    Ok(out)
+}
+
+/// Reads the due reply under this id.
+fn read_due<L: Line>(
+    alloc: Global,
+    line: &mut L,
+    buffer: &mut [u8],
+    id: u32,
+    due: Due,
+) -> Result<Reply, ClientFault>
+    requires { length buffer.old ≡ MAX_BODY }
+    ensures reads { ReadsDue (L.incoming line.old) (L.incoming line.new) id due result }
+    ensures outgoing { L.outgoing line.new ≡ L.outgoing line.old }
+    ensures failures { L.failed line.old ≤ L.failed line.new }
+    ensures fault { result ≡ Err ClientFault.Stream → Rose (L.failed line.old) (L.failed line.new) }
+{
+    let len = match read_packet(line, buffer) {
+        Ok(Some(len)) => len,
+        Ok(None) => return Err(ClientFault::Protocol),
+        Err(_) => return Err(ClientFault::Stream),
+    };
+    let Some(found) = find_due(&buffer[..len], id, due) else {
+        return Err(ClientFault::Protocol);
+    };
+    match found.to_reply(alloc) {
+        Ok(reply) => Ok(reply),
+        Err(_) => Err(ClientFault::OutOfMemory),
+    }
+}
+
+fn zeros(alloc: Global, len: usize) -> Result<Vec<u8>, AllocError>
+    ensures { IfOk result (λ bytes. vec_len bytes ≡ len) }
+{
+    vec![in alloc; 0u8; len]
+}
+
+/// Sends INIT, and takes VERSION.
+fn greet<L: Line>(line: &mut L, buffer: &mut [u8]) -> Result<(), ClientFault>
+    requires { length buffer.old ≡ MAX_BODY }
+    ensures ok { OnOk result (IsGreeted (L.incoming line.old) (L.outgoing line.old) (L.incoming line.new) (L.outgoing line.new)) }
+    ensures refused { result ≡ Err ClientFault.Protocol → HasNoVersion (L.incoming line.old) }
+    ensures fault { IfErr result (λ fault. (fault ≡ ClientFault.Stream) ⊎ (fault ≡ ClientFault.Protocol)) }
+{
+    if write_all(line, &init_packet()).is_err() {
+        return Err(ClientFault::Stream);
+    }
+    let len = match read_packet(line, buffer) {
+        Ok(Some(len)) => len,
+        Ok(None) => return Err(ClientFault::Protocol),
+        Err(_) => return Err(ClientFault::Stream),
+    };
+    if is_version(&buffer[..len]) {
+        Ok(())
+    } else {
+        Err(ClientFault::Protocol)
+    }
+}
+
+/// A client of one session. It sends a request and takes its reply before it sends another.
+#[derive(Drop)]
+pub struct Client<L: Line + Drop> {
+    alloc: Global,
+    line: L,
+    /// The id of the next request.
+    next: u32,
+    /// The line failed, or gave another reply than the due one.
+    failed: bool,
+    /// Room for the longest reply.
+    body: Vec<u8>,
+}
+
+impl<L: Line + Drop> Model for Client<L> {
+    ghost use Rattle.std.specs.Prelude.{◌≡◌, ◌<◌, ◌^◌, length};
+    ghost use Rattle.sf_client.specs.Exchanges.{ClientView};
+
+    ghost Value = { ClientView };
+
+    ghost view = { λ c. record { next = c.next; failed = c.failed; incoming = L.incoming c.line; outgoing = L.outgoing c.line; failures = L.failed c.line } };
+
+    ghost invariant = { λ c. length c.body.items ≡ 262144 };
+}
+
+impl<L: Line + Drop> Client<L> {
+    /// Opens the session: sends INIT with version 3, and takes VERSION.
+    pub fn start(alloc: Global, line: L) -> Result<Client<L>, ClientFault>
+        ensures ok { IfOk result (λ client. IsStarted (L.incoming line) (L.outgoing line) client) }
+        ensures refused { result ≡ Err ClientFault.Protocol → HasNoVersion (L.incoming line) }
+        ensures fault { IfErr result (λ fault. (fault ≡ ClientFault.Stream) ⊎ ((fault ≡ ClientFault.Protocol) ⊎ (fault ≡ ClientFault.OutOfMemory))) }
+    {
+        let mut line = line;
+        let Ok(mut body) = zeros(alloc, MAX_BODY) else {
+            return Err(ClientFault::OutOfMemory);
+        };
+        greet(&mut line, &mut body)?;
+        Ok(Client {
+            alloc,
+            line,
+            next: 1,
+            failed: false,
+            body,
+        })
+    }
+
+    /// The line, at whatever the client left it.
+    pub fn into_line(self) -> L
+        ensures incoming { L.incoming result ≡ self.incoming }
+        ensures outgoing { L.outgoing result ≡ self.outgoing }
+        ensures failures { L.failed result ≡ self.failures }
+    {
+        let Client {
+            alloc: _alloc,
+            line,
+            next: _next,
+            failed: _failed,
+            body: _body,
+        } = self;
+        line
+    }
+
+    /// The allocator that the client was made with.
+    pub(crate) fn alloc(&self) -> Global {
+        self.alloc
+    }
+
+    /// A copy of bytes to be sent.
+    pub(crate) fn copy(&self, bytes: &[u8]) -> Result<ByteString, ClientFault>
+        ensures ok { IfOk result (λ copy. copy ≡ bytes.now) }
+        ensures going { OnOk result (self.now.failed ≡ false) }
+        ensures err { IfErr result (λ fault. IsUnsent self.now fault) }
+    {
+        if self.failed {
+            return Err(ClientFault::Failed);
+        }
+        match ByteString::from_slice(self.alloc, bytes) {
+            Ok(copy) => Ok(copy),
+            Err(_) => Err(ClientFault::OutOfMemory),
+        }
+    }
+
+    /// Nothing is sent any more.
+    fn fail(&mut self, fault: ClientFault) -> ClientFault
+        ensures fault { result ≡ fault }
+        ensures client { self.new ≡ record self.old { failed = true } }
+    {
+        self.failed = true;
+        fault
+    }
+
+    /// Sends a packet.
+    fn send(&mut self, packet: &[u8]) -> Result<(), ClientFault>
+        ensures ok { OnOk result (Appends self.old.outgoing self.new.outgoing packet.now) }
+        ensures client { OnOk result (self.new ≡ record self.old { outgoing = self.new.outgoing; failures = self.new.failures }) }
+        ensures failures { self.old.failures ≤ self.new.failures }
+        ensures fault { IfErr result (λ fault. fault ≡ ClientFault.Stream) }
+        ensures err { OnErr result (Broke self.old self.new) }
+    {
+        match write_all(&mut self.line, packet) {
+            Ok(()) => Ok(()),
+            Err(_) => Err(self.fail(ClientFault::Stream)),
+        }
+    }
+
+    /// The reply of the request that was sent last.
+    fn take_reply(&mut self, due: Due) -> Result<Reply, ClientFault>
+        ensures { Takes self.old due result self.new }
+    {
+        match read_due(self.alloc, &mut self.line, &mut self.body, self.next, due) {
+            Ok(reply) => {
+                self.next = id_following(self.next);
+                Ok(reply)
+            }
+            Err(ClientFault::OutOfMemory) => {
+                self.next = id_following(self.next);
+                Err(ClientFault::OutOfMemory)
+            }
+            Err(fault) => Err(self.fail(fault)),
+        }
+    }
+
+    /// Sends the packet of a request, and takes its reply.
+    fn settle(&mut self, bytes: &[u8], due: Due) -> Result<Reply, ClientFault>
+        requires { self.old.failed ≡ false }
+        ensures comes { (q : WireRequest) → bytes.now ≡ packet (request_body self.old.next q) → due ≡ due_of q → Settles (λ r. r) self.old q result self.new }
+        ensures loosely { (q : WireRequest) → bytes.now ≡ packet (request_body self.old.next q) → due ≡ due_of q → Comes (λ r. r) self.old q result self.new }
+        ensures answer { IfOk result (λ r. is_answer due r ≡ true) }
+    {
+        self.send(bytes)?;
+        match self.take_reply(due) {
+            Ok(reply) => match refusal(&reply) {
+                None => Ok(reply),
+                Some(code) => Err(ClientFault::Status(code)),
+            },
+            Err(fault) => Err(fault),
+        }
+    }
+
+    /// Sends a request, and takes its reply.
+    pub(crate) fn exchange(&mut self, request: &WireRequest) -> Result<Reply, ClientFault>
+        requires { length (request_body self.old.next request.now) < 2 ^ 32 }
+        ensures comes { Comes (λ r. r) self.old request.now result self.new }
+        ensures answer { IfOk result (λ r. is_answer (due_of request.now) r ≡ true) }
+    {
+        if self.failed {
+            return Err(ClientFault::Failed);
+        }
+        let Ok(packet) = packet_of(self.alloc, self.next, request) else {
+            return Err(ClientFault::OutOfMemory);
+        };
+        self.settle(packet.as_slice(), Due::of(request))
+    }
+
+    /// Closes a handle. It takes no memory to send CLOSE.
+    pub(crate) fn close(&mut self, handle: u64) -> Result<(), ClientFault>
+        requires { self.old.failed ≡ false }
+        ensures { Settles (λ _. Status Success) self.old (Close (be64 handle)) result self.new }
+    {
+        let packet = close_packet(self.next, handle);
+        match self.settle(&packet, Due::Success) {
+            Ok(_reply) => Ok(()),
+            Err(fault) => Err(fault),
+        }
+    }
+}

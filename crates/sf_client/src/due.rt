@@ -1,0 +1,99 @@
+//! What a request's reply has to be.
+
+ghost use Rattle.std.specs.Prelude.{◌≡◌, IfSome, IfNone, MatchOption, true, false};
+ghost use Rattle.sf_reply.specs.declared.reply.Reply.{Reply};
+ghost use Rattle.sf_reply.specs.Reading.{reply_of, IsCounted, IsReply};
+ghost use Rattle.sf_client.specs.Dues.{due_of, is_answer, is_refusal, is_due, Refuses};
+
+use sf_reply::{FoundReply, Reply, StatusCode, find_reply, sent_replies};
+use sf_request::WireRequest;
+
+/// What answers a request that succeeds.
+#[derive(Clone, Copy, Debug, PartialEq, Eq)]
+pub(crate) enum Due {
+    /// STATUS OK.
+    Success,
+    Handle,
+    /// One byte at least, and at most so many.
+    Data(u32),
+    /// One name at least.
+    Names,
+    Attrs,
+}
+
+impl Due {
+    pub(crate) fn of(request: &WireRequest) -> Due
+        ensures { result ≡ due_of request.now }
+    {
+        match request {
+            WireRequest::Open { .. } | WireRequest::OpenDir { .. } => Due::Handle,
+            WireRequest::Read { len, .. } => Due::Data(*len),
+            WireRequest::ReadDir { .. } | WireRequest::RealPath { .. } => Due::Names,
+            WireRequest::LStat { .. } | WireRequest::FStat { .. } | WireRequest::Stat { .. } => {
+                Due::Attrs
+            }
+            _ => Due::Success,
+        }
+    }
+
+    /// Whether a reply is the due one.
+    fn is_answered(self, found: &FoundReply<'_>) -> bool
+        requires { IsCounted found.now }
+        ensures { result ≡ is_answer self (reply_of found.now) }
+    {
+        match (self, found) {
+            (Due::Success, FoundReply::Status(StatusCode::Success)) => true,
+            (Due::Handle, FoundReply::Handle(_)) => true,
+            (Due::Data(most), FoundReply::Data(bytes)) => {
+                !bytes.is_empty() && bytes.len() <= most as usize
+            }
+            (Due::Names, FoundReply::Names(count, _)) => *count > 0,
+            (Due::Attrs, FoundReply::Attrs(_)) => true,
+            _ => false,
+        }
+    }
+
+    /// Whether a reply is the due one, or refuses.
+    pub(crate) fn allows(self, found: &FoundReply<'_>) -> bool
+        requires { IsCounted found.now }
+        ensures { result ≡ is_due self (reply_of found.now) }
+    {
+        self.is_answered(found) || is_refused(found)
+    }
+}
+
+fn is_refused(found: &FoundReply<'_>) -> bool
+    ensures { result ≡ is_refusal (reply_of found.now) }
+{
+    match found {
+        FoundReply::Status(StatusCode::Success) => false,
+        FoundReply::Status(_) | FoundReply::NoMemory => true,
+        _ => false,
+    }
+}
+
+/// The code by which a reply refuses.
+pub(crate) fn refusal(reply: &Reply) -> Option<StatusCode>
+    ensures { MatchOption result (is_refusal reply.now ≡ false) (Refuses reply.now) }
+{
+    match reply {
+        Reply::Status(StatusCode::Success) => None,
+        Reply::Status(code) => Some(*code),
+        Reply::NoMemory => Some(StatusCode::Failure),
+        _ => None,
+    }
+}
+
+/// The due reply that a body spells under this id.
+pub(crate) fn find_due(body: &[u8], id: u32, due: Due) -> Option<FoundReply<'_>>
+    ensures found { IfSome result (λ found. IsReply body.now id (reply_of found) × (is_due due (reply_of found) ≡ true)) }
+    ensures none { IfNone result ((r : Reply) → IsReply body.now id r → is_due due r ≡ true → ⊥) }
+{
+    sent_replies();
+    let (found_id, found) = find_reply(body)?;
+    if found_id == id && due.allows(&found) {
+        Some(found)
+    } else {
+        None
+    }
+}

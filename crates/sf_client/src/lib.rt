@@ -1,0 +1,12 @@
+//! A client of the SSH File Transfer Protocol, version 3, over a line.
+#![tactic(auto)]
+
+mod calls;
+mod client;
+mod due;
+mod fault;
+mod files;
+mod lines;
+
+pub use client::Client;
+pub use fault::ClientFault;

@@ -1,0 +1,28 @@
+-- For the crates above: the laws of a store that keeps a tree. They speak of definitions alone. All
+-- other files here are private to this crate.
+
+-- one tree at most, and a new store's
+pub use Rattle.sf_keeps.proofs.Whole.{shows_one}
+pub use Rattle.sf_keeps.proofs.KeepsFirst.{keeps_first}
+-- what a node shows, and what a path and an entry lead to
+pub use Rattle.sf_keeps.proofs.KeepsShown.{node_shown, directory_shown, file_shown}
+pub use Rattle.sf_keeps.proofs.Openings.{object_there, one_node, entry_node}
+pub use Rattle.sf_keeps.proofs.Finding.{walk_on, reached_node, label_found, way_found, place_found, object_found, directory_found, absent_found, no_way_on, file_in_way}
+pub use Rattle.sf_keeps.proofs.Bare.{bare_found}
+-- what a change leaves alone
+pub use Rattle.sf_keeps.proofs.Untouched.{edited_apart, edited_itself, inserted_alike, unlinked_alike, relinked_alike}
+-- the same tree: a look-up, a holder, reserved memory
+pub use Rattle.sf_keeps.proofs.KeepsEdited.{keeps_looked, keeps_held, keeps_reserved}
+-- another object under a label
+pub use Rattle.sf_keeps.proofs.KeepsEdited.{keeps_metadata, keeps_bytes}
+pub use Rattle.sf_keeps.proofs.KeepsShown.{keeps_directory, keeps_file, keeps_contents, object_again}
+-- a path more, a path less, a path moved
+pub use Rattle.sf_keeps.proofs.KeepsNames.{keeps_inserted, keeps_unlinked}
+pub use Rattle.sf_keeps.proofs.KeepsMoved.{keeps_moved, keeps_replaced}
+-- handles found, counted, opened, listed by, closed
+pub use Rattle.sf_keeps.proofs.SessionHandles.{found_node, free_handles, handle_count}
+pub use Rattle.sf_keeps.proofs.Opening.{keeps_opened, keeps_listed}
+pub use Rattle.sf_keeps.proofs.Closing.{keeps_closed}
+pub use Rattle.sf_keeps.proofs.ClosingAll.{keeps_closed_all}
+-- a directory's entries and its listing
+pub use Rattle.sf_keeps.proofs.Listings.{path_found, label_listed, nodes_listed, names_listed}

@@ -1,5 +1,0 @@
-use Rattle.sf_keeps.proofs.KeepsNames.{keeps_unlinked}
-use Rattle.sf_keeps.proofs.laws.gone_path.Goals as goal
-
-pub returns : goal.returns
-returns c = keeps_unlinked

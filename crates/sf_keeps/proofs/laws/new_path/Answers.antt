@@ -1,5 +1,0 @@
-use Rattle.sf_keeps.proofs.KeepsNames.{keeps_inserted}
-use Rattle.sf_keeps.proofs.laws.new_path.Goals as goal
-
-pub returns : goal.returns
-returns c = keeps_inserted

@@ -1,0 +1,5 @@
+use Rattle.sf_keeps.proofs.KeepsNames.{keeps_inserted}
+use Rattle.sf_keeps.proofs.tree_laws.new_path.Goals as goal
+
+pub returns : goal.returns
+returns c = keeps_inserted

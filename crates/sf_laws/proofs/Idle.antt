@@ -1,0 +1,80 @@
+-- Requests that change nothing.
+use Rattle.std.proofs.Common.{◌≡◌, ℕ, Bool, true, false, cond, nat_eq, nat_le, not, List, [], ◌∷◌, length, Option, Some, None, refl, sym, ap}
+use Rattle.std.specs.Ordering.{nat_cmp}
+use Rattle.std.specs.Map.{lookup, set_value}
+use Rattle.std.specs.BTreeMap.{is_at}
+use Rattle.sf_path.specs.Names.{Path}
+use Rattle.sf_call.specs.declared.place.Place.{Place}
+use Rattle.sf_call.specs.declared.place.Place.TheVariants.{NoWay, Absent, At}
+use Rattle.sf_field.specs.Attributes.{no_attrs}
+use Rattle.sf_call.specs.Attributes.{Object}
+use Rattle.sf_call.specs.Attributes.Object.{Directory, File}
+use Rattle.sf_call.specs.declared.handle.Handle.{Handle}
+use Rattle.sf_call.specs.Tree.{Tree, Found, object_of, found_object, found_place, place_at, with_objects}
+use Rattle.sf_call.specs.Tree.Found.{Nowhere, Nothing, DirectoryAt, FileAt}
+use Rattle.sf_call.specs.Handles.{Opened, opened_object, opened_by}
+use Rattle.sf_call.specs.Handles.Opened.{NotOpen, OpenDirectory, OpenFile}
+use Rattle.sf_call.specs.Changes.{done}
+use Rattle.sf_call.specs.Calls.{Answer, stat, stat_opened, sets, set_stat, set_opened, read, write, unless_root}
+
+-- an entry that is set to the value that it has
+same_value : {K X : Type 0} (at : K → Bool) (es : List (K × X)) (v : X) → lookup at es ≡ Some v → set_value at es v ≡ es
+same_value at [] v there = refl
+same_value at (e ∷ es) v there =
+    elim (at e.0) as (λ b. cond b (Some e.1) (lookup at es) ≡ Some v → cond b ((e.0, v) ∷ es) (e ∷ set_value at es v) ≡ e ∷ es) [
+      | true ↦ λ here. let same : e.1 ≡ v = cc in ap (λ x. (e.0, x) ∷ es) (sym same)
+      | false ↦ λ later. ap (λ rest. e ∷ rest) (same_value at es v later)
+    ] there
+
+module _ (tree : Tree) where
+  either : (b : Bool) (this that : Answer) → done tree this.changes ≡ tree → done tree that.changes ≡ tree → done tree (cond b this that).changes ≡ tree
+  either true this that p q = p
+  either false this that p q = q
+
+  pub told : (found : Found) → done tree (stat found).changes ≡ tree
+  told Nowhere = refl
+  told Nothing = refl
+  told (DirectoryAt label m) = refl
+  told (FileAt label m contents) = refl
+
+  pub told_opened : (o : Opened) → done tree (stat_opened o).changes ≡ tree
+  told_opened NotOpen = refl
+  told_opened (OpenDirectory h m) = refl
+  told_opened (OpenFile h m contents) = refl
+
+  pub was_read : (offset len : ℕ) (o : Opened) → done tree (read offset len o).changes ≡ tree
+  was_read offset len NotOpen = refl
+  was_read offset len (OpenDirectory h m) = refl
+  was_read offset len (OpenFile h m contents) = either (not h.read) _ _ refl (either (nat_le (length contents) offset) _ _ refl refl)
+
+  parts_set : (moment label : ℕ) (object : Object) → object_of tree.objects label ≡ Some object → done tree (sets moment label no_attrs object).changes ≡ tree
+  parts_set moment label (Directory m) there = ap (with_objects tree) (same_value (is_at (nat_cmp label)) tree.objects (Directory m) there)
+  parts_set moment label (File m contents) there = ap (with_objects tree) (same_value (is_at (nat_cmp label)) tree.objects (File m contents) there)
+
+  set_object : (moment label : ℕ) (o : Option Object) → object_of tree.objects label ≡ o → done tree (set_stat moment no_attrs (found_object label o)).changes ≡ tree
+  set_object moment label None there = refl
+  set_object moment label (Some (Directory m)) there = parts_set moment label (Directory m) there
+  set_object moment label (Some (File m contents)) there = parts_set moment label (File m contents) there
+
+  set_place : (moment : ℕ) (place : Place) → done tree (set_stat moment no_attrs (found_place tree.objects place)).changes ≡ tree
+  set_place moment NoWay = refl
+  set_place moment Absent = refl
+  set_place moment (At label) = set_object moment label (object_of tree.objects label) refl
+
+  pub set_by_path : (moment : ℕ) (path : Path) → done tree (unless_root path (set_stat moment no_attrs (found_place tree.objects (place_at tree path)))).changes ≡ tree
+  set_by_path moment [] = refl
+  set_by_path moment (name ∷ path) = set_place moment (place_at tree (name ∷ path))
+
+  set_opened_object : (moment : ℕ) (h : Handle) (o : Option Object) → object_of tree.objects h.label ≡ o → done tree (set_opened moment no_attrs (opened_object h o)).changes ≡ tree
+  set_opened_object moment h None there = refl
+  set_opened_object moment h (Some (Directory m)) there = either (nat_eq h.label 0) _ _ refl (parts_set moment h.label (Directory m) there)
+  set_opened_object moment h (Some (File m contents)) there = parts_set moment h.label (File m contents) there
+
+  pub set_by_handle : (moment : ℕ) (o : Option Handle) → done tree (set_opened moment no_attrs (opened_by tree o)).changes ≡ tree
+  set_by_handle moment None = refl
+  set_by_handle moment (Some h) = set_opened_object moment h (object_of tree.objects h.label) refl
+
+  pub nothing_written : (moment offset : ℕ) (o : Opened) → done tree (write moment offset [] o).changes ≡ tree
+  nothing_written moment offset NotOpen = refl
+  nothing_written moment offset (OpenDirectory h m) = refl
+  nothing_written moment offset (OpenFile h m contents) = either (not h.write) _ _ refl refl

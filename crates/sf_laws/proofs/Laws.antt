@@ -1,0 +1,48 @@
+-- For the crates above: the history of the examples is legal, so that its replies may be told. All other files here
+-- are private to this crate.
+use Rattle.std.proofs.Common.{◌≢◌, ◌<◌, ℕ, [], ◌∷◌, arith, refl, inl, inr}
+use Rattle.std.proofs.lemmas.List.Elements.{All-nil, All-cons, All-contains}
+use Rattle.sf_path.specs.Names.{slash, IsName, IsPath}
+use Rattle.sf_field.specs.Attributes.{AttrsFit}
+use Rattle.sf_field.specs.Attributes.{no_attrs}
+use Rattle.sf_call.specs.Histories.{IsLegal, IsLegalAfter, replay}
+use Rattle.sf_laws.specs.Examples.{a, b, history}
+
+-- one byte that is a name
+letter : (x : ℕ) → x < 256 → x ≢ slash → x ≢ 0 → x ≢ 46 → IsPath ((x ∷ []) ∷ [])
+letter x byte no_slash no_zero no_dot = All-cons IsName (x ∷ []) [] (record {
+  part = record {
+    short = omega arith;
+    bytes = All-cons (λ b. b < 256) x [] byte (All-nil (λ b. b < 256));
+    no_slash = λ w. All-contains (λ b. b ≢ slash) (x ∷ []) slash (All-cons (λ b. b ≢ slash) x [] no_slash (All-nil (λ b. b ≢ slash))) w refl;
+    no_zero = λ w. All-contains (λ b. b ≢ 0) (x ∷ []) 0 (All-cons (λ b. b ≢ 0) x [] no_zero (All-nil (λ b. b ≢ 0))) w refl;
+  };
+  not_empty = λ e. cc;
+  not_dot = λ e. no_dot cc;
+  not_dot_dot = λ e. cc;
+}) (All-nil IsName)
+
+path_a : IsPath (a ∷ [])
+path_a = letter 97 (omega arith) (λ e. omega arith) (λ e. omega arith) (λ e. omega arith)
+
+path_b : IsPath (b ∷ [])
+path_b = letter 98 (omega arith) (λ e. omega arith) (λ e. omega arith) (λ e. omega arith)
+
+nothing_fits : AttrsFit no_attrs
+nothing_fits = record { size = tt; owner = tt; permissions = tt; times = tt }
+
+pub legal_history : IsLegal history
+unfolding IsLegal IsLegalAfter replay
+legal_history = (
+  record { is_call = record { number_fits = omega arith; session_fits = omega arith; moment_fits = omega arith; request_fits = (path_a, nothing_fits) }; above_zero = omega arith; new_number = tt; present = tt; answered = inl refl },
+  (
+    record { is_call = record { number_fits = omega arith; session_fits = omega arith; moment_fits = omega arith; request_fits = (path_b, nothing_fits) }; above_zero = omega arith; new_number = (λ e. omega arith, tt); present = (tt, tt); answered = inr refl },
+    (
+      record { is_call = record { number_fits = omega arith; session_fits = omega arith; moment_fits = omega arith; request_fits = path_b }; above_zero = omega arith; new_number = (λ e. omega arith, (λ e. omega arith, tt)); present = (tt, (tt, tt)); answered = inl refl },
+      (
+        (tt, (tt, (tt, tt))),
+        tt,
+      ),
+    ),
+  ),
+)

@@ -1,0 +1,374 @@
+-- After a legal history no session has too many handles open, and each handle leads to an object.
+use Rattle.std.proofs.Common.{◌≡◌, ◌<◌, ◌≤◌, ℕ, ◌+◌, Bool, true, false, cond, not, nat_eq, nat_lt, nat_le, ◌&&◌, ◌||◌, List, [], ◌∷◌, length, filter, Option, Some, None, option_and_then, IsSome, is_some, IfSome, refl, sym, ap, ◌∙◌, subst, eq-eqb, arith}
+use Rattle.std.proofs.lemmas.Bool.{leb-false, eqb-true}
+use Rattle.std.proofs.lemmas.List.Sums.{sum_by-cons}
+use Rattle.std.specs.List.{AllByRecursion, list_any, count_by}
+use Rattle.std.specs.declared.cmp.Ordering.TheVariants.{Less, Equal, Greater}
+use Rattle.std.specs.Ordering.{nat_cmp, is_eq, match_ordering}
+use Rattle.std.specs.Cmp.{nat_cmp_total, tied_itself}
+use Rattle.std.specs.Map.{lookup, remove_entry, set_value}
+use Rattle.std.specs.BTreeMap.{insert_entry, is_at}
+use Rattle.sf_path.specs.Names.{Path}
+use Rattle.sf_path.specs.Order.{parent, path_cmp}
+use Rattle.sf_field.specs.declared.attrs.Attrs.{Attrs}
+use Rattle.sf_field.specs.declared.open_flags.OpenFlags.{OpenFlags}
+use Rattle.sf_reply.specs.declared.reply.Entry.{Entry}
+use Rattle.sf_call.specs.declared.limits.TheConstants.{MAX_FILE_SIZE, MAX_HANDLES}
+use Rattle.sf_call.specs.declared.metadata.Metadata.{Metadata}
+use Rattle.sf_call.specs.declared.handle.Handle.{Handle}
+use Rattle.sf_call.specs.declared.place.Place.{Place}
+use Rattle.sf_call.specs.declared.place.Place.TheVariants.{NoWay, Absent, At}
+use Rattle.sf_call.specs.declared.request.Request.{Request}
+use Rattle.sf_call.specs.declared.request.Request.TheVariants.{Stat, SetStat, Mkdir, Rmdir, Remove, OpenDir, Open, Close, FStat, FSetStat, Read, Write, ReadDir, Rename, PosixRename}
+use Rattle.sf_call.specs.declared.record.Record.{Record}
+use Rattle.sf_call.specs.Attributes.{Object, new_metadata}
+use Rattle.sf_call.specs.Attributes.Object.{Directory, File}
+use Rattle.sf_call.specs.Tree.{Tree, Found, object_of, handle_of, kept, directory_at, place_at, found_object, found_place, found_at, is_empty, is_nil, with_names, with_handles}
+use Rattle.sf_call.specs.Tree.Found.{Nowhere, Nothing, DirectoryAt, FileAt}
+use Rattle.sf_call.specs.Handles.{Opened, handle_in, opened, opened_by, opened_object, if_of}
+use Rattle.sf_call.specs.Handles.Opened.{NotOpen, OpenDirectory, OpenFile}
+use Rattle.sf_call.specs.Listings.{path_of, listing_of}
+use Rattle.sf_call.specs.Changes.{changed, done, touch, touched}
+use Rattle.sf_call.specs.Changes.Change.{SetObject, NewPath, GonePath, OpenHandle, SetHandle, CloseHandle}
+use Rattle.sf_call.specs.Calls.{Answer, answer_to, leave, stat, refuses_size, sets, set_stat, make_directory, remove_directory, remove_file, has_all_handles, directory_handle, file_handle, open_directory, open_present, open_file, close, stat_opened, set_opened, read, start_of, write, lists, read_directory, unless_root}
+use Rattle.sf_call.specs.Histories.{replay, IsLegal}
+use Rattle.sf_call.proofs.Laws.{lookup-put, object_kept, all_filtered, all_removed, all_put, all_set, found_value, holds_after}
+
+-- the handles of a session
+abbrev pub is_of_session : ℕ → ℕ × Handle → Bool
+is_of_session session e = nat_eq e.1.session session
+
+abbrev pub count_of_session : ℕ → List (ℕ × Handle) → ℕ
+count_of_session session handles = count_by (is_of_session session) handles
+
+abbrev pub IsFounded : List (ℕ × Object) → ℕ × Handle → Type 0
+IsFounded objects e = IsSome (object_of objects e.1.label)
+
+pub record HandlesHold (tree : Tree) : Type 0 where
+  pub few : (session : ℕ) → count_of_session session tree.handles ≤ MAX_HANDLES
+  pub founded : AllByRecursion (IsFounded tree.objects) tree.handles
+
+-- ---- counts
+
+-- one handle more
+more_of : ℕ → Handle → ℕ
+more_of session h = cond (nat_eq h.session session) 1 0
+
+count_cons : (session : ℕ) (e : ℕ × Handle) (es : List (ℕ × Handle)) → count_of_session session (e ∷ es) ≡ more_of session e.1 + count_of_session session es
+unfolding more_of
+count_cons session e es = sum_by-cons (λ x. cond (is_of_session session x) 1 0) e es
+
+count_inserted : (session number : ℕ) (h : Handle) (es : List (ℕ × Handle))
+    → count_of_session session (insert_entry nat_cmp es number h) ≤ more_of session h + count_of_session session es
+count_inserted session number h [] = omega (arith, count_cons session (number, h) [])
+count_inserted session number h (e ∷ es) =
+    elim (nat_cmp number e.0) as (λ r. count_of_session session (match_ordering r ((number, h) ∷ e ∷ es) ((e.0, h) ∷ es) (e ∷ insert_entry nat_cmp es number h))
+    ≤ more_of session h + count_of_session session (e ∷ es)) [
+      | Less ↦ omega (arith, count_cons session (number, h) (e ∷ es))
+      | Equal ↦ omega (arith, count_cons session (e.0, h) es, count_cons session e es)
+      | Greater ↦ omega (arith, count_cons session e (insert_entry nat_cmp es number h), count_cons session e es, count_inserted session number h es)
+    ]
+
+-- a handle that is set stays its session's
+count_set : (session number : ℕ) (before after : Handle) (es : List (ℕ × Handle)) → handle_of es number ≡ Some before → before.session ≡ after.session
+    → count_of_session session (set_value (is_at (nat_cmp number)) es after) ≡ count_of_session session es
+unfolding more_of
+count_set session number before after [] there same = refl
+count_set session number before after (e ∷ es) there same =
+    elim (is_at (nat_cmp number) e.0) as (λ b. cond b (Some e.1) (handle_of es number) ≡ Some before
+    → count_of_session session (cond b ((e.0, after) ∷ es) (e ∷ set_value (is_at (nat_cmp number)) es after)) ≡ count_of_session session (e ∷ es)) [
+      | true ↦ λ here. let is : e.1 ≡ before = cc in
+          count_cons session (e.0, after) es
+          ∙ ap (λ (s : ℕ). cond (nat_eq s session) 1 0 + count_of_session session es) (sym same ∙ sym (ap (λ (x : Handle). x.session) is))
+          ∙ sym (count_cons session e es)
+      | false ↦ λ later.
+          count_cons session e (set_value (is_at (nat_cmp number)) es after)
+          ∙ ap (λ n. more_of session e.1 + n) (count_set session number before after es later same)
+          ∙ sym (count_cons session e es)
+    ] there
+
+count_removed : (session : ℕ) (test : ℕ → Bool) (es : List (ℕ × Handle)) → count_of_session session (remove_entry test es) ≤ count_of_session session es
+count_removed session test [] = omega arith
+count_removed session test (e ∷ es) =
+    elim (test e.0) as (λ b. count_of_session session (cond b es (e ∷ remove_entry test es)) ≤ count_of_session session (e ∷ es)) [
+      | true ↦ omega (arith, count_cons session e es)
+      | false ↦ omega (arith, count_cons session e es, count_cons session e (remove_entry test es), count_removed session test es)
+    ]
+
+count_filtered : (session : ℕ) (test : ℕ × Handle → Bool) (es : List (ℕ × Handle)) → count_of_session session (filter test es) ≤ count_of_session session es
+count_filtered session test [] = omega arith
+count_filtered session test (e ∷ es) =
+    elim (test e) as (λ b. count_of_session session (cond b (e ∷ filter test es) (filter test es)) ≤ count_of_session session (e ∷ es)) [
+      | true ↦ omega (arith, count_cons session e es, count_cons session e (filter test es), count_filtered session test es)
+      | false ↦ omega (arith, count_cons session e es, count_filtered session test es)
+    ]
+
+-- ---- objects
+
+all_by : {X : Type 0} (P Q : X → Type 0) (xs : List X) → ((x : X) → P x → Q x) → AllByRecursion P xs → AllByRecursion Q xs
+all_by P Q [] more all = tt
+all_by P Q (x ∷ xs) more all = (more x all.0, all_by P Q xs more all.1)
+
+still_set : {X : Type 0} (at test : ℕ → Bool) (es : List (ℕ × X)) (w : X) → IsSome (lookup at es) → IsSome (lookup at (set_value test es w))
+still_set at test [] w some = some
+still_set at test (e ∷ es) w some =
+    elim (test e.0) as (λ b. IsSome (lookup at (cond b ((e.0, w) ∷ es) (e ∷ set_value test es w)))) [
+      | true ↦ elim (at e.0) as (λ b. IsSome (cond b (Some e.1) (lookup at es)) → IsSome (cond b (Some w) (lookup at es))) [
+        | true ↦ λ k. refl
+        | false ↦ λ k. k
+      ] some
+      | false ↦ elim (at e.0) as (λ b. IsSome (cond b (Some e.1) (lookup at es)) → IsSome (cond b (Some e.1) (lookup at (set_value test es w)))) [
+        | true ↦ λ k. refl
+        | false ↦ λ k. still_set at test es w k
+      ] some
+    ]
+
+still_put : (es : List (ℕ × Object)) (label : ℕ) (o : Object) (l : ℕ) → IsSome (object_of es l) → IsSome (object_of (insert_entry nat_cmp es label o) l)
+still_put es label o l some =
+    ap (λ x. is_some x) (lookup-put nat_cmp nat_cmp_total es label o l)
+    ∙ elim (is_at (nat_cmp l) label) as (λ b. is_some (cond b (Some o) (object_of es l)) ≡ true) [ true ↦ refl | false ↦ some ]
+
+there_put : (es : List (ℕ × Object)) (label : ℕ) (o : Object) → IsSome (object_of (insert_entry nat_cmp es label o) label)
+there_put es label o =
+    ap (λ x. is_some x) (lookup-put nat_cmp nat_cmp_total es label o label ∙ ap (λ r. cond (is_eq r) (Some o) (object_of es label)) (tied_itself nat_cmp_total label))
+
+-- what a handle opens is used
+or_true : (a b : Bool) → b ≡ true → a || b ≡ true
+or_true true b t = refl
+or_true false b t = t
+
+all_opened : (all hs : List (ℕ × Handle)) → ((label : ℕ) → list_any (λ h. nat_eq h.1.label label) hs ≡ true → list_any (λ h. nat_eq h.1.label label) all ≡ true)
+    → AllByRecursion (λ e. list_any (λ h. nat_eq h.1.label e.1.label) all ≡ true) hs
+all_opened all [] more = tt
+all_opened all (h ∷ hs) more =
+    (more h.1.label (rw (eq-eqb h.1.label h.1.label refl)), all_opened all hs (λ label t. more label (or_true (nat_eq h.1.label label) _ t)))
+
+both : {X : Type 0} (P Q R : X → Type 0) (xs : List X) → ((x : X) → P x → Q x → R x) → AllByRecursion P xs → AllByRecursion Q xs → AllByRecursion R xs
+both P Q R [] more p q = tt
+both P Q R (x ∷ xs) more p q = (more x p.0 q.0, both P Q R xs more p.1 q.1)
+
+-- letting go keeps what a handle opens
+founded_kept : (tree : Tree) → AllByRecursion (IsFounded tree.objects) tree.handles → AllByRecursion (IsFounded (kept tree).objects) tree.handles
+founded_kept tree all =
+    both (λ e. list_any (λ h. nat_eq h.1.label e.1.label) tree.handles ≡ true) (IsFounded tree.objects) (IsFounded (kept tree).objects) tree.handles
+    (λ e opens some. ap (λ x. is_some x) (object_kept tree e.1.label
+    ∙ ap (λ b. cond b (object_of tree.objects e.1.label) None) (or_true (list_any (λ n. nat_eq n.1 e.1.label) tree.names) _ opens)) ∙ some)
+    (all_opened tree.handles tree.handles (λ label t. t)) all
+
+kept_holds : (tree : Tree) → HandlesHold tree → HandlesHold (kept tree)
+kept_holds tree h = record { few = h.few; founded = founded_kept tree h.founded }
+
+-- ---- each change
+
+set_holds : (tree : Tree) (label : ℕ) (object : Object) → HandlesHold tree → HandlesHold (changed tree (SetObject label object))
+set_holds tree label object h = record {
+  few = h.few;
+  founded = all_by (IsFounded tree.objects) _ tree.handles (λ e. still_set (is_at (nat_cmp e.1.label)) (is_at (nat_cmp label)) tree.objects object) h.founded;
+}
+
+new_holds : (tree : Tree) (path : Path) (label : ℕ) (object : Object) → HandlesHold tree → HandlesHold (changed tree (NewPath path label object))
+new_holds tree path label object h = record {
+  few = h.few;
+  founded = all_by (IsFounded tree.objects) _ tree.handles (λ e. still_put tree.objects label object e.1.label) h.founded;
+}
+
+gone_holds : (tree : Tree) (path : Path) → HandlesHold tree → HandlesHold (changed tree (GonePath path))
+gone_holds tree path h = kept_holds (with_names tree (remove_entry (is_at (path_cmp path)) tree.names)) (record { few = h.few; founded = h.founded })
+
+touch_holds : (tree : Tree) (moment : ℕ) (at : Option (ℕ × Metadata)) → HandlesHold tree → HandlesHold (done tree (touch moment at))
+touch_holds tree moment None h = h
+touch_holds tree moment (Some d) h = set_holds tree d.0 _ h
+
+one_more : (session : ℕ) (h : Handle) (count : ℕ) → (nat_eq h.session session ≡ true → count < MAX_HANDLES) → count ≤ MAX_HANDLES → more_of session h + count ≤ MAX_HANDLES
+unfolding more_of
+one_more session h count less most =
+    elim (nat_eq h.session session) as (λ b. (b ≡ true → count < MAX_HANDLES) → cond b 1 0 + count ≤ MAX_HANDLES) [
+      | true ↦ λ below. omega (arith, below refl)
+      | false ↦ λ below. omega (arith, most)
+    ] less
+
+open_holds : (tree : Tree) (number : ℕ) (handle : Handle) → has_all_handles tree handle.session ≡ false → IsSome (object_of tree.objects handle.label) → HandlesHold tree
+    → HandlesHold (changed tree (OpenHandle number handle))
+open_holds tree number handle free there h = record {
+  few = λ session.
+      let less : nat_eq handle.session session ≡ true → count_of_session session tree.handles < MAX_HANDLES = λ same.
+      let is : handle.session ≡ session = eqb-true handle.session session same in
+      let few : has_all_handles tree session ≡ false = ap (has_all_handles tree) (sym is) ∙ free in
+      leb-false MAX_HANDLES (count_of_session session tree.handles) few in
+      omega (arith, count_inserted session number handle tree.handles, one_more session handle (count_of_session session tree.handles) less (h.few session));
+  founded = all_put (λ (x : Handle). IsSome (object_of tree.objects x.label)) nat_cmp number handle tree.handles there h.founded;
+}
+
+set_handle_holds : (tree : Tree) (number : ℕ) (before after : Handle) → handle_of tree.handles number ≡ Some before → before.session ≡ after.session → before.label ≡ after.label
+    → HandlesHold tree → HandlesHold (changed tree (SetHandle number after))
+set_handle_holds tree number before after there same leads h = record {
+  few = λ session. subst (λ n. n ≤ MAX_HANDLES) (sym (count_set session number before after tree.handles there same)) (h.few session);
+  founded = all_set (λ (x : Handle). IsSome (object_of tree.objects x.label)) (is_at (nat_cmp number)) after tree.handles
+      (subst (λ (l : ℕ). IsSome (object_of tree.objects l)) leads
+      (subst (λ (o : Option Handle). IfSome o (λ x. IsSome (object_of tree.objects x.label))) there
+      (found_value (λ (x : Handle). IsSome (object_of tree.objects x.label)) (is_at (nat_cmp number)) tree.handles h.founded)))
+      h.founded;
+}
+
+close_holds : (tree : Tree) (number : ℕ) → HandlesHold tree → HandlesHold (changed tree (CloseHandle number))
+close_holds tree number h = kept_holds (with_handles tree (remove_entry (is_at (nat_cmp number)) tree.handles)) (record {
+  few = λ session. omega (arith, count_removed session (is_at (nat_cmp number)) tree.handles, h.few session);
+  founded = all_removed (IsFounded tree.objects) (is_at (nat_cmp number)) tree.handles h.founded;
+})
+
+leave_holds : (tree : Tree) (session : ℕ) → HandlesHold tree → HandlesHold (leave tree session)
+leave_holds tree session h = kept_holds (with_handles tree (filter (λ e. not (nat_eq e.1.session session)) tree.handles)) (record {
+  few = λ s. omega (arith, count_filtered s (λ e. not (nat_eq e.1.session session)) tree.handles, h.few s);
+  founded = all_filtered (IsFounded tree.objects) (λ e. not (nat_eq e.1.session session)) tree.handles h.founded;
+})
+
+-- a session's handle is there
+of_session : (session : ℕ) (o : Option Handle) (handle : Handle) → option_and_then (if_of session) o ≡ Some handle → o ≡ Some handle
+of_session session None handle e = cc
+of_session session (Some x) handle e = elim (nat_eq x.session session) as (λ b. cond b (Some x) None ≡ Some handle → Some x ≡ Some handle) [ true ↦ λ k. k | false ↦ λ k. cc ] e
+
+-- ---- each answer
+
+module _ (tree : Tree) (session number moment : ℕ) (h : HandlesHold tree) where
+  abbrev pub Keeps : Answer → Type 0
+  Keeps answer = HandlesHold (done tree answer.changes)
+
+  either : (b : Bool) (this that : Answer) → Keeps this → Keeps that → Keeps (cond b this that)
+  either true this that p q = p
+  either false this that p q = q
+
+  rooted : (path : Path) (answer : Answer) → Keeps answer → Keeps (unless_root path answer)
+  rooted [] answer p = h
+  rooted (n ∷ path) answer p = p
+
+  told : (found : Found) → Keeps (stat found)
+  told Nowhere = h
+  told Nothing = h
+  told (DirectoryAt label m) = h
+  told (FileAt label m contents) = h
+
+  parts_set : (label : ℕ) (attrs : Attrs) (object : Object) → Keeps (sets moment label attrs object)
+  parts_set label attrs object = either (refuses_size object attrs.size) _ _ h (set_holds tree label _ h)
+
+  set_found : (attrs : Attrs) (found : Found) → Keeps (set_stat moment attrs found)
+  set_found attrs Nowhere = h
+  set_found attrs Nothing = h
+  set_found attrs (DirectoryAt label m) = parts_set label attrs (Directory m)
+  set_found attrs (FileAt label m contents) = parts_set label attrs (File m contents)
+
+  made : (path : Path) (attrs : Attrs) (place : Place) → Keeps (make_directory tree number moment path attrs place)
+  made path attrs NoWay = h
+  made path attrs (At label) = h
+  made path attrs Absent = touch_holds _ moment (directory_at tree (parent path)) (new_holds tree path number _ h)
+
+  gone : (path : Path) → HandlesHold (done tree (GonePath path ∷ touched tree moment (parent path)))
+  gone path = touch_holds _ moment (directory_at tree (parent path)) (gone_holds tree path h)
+
+  directory_removed : (path : Path) (found : Found) → Keeps (remove_directory tree moment path found)
+  directory_removed path Nowhere = h
+  directory_removed path Nothing = h
+  directory_removed path (FileAt label m contents) = h
+  directory_removed path (DirectoryAt label m) = either (is_empty tree.names path) _ _ (gone path) h
+
+  file_removed : (path : Path) (found : Found) → Keeps (remove_file tree moment path found)
+  file_removed path Nowhere = h
+  file_removed path Nothing = h
+  file_removed path (DirectoryAt label m) = h
+  file_removed path (FileAt label m contents) = gone path
+
+  unless_true : (b : Bool) (this that : Answer) → Keeps this → (b ≡ false → Keeps that) → Keeps (cond b this that)
+  unless_true true this that p q = p
+  unless_true false this that p q = q refl
+
+  there : (label : ℕ) (object : Object) → object_of tree.objects label ≡ Some object → IsSome (object_of tree.objects label)
+  there label object is = ap (λ x. is_some x) is
+
+  directory_object : (label : ℕ) (o : Option Object) → object_of tree.objects label ≡ o → Keeps (open_directory tree session number (found_object label o))
+  directory_object label None is = h
+  directory_object label (Some (File m contents)) is = h
+  directory_object label (Some (Directory m)) is =
+      unless_true (has_all_handles tree session) _ _ h (λ free. open_holds tree number (directory_handle session label) free (there label _ is) h)
+
+  directory_opened : (place : Place) → Keeps (open_directory tree session number (found_place tree.objects place))
+  directory_opened NoWay = h
+  directory_opened Absent = h
+  directory_opened (At label) = directory_object label (object_of tree.objects label) refl
+
+  file_object : (flags : OpenFlags) (label : ℕ) (o : Option Object) → object_of tree.objects label ≡ o → Keeps (open_present tree session number moment flags (found_object label o))
+  file_object flags label None is = h
+  file_object flags label (Some (Directory m)) is = h
+  file_object flags label (Some (File m contents)) is =
+      unless_true (has_all_handles tree session) _ _ h (λ free.
+      let open' = open_holds tree number (file_handle session label flags) free (there label _ is) h in
+      either (flags.truncate && flags.write) _ _ (set_holds _ label _ open') open')
+
+  file_opened : (path : Path) (flags : OpenFlags) (attrs : Attrs) (place : Place) → Keeps (open_file tree session number moment path flags attrs place)
+  file_opened path flags attrs NoWay = h
+  file_opened path flags attrs (At label) = either (flags.create && flags.exclusive) _ _ h (file_object flags label (object_of tree.objects label) refl)
+  file_opened path flags attrs Absent =
+      either (not flags.create) _ _ h (unless_true (has_all_handles tree session) _ _ h (λ free.
+      touch_holds _ moment (directory_at tree (parent path))
+      (open_holds (changed tree (NewPath path number (File (new_metadata 0o644 moment attrs) []))) number (file_handle session number flags) free
+      (there_put tree.objects number _) (new_holds tree path number _ h))))
+
+  closed : (handle : ℕ) (o : Option Handle) → Keeps (close handle o)
+  closed handle None = h
+  closed handle (Some opened) = close_holds tree handle h
+
+  told_opened : (o : Opened) → Keeps (stat_opened o)
+  told_opened NotOpen = h
+  told_opened (OpenDirectory handle m) = h
+  told_opened (OpenFile handle m contents) = h
+
+  set_by_handle : (attrs : Attrs) (o : Opened) → Keeps (set_opened moment attrs o)
+  set_by_handle attrs NotOpen = h
+  set_by_handle attrs (OpenDirectory handle m) = either (nat_eq handle.label 0) _ _ h (parts_set handle.label attrs (Directory m))
+  set_by_handle attrs (OpenFile handle m contents) = either (is_some attrs.size && not handle.write) _ _ h (parts_set handle.label attrs (File m contents))
+
+  was_read : (offset len : ℕ) (o : Opened) → Keeps (read offset len o)
+  was_read offset len NotOpen = h
+  was_read offset len (OpenDirectory handle m) = h
+  was_read offset len (OpenFile handle m contents) = either (not handle.read) _ _ h (either (nat_le (length contents) offset) _ _ h h)
+
+  was_written : (offset : ℕ) (bytes : List ℕ) (o : Opened) → Keeps (write moment offset bytes o)
+  was_written offset bytes NotOpen = h
+  was_written offset bytes (OpenDirectory handle m) = h
+  was_written offset bytes (OpenFile handle m contents) =
+      either (not handle.write) _ _ h (either (is_nil bytes) _ _ h
+      (either (nat_lt MAX_FILE_SIZE (start_of handle contents offset + length bytes)) _ _ h (set_holds tree handle.label _ h)))
+
+  listed : (n : ℕ) (handle : Handle) → handle_of tree.handles n ≡ Some handle → (entries : List Entry) → Keeps (lists n handle entries)
+  listed n handle is [] = h
+  listed n handle is (e ∷ es) = set_handle_holds tree n handle _ is refl refl h
+
+  directory_read : (n : ℕ) (handle : Handle) → handle_of tree.handles n ≡ Some handle → (o : Option Object) → Keeps (read_directory tree n (opened_object handle o))
+  directory_read n handle is None = h
+  directory_read n handle is (Some (File m contents)) = h
+  directory_read n handle is (Some (Directory m)) = listed n handle is (listing_of tree handle.listed (path_of tree.names handle.label))
+
+  read_by_handle : (n : ℕ) (o : Option Handle) → handle_in tree session n ≡ o → Keeps (read_directory tree n (opened_by tree o))
+  read_by_handle n None is = h
+  read_by_handle n (Some handle) is = directory_read n handle (of_session session (handle_of tree.handles n) handle is) (object_of tree.objects handle.label)
+
+  pub answer_holds : (request : Request) → Keeps (answer_to tree session number moment request)
+  answer_holds (Stat path) = told (found_at tree path)
+  answer_holds (SetStat path attrs) = rooted path _ (set_found attrs (found_at tree path))
+  answer_holds (Mkdir path attrs) = rooted path _ (made path attrs (place_at tree path))
+  answer_holds (Rmdir path) = rooted path _ (directory_removed path (found_at tree path))
+  answer_holds (Remove path) = rooted path _ (file_removed path (found_at tree path))
+  answer_holds (OpenDir path) = directory_opened (place_at tree path)
+  answer_holds (Open path flags attrs) = rooted path _ (file_opened path flags attrs (place_at tree path))
+  answer_holds (Close handle) = closed handle (handle_in tree session handle)
+  answer_holds (FStat handle) = told_opened (opened tree session handle)
+  answer_holds (FSetStat handle attrs) = set_by_handle attrs (opened tree session handle)
+  answer_holds (Read handle offset len) = was_read offset len (opened tree session handle)
+  answer_holds (Write handle offset bytes) = was_written offset bytes (opened tree session handle)
+  answer_holds (ReadDir handle) = read_by_handle handle (handle_in tree session handle) refl
+  answer_holds (Rename old new) = h
+  answer_holds (PosixRename old new) = h
+
+pub handles_hold : (history : List Record) → IsLegal history → HandlesHold (replay history)
+handles_hold =
+    holds_after HandlesHold
+    (λ history number session moment request given legal may h. answer_holds (replay history) session number moment h request)
+    leave_holds (record { few = λ session. omega arith; founded = tt })

@@ -1,0 +1,140 @@
+-- What a request does to the directory in which it makes or removes a name.
+use Rattle.std.proofs.Common.{◌≡◌, ◌≢◌, ◌-◌, ℕ, Bool, true, false, cond, not, ◌&&◌, [], ◌∷◌, length, Option, Some, None, refl, sym, ap, ◌∙◌, subst, inl, inr, arith}
+use Rattle.std.specs.Ordering.{nat_cmp}
+use Rattle.std.specs.Cmp.{nat_cmp_total}
+use Rattle.std.specs.Map.{remove_entry}
+use Rattle.std.specs.BTreeMap.{is_at}
+use Rattle.std.specs.FinMap.{nat_cmp-IsAntisymmetric}
+use Rattle.std.proofs.lemmas.List.{length-take}
+use Rattle.sf_path.specs.Names.{Name, Path}
+use Rattle.sf_path.specs.Order.{parent, path_cmp}
+use Rattle.sf_field.specs.declared.attrs.Attrs.{Attrs}
+use Rattle.sf_field.specs.declared.open_flags.OpenFlags.{OpenFlags}
+use Rattle.sf_call.specs.declared.metadata.Metadata.{Metadata}
+use Rattle.sf_call.specs.declared.place.Place.{Place}
+use Rattle.sf_call.specs.declared.place.Place.TheVariants.{NoWay, Absent, At}
+use Rattle.sf_call.specs.declared.request.Request.{Request}
+use Rattle.sf_call.specs.declared.request.Request.TheVariants.{Stat, SetStat, Mkdir, Rmdir, Remove, OpenDir, Open, Close, FStat, FSetStat, Read, Write, ReadDir, Rename, PosixRename}
+use Rattle.sf_call.specs.Attributes.{Object, modified_at}
+use Rattle.sf_call.specs.Attributes.Object.{Directory, File}
+use Rattle.sf_call.specs.Tree.{Tree, Found, label_at, object_of, directory_at, place_at, found_object, found_at, is_empty, with_names}
+use Rattle.sf_call.specs.Tree.Found.{Nowhere, Nothing, DirectoryAt, FileAt}
+use Rattle.sf_call.specs.Changes.{changed, done, touch, touched}
+use Rattle.sf_call.specs.Changes.Change.{SetObject, NewPath, GonePath}
+use Rattle.sf_call.specs.Calls.{Answer, answer_to, make_directory, remove_directory, remove_file, has_all_handles, open_present, open_file}
+use Rattle.sf_call.proofs.Laws.{exact_paths, other_put, other_set, other_removed, set_there, kept_object, directory_there}
+use Rattle.sf_laws.specs.Own.{IsOneOf, IsOwnPath}
+
+-- a path that isn't the root's has another parent
+other_parent : (name : Name) (path : Path) → parent (name ∷ path) ≢ name ∷ path
+other_parent name path same = let lengths = ap length same in omega (arith, lengths, length-take (length (name ∷ path) - 1) (name ∷ path))
+
+module _ (tree : Tree) (session number moment label : ℕ) (path : Path) (m : Metadata) (apart : label ≢ number)
+    (named : label_at tree.names (parent path) ≡ Some label) (is : object_of tree.objects label ≡ Some (Directory m)) where
+  abbrev pub Stays : Tree → Type 0
+  Stays after = IsOneOf (Directory m) (Directory (modified_at moment m)) (object_of after.objects label)
+
+  abbrev pub Keeps : Answer → Type 0
+  Keeps answer = Stays (done tree answer.changes)
+
+  either : (b : Bool) (this that : Answer) → Keeps this → Keeps that → Keeps (cond b this that)
+  either true this that p q = p
+  either false this that p q = q
+
+  -- the parent is the directory that is touched
+  touch_stays : (after : Tree) (at : Option (ℕ × Metadata)) → directory_at tree (parent path) ≡ at → object_of after.objects label ≡ Some (Directory m) → Stays (done after (touch moment at))
+  touch_stays after None e still = inl still
+  touch_stays after (Some d) e still =
+      let there = directory_there tree (parent path) d e in
+      let same : d.0 ≡ label = label_is d.0 (sym there.0 ∙ named) in
+      let metadata : d.1 ≡ m = metadata_is d.1 (sym there.1 ∙ ap (object_of tree.objects) same ∙ is) in
+      inr (
+      ap (λ (l : ℕ). object_of (changed after (SetObject l (Directory (modified_at moment d.1)))).objects label) same
+      ∙ set_there (is_at (nat_cmp label)) after.objects (Directory m) (Directory (modified_at moment d.1)) still
+      ∙ ap (λ (x : Metadata). Some (Directory (modified_at moment x))) metadata
+      ) where
+        label_is : (l : ℕ) → Some l ≡ Some label → l ≡ label
+        label_is l e = cc
+
+        metadata_is : (x : Metadata) → Some (Directory x) ≡ Some (Directory m) → x ≡ m
+        metadata_is x e = cc
+
+  new_stays : (new : Path) (object : Object) → object_of (changed tree (NewPath new number object)).objects label ≡ Some (Directory m)
+  new_stays new object = other_put nat_cmp nat_cmp-IsAntisymmetric nat_cmp_total tree.objects number object label apart ∙ is
+
+  made : (attrs : Attrs) (place : Place) → Keeps (make_directory tree number moment path attrs place)
+  made attrs NoWay = inl is
+  made attrs (At l) = inl is
+  made attrs Absent = touch_stays _ (directory_at tree (parent path)) refl (new_stays path _)
+
+  file_object : (flags : OpenFlags) (l : ℕ) (o : Option Object) → object_of tree.objects l ≡ o → Keeps (open_present tree session number moment flags (found_object l o))
+  file_object flags l None at = inl is
+  file_object flags l (Some (Directory x)) at = inl is
+  file_object flags l (Some (File x contents)) at =
+      let other : label ≢ l = λ same. let two : Some (Directory m) ≡ Some (File x contents) = sym is ∙ ap (object_of tree.objects) same ∙ at in cc in
+      either (has_all_handles tree session) _ _ (inl is) (either (flags.truncate && flags.write) _ _
+      (inl (other_set nat_cmp nat_cmp-IsAntisymmetric tree.objects l _ label other ∙ is)) (inl is))
+
+  file_opened : (flags : OpenFlags) (attrs : Attrs) (place : Place) → Keeps (open_file tree session number moment path flags attrs place)
+  file_opened flags attrs NoWay = inl is
+  file_opened flags attrs (At l) = either (flags.create && flags.exclusive) _ _ (inl is) (file_object flags l (object_of tree.objects l) refl)
+  file_opened flags attrs Absent =
+      either (not flags.create) _ _ (inl is) (either (has_all_handles tree session) _ _ (inl is)
+      (touch_stays _ (directory_at tree (parent path)) refl (new_stays path _)))
+
+  module _ (not_root : parent path ≢ path) where
+    gone : Stays (done tree (GonePath path ∷ touched tree moment (parent path)))
+    gone =
+        touch_stays (changed tree (GonePath path)) (directory_at tree (parent path)) refl
+        (kept_object (with_names tree (remove_entry (is_at (path_cmp path)) tree.names)) (parent path) label
+        (other_removed path_cmp exact_paths path (parent path) tree.names not_root ∙ named) ∙ is)
+
+    directory_removed : (found : Found) → Keeps (remove_directory tree moment path found)
+    directory_removed Nowhere = inl is
+    directory_removed Nothing = inl is
+    directory_removed (FileAt l x contents) = inl is
+    directory_removed (DirectoryAt l x) = either (is_empty tree.names path) _ _ gone (inl is)
+
+    file_removed : (found : Found) → Keeps (remove_file tree moment path found)
+    file_removed Nowhere = inl is
+    file_removed Nothing = inl is
+    file_removed (DirectoryAt l x) = inl is
+    file_removed (FileAt l x contents) = gone
+
+module _ (tree : Tree) (session number moment label : ℕ) (m : Metadata) (apart : label ≢ number) (is : object_of tree.objects label ≡ Some (Directory m)) where
+  abbrev pub KeepsParent : Path → Request → Type 0
+  KeepsParent path request = label_at tree.names (parent path) ≡ Some label
+      → IsOneOf (Directory m) (Directory (modified_at moment m)) (object_of (done tree (answer_to tree session number moment request).changes).objects label)
+
+  mkdir : (path : Path) (attrs : Attrs) → KeepsParent path (Mkdir path attrs)
+  mkdir [] attrs named = inl is
+  mkdir (n ∷ path) attrs named = made tree session number moment label (n ∷ path) m apart named is attrs (place_at tree (n ∷ path))
+
+  rmdir : (path : Path) → KeepsParent path (Rmdir path)
+  rmdir [] named = inl is
+  rmdir (n ∷ path) named = directory_removed tree session number moment label (n ∷ path) m apart named is (other_parent n path) (found_at tree (n ∷ path))
+
+  remove : (path : Path) → KeepsParent path (Remove path)
+  remove [] named = inl is
+  remove (n ∷ path) named = file_removed tree session number moment label (n ∷ path) m apart named is (other_parent n path) (found_at tree (n ∷ path))
+
+  open' : (path : Path) (flags : OpenFlags) (attrs : Attrs) → KeepsParent path (Open path flags attrs)
+  open' [] flags attrs named = inl is
+  open' (n ∷ path) flags attrs named = file_opened tree session number moment label (n ∷ path) m apart named is flags attrs (place_at tree (n ∷ path))
+
+  pub parents : (request : Request) (path : Path) → IsOwnPath request path → KeepsParent path request
+  parents (Stat p) path own = absurd own
+  parents (SetStat p attrs) path own = absurd own
+  parents (Mkdir p attrs) path own = subst (λ (q : Path). KeepsParent path (Mkdir q attrs)) own (mkdir path attrs)
+  parents (Rmdir p) path own = subst (λ (q : Path). KeepsParent path (Rmdir q)) own (rmdir path)
+  parents (Remove p) path own = subst (λ (q : Path). KeepsParent path (Remove q)) own (remove path)
+  parents (OpenDir p) path own = absurd own
+  parents (Open p flags attrs) path own = subst (λ (q : Path). KeepsParent path (Open q flags attrs)) own (open' path flags attrs)
+  parents (Close handle) path own = absurd own
+  parents (FStat handle) path own = absurd own
+  parents (FSetStat handle attrs) path own = absurd own
+  parents (Read handle offset len) path own = absurd own
+  parents (Write handle offset bytes) path own = absurd own
+  parents (ReadDir handle) path own = absurd own
+  parents (Rename old new) path own = absurd own
+  parents (PosixRename old new) path own = absurd own

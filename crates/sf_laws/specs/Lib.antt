@@ -1,0 +1,5 @@
+pub mod LeftAlone
+pub mod Own
+pub mod NewHandles
+pub mod SameCalls
+pub mod Examples

@@ -1,0 +1,47 @@
+-- What is a request's own: what its path or its handle leads to. It changes nothing else but the object that it makes.
+use Rattle.std.specs.Prelude.{◌≡◌, ◌⊎◌, ℕ, Option, Some, IsSome}
+use Rattle.sf_path.specs.Names.{Path}
+use Rattle.sf_path.specs.Order.{parent}
+use Rattle.sf_call.specs.declared.request.Request.{Request}
+use Rattle.sf_call.specs.declared.request.Request.TheVariants.{SetStat, Mkdir, Rmdir, Remove, OpenDir, Open, Close, FSetStat, Write, ReadDir}
+use Rattle.sf_call.specs.declared.handle.Handle.{Handle}
+use Rattle.sf_call.specs.Attributes.{Object}
+use Rattle.sf_call.specs.Tree.{Tree, label_at}
+use Rattle.sf_call.specs.Handles.{handle_in}
+
+-- the path that it names anew or removes
+abbrev pub IsOwnPath : Request → Path → Type 0
+IsOwnPath (Mkdir path attrs) other = other ≡ path
+IsOwnPath (Rmdir path) other = other ≡ path
+IsOwnPath (Remove path) other = other ≡ path
+IsOwnPath (Open path flags attrs) other = other ≡ path
+IsOwnPath request other = ⊥
+
+abbrev pub IsAt : Tree → Path → ℕ → Type 0
+IsAt tree path label = label_at tree.names path ≡ Some label
+
+abbrev pub IsOpened : Tree → ℕ → ℕ → ℕ → Type 0
+IsOpened tree session number label = (handle : Handle) × (handle_in tree session number ≡ Some handle) × (handle.label ≡ label)
+
+-- the labels whose objects it sets: the path's, its parent's, or the handle's
+abbrev pub IsOwnObject : Tree → ℕ → Request → ℕ → Type 0
+IsOwnObject tree session (SetStat path attrs) label = IsAt tree path label
+IsOwnObject tree session (Mkdir path attrs) label = IsAt tree (parent path) label
+IsOwnObject tree session (Rmdir path) label = IsAt tree (parent path) label
+IsOwnObject tree session (Remove path) label = IsAt tree (parent path) label
+IsOwnObject tree session (Open path flags attrs) label = IsAt tree path label ⊎ IsAt tree (parent path) label
+IsOwnObject tree session (FSetStat handle attrs) label = IsOpened tree session handle label
+IsOwnObject tree session (Write handle offset bytes) label = IsOpened tree session handle label
+IsOwnObject tree session request label = ⊥
+
+-- the handle that the call with this number opens, or one of the session that it closes or lists by
+abbrev pub IsOwnHandle : Tree → ℕ → ℕ → Request → ℕ → Type 0
+IsOwnHandle tree session number (OpenDir path) handle = handle ≡ number
+IsOwnHandle tree session number (Open path flags attrs) handle = handle ≡ number
+IsOwnHandle tree session number (Close asked) handle = (handle ≡ asked) × IsSome (handle_in tree session asked)
+IsOwnHandle tree session number (ReadDir asked) handle = (handle ≡ asked) × IsSome (handle_in tree session asked)
+IsOwnHandle tree session number request handle = ⊥
+
+-- the object is there, and is one of these two
+abbrev pub IsOneOf : Object → Object → Option Object → Type 0
+IsOneOf this that object = (object ≡ Some this) ⊎ (object ≡ Some that)

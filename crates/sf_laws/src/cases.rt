@@ -1,0 +1,135 @@
+//! The cases of each request, worked out on small trees.
+
+ghost use Rattle.std.specs.Prelude.{◌≡◌, [], ◌∷◌, ◌++◌, true, false, map, drop, replicate, codes, Some, None};
+ghost use Rattle.sf_reply.specs.declared.reply.Reply.TheVariants as reply;
+ghost use Rattle.sf_reply.specs.declared.reply.StatusCode.TheVariants.{Success, EndOfFile, NoSuchFile, PermissionDenied, Failure};
+ghost use Rattle.sf_call.specs.declared.request.Request.TheVariants.{Stat, SetStat, Mkdir, Rmdir, Remove, OpenDir, Open, Close, FStat, FSetStat, Read, Write, ReadDir};
+ghost use Rattle.sf_call.specs.declared.record.Record.TheVariants.{Did};
+ghost use Rattle.sf_call.specs.Attributes.Object.{Directory};
+ghost use Rattle.sf_call.specs.Tree.{empty_tree};
+ghost use Rattle.sf_call.specs.Calls.{apply};
+ghost use Rattle.sf_call.specs.Histories.{IsLegal, replay};
+ghost use Rattle.sf_laws.specs.Examples.{a, b, no_attrs, all_attrs, metadata, tree_with, touched_root, with_directory, with_file, call, refused, told, history, replies, replies_of_another, tree_after, ok, sized, flags, exclusively, truncating, f, new_file, file_attrs, numbered, up_to_32, names_in};
+ghost use Rattle.sf_path.specs.Names.{slash};
+ghost use Rattle.sf_path.specs.Normal.{fault_of};
+ghost use Rattle.sf_path.specs.declared.fault.PathFault.TheVariants.{TooLong, NameTooLong};
+ghost use Rattle.sf_field.specs.Fields.{be32};
+ghost use Rattle.sf_wire.specs.declared.cutting.Cut.TheVariants as cut;
+ghost use Rattle.sf_wire.specs.declared.cutting.BadCut.TheVariants as bad_cut;
+ghost use Rattle.sf_wire.specs.Packets.{IsCut};
+ghost use Rattle.sf_call.specs.Listings.{entry_of};
+ghost use Rattle.sf_call.specs.Attributes.Object.{File};
+
+/// MKDIR.
+pub fn mkdir_cases()
+    ensures made { apply empty_tree 1 7 100 (Mkdir (a ∷ []) no_attrs) ≡ record { reply = reply.Status Success; tree = with_directory } }
+    ensures asked { apply empty_tree 1 7 100 (Mkdir (a ∷ []) (all_attrs 9 5 6 0o177777 1 2))
+        ≡ record { reply = reply.Status Success; tree = tree_with (Directory (metadata 5 6 0o7777 1 2)) } }
+    ensures root { call with_directory (Mkdir [] no_attrs) ≡ refused with_directory Failure }
+    ensures present { call with_directory (Mkdir (a ∷ []) no_attrs) ≡ refused with_directory Failure }
+    ensures below_file { call with_file (Mkdir (a ∷ b ∷ []) no_attrs) ≡ refused with_file NoSuchFile }
+    ensures below_nothing { call with_directory (Mkdir (b ∷ a ∷ []) no_attrs) ≡ refused with_directory NoSuchFile }
+{}
+
+/// STAT.
+pub fn stat_cases()
+    ensures directory { call with_directory (Stat (a ∷ [])) ≡ told with_directory (all_attrs 0 0 0 0o40755 100 100) }
+    ensures file { call with_file (Stat (a ∷ [])) ≡ told with_file (all_attrs 3 5 6 0o100644 100 200) }
+    ensures absent { call with_directory (Stat (b ∷ [])) ≡ refused with_directory NoSuchFile }
+    ensures below_file { call with_file (Stat (a ∷ b ∷ [])) ≡ refused with_file NoSuchFile }
+{}
+
+/// Histories.
+pub fn history_cases()
+    ensures legal { IsLegal history }
+    ensures replayed { replay history ≡ with_directory }
+{}
+
+/// Files by their handles, at the moment 100.
+pub fn file_cases()
+    ensures written { replies (new_file f ∷ Write 1 5 (codes "x") ∷ Read 1 0 261121 ∷ Read 1 6 1 ∷ FSetStat 1 (sized 7) ∷ FSetStat 1 (sized 6) ∷ FStat 1 ∷ Stat (f ∷ []) ∷ [])
+        ≡ reply.Handle 1 ∷ ok ∷ reply.Data (0 ∷ 0 ∷ 0 ∷ 0 ∷ 0 ∷ 120 ∷ []) ∷ reply.Status EndOfFile ∷ ok ∷ ok ∷ reply.Attrs (file_attrs 6) ∷ reply.Attrs (file_attrs 6) ∷ [] }
+    ensures listed { replies (new_file f ∷ Write 1 5 (codes "x") ∷ OpenDir [] ∷ ReadDir 3 ∷ ReadDir 3 ∷ [])
+        ≡ reply.Handle 1 ∷ ok ∷ reply.Handle 3 ∷ reply.Names (entry_of f (File (metadata 0 0 0o644 100 100) (0 ∷ 0 ∷ 0 ∷ 0 ∷ 0 ∷ 120 ∷ [])) ∷ []) ∷ reply.Status EndOfFile ∷ [] }
+    ensures past_limit { replies (new_file f ∷ Write 1 16777216 (codes "x") ∷ Write 1 18446744073709551615 (codes "x") ∷ SetStat (f ∷ []) (sized 16777217) ∷ SetStat (f ∷ []) (sized 18446744073709551615) ∷ FSetStat 1 (sized 18446744073709551615)
+        ∷ Read 1 18446744073709551615 4294967295 ∷ Stat (f ∷ []) ∷ [])
+        ≡ reply.Handle 1 ∷ reply.Status Failure ∷ reply.Status Failure ∷ reply.Status Failure ∷ reply.Status Failure ∷ reply.Status Failure ∷ reply.Status EndOfFile ∷ reply.Attrs (file_attrs 0) ∷ [] }
+    ensures denied { replies (Open (f ∷ []) (flags true false false true) no_attrs ∷ Write 1 0 (codes "x") ∷ FSetStat 1 (sized 3) ∷ FStat 1 ∷ [])
+        ≡ reply.Handle 1 ∷ reply.Status PermissionDenied ∷ reply.Status PermissionDenied ∷ reply.Attrs (file_attrs 0) ∷ [] }
+    ensures unlinked { replies (new_file f ∷ Write 1 0 (codes "abc") ∷ Remove (f ∷ []) ∷ Read 1 0 10 ∷ Stat (f ∷ []) ∷ Close 1 ∷ Read 1 0 10 ∷ Close 1 ∷ [])
+        ≡ reply.Handle 1 ∷ ok ∷ ok ∷ reply.Data (codes "abc") ∷ reply.Status NoSuchFile ∷ ok ∷ reply.Status Failure ∷ reply.Status Failure ∷ [] }
+    ensures appended { replies (Open (f ∷ []) (flags true true true true) no_attrs ∷ Write 1 7 (codes "ab") ∷ Write 1 0 (codes "c") ∷ Read 1 0 10 ∷ [])
+        ≡ reply.Handle 1 ∷ ok ∷ ok ∷ reply.Data (codes "abc") ∷ [] }
+    ensures gap_of_zeros { replies (new_file f ∷ Write 1 0 (codes "abc") ∷ FSetStat 1 (sized 0) ∷ Write 1 3 (codes "x") ∷ Read 1 0 10 ∷ [])
+        ≡ reply.Handle 1 ∷ ok ∷ ok ∷ ok ∷ reply.Data (0 ∷ 0 ∷ 0 ∷ 120 ∷ []) ∷ [] }
+{}
+
+/// 33 files are listed while names go.
+pub fn listing_cases()
+    ensures { map names_in (drop 33 (replies (map (λ k. new_file (numbered k)) (up_to_32 ++ 33 ∷ [])
+        ++ OpenDir [] ∷ ReadDir 34 ∷ Remove (numbered 1 ∷ []) ∷ ReadDir 34 ∷ Remove (numbered 33 ∷ []) ∷ ReadDir 34 ∷ [])))
+        ≡ [] ∷ map numbered up_to_32 ∷ [] ∷ (numbered 33 ∷ []) ∷ [] ∷ [] ∷ [] }
+{}
+
+/// RMDIR.
+pub fn rmdir_cases()
+    ensures gone { call with_directory (Rmdir (a ∷ [])) ≡ record { reply = ok; tree = touched_root } }
+    ensures root { call with_directory (Rmdir []) ≡ refused with_directory Failure }
+    ensures absent { call with_directory (Rmdir (b ∷ [])) ≡ refused with_directory NoSuchFile }
+    ensures below_file { call with_file (Rmdir (a ∷ b ∷ [])) ≡ refused with_file NoSuchFile }
+    ensures file { call with_file (Rmdir (a ∷ [])) ≡ refused with_file Failure }
+    ensures full { replies (Mkdir (a ∷ []) no_attrs ∷ Mkdir (a ∷ b ∷ []) no_attrs ∷ Rmdir (a ∷ []) ∷ Rmdir (a ∷ b ∷ []) ∷ Rmdir (a ∷ []) ∷ [])
+        ≡ ok ∷ ok ∷ reply.Status Failure ∷ ok ∷ ok ∷ [] }
+    // A removed directory that is open lists nothing.
+    ensures open { replies (Mkdir (a ∷ []) no_attrs ∷ OpenDir (a ∷ []) ∷ Rmdir (a ∷ []) ∷ ReadDir 2 ∷ Close 2 ∷ [])
+        ≡ ok ∷ reply.Handle 2 ∷ ok ∷ reply.Status EndOfFile ∷ ok ∷ [] }
+{}
+
+/// OPEN by its flags and its attributes, at the moment 100.
+pub fn open_cases()
+    ensures absent { replies (Open (f ∷ []) (flags true true false false) no_attrs ∷ []) ≡ reply.Status NoSuchFile ∷ [] }
+    ensures directory { replies (Mkdir (a ∷ []) no_attrs ∷ Open (a ∷ []) (flags true false false true) no_attrs ∷ []) ≡ ok ∷ reply.Status Failure ∷ [] }
+    // EXCL counts with CREAT alone.
+    ensures exclusive { replies (map (λ marks. Open (f ∷ []) marks no_attrs) (exclusively (flags true true false true) ∷ exclusively (flags true true false true) ∷ exclusively (flags true true false false) ∷ flags true true false true ∷ []))
+        ≡ reply.Handle 1 ∷ reply.Status Failure ∷ reply.Handle 3 ∷ reply.Handle 4 ∷ [] }
+    // TRUNC counts with WRITE alone.
+    ensures truncated { replies (new_file f ∷ Write 1 0 (codes "abc") ∷ Open (f ∷ []) (truncating (flags true false false false)) no_attrs ∷ FStat 1 ∷ Open (f ∷ []) (truncating (flags false true false false)) no_attrs ∷ FStat 1 ∷ Read 1 0 10 ∷ [])
+        ≡ reply.Handle 1 ∷ ok ∷ reply.Handle 3 ∷ reply.Attrs (file_attrs 3) ∷ reply.Handle 5 ∷ reply.Attrs (file_attrs 0) ∷ reply.Status EndOfFile ∷ [] }
+    // Attributes count for a new file alone, and its size is 0.
+    ensures attributes { replies (Open (f ∷ []) (flags true true false true) (all_attrs 9 5 6 0o177777 1 2) ∷ Open (f ∷ []) (flags true true false true) (all_attrs 4 7 8 0o600 3 4) ∷ FStat 1 ∷ [])
+        ≡ reply.Handle 1 ∷ reply.Handle 2 ∷ reply.Attrs (all_attrs 0 5 6 0o107777 1 2) ∷ [] }
+    // With neither READ nor WRITE a handle reads.
+    ensures no_marks { replies (new_file f ∷ Write 1 0 (codes "abc") ∷ Open (f ∷ []) (flags false false false false) no_attrs ∷ Read 3 0 10 ∷ Write 3 0 (codes "x") ∷ [])
+        ≡ reply.Handle 1 ∷ ok ∷ reply.Handle 3 ∷ reply.Data (codes "abc") ∷ reply.Status PermissionDenied ∷ [] }
+{}
+
+/// Handles: whose they are, and how many.
+pub fn handle_cases()
+    // Another session's handle is none.
+    ensures another { replies_of_another (tree_after empty_tree 1 (new_file f ∷ OpenDir [] ∷ [])) (FStat 1 ∷ FSetStat 1 no_attrs ∷ Read 1 0 10 ∷ Write 1 0 [] ∷ ReadDir 2 ∷ Close 1 ∷ Close 2 ∷ [])
+        ≡ replicate 7 (reply.Status Failure) }
+    // A session has 128 handles open; the next one is refused until one is closed, and another session has 128 of its own.
+    ensures most { drop 127 (replies (replicate 128 (OpenDir []) ++ OpenDir [] ∷ new_file f ∷ Close 1 ∷ OpenDir [] ∷ []))
+        ≡ reply.Handle 128 ∷ reply.Status Failure ∷ reply.Status Failure ∷ ok ∷ reply.Handle 132 ∷ [] }
+    ensures most_of_each { replies_of_another (tree_after empty_tree 1 (replicate 128 (OpenDir []))) (OpenDir [] ∷ []) ≡ reply.Handle 1000 ∷ [] }
+    // The root is not set, neither by its path nor by a handle.
+    ensures root { replies (OpenDir [] ∷ FSetStat 1 no_attrs ∷ SetStat [] no_attrs ∷ []) ≡ reply.Handle 1 ∷ reply.Status Failure ∷ reply.Status Failure ∷ [] }
+    // A handle's number is never used again, and a closed one is none.
+    ensures closed { replies (OpenDir [] ∷ Close 1 ∷ Close 1 ∷ ReadDir 1 ∷ OpenDir [] ∷ []) ≡ reply.Handle 1 ∷ ok ∷ reply.Status Failure ∷ reply.Status Failure ∷ reply.Handle 5 ∷ [] }
+{}
+
+/// Paths at their limits: a name of 255 bytes, and a text of 4096.
+pub fn path_cases()
+    ensures longest_name { fault_of (replicate 255 97) ≡ None }
+    ensures longer_name { fault_of (replicate 256 97) ≡ Some NameTooLong }
+    ensures longest_text { fault_of (replicate 4096 slash) ≡ None }
+    ensures longer_text { fault_of (replicate 4097 slash) ≡ Some TooLong }
+{}
+
+/// Packets at their limits: a length of 1, and one of 262144.
+pub fn packet_cases()
+    ensures none { IsCut (be32 0) (cut.Bad bad_cut.ZeroLength) }
+    ensures shortest { IsCut (be32 1 ++ 7 ∷ []) (cut.Whole 5) }
+    ensures longest { IsCut (be32 262144) cut.More }
+    ensures longer { IsCut (be32 262145) (cut.Bad bad_cut.TooLong) }
+{}

@@ -1,0 +1,23 @@
+//! Laws of the tree, of calls on it and of histories, which no other crate rests on: what a reader
+//! may expect of a file server, said without the cases of any request; and its cases worked out.
+//!
+//! The definitions are those of `sf_call`. Each function here does nothing: its contract is the law.
+#![tactic(auto)]
+
+mod cases;
+mod change_laws;
+mod handle_laws;
+mod history_laws;
+mod listing_laws;
+
+pub use cases::{
+    file_cases, handle_cases, history_cases, listing_cases, mkdir_cases, open_cases, packet_cases,
+    path_cases, rmdir_cases, stat_cases,
+};
+pub use change_laws::{
+    idle_calls, kinds_stay, left_alone, nothing_unused, own_changes, parents_stay,
+    refusals_change_nothing,
+};
+pub use handle_laws::{limits_hold, new_handles, open_handles};
+pub use history_laws::equal_replies;
+pub use listing_laws::{listed_all, listed_in_order};

@@ -1,0 +1,26 @@
+-- For the crates above: how long replies are. They speak of definitions alone. All other files here are
+-- private to this crate.
+use Rattle.std.proofs.Common.{◌≡◌, ℕ, ◌+◌, ◌≤◌, List, length, arith}
+use Rattle.std.specs.List.{flat_map}
+use Rattle.std.proofs.lemmas.Grind.{common_steps}
+use Rattle.sf_field.specs.declared.attrs.Attrs.{Attrs}
+use Rattle.sf_field.specs.Attributes.{attrs_text}
+use Rattle.sf_field.specs.Fields.{packet}
+use Rattle.sf_reply.specs.declared.reply.Entry.{Entry}
+use Rattle.sf_reply.specs.declared.reply.Reply.{Reply}
+use Rattle.sf_reply.specs.declared.reply.Reply.TheVariants.{Names}
+use Rattle.sf_reply.specs.declared.reply.TheConstants.{MAX_PLAIN_REPLY}
+use Rattle.sf_reply.specs.Replies.{reply_body, entry_text, IsPlain}
+-- an entry, the reply of REALPATH, and the line that describes a file
+pub use Rattle.sf_reply.proofs.Entries.{length-entry, length-one_name}
+pub use Rattle.sf_reply.proofs.LineLengths.{longname_short}
+
+-- a reply that holds neither data nor names
+pub plain_short : (id : ℕ) (reply : Reply) → IsPlain reply → length (packet (reply_body id reply)) ≤ MAX_PLAIN_REPLY
+plain_short id reply plain = grind (arith, common_steps)
+
+pub length-names : (id : ℕ) (es : List Entry) → length (packet (reply_body id (Names es))) ≡ 13 + length (flat_map entry_text es)
+length-names id es = grind (arith, common_steps)
+
+pub attrs_short : (attrs : Attrs) → length (attrs_text attrs) ≤ 32
+attrs_short attrs = grind (arith, common_steps)

@@ -1,5 +1,0 @@
-use Rattle.sf_reply.proofs.OneReply.{one_reply}
-use Rattle.sf_reply.proofs.laws.one_reply.Goals as goal
-
-pub returns : goal.returns
-returns c = one_reply

@@ -1,5 +1,0 @@
-use Rattle.sf_wire.proofs.Streams.{cut_is_spelled}
-use Rattle.sf_wire.proofs.laws.cut_is_spelled.Goals as goal
-
-pub returns : goal.returns
-returns c = cut_is_spelled
