@@ -1,6 +1,6 @@
 //! Calls that wait for their answers.
 
-ghost use Rattle.std.specs.Prelude.{◌≡◌, [], OnOk, OnErr};
+ghost use Rattle.std.specs.Prelude.{◌≡◌, ◌<◌, ◌^◌, [], length, OnOk, OnErr};
 ghost use Rattle.std.specs.Option.{option_copied};
 ghost use Rattle.std.specs.Ordering.{nat_cmp};
 ghost use Rattle.std.specs.Map.{lookup, remove_entry};
@@ -60,6 +60,14 @@ impl Calls {
         Calls {
             calls: BTreeMap::new(alloc),
         }
+    }
+
+    /// How many calls there are.
+    pub fn len(&self) -> usize
+        ensures count { result ≡ length self.now }
+        ensures small { result < 2 ^ 63 }
+    {
+        self.calls.len()
     }
 
     /// Adds a call; one of the same number goes.

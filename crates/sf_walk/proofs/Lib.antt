@@ -17,3 +17,6 @@ pub mod Rows
 pub mod Dispatch
 pub mod Refused
 pub mod Trimmed
+pub mod Rooted
+pub mod Onward
+pub mod Ends

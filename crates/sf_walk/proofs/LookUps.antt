@@ -18,3 +18,6 @@ after_nodes (suc k) s = after_nodes k s
 
 pub looked_nodes : (old new : StoreState) (most : ℕ) → LookedUp old new most → new.nodes ≡ old.nodes
 looked_nodes old new most h = ap (λ (s : StoreState). s.nodes) h.state ∙ after_nodes h.count old
+
+pub looked_itself : (s : StoreState) (most : ℕ) → LookedUp s s most
+looked_itself s most = looked_less s s 0 most (looked_none s) (omega arith)

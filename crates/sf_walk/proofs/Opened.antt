@@ -34,7 +34,7 @@ use Rattle.sf_keeps.proofs.Laws.{keeps_opened, keeps_inserted, keeps_contents, k
 use Rattle.sf_walk.specs.Ways.{missing, way_from, last_of, found_content, found_node}
 use Rattle.sf_walk.specs.declared.finding.Located.TheVariants as located
 use Rattle.sf_walk.specs.Opening.{marks_of, OpenedNew}
-use Rattle.sf_walk.specs.Served.{IsServed, IsAlike, LookedUp, HoldersStay, IsNewNumber}
+use Rattle.sf_walk.specs.Served.{IsServed, IsAlike, LookedUp, Stays, IsNewNumber}
 use Rattle.sf_walk.proofs.Holders.{put_nodes, stays_inserted, stays_opened, alike_looked}
 use Rattle.sf_walk.proofs.LookUps.{looked_nodes}
 use Rattle.sf_walk.proofs.Fits.{no_way, name_missing, node_at}
@@ -180,9 +180,9 @@ cut_served room s mid new t id moment label m bytes k at is state =
     (keeps_file (modified_at moment) mid (changed t (SetObject label (File m []))) id label m [] kept shown))
 
 -- ---- what opening leaves of holders
-pub stays_opened_new : (before s new : StoreState) (session number dir : ℕ) (n : Name) (marks : Marks) (made : NewNode) → s.nodes ≡ before.nodes → OpenedNew s new session number dir n marks made → HoldersStay before new
-stays_opened_new before s new session number dir n marks made same did =
-    subst (HoldersStay before) (sym did.state) (stays_opened before did.mid session number did.id marks (stays_inserted before s did.mid dir n did.id (new_node made) same did.inserted refl))
+pub stays_opened_new : {N : Option ℕ → ℕ → Type 0} (before s new : StoreState) (session number dir : ℕ) (n : Name) (marks : Marks) (made : NewNode) → s.nodes ≡ before.nodes → OpenedNew s new session number dir n marks made → N None made.label → Stays N before new
+stays_opened_new {N} before s new session number dir n marks made same did is_new =
+    subst (Stays N before) (sym did.state) (stays_opened before did.mid session number did.id marks (stays_inserted before s did.mid dir n did.id (new_node made) same did.inserted is_new))
 
 pub alike_err : {A E : Type 0} (old mid new : StoreState) (most : ℕ) (r : Result A E) → LookedUp old mid most → OnErr r (new ≡ mid) → OnErr r (IsAlike old new)
 alike_err old mid new most r looked = on_err_map r (new ≡ mid) (IsAlike old new) (alike_after old mid new most looked)

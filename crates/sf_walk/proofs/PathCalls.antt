@@ -23,17 +23,17 @@ use Rattle.sf_keeps.specs.Keeps.{Keeps}
 use Rattle.sf_keeps.proofs.Laws.{bare_found}
 use Rattle.sf_walk.specs.declared.finding.Located.TheVariants as located
 use Rattle.sf_walk.specs.Ways.{way_from, found_content, found_node}
-use Rattle.sf_walk.specs.Served.{LookedUp, IsServed, HoldersStay}
+use Rattle.sf_walk.specs.Served.{LookedUp, IsServed, Stays}
 use Rattle.sf_walk.proofs.Holders.{stays_looked, stays_edited, stays_unlinked}
 use Rattle.sf_walk.proofs.Fits.{no_way, name_missing, node_at}
 use Rattle.sf_walk.proofs.Looked.{keeps_looked, way_looked}
 use Rattle.sf_walk.proofs.Told.{tells_served, past_root, if_ok_map}
 
 -- after look-ups an entry was taken out, and its directory modified
-pub stays_gone : (old mid new : StoreState) (most moment dir : ℕ) (n : Name) → LookedUp old mid most → new ≡ edited (with_metadata (modified_at moment)) (unlinked mid dir n) dir → HoldersStay old new
-stays_gone old mid new most moment dir n looked state =
-    subst (λ (x : StoreState). HoldersStay old x) (sym state)
-    (stays_edited (with_metadata (modified_at moment)) (λ node. refl) old (unlinked mid dir n) dir (stays_unlinked old mid dir n (stays_looked old mid most looked)))
+pub stays_gone : {N : Option ℕ → ℕ → Type 0} (old mid new : StoreState) (most moment dir : ℕ) (n : Name) → LookedUp old mid most → new ≡ edited (with_metadata (modified_at moment)) (unlinked mid dir n) dir → Stays N old new
+stays_gone {N} old mid new most moment dir n looked state =
+    subst (λ (x : StoreState). Stays N old x) (sym state)
+    (stays_edited (with_metadata (modified_at moment)) (λ node. (refl, refl)) old (unlinked mid dir n) dir (stays_unlinked old mid dir n (stays_looked old mid most looked)))
 
 file_content_bare : (c : Content) → is_directory_content c ≡ false → is_bare_content c ≡ true
 file_content_bare (content.Directory es) e = cc

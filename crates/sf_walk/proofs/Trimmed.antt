@@ -1,12 +1,12 @@
 -- What stays where memory of nodes that are gone was given back.
-use Rattle.std.specs.Prelude.{◌≡◌, ℕ}
+use Rattle.std.specs.Prelude.{◌≡◌, ℕ, Option}
 use Rattle.std.proofs.Common.{sym, ap, ◌∙◌}
 use Rattle.sf_reply.specs.declared.reply.Reply.{Reply}
 use Rattle.sf_call.specs.Tree.{Tree}
 use Rattle.sf_call.specs.Changes.{done}
 use Rattle.sf_call.specs.Calls.{Answer}
 use Rattle.sf_inode.specs.Stores.{StoreState, node_in, with_nodes}
-use Rattle.sf_walk.specs.Served.{IsAlike, IsServed, HoldersStay, LooksUp}
+use Rattle.sf_walk.specs.Served.{IsAlike, IsServed, Stays, LooksUp}
 use Rattle.sf_walk.proofs.Refused.{keeps_alike}
 
 -- the nodes are the same by look-ups, and all else is the same
@@ -17,8 +17,11 @@ pub served_trimmed : (mid new : StoreState) (t : Tree) (answer : Answer) (given 
     → IsServed new t answer given
 served_trimmed mid new t answer given h nodes rest = record { told = h.told; tree = keeps_alike mid new (done t answer.changes) (alike_trimmed mid new nodes rest) h.tree }
 
-pub stays_trimmed : (old mid new : StoreState) → HoldersStay old mid → ((id : ℕ) → node_in new.nodes id ≡ node_in mid.nodes id) → HoldersStay old new
-stays_trimmed old mid new h nodes id node at = h id node (sym (nodes id) ∙ at)
+pub stays_trimmed : {N : Option ℕ → ℕ → Type 0} (old mid new : StoreState) → Stays N old mid → ((id : ℕ) → node_in new.nodes id ≡ node_in mid.nodes id) → Stays N old new
+stays_trimmed old mid new h nodes = record { node = λ id node at. h.node id node (sym (nodes id) ∙ at) }
 
 pub looks_trimmed : (old mid new : StoreState) (most : ℕ) → LooksUp old mid most → new ≡ with_nodes mid new.nodes → LooksUp old new most
 looks_trimmed old mid new most h rest = record { count = h.count; few = h.few; look_ups = ap (λ (s : StoreState). s.look_ups) rest ∙ h.look_ups }
+
+pub looks_same : (old mid new : StoreState) → mid.look_ups ≡ old.look_ups → new ≡ with_nodes mid new.nodes → new.look_ups ≡ old.look_ups
+looks_same old mid new h rest = ap (λ (s : StoreState). s.look_ups) rest ∙ h

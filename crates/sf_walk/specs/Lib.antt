@@ -1,3 +1,4 @@
 pub mod Ways
 pub mod Opening
 pub mod Served
+pub mod Steps

@@ -1,5 +1,5 @@
 -- What a call does to the store.
-use Rattle.std.specs.Prelude.{◌≡◌, ℕ, zero, suc, ◌<◌, ◌≤◌, Bool, true, false, is_some, Some, None}
+use Rattle.std.specs.Prelude.{◌≡◌, ℕ, zero, suc, ◌<◌, ◌≤◌, Bool, true, false, is_some, Option, Some, None}
 use Rattle.sf_reply.specs.declared.reply.Reply.{Reply}
 use Rattle.sf_reply.specs.declared.reply.Reply.TheVariants as reply
 use Rattle.sf_call.specs.declared.request.Request.{Request}
@@ -10,7 +10,7 @@ use Rattle.sf_call.specs.Tree.{Tree, object_of, handle_of}
 use Rattle.sf_call.specs.Changes.{done}
 use Rattle.sf_call.specs.Calls.{Answer}
 use Rattle.sf_inode.specs.declared.node.Node.{Node}
-use Rattle.sf_inode.specs.Stores.{StoreState, node_in, holder_of, looked_up}
+use Rattle.sf_inode.specs.Stores.{StoreState, node_in, looked_up}
 use Rattle.sf_keeps.specs.Keeps.{Keeps}
 
 -- the store after so many look-ups
@@ -36,9 +36,21 @@ pub record IsAlike (old new : StoreState) : Type 0 where
   pub root : new.root ≡ old.root
   pub sessions : new.sessions ≡ old.sessions
 
--- a node has the holder that it had; a new one has none
+-- a node that was there has the holder and the label that it had, and a new one has such as are told
+abbrev pub IsAsBefore : (Option ℕ → ℕ → Type 0) → Option Node → Node → Type 0
+IsAsBefore new None node = new node.holder node.label
+IsAsBefore new (Some was) node = (node.holder ≡ was.holder) × (node.label ≡ was.label)
+
+pub record Stays (told : Option ℕ → ℕ → Type 0) (old new : StoreState) : Type 0 where
+  pub node : (id : ℕ) (node : Node) → node_in new.nodes id ≡ Some node → IsAsBefore told (node_in old.nodes id) node
+
+-- each node has the holder and the label that it had, and none is new
 abbrev pub HoldersStay : StoreState → StoreState → Type 0
-HoldersStay old new = (id : ℕ) (node : Node) → node_in new.nodes id ≡ Some node → node.holder ≡ holder_of old.nodes id
+HoldersStay old new = Stays (λ holder label. ⊥) old new
+
+-- each node has the holder and the label that it had; what is new has no holder, and the number as its label
+abbrev pub NodesStay : ℕ → StoreState → StoreState → Type 0
+NodesStay number old new = Stays (λ holder label. (holder ≡ None) × (label ≡ number)) old new
 
 -- the number is above 0, and no label and no handle of the tree has it
 pub record IsNewNumber (t : Tree) (number : ℕ) : Type 0 where

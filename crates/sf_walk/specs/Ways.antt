@@ -1,5 +1,5 @@
 -- Where a path leads in the store.
-use Rattle.std.specs.Prelude.{ℕ, ◌-◌, if◌then◌else◌, List, [], ◌∷◌, length, Option, slice_index_or}
+use Rattle.std.specs.Prelude.{◌≡◌, ℕ, ◌-◌, if◌then◌else◌, List, [], ◌∷◌, length, Option, Some, None, slice_index_or}
 use Rattle.std.specs.Option.{option_map_or}
 use Rattle.sf_path.specs.Names.{Name, Path}
 use Rattle.sf_call.specs.declared.metadata.Metadata.{Metadata}
@@ -11,7 +11,7 @@ use Rattle.sf_call.specs.Tree.Found.{DirectoryAt, FileAt}
 use Rattle.sf_inode.specs.declared.node.Node.{Node}
 use Rattle.sf_inode.specs.declared.node.Content.{Content}
 use Rattle.sf_inode.specs.declared.node.Content.TheVariants as content
-use Rattle.sf_inode.specs.Stores.{entry_of, is_directory_at}
+use Rattle.sf_inode.specs.Stores.{StoreState, entry_of, is_directory_at}
 use Rattle.sf_walk.specs.declared.finding.Located.{Located}
 use Rattle.sf_walk.specs.declared.finding.Located.TheVariants as located
 
@@ -37,11 +37,24 @@ found_content label m (content.File contents) = FileAt label m contents.bytes
 abbrev pub found_node : Node → Found
 found_node node = found_content node.label node.metadata node.content
 
--- how many names are walked: those of a request's one path, for now
-abbrev pub names_at : Target → ℕ
-names_at (ByHandle handle) = 0
-names_at (OnPath path) = length path
-names_at (OnPaths old new) = 0
+-- the path that a call walks: a request's one path; renames aren't walked, for now
+abbrev pub path_at : Target → Option Path
+path_at (ByHandle handle) = None
+path_at (OnPath path) = Some path
+path_at (OnPaths old new) = None
 
+abbrev pub path_of : Request → Option Path
+path_of request = path_at (target_of request)
+
+-- how many names the path has
 abbrev pub names_of : Request → ℕ
-names_of request = names_at (target_of request)
+names_of request = option_map_or (λ path. length path) (path_of request) 0
+
+-- what was located is where the path leads
+abbrev pub IsWay : StoreState → Option Path → Located → Type 0
+IsWay s None located = Unit {0}
+IsWay s (Some path) located = located ≡ way_from s.nodes s.root s.root path
+
+-- what was located is where the request's path leads, if it has one
+abbrev pub IsLocated : StoreState → Request → Located → Type 0
+IsLocated s request located = IsWay s (path_of request) located

@@ -1,78 +1,185 @@
-//! Whole calls from the root.
+//! Whole calls, from the root or from where they decide.
 
 ghost use Rattle.std.specs.Prelude.{◌≡◌, ◌⊎◌, false, IfOk, IsOk, OnErr};
+ghost use Rattle.std.specs.Option.{option_copied};
+ghost use Rattle.std.specs.Result.{result_map_both};
+ghost use Rattle.sf_reply.specs.Replies.{IsPlain};
 ghost use Rattle.sf_call.specs.Tree.{Tree};
-ghost use Rattle.sf_call.specs.Calls.{answer_to};
+ghost use Rattle.sf_call.specs.Handles.{opened};
+ghost use Rattle.sf_call.specs.Calls.{answer_to, read};
 ghost use Rattle.sf_keeps.specs.Keeps.{Keeps};
-ghost use Rattle.sf_walk.specs.Ways.{names_of};
-ghost use Rattle.sf_walk.specs.Served.{IsServed, IsRefused, IsAlike, LooksUp, HoldersStay, IsNewNumber, may_want_memory};
+ghost use Rattle.sf_walk.specs.Ways.{names_of, path_of, IsLocated};
+ghost use Rattle.sf_walk.specs.Served.{IsServed, IsRefused, IsAlike, LookedUp, LooksUp, NodesStay, IsNewNumber, may_want_memory};
 
+use crate::finding::{Located, locate};
 use crate::handle_calls::{close, read, set_stat_handle, stat_handle, write};
 use crate::listing::read_directory;
 use crate::opening::{open, open_directory};
 use crate::path_calls::{mkdir, remove, rmdir, set_stat, stat};
 use sf_call::{Call, Request};
 use sf_inode::Store;
+use sf_path::Path;
 use sf_reply::{Reply, StatusCode};
-use std::alloc::AllocError;
+use std::alloc::{AllocError, Global};
 
 /// Answers a call whole, from the root on and without locks, whoever holds the nodes on its way. Its
 /// number is above 0, and no label and no handle of the tree. `NoMemory` changes nothing but the count
 /// of look-ups, and is never told where a call makes nothing, and neither gives nor takes bytes or names.
-#[tactic(auto, using(crate::proofs::Refused::keeps_alike, crate::proofs::Trimmed::served_trimmed, crate::proofs::Trimmed::stays_trimmed, crate::proofs::Trimmed::looks_trimmed))]
 pub fn from_root(store: &mut Store, call: &Call) -> Reply
     ensures served { (t : Tree) → Keeps store.old t → IsNewNumber t call.now.number
         → IsRefused store.old store.new t result ⊎ IsServed store.new t (answer_to t call.now.session call.now.number call.now.moment call.now.request) result }
     ensures sure { may_want_memory call.now.request ≡ false → (t : Tree) → Keeps store.old t → IsNewNumber t call.now.number
         → IsServed store.new t (answer_to t call.now.session call.now.number call.now.moment call.now.request) result }
     ensures look_ups { LooksUp store.old store.new (names_of call.now.request) }
-    ensures holders { HoldersStay store.old store.new }
+    ensures nodes { NodesStay call.now.number store.old store.new }
 {
-    match answer(store, call) {
-        Ok(reply) => {
-            store.trim();
-            reply
-        }
-        Err(_) => Reply::NoMemory,
+    let located = find_way(store, &call.request);
+    let (reply, _) = decide(store, call, located);
+    reply
+}
+
+/// The path that a request walks.
+pub fn path_of(request: &Request) -> Option<&Path>
+    ensures { option_copied result ≡ path_of request.now }
+{
+    match request {
+        Request::Stat(path)
+        | Request::SetStat(path, _)
+        | Request::Mkdir(path, _)
+        | Request::Rmdir(path)
+        | Request::Remove(path)
+        | Request::OpenDir(path)
+        | Request::Open(path, _, _) => Some(path),
+        Request::Close(_)
+        | Request::FStat(_)
+        | Request::FSetStat(_, _)
+        | Request::Read { .. }
+        | Request::Write { .. }
+        | Request::ReadDir(_)
+        | Request::Rename(_, _)
+        | Request::PosixRename(_, _) => None,
     }
 }
 
-fn answer(store: &mut Store, call: &Call) -> Result<Reply, AllocError>
-    ensures served { (t : Tree) → Keeps store.old t → IsNewNumber t call.now.number → IfOk result (λ reply. IsServed store.new t (answer_to t call.now.session call.now.number call.now.moment call.now.request) reply) }
+/// Walks the path of a request, if it has one.
+fn find_way(store: &mut Store, request: &Request) -> Located
+    ensures located { IsLocated store.old request.now result }
+    ensures looked { LookedUp store.old store.new (names_of request.now) }
+{
+    match path_of(request) {
+        Some(path) => locate(store, path),
+        None => Located::NoWay,
+    }
+}
+
+/// Answers a call where its path was found to lead, without a look-up: its reply twice, once for its record. A call without
+/// a path asks nothing of what was located.
+#[tactic(auto, using(crate::proofs::Refused::keeps_alike, crate::proofs::Trimmed::served_trimmed, crate::proofs::Trimmed::stays_trimmed, crate::proofs::Trimmed::looks_same))]
+pub fn decide(store: &mut Store, call: &Call, located: Located) -> (Reply, Reply)
+    requires { IsLocated store.old call.now.request located }
+    ensures served { (t : Tree) → Keeps store.old t → IsNewNumber t call.now.number
+        → IsRefused store.old store.new t result.0 ⊎ IsServed store.new t (answer_to t call.now.session call.now.number call.now.moment call.now.request) result.0 }
+    ensures copy { result.1 ≡ result.0 }
+    ensures sure { may_want_memory call.now.request ≡ false → (t : Tree) → Keeps store.old t → IsNewNumber t call.now.number
+        → IsServed store.new t (answer_to t call.now.session call.now.number call.now.moment call.now.request) result.0 }
+    ensures look_ups { store.new.look_ups ≡ store.old.look_ups }
+    ensures nodes { NodesStay call.now.number store.old store.new }
+{
+    match answer(store, call, located) {
+        Ok(replies) => {
+            store.trim();
+            replies
+        }
+        Err(_) => (Reply::NoMemory, Reply::NoMemory),
+    }
+}
+
+#[tactic(auto, using(crate::proofs::Holders::stays_none_new, crate::proofs::Rooted::twice_copies))]
+fn answer(store: &mut Store, call: &Call, located: Located) -> Result<(Reply, Reply), AllocError>
+    requires { IsLocated store.old call.now.request located }
+    ensures served { (t : Tree) → Keeps store.old t → IsNewNumber t call.now.number
+        → IfOk result (λ replies. IsServed store.new t (answer_to t call.now.session call.now.number call.now.moment call.now.request) replies.0) }
+    ensures copy { IfOk result (λ replies. replies.1 ≡ replies.0) }
     ensures sure { may_want_memory call.now.request ≡ false → IsOk result }
     ensures err { OnErr result (IsAlike store.old store.new) }
-    ensures look_ups { LooksUp store.old store.new (names_of call.now.request) }
-    ensures holders { HoldersStay store.old store.new }
+    ensures look_ups { store.new.look_ups ≡ store.old.look_ups }
+    ensures nodes { NodesStay call.now.number store.old store.new }
 {
-    let (session, number, moment) = (call.session, call.number, call.moment);
+    let (session, number, moment, alloc) = (call.session, call.number, call.moment, store.alloc());
     match &call.request {
-        Request::Stat(path) => Ok(stat(store, path)),
-        Request::SetStat(path, attrs) => set_stat(store, moment, path, attrs),
-        Request::Mkdir(path, attrs) => mkdir(store, number, moment, path, attrs),
-        Request::Rmdir(path) => Ok(rmdir(store, moment, path)),
-        Request::Remove(path) => Ok(remove(store, moment, path)),
-        Request::OpenDir(path) => open_directory(store, session, number, path),
-        Request::Open(path, flags, attrs) => {
-            open(store, session, number, moment, path, *flags, attrs)
+        Request::Stat(_) => Ok(twice(alloc, stat(store, located))),
+        Request::SetStat(path, attrs) => {
+            twice_ok(alloc, set_stat(store, moment, path, attrs, located))
         }
-        Request::Close(handle) => Ok(close(store, session, *handle)),
-        Request::FStat(handle) => Ok(stat_handle(store, session, *handle)),
+        Request::Mkdir(path, attrs) => {
+            twice_ok(alloc, mkdir(store, number, moment, path, attrs, located))
+        }
+        Request::Rmdir(path) => Ok(twice(alloc, rmdir(store, moment, path, located))),
+        Request::Remove(path) => Ok(twice(alloc, remove(store, moment, path, located))),
+        Request::OpenDir(_) => twice_ok(alloc, open_directory(store, session, number, located)),
+        Request::Open(path, flags, attrs) => {
+            let opened = open(store, session, number, moment, path, *flags, attrs, located);
+            twice_ok(alloc, opened)
+        }
+        Request::Close(handle) => Ok(twice(alloc, close(store, session, *handle))),
+        Request::FStat(handle) => Ok(twice(alloc, stat_handle(store, session, *handle))),
         Request::FSetStat(handle, attrs) => {
-            set_stat_handle(store, session, moment, *handle, attrs)
+            let set = set_stat_handle(store, session, moment, *handle, attrs);
+            twice_ok(alloc, set)
         }
         Request::Read {
             handle,
             offset,
             len,
-        } => read(store, session, *handle, *offset, *len),
+        } => read_twice(store, session, *handle, *offset, *len),
         Request::Write {
             handle,
             offset,
             data,
-        } => write(store, session, moment, *handle, *offset, data),
+        } => {
+            let written = write(store, session, moment, *handle, *offset, data);
+            twice_ok(alloc, written)
+        }
         Request::ReadDir(handle) => read_directory(store, session, *handle),
         Request::Rename(_, _) | Request::PosixRename(_, _) => {
-            Ok(Reply::Status(StatusCode::OpUnsupported))
+            Ok(twice(alloc, Reply::Status(StatusCode::OpUnsupported)))
         }
     }
+}
+
+/// A reply of neither bytes nor names, twice. Takes no memory.
+fn twice(alloc: Global, reply: Reply) -> (Reply, Reply)
+    requires { IsPlain reply }
+    ensures { result ≡ (reply, reply) }
+{
+    match reply.try_copy(alloc) {
+        Ok(copy) => (reply, copy),
+        Err(_) => unreachable!(),
+    }
+}
+
+fn twice_ok(alloc: Global, reply: Result<Reply, AllocError>) -> Result<(Reply, Reply), AllocError>
+    requires { IfOk reply IsPlain }
+    ensures { result ≡ result_map_both (λ r. (r, r)) (λ e. e) reply }
+{
+    match reply {
+        Ok(reply) => Ok(twice(alloc, reply)),
+        Err(error) => Err(error),
+    }
+}
+
+/// READ, whose reply is copied while it is still the only one.
+fn read_twice(
+    store: &Store,
+    session: u64,
+    number: u64,
+    offset: u64,
+    len: u32,
+) -> Result<(Reply, Reply), AllocError>
+    ensures served { (t : Tree) → Keeps store.now t → IfOk result (λ replies. replies.0 ≡ (read offset len (opened t session number)).reply) }
+    ensures copy { IfOk result (λ replies. replies.1 ≡ replies.0) }
+{
+    let reply = read(store, session, number, offset, len)?;
+    let copy = reply.try_copy(store.alloc())?;
+    Ok((reply, copy))
 }

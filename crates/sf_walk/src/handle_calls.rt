@@ -1,6 +1,7 @@
 //! Calls by handle.
 
 ghost use Rattle.std.specs.Prelude.{◌≡◌, ◌+◌, ◌<◌, ◌≤◌, ◌^◌, ℕ, nat_lt, if◌then◌else◌, List, length, take, drop, true, false, is_some, Some, IsOk, IfOk, OnOk, OnErr};
+ghost use Rattle.sf_reply.specs.Replies.{IsPlain};
 ghost use Rattle.sf_call.specs.declared.metadata.Metadata.{Metadata};
 ghost use Rattle.sf_call.specs.Attributes.{modified_at};
 ghost use Rattle.sf_call.specs.Attributes.Object.{File};
@@ -24,6 +25,7 @@ use std::alloc::AllocError;
 /// CLOSE.
 pub(crate) fn close(store: &mut Store, session: u64, number: u64) -> Reply
     ensures served { (t : Tree) → Keeps store.old t → IsServed store.new t (close number (handle_in t session number)) result }
+    ensures plain { IsPlain result }
     ensures look_ups { store.new.look_ups ≡ store.old.look_ups }
     ensures holders { HoldersStay store.old store.new }
 {
@@ -39,7 +41,8 @@ pub(crate) fn close(store: &mut Store, session: u64, number: u64) -> Reply
 /// FSTAT.
 #[tactic(auto, using(sf_keeps::proofs::Laws::found_node))]
 pub(crate) fn stat_handle(store: &Store, session: u64, number: u64) -> Reply
-    ensures { (t : Tree) → Keeps store.now t → result ≡ (stat_opened (opened t session number)).reply }
+    ensures served { (t : Tree) → Keeps store.now t → result ≡ (stat_opened (opened t session number)).reply }
+    ensures plain { IsPlain result }
 {
     match store.handle(session, number) {
         None => Reply::Status(StatusCode::Failure),
@@ -61,6 +64,7 @@ pub(crate) fn set_stat_handle(
     ensures served { (t : Tree) → Keeps store.old t → IfOk result (λ reply. IsServed store.new t (set_opened moment attrs.now (opened t session number)) reply) }
     ensures sure { is_some attrs.now.size ≡ false → IsOk result }
     ensures err { OnErr result (store.new ≡ store.old) }
+    ensures plain { IfOk result IsPlain }
     ensures look_ups { store.new.look_ups ≡ store.old.look_ups }
     ensures holders { HoldersStay store.old store.new }
 {
@@ -129,6 +133,7 @@ pub(crate) fn write(
 ) -> Result<Reply, AllocError>
     ensures served { (t : Tree) → Keeps store.old t → IfOk result (λ reply. IsServed store.new t (write moment offset bytes.now (opened t session number)) reply) }
     ensures err { OnErr result (store.new ≡ store.old) }
+    ensures plain { IfOk result IsPlain }
     ensures look_ups { store.new.look_ups ≡ store.old.look_ups }
     ensures holders { HoldersStay store.old store.new }
 {

@@ -7,9 +7,11 @@ mod handle_calls;
 mod listing;
 mod opening;
 mod path_calls;
+mod walking;
 
-pub use calls::from_root;
+pub use calls::{decide, from_root, path_of};
 pub use finding::{Located, locate};
+pub use walking::{Walk, advance};
 
 #[cfg(test)]
 mod tests;

@@ -17,30 +17,41 @@ use sf_path::Name;
 use sf_reply::{Entry, Listing, Reply, StatusCode, longname};
 use std::alloc::{AllocError, Global};
 
-/// READDIR. The last name that is given is remembered in the handle.
+/// READDIR: the reply twice, before the last name that is given is remembered in the handle.
 pub(crate) fn read_directory(
     store: &mut Store,
     session: u64,
     number: u64,
-) -> Result<Reply, AllocError>
-    ensures served { (t : Tree) → Keeps store.old t → IfOk result (λ reply. IsServed store.new t (read_directory t number (opened t session number)) reply) }
+) -> Result<(Reply, Reply), AllocError>
+    ensures served { (t : Tree) → Keeps store.old t → IfOk result (λ replies. IsServed store.new t (read_directory t number (opened t session number)) replies.0) }
+    ensures copy { IfOk result (λ replies. replies.1 ≡ replies.0) }
     ensures err { OnErr result (store.new ≡ store.old) }
     ensures look_ups { store.new.look_ups ≡ store.old.look_ups }
     ensures holders { HoldersStay store.old store.new }
 {
     let Some(handle) = store.handle(session, number) else {
-        return Ok(Reply::Status(StatusCode::Failure));
+        return Ok((
+            Reply::Status(StatusCode::Failure),
+            Reply::Status(StatusCode::Failure),
+        ));
     };
     if !store.is_directory(handle.node) {
-        return Ok(Reply::Status(StatusCode::Failure));
+        return Ok((
+            Reply::Status(StatusCode::Failure),
+            Reply::Status(StatusCode::Failure),
+        ));
     }
     let found = store.entries_after(handle.node, handle.listed.as_ref(), MAX_ENTRIES)?;
     let Some((last, _)) = found.last() else {
-        return Ok(Reply::Status(StatusCode::EndOfFile));
+        return Ok((
+            Reply::Status(StatusCode::EndOfFile),
+            Reply::Status(StatusCode::EndOfFile),
+        ));
     };
-    let entries = entries_of(store, &found)?;
+    let entries = Reply::Names(Listing::from_vec(entries_of(store, &found)?));
+    let copy = entries.try_copy(store.alloc())?;
     store.listed(session, number, last)?;
-    Ok(Reply::Names(Listing::from_vec(entries)))
+    Ok((entries, copy))
 }
 
 /// The entries as they are listed. A name that leads to no node is left out.

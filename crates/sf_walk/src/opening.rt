@@ -2,6 +2,7 @@
 
 ghost use Rattle.std.specs.Prelude.{◌≡◌, ℕ, ◌<◌, List, [], ◌∷◌, ◌++◌, length, Some, None, true, IfOk, OnOk, OnErr};
 ghost use Rattle.sf_path.specs.Names.{Path};
+ghost use Rattle.sf_reply.specs.Replies.{IsPlain};
 ghost use Rattle.sf_call.specs.declared.metadata.FileType.TheVariants as file_type;
 ghost use Rattle.sf_call.specs.declared.metadata.Metadata.{Metadata};
 ghost use Rattle.sf_call.specs.declared.place.Place.TheVariants.{Absent};
@@ -16,11 +17,11 @@ ghost use Rattle.sf_inode.specs.declared.node.Node.{Node};
 ghost use Rattle.sf_inode.specs.Stores.{StoreState, node_in, entry_of, shown_of, is_directory_at, stored_of, stored_set};
 ghost use Rattle.sf_keeps.specs.Steps.{walk};
 ghost use Rattle.sf_keeps.specs.Keeps.{Keeps};
-ghost use Rattle.sf_walk.specs.Ways.{last_of, found_node};
+ghost use Rattle.sf_walk.specs.Ways.{last_of, found_node, way_from};
 ghost use Rattle.sf_walk.specs.Opening.{marks_of, OpenedNew};
-ghost use Rattle.sf_walk.specs.Served.{IsServed, IsAlike, LooksUp, HoldersStay, IsNewNumber};
+ghost use Rattle.sf_walk.specs.Served.{IsServed, IsAlike, HoldersStay, NodesStay, IsNewNumber};
 
-use crate::finding::{Located, locate};
+use crate::finding::Located;
 use crate::path_calls::insert_last;
 use sf_call::{FileType, MAX_HANDLES, Metadata};
 use sf_field::{Attrs, OpenFlags};
@@ -58,14 +59,16 @@ pub(crate) fn open_directory(
     store: &mut Store,
     session: u64,
     number: u64,
-    path: &Path,
+    located: Located,
 ) -> Result<Reply, AllocError>
-    ensures served { (t : Tree) → Keeps store.old t → IsNewNumber t number → IfOk result (λ reply. IsServed store.new t (open_directory t session number (found_at t path.now)) reply) }
+    ensures served { (t : Tree) (path : Path) → Keeps store.old t → IsNewNumber t number → located ≡ way_from store.old.nodes store.old.root store.old.root path
+        → IfOk result (λ reply. IsServed store.new t (open_directory t session number (found_at t path)) reply) }
     ensures err { OnErr result (IsAlike store.old store.new) }
-    ensures look_ups { LooksUp store.old store.new (length path.now) }
+    ensures plain { IfOk result IsPlain }
+    ensures look_ups { store.new.look_ups ≡ store.old.look_ups }
     ensures holders { HoldersStay store.old store.new }
 {
-    match locate(store, path) {
+    match located {
         Located::NoWay => Ok(Reply::Status(StatusCode::NoSuchFile)),
         Located::Missing { parent: _ } => Ok(Reply::Status(StatusCode::NoSuchFile)),
         Located::At { parent: _, node } => open_listing(store, session, number, node),
@@ -81,6 +84,7 @@ fn open_listing(
 ) -> Result<Reply, AllocError>
     ensures served { (t : Tree) (it : Node) → Keeps store.old t → IsNewNumber t number → node_in store.old.nodes node ≡ Some it → IfOk result (λ reply. IsServed store.new t (open_directory t session number (found_node it)) reply) }
     ensures err { OnErr result (store.new ≡ store.old) }
+    ensures plain { IfOk result IsPlain }
     ensures look_ups { store.new.look_ups ≡ store.old.look_ups }
     ensures holders { HoldersStay store.old store.new }
 {
@@ -103,16 +107,19 @@ pub(crate) fn open(
     path: &Path,
     flags: OpenFlags,
     attrs: &Attrs,
+    located: Located,
 ) -> Result<Reply, AllocError>
+    requires { located ≡ way_from store.old.nodes store.old.root store.old.root path.now }
     ensures served { (t : Tree) → Keeps store.old t → IsNewNumber t number → IfOk result (λ reply. IsServed store.new t (unless_root path.now (open_file t session number moment path.now flags attrs.now (place_at t path.now))) reply) }
     ensures err { OnErr result (IsAlike store.old store.new) }
-    ensures look_ups { LooksUp store.old store.new (length path.now) }
-    ensures holders { HoldersStay store.old store.new }
+    ensures plain { IfOk result IsPlain }
+    ensures look_ups { store.new.look_ups ≡ store.old.look_ups }
+    ensures holders { NodesStay number store.old store.new }
 {
     if path.is_root() {
         return Ok(Reply::Status(StatusCode::Failure));
     }
-    match locate(store, path) {
+    match located {
         Located::NoWay => Ok(Reply::Status(StatusCode::NoSuchFile)),
         Located::Missing { parent } => {
             open_absent(store, session, number, moment, parent, path, flags, attrs)
@@ -137,6 +144,7 @@ fn open_present(
 ) -> Result<Reply, AllocError>
     ensures served { (t : Tree) (it : Node) → Keeps store.old t → IsNewNumber t number → node_in store.old.nodes node ≡ Some it → IfOk result (λ reply. IsServed store.new t (open_present t session number moment flags (found_node it)) reply) }
     ensures err { OnErr result (store.new ≡ store.old) }
+    ensures plain { IfOk result IsPlain }
     ensures look_ups { store.new.look_ups ≡ store.old.look_ups }
     ensures holders { HoldersStay store.old store.new }
 {
@@ -190,8 +198,9 @@ fn open_absent(
     ensures served { (t : Tree) (front : Path) → Keeps store.old t → IsNewNumber t number → path.now ≡ front ++ last_of path.now ∷ [] → walk (entry_of store.old.nodes) store.old.root front ≡ Some parent
         → IfOk result (λ reply. IsServed store.new t (open_file t session number moment path.now flags attrs.now Absent) reply) }
     ensures err { OnErr result (IsAlike store.old store.new) }
+    ensures plain { IfOk result IsPlain }
     ensures look_ups { store.new.look_ups ≡ store.old.look_ups }
-    ensures holders { (before : StoreState) → store.old.nodes ≡ before.nodes → HoldersStay before store.new }
+    ensures holders { (before : StoreState) → store.old.nodes ≡ before.nodes → NodesStay number before store.new }
 {
     if !flags.create {
         return Ok(Reply::Status(StatusCode::NoSuchFile));

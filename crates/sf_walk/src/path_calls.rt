@@ -1,6 +1,8 @@
 //! Calls on paths, but those that open.
 
 ghost use Rattle.std.specs.Prelude.{◌≡◌, ◌<◌, ℕ, true, false, is_some, length, Some, IsOk, IfOk, OnErr};
+ghost use Rattle.sf_path.specs.Names.{Path};
+ghost use Rattle.sf_reply.specs.Replies.{IsPlain};
 ghost use Rattle.sf_call.specs.Attributes.{modified_at};
 ghost use Rattle.sf_call.specs.Tree.{Tree, found_at, place_at};
 ghost use Rattle.sf_call.specs.Calls.{stat, set_stat, sets, make_directory, remove_directory, remove_file, goes, unless_root};
@@ -12,9 +14,9 @@ ghost use Rattle.sf_inode.specs.Stores.{Inserted, node_in, is_bare_at, edited, u
 ghost use Rattle.sf_keeps.specs.Keeps.{Keeps};
 ghost use Rattle.sf_walk.specs.declared.finding.Located.TheVariants.{At};
 ghost use Rattle.sf_walk.specs.Ways.{last_of, way_from};
-ghost use Rattle.sf_walk.specs.Served.{IsServed, IsAlike, LooksUp, HoldersStay, IsNewNumber};
+ghost use Rattle.sf_walk.specs.Served.{IsServed, IsAlike, HoldersStay, NodesStay, IsNewNumber};
 
-use crate::finding::{Located, locate};
+use crate::finding::Located;
 use sf_call::{FileType, MAX_FILE_SIZE, Metadata};
 use sf_field::Attrs;
 use sf_inode::{NewNode, NodeId, Store};
@@ -23,12 +25,11 @@ use sf_reply::{Reply, StatusCode};
 use std::alloc::AllocError;
 
 /// STAT.
-pub(crate) fn stat(store: &mut Store, path: &Path) -> Reply
-    ensures served { (t : Tree) → Keeps store.old t → IsServed store.new t (stat (found_at t path.now)) result }
-    ensures look_ups { LooksUp store.old store.new (length path.now) }
-    ensures holders { HoldersStay store.old store.new }
+pub(crate) fn stat(store: &Store, located: Located) -> Reply
+    ensures served { (t : Tree) (path : Path) → Keeps store.now t → located ≡ way_from store.now.nodes store.now.root store.now.root path → IsServed store.now t (stat (found_at t path)) result }
+    ensures plain { IsPlain result }
 {
-    match locate(store, path) {
+    match located {
         Located::NoWay => Reply::Status(StatusCode::NoSuchFile),
         Located::Missing { parent: _ } => Reply::Status(StatusCode::NoSuchFile),
         Located::At { parent: _, node } => match store.attrs(node) {
@@ -44,17 +45,20 @@ pub(crate) fn set_stat(
     moment: u32,
     path: &Path,
     attrs: &Attrs,
+    located: Located,
 ) -> Result<Reply, AllocError>
+    requires { located ≡ way_from store.old.nodes store.old.root store.old.root path.now }
     ensures served { (t : Tree) → Keeps store.old t → IfOk result (λ reply. IsServed store.new t (unless_root path.now (set_stat moment attrs.now (found_at t path.now))) reply) }
     ensures sure { is_some attrs.now.size ≡ false → IsOk result }
     ensures err { OnErr result (IsAlike store.old store.new) }
-    ensures look_ups { LooksUp store.old store.new (length path.now) }
+    ensures plain { IfOk result IsPlain }
+    ensures look_ups { store.new.look_ups ≡ store.old.look_ups }
     ensures holders { HoldersStay store.old store.new }
 {
     if path.is_root() {
         return Ok(Reply::Status(StatusCode::Failure));
     }
-    match locate(store, path) {
+    match located {
         Located::NoWay => Ok(Reply::Status(StatusCode::NoSuchFile)),
         Located::Missing { parent: _ } => Ok(Reply::Status(StatusCode::NoSuchFile)),
         Located::At { parent: _, node } => set_node(store, moment, node, attrs),
@@ -72,6 +76,7 @@ pub(crate) fn set_node(
     ensures served { (t : Tree) (it : Node) → Keeps store.old t → node_in store.old.nodes node ≡ Some it → IfOk result (λ reply. IsServed store.new t (sets moment it.label attrs.now (object_in it.metadata it.content)) reply) }
     ensures sure { is_some attrs.now.size ≡ false → IsOk result }
     ensures err { OnErr result (store.new ≡ store.old) }
+    ensures plain { IfOk result IsPlain }
     ensures look_ups { store.new.look_ups ≡ store.old.look_ups }
     ensures holders { HoldersStay store.old store.new }
 {
@@ -99,16 +104,19 @@ pub(crate) fn mkdir(
     moment: u32,
     path: &Path,
     attrs: &Attrs,
+    located: Located,
 ) -> Result<Reply, AllocError>
+    requires { located ≡ way_from store.old.nodes store.old.root store.old.root path.now }
     ensures served { (t : Tree) → Keeps store.old t → IsNewNumber t number → IfOk result (λ reply. IsServed store.new t (unless_root path.now (make_directory t number moment path.now attrs.now (place_at t path.now))) reply) }
     ensures err { OnErr result (IsAlike store.old store.new) }
-    ensures look_ups { LooksUp store.old store.new (length path.now) }
-    ensures holders { HoldersStay store.old store.new }
+    ensures plain { IfOk result IsPlain }
+    ensures look_ups { store.new.look_ups ≡ store.old.look_ups }
+    ensures holders { NodesStay number store.old store.new }
 {
     if path.is_root() {
         return Ok(Reply::Status(StatusCode::Failure));
     }
-    match locate(store, path) {
+    match located {
         Located::NoWay => Ok(Reply::Status(StatusCode::NoSuchFile)),
         Located::At { parent: _, node: _ } => Ok(Reply::Status(StatusCode::Failure)),
         Located::Missing { parent } => {
@@ -140,15 +148,17 @@ pub(crate) fn insert_last(
 }
 
 /// RMDIR.
-pub(crate) fn rmdir(store: &mut Store, moment: u32, path: &Path) -> Reply
+pub(crate) fn rmdir(store: &mut Store, moment: u32, path: &Path, located: Located) -> Reply
+    requires { located ≡ way_from store.old.nodes store.old.root store.old.root path.now }
     ensures served { (t : Tree) → Keeps store.old t → IsServed store.new t (unless_root path.now (remove_directory t moment path.now (found_at t path.now))) result }
-    ensures look_ups { LooksUp store.old store.new (length path.now) }
+    ensures plain { IsPlain result }
+    ensures look_ups { store.new.look_ups ≡ store.old.look_ups }
     ensures holders { HoldersStay store.old store.new }
 {
     if path.is_root() {
         return Reply::Status(StatusCode::Failure);
     }
-    match locate(store, path) {
+    match located {
         Located::NoWay => Reply::Status(StatusCode::NoSuchFile),
         Located::Missing { parent: _ } => Reply::Status(StatusCode::NoSuchFile),
         Located::At { parent, node } => {
@@ -165,15 +175,17 @@ pub(crate) fn rmdir(store: &mut Store, moment: u32, path: &Path) -> Reply
 }
 
 /// REMOVE.
-pub(crate) fn remove(store: &mut Store, moment: u32, path: &Path) -> Reply
+pub(crate) fn remove(store: &mut Store, moment: u32, path: &Path, located: Located) -> Reply
+    requires { located ≡ way_from store.old.nodes store.old.root store.old.root path.now }
     ensures served { (t : Tree) → Keeps store.old t → IsServed store.new t (unless_root path.now (remove_file t moment path.now (found_at t path.now))) result }
-    ensures look_ups { LooksUp store.old store.new (length path.now) }
+    ensures plain { IsPlain result }
+    ensures look_ups { store.new.look_ups ≡ store.old.look_ups }
     ensures holders { HoldersStay store.old store.new }
 {
     if path.is_root() {
         return Reply::Status(StatusCode::Failure);
     }
-    match locate(store, path) {
+    match located {
         Located::NoWay => Reply::Status(StatusCode::NoSuchFile),
         Located::Missing { parent: _ } => Reply::Status(StatusCode::NoSuchFile),
         Located::At { parent, node } => {

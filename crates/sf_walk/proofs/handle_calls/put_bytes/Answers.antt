@@ -19,6 +19,6 @@ returns-clause-tree c = λ t label m contents h shows.
 pub returns-clause-holders : goal.returns-clause-holders
 returns-clause-holders c =
     let stays = HoldersStay c.args.store.now in
-    subst stays (sym c.touch.ensures) (stays_edited (with_metadata (modified_at c.args.moment)) (λ node. refl) c.args.store.now c.write.new.self c.args.node
+    subst stays (sym c.touch.ensures) (stays_edited (with_metadata (modified_at c.args.moment)) (λ node. (refl, refl)) c.args.store.now c.write.new.self c.args.node
     (subst stays (sym c.write.ensures) (stays_stored c.args.store.now c.reserve_for.new.self c.args.node _
     (subst stays (sym c.in_ok-reserve_for.ensures.ok) (stays_stored c.args.store.now c.args.store.now c.args.node _ (stays_same c.args.store.now c.args.store.now refl))))))

@@ -16,5 +16,5 @@ pub returns-clause-holders : goal.returns-clause-holders
 returns-clause-holders c = λ before h.
     let f = with_content (with_stored (record (with_room (stored_of c.args.store.now.nodes c.args.node) 0 0) { bytes = [] })) in
     subst (HoldersStay before) (sym c.touch.ensures)
-    (stays_edited (with_metadata (modified_at c.args.moment)) (λ node. refl) before c.cut.new.store c.args.node
-    (subst (HoldersStay before) (sym c.cut.ensures) (stays_edited f (λ node. refl) before c.args.store.now c.args.node h)))
+    (stays_edited (with_metadata (modified_at c.args.moment)) (λ node. (refl, refl)) before c.cut.new.store c.args.node
+    (subst (HoldersStay before) (sym c.cut.ensures) (stays_edited f (λ node. (refl, refl)) before c.args.store.now c.args.node h)))

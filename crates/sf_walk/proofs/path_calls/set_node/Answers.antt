@@ -9,6 +9,12 @@ use Rattle.sf_walk.proofs.path_calls.set_node.Goals as goal
 pub returns-in-None-clause-served : goal.returns-in-None-clause-served
 returns-in-None-clause-served c = λ t it h at. set_plain c.args.store.now c.set.new.self t c.args.node c.args.moment c.args.attrs.now it h at c.in-None.is c.set.ensures
 
+pub returns-in-None-clause-holders : goal.returns-in-None-clause-holders
+returns-in-None-clause-holders c =
+    subst (HoldersStay c.args.store.now) (sym c.set.ensures)
+    (stays_edited (with_metadata (λ m. with_parts m c.args.attrs.now)) (λ node. (refl, refl)) c.args.store.now c.args.store.now c.args.node
+    (stays_same c.args.store.now c.args.store.now refl))
+
 pub returns-in_ok-set_len-in-Some-clause-served : goal.returns-in_ok-set_len-in-Some-clause-served
 returns-in_ok-set_len-in-Some-clause-served c = λ t it h at.
     set_sized c.args.store.now c.set_len.new.self c.touch.new.self c.set-in-Some.new.self t c.args.node c.args.moment c.in-Some.size c.args.attrs.now it h at
@@ -17,6 +23,6 @@ returns-in_ok-set_len-in-Some-clause-served c = λ t it h at.
 pub returns-in_ok-set_len-in-Some-clause-holders : goal.returns-in_ok-set_len-in-Some-clause-holders
 returns-in_ok-set_len-in-Some-clause-holders c =
     let stays = HoldersStay c.args.store.now in
-    subst stays (sym c.set-in-Some.ensures) (stays_edited (with_metadata (λ m. with_parts m c.args.attrs.now)) (λ node. refl) c.args.store.now c.touch.new.self c.args.node
-    (subst stays (sym c.touch.ensures) (stays_edited (with_metadata (modified_at c.args.moment)) (λ node. refl) c.args.store.now c.set_len.new.self c.args.node
+    subst stays (sym c.set-in-Some.ensures) (stays_edited (with_metadata (λ m. with_parts m c.args.attrs.now)) (λ node. (refl, refl)) c.args.store.now c.touch.new.self c.args.node
+    (subst stays (sym c.touch.ensures) (stays_edited (with_metadata (modified_at c.args.moment)) (λ node. (refl, refl)) c.args.store.now c.set_len.new.self c.args.node
     (subst stays (sym c.in_ok-set_len-in-Some.ensures.ok) (stays_stored c.args.store.now c.args.store.now c.args.node _ (stays_same c.args.store.now c.args.store.now refl))))))

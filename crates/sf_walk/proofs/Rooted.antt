@@ -1,0 +1,38 @@
+-- What a call does after its path was walked, it does from the root.
+use Rattle.std.specs.Prelude.{◌≡◌, ◌⊎◌, ℕ, Option, Some, None, IfOk, Ok, Err}
+use Rattle.std.specs.declared.result.Result.{Result}
+use Rattle.std.specs.Result.{result_map_both}
+use Rattle.std.proofs.Common.{sym, subst, ◌∙◌, inl, inr}
+use Rattle.sf_path.specs.Names.{Path}
+use Rattle.sf_reply.specs.declared.reply.Reply.{Reply}
+use Rattle.sf_call.specs.Tree.{Tree}
+use Rattle.sf_call.specs.Calls.{Answer}
+use Rattle.sf_inode.specs.Stores.{StoreState}
+use Rattle.sf_walk.specs.declared.finding.Located.{Located}
+use Rattle.sf_walk.specs.Ways.{IsWay}
+use Rattle.sf_walk.specs.Served.{LookedUp, IsAlike, IsRefused, IsServed}
+use Rattle.sf_walk.proofs.Looked.{way_looked}
+use Rattle.sf_walk.proofs.Holders.{alike_looked}
+
+pub located_after : (old mid : StoreState) (most : ℕ) (o : Option Path) (l : Located) → LookedUp old mid most → IsWay old o l → IsWay mid o l
+located_after old mid most None l looked h = tt
+located_after old mid most (Some p) l looked h = sym (way_looked old mid p most l looked h)
+
+alike_trans : (old mid new : StoreState) → IsAlike old mid → IsAlike mid new → IsAlike old new
+alike_trans old mid new a b = record { nodes = λ id. b.nodes id ∙ a.nodes id; root = b.root ∙ a.root; sessions = b.sessions ∙ a.sessions }
+
+pub refused_after : (old mid new : StoreState) (most : ℕ) (t : Tree) (given : Reply) → LookedUp old mid most → IsRefused mid new t given → IsRefused old new t given
+refused_after old mid new most t given looked h = record { told = h.told; alike = alike_trans old mid new (alike_looked old mid most looked) h.alike; tree = h.tree }
+
+pub served_after : (old mid new : StoreState) (most : ℕ) (t : Tree) (answer : Answer) (given : Reply) → LookedUp old mid most
+    → IsRefused mid new t given ⊎ IsServed new t answer given → IsRefused old new t given ⊎ IsServed new t answer given
+served_after old mid new most t answer given looked (inl h) = inl (refused_after old mid new most t given looked h)
+served_after old mid new most t answer given looked (inr h) = inr h
+
+-- a reply twice is a reply and its copy
+pub twice_copies : {E : Type 0} (r : Result Reply E) (both : Result (Reply × Reply) E) → both ≡ result_map_both {U = Reply × Reply} (λ (x : Reply). (x, x)) (λ (e : E). e) r → IfOk {T = Reply × Reply} both (λ p. p.1 ≡ p.0)
+twice_copies {E} r both e = subst (λ (b : Result (Reply × Reply) E). IfOk {T = Reply × Reply} b (λ p. p.1 ≡ p.0)) (sym e) (copies r)
+  where
+    copies : (r : Result Reply E) → IfOk {T = Reply × Reply} (result_map_both {U = Reply × Reply} (λ (x : Reply). (x, x)) (λ (e : E). e) r) (λ p. p.1 ≡ p.0)
+    copies (Ok x) = λ i. x
+    copies (Err e) = tt
