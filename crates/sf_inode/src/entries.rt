@@ -1,6 +1,6 @@
 //! The entries of a directory.
 
-ghost use Rattle.std.specs.Prelude.{◌≡◌, [], take, IfOk, OnOk, OnErr};
+ghost use Rattle.std.specs.Prelude.{◌≡◌, [], take, IsOk, IfOk, OnOk, OnErr};
 ghost use Rattle.std.specs.Option.{option_copied};
 ghost use Rattle.std.specs.Map.{lookup, remove_entry};
 ghost use Rattle.std.specs.BTreeMap.{insert_entry};
@@ -80,7 +80,8 @@ impl Entries {
         last: Option<&Name>,
         most: usize,
     ) -> Result<Vec<(Name, NodeId)>, AllocError>
-        ensures { IfOk result (λ found. found.items ≡ take most (entries_past (option_copied last.entry) self.now)) }
+        ensures ok { IfOk result (λ found. found.items ≡ take most (entries_past (option_copied last.entry) self.now)) }
+        ensures none_left { entries_past (option_copied last.entry) self.now ≡ [] → IsOk result }
     {
         let start = match last {
             None => Bound::Unbounded,

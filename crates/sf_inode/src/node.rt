@@ -1,6 +1,6 @@
 //! A file, or a directory with its entries.
 
-ghost use Rattle.std.specs.Prelude.{◌≡◌, ◌+◌, ◌<◌, ◌^◌, Some, None, if◌then◌else◌, length, take, drop, IsOk, IfOk, OnOk, OnErr};
+ghost use Rattle.std.specs.Prelude.{◌≡◌, ◌+◌, ◌<◌, ◌^◌, [], Some, None, if◌then◌else◌, length, take, drop, IsOk, IfOk, OnOk, OnErr};
 ghost use Rattle.std.specs.Option.{option_copied};
 ghost use Rattle.sf_field.specs.declared.attrs.Attrs.{Attrs};
 ghost use Rattle.sf_call.specs.Attributes.{attrs_of, with_parts, modified_at};
@@ -95,7 +95,8 @@ impl Node {
         last: Option<&Name>,
         most: usize,
     ) -> Result<Vec<(Name, NodeId)>, AllocError>
-        ensures { IfOk result (λ found. found.items ≡ take most (entries_past (option_copied last.entry) (entries_in self.now.content))) }
+        ensures ok { IfOk result (λ found. found.items ≡ take most (entries_past (option_copied last.entry) (entries_in self.now.content))) }
+        ensures none_left { entries_past (option_copied last.entry) (entries_in self.now.content) ≡ [] → IsOk result }
     {
         match &self.content {
             Content::Directory(entries) => entries.first_past(alloc, last, most),

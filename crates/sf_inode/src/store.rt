@@ -1,6 +1,6 @@
 //! The nodes, and what is open.
 
-ghost use Rattle.std.specs.Prelude.{◌≡◌, ℕ, ◌+◌, ◌<◌, ◌^◌, length, take, drop, Some, None, IsOk, IfOk, OnOk, OnErr, option_map};
+ghost use Rattle.std.specs.Prelude.{◌≡◌, ℕ, ◌+◌, ◌<◌, ◌^◌, [], length, take, drop, Some, None, IsOk, IfOk, OnOk, OnErr, option_map};
 ghost use Rattle.std.specs.Option.{option_map_or};
 ghost use Rattle.std.specs.declared.alloc.Global.{Global};
 ghost use Rattle.sf_call.specs.Attributes.{attrs_of, with_parts, modified_at};
@@ -481,14 +481,15 @@ impl Store {
     }
 
     /// The first entries of a directory whose names come after the last one that was given, so many at
-    /// most. Takes memory for these alone.
+    /// most. Takes memory for these alone, and none where none are left.
     pub fn entries_after(
         &self,
         dir: NodeId,
         last: Option<&Name>,
         most: usize,
     ) -> Result<Vec<(Name, NodeId)>, AllocError>
-        ensures { IfOk result (λ found. found.items ≡ take most (entries_past (option_copied last.entry) (entries_at self.now.nodes dir))) }
+        ensures ok { IfOk result (λ found. found.items ≡ take most (entries_past (option_copied last.entry) (entries_at self.now.nodes dir))) }
+        ensures none_left { entries_past (option_copied last.entry) (entries_at self.now.nodes dir) ≡ [] → IsOk result }
     {
         match self.nodes.get(dir) {
             Some(it) => it.first_past(self.alloc, last, most),

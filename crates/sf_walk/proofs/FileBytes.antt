@@ -26,7 +26,7 @@ use Rattle.sf_inode.specs.Nodes.{object_in, stored_in, with_stored, with_content
 use Rattle.sf_inode.specs.Stores.{StoreState, node_in, stored_of, stored_set, file_size, is_file_at, shown_of, shown_node, shown_handle, edited}
 use Rattle.sf_keeps.specs.Keeps.{Keeps}
 use Rattle.sf_keeps.proofs.Laws.{keeps_reserved, keeps_contents, keeps_file, object_again, edited_itself}
-use Rattle.sf_walk.specs.Served.{IsServed}
+use Rattle.sf_walk.specs.Served.{IsServed, is_success}
 use Rattle.sf_walk.proofs.Told.{tells_served}
 use Rattle.sf_walk.proofs.SetNodes.{shown_stored, stored_bytes}
 use Rattle.sf_walk.proofs.OpenHandles.{IsOpen, file_is}
@@ -131,6 +131,9 @@ module _ (s : StoreState) (t : Tree) (session number : ℕ) (h : OpenHandle) (o 
       counted ∙ ap (λ k. min (min len MAX_READ) (k - offset)) (size_is s.nodes h.node size e).1 ∙ ap (min (min len MAX_READ)) (sym (length-drop offset (stored_of s.nodes h.node).bytes)) in
       ap reply.Data (taken ∙ ap (λ k. take k rest) most ∙ take_min (min len MAX_READ) rest) ∙ sym (read_is offset len size e r less)
 
+  pub read_wants : (offset len size : ℕ) → Some size ≡ file_size s.nodes h.node → h.marks.read ≡ true → offset < size → is_success (read offset len (opened t session number)).reply ≡ true
+  read_wants offset len size e r less = ap is_success (read_is offset len size e r less)
+
   pub write_unmarked : (moment offset size : ℕ) (bytes : List ℕ) → Some size ≡ file_size s.nodes h.node → h.marks.write ≡ false → IsServed s t (write moment offset bytes (opened t session number)) (reply.Status PermissionDenied)
   write_unmarked moment offset size bytes e w =
       let f = open_file (size_is s.nodes h.node size e).0 in
@@ -152,6 +155,12 @@ module _ (s : StoreState) (t : Tree) (session number : ℕ) (h : OpenHandle) (o 
         let f = open_file (size_is s.nodes h.node size e).0 in
         tells_served s t (write moment offset bytes (opened t session number)) (reply.Status Failure)
         (ap (write moment offset bytes) f.1.1 ∙ write_past moment offset start bytes (shown_handle session h) f.0 (stored_of s.nodes h.node).bytes marked some starts (sym past)) o.keeps
+
+    pub write_wants : (moment : ℕ) → false ≡ nat_lt MAX_FILE_SIZE (start + length bytes) → is_success (write moment offset bytes (opened t session number)).reply ≡ true
+    write_wants moment past =
+        let f = open_file (size_is s.nodes h.node size e).0 in
+        ap (λ (a : Answer). is_success a.reply)
+        (ap (write moment offset bytes) f.1.1 ∙ write_within moment offset start bytes (shown_handle session h) f.0 (stored_of s.nodes h.node).bytes marked some starts (sym past))
 
     pub write_served : (new : StoreState) (moment : ℕ) → false ≡ nat_lt MAX_FILE_SIZE (start + length bytes)
         → ((u : Tree) (label : ℕ) (m : Metadata) (contents : List ℕ) → Keeps s u → shown_of s.nodes h.node ≡ Some (label, File m contents) → Keeps new (changed u (SetObject label (File (modified_at moment m) (written contents start bytes)))))

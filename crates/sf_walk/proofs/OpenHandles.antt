@@ -5,10 +5,8 @@ use Rattle.std.proofs.Common.{sym, ap, subst, ◌∙◌}
 use Rattle.sf_reply.specs.declared.reply.Reply.TheVariants as reply
 use Rattle.sf_reply.specs.declared.reply.StatusCode.TheVariants.{Success}
 use Rattle.sf_call.specs.declared.handle.Handle.{Handle}
-use Rattle.sf_call.specs.Tree.{Tree, object_of}
+use Rattle.sf_call.specs.Tree.{Tree}
 use Rattle.sf_call.specs.Handles.{handle_in, opened, opened_by, opened_object}
-use Rattle.sf_call.specs.Changes.{changed}
-use Rattle.sf_call.specs.Changes.Change.{CloseHandle}
 use Rattle.sf_call.specs.Calls.{close}
 use Rattle.sf_inode.specs.declared.node.Node.{Node}
 use Rattle.sf_inode.specs.declared.handle.OpenHandle.{OpenHandle}

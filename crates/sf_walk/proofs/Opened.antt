@@ -1,5 +1,5 @@
 -- What opening makes of the tree.
-use Rattle.std.specs.Prelude.{◌≡◌, ◌≢◌, ℕ, nat_eq, ◌+◌, ◌-◌, ◌^◌, ◌<◌, min, Bool, true, false, cond, not, ◌&&◌, List, [], ◌∷◌, ◌++◌, option_map, Option, Some, None, Result, IfOk, OnErr, refl}
+use Rattle.std.specs.Prelude.{◌≡◌, ◌≢◌, ℕ, nat_eq, ◌+◌, ◌-◌, ◌^◌, ◌<◌, min, Bool, true, false, cond, not, ◌&&◌, List, [], ◌∷◌, ◌++◌, option_map, Option, Some, None, Result, OnErr, refl}
 use Rattle.std.specs.Option.{option_map_or}
 use Rattle.std.proofs.Common.{sym, ap, subst, ◌∙◌, eqb-true}
 use Rattle.sf_path.specs.Names.{Name, Path}
@@ -15,11 +15,10 @@ use Rattle.sf_call.specs.declared.place.Place.{Place}
 use Rattle.sf_call.specs.declared.place.Place.TheVariants.{Absent}
 use Rattle.sf_call.specs.Attributes.{Object, new_metadata, modified_at}
 use Rattle.sf_call.specs.Attributes.Object.{Directory, File}
-use Rattle.sf_call.specs.Tree.{Tree, Found, handle_of, object_of, place_at, found_at, found_place, found_object}
+use Rattle.sf_call.specs.Tree.{Tree, Found, object_of, place_at, found_at, found_place, found_object}
 use Rattle.sf_call.specs.Changes.{changed, done, touched}
 use Rattle.sf_call.specs.Changes.Change.{SetObject, NewPath, OpenHandle}
 use Rattle.sf_call.specs.Calls.{Answer, refuses, opens, has_all_handles, directory_handle, file_handle, open_directory, open_present, open_file, unless_root}
-use Rattle.sf_block.specs.Contents.{Stored}
 use Rattle.sf_inode.specs.declared.node.Node.{Node}
 use Rattle.sf_inode.specs.declared.node.NewNode.{NewNode}
 use Rattle.sf_inode.specs.declared.node.Content.{Content}
@@ -28,20 +27,20 @@ use Rattle.sf_inode.specs.declared.handle.OpenHandle as open_handle
 use Rattle.sf_inode.specs.declared.handle.Marks.{Marks}
 use Rattle.sf_inode.specs.Nodes.{object_in, stored_in, new_node, is_directory_content, with_opened, with_metadata, with_content, with_stored}
 use Rattle.sf_keeps.specs.Steps.{walk}
-use Rattle.sf_inode.specs.Stores.{StoreState, node_in, entry_of, is_directory_at, shown_node, shown_of, shown_handle, edited, stored_set, handle_put, opened_at, opened}
+use Rattle.sf_inode.specs.Stores.{StoreState, node_in, entry_of, is_directory_at, shown_node, shown_of, edited, stored_set, handle_put, opened_at, opened}
 use Rattle.sf_keeps.specs.Keeps.{Keeps}
 use Rattle.sf_keeps.proofs.Laws.{keeps_opened, keeps_inserted, keeps_contents, keeps_file, object_again, inserted_alike}
 use Rattle.sf_walk.specs.Ways.{missing, way_from, last_of, found_content, found_node}
 use Rattle.sf_walk.specs.declared.finding.Located.TheVariants as located
 use Rattle.sf_walk.specs.Opening.{marks_of, OpenedNew}
-use Rattle.sf_walk.specs.Served.{IsServed, IsAlike, LookedUp, Stays, IsNewNumber}
+use Rattle.sf_walk.specs.Served.{IsServed, Gives, IsAlike, LookedUp, Stays, IsNewNumber, is_success}
 use Rattle.sf_walk.proofs.Holders.{put_nodes, stays_inserted, stays_opened, alike_looked}
 use Rattle.sf_walk.proofs.LookUps.{looked_nodes}
 use Rattle.sf_walk.proofs.Fits.{no_way, name_missing, node_at}
 use Rattle.sf_walk.proofs.Undone.{edited_node, edited_itself}
 use Rattle.sf_walk.proofs.Looked.{keeps_looked, way_looked, alike_after}
 use Rattle.sf_walk.proofs.LastNames.{last_is}
-use Rattle.sf_walk.proofs.Told.{tells_served, past_root, if_ok_map, on_err_map}
+use Rattle.sf_walk.proofs.Told.{tells_served, past_root, past_root_gives, on_err_map}
 use Rattle.sf_walk.proofs.Parents.{shown_directory, touches}
 use Rattle.sf_walk.proofs.PathCalls.{node_located}
 
@@ -80,6 +79,9 @@ module _ (t : Tree) (session number : ℕ) where
   listing_opens l m (content.Directory es) d e = ap (λ b. cond b (refuses Failure) (opens number (directory_handle session l) [])) e
   listing_opens l m (content.File contents) d e = cc
 
+  pub listing_wants : (it : Node) → is_directory_content it.content ≡ true → has_all_handles t session ≡ false → is_success (open_directory t session number (found_node it)).reply ≡ true
+  listing_wants it d e = ap (λ (a : Answer). is_success a.reply) (listing_opens it.label it.metadata it.content d e)
+
   pub listing_served : (s new : StoreState) (it : Node) (id : ℕ) → Keeps s t → IsNewNumber t number → number < 2 ^ 64 → node_in s.nodes id ≡ Some it → is_directory_content it.content ≡ true → has_all_handles t session ≡ false
       → new ≡ opened s session number id (record { read = false; write = false; append = false }) → IsServed new t (open_directory t session number (found_node it)) (reply.Handle number)
   listing_served s new it id k fresh fits at d e state =
@@ -95,6 +97,11 @@ module _ (t : Tree) (session number moment : ℕ) (flags : OpenFlags) where
   present_opens : (l : ℕ) (m : Metadata) (c : Content) (cuts : Bool) → is_directory_content c ≡ false → has_all_handles t session ≡ false → (flags.truncate && flags.write) ≡ cuts → open_present t session number moment flags (found_content l m c) ≡ opens_file l m false cuts
   present_opens l m (content.Directory es) cuts d e f = cc
   present_opens l m (content.File contents) cuts d e f = (λ i. opens_file l m (e i) (f i))
+
+  pub present_wants : (it : Node) → is_directory_content it.content ≡ false → has_all_handles t session ≡ false → is_success (open_present t session number moment flags (found_node it)).reply ≡ true
+  present_wants it d e =
+      ap (λ (a : Answer). is_success a.reply) (present_opens it.label it.metadata it.content (flags.truncate && flags.write) d e refl)
+      ∙ elim (flags.truncate && flags.write) as (λ b. is_success (opens_file it.label it.metadata false b).reply ≡ true) [ true ↦ refl | false ↦ refl ]
 
   pub present_served : (s new : StoreState) (it : Node) (id : ℕ) → Keeps s t → IsNewNumber t number → number < 2 ^ 64 → node_in s.nodes id ≡ Some it → is_directory_content it.content ≡ false → has_all_handles t session ≡ false
       → (flags.truncate && flags.write) ≡ false → new ≡ opened s session number id (marks_of flags) → IsServed new t (open_present t session number moment flags (found_node it)) (reply.Handle number)
@@ -124,6 +131,9 @@ module _ (t : Tree) (session number moment : ℕ) (path : Path) (flags : OpenFla
 
   absent_is : (lacks full : Bool) → not flags.create ≡ lacks → has_all_handles t session ≡ full → open_file t session number moment path flags attrs Absent ≡ creates lacks full
   absent_is lacks full c f = λ i. creates (c i) (f i)
+
+  pub absent_wants : not flags.create ≡ false → has_all_handles t session ≡ false → is_success (open_file t session number moment path flags attrs Absent).reply ≡ true
+  absent_wants c f = ap (λ (a : Answer). is_success a.reply) (absent_is false false c f)
 
   pub absent_served : (s mid new : StoreState) (front : Path) (dir : ℕ) (metadata : Metadata)
       → Keeps s t → IsNewNumber t number → number < 2 ^ 64 → path ≡ front ++ last_of path ∷ [] → walk (entry_of s.nodes) s.root front ≡ Some dir → is_directory_at s.nodes dir ≡ true → entry_of s.nodes dir (last_of path) ≡ None
@@ -215,11 +225,11 @@ way_lacking (n ∷ p) nodes above x d =
 -- ---- what was located
 module _ (old mid : StoreState) (t : Tree) (p : Path) (most : ℕ) (looked : LookedUp old mid most) (h : Keeps old t) where
   pub listing_located : (session number : ℕ) (new : StoreState) (above y : ℕ) → {E : Type 0} → (r : Result Reply E) → located.At above y ≡ way_from old.nodes old.root old.root p
-      → ((it : Node) → node_in mid.nodes y ≡ Some it → IfOk r (λ reply. IsServed new t (open_directory t session number (found_node it)) reply))
-      → IfOk r (λ reply. IsServed new t (open_directory t session number (found_at t p)) reply)
+      → ((it : Node) → node_in mid.nodes y ≡ Some it → Gives new t (open_directory t session number (found_node it)) r)
+      → Gives new t (open_directory t session number (found_at t p)) r
   listing_located session number new above y {E} r e served =
       let w = node_located old mid t p most looked h above y e in
-      subst (λ (f : Found). IfOk r (λ reply. IsServed new t (open_directory t session number f) reply)) (sym w.1.1) (served w.0 w.1.0)
+      subst (λ (f : Found). Gives new t (open_directory t session number f) r) (sym w.1.1) (served w.0 w.1.0)
 
   module _ (session number moment : ℕ) (flags : OpenFlags) (attrs : Attrs) where
     abbrev answer : Place → Answer
@@ -232,15 +242,14 @@ module _ (old mid : StoreState) (t : Tree) (p : Path) (most : ℕ) (looked : Loo
         (tells_served mid t (answer (place_at t p)) (reply.Status NoSuchFile) (ap answer (no_way mid t k p (way_looked old mid p most located.NoWay looked e))) k)
 
     pub open_missing : (new : StoreState) (d : ℕ) → {E : Type 0} → (r : Result Reply E) → (p ≡ [] → ⊥) → located.Missing d ≡ way_from old.nodes old.root old.root p
-        → ((front : Path) → p ≡ front ++ last_of p ∷ [] → walk (entry_of mid.nodes) mid.root front ≡ Some d → IfOk r (λ reply. IsServed new t (answer Absent) reply))
-        → IfOk r (λ reply. IsServed new t (unless_root p (answer (place_at t p))) reply)
+        → ((front : Path) → p ≡ front ++ last_of p ∷ [] → walk (entry_of mid.nodes) mid.root front ≡ Some d → Gives new t (answer Absent) r)
+        → Gives new t (unless_root p (answer (place_at t p))) r
     open_missing new d {E} r ne e served =
         let k = keeps_looked old mid t most looked h in
         let f = name_missing mid t k p d (way_looked old mid p most (located.Missing d) looked e) in
         let last : last_of p ≡ f.1.1 = ap last_of f.1.2 ∙ last_is f.1.0 f.1.1 in
         let there : p ≡ f.1.0 ++ last_of p ∷ [] = f.1.2 ∙ ap (λ (m : Name). f.1.0 ++ m ∷ []) (sym last) in
-        let at_absent = subst (λ (place : Place). IfOk r (λ reply. IsServed new t (answer place) reply)) (sym f.0) (served f.1.0 there f.1.3) in
-        if_ok_map r (λ reply. IsServed new t (answer (place_at t p)) reply) (λ reply. IsServed new t (unless_root p (answer (place_at t p))) reply) (λ reply. past_root new t p (answer (place_at t p)) reply ne) at_absent
+        past_root_gives new t p (answer (place_at t p)) r ne (subst (λ (place : Place). Gives new t (answer place) r) (sym f.0) (served f.1.0 there f.1.3))
 
     pub open_exclusive : (above y : ℕ) → (p ≡ [] → ⊥) → located.At above y ≡ way_from old.nodes old.root old.root p → (flags.create && flags.exclusive) ≡ true → IsServed mid t (unless_root p (answer (place_at t p))) (reply.Status Failure)
     open_exclusive above y ne e both =
@@ -250,16 +259,15 @@ module _ (old mid : StoreState) (t : Tree) (p : Path) (most : ℕ) (looked : Loo
         past_root mid t p (answer (place_at t p)) (reply.Status Failure) ne (tells_served mid t (answer (place_at t p)) (reply.Status Failure) at_label k)
 
     pub open_located : (new : StoreState) (above y : ℕ) → {E : Type 0} → (r : Result Reply E) → (p ≡ [] → ⊥) → located.At above y ≡ way_from old.nodes old.root old.root p → (flags.create && flags.exclusive) ≡ false
-        → ((it : Node) → node_in mid.nodes y ≡ Some it → IfOk r (λ reply. IsServed new t (open_present t session number moment flags (found_node it)) reply))
-        → IfOk r (λ reply. IsServed new t (unless_root p (answer (place_at t p))) reply)
+        → ((it : Node) → node_in mid.nodes y ≡ Some it → Gives new t (open_present t session number moment flags (found_node it)) r)
+        → Gives new t (unless_root p (answer (place_at t p))) r
     open_located new above y {E} r ne e both served =
         let k = keeps_looked old mid t most looked h in
         let f = node_at mid t k p above y (way_looked old mid p most (located.At above y) looked e) in
         let is : found_object f.2.0.label (object_of t.objects f.2.0.label) ≡ found_node f.2.0 = sym (ap (found_place t.objects) f.2.2) ∙ f.2.3 in
         let at_label : answer (place_at t p) ≡ open_present t session number moment flags (found_node f.2.0) =
         ap answer f.2.2 ∙ ap (λ b. cond b (refuses Failure) (open_present t session number moment flags (found_object f.2.0.label (object_of t.objects f.2.0.label)))) both ∙ ap (open_present t session number moment flags) is in
-        if_ok_map r (λ reply. IsServed new t (answer (place_at t p)) reply) (λ reply. IsServed new t (unless_root p (answer (place_at t p))) reply) (λ reply. past_root new t p (answer (place_at t p)) reply ne)
-        (subst (λ (a : Answer). IfOk r (λ reply. IsServed new t a reply)) (sym at_label) (served f.2.0 f.2.1))
+        past_root_gives new t p (answer (place_at t p)) r ne (subst (λ (a : Answer). Gives new t a r) (sym at_label) (served f.2.0 f.2.1))
 
 -- ---- what a missing name's directory is after the look-ups
 pub missing_directory : (old mid : StoreState) (p : Path) (most d : ℕ) → LookedUp old mid most → located.Missing d ≡ way_from old.nodes old.root old.root p → is_directory_at mid.nodes d ≡ true

@@ -12,7 +12,7 @@ use Rattle.sf_call.specs.Attributes.{Object, modified_at, new_metadata}
 use Rattle.sf_call.specs.Attributes.Object.{Directory}
 use Rattle.sf_call.specs.Tree.{Tree, place_at, directory_at, object_of}
 use Rattle.sf_call.specs.Changes.{changed, done, touch, touched}
-use Rattle.sf_call.specs.Changes.Change.{SetObject, NewPath, GonePath}
+use Rattle.sf_call.specs.Changes.Change.{NewPath, GonePath}
 use Rattle.sf_call.specs.Calls.{Answer, make_directory, goes}
 use Rattle.sf_inode.specs.declared.node.Node.{Node}
 use Rattle.sf_inode.specs.declared.node.NewNode.{NewNode}
@@ -20,7 +20,7 @@ use Rattle.sf_inode.specs.declared.node.Content.{Content}
 use Rattle.sf_inode.specs.declared.node.Content.TheVariants as content
 use Rattle.sf_inode.specs.Nodes.{object_in, new_content, new_node, entry_in, is_directory_content, is_bare_content, with_metadata}
 use Rattle.sf_keeps.specs.Steps.{walk}
-use Rattle.sf_inode.specs.Stores.{StoreState, Inserted, node_in, entry_of, is_directory_at, is_bare_at, shown_of, shown_node, holder_of, edited, unlinked}
+use Rattle.sf_inode.specs.Stores.{StoreState, Inserted, node_in, entry_of, is_directory_at, is_bare_at, shown_of, shown_node, edited, unlinked}
 use Rattle.sf_keeps.specs.Keeps.{Keeps}
 use Rattle.sf_keeps.proofs.Laws.{directory_found, keeps_directory, keeps_inserted, keeps_unlinked, inserted_alike, unlinked_alike}
 use Rattle.sf_walk.specs.declared.finding.Located.TheVariants as located

@@ -1,5 +1,5 @@
 -- What calls on paths answer, case by case.
-use Rattle.std.specs.Prelude.{◌≡◌, ℕ, true, false, cond, if◌then◌else◌, List, [], option_map, Option, Some, None, IfOk, refl}
+use Rattle.std.specs.Prelude.{◌≡◌, ℕ, true, false, cond, if◌then◌else◌, List, [], option_map, Option, Some, None, refl}
 use Rattle.std.specs.Option.{option_map_or}
 use Rattle.std.specs.declared.result.Result.{Result}
 use Rattle.std.proofs.Common.{sym, ap, subst, ◌∙◌}
@@ -23,11 +23,11 @@ use Rattle.sf_keeps.specs.Keeps.{Keeps}
 use Rattle.sf_keeps.proofs.Laws.{bare_found}
 use Rattle.sf_walk.specs.declared.finding.Located.TheVariants as located
 use Rattle.sf_walk.specs.Ways.{way_from, found_content, found_node}
-use Rattle.sf_walk.specs.Served.{LookedUp, IsServed, Stays}
+use Rattle.sf_walk.specs.Served.{LookedUp, IsServed, Gives, Stays, is_success}
 use Rattle.sf_walk.proofs.Holders.{stays_looked, stays_edited, stays_unlinked}
 use Rattle.sf_walk.proofs.Fits.{no_way, name_missing, node_at}
 use Rattle.sf_walk.proofs.Looked.{keeps_looked, way_looked}
-use Rattle.sf_walk.proofs.Told.{tells_served, past_root, if_ok_map}
+use Rattle.sf_walk.proofs.Told.{tells_served, past_root_gives, past_root_wants}
 
 -- after look-ups an entry was taken out, and its directory modified
 pub stays_gone : {N : Option ℕ → ℕ → Type 0} (old mid new : StoreState) (most moment dir : ℕ) (n : Name) → LookedUp old mid most → new ≡ edited (with_metadata (modified_at moment)) (unlinked mid dir n) dir → Stays N old new
@@ -97,16 +97,21 @@ module _ (old mid : StoreState) (t : Tree) (p : Path) (most : ℕ) (looked : Loo
 
   -- what setting the node's attributes serves, the call serves
   pub set_stat_at : {E : Type 0} (new : StoreState) (moment : ℕ) (attrs : Attrs) (above y : ℕ) (result : Result Reply E) → (p ≡ [] → ⊥) → located.At above y ≡ way_from old.nodes old.root old.root p
-      → ((u : Tree) (it : Node) → Keeps mid u → node_in mid.nodes y ≡ Some it → IfOk result (λ r. IsServed new u (sets moment it.label attrs (object_in it.metadata it.content)) r))
-      → IfOk result (λ r. IsServed new t (unless_root p (set_stat moment attrs (found_at t p))) r)
+      → ((u : Tree) (it : Node) → Keeps mid u → node_in mid.nodes y ≡ Some it → Gives new u (sets moment it.label attrs (object_in it.metadata it.content)) result)
+      → Gives new t (unless_root p (set_stat moment attrs (found_at t p))) result
   set_stat_at new moment attrs above y result ne e served =
       let w = node_located above y e in
-      if_ok_map result (λ r. IsServed new t (sets moment w.0.label attrs (object_in w.0.metadata w.0.content)) r) (λ r. IsServed new t (unless_root p (set_stat moment attrs (found_at t p))) r)
-      (λ r got. past_root new t p (set_stat moment attrs (found_at t p)) r ne
-      (subst (λ (a : Answer). IsServed new t a r) (sym (ap (set_stat moment attrs) w.1.1 ∙ set_content moment attrs w.0.label w.0.metadata w.0.content)) got))
-      (served t w.0 mid_keeps w.1.0)
+      past_root_gives new t p (set_stat moment attrs (found_at t p)) result ne
+      (subst (λ (a : Answer). Gives new t a result) (sym (ap (set_stat moment attrs) w.1.1 ∙ set_content moment attrs w.0.label w.0.metadata w.0.content))
+      (served t w.0 mid_keeps w.1.0))
 
   -- ---- MKDIR
+  pub make_wants : (number moment : ℕ) (attrs : Attrs) (d : ℕ) → (p ≡ [] → ⊥) → located.Missing d ≡ way_from old.nodes old.root old.root p
+      → is_success (unless_root p (make_directory t number moment p attrs (place_at t p))).reply ≡ true
+  make_wants number moment attrs d ne e =
+      past_root_wants p (make_directory t number moment p attrs (place_at t p)) ne
+      (ap (λ place. is_success (make_directory t number moment p attrs place).reply) (name_missing mid t mid_keeps p d (way_looked old mid p most (located.Missing d) looked e)).0)
+
   pub make_no_way : (number moment : ℕ) (attrs : Attrs) → located.NoWay ≡ way_from old.nodes old.root old.root p → IsServed mid t (make_directory t number moment p attrs (place_at t p)) (reply.Status NoSuchFile)
   make_no_way number moment attrs e =
       tells_served mid t (make_directory t number moment p attrs (place_at t p)) (reply.Status NoSuchFile)

@@ -1,8 +1,8 @@
 -- What a call does after its path was walked, it does from the root.
-use Rattle.std.specs.Prelude.{◌≡◌, ◌⊎◌, ℕ, Option, Some, None, IfOk, Ok, Err}
+use Rattle.std.specs.Prelude.{◌≡◌, ◌⊎◌, ◌&&◌, Bool, true, false, ℕ, Option, Some, None, IfOk, Ok, Err}
 use Rattle.std.specs.declared.result.Result.{Result}
 use Rattle.std.specs.Result.{result_map_both}
-use Rattle.std.proofs.Common.{sym, subst, ◌∙◌, inl, inr}
+use Rattle.std.proofs.Common.{refl, sym, subst, ◌∙◌, inl, inr}
 use Rattle.sf_path.specs.Names.{Path}
 use Rattle.sf_reply.specs.declared.reply.Reply.{Reply}
 use Rattle.sf_call.specs.Tree.{Tree}
@@ -36,3 +36,8 @@ twice_copies {E} r both e = subst (λ (b : Result (Reply × Reply) E). IfOk {T =
     copies : (r : Result Reply E) → IfOk {T = Reply × Reply} (result_map_both {U = Reply × Reply} (λ (x : Reply). (x, x)) (λ (e : E). e) r) (λ p. p.1 ≡ p.0)
     copies (Ok x) = λ i. x
     copies (Err e) = tt
+
+-- memory was wanted, and so it may be told
+pub wanted_then : (takes told : Bool) → told ≡ true → (takes ≡ false → false ≡ true) → (takes && told) ≡ false → ⊥
+wanted_then true told e may sure = absurd (let x : ⊥ = cc in x)
+wanted_then false told e may sure = absurd (let w : false ≡ true = may refl in let x : ⊥ = cc in x)

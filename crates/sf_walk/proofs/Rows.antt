@@ -21,7 +21,7 @@ use Rattle.sf_inode.specs.Nodes.{object_in, entries_past, is_directory_content}
 use Rattle.sf_keeps.specs.Listed.{listed_entry}
 use Rattle.sf_inode.specs.Stores.{StoreState, entries_at, is_directory_at, shown_handle, handle_listed}
 use Rattle.sf_keeps.proofs.Laws.{label_listed, names_listed, keeps_listed}
-use Rattle.sf_walk.specs.Served.{IsServed}
+use Rattle.sf_walk.specs.Served.{IsServed, is_success}
 use Rattle.sf_walk.proofs.Told.{tells_served}
 use Rattle.sf_walk.proofs.OpenHandles.{IsOpen, directory_is}
 
@@ -48,6 +48,17 @@ last_there e (x ∷ xs) h = last_there x xs h
 pub no_rows : (es : List (Name × ℕ)) → slice_get es (length es - 1) ≡ None → es ≡ []
 no_rows [] h = refl
 no_rows (e ∷ es) h = absurd (last_there e es (ap (slice_get (e ∷ es)) (let k : length es ≡ length (e ∷ es) - 1 = omega arith in k) ∙ h))
+
+-- a list that isn't empty has a last row
+pub last_is_there : (es : List (Name × ℕ)) → (es ≡ [] → ⊥) → (last : Name) × (id : ℕ) × (slice_get es (length es - 1) ≡ Some (last, id))
+last_is_there es some = elim (slice_get es (length es - 1)) as (λ o. slice_get es (length es - 1) ≡ o → (last : Name) × (id : ℕ) × (o ≡ Some (last, id))) [
+  | None ↦ λ e. absurd (some (no_rows es e))
+  | Some row ↦ λ e. (row.0, row.1, refl)
+] refl
+
+pub some_are_taken : (es : List (Name × ℕ)) → (es ≡ [] → ⊥) → take MAX_ENTRIES es ≡ [] → ⊥
+some_are_taken [] some e = some refl
+some_are_taken (x ∷ es) some e = cc
 
 -- ---- READDIR
 list_content : (t : Tree) (number : ℕ) (h : Handle) (m : Metadata) (c : Content) → is_directory_content c ≡ true → read_directory t number (opened_object h (Some (object_in m c))) ≡ lists number h (listing_of t h.listed (path_of t.names h.label))
@@ -78,12 +89,20 @@ module _ (s : StoreState) (t : Tree) (session number : ℕ) (h : OpenHandle) (o 
         tells_served s t (read_directory t number (opened t session number)) (reply.Status EndOfFile)
         (answer_is ∙ ap (λ (es : List (Name × ℕ)). lists number (shown_handle session h) (filter_map (listed_entry s.nodes) es)) none) o.keeps
 
+    last_named : (last : Name) (id : ℕ) → slice_get rows (length rows - 1) ≡ Some (last, id) → last_name (filter_map (listed_entry s.nodes) rows) ≡ Some last
+    last_named last id end =
+        ap (λ (es : List (Name × ℕ)). last_name (filter_map (listed_entry s.nodes) es)) are ∙ ap (last_or None) (names_listed s t o.keeps h.node h.listed)
+        ∙ ap (λ (es : List (Name × ℕ)). last_or None (map (λ (e : Name × ℕ). e.0) es)) (sym are) ∙ last_of_rows rows last id end
+
+    pub list_wants : (last : Name) (id : ℕ) → slice_get rows (length rows - 1) ≡ Some (last, id) → is_success (read_directory t number (opened t session number)).reply ≡ true
+    list_wants last id end =
+        ap (λ (a : Answer). is_success a.reply)
+        (answer_is ∙ lists_last number (shown_handle session h) (filter_map (listed_entry s.nodes) rows) last (last_named last id end))
+
     pub list_served : (new : StoreState) (last : Name) (id : ℕ) (entries : List Entry) → slice_get rows (length rows - 1) ≡ Some (last, id) → entries ≡ filter_map (listed_entry s.nodes) rows
         → new ≡ handle_listed s session number last → IsServed new t (read_directory t number (opened t session number)) (reply.Names entries)
     list_served new last id entries end listed state =
-        let named : last_name entries ≡ Some last =
-        ap last_name (listed ∙ ap (λ (es : List (Name × ℕ)). filter_map (listed_entry s.nodes) es) are) ∙ ap (last_or None) (names_listed s t o.keeps h.node h.listed)
-        ∙ ap (λ (es : List (Name × ℕ)). last_or None (map (λ (e : Name × ℕ). e.0) es)) (sym are) ∙ last_of_rows rows last id end in
+        let named : last_name entries ≡ Some last = ap last_name listed ∙ last_named last id end in
         subst (λ (x : StoreState). IsServed x t (read_directory t number (opened t session number)) (reply.Names entries)) (sym state)
         (subst (λ (a : Answer). IsServed (handle_listed s session number last) t a (reply.Names entries))
         (sym (answer_is ∙ ap (lists number (shown_handle session h)) (sym listed) ∙ lists_last number (shown_handle session h) entries last named))

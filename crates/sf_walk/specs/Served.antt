@@ -1,12 +1,15 @@
 -- What a call does to the store.
-use Rattle.std.specs.Prelude.{◌≡◌, ℕ, zero, suc, ◌<◌, ◌≤◌, Bool, true, false, is_some, Option, Some, None}
+use Rattle.std.specs.Prelude.{◌≡◌, ℕ, zero, suc, ◌<◌, ◌≤◌, Bool, true, false, not, ◌&&◌, is_some, Option, Some, None, Ok, Err}
+use Rattle.std.specs.declared.result.Result.{Result}
 use Rattle.sf_reply.specs.declared.reply.Reply.{Reply}
 use Rattle.sf_reply.specs.declared.reply.Reply.TheVariants as reply
+use Rattle.sf_reply.specs.declared.reply.StatusCode.{StatusCode}
+use Rattle.sf_reply.specs.declared.reply.StatusCode.TheVariants.{Success}
 use Rattle.sf_call.specs.declared.request.Request.{Request}
 use Rattle.sf_call.specs.declared.request.Request.TheVariants as request
 use Rattle.sf_call.specs.Requests.{Wanted, wanted_by}
 use Rattle.sf_call.specs.Requests.Wanted.{StatusAlone, Attributes, NewHandle, Bytes, Entries}
-use Rattle.sf_call.specs.Tree.{Tree, object_of, handle_of}
+use Rattle.sf_call.specs.Tree.{Tree, object_of, handle_of, is_nil}
 use Rattle.sf_call.specs.Changes.{done}
 use Rattle.sf_call.specs.Calls.{Answer}
 use Rattle.sf_inode.specs.declared.node.Node.{Node}
@@ -69,18 +72,36 @@ pub record IsRefused (old new : StoreState) (t : Tree) (given : Reply) : Type 0 
   pub alike : IsAlike old new
   pub tree : Keeps new t
 
--- The requests that may want memory: what is told takes it, but for a status and attributes, and so does
--- what is made, and a file's bytes.
-abbrev pub takes_memory : Wanted → Bool
-takes_memory StatusAlone = false
-takes_memory Attributes = false
-takes_memory NewHandle = true
-takes_memory Bytes = true
-takes_memory Entries = true
+-- a status of another kind than success refuses; all other replies give what was asked
+abbrev pub is_good : StatusCode → Bool
+is_good Success = true
+is_good other = false
 
-abbrev pub may_want_memory : Request → Bool
-may_want_memory (request.Mkdir path attrs) = true
-may_want_memory (request.Write handle offset bytes) = true
-may_want_memory (request.SetStat path attrs) = is_some attrs.size
-may_want_memory (request.FSetStat handle attrs) = is_some attrs.size
-may_want_memory other = takes_memory (wanted_by other)
+abbrev pub is_success : Reply → Bool
+is_success (reply.Status code) = is_good code
+is_success other = true
+
+-- what a call is served; want of memory stands in place of success alone
+abbrev pub Gives : {E : Type 0} → StoreState → Tree → Answer → Result Reply E → Type 0
+Gives new t answer (Ok given) = IsServed new t answer given
+Gives new t answer (Err error) = is_success answer.reply ≡ true
+
+-- The requests that take memory where they succeed: what is told takes it, but for a status and attributes, and so
+-- does what is made, and a file's bytes.
+abbrev pub wants_room : Wanted → Bool
+wants_room StatusAlone = false
+wants_room Attributes = false
+wants_room NewHandle = true
+wants_room Bytes = true
+wants_room Entries = true
+
+abbrev pub takes_memory : Request → Bool
+takes_memory (request.Mkdir path attrs) = true
+takes_memory (request.Write handle offset bytes) = not (is_nil bytes)
+takes_memory (request.SetStat path attrs) = is_some attrs.size
+takes_memory (request.FSetStat handle attrs) = is_some attrs.size
+takes_memory other = wants_room (wanted_by other)
+
+-- want of memory may be told in place of this reply to the request
+abbrev pub may_want_memory : Request → Reply → Bool
+may_want_memory request told = takes_memory request && is_success told

@@ -1,6 +1,6 @@
 //! Whole calls, from the root or from where they decide.
 
-ghost use Rattle.std.specs.Prelude.{◌≡◌, ◌⊎◌, false, IfOk, IsOk, OnErr};
+ghost use Rattle.std.specs.Prelude.{◌≡◌, ◌⊎◌, true, false, IfOk, IsOk, OnErr};
 ghost use Rattle.std.specs.Option.{option_copied};
 ghost use Rattle.std.specs.Result.{result_map_both};
 ghost use Rattle.sf_reply.specs.Replies.{IsPlain};
@@ -9,7 +9,7 @@ ghost use Rattle.sf_call.specs.Handles.{opened};
 ghost use Rattle.sf_call.specs.Calls.{answer_to, read};
 ghost use Rattle.sf_keeps.specs.Keeps.{Keeps};
 ghost use Rattle.sf_walk.specs.Ways.{names_of, path_of, IsLocated};
-ghost use Rattle.sf_walk.specs.Served.{IsServed, IsRefused, IsAlike, LookedUp, LooksUp, NodesStay, IsNewNumber, may_want_memory};
+ghost use Rattle.sf_walk.specs.Served.{IsServed, IsRefused, IsAlike, LookedUp, LooksUp, NodesStay, IsNewNumber, is_success, takes_memory, may_want_memory};
 
 use crate::finding::{Located, locate};
 use crate::handle_calls::{close, read, set_stat_handle, stat_handle, write};
@@ -24,11 +24,12 @@ use std::alloc::{AllocError, Global};
 
 /// Answers a call whole, from the root on and without locks, whoever holds the nodes on its way. Its
 /// number is above 0, and no label and no handle of the tree. `NoMemory` changes nothing but the count
-/// of look-ups, and is never told where a call makes nothing, and neither gives nor takes bytes or names.
+/// of look-ups; it is told in place of success alone, and never where a call makes nothing, and neither
+/// gives nor takes bytes or names.
 pub fn from_root(store: &mut Store, call: &Call) -> Reply
     ensures served { (t : Tree) → Keeps store.old t → IsNewNumber t call.now.number
         → IsRefused store.old store.new t result ⊎ IsServed store.new t (answer_to t call.now.session call.now.number call.now.moment call.now.request) result }
-    ensures sure { may_want_memory call.now.request ≡ false → (t : Tree) → Keeps store.old t → IsNewNumber t call.now.number
+    ensures sure { (t : Tree) → Keeps store.old t → IsNewNumber t call.now.number → may_want_memory call.now.request (answer_to t call.now.session call.now.number call.now.moment call.now.request).reply ≡ false
         → IsServed store.new t (answer_to t call.now.session call.now.number call.now.moment call.now.request) result }
     ensures look_ups { LooksUp store.old store.new (names_of call.now.request) }
     ensures nodes { NodesStay call.now.number store.old store.new }
@@ -80,7 +81,7 @@ pub fn decide(store: &mut Store, call: &Call, located: Located) -> (Reply, Reply
     ensures served { (t : Tree) → Keeps store.old t → IsNewNumber t call.now.number
         → IsRefused store.old store.new t result.0 ⊎ IsServed store.new t (answer_to t call.now.session call.now.number call.now.moment call.now.request) result.0 }
     ensures copy { result.1 ≡ result.0 }
-    ensures sure { may_want_memory call.now.request ≡ false → (t : Tree) → Keeps store.old t → IsNewNumber t call.now.number
+    ensures sure { (t : Tree) → Keeps store.old t → IsNewNumber t call.now.number → may_want_memory call.now.request (answer_to t call.now.session call.now.number call.now.moment call.now.request).reply ≡ false
         → IsServed store.new t (answer_to t call.now.session call.now.number call.now.moment call.now.request) result.0 }
     ensures look_ups { store.new.look_ups ≡ store.old.look_ups }
     ensures nodes { NodesStay call.now.number store.old store.new }
@@ -100,7 +101,8 @@ fn answer(store: &mut Store, call: &Call, located: Located) -> Result<(Reply, Re
     ensures served { (t : Tree) → Keeps store.old t → IsNewNumber t call.now.number
         → IfOk result (λ replies. IsServed store.new t (answer_to t call.now.session call.now.number call.now.moment call.now.request) replies.0) }
     ensures copy { IfOk result (λ replies. replies.1 ≡ replies.0) }
-    ensures sure { may_want_memory call.now.request ≡ false → IsOk result }
+    ensures sure { takes_memory call.now.request ≡ false → IsOk result }
+    ensures wants { (t : Tree) → Keeps store.old t → IsNewNumber t call.now.number → OnErr result (is_success (answer_to t call.now.session call.now.number call.now.moment call.now.request).reply ≡ true) }
     ensures err { OnErr result (IsAlike store.old store.new) }
     ensures look_ups { store.new.look_ups ≡ store.old.look_ups }
     ensures nodes { NodesStay call.now.number store.old store.new }
@@ -177,6 +179,7 @@ fn read_twice(
     len: u32,
 ) -> Result<(Reply, Reply), AllocError>
     ensures served { (t : Tree) → Keeps store.now t → IfOk result (λ replies. replies.0 ≡ (read offset len (opened t session number)).reply) }
+    ensures wants { (t : Tree) → Keeps store.now t → OnErr result (is_success (read offset len (opened t session number)).reply ≡ true) }
     ensures copy { IfOk result (λ replies. replies.1 ≡ replies.0) }
 {
     let reply = read(store, session, number, offset, len)?;

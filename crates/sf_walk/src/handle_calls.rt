@@ -6,14 +6,14 @@ ghost use Rattle.sf_call.specs.declared.metadata.Metadata.{Metadata};
 ghost use Rattle.sf_call.specs.Attributes.{modified_at};
 ghost use Rattle.sf_call.specs.Attributes.Object.{File};
 ghost use Rattle.sf_block.specs.Contents.{written};
-ghost use Rattle.sf_call.specs.Tree.{Tree};
+ghost use Rattle.sf_call.specs.Tree.{Tree, is_nil};
 ghost use Rattle.sf_call.specs.Changes.{changed};
 ghost use Rattle.sf_call.specs.Changes.Change.{SetObject};
 ghost use Rattle.sf_call.specs.Handles.{handle_in, opened};
 ghost use Rattle.sf_call.specs.Calls.{close, stat_opened, set_opened, read, write};
 ghost use Rattle.sf_inode.specs.Stores.{stored_of, is_file_at, shown_of};
 ghost use Rattle.sf_keeps.specs.Keeps.{Keeps};
-ghost use Rattle.sf_walk.specs.Served.{IsServed, HoldersStay};
+ghost use Rattle.sf_walk.specs.Served.{IsServed, Gives, HoldersStay, is_success};
 
 use crate::path_calls::set_node;
 use sf_call::{MAX_FILE_SIZE, MAX_READ};
@@ -61,7 +61,7 @@ pub(crate) fn set_stat_handle(
     number: u64,
     attrs: &Attrs,
 ) -> Result<Reply, AllocError>
-    ensures served { (t : Tree) → Keeps store.old t → IfOk result (λ reply. IsServed store.new t (set_opened moment attrs.now (opened t session number)) reply) }
+    ensures served { (t : Tree) → Keeps store.old t → Gives store.new t (set_opened moment attrs.now (opened t session number)) result }
     ensures sure { is_some attrs.now.size ≡ false → IsOk result }
     ensures err { OnErr result (store.new ≡ store.old) }
     ensures plain { IfOk result IsPlain }
@@ -93,7 +93,8 @@ pub(crate) fn read(
     offset: u64,
     len: u32,
 ) -> Result<Reply, AllocError>
-    ensures { (t : Tree) → Keeps store.now t → IfOk result (λ reply. reply ≡ (read offset len (opened t session number)).reply) }
+    ensures told { (t : Tree) → Keeps store.now t → IfOk result (λ reply. reply ≡ (read offset len (opened t session number)).reply) }
+    ensures wants { (t : Tree) → Keeps store.now t → OnErr result (is_success (read offset len (opened t session number)).reply ≡ true) }
 {
     let Some(handle) = store.handle(session, number) else {
         return Ok(Reply::Status(StatusCode::Failure));
@@ -131,7 +132,8 @@ pub(crate) fn write(
     offset: u64,
     bytes: &ByteString,
 ) -> Result<Reply, AllocError>
-    ensures served { (t : Tree) → Keeps store.old t → IfOk result (λ reply. IsServed store.new t (write moment offset bytes.now (opened t session number)) reply) }
+    ensures served { (t : Tree) → Keeps store.old t → Gives store.new t (write moment offset bytes.now (opened t session number)) result }
+    ensures sure { is_nil bytes.now ≡ true → IsOk result }
     ensures err { OnErr result (store.new ≡ store.old) }
     ensures plain { IfOk result IsPlain }
     ensures look_ups { store.new.look_ups ≡ store.old.look_ups }

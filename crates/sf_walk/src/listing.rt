@@ -1,6 +1,6 @@
 //! Listing a directory.
 
-ghost use Rattle.std.specs.Prelude.{◌≡◌, Some, filter_map, IfOk, OnErr};
+ghost use Rattle.std.specs.Prelude.{true, ◌≡◌, Some, filter_map, IfOk, OnErr};
 ghost use Rattle.sf_reply.specs.Longname.{HasType, longname_text};
 ghost use Rattle.sf_call.specs.ReplyKinds.{HasAllParts};
 ghost use Rattle.sf_call.specs.Tree.{Tree};
@@ -8,7 +8,7 @@ ghost use Rattle.sf_call.specs.Handles.{opened};
 ghost use Rattle.sf_call.specs.Calls.{read_directory};
 ghost use Rattle.sf_keeps.specs.Listed.{listed_entry};
 ghost use Rattle.sf_keeps.specs.Keeps.{Keeps};
-ghost use Rattle.sf_walk.specs.Served.{IsServed, HoldersStay};
+ghost use Rattle.sf_walk.specs.Served.{IsServed, HoldersStay, is_success};
 
 use sf_call::MAX_ENTRIES;
 use sf_field::{Attrs, ByteString};
@@ -24,6 +24,7 @@ pub(crate) fn read_directory(
     number: u64,
 ) -> Result<(Reply, Reply), AllocError>
     ensures served { (t : Tree) → Keeps store.old t → IfOk result (λ replies. IsServed store.new t (read_directory t number (opened t session number)) replies.0) }
+    ensures wants { (t : Tree) → Keeps store.old t → OnErr result (is_success (read_directory t number (opened t session number)).reply ≡ true) }
     ensures copy { IfOk result (λ replies. replies.1 ≡ replies.0) }
     ensures err { OnErr result (store.new ≡ store.old) }
     ensures look_ups { store.new.look_ups ≡ store.old.look_ups }

@@ -14,7 +14,7 @@ ghost use Rattle.sf_inode.specs.Stores.{Inserted, node_in, is_bare_at, edited, u
 ghost use Rattle.sf_keeps.specs.Keeps.{Keeps};
 ghost use Rattle.sf_walk.specs.declared.finding.Located.TheVariants.{At};
 ghost use Rattle.sf_walk.specs.Ways.{last_of, way_from};
-ghost use Rattle.sf_walk.specs.Served.{IsServed, IsAlike, HoldersStay, NodesStay, IsNewNumber};
+ghost use Rattle.sf_walk.specs.Served.{IsServed, Gives, IsAlike, HoldersStay, NodesStay, IsNewNumber};
 
 use crate::finding::Located;
 use sf_call::{FileType, MAX_FILE_SIZE, Metadata};
@@ -48,7 +48,7 @@ pub(crate) fn set_stat(
     located: Located,
 ) -> Result<Reply, AllocError>
     requires { located ≡ way_from store.old.nodes store.old.root store.old.root path.now }
-    ensures served { (t : Tree) → Keeps store.old t → IfOk result (λ reply. IsServed store.new t (unless_root path.now (set_stat moment attrs.now (found_at t path.now))) reply) }
+    ensures served { (t : Tree) → Keeps store.old t → Gives store.new t (unless_root path.now (set_stat moment attrs.now (found_at t path.now))) result }
     ensures sure { is_some attrs.now.size ≡ false → IsOk result }
     ensures err { OnErr result (IsAlike store.old store.new) }
     ensures plain { IfOk result IsPlain }
@@ -73,7 +73,7 @@ pub(crate) fn set_node(
     node: NodeId,
     attrs: &Attrs,
 ) -> Result<Reply, AllocError>
-    ensures served { (t : Tree) (it : Node) → Keeps store.old t → node_in store.old.nodes node ≡ Some it → IfOk result (λ reply. IsServed store.new t (sets moment it.label attrs.now (object_in it.metadata it.content)) reply) }
+    ensures served { (t : Tree) (it : Node) → Keeps store.old t → node_in store.old.nodes node ≡ Some it → Gives store.new t (sets moment it.label attrs.now (object_in it.metadata it.content)) result }
     ensures sure { is_some attrs.now.size ≡ false → IsOk result }
     ensures err { OnErr result (store.new ≡ store.old) }
     ensures plain { IfOk result IsPlain }
@@ -107,7 +107,7 @@ pub(crate) fn mkdir(
     located: Located,
 ) -> Result<Reply, AllocError>
     requires { located ≡ way_from store.old.nodes store.old.root store.old.root path.now }
-    ensures served { (t : Tree) → Keeps store.old t → IsNewNumber t number → IfOk result (λ reply. IsServed store.new t (unless_root path.now (make_directory t number moment path.now attrs.now (place_at t path.now))) reply) }
+    ensures served { (t : Tree) → Keeps store.old t → IsNewNumber t number → Gives store.new t (unless_root path.now (make_directory t number moment path.now attrs.now (place_at t path.now))) result }
     ensures err { OnErr result (IsAlike store.old store.new) }
     ensures plain { IfOk result IsPlain }
     ensures look_ups { store.new.look_ups ≡ store.old.look_ups }

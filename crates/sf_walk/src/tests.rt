@@ -92,3 +92,60 @@ fn a_file_is_written_and_read(rt: HostRuntime) -> Result<(), Fail> {
     assert_eq!(rt; client.store.look_ups(), 8);
     Ok(())
 }
+
+#[test]
+fn paths_lead_somewhere(rt: HostRuntime) -> Result<(), Fail> {
+    let alloc = rt.alloc();
+    let store = Store::new(alloc)?;
+    let mut client = Client { store, number: 0 };
+    let mkdir = Request::Mkdir(path(alloc, b"/d")?, NO_ATTRS);
+    client.status(&rt, Ok(mkdir), StatusCode::Success);
+    let mut store = client.store;
+    let root = store.root();
+    let Located::At { parent, node } = locate(&mut store, &path(alloc, b"/d")?) else {
+        panic!(rt; "no directory");
+    };
+    assert_eq!(rt; parent, root);
+    let missing = Located::Missing { parent: node };
+    assert_eq!(rt; locate(&mut store, &path(alloc, b"/d/f")?), missing);
+    assert_eq!(rt; locate(&mut store, &path(alloc, b"/e/f")?), Located::NoWay);
+    Ok(())
+}
+
+#[test]
+fn a_call_takes_the_root(rt: HostRuntime) -> Result<(), Fail> {
+    let alloc = rt.alloc();
+    let mut store = Store::new(alloc)?;
+    let mut call = Call {
+        number: 1,
+        session: 1,
+        moment: 100,
+        request: Request::Stat(path(alloc, b"/d")?),
+        stage: Stage::Fresh,
+    };
+    let node = store.root();
+    let taken = Stage::At { walked: 0, node };
+    assert_eq!(rt; advance(&mut store, &call), Walk::Moved(taken));
+    assert_eq!(rt; store.holder(node), Some(1));
+    call.number = 2;
+    assert_eq!(rt; advance(&mut store, &call), Walk::Blocked(1));
+    Ok(())
+}
+
+#[test]
+fn a_decision_is_told_twice(rt: HostRuntime) -> Result<(), Fail> {
+    let alloc = rt.alloc();
+    let mut store = Store::new(alloc)?;
+    let call = Call {
+        number: 1,
+        session: 1,
+        moment: 100,
+        request: Request::Close(9),
+        stage: Stage::Fresh,
+    };
+    assert!(rt; path_of(&call.request).is_none());
+    match decide(&mut store, &call, Located::NoWay) {
+        (Reply::Status(StatusCode::Failure), Reply::Status(StatusCode::Failure)) => Ok(()),
+        replies => panic!(rt; "{replies:?}"),
+    }
+}

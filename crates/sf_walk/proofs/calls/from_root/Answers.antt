@@ -13,7 +13,7 @@ returns-clause-served c = λ t kept fresh.
     (c.decide-reply.ensures.served t (keeps_looked _ _ t _ c.find_way-located.ensures.looked kept) fresh)
 
 pub returns-clause-sure : goal.returns-clause-sure
-returns-clause-sure c = λ sure t kept fresh. c.decide-reply.ensures.sure sure t (keeps_looked _ _ t _ c.find_way-located.ensures.looked kept) fresh
+returns-clause-sure c = λ t kept fresh sure. c.decide-reply.ensures.sure t (keeps_looked _ _ t _ c.find_way-located.ensures.looked kept) fresh sure
 
 pub returns-clause-nodes : goal.returns-clause-nodes
 returns-clause-nodes c = stays_after c.args.store.now c.find_way-located.new.store c.decide-reply.new.store (names_of c.args.call.now.request) c.find_way-located.ensures.looked c.decide-reply.ensures.nodes

@@ -10,9 +10,9 @@ use Rattle.sf_walk.specs.Ways.{last_of}
 use Rattle.sf_walk.proofs.LookUps.{looked_nodes}
 use Rattle.sf_walk.proofs.Looked.{alike_after}
 use Rattle.sf_walk.proofs.LastNames.{not_root}
-use Rattle.sf_walk.proofs.Told.{past_root, on_err_any}
+use Rattle.sf_walk.proofs.Told.{past_root, on_err_any, gives_none}
 use Rattle.sf_walk.proofs.Parents.{make_served}
-use Rattle.sf_walk.proofs.PathCalls.{make_no_way, make_present}
+use Rattle.sf_walk.proofs.PathCalls.{make_wants, make_no_way, make_present}
 use Rattle.sf_walk.proofs.Holders.{stays_looked, stays_edited, stays_inserted}
 use Rattle.sf_walk.proofs.path_calls.mkdir.Goals as goal
 
@@ -22,6 +22,11 @@ returns-in_err-insert_last-in-Missing-clause-err c = on_err_any c.from_residual.
 pub returns-in_err-insert_last-in-Missing-clause-holders : goal.returns-in_err-insert_last-in-Missing-clause-holders
 returns-in_err-insert_last-in-Missing-clause-holders c =
     subst (λ (x : StoreState). NodesStay c.args.number c.args.store.now x) (sym c.in_err-insert_last-in-Missing.ensures.err) (stays_looked _ _ _ (looked_none c.args.store.now))
+
+pub returns-in_err-insert_last-in-Missing-clause-served : goal.returns-in_err-insert_last-in-Missing-clause-served
+returns-in_err-insert_last-in-Missing-clause-served c = λ t h fresh. gives_none _ _ _ c.from_residual.result c.from_residual.ensures.0
+    (make_wants _ _ t c.args.path.now _ (looked_none c.args.store.now) h c.args.number c.args.moment c.args.attrs.now c.in-Missing.parent
+    (not_root c.is_root.result c.args.path.now c.is_root.ensures c.if-is_root.false) (sym c.in-Missing.is ∙ c.requires))
 
 pub returns-in-NoWay-clause-served : goal.returns-in-NoWay-clause-served
 returns-in-NoWay-clause-served c = λ t h fresh.
