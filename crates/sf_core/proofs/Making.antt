@@ -1,7 +1,7 @@
 -- A whole step: the core stays sound, and what is told of it.
 use Rattle.std.specs.Prelude.{◌≡◌, ◌≢◌, ◌<◌, ◌≤◌, ◌+◌, ◌^◌, ℕ, zero, suc, false, List, [], ◌∷◌, ◌++◌, length, take, slice_get, option_map, option_and_then, Option, Some, None, is_some, refl}
 use Rattle.std.specs.Option.{option_map_or}
-use Rattle.std.proofs.Common.{sym, ap, subst, ◌∙◌, inl, inr, arith, add-one}
+use Rattle.std.proofs.Common.{sym, ap, subst, ◌∙◌, inl, inr, arith, add-one, append-nil}
 use Rattle.std.specs.Ordering.{nat_cmp}
 use Rattle.std.specs.List.{AllByRecursion}
 use Rattle.std.specs.List.Sorted.{IsStrictlySortedBy}
@@ -40,6 +40,7 @@ use Rattle.sf_walk.specs.declared.finding.Located.TheVariants as located
 use Rattle.sf_walk.specs.declared.walking.Walk.{Walk}
 use Rattle.sf_walk.specs.declared.walking.Walk.TheVariants as walked
 use Rattle.sf_walk.specs.Ways.{path_of}
+use Rattle.sf_walk.specs.Served.{may_want_memory}
 use Rattle.sf_walk.specs.Steps.{Waits, Decides as Ends_at, LeadsNowhere, MayDecideAt, IsFreeAt, IsOnWay, next_of}
 use Rattle.sf_core.proofs.LookUps.{looked_nodes, looked_between}
 use Rattle.sf_core.specs.Lanes.{LaneView}
@@ -300,9 +301,6 @@ module _ (p : PartsView) (history : List Record) (sound : Sound p history) (lane
           undecided = no_reply c;
           new_number = subst (λ k. IsNewNumber k history) (sym number_is) call_sound.new_number;
           way = may_by p.store (replay history) sound.keeps (path_of c.request) c.stage (λ path k node a b. way_of path k node (path_of c.request) c.stage (ap (option_map standing_of) at_it) call_sound.short a b) at_end.may;
-          sure = λ m is.
-              let s = fin_mid.sure m (replay history) sound_mid.keeps (new_to (with_store p q.store) history c.number c sound_mid (sound_mid.calls c.number c at_mid)) in
-              never_wants (replay history) c.session c.number c.moment c.request (sym s.told ∙ is);
           helped = [];
           order = record {
             records = nobody p.calls c.number (moved_by (answer_to (replay history) c.session c.number c.moment c.request).changes)
@@ -310,6 +308,10 @@ module _ (p : PartsView) (history : List Record) (sound : Sound p history) (lane
             rising = nothing_rises;
           };
           of_others = tt;
+          sure = λ m is.
+              let plain = subst (λ (g : List Record). may_want_memory c.request (answer_to (replay g) c.session c.number c.moment c.request).reply ≡ false) (append-nil history) m in
+              let s = fin_mid.sure (replay history) sound_mid.keeps (new_to (with_store p q.store) history c.number c sound_mid (sound_mid.calls c.number c at_mid)) plain in
+              never_wants (replay history) c.session c.number c.moment c.request (sym s.told ∙ is);
           records = refl;
           keep = ap (λ (b : BookView). b.keep) fin_mid.book;
           slot = slot_idle (seen r) lane.session (ss lane.session ∙ ap (session_at (session_set p.sessions c.session None)) (sym of_lane) ∙ here);

@@ -134,16 +134,17 @@ abbrev pub IsOfOther : CoreView → ℕ → Record → Type 0
 IsOfOther v session (Did number s moment request given) = (c : Call) × (s ≢ session) × (slot_of v s ≡ Busy c) × (reply_of c ≡ None) × (Did number s moment request given ≡ did c given)
 IsOfOther v session (Left s) = ⊥
 
--- the call is decided: its record is the last of those added
+-- The call is decided: its record is the last of those added. Want of memory is told in place of a reply of the tree, after those
+-- that were helped, that takes memory.
 pub record Decides (b : Before) (a : After) (c : Call) (given : Reply) : Type 0 where
   pub own : OwnCall b.core b.lane c
   pub undecided : reply_of c ≡ None
   pub new_number : IsNewNumber c.number b.history
   pub way : MayDecide (replay b.history) c.request c.stage
-  pub sure : may_want_memory c.request ≡ false → given ≢ reply.NoMemory
   pub helped : List Record
   pub order : HelpsInOrder b.core b.history c helped
   pub of_others : AllByRecursion (IsOfOther b.core b.lane.session) helped
+  pub sure : may_want_memory c.request (answer_to (replay (b.history ++ helped)) c.session c.number c.moment c.request).reply ≡ false → given ≢ reply.NoMemory
   pub records : a.added ≡ helped ++ did c given ∷ []
   pub keep : a.core.keep ≡ b.core.keep
   pub slot : slot_of a.core b.lane.session ≡ Idle

@@ -98,7 +98,8 @@ freed (stage.At walked node) s = edited (with_holder None) s node
 pub record Finished (p q : PartsView) (c : Call) (number : ℕ) (given : Reply) : Type 0 where
   pub mid : StoreState
   pub served : (t : Tree) → Keeps p.store t → IsNewNumber t c.number → IsRefused p.store mid t given ⊎ IsServed mid t (answer_to t c.session c.number c.moment c.request) given
-  pub sure : may_want_memory c.request ≡ false → (t : Tree) → Keeps p.store t → IsNewNumber t c.number → IsServed mid t (answer_to t c.session c.number c.moment c.request) given
+  pub sure : (t : Tree) → Keeps p.store t → IsNewNumber t c.number → may_want_memory c.request (answer_to t c.session c.number c.moment c.request).reply ≡ false
+      → IsServed mid t (answer_to t c.session c.number c.moment c.request) given
   pub look_ups : mid.look_ups ≡ p.store.look_ups
   pub nodes : NodesStay c.number p.store mid
   pub store : q.store ≡ freed c.stage mid
