@@ -136,7 +136,7 @@ applied tree session number moment (ReadDir handle) = directory_read tree handle
 applied tree session number moment (Rename old new) = tt
 applied tree session number moment (PosixRename old new) = tt
 
-never_refused : (number : ℕ) (request : Request) → IsReplyTo number request reply.NoMemory → ⊥
+pub never_refused : (number : ℕ) (request : Request) → IsReplyTo number request reply.NoMemory → ⊥
 never_refused number (Stat path) k = k
 never_refused number (SetStat path attrs) k = k
 never_refused number (Mkdir path attrs) k = k

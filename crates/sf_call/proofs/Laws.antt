@@ -7,6 +7,7 @@ use Rattle.sf_path.specs.Names.{Name, Path, IsPath}
 use Rattle.sf_reply.specs.Longname.{HasType, longname_text}
 use Rattle.sf_reply.specs.Replies.{ReplyFits, reply_body}
 use Rattle.sf_reply.specs.declared.reply.Reply.{Reply}
+use Rattle.sf_reply.specs.declared.reply.Reply.TheVariants.{NoMemory}
 use Rattle.sf_call.specs.declared.limits.TheConstants.{MAX_FILE_SIZE}
 use Rattle.sf_call.specs.declared.metadata.Metadata.{Metadata}
 use Rattle.sf_call.specs.declared.request.Request.{Request}
@@ -20,7 +21,7 @@ use Rattle.sf_call.specs.Changes.{Change, done}
 use Rattle.sf_call.specs.Allowed.{AreAllowed, IsWellFormed}
 use Rattle.sf_call.specs.Calls.{answer_to, apply}
 use Rattle.sf_call.specs.Histories.{after, replay, IsNewNumber, IsLegal, MayFollow, IsAmong, IsGiven}
-use Rattle.sf_call.specs.ReplyKinds.{HasAllParts}
+use Rattle.sf_call.specs.ReplyKinds.{IsReplyTo, HasAllParts}
 use Rattle.sf_call.proofs.Ways as ways
 use Rattle.sf_call.proofs.Listed as listed
 use Rattle.sf_call.proofs.Growth as growth
@@ -76,6 +77,11 @@ has_line = listed.has_line
 pub after_told : (tree : Tree) (session number moment : ℕ) (request : Request)
     → after tree (Did number session moment request (apply tree session number moment request).reply) ≡ (apply tree session number moment request).tree
 after_told = kinds.after_told
+
+-- the tree never answers want of memory
+pub never_wants : (tree : Tree) (session number moment : ℕ) (request : Request) → (apply tree session number moment request).reply ≢ NoMemory
+never_wants tree session number moment request e =
+    kinds.never_refused number request (subst (IsReplyTo number request) e (kinds.applied tree session number moment request))
 
 -- ---- histories
 

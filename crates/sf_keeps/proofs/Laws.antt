@@ -26,3 +26,8 @@ pub use Rattle.sf_keeps.proofs.Closing.{keeps_closed}
 pub use Rattle.sf_keeps.proofs.ClosingAll.{keeps_closed_all}
 -- a directory's entries and its listing
 pub use Rattle.sf_keeps.proofs.Listings.{path_found, label_listed, nodes_listed, names_listed}
+-- lists of entries in the order of their keys: look-ups after each change, and the order; a number's own test
+pub use Rattle.sf_keeps.proofs.Keyed.{lookup-set, lookup-removed}
+pub use Rattle.sf_keeps.proofs.Orderly.{sorted_put, sorted_removed, sorted_set}
+pub use Rattle.sf_keeps.proofs.StoreHandles.{at_is}
+pub use Rattle.sf_keeps.proofs.Shown.{nat_at_itself}

@@ -1,12 +1,27 @@
--- For the crates above: the history of the examples is legal, so that its replies may be told. All other files here
--- are private to this crate.
-use Rattle.std.proofs.Common.{◌≢◌, ◌<◌, ℕ, [], ◌∷◌, arith, refl, inl, inr}
+-- For the crates above: what requests leave alone, and that the history of the examples is legal, so that its replies may be
+-- told. All other files here are private to this crate.
+use Rattle.std.proofs.Common.{◌≡◌, ◌≢◌, ◌<◌, ℕ, [], ◌∷◌, arith, refl, inl, inr}
 use Rattle.std.proofs.lemmas.List.Elements.{All-nil, All-cons, All-contains}
-use Rattle.sf_path.specs.Names.{slash, IsName, IsPath}
+use Rattle.sf_path.specs.Names.{slash, IsName, Path, IsPath}
 use Rattle.sf_field.specs.Attributes.{AttrsFit}
 use Rattle.sf_field.specs.Attributes.{no_attrs}
+use Rattle.sf_call.specs.declared.request.Request.{Request}
+use Rattle.sf_call.specs.Tree.{Tree, label_at}
+use Rattle.sf_call.specs.Calls.{answer_to, apply}
 use Rattle.sf_call.specs.Histories.{IsLegal, IsLegalAfter, replay}
+use Rattle.sf_laws.specs.Own.{IsOwnPath}
+use Rattle.sf_laws.proofs.OwnChanges.{own, other_paths}
 use Rattle.sf_laws.specs.Examples.{a, b, history}
+-- no request makes a file of a directory or a directory of a file
+pub use Rattle.sf_laws.proofs.SameKinds.{kinds_stay}
+-- no request moves a path yet
+pub use Rattle.sf_laws.proofs.NeverMoves.{never_moves}
+
+-- a path that isn't a request's own keeps its label
+pub other_labels : (tree : Tree) (session number moment : ℕ) (request : Request) (path : Path) → ¬ IsOwnPath request path
+    → label_at (apply tree session number moment request).tree.names path ≡ label_at tree.names path
+other_labels tree session number moment request path other =
+    other_paths tree session number request (answer_to tree session number moment request).changes tree path (own tree session number moment request) other
 
 -- one byte that is a name
 letter : (x : ℕ) → x < 256 → x ≢ slash → x ≢ 0 → x ≢ 46 → IsPath ((x ∷ []) ∷ [])

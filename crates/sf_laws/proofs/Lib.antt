@@ -9,4 +9,5 @@ mod OpenHandles
 mod InOrder
 mod ListedAll
 mod SameReplies
+pub mod NeverMoves
 pub mod Laws

@@ -1,0 +1,17 @@
+pub mod Maps
+pub mod Holding
+pub mod Owning
+pub mod Coupled
+pub mod Spared
+pub mod Decided
+pub mod LookUps
+pub mod Sounds
+pub mod Finishing
+pub mod Starting
+pub mod Leaving
+pub mod Telling
+pub mod Stepped
+pub mod Making
+pub mod Handing
+pub mod Beginning
+pub mod Steps

@@ -1,0 +1,75 @@
+-- Maps from numbers: look-ups and lengths after each change.
+use Rattle.std.specs.Prelude.{◌≡◌, ◌≢◌, ◌+◌, ℕ, nat_eq, Bool, true, false, cond, T, List, [], ◌∷◌, length, Option, Some, None, IsSome, refl}
+use Rattle.std.proofs.Common.{sym, ap, ◌∙◌, arith, eqb-true}
+use Rattle.std.specs.declared.cmp.Ordering.TheVariants.{Less, Equal, Greater}
+use Rattle.std.specs.Ordering.{nat_cmp, match_ordering, is_eq}
+use Rattle.std.specs.Cmp.{nat_cmp_total}
+use Rattle.std.specs.Map.{lookup, set_value, remove_entry}
+use Rattle.std.specs.BTreeMap.{is_at, insert_entry}
+use Rattle.std.specs.FinMap.{is_sorted}
+use Rattle.std.proofs.lemmas.Map.{length-set_value}
+use Rattle.sf_call.proofs.Laws.{lookup-put}
+use Rattle.sf_keeps.proofs.Laws.{lookup-set, lookup-removed, at_is, nat_at_itself, sorted_put, sorted_removed, sorted_set}
+
+-- what a number finds where an entry was put, set or removed
+by_number : (k q : ℕ) → is_at (nat_cmp k) q ≡ nat_eq k q
+by_number k q = at_is k q
+
+itself : (k : ℕ) → is_at (nat_cmp k) k ≡ true
+itself k = nat_at_itself k
+
+pub apart_at : (k q : ℕ) → k ≢ q → is_at (nat_cmp k) q ≡ false
+apart_at k q ne = at_is k q ∙ elim (nat_eq k q) as (λ b. nat_eq k q ≡ b → b ≡ false) [ true ↦ λ e. absurd (ne (eqb-true k q e)) | false ↦ λ e. refl ] refl
+
+module _ {X : Type 0} where
+  pub put_same : (es : List (ℕ × X)) (k : ℕ) (v : X) → lookup (is_at (nat_cmp k)) (insert_entry nat_cmp es k v) ≡ Some v
+  put_same es k v = lookup-put nat_cmp nat_cmp_total es k v k ∙ ap (λ b. cond b (Some v) (lookup (is_at (nat_cmp k)) es)) (itself k)
+
+  pub put_other : (es : List (ℕ × X)) (k : ℕ) (v : X) (q : ℕ) → q ≢ k → lookup (is_at (nat_cmp q)) (insert_entry nat_cmp es k v) ≡ lookup (is_at (nat_cmp q)) es
+  put_other es k v q ne = lookup-put nat_cmp nat_cmp_total es k v q ∙ ap (λ b. cond b (Some v) (lookup (is_at (nat_cmp q)) es)) (apart_at q k ne)
+
+  is_some : (o : Option X) (v : X) → o ≡ Some v → IsSome o
+  is_some None v e = absurd (let x : ⊥ = cc in x)
+  is_some (Some w) v e = refl
+
+  pub set_same : (es : List (ℕ × X)) (k : ℕ) (v w : X) → lookup (is_at (nat_cmp k)) es ≡ Some w → lookup (is_at (nat_cmp k)) (set_value (is_at (nat_cmp k)) es v) ≡ Some v
+  set_same es k v w e = lookup-set nat_cmp nat_cmp_total es k v k (is_some _ w e) ∙ ap (λ b. cond b (Some v) (lookup (is_at (nat_cmp k)) es)) (itself k)
+
+  pub set_other : (es : List (ℕ × X)) (k : ℕ) (v w : X) (q : ℕ) → q ≢ k → lookup (is_at (nat_cmp k)) es ≡ Some w → lookup (is_at (nat_cmp q)) (set_value (is_at (nat_cmp k)) es v) ≡ lookup (is_at (nat_cmp q)) es
+  set_other es k v w q ne e = lookup-set nat_cmp nat_cmp_total es k v q (is_some _ w e) ∙ ap (λ b. cond b (Some v) (lookup (is_at (nat_cmp q)) es)) (apart_at k q (λ x. ne (sym x)))
+
+  pub removed_same : (es : List (ℕ × X)) (k : ℕ) → T (is_sorted nat_cmp es) → lookup (is_at (nat_cmp k)) (remove_entry (is_at (nat_cmp k)) es) ≡ None
+  removed_same es k h = lookup-removed nat_cmp nat_cmp_total es k k h ∙ ap (λ b. cond b None (lookup (is_at (nat_cmp k)) es)) (itself k)
+
+  pub removed_other : (es : List (ℕ × X)) (k q : ℕ) → q ≢ k → T (is_sorted nat_cmp es) → lookup (is_at (nat_cmp q)) (remove_entry (is_at (nat_cmp k)) es) ≡ lookup (is_at (nat_cmp q)) es
+  removed_other es k q ne h = lookup-removed nat_cmp nat_cmp_total es k q h ∙ ap (λ b. cond b None (lookup (is_at (nat_cmp q)) es)) (apart_at k q (λ x. ne (sym x)))
+
+  pub count_removed : (test : ℕ → Bool) (es : List (ℕ × X)) (v : X) → lookup test es ≡ Some v → length (remove_entry test es) + 1 ≡ length es
+  count_removed test [] v e = absurd (let x : ⊥ = cc in x)
+  count_removed test (x ∷ es) v e =
+      elim (test x.0) as (λ b. cond b (Some x.1) (lookup test es) ≡ Some v → length (cond b es (x ∷ remove_entry test es)) + 1 ≡ length (x ∷ es)) [
+        | true ↦ λ h. omega arith
+        | false ↦ λ h. let r = count_removed test es v h in omega (arith, r)
+      ] e
+
+  pub count_put : (es : List (ℕ × X)) (k : ℕ) (v : X) → lookup (is_at (nat_cmp k)) es ≡ None → length (insert_entry nat_cmp es k v) ≡ length es + 1
+  count_put [] k v e = refl
+  count_put (x ∷ es) k v e =
+      elim (nat_cmp k x.0) as (λ r. cond (is_eq r) (Some x.1) (lookup (is_at (nat_cmp k)) es) ≡ None
+      → length (match_ordering r ((k, v) ∷ x ∷ es) ((x.0, v) ∷ es) (x ∷ insert_entry nat_cmp es k v)) ≡ length (x ∷ es) + 1) [
+        | Less ↦ λ h. omega arith
+        | Equal ↦ λ h. absurd (let z : ⊥ = cc in z)
+        | Greater ↦ λ h. let r = count_put es k v h in omega (arith, r)
+      ] e
+
+  pub count_set : (test : ℕ → Bool) (es : List (ℕ × X)) (v : X) → length (set_value test es v) ≡ length es
+  count_set test es v = length-set_value test es v
+
+  pub rise_put : (es : List (ℕ × X)) (k : ℕ) (v : X) → T (is_sorted nat_cmp es) → T (is_sorted nat_cmp (insert_entry nat_cmp es k v))
+  rise_put es k v h = sorted_put nat_cmp nat_cmp_total es k v h
+
+  pub rise_removed : (test : ℕ → Bool) (es : List (ℕ × X)) → T (is_sorted nat_cmp es) → T (is_sorted nat_cmp (remove_entry test es))
+  rise_removed test es h = sorted_removed nat_cmp test es h
+
+  pub rise_set : (test : ℕ → Bool) (v : X) (es : List (ℕ × X)) → T (is_sorted nat_cmp es) → T (is_sorted nat_cmp (set_value test es v))
+  rise_set test v es h = sorted_set nat_cmp test v es h

@@ -1,0 +1,63 @@
+-- What a contract sees of a core.
+use Rattle.std.specs.Prelude.{ℕ, ◌-◌, ◌^◌, List, [], length, Option, Some, None}
+use Rattle.std.specs.Ordering.{nat_cmp}
+use Rattle.std.specs.Map.{lookup}
+use Rattle.std.specs.BTreeMap.{is_at}
+use Rattle.sf_call.specs.declared.call.Call.{Call}
+use Rattle.sf_call.specs.declared.record.Record.{Record}
+use Rattle.sf_inode.specs.Stores.{StoreState}
+
+-- the records that are kept, the oldest first; how many are kept at most, if not all; and how many calls' records went; how many
+-- call numbers and session numbers were given, from 1 on; the joined sessions by rising number, each with the number of its
+-- unanswered call; the unanswered calls by rising number; how many look-ups were made; and the store, of which no clause but
+-- that of the history speaks
+pub record CoreView : Type 0 where
+  pub records : List Record
+  pub keep : Option ℕ
+  pub folded : ℕ
+  pub drawn : ℕ
+  pub joins : ℕ
+  pub sessions : List (ℕ × Option ℕ)
+  pub calls : List (ℕ × Call)
+  pub look_ups : ℕ
+  pub store : StoreState
+
+-- what a core has for a session: it never joined or has left, it is at rest, or it has an unanswered call
+pub data Slot : Type 0 where
+  Gone : Slot
+  Idle : Slot
+  Busy : (call : Call) → Slot
+
+abbrev pub call_at : List (ℕ × Call) → ℕ → Option Call
+call_at calls number = lookup (is_at (nat_cmp number)) calls
+
+abbrev pub session_at : List (ℕ × Option ℕ) → ℕ → Option (Option ℕ)
+session_at sessions session = lookup (is_at (nat_cmp session)) sessions
+
+-- no core has a number without its call
+abbrev pub busy_with : Option Call → Slot
+busy_with None = Gone
+busy_with (Some call) = Busy call
+
+abbrev pub slot_by : List (ℕ × Call) → Option (Option ℕ) → Slot
+slot_by calls None = Gone
+slot_by calls (Some None) = Idle
+slot_by calls (Some (Some number)) = busy_with (call_at calls number)
+
+abbrev pub slot_of : CoreView → ℕ → Slot
+slot_of v session = slot_by v.calls (session_at v.sessions session)
+
+-- how many sessions are joined
+abbrev pub joined : CoreView → ℕ
+joined v = length v.sessions
+
+-- the last number of a call and of a session
+abbrev pub last_number : ℕ
+last_number = 2 ^ 63 - 1
+
+-- how many sessions may be joined at once
+abbrev pub most_sessions : ℕ
+most_sessions = 256
+
+abbrev pub new_core : Option ℕ → StoreState → CoreView
+new_core keep store = record { records = []; keep = keep; folded = 0; drawn = 0; joins = 0; sessions = []; calls = []; look_ups = 0; store = store }

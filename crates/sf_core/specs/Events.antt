@@ -1,0 +1,227 @@
+-- What each event does to a core.
+use Rattle.std.specs.Prelude.{◌≡◌, ◌≢◌, ◌⊎◌, ◌<◌, ◌≤◌, ◌+◌, ◌-◌, ◌^◌, ℕ, min, false, List, [], ◌∷◌, ◌++◌, filter_map, Some, None}
+use Rattle.std.specs.Ordering.{nat_cmp}
+use Rattle.std.specs.List.{AllByRecursion}
+use Rattle.std.specs.List.Sorted.{IsStrictlySortedBy}
+use Rattle.sf_reply.specs.declared.reply.Reply.{Reply}
+use Rattle.sf_reply.specs.declared.reply.Reply.TheVariants as reply
+use Rattle.sf_call.specs.declared.request.Request.{Request}
+use Rattle.sf_call.specs.declared.record.Record.{Record}
+use Rattle.sf_call.specs.declared.record.Record.TheVariants.{Did, Left}
+use Rattle.sf_call.specs.declared.call.Call.{Call}
+use Rattle.sf_call.specs.Answers.{Answered as Answer}
+use Rattle.sf_call.specs.declared.fault.CoreFault.{CoreFault}
+use Rattle.sf_call.specs.Answers.{Answered as Answer}
+use Rattle.sf_call.specs.declared.fault.CoreFault.TheVariants as fault
+use Rattle.sf_call.specs.Calls.{answer_to}
+use Rattle.sf_call.specs.Histories.{replay, IsNewNumber, IsAmong}
+use Rattle.sf_walk.specs.Served.{may_want_memory}
+use Rattle.sf_core.specs.declared.step.Step.{Step}
+use Rattle.sf_core.specs.declared.step.Step.TheVariants.{Moved, Blocked, Answered, Stranger}
+use Rattle.sf_core.specs.Lanes.{LaneView, at_rest}
+use Rattle.sf_core.specs.Cores.{CoreView, Slot, call_at, slot_of, joined, last_number, most_sessions}
+use Rattle.sf_core.specs.Cores.Slot.{Gone, Idle, Busy}
+use Rattle.sf_core.specs.Progress.{reply_of, left_of, bound_of, depth_of, WalksOn, MayDecide, did, new_call, SameCall, moved_by, overtaken, names_of, number_at}
+
+-- the lane's call, if the lane is this core's
+pub record OwnCall (v : CoreView) (lane : LaneView) (c : Call) : Type 0 where
+  pub slot : slot_of v lane.session ≡ Busy c
+  pub session : c.session ≡ lane.session
+  pub number : lane.call ≡ Some c.number
+
+-- the same records are kept
+pub record KeepsRecords (v w : CoreView) : Type 0 where
+  pub records : w.records ≡ v.records
+  pub keep : w.keep ≡ v.keep
+  pub folded : w.folded ≡ v.folded
+
+-- nothing but the count of look-ups differs, by so many at most; what there is for each session is as it was
+pub record LooksOnly (v w : CoreView) (most : ℕ) : Type 0 where
+  pub records : KeepsRecords v w
+  pub drawn : w.drawn ≡ v.drawn
+  pub joins : w.joins ≡ v.joins
+  pub sessions : w.sessions ≡ v.sessions
+  pub calls : w.calls ≡ v.calls
+  pub slots : (s : ℕ) → slot_of w s ≡ slot_of v s
+  pub joined : joined w ≡ joined v
+  pub more : v.look_ups ≤ w.look_ups
+  pub few : w.look_ups ≤ v.look_ups + most
+
+-- a session's slot is another; all other slots and the counts of sessions and calls stay
+pub record SetsSlot (v w : CoreView) (session : ℕ) (slot : Slot) : Type 0 where
+  pub own : slot_of w session ≡ slot
+  pub others : (s : ℕ) → s ≢ session → slot_of w s ≡ slot_of v s
+  pub joined : joined w ≡ joined v
+  pub drawn : w.drawn ≡ v.drawn
+  pub joins : w.joins ≡ v.joins
+
+-- the call moves: it took the root, or walked one name further
+pub record Goes (v w : CoreView) (lane : LaneView) (c d : Call) : Type 0 where
+  pub own : OwnCall v lane c
+  pub same : SameCall c d
+  pub before : reply_of c ≡ None
+  pub after : reply_of d ≡ None
+  pub walks : WalksOn c.stage d.stage
+  pub less : left_of d < left_of c
+  pub some : 0 < left_of d
+  pub slot : SetsSlot v w lane.session (Busy d)
+  pub records : KeepsRecords v w
+  pub more : v.look_ups ≤ w.look_ups
+  pub few : w.look_ups ≤ v.look_ups + 2
+
+-- another session's undecided call, which looks further down, holds what the call wants
+pub record IsBlocked (v w : CoreView) (lane : LaneView) (c : Call) (holder : ℕ) : Type 0 where
+  pub own : OwnCall v lane c
+  pub undecided : reply_of c ≡ None
+  pub other : ℕ
+  pub call : Call
+  pub apart : other ≢ lane.session
+  pub slot : slot_of v other ≡ Busy call
+  pub holds : reply_of call ≡ None
+  pub number : call.number ≡ holder
+  pub deeper : depth_of c < depth_of call
+  pub looks : LooksOnly v w 2
+
+-- a core with its history, and a lane, before a step; and after it, with the records that were added
+pub record Before : Type 0 where
+  pub core : CoreView
+  pub history : List Record
+  pub lane : LaneView
+
+pub record After : Type 0 where
+  pub core : CoreView
+  pub added : List Record
+  pub lane : LaneView
+
+-- the record was there: a fetch
+pub record Fetches (b : Before) (a : After) (c : Call) (given : Reply) : Type 0 where
+  pub own : OwnCall b.core b.lane c
+  pub decided : reply_of c ≡ Some given
+  pub recorded : IsAmong (did c given) b.history
+  pub none : a.added ≡ []
+  pub slot : SetsSlot b.core a.core b.lane.session Idle
+  pub records : KeepsRecords b.core a.core
+  pub look_ups : a.core.look_ups ≡ b.core.look_ups
+
+-- an undecided call was carried out by another session's: its record is among these, and its reply waits
+pub record IsHelped (v w : CoreView) (session : ℕ) (helped : List Record) : Type 0 where
+  pub before : Call
+  pub after : Call
+  pub given : Reply
+  pub was : slot_of v session ≡ Busy before
+  pub undecided : reply_of before ≡ None
+  pub now : slot_of w session ≡ Busy after
+  pub same : SameCall before after
+  pub decided : reply_of after ≡ Some given
+  pub less : left_of after ≤ left_of before
+  pub recorded : IsAmong (did before given) helped
+
+-- the records of the undecided calls with these numbers, one for each and in this order
+unfoldable pub AreRecordsOf : List (ℕ × Call) → List ℕ → List Record → Type 0
+AreRecordsOf calls [] [] = Unit {0}
+AreRecordsOf calls [] (r ∷ rs) = ⊥
+AreRecordsOf calls (n ∷ ns) [] = ⊥
+AreRecordsOf calls (n ∷ ns) (r ∷ rs) = ((c : Call) × (given : Reply) × (call_at calls n ≡ Some c) × (reply_of c ≡ None) × (r ≡ did c given)) × AreRecordsOf calls ns rs
+
+-- Who is helped by a decision: where its case is the move, each other undecided call that has passed the old path, in the order
+-- of their numbers; else nobody.
+pub record HelpsInOrder (v : CoreView) (h : List Record) (c : Call) (helped : List Record) : Type 0 where
+  pub records : AreRecordsOf v.calls (overtaken v.calls c.number (moved_by (answer_to (replay h) c.session c.number c.moment c.request).changes)) helped
+  pub rising : IsStrictlySortedBy nat_cmp (filter_map number_at helped)
+
+-- the record is of another session's undecided call
+abbrev pub IsOfOther : CoreView → ℕ → Record → Type 0
+IsOfOther v session (Did number s moment request given) = (c : Call) × (s ≢ session) × (slot_of v s ≡ Busy c) × (reply_of c ≡ None) × (Did number s moment request given ≡ did c given)
+IsOfOther v session (Left s) = ⊥
+
+-- The call is decided: its record is the last of those added. Want of memory is told in place of a reply of the tree, after those
+-- that were helped, that takes memory.
+pub record Decides (b : Before) (a : After) (c : Call) (given : Reply) : Type 0 where
+  pub own : OwnCall b.core b.lane c
+  pub undecided : reply_of c ≡ None
+  pub new_number : IsNewNumber c.number b.history
+  pub way : MayDecide (replay b.history) c.request c.stage
+  pub helped : List Record
+  pub order : HelpsInOrder b.core b.history c helped
+  pub of_others : AllByRecursion (IsOfOther b.core b.lane.session) helped
+  pub sure : may_want_memory c.request (answer_to (replay (b.history ++ helped)) c.session c.number c.moment c.request).reply ≡ false → given ≢ reply.NoMemory
+  pub records : a.added ≡ helped ++ did c given ∷ []
+  pub keep : a.core.keep ≡ b.core.keep
+  pub slot : slot_of a.core b.lane.session ≡ Idle
+  pub others : (s : ℕ) → s ≢ b.lane.session → (slot_of a.core s ≡ slot_of b.core s) ⊎ IsHelped b.core a.core s helped
+  pub joined : joined a.core ≡ joined b.core
+  pub drawn : a.core.drawn ≡ b.core.drawn
+  pub joins : a.core.joins ≡ b.core.joins
+  pub more : b.core.look_ups ≤ a.core.look_ups
+  pub few : a.core.look_ups ≤ b.core.look_ups + (2 + names_of helped)
+
+-- no record was added, and the lane is as it was
+pub record AddsNothing (b : Before) (a : After) : Type 0 where
+  pub none : a.added ≡ []
+  pub lane : a.lane ≡ b.lane
+
+-- the answer is the lane's call's, and the lane is at rest
+pub record Answers (b : Before) (given : Answer) (a : After) : Type 0 where
+  pub session : given.session ≡ b.lane.session
+  pub number : b.lane.call ≡ Some given.number
+  pub lane : a.lane ≡ at_rest b.lane
+
+-- what a step does to a core and to the lane, and the records that it adds
+abbrev pub Steps : Before → Step → After → Type 0
+Steps b Moved a = ((c : Call) × (d : Call) × Goes b.core a.core b.lane c d) × AddsNothing b a
+Steps b (Blocked holder) a = ((c : Call) × IsBlocked b.core a.core b.lane c holder) × AddsNothing b a
+Steps b (Answered given) a = ((c : Call) × (Fetches b a c given.reply ⊎ Decides b a c given.reply)) × Answers b given a
+Steps b Stranger a = ((c : Call) → OwnCall b.core b.lane c → ⊥) × (a.core ≡ b.core) × AddsNothing b a
+
+-- a session joins, under the next number
+pub record Joins (v w : CoreView) : Type 0 where
+  pub few : joined v < most_sessions
+  pub unspent : v.joins < last_number
+  pub was : slot_of v (v.joins + 1) ≡ Gone
+  pub own : slot_of w (v.joins + 1) ≡ Idle
+  pub others : (s : ℕ) → s ≢ v.joins + 1 → slot_of w s ≡ slot_of v s
+  pub joined : joined w ≡ joined v + 1
+  pub joins : w.joins ≡ v.joins + 1
+  pub records : KeepsRecords v w
+  pub drawn : w.drawn ≡ v.drawn
+  pub look_ups : w.look_ups ≡ v.look_ups
+
+abbrev pub RefusesJoin : CoreView → CoreFault → Type 0
+RefusesJoin v fault.OutOfMemory = (joined v < most_sessions) × (v.joins < last_number)
+RefusesJoin v fault.Sessions = most_sessions ≤ joined v
+RefusesJoin v fault.NumbersSpent = (joined v < most_sessions) × (v.joins ≡ last_number)
+RefusesJoin v fault.Stranger = ⊥
+
+-- the call begins, under the next number; it has walked nothing
+pub record Begins (v w : CoreView) (lane : LaneView) (request : Request) (moment : ℕ) : Type 0 where
+  pub idle : slot_of v lane.session ≡ Idle
+  pub unspent : v.drawn < last_number
+  pub own : slot_of w lane.session ≡ Busy (new_call (v.drawn + 1) lane.session moment request)
+  pub fresh : (reply_of (new_call (v.drawn + 1) lane.session moment request) ≡ None) × (left_of (new_call (v.drawn + 1) lane.session moment request) ≡ bound_of request)
+  pub others : (s : ℕ) → s ≢ lane.session → slot_of w s ≡ slot_of v s
+  pub joined : joined w ≡ joined v
+  pub drawn : w.drawn ≡ v.drawn + 1
+  pub joins : w.joins ≡ v.joins
+  pub records : KeepsRecords v w
+  pub look_ups : w.look_ups ≡ v.look_ups
+
+-- the lane with the call of a number
+abbrev pub begun : LaneView → ℕ → LaneView
+begun lane number = record { session = lane.session; call = Some number; begun = min (lane.begun + 1) (2 ^ 64 - 1) }
+
+abbrev pub RefusesBegin : CoreView → LaneView → CoreFault → Type 0
+RefusesBegin v lane fault.OutOfMemory = (slot_of v lane.session ≡ Idle) × (v.drawn < last_number)
+RefusesBegin v lane fault.Sessions = ⊥
+RefusesBegin v lane fault.NumbersSpent = (slot_of v lane.session ≡ Idle) × (v.drawn ≡ last_number)
+RefusesBegin v lane fault.Stranger = slot_of v lane.session ≢ Idle
+
+-- the session leaves
+pub record Leaves (v w : CoreView) (session : ℕ) : Type 0 where
+  pub idle : slot_of v session ≡ Idle
+  pub own : slot_of w session ≡ Gone
+  pub others : (s : ℕ) → s ≢ session → slot_of w s ≡ slot_of v s
+  pub joined : joined v ≡ joined w + 1
+  pub drawn : w.drawn ≡ v.drawn
+  pub joins : w.joins ≡ v.joins
+  pub keep : w.keep ≡ v.keep
+  pub look_ups : w.look_ups ≡ v.look_ups

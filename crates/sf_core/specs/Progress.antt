@@ -1,0 +1,125 @@
+-- How far an unanswered call is.
+use Rattle.std.specs.Prelude.{◌≡◌, ◌⊎◌, ◌<◌, ◌+◌, ◌-◌, ℕ, Bool, false, not, nat_eq, nat_le, ◌&&◌, List, [], ◌∷◌, length, take, map, sum, filter, Option, Some, None, is_none, is_some}
+use Rattle.sf_path.specs.Names.{Path}
+use Rattle.sf_reply.specs.declared.reply.Reply.{Reply}
+use Rattle.sf_call.specs.declared.request.Request.{Request}
+use Rattle.sf_call.specs.Requests.{Target, target_of}
+use Rattle.sf_call.specs.Requests.Target.{ByHandle, OnPath, OnPaths}
+use Rattle.sf_call.specs.declared.record.Record.{Record}
+use Rattle.sf_call.specs.declared.record.Record.TheVariants.{Did, Left}
+use Rattle.sf_call.specs.declared.call.Call.{Call}
+use Rattle.sf_call.specs.declared.call.Stage.{Stage}
+use Rattle.sf_call.specs.declared.call.Stage.TheVariants as stage
+use Rattle.sf_call.specs.Tree.{Tree, is_directory, after_front}
+use Rattle.sf_call.specs.Changes.{Change}
+use Rattle.sf_call.specs.Changes.Change.{SetObject, NewPath, GonePath, Move, OpenHandle, SetHandle, CloseHandle}
+use Rattle.sf_walk.specs.Ways.{path_of}
+
+-- the reply that waits, where another call carried this one out: no call does so yet
+unfoldable pub reply_of : Call → Option Reply
+reply_of c = None
+
+-- how many names a request's paths have
+abbrev pub names_at : Target → ℕ
+names_at (ByHandle handle) = 0
+names_at (OnPath path) = length path
+names_at (OnPaths old new) = length old + length new
+
+abbrev pub path_names : Request → ℕ
+path_names request = names_at (target_of request)
+
+-- the most steps of a call that aren't blocked
+unfoldable pub bound_of : Request → ℕ
+bound_of request = path_names request + 3
+
+-- how many of them are left
+abbrev pub left_at : ℕ → Stage → ℕ
+left_at names stage.Fresh = names + 3
+left_at names (stage.At walked node) = names + 2 - walked
+
+unfoldable pub left_of : Call → ℕ
+left_of c = left_at (path_names c.request) c.stage
+
+-- how far down a call looks next
+abbrev pub depth_at : Stage → ℕ
+depth_at stage.Fresh = 0
+depth_at (stage.At walked node) = walked + 1
+
+abbrev pub depth_of : Call → ℕ
+depth_of c = depth_at c.stage
+
+-- it took the root, or walked one name further
+abbrev pub WalksOn : Stage → Stage → Type 0
+WalksOn stage.Fresh stage.Fresh = ⊥
+WalksOn stage.Fresh (stage.At walked node) = walked ≡ 0
+WalksOn (stage.At walked node) stage.Fresh = ⊥
+WalksOn (stage.At walked node) (stage.At more child) = more ≡ walked + 1
+
+-- all names but the last are walked, or all up to the one that is missing or no directory
+abbrev pub EndsWalk : Tree → Path → ℕ → Type 0
+EndsWalk tree path walked = (walked + 1 ≡ length path) ⊎ ((walked + 1 < length path) × (is_directory tree (take (walked + 1) path) ≡ false))
+
+-- where a call may decide: at once, if it has no path or the root's; else where its walk ends
+abbrev pub MayDecideBy : Tree → Option Path → Stage → Type 0
+MayDecideBy tree None at = at ≡ stage.Fresh
+MayDecideBy tree (Some path) stage.Fresh = path ≡ []
+MayDecideBy tree (Some path) (stage.At walked node) = EndsWalk tree path walked
+
+abbrev pub MayDecide : Tree → Request → Stage → Type 0
+MayDecide tree request at = MayDecideBy tree (path_of request) at
+
+-- the call's record
+abbrev pub did : Call → Reply → Record
+did c given = Did c.number c.session c.moment c.request given
+
+abbrev pub new_call : ℕ → ℕ → ℕ → Request → Call
+new_call number session moment request = record { number = number; session = session; moment = moment; request = request; stage = stage.Fresh }
+
+-- the same call, further on
+pub record SameCall (c d : Call) : Type 0 where
+  pub number : d.number ≡ c.number
+  pub session : d.session ≡ c.session
+  pub moment : d.moment ≡ c.moment
+  pub request : d.request ≡ c.request
+
+-- whether the names that a call has walked begin with a path
+abbrev pub has_passed_by : Option Path → Stage → Path → Bool
+has_passed_by None at old = false
+has_passed_by (Some path) stage.Fresh old = false
+has_passed_by (Some path) (stage.At walked node) old = nat_le (length old) walked && is_some (after_front old path)
+
+abbrev pub has_passed : Call → Path → Bool
+has_passed c old = has_passed_by (path_of c.request) c.stage old
+
+-- the old path, where changes are a move
+abbrev pub moved_by : List Change → Option Path
+moved_by [] = None
+moved_by (Move old new ∷ changes) = Some old
+moved_by (SetObject label object ∷ changes) = moved_by changes
+moved_by (NewPath path label object ∷ changes) = moved_by changes
+moved_by (GonePath path ∷ changes) = moved_by changes
+moved_by (OpenHandle number handle ∷ changes) = moved_by changes
+moved_by (SetHandle number handle ∷ changes) = moved_by changes
+moved_by (CloseHandle number ∷ changes) = moved_by changes
+
+-- the numbers of the undecided calls, but for one, that have passed a path
+abbrev pub overtaken : List (ℕ × Call) → ℕ → Option Path → List ℕ
+overtaken calls number None = []
+overtaken calls number (Some old) = map (λ e. e.0) (filter (λ e. not (nat_eq e.0 number) && is_none (reply_of e.1) && has_passed e.1 old) calls)
+
+-- how many calls have no record
+abbrev pub undecided_in : List (ℕ × Call) → ℕ
+undecided_in calls = length (filter (λ e. is_none (reply_of e.1)) calls)
+
+-- how many names the paths of the calls among the records have
+abbrev pub names_in : Record → ℕ
+names_in (Did number session moment request given) = path_names request
+names_in (Left session) = 0
+
+abbrev pub names_of : List Record → ℕ
+names_of records = sum (map names_in records)
+
+-- the numbers of the calls among the records
+abbrev pub number_at : Record → Option ℕ
+number_at (Did number session moment request given) = Some number
+number_at (Left session) = None

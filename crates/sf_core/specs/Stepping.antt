@@ -1,0 +1,119 @@
+-- What each event does to the parts of a core.
+use Rattle.std.specs.Prelude.{◌≡◌, ◌⊎◌, ◌≤◌, ◌+◌, ℕ, false, List, [], length, Option, Some, None}
+use Rattle.std.specs.Ordering.{nat_cmp}
+use Rattle.std.specs.Map.{set_value, remove_entry}
+use Rattle.std.specs.BTreeMap.{is_at, insert_entry}
+use Rattle.sf_reply.specs.declared.reply.Reply.{Reply}
+use Rattle.sf_call.specs.declared.request.Request.{Request}
+use Rattle.sf_call.specs.declared.record.Record.TheVariants.{Left}
+use Rattle.sf_call.specs.declared.call.Call.{Call}
+use Rattle.sf_call.specs.declared.call.Stage.{Stage}
+use Rattle.sf_call.specs.declared.call.Stage.TheVariants as stage
+use Rattle.sf_call.specs.Tree.{Tree}
+use Rattle.sf_call.specs.Calls.{answer_to}
+use Rattle.sf_call.specs.Unanswered.{staged}
+use Rattle.sf_call.specs.Values.{IsCall}
+use Rattle.sf_book.specs.Books.{put}
+use Rattle.sf_inode.specs.Nodes.{with_holder}
+use Rattle.sf_inode.specs.Stores.{StoreState, IsFirst, edited, closed_all}
+use Rattle.sf_keeps.specs.Keeps.{Keeps}
+use Rattle.sf_walk.specs.declared.walking.Walk.{Walk}
+use Rattle.sf_walk.specs.declared.walking.Walk.TheVariants as walk
+use Rattle.sf_walk.specs.Served.{IsServed, IsRefused, IsNewNumber, NodesStay, may_want_memory}
+use Rattle.sf_walk.specs.Steps.{Advances}
+use Rattle.sf_core.specs.Cores.{session_at}
+use Rattle.sf_core.specs.Progress.{did, new_call}
+use Rattle.sf_core.specs.Parts.{PartsView}
+
+-- a session has this call, or none, if it is joined
+abbrev pub session_set_by : List (ℕ × Option ℕ) → ℕ → Option ℕ → Option (Option ℕ) → List (ℕ × Option ℕ)
+session_set_by sessions session number None = sessions
+session_set_by sessions session number (Some before) = set_value (is_at (nat_cmp session)) sessions number
+
+abbrev pub session_set : List (ℕ × Option ℕ) → ℕ → Option ℕ → List (ℕ × Option ℕ)
+session_set sessions session number = session_set_by sessions session number (session_at sessions session)
+
+-- a new store, and nothing else
+pub record IsNewParts (p : PartsView) : Type 0 where
+  pub store : IsFirst p.store
+  pub look_ups : p.store.look_ups ≡ 0
+  pub records : p.book.records ≡ []
+  pub folded : p.book.folded ≡ 0
+  pub sessions : p.sessions ≡ []
+  pub calls : p.calls ≡ []
+  pub drawn : p.drawn ≡ 0
+  pub joins : p.joins ≡ 0
+
+-- all but the room is as it was, and there is no less of it
+pub record SameButRoom (p q : PartsView) : Type 0 where
+  pub store : q.store ≡ p.store
+  pub book : q.book ≡ record p.book { room = q.book.room }
+  pub more : p.book.room ≤ q.book.room
+  pub sessions : q.sessions ≡ p.sessions
+  pub calls : q.calls ≡ p.calls
+  pub drawn : q.drawn ≡ p.drawn
+  pub joins : q.joins ≡ p.joins
+
+-- a session joined
+pub record Joined (p q : PartsView) : Type 0 where
+  pub store : q.store ≡ p.store
+  pub book : q.book ≡ record p.book { room = q.book.room }
+  pub room : length p.calls + length p.sessions + 1 ≤ q.book.room
+  pub sessions : q.sessions ≡ insert_entry nat_cmp p.sessions (p.joins + 1) None
+  pub calls : q.calls ≡ p.calls
+  pub drawn : q.drawn ≡ p.drawn
+  pub joins : q.joins ≡ p.joins + 1
+
+-- a call began
+pub record Begun (p q : PartsView) (session : ℕ) (request : Request) (moment : ℕ) : Type 0 where
+  pub store : q.store ≡ p.store
+  pub book : q.book ≡ record p.book { room = q.book.room }
+  pub room : length p.calls + length p.sessions + 1 ≤ q.book.room
+  pub sessions : q.sessions ≡ session_set p.sessions session (Some (p.drawn + 1))
+  pub calls : q.calls ≡ insert_entry nat_cmp p.calls (p.drawn + 1) (new_call (p.drawn + 1) session moment request)
+  pub drawn : q.drawn ≡ p.drawn + 1
+  pub joins : q.joins ≡ p.joins
+  pub is_call : IsCall (p.drawn + 1) session moment request
+
+abbrev pub walked_calls : List (ℕ × Call) → ℕ → Walk → List (ℕ × Call)
+walked_calls calls number (walk.Moved after) = staged calls number after
+walked_calls calls number (walk.Blocked holder) = calls
+walked_calls calls number (walk.Ready found) = calls
+
+-- a call made a step, or came to where it decides
+pub record Walked (p q : PartsView) (c : Call) (number : ℕ) (step : Walk) : Type 0 where
+  pub advances : Advances p.store q.store c step
+  pub book : q.book ≡ p.book
+  pub sessions : q.sessions ≡ p.sessions
+  pub calls : q.calls ≡ walked_calls p.calls number step
+  pub drawn : q.drawn ≡ p.drawn
+  pub joins : q.joins ≡ p.joins
+
+-- the store where a call holds nothing any more
+abbrev pub freed : Stage → StoreState → StoreState
+freed stage.Fresh s = s
+freed (stage.At walked node) s = edited (with_holder None) s node
+
+-- a call was decided: the store after it, the reply, and its record
+pub record Finished (p q : PartsView) (c : Call) (number : ℕ) (given : Reply) : Type 0 where
+  pub mid : StoreState
+  pub served : (t : Tree) → Keeps p.store t → IsNewNumber t c.number → IsRefused p.store mid t given ⊎ IsServed mid t (answer_to t c.session c.number c.moment c.request) given
+  pub sure : (t : Tree) → Keeps p.store t → IsNewNumber t c.number → may_want_memory c.request (answer_to t c.session c.number c.moment c.request).reply ≡ false
+      → IsServed mid t (answer_to t c.session c.number c.moment c.request) given
+  pub look_ups : mid.look_ups ≡ p.store.look_ups
+  pub nodes : NodesStay c.number p.store mid
+  pub store : q.store ≡ freed c.stage mid
+  pub book : q.book ≡ put p.book (did c given)
+  pub sessions : q.sessions ≡ session_set p.sessions c.session None
+  pub calls : q.calls ≡ remove_entry (is_at (nat_cmp number)) p.calls
+  pub drawn : q.drawn ≡ p.drawn
+  pub joins : q.joins ≡ p.joins
+
+-- a session left
+pub record Parted (p q : PartsView) (session : ℕ) : Type 0 where
+  pub store : q.store ≡ closed_all p.store session
+  pub book : q.book ≡ put p.book (Left session)
+  pub sessions : q.sessions ≡ remove_entry (is_at (nat_cmp session)) p.sessions
+  pub calls : q.calls ≡ p.calls
+  pub drawn : q.drawn ≡ p.drawn
+  pub joins : q.joins ≡ p.joins

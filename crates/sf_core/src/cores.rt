@@ -1,0 +1,202 @@
+//! All calls of all sessions, on one tree.
+
+ghost use Rattle.std.specs.Prelude.{◌≡◌, ◌≢◌, ◌<◌, ◌+◌, ◌++◌, ◌∷◌, [], List, None, Some, IsSome, IfOk, IfErr, IfSome, IfNone, OnOk, OnErr};
+ghost use Rattle.sf_call.specs.declared.record.Record.{Record};
+ghost use Rattle.sf_call.specs.declared.record.Record.TheVariants.{Left};
+ghost use Rattle.sf_core.specs.Cores.{Slot, new_core, slot_of, joined, last_number, most_sessions};
+ghost use Rattle.sf_core.specs.Cores.Slot.{Idle};
+ghost use Rattle.sf_core.specs.Histories.{IsHistory};
+ghost use Rattle.sf_core.specs.Events.{Steps, Joins, Begins, begun, Leaves, RefusesJoin, RefusesBegin};
+
+use crate::lane::{Lane, Share};
+use crate::parts::Parts;
+use crate::step::Step;
+use sf_book::Book;
+use sf_call::{Answer, CoreFault, Record, Request};
+use sf_walk::Walk;
+use std::alloc::{AllocError, Global};
+use std::marker::Model;
+
+/// How many sessions may be joined at once.
+const MOST_SESSIONS: usize = 256;
+
+/// The last number of a call and of a session.
+const LAST_NUMBER: u64 = u64::MAX / 2;
+
+/// One tree, and the calls of all sessions on it, each taken on by steps.
+#[derive(Drop)]
+pub struct Core {
+    parts: Parts,
+}
+
+impl Model for Core {
+    ghost use Rattle.sf_core.specs.Cores.{CoreView};
+    ghost use Rattle.sf_core.specs.Parts.{seen};
+    ghost use Rattle.sf_core.specs.Sound.{IsCore};
+
+    ghost Value = { CoreView };
+
+    ghost view = { λ core. seen core.parts };
+
+    ghost invariant = { λ core. IsCore core.parts };
+}
+
+impl Core {
+    /// The root alone; no session, no call and no record. All records are kept.
+    pub fn new(alloc: Global) -> Result<Core, AllocError>
+        ensures core { IfOk result (λ core. core ≡ new_core None core.store) }
+        ensures history { IfOk result (λ core. IsHistory core []) }
+    {
+        Ok(Core {
+            parts: Parts::new(alloc, Book::new(alloc))?,
+        })
+    }
+
+    /// As `new`, but of the records the last `n` are kept. What the core answers is the same.
+    pub fn with_keep(alloc: Global, n: usize) -> Result<Core, AllocError>
+        requires { 0 < n }
+        ensures core { IfOk result (λ core. core ≡ new_core (Some n) core.store) }
+        ensures history { IfOk result (λ core. IsHistory core []) }
+    {
+        Ok(Core {
+            parts: Parts::new(alloc, Book::with_keep(alloc, n))?,
+        })
+    }
+
+    /// Why no session can join, other than for want of memory.
+    pub fn join_fault(&self) -> Option<CoreFault>
+        ensures some { IfSome result (λ fault. (fault ≢ CoreFault.OutOfMemory) × RefusesJoin self.now fault) }
+        ensures none { IfNone result ((joined self.now < most_sessions) × (self.now.joins < last_number)) }
+    {
+        if self.parts.joined() >= MOST_SESSIONS {
+            return Some(CoreFault::Sessions);
+        }
+        if self.parts.joins() >= LAST_NUMBER {
+            return Some(CoreFault::NumbersSpent);
+        }
+        None
+    }
+
+    /// A session joins. Room is made for the record of its leaving.
+    pub fn join(&mut self) -> Result<Lane, CoreFault>
+        ensures lane { IfOk result (λ lane. lane ≡ record { session = self.old.joins + 1; call = None; begun = 0 }) }
+        ensures ok { OnOk result (Joins self.old self.new) }
+        ensures history { OnOk result ((h : List Record) → IsHistory self.old h → IsHistory self.new h) }
+        ensures err { OnErr result (self.new ≡ self.old) }
+        ensures fault { IfErr result (λ fault. RefusesJoin self.old fault) }
+    {
+        if self.parts.joined() >= MOST_SESSIONS {
+            return Err(CoreFault::Sessions);
+        }
+        if self.parts.joins() >= LAST_NUMBER {
+            return Err(CoreFault::NumbersSpent);
+        }
+        let Ok(()) = self.parts.join() else {
+            return Err(CoreFault::OutOfMemory);
+        };
+        Ok(Lane {
+            session: self.parts.joins(),
+            call: None,
+            begun: 0,
+        })
+    }
+
+    /// A call of the lane begins, under the next number. It has made no step. Room is made for its record.
+    pub fn begin(&mut self, lane: &mut Lane, request: Request, moment: u32) -> Result<(), CoreFault>
+        requires { lane.old.call ≡ None }
+        ensures ok { OnOk result (Begins self.old self.new lane.old request moment) }
+        ensures place { OnOk result (lane.new ≡ begun lane.old self.new.drawn) }
+        ensures history { OnOk result ((h : List Record) → IsHistory self.old h → IsHistory self.new h) }
+        ensures err { OnErr result ((self.new ≡ self.old) × (lane.new ≡ lane.old)) }
+        ensures fault { IfErr result (λ fault. RefusesBegin self.old lane.old fault) }
+    {
+        if !self.parts.is_idle(lane.session) {
+            return Err(CoreFault::Stranger);
+        }
+        if self.parts.drawn() >= LAST_NUMBER {
+            return Err(CoreFault::NumbersSpent);
+        }
+        let Ok(()) = self.parts.begin(lane.session, request, moment) else {
+            return Err(CoreFault::OutOfMemory);
+        };
+        lane.call = Some(self.parts.drawn());
+        lane.begun = lane.begun.saturating_add(1);
+        Ok(())
+    }
+
+    /// One step of the lane's call. Takes no memory where it moves or blocks.
+    pub fn step(&mut self, lane: &mut Lane) -> Step
+        requires { IsSome lane.old.call }
+        ensures { (h : List Record) → IsHistory self.old h → (added : List Record) × IsHistory self.new (h ++ added)
+            × Steps (record { core = self.old; history = h; lane = lane.old }) result (record { core = self.new; added = added; lane = lane.new }) }
+    {
+        let Some(number) = lane.call else {
+            return Step::Stranger;
+        };
+        if !self.parts.is_own(lane.session, number) {
+            return Step::Stranger;
+        }
+        let _count = self.parts.look_ups();
+        match self.parts.walk(number) {
+            Walk::Moved(_) => Step::Moved,
+            Walk::Blocked(holder) => Step::Blocked(holder),
+            Walk::Ready(located) => {
+                let reply = self.parts.finish(number, located);
+                lane.call = None;
+                Step::Answered(Answer::new(number, lane.session, reply))
+            }
+        }
+    }
+
+    /// The session leaves, and its share of the calls is told. The lane comes back where it is a
+    /// stranger's. Takes no memory.
+    pub fn leave(&mut self, lane: Lane) -> Result<Share, Lane>
+        requires { lane.call ≡ None }
+        ensures share { IfOk result (λ share. share ≡ lane.begun) }
+        ensures ok { OnOk result (Leaves self.old self.new lane.session) }
+        ensures back { IfErr result (λ back. back ≡ lane) }
+        ensures history { OnOk result ((h : List Record) → IsHistory self.old h → IsHistory self.new (h ++ Left lane.session ∷ [])) }
+        ensures err { OnErr result ((self.new ≡ self.old) × (slot_of self.old lane.session ≢ Idle)) }
+    {
+        if !self.parts.is_idle(lane.session) {
+            return Err(lane);
+        }
+        let Lane {
+            session,
+            call: _,
+            begun,
+        } = lane;
+        self.parts.leave(session);
+        Ok(Share::of(begun))
+    }
+
+    /// The records that are kept, the oldest first: all of the history, or its last ones.
+    pub fn history(&self) -> &[Record]
+        ensures records { result.now ≡ self.now.records }
+        ensures whole { (h : List Record) × IsHistory self.now h }
+    {
+        self.parts.records()
+    }
+
+    /// How many calls have records that are kept no more.
+    pub fn folded(&self) -> u64
+        ensures { result ≡ self.now.folded }
+    {
+        self.parts.folded()
+    }
+
+    /// How many calls there are: those that are recorded, whether or not their records are kept, and
+    /// those under way.
+    pub fn calls(&self) -> u64
+        ensures { result ≡ self.now.drawn }
+    {
+        self.parts.drawn()
+    }
+
+    /// How many look-ups were made, up to 2^64 - 1.
+    pub fn look_ups(&self) -> u64
+        ensures { result ≡ self.now.look_ups }
+    {
+        self.parts.look_ups()
+    }
+}

@@ -1,0 +1,5 @@
+pub mod Fronts
+pub mod Keeping
+pub mod Stepping
+pub mod Ending
+pub mod Laws
