@@ -1,4 +1,3 @@
-pub mod Writing
 pub mod Filling
 pub mod Steps
 pub mod Runs

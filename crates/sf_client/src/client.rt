@@ -15,10 +15,10 @@ ghost use Rattle.sf_client.specs.Outcomes.{Broke, Comes, IsUnsent, ReadsDue, Set
 
 use crate::due::{Due, find_due, refusal};
 use crate::fault::ClientFault;
-use crate::lines::{MAX_BODY, read_packet, write_all};
+use crate::lines::{MAX_BODY, read_packet};
 use bytes::BytesMut;
 use sf_field::ByteString;
-use sf_line::Line;
+use sf_line::{Line, write_all};
 use sf_reply::{Reply, is_version};
 use sf_request::{WireRequest, close_packet, init_packet, write_request};
 use std::alloc::{AllocError, Global};

@@ -22,6 +22,7 @@ pub(crate) enum Due {
 }
 
 impl Due {
+    /// What answers this request where it succeeds.
     pub(crate) fn of(request: &WireRequest) -> Due
         ensures { result ≡ due_of request.now }
     {

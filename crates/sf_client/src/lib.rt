@@ -10,3 +10,6 @@ mod lines;
 
 pub use client::Client;
 pub use fault::ClientFault;
+
+#[cfg(test)]
+mod tests;

@@ -1,7 +1,7 @@
 //! Whole packets on a line.
 
-ghost use Rattle.std.specs.Prelude.{◌≡◌, ◌<◌, ◌≤◌, ℕ, List, ◌++◌, length, take, true, false, OnOk, OnErr, IfOk, IfSome, IfNone, MatchOption};
-ghost use Rattle.std.specs.Io.KnownBytes.{Appends, Consumes};
+ghost use Rattle.std.specs.Prelude.{◌≡◌, ◌<◌, ◌≤◌, ℕ, List, ◌++◌, length, take, true, false, OnErr, IfOk, IfSome, IfNone, MatchOption};
+ghost use Rattle.std.specs.Io.KnownBytes.{Consumes};
 ghost use Rattle.sf_line.specs.Lines.{Rose};
 ghost use Rattle.sf_field.specs.Fields.{be32, packet};
 ghost use Rattle.sf_client.specs.Packets.{Ends, HasNoPacket};
@@ -10,21 +10,6 @@ use sf_line::{Line, LineFault};
 
 /// The greatest length of a packet's body.
 pub(crate) const MAX_BODY: usize = 262144;
-
-/// Writes all of the bytes.
-pub(crate) fn write_all<L: Line>(line: &mut L, bytes: &[u8]) -> Result<(), LineFault>
-    ensures written { OnOk result (Appends (L.outgoing line.old) (L.outgoing line.new) bytes.now) }
-    ensures incoming { L.incoming line.new ≡ L.incoming line.old }
-    ensures failures { L.failed line.old ≤ L.failed line.new }
-    ensures fault { OnErr result (Rose (L.failed line.old) (L.failed line.new)) }
-{
-    let mut rest = bytes;
-    while !rest.is_empty() {
-        let n = line.write(rest)?;
-        rest = &rest[n..];
-    }
-    Ok(())
-}
 
 /// Fills the buffer; false where the input ends before it is full.
 fn fill<L: Line>(line: &mut L, buffer: &mut [u8]) -> Result<bool, LineFault>

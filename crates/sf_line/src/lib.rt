@@ -5,7 +5,7 @@ mod line;
 mod memory_line;
 mod stream_line;
 
-pub use line::{Line, LineFault};
+pub use line::{Line, LineFault, write_all};
 pub use memory_line::{MemoryLine, Pieces};
 pub use stream_line::StreamLine;
 

@@ -1,3 +1,5 @@
+//! Lines over memory and over streams.
+
 use super::*;
 use std::alloc::Global;
 use std::io::{self, ErrorKind, Read};
@@ -33,6 +35,18 @@ fn memory_line(rt: HostRuntime) -> Result<(), Fail> {
     );
     assert_eq!(rt; line.output(), b"abcdefg".as_slice());
     assert_eq!(rt; line.failures(), 0);
+    Ok(())
+}
+
+/// Pieces of a byte and of two bytes.
+#[test]
+fn all_is_written(rt: HostRuntime) -> Result<(), Fail> {
+    let pieces = Pieces::new(1, 2);
+    let mut line = MemoryLine::new(rt.alloc(), b"", pieces, pieces);
+    write_all(&mut line, b"abcd")?;
+    write_all(&mut line, b"")?;
+    write_all(&mut line, b"e")?;
+    assert_eq!(rt; line.output(), b"abcde".as_slice());
     Ok(())
 }
 

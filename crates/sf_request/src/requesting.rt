@@ -4,7 +4,8 @@ ghost use Rattle.std.specs.Prelude.{◌≡◌, ◌+◌, ◌<◌, ◌≤◌, ◌^
 ghost use Rattle.bytes.specs.Filled.{UsesSpare};
 ghost use Rattle.sf_request.specs.Requests.{kind_of, fields_text, request_body, init_body};
 ghost use Rattle.sf_request.specs.declared.request.WireRequest.TheVariants.{Close};
-ghost use Rattle.sf_field.specs.Fields.{be64, packet};
+ghost use Rattle.sf_field.specs.Attributes.{attrs_text};
+ghost use Rattle.sf_field.specs.Fields.{be64, packet, string};
 
 use crate::reading::{
     CLOSE, EXTENDED, FSETSTAT, FSTAT, INIT, LSTAT, MKDIR, OPEN, OPENDIR, POSIX_RENAME, READ,
@@ -12,7 +13,7 @@ use crate::reading::{
 };
 use crate::request::WireRequest;
 use bytes::BytesMut;
-use sf_field::{attrs_len, put_attrs, put_string, put_u32, put_u64};
+use sf_field::{Attrs, ByteString, attrs_len, put_attrs, put_string, put_u32, put_u64};
 use std::alloc::AllocError;
 
 /// How many bytes the request's fields take.
@@ -45,6 +46,39 @@ fn fields_len(request: &WireRequest) -> usize
     }
 }
 
+/// A path or a handle, and attributes.
+fn put_with_attrs(out: &mut BytesMut, text: &ByteString, attrs: &Attrs)
+    requires room { length (string text.now ++ attrs_text attrs.now) ≤ out.old.spare }
+    requires short { length text.now < 2 ^ 32 }
+    ensures items { out.new.items ≡ out.old.items ++ (string text.now ++ attrs_text attrs.now) }
+    ensures spare { out.new.spare + length (string text.now ++ attrs_text attrs.now) ≡ out.old.spare }
+{
+    put_string(out, text.as_slice());
+    put_attrs(out, attrs);
+}
+
+/// Two paths.
+fn put_both(out: &mut BytesMut, old: &ByteString, new: &ByteString)
+    requires room { length (string old.now ++ string new.now) ≤ out.old.spare }
+    requires short { (length old.now < 2 ^ 32) × (length new.now < 2 ^ 32) }
+    ensures items { out.new.items ≡ out.old.items ++ (string old.now ++ string new.now) }
+    ensures spare { out.new.spare + length (string old.now ++ string new.now) ≡ out.old.spare }
+{
+    put_string(out, old.as_slice());
+    put_string(out, new.as_slice());
+}
+
+/// A handle, and a place in its file.
+fn put_place(out: &mut BytesMut, handle: &ByteString, offset: u64)
+    requires room { length (string handle.now ++ be64 offset) ≤ out.old.spare }
+    requires short { length handle.now < 2 ^ 32 }
+    ensures items { out.new.items ≡ out.old.items ++ (string handle.now ++ be64 offset) }
+    ensures spare { out.new.spare + length (string handle.now ++ be64 offset) ≡ out.old.spare }
+{
+    put_string(out, handle.as_slice());
+    put_u64(out, offset);
+}
+
 fn put_fields(out: &mut BytesMut, request: &WireRequest)
     requires room { length (fields_text request.now) ≤ out.old.spare }
     requires short { length (fields_text request.now) < 2 ^ 32 }
@@ -61,14 +95,12 @@ fn put_fields(out: &mut BytesMut, request: &WireRequest)
             put_u32(out, flags.bits());
             put_attrs(out, attrs);
         }
-        WireRequest::Close { handle } => put_string(out, handle.as_slice()),
         WireRequest::Read {
             handle,
             offset,
             len,
         } => {
-            put_string(out, handle.as_slice());
-            put_u64(out, *offset);
+            put_place(out, handle, *offset);
             put_u32(out, *len);
         }
         WireRequest::Write {
@@ -76,39 +108,26 @@ fn put_fields(out: &mut BytesMut, request: &WireRequest)
             offset,
             data,
         } => {
-            put_string(out, handle.as_slice());
-            put_u64(out, *offset);
+            put_place(out, handle, *offset);
             put_string(out, data.as_slice());
         }
-        WireRequest::LStat { path } => put_string(out, path.as_slice()),
-        WireRequest::FStat { handle } => put_string(out, handle.as_slice()),
-        WireRequest::SetStat { path, attrs } => {
-            put_string(out, path.as_slice());
-            put_attrs(out, attrs);
-        }
-        WireRequest::FSetStat { handle, attrs } => {
-            put_string(out, handle.as_slice());
-            put_attrs(out, attrs);
-        }
-        WireRequest::OpenDir { path } => put_string(out, path.as_slice()),
-        WireRequest::ReadDir { handle } => put_string(out, handle.as_slice()),
-        WireRequest::Remove { path } => put_string(out, path.as_slice()),
-        WireRequest::Mkdir { path, attrs } => {
-            put_string(out, path.as_slice());
-            put_attrs(out, attrs);
-        }
-        WireRequest::Rmdir { path } => put_string(out, path.as_slice()),
-        WireRequest::RealPath { path } => put_string(out, path.as_slice()),
-        WireRequest::Stat { path } => put_string(out, path.as_slice()),
-        WireRequest::Rename { old, new } => {
-            put_string(out, old.as_slice());
-            put_string(out, new.as_slice());
-        }
+        WireRequest::SetStat { path, attrs } => put_with_attrs(out, path, attrs),
+        WireRequest::FSetStat { handle, attrs } => put_with_attrs(out, handle, attrs),
+        WireRequest::Mkdir { path, attrs } => put_with_attrs(out, path, attrs),
+        WireRequest::Rename { old, new } => put_both(out, old, new),
         WireRequest::PosixRename { old, new } => {
             put_string(out, POSIX_RENAME);
-            put_string(out, old.as_slice());
-            put_string(out, new.as_slice());
+            put_both(out, old, new);
         }
+        WireRequest::Close { handle: text }
+        | WireRequest::FStat { handle: text }
+        | WireRequest::ReadDir { handle: text }
+        | WireRequest::LStat { path: text }
+        | WireRequest::OpenDir { path: text }
+        | WireRequest::Remove { path: text }
+        | WireRequest::Rmdir { path: text }
+        | WireRequest::RealPath { path: text }
+        | WireRequest::Stat { path: text } => put_string(out, text.as_slice()),
     }
 }
 

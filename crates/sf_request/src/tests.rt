@@ -1,7 +1,13 @@
+//! What bodies ask, and what requests are written as.
+
 use super::*;
+use bytes::BytesMut;
+use sf_field::{Attrs, ByteString, NO_ATTRS, OpenFlags, Owner, Times};
 use std::alloc::Global;
 use std::process::Abort;
 use std::test::*;
+
+mod writing;
 
 /// The bytes of a text in hexadecimal, whose spaces only group them.
 fn hex_bytes(alloc: Global, text: &str) -> Result<Vec<u8>, Fail> {

@@ -1,6 +1,5 @@
 pub mod Founding
 pub mod Turns
-pub mod Writing
 pub mod Progressing
 pub mod ServingLemmas
 pub mod Cutting

@@ -6,7 +6,7 @@ ghost use Rattle.sf_line.specs.Lines.{Rose};
 ghost use Rattle.sf_service.specs.Serving.{Edges, edges, IsDrained, IsRounded, IsServeFault, ReadsAtLeast, Serves, ServesLine};
 
 use crate::service::{Service, Turn};
-use sf_line::{Line, LineFault};
+use sf_line::{Line, LineFault, write_all};
 use sf_session::{Cause, Clock, ServeFault};
 use std::alloc::{AllocError, Global};
 
@@ -15,21 +15,6 @@ const PIECE: usize = 65536;
 
 /// How many bytes of replies wait, while whole packets are unread.
 const BATCH: usize = 65536;
-
-/// Writes all of the bytes.
-fn write_all<L: Line>(line: &mut L, bytes: &[u8]) -> Result<(), LineFault>
-    ensures written { OnOk result (Appends (L.outgoing line.old) (L.outgoing line.new) bytes.now) }
-    ensures incoming { L.incoming line.new ≡ L.incoming line.old }
-    ensures failures { L.failed line.old ≤ L.failed line.new }
-    ensures fault { OnErr result (Rose (L.failed line.old) (L.failed line.new)) }
-{
-    let mut rest = bytes;
-    while !rest.is_empty() {
-        let n = line.write(rest)?;
-        rest = &rest[n..];
-    }
-    Ok(())
-}
 
 /// Sends what waits to be sent.
 fn send<L: Line>(service: &mut Service, line: &mut L) -> Result<(), LineFault>

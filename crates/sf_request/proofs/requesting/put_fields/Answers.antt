@@ -3,16 +3,10 @@ use Rattle.sf_field.specs.Fields.{string}
 use Rattle.sf_request.specs.Requests.{posix_rename}
 use Rattle.sf_request.proofs.requesting.put_fields.Goals as goal
 
-regroup : (out x y z : List ℕ) → ((out ++ x) ++ y) ++ z ≡ out ++ ((x ++ y) ++ z)
+regroup : (out x y z : List ℕ) → (out ++ x) ++ (y ++ z) ≡ out ++ ((x ++ y) ++ z)
 regroup out x y z = simp append_assoc
 
 pub returns-in-PosixRename-clause-items : goal.returns-in-PosixRename-clause-items
 returns-in-PosixRename-clause-items c =
-    rw (
-      c.in-PosixRename.is,
-      c.put_string-in-PosixRename-3.ensures.items,
-      c.put_string-in-PosixRename-2.ensures.items,
-      c.put_string-in-PosixRename.ensures.items,
-      c.as_slice-in-PosixRename-2.ensures,
-      c.as_slice-in-PosixRename.ensures,
-    ) (regroup c.args.out.now.items (string posix_rename) (string c.in-PosixRename.old) (string c.in-PosixRename.new))
+    rw (c.in-PosixRename.is, c.put_both-in-PosixRename.ensures.items, c.put_string-in-PosixRename.ensures.items)
+    (regroup c.args.out.now.items (string posix_rename) (string c.in-PosixRename.old) (string c.in-PosixRename.new))

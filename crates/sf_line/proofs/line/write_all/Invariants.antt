@@ -1,6 +1,6 @@
 use Rattle.std.proofs.Common.{◌≡◌, ◌≤◌, ℕ, List, ◌++◌, length}
 use Rattle.std.specs.Io.KnownBytes.{Appends}
-use Rattle.sf_client.proofs.lines.write_all.Given as goal
+use Rattle.sf_line.proofs.line.write_all.Given as goal
 
 -- what was written, and the rest, are the bytes
 abbrev pub invariant-loop-rest : goal.invariant-loop-rest

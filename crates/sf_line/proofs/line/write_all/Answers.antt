@@ -1,6 +1,6 @@
 use Rattle.std.proofs.Common.{◌∙◌, arith}
-use Rattle.sf_service.proofs.Writing.{writes_more}
-use Rattle.sf_service.proofs.serving.write_all.Goals as goal
+use Rattle.sf_line.proofs.Writing.{writes_more}
+use Rattle.sf_line.proofs.line.write_all.Goals as goal
 
 pub loop-rest-preserved : goal.loop-rest-preserved
 loop-rest-preserved g c =

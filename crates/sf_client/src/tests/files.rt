@@ -1,0 +1,118 @@
+//! The calls by a handle.
+
+use super::*;
+
+/// A piece of 32768 bytes and one of a byte.
+#[test]
+fn put(rt: HostRuntime) -> Result<(), Fail> {
+    let alloc = rt.alloc();
+    let bytes = vec![in alloc; 7u8; 32769]?;
+    let mut input = after_version(alloc, b"")?;
+    write_reply(1, &Reply::Handle(9), &mut input)?;
+    for id in 2..5 {
+        put_success(&mut input, id)?;
+    }
+    let mut client = client(alloc, input.as_slice())?;
+    client.put(b"/f", bytes.as_slice())?;
+    let mut sent = hex_bytes(
+        alloc,
+        &[
+            INIT,
+            "00000013 03 00000001 00000002 2f66 0000001a 00000000",
+            "0000801d 06 00000002 00000008 0000000000000009 0000000000000000 00008000",
+        ],
+    )?;
+    sent.extend_from_slice(&bytes[..32768])?;
+    sent.extend_from_slice(&hex_bytes(
+        alloc,
+        &[
+            "0000001e 06 00000003 00000008 0000000000000009 0000000000008000 00000001 07",
+            "00000011 04 00000004 00000008 0000000000000009",
+        ],
+    )?)?;
+    let line = client.into_line();
+    assert!(rt; line.output() == sent.as_slice());
+    Ok(())
+}
+
+/// Two pieces and the end of the file; then a READ that is refused, and CLOSE all the same.
+#[test]
+fn get(rt: HostRuntime) -> Result<(), Fail> {
+    let alloc = rt.alloc();
+    let mut input = after_version(alloc, b"")?;
+    write_reply(1, &Reply::Handle(1), &mut input)?;
+    write_reply(2, &Reply::Data(string(alloc, b"abc")?), &mut input)?;
+    write_reply(3, &Reply::Data(string(alloc, b"de")?), &mut input)?;
+    write_reply(4, &Reply::Status(StatusCode::EndOfFile), &mut input)?;
+    put_success(&mut input, 5)?;
+    write_reply(6, &Reply::Handle(6), &mut input)?;
+    write_reply(7, &Reply::Status(StatusCode::PermissionDenied), &mut input)?;
+    put_success(&mut input, 8)?;
+    put_success(&mut input, 9)?;
+    let mut client = client(alloc, input.as_slice())?;
+    let bytes = client.get(b"/f")?;
+    assert_eq!(rt; bytes.as_slice(), b"abcde".as_slice());
+    let refused = ClientFault::Status(StatusCode::PermissionDenied);
+    assert_eq!(rt; client.get(b"/g").err(), Some(refused));
+    client.rmdir(b"/a")?;
+    let sent = hex_bytes(
+        alloc,
+        &[
+            INIT,
+            "00000013 03 00000001 00000002 2f66 00000001 00000000",
+            "0000001d 05 00000002 00000008 0000000000000001 0000000000000000 00008000",
+            "0000001d 05 00000003 00000008 0000000000000001 0000000000000003 00008000",
+            "0000001d 05 00000004 00000008 0000000000000001 0000000000000005 00008000",
+            "00000011 04 00000005 00000008 0000000000000001",
+            "00000013 03 00000006 00000002 2f67 00000001 00000000",
+            "0000001d 05 00000007 00000008 0000000000000006 0000000000000000 00008000",
+            "00000011 04 00000008 00000008 0000000000000006",
+            "0000000b 0f 00000009 00000002 2f61",
+        ],
+    )?;
+    let line = client.into_line();
+    assert_eq!(rt; line.output(), sent.as_slice());
+    Ok(())
+}
+
+/// NAME twice, and the end of the directory.
+#[test]
+fn list(rt: HostRuntime) -> Result<(), Fail> {
+    let alloc = rt.alloc();
+    let name = "00000001 61 00000002 2d61 00000000";
+    let replies = hex_bytes(
+        alloc,
+        &[
+            "00000011 66 00000001 00000008 0000000000000001",
+            "00000018 68 00000002 00000001",
+            name,
+            "00000018 68 00000003 00000001",
+            name,
+        ],
+    )?;
+    let mut input = after_version(alloc, &replies)?;
+    write_reply(4, &Reply::Status(StatusCode::EndOfFile), &mut input)?;
+    put_success(&mut input, 5)?;
+    let mut client = client(alloc, input.as_slice())?;
+    let entries = client.list(b"/a")?;
+    assert_eq!(rt; entries.len(), 2);
+    for entry in &entries {
+        assert_eq!(rt; entry.filename.as_slice(), b"a".as_slice());
+        assert_eq!(rt; entry.longname.as_slice(), b"-a".as_slice());
+        assert_eq!(rt; entry.attrs, NO_ATTRS);
+    }
+    let sent = hex_bytes(
+        alloc,
+        &[
+            INIT,
+            "0000000b 0b 00000001 00000002 2f61",
+            "00000011 0c 00000002 00000008 0000000000000001",
+            "00000011 0c 00000003 00000008 0000000000000001",
+            "00000011 0c 00000004 00000008 0000000000000001",
+            "00000011 04 00000005 00000008 0000000000000001",
+        ],
+    )?;
+    let line = client.into_line();
+    assert_eq!(rt; line.output(), sent.as_slice());
+    Ok(())
+}
