@@ -1,7 +1,6 @@
 //! The same calls on the store and on the slow tree: each reply of one is that of the other.
 
 use sf_call::{Call, Request, Stage};
-use sf_cases::is_same;
 use sf_inode::Store;
 use sf_plain::PlainTree;
 use sf_reply::{Reply, StatusCode};
@@ -32,6 +31,17 @@ fn kind_of(reply: &Reply) -> Kind {
         Reply::Data(_) => Kind::Data,
         Reply::Names(_) => Kind::Names,
         Reply::Attrs(_) => Kind::Attrs,
+    }
+}
+
+fn is_same(reply: &Reply, other: &Reply) -> bool {
+    match (reply, other) {
+        (Reply::Status(code), Reply::Status(other)) => code == other,
+        (Reply::Handle(number), Reply::Handle(other)) => number == other,
+        (Reply::Data(bytes), Reply::Data(other)) => bytes.as_slice() == other.as_slice(),
+        (Reply::Names(listing), Reply::Names(other)) => listing.as_slice() == other.as_slice(),
+        (Reply::Attrs(attrs), Reply::Attrs(other)) => attrs == other,
+        _ => false,
     }
 }
 
