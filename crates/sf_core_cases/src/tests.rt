@@ -1,0 +1,115 @@
+//! Calls of several sessions on one core, step by step, with what each step comes to.
+
+use sf_call::{CoreFault, Record, Request};
+use sf_cases::requests::{mkdir, path, rmdir, stat};
+use sf_core::{Core, Lane, Share, Step};
+use sf_reply::{Reply, StatusCode};
+use std::alloc::Global;
+use std::process::Abort;
+use std::test::*;
+
+mod drawn;
+mod kept;
+mod rows;
+
+/// What a step came to, without the contents of a reply.
+#[derive(Clone, Copy, Debug, PartialEq, Eq)]
+enum Told {
+    Moved,
+    Blocked(u64),
+    Status(StatusCode),
+    NoMemory,
+    Handle(u64),
+    Data,
+    Names,
+    Attrs,
+    Stranger,
+}
+
+fn outcome_of(reply: &Reply) -> Told {
+    match reply {
+        Reply::Status(code) => Told::Status(*code),
+        Reply::NoMemory => Told::NoMemory,
+        Reply::Handle(number) => Told::Handle(*number),
+        Reply::Data(_) => Told::Data,
+        Reply::Names(_) => Told::Names,
+        Reply::Attrs(_) => Told::Attrs,
+    }
+}
+
+fn join(rt: &impl Abort, core: &mut Core) -> Lane {
+    match core.join() {
+        Ok(lane) => lane,
+        Err(fault) => panic!(rt; "not joined: {fault}"),
+    }
+}
+
+/// A call begins.
+fn begin(rt: &impl Abort, core: &mut Core, lane: &mut Lane, request: Result<Request, Fail>) {
+    begin_at(rt, core, lane, request, 100);
+}
+
+fn begin_at(
+    rt: &impl Abort,
+    core: &mut Core,
+    lane: &mut Lane,
+    request: Result<Request, Fail>,
+    moment: u32,
+) {
+    let Ok(request) = request else {
+        panic!(rt; "no request");
+    };
+    assert!(rt; lane.is_idle());
+    match core.begin(lane, request, moment) {
+        Ok(()) => {}
+        Err(fault) => panic!(rt; "not begun: {fault}"),
+    }
+}
+
+fn step(rt: &impl Abort, core: &mut Core, lane: &mut Lane) -> Told {
+    assert!(rt; !lane.is_idle());
+    match core.step(lane) {
+        Step::Moved => Told::Moved,
+        Step::Blocked(holder) => Told::Blocked(holder),
+        Step::Answered(answer) => outcome_of(answer.reply()),
+        Step::Stranger => Told::Stranger,
+    }
+}
+
+/// Takes the lane's call to its answer, which no other call keeps it from.
+fn finish(rt: &impl Abort, core: &mut Core, lane: &mut Lane) -> Told {
+    for _ in 0..300 {
+        let came_to = step(rt, core, lane);
+        if came_to != Told::Moved {
+            return came_to;
+        }
+    }
+    panic!(rt; "no end")
+}
+
+fn leave(rt: &impl Abort, core: &mut Core, lane: Lane) -> Share {
+    assert!(rt; lane.is_idle());
+    match core.leave(lane) {
+        Ok(share) => share,
+        Err(back) => {
+            back.abandon();
+            panic!(rt; "a stranger")
+        }
+    }
+}
+
+/// The number of the record's call, or 0 where a session left.
+fn number_of(record: &Record) -> u64 {
+    match record {
+        Record::Did { number, .. } => *number,
+        Record::Left { session: _ } => 0,
+    }
+}
+
+/// Asserts the numbers of the records that are kept, the oldest first.
+fn records_are(rt: &impl Abort, core: &Core, numbers: &[u64]) {
+    assert_eq!(rt; core.history().len(), numbers.len());
+    for (record, number) in core.history().iter().zip(numbers.iter()) {
+        assert_eq!(rt; number_of(record), *number);
+    }
+}

@@ -1,0 +1,50 @@
+//! A core that keeps the last records alone.
+
+use super::*;
+use crate::tests::drawn::{Draws, drawn_request};
+
+#[test]
+fn oldest_records_go(rt: HostRuntime) -> Result<(), Fail> {
+    let alloc = rt.alloc();
+    let mut core = Core::with_keep(alloc, 2)?;
+    let mut lane = join(&rt, &mut core);
+    for text in [b"/a", b"/b", b"/c", b"/d"] {
+        begin(&rt, &mut core, &mut lane, mkdir(alloc, text));
+        let came_to = finish(&rt, &mut core, &mut lane);
+        assert_eq!(&rt; came_to, Told::Status(StatusCode::Success));
+    }
+    records_are(&rt, &core, &[3, 4]);
+    assert_eq!(&rt; core.folded(), 2);
+    assert_eq!(&rt; core.calls(), 4);
+    begin(&rt, &mut core, &mut lane, stat(alloc, b"/a"));
+    assert_eq!(&rt; finish(&rt, &mut core, &mut lane), Told::Attrs);
+    records_are(&rt, &core, &[4, 5]);
+    lane.abandon();
+    Ok(())
+}
+
+/// Of 1,000 calls each is answered alike by a core that keeps one record and by one that keeps all.
+#[test]
+fn one_record_is_enough(rt: HostRuntime) -> Result<(), Fail> {
+    let alloc = rt.alloc();
+    let mut whole = Core::new(alloc)?;
+    let mut bounded = Core::with_keep(alloc, 1)?;
+    let mut first = join(&rt, &mut whole);
+    let mut second = join(&rt, &mut bounded);
+    let mut draws = Draws::new(7);
+    let mut same = Draws::new(7);
+    for _ in 0..1000 {
+        begin(&rt, &mut whole, &mut first, drawn_request(alloc, &mut draws));
+        begin(&rt, &mut bounded, &mut second, drawn_request(alloc, &mut same));
+        let want = finish(&rt, &mut whole, &mut first);
+        assert_eq!(&rt; finish(&rt, &mut bounded, &mut second), want);
+        draws.remember(want);
+        same.remember(want);
+        assert_eq!(&rt; bounded.history().len(), 1);
+    }
+    assert_eq!(&rt; bounded.folded(), 999);
+    assert_eq!(&rt; bounded.calls(), whole.calls());
+    first.abandon();
+    second.abandon();
+    Ok(())
+}
