@@ -18,7 +18,7 @@ use Rattle.sf_keeps.proofs.Laws.{reached_node}
 use Rattle.sf_coupling.specs.Walks.{Spot, Standing, Holds, LeadsTo, scene, AreWalks, HoldsInstead}
 use Rattle.sf_coupling.proofs.Laws.{keeps_walks}
 use Rattle.sf_walk.specs.Ways.{path_of}
-use Rattle.sf_walk.specs.Served.{IsAsBefore, NodesStay, IsRefused, IsServed}
+use Rattle.sf_walk.specs.Served.{IsAsBefore, NodesStay, IsRefused, IsCarriedOut}
 use Rattle.sf_core.specs.Sound.{terrain, standing_at}
 use Rattle.sf_core.specs.Stepping.{freed}
 use Rattle.sf_core.proofs.Holding.{leads_same}
@@ -27,7 +27,7 @@ use Rattle.sf_core.proofs.Spared.{leads_still, directory_still}
 
 module _ (old mid : StoreState) (history : List Record) (n session moment : ℕ) (r : Request) (given : Reply)
     (legal : IsLegal history) (above : 0 < n) (fresh : IsNewNumber n history) (keeps : Keeps old (replay history))
-    (served : IsRefused old mid (replay history) given ⊎ IsServed mid (replay history) (answer_to (replay history) session n moment r) given)
+    (served : IsRefused old mid (replay history) given ⊎ IsCarriedOut mid (replay history) (answer_to (replay history) session n moment r) given)
     (stays : NodesStay n old mid)
     (labels : (q : Path) (l holder : ℕ) → walk (entry_of old.nodes) old.root q ≡ Some l → holder_of old.nodes l ≡ Some holder → n ≢ holder
     → label_at (after (replay history) (Did n session moment r given)).names q ≡ label_at (replay history).names q)

@@ -21,7 +21,7 @@ use Rattle.sf_keeps.proofs.Laws.{keeps_held}
 use Rattle.sf_coupling.proofs.Laws.{same_or_not}
 use Rattle.sf_walk.specs.declared.finding.Located.{Located}
 use Rattle.sf_walk.specs.Ways.{path_of, IsLocated}
-use Rattle.sf_walk.specs.Served.{IsNewNumber as IsNewTo, IsRefused, IsServed}
+use Rattle.sf_walk.specs.Served.{IsUnused, IsRefused, IsCarriedOut}
 use Rattle.sf_walk.specs.Steps.{IsFreeAt, MayDecideAt}
 use Rattle.sf_core.specs.Cores.{call_at, session_at}
 use Rattle.sf_core.specs.Progress.{did}
@@ -37,7 +37,7 @@ freed_keeps : (at : Stage) (s : StoreState) (t : Tree) → Keeps s t → Keeps (
 freed_keeps stage.Fresh s t h = h
 freed_keeps (stage.At walked node) s t h = keeps_held None s t node h
 
-pub new_to : (p : PartsView) (history : List Record) (number : ℕ) (c : Call) → Sound p history → CallSound p history number c → IsNewTo (replay history) number
+pub new_to : (p : PartsView) (history : List Record) (number : ℕ) (c : Call) → Sound p history → CallSound p history number c → IsUnused (replay history) number
 new_to p history number c sound h = record {
   above = h.above;
   label = no_object history number sound.legal h.above h.new_number;
@@ -49,7 +49,7 @@ module _ (p : PartsView) (history : List Record) (sound : Sound p history) (c : 
   call : CallSound p history c.number c
   call = sound.calls c.number c at
 
-  served : IsRefused p.store fin.mid (replay history) given ⊎ IsServed fin.mid (replay history) (answer_to (replay history) c.session c.number c.moment c.request) given
+  served : IsRefused p.store fin.mid (replay history) given ⊎ IsCarriedOut fin.mid (replay history) (answer_to (replay history) c.session c.number c.moment c.request) given
   served = fin.served (replay history) sound.keeps (new_to p history c.number c sound call)
 
   pub may_follow : CallMayFollow history c.number c.session c.moment c.request given

@@ -30,7 +30,7 @@ use Rattle.sf_keeps.proofs.Laws.{object_there, one_node, reached_node, label_fou
 use Rattle.sf_walk.specs.declared.finding.Located.{Located}
 use Rattle.sf_walk.specs.declared.finding.Located.TheVariants as located
 use Rattle.sf_walk.specs.Ways.{way_from, missing, path_of, IsWay, IsLocated}
-use Rattle.sf_walk.specs.Served.{IsAsBefore, NodesStay, IsRefused, IsServed}
+use Rattle.sf_walk.specs.Served.{IsAsBefore, NodesStay, IsRefused, IsCarriedOut}
 use Rattle.sf_walk.specs.Steps.{IsFreeAt, MayDecideAt}
 
 -- a request's own path is the one that it walks
@@ -112,7 +112,7 @@ directory_is nodes l node at = ap (λ (o : Option Node). option_map_or (λ (x : 
 
 module _ (old mid : StoreState) (history : List Record) (n session moment : ℕ) (r : Request) (given : Reply)
     (legal : IsLegal history) (above : 0 < n) (fresh : IsNewNumber n history) (keeps : Keeps old (replay history))
-    (served : IsRefused old mid (replay history) given ⊎ IsServed mid (replay history) (answer_to (replay history) session n moment r) given)
+    (served : IsRefused old mid (replay history) given ⊎ IsCarriedOut mid (replay history) (answer_to (replay history) session n moment r) given)
     (stays : NodesStay n old mid) where
   t : Tree
   t = replay history

@@ -19,7 +19,7 @@ use Rattle.sf_inode.specs.Stores.{StoreState, IsFirst, edited, closed_all}
 use Rattle.sf_keeps.specs.Keeps.{Keeps}
 use Rattle.sf_walk.specs.declared.walking.Walk.{Walk}
 use Rattle.sf_walk.specs.declared.walking.Walk.TheVariants as walk
-use Rattle.sf_walk.specs.Served.{IsServed, IsRefused, IsNewNumber, NodesStay, may_want_memory}
+use Rattle.sf_walk.specs.Served.{IsCarriedOut, IsRefused, IsUnused, NodesStay, may_want_memory}
 use Rattle.sf_walk.specs.Steps.{Advances}
 use Rattle.sf_core.specs.Cores.{session_at}
 use Rattle.sf_core.specs.Progress.{did, new_call}
@@ -97,9 +97,9 @@ freed (stage.At walked node) s = edited (with_holder None) s node
 -- a call was decided: the store after it, the reply, and its record
 pub record Finished (p q : PartsView) (c : Call) (number : ℕ) (given : Reply) : Type 0 where
   pub mid : StoreState
-  pub served : (t : Tree) → Keeps p.store t → IsNewNumber t c.number → IsRefused p.store mid t given ⊎ IsServed mid t (answer_to t c.session c.number c.moment c.request) given
-  pub sure : (t : Tree) → Keeps p.store t → IsNewNumber t c.number → may_want_memory c.request (answer_to t c.session c.number c.moment c.request).reply ≡ false
-      → IsServed mid t (answer_to t c.session c.number c.moment c.request) given
+  pub served : (t : Tree) → Keeps p.store t → IsUnused t c.number → IsRefused p.store mid t given ⊎ IsCarriedOut mid t (answer_to t c.session c.number c.moment c.request) given
+  pub sure : (t : Tree) → Keeps p.store t → IsUnused t c.number → may_want_memory c.request (answer_to t c.session c.number c.moment c.request).reply ≡ false
+      → IsCarriedOut mid t (answer_to t c.session c.number c.moment c.request) given
   pub look_ups : mid.look_ups ≡ p.store.look_ups
   pub nodes : NodesStay c.number p.store mid
   pub store : q.store ≡ freed c.stage mid

@@ -6,12 +6,12 @@ use Rattle.sf_call.specs.declared.record.Record.{Record}
 use Rattle.sf_call.specs.declared.record.Record.TheVariants.{Did, Left}
 use Rattle.sf_call.specs.Calls.{apply}
 use Rattle.sf_call.specs.Histories.{replay, MayFollow, IsLegalAfter, IsLegal}
-use Rattle.sf_laws.specs.SameCalls.{call_of, calls_of, IsServed, AreServed}
+use Rattle.sf_laws.specs.SameCalls.{call_of, calls_of, HadMemory, AllHadMemory}
 
 told : (given answered : Reply) → (given ≡ answered) ⊎ (given ≡ reply.NoMemory) → given ≢ reply.NoMemory → given ≡ answered
 told given answered may served = elim may [ inl same ↦ same | inr none ↦ absurd (served none) ]
 
-same_record : (before : List Record) (r s : Record) → MayFollow before r → MayFollow before s → IsServed r → IsServed s → call_of r ≡ call_of s → r ≡ s
+same_record : (before : List Record) (r s : Record) → MayFollow before r → MayFollow before s → HadMemory r → HadMemory s → call_of r ≡ call_of s → r ≡ s
 same_record before (Did number session moment request given) (Did n x m q other) may also served served_too same =
     let first = told given (apply (replay before) session number moment request).reply may.answered served in
     let second = told other (apply (replay before) x n m q).reply also.answered served_too in
@@ -24,7 +24,7 @@ same_record before (Did number session moment request given) (Left x) may also s
 same_record before (Left session) (Did n x m q other) may also served served_too same = cc
 same_record before (Left session) (Left x) may also served served_too same = cc
 
-same_after : (before rs ss : List Record) → IsLegalAfter before rs → IsLegalAfter before ss → AreServed rs → AreServed ss → calls_of rs ≡ calls_of ss → rs ≡ ss
+same_after : (before rs ss : List Record) → IsLegalAfter before rs → IsLegalAfter before ss → AllHadMemory rs → AllHadMemory ss → calls_of rs ≡ calls_of ss → rs ≡ ss
 unfolding IsLegalAfter
 same_after before [] [] legal also served served_too same = refl
 same_after before [] (s ∷ ss) legal also served served_too same = cc
@@ -37,6 +37,6 @@ same_after before (r ∷ rs) (s ∷ ss) legal also served served_too same =
     (subst (λ (x : Record). IsLegalAfter (before ++ x ∷ []) ss) (sym here) also.1) served.1 served_too.1 rests in
     cc
 
-pub same_history : (history other : List Record) → IsLegal history → IsLegal other → AreServed history → AreServed other → calls_of history ≡ calls_of other → history ≡ other
+pub same_history : (history other : List Record) → IsLegal history → IsLegal other → AllHadMemory history → AllHadMemory other → calls_of history ≡ calls_of other → history ≡ other
 unfolding IsLegal
 same_history history other legal also served served_too same = same_after [] history other legal also served served_too same

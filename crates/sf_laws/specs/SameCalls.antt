@@ -19,9 +19,9 @@ abbrev pub calls_of : List Record → List Call
 calls_of history = map call_of history
 
 -- the record is no call that wanted for memory
-abbrev pub IsServed : Record → Type 0
-IsServed (Did number session moment request given) = given ≢ reply.NoMemory
-IsServed (Left session) = Unit {0}
+abbrev pub HadMemory : Record → Type 0
+HadMemory (Did number session moment request given) = given ≢ reply.NoMemory
+HadMemory (Left session) = Unit {0}
 
-abbrev pub AreServed : List Record → Type 0
-AreServed history = AllByRecursion IsServed history
+abbrev pub AllHadMemory : List Record → Type 0
+AllHadMemory history = AllByRecursion HadMemory history

@@ -20,7 +20,7 @@ use Rattle.sf_call.specs.declared.fault.CoreFault.TheVariants as core
 use Rattle.sf_call.specs.declared.request.Request.{Request}
 use Rattle.sf_inode.specs.Stores.{StoreState, IsFirst}
 use Rattle.sf_keeps.specs.Keeps.{Keeps}
-use Rattle.sf_walk.specs.Served.{IsNewNumber}
+use Rattle.sf_walk.specs.Served.{IsUnused}
 use Rattle.sf_session.specs.declared.asking.Ask.TheVariants as ask
 use Rattle.sf_session.specs.declared.cause.Cause.{Cause}
 use Rattle.sf_line.specs.Lines.{Rose}
@@ -85,7 +85,7 @@ IsFounded store calls = (history : List Record) × IsGrown history store calls
 -- a call of this number and moment has the reply of the tree that the store keeps, which is then the tree after it; or want
 -- of memory, which leaves the tree as it was
 abbrev pub Does : StoreState → ℕ → ℕ → Request → Reply → StoreState → Type 0
-Does store number moment request given store' = (t : Tree) → Keeps store t → IsNewNumber t number
+Does store number moment request given store' = (t : Tree) → Keeps store t → IsUnused t number
     → ((given ≡ (apply t 1 number moment request).reply) × Keeps store' (apply t 1 number moment request).tree) ⊎ ((given ≡ reply.NoMemory) × Keeps store' t)
 
 -- A call was made at a moment that the clock told, under the next number.

@@ -26,7 +26,7 @@ use Rattle.sf_inode.specs.Nodes.{object_in, stored_in, with_stored, with_content
 use Rattle.sf_inode.specs.Stores.{StoreState, node_in, stored_of, stored_set, file_size, is_file_at, shown_of, shown_node, shown_handle, edited}
 use Rattle.sf_keeps.specs.Keeps.{Keeps}
 use Rattle.sf_keeps.proofs.Laws.{keeps_reserved, keeps_contents, keeps_file, object_again, edited_itself}
-use Rattle.sf_walk.specs.Served.{IsServed, is_success}
+use Rattle.sf_walk.specs.Served.{IsCarriedOut, is_success}
 use Rattle.sf_walk.proofs.Told.{tells_served}
 use Rattle.sf_walk.proofs.SetNodes.{shown_stored, stored_bytes}
 use Rattle.sf_walk.proofs.OpenHandles.{IsOpen, file_is}
@@ -112,7 +112,7 @@ module _ (s : StoreState) (t : Tree) (session number : ℕ) (h : OpenHandle) (o 
   pub refused : (f : Opened → Answer) → ((handle : Handle) (m : Metadata) → f (OpenDirectory handle m) ≡ refuses Failure) → None ≡ file_size s.nodes h.node → f (opened t session number) ≡ refuses Failure
   refused f law none = ap f o.opens ∙ no_file f law (shown_handle session h) o.node.metadata o.node.content (sym (file_is s t session number h o) ∙ no_size s.nodes h.node none)
 
-  pub refused_served : (f : Opened → Answer) → ((handle : Handle) (m : Metadata) → f (OpenDirectory handle m) ≡ refuses Failure) → None ≡ file_size s.nodes h.node → IsServed s t (f (opened t session number)) (reply.Status Failure)
+  pub refused_served : (f : Opened → Answer) → ((handle : Handle) (m : Metadata) → f (OpenDirectory handle m) ≡ refuses Failure) → None ≡ file_size s.nodes h.node → IsCarriedOut s t (f (opened t session number)) (reply.Status Failure)
   refused_served f law none = tells_served s t (f (opened t session number)) (reply.Status Failure) (refused f law none) o.keeps
 
   pub read_is : (offset len size : ℕ) → Some size ≡ file_size s.nodes h.node → h.marks.read ≡ true → offset < size
@@ -134,13 +134,13 @@ module _ (s : StoreState) (t : Tree) (session number : ℕ) (h : OpenHandle) (o 
   pub read_wants : (offset len size : ℕ) → Some size ≡ file_size s.nodes h.node → h.marks.read ≡ true → offset < size → is_success (read offset len (opened t session number)).reply ≡ true
   read_wants offset len size e r less = ap is_success (read_is offset len size e r less)
 
-  pub write_unmarked : (moment offset size : ℕ) (bytes : List ℕ) → Some size ≡ file_size s.nodes h.node → h.marks.write ≡ false → IsServed s t (write moment offset bytes (opened t session number)) (reply.Status PermissionDenied)
+  pub write_unmarked : (moment offset size : ℕ) (bytes : List ℕ) → Some size ≡ file_size s.nodes h.node → h.marks.write ≡ false → IsCarriedOut s t (write moment offset bytes (opened t session number)) (reply.Status PermissionDenied)
   write_unmarked moment offset size bytes e w =
       let f = open_file (size_is s.nodes h.node size e).0 in
       tells_served s t (write moment offset bytes (opened t session number)) (reply.Status PermissionDenied)
       (ap (write moment offset bytes) f.1.1 ∙ write_denied moment offset bytes (shown_handle session h) f.0 (stored_of s.nodes h.node).bytes w) o.keeps
 
-  pub write_none : (moment offset size : ℕ) (bytes : List ℕ) → Some size ≡ file_size s.nodes h.node → h.marks.write ≡ true → bytes ≡ [] → IsServed s t (write moment offset bytes (opened t session number)) (reply.Status Success)
+  pub write_none : (moment offset size : ℕ) (bytes : List ℕ) → Some size ≡ file_size s.nodes h.node → h.marks.write ≡ true → bytes ≡ [] → IsCarriedOut s t (write moment offset bytes (opened t session number)) (reply.Status Success)
   write_none moment offset size bytes e w none =
       let f = open_file (size_is s.nodes h.node size e).0 in
       tells_served s t (write moment offset bytes (opened t session number)) (reply.Status Success)
@@ -150,7 +150,7 @@ module _ (s : StoreState) (t : Tree) (session number : ℕ) (h : OpenHandle) (o 
     starts : start_of (shown_handle session h) (stored_of s.nodes h.node).bytes offset ≡ start
     starts = sym (from ∙ ap (λ k. if h.marks.append then k else offset) (size_is s.nodes h.node size e).1)
 
-    pub write_refused : (moment : ℕ) → true ≡ nat_lt MAX_FILE_SIZE (start + length bytes) → IsServed s t (write moment offset bytes (opened t session number)) (reply.Status Failure)
+    pub write_refused : (moment : ℕ) → true ≡ nat_lt MAX_FILE_SIZE (start + length bytes) → IsCarriedOut s t (write moment offset bytes (opened t session number)) (reply.Status Failure)
     write_refused moment past =
         let f = open_file (size_is s.nodes h.node size e).0 in
         tells_served s t (write moment offset bytes (opened t session number)) (reply.Status Failure)
@@ -164,10 +164,10 @@ module _ (s : StoreState) (t : Tree) (session number : ℕ) (h : OpenHandle) (o 
 
     pub write_served : (new : StoreState) (moment : ℕ) → false ≡ nat_lt MAX_FILE_SIZE (start + length bytes)
         → ((u : Tree) (label : ℕ) (m : Metadata) (contents : List ℕ) → Keeps s u → shown_of s.nodes h.node ≡ Some (label, File m contents) → Keeps new (changed u (SetObject label (File (modified_at moment m) (written contents start bytes)))))
-        → IsServed new t (write moment offset bytes (opened t session number)) (reply.Status Success)
+        → IsCarriedOut new t (write moment offset bytes (opened t session number)) (reply.Status Success)
     write_served new moment past law =
         let f = open_file (size_is s.nodes h.node size e).0 in
-        subst (λ (a : Answer). IsServed new t a (reply.Status Success))
+        subst (λ (a : Answer). IsCarriedOut new t a (reply.Status Success))
         (sym (ap (write moment offset bytes) f.1.1 ∙ write_within moment offset start bytes (shown_handle session h) f.0 (stored_of s.nodes h.node).bytes marked some starts (sym past)))
         (record { told = refl; tree = law t h.label f.0 (stored_of s.nodes h.node).bytes o.keeps f.1.0 })
 

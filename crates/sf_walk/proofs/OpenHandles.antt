@@ -14,7 +14,7 @@ use Rattle.sf_inode.specs.Nodes.{object_in, is_directory_content, is_file_conten
 use Rattle.sf_inode.specs.Stores.{StoreState, node_in, is_directory_at, is_file_at, handle_at, shown_handle, closed}
 use Rattle.sf_keeps.specs.Keeps.{Keeps}
 use Rattle.sf_keeps.proofs.Laws.{found_node, keeps_closed}
-use Rattle.sf_walk.specs.Served.{IsServed}
+use Rattle.sf_walk.specs.Served.{IsCarriedOut}
 
 -- A session's handle, whose node is there. The tree has the handle too, and the node's object.
 pub record IsOpen (s : StoreState) (t : Tree) (session number : ℕ) (h : OpenHandle) : Type 0 where
@@ -40,7 +40,7 @@ module _ (s : StoreState) (t : Tree) (session number : ℕ) (h : OpenHandle) (o 
   file_is = ap (λ (n : Option Node). option_map_or (λ (node : Node). is_file_content node.content) n false) o.there
 
   -- ---- CLOSE
-  pub close_served : (new : StoreState) → new ≡ closed s session number → IsServed new t (close number (handle_in t session number)) (reply.Status Success)
+  pub close_served : (new : StoreState) → new ≡ closed s session number → IsCarriedOut new t (close number (handle_in t session number)) (reply.Status Success)
   close_served new state =
-      subst (λ (x : StoreState). IsServed x t (close number (handle_in t session number)) (reply.Status Success)) (sym state)
-      (subst (λ (a : Option Handle). IsServed (closed s session number) t (close number a) (reply.Status Success)) (sym o.handle) (record { told = refl; tree = keeps_closed s t o.keeps session number h o.at }))
+      subst (λ (x : StoreState). IsCarriedOut x t (close number (handle_in t session number)) (reply.Status Success)) (sym state)
+      (subst (λ (a : Option Handle). IsCarriedOut (closed s session number) t (close number a) (reply.Status Success)) (sym o.handle) (record { told = refl; tree = keeps_closed s t o.keeps session number h o.at }))

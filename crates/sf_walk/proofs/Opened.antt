@@ -33,7 +33,7 @@ use Rattle.sf_keeps.proofs.Laws.{keeps_opened, keeps_inserted, keeps_contents, k
 use Rattle.sf_walk.specs.Ways.{missing, way_from, last_of, found_content, found_node}
 use Rattle.sf_walk.specs.declared.finding.Located.TheVariants as located
 use Rattle.sf_walk.specs.Opening.{marks_of, OpenedNew}
-use Rattle.sf_walk.specs.Served.{IsServed, Gives, IsAlike, LookedUp, Stays, IsNewNumber, is_success}
+use Rattle.sf_walk.specs.Served.{IsCarriedOut, Gives, IsAlike, LookedUp, Stays, IsUnused, is_success}
 use Rattle.sf_walk.proofs.Holders.{put_nodes, stays_inserted, stays_opened, alike_looked}
 use Rattle.sf_walk.proofs.LookUps.{looked_nodes}
 use Rattle.sf_walk.proofs.Fits.{no_way, name_missing, node_at}
@@ -82,11 +82,11 @@ module _ (t : Tree) (session number : ℕ) where
   pub listing_wants : (it : Node) → is_directory_content it.content ≡ true → has_all_handles t session ≡ false → is_success (open_directory t session number (found_node it)).reply ≡ true
   listing_wants it d e = ap (λ (a : Answer). is_success a.reply) (listing_opens it.label it.metadata it.content d e)
 
-  pub listing_served : (s new : StoreState) (it : Node) (id : ℕ) → Keeps s t → IsNewNumber t number → number < 2 ^ 64 → node_in s.nodes id ≡ Some it → is_directory_content it.content ≡ true → has_all_handles t session ≡ false
-      → new ≡ opened s session number id (record { read = false; write = false; append = false }) → IsServed new t (open_directory t session number (found_node it)) (reply.Handle number)
+  pub listing_served : (s new : StoreState) (it : Node) (id : ℕ) → Keeps s t → IsUnused t number → number < 2 ^ 64 → node_in s.nodes id ≡ Some it → is_directory_content it.content ≡ true → has_all_handles t session ≡ false
+      → new ≡ opened s session number id (record { read = false; write = false; append = false }) → IsCarriedOut new t (open_directory t session number (found_node it)) (reply.Handle number)
   listing_served s new it id k fresh fits at d e state =
       let kept = keeps_opened s t k session number id (record { read = false; write = false; append = false }) it fresh.above fits fresh.handle at in
-      subst (λ (a : Answer). IsServed new t a (reply.Handle number)) (sym (listing_opens it.label it.metadata it.content d e))
+      subst (λ (a : Answer). IsCarriedOut new t a (reply.Handle number)) (sym (listing_opens it.label it.metadata it.content d e))
       (record { told = refl; tree = subst (λ (x : StoreState). Keeps x (changed t (OpenHandle number (directory_handle session it.label)))) (sym state) kept })
 
 -- ---- OPEN of a node that is there
@@ -103,25 +103,25 @@ module _ (t : Tree) (session number moment : ℕ) (flags : OpenFlags) where
       ap (λ (a : Answer). is_success a.reply) (present_opens it.label it.metadata it.content (flags.truncate && flags.write) d e refl)
       ∙ elim (flags.truncate && flags.write) as (λ b. is_success (opens_file it.label it.metadata false b).reply ≡ true) [ true ↦ refl | false ↦ refl ]
 
-  pub present_served : (s new : StoreState) (it : Node) (id : ℕ) → Keeps s t → IsNewNumber t number → number < 2 ^ 64 → node_in s.nodes id ≡ Some it → is_directory_content it.content ≡ false → has_all_handles t session ≡ false
-      → (flags.truncate && flags.write) ≡ false → new ≡ opened s session number id (marks_of flags) → IsServed new t (open_present t session number moment flags (found_node it)) (reply.Handle number)
+  pub present_served : (s new : StoreState) (it : Node) (id : ℕ) → Keeps s t → IsUnused t number → number < 2 ^ 64 → node_in s.nodes id ≡ Some it → is_directory_content it.content ≡ false → has_all_handles t session ≡ false
+      → (flags.truncate && flags.write) ≡ false → new ≡ opened s session number id (marks_of flags) → IsCarriedOut new t (open_present t session number moment flags (found_node it)) (reply.Handle number)
   present_served s new it id k fresh fits at d e f state =
       let kept = keeps_opened s t k session number id (marks_of flags) it fresh.above fits fresh.handle at in
-      subst (λ (a : Answer). IsServed new t a (reply.Handle number)) (sym (present_opens it.label it.metadata it.content false d e f))
+      subst (λ (a : Answer). IsCarriedOut new t a (reply.Handle number)) (sym (present_opens it.label it.metadata it.content false d e f))
       (record { told = refl; tree = subst (λ (x : StoreState). Keeps x (changed t (OpenHandle number (file_handle session it.label flags)))) (sym state) kept })
 
   -- the law of cutting a file
   abbrev pub CutsFile : StoreState → StoreState → ℕ → Type 0
   CutsFile mid new id = (u : Tree) (label : ℕ) (m : Metadata) (bytes : List ℕ) → Keeps mid u → shown_of mid.nodes id ≡ Some (label, File m bytes) → Keeps new (changed u (SetObject label (File (modified_at moment m) [])))
 
-  pub present_cut : (s mid new : StoreState) (it : Node) (id : ℕ) → Keeps s t → IsNewNumber t number → number < 2 ^ 64 → node_in s.nodes id ≡ Some it → is_directory_content it.content ≡ false → has_all_handles t session ≡ false
-      → (flags.truncate && flags.write) ≡ true → mid ≡ opened s session number id (marks_of flags) → CutsFile mid new id → IsServed new t (open_present t session number moment flags (found_node it)) (reply.Handle number)
+  pub present_cut : (s mid new : StoreState) (it : Node) (id : ℕ) → Keeps s t → IsUnused t number → number < 2 ^ 64 → node_in s.nodes id ≡ Some it → is_directory_content it.content ≡ false → has_all_handles t session ≡ false
+      → (flags.truncate && flags.write) ≡ true → mid ≡ opened s session number id (marks_of flags) → CutsFile mid new id → IsCarriedOut new t (open_present t session number moment flags (found_node it)) (reply.Handle number)
   present_cut s mid new it id k fresh fits at d e f state cuts =
       let kept : Keeps mid (changed t (OpenHandle number (file_handle session it.label flags))) =
       subst (λ (x : StoreState). Keeps x (changed t (OpenHandle number (file_handle session it.label flags)))) (sym state) (keeps_opened s t k session number id (marks_of flags) it fresh.above fits fresh.handle at) in
       let shown : shown_of mid.nodes id ≡ Some (it.label, File it.metadata (stored_in it.content).bytes) =
       ap (λ (x : StoreState). shown_of x.nodes id) state ∙ shown_opened s session number id (marks_of flags) id ∙ ap (option_map shown_node) at ∙ file_there it.label it.metadata it.content d in
-      subst (λ (a : Answer). IsServed new t a (reply.Handle number)) (sym (present_opens it.label it.metadata it.content true d e f))
+      subst (λ (a : Answer). IsCarriedOut new t a (reply.Handle number)) (sym (present_opens it.label it.metadata it.content true d e f))
       (record { told = refl; tree = cuts (changed t (OpenHandle number (file_handle session it.label flags))) it.label it.metadata (stored_in it.content).bytes kept shown })
 
 -- ---- OPEN of a missing name
@@ -136,10 +136,10 @@ module _ (t : Tree) (session number moment : ℕ) (path : Path) (flags : OpenFla
   absent_wants c f = ap (λ (a : Answer). is_success a.reply) (absent_is false false c f)
 
   pub absent_served : (s mid new : StoreState) (front : Path) (dir : ℕ) (metadata : Metadata)
-      → Keeps s t → IsNewNumber t number → number < 2 ^ 64 → path ≡ front ++ last_of path ∷ [] → walk (entry_of s.nodes) s.root front ≡ Some dir → is_directory_at s.nodes dir ≡ true → entry_of s.nodes dir (last_of path) ≡ None
+      → Keeps s t → IsUnused t number → number < 2 ^ 64 → path ≡ front ++ last_of path ∷ [] → walk (entry_of s.nodes) s.root front ≡ Some dir → is_directory_at s.nodes dir ≡ true → entry_of s.nodes dir (last_of path) ≡ None
       → not flags.create ≡ false → has_all_handles t session ≡ false → metadata ≡ new_metadata 0o644 moment attrs
       → OpenedNew s mid session number dir (last_of path) (marks_of flags) (record { label = number; file_type = file_type.File; metadata = metadata }) → new ≡ edited (with_metadata (modified_at moment)) mid dir
-      → IsServed new t (open_file t session number moment path flags attrs Absent) (reply.Handle number)
+      → IsCarriedOut new t (open_file t session number moment path flags attrs Absent) (reply.Handle number)
   absent_served s mid new front dir metadata k fresh fits is at d none c f asked did state =
       let n = last_of path in
       let it : NewNode = record { label = number; file_type = file_type.File; metadata = metadata } in
@@ -157,7 +157,7 @@ module _ (t : Tree) (session number moment : ℕ) (path : Path) (flags : OpenFla
       subst (λ (x : StoreState). Keeps x (done t (OpenHandle number (file_handle session number flags) ∷ NewPath path number (File (new_metadata 0o644 moment attrs) []) ∷ touched t moment (parent path)))) (sym state)
       (subst (λ (m : Metadata). Keeps (edited (with_metadata (modified_at moment)) mid dir) (done t (OpenHandle number (file_handle session number flags) ∷ NewPath path number (File m []) ∷ touched t moment (parent path)))) asked
       (subst (λ (q : Path). Keeps (edited (with_metadata (modified_at moment)) mid dir) (done t (OpenHandle number (file_handle session number flags) ∷ NewPath q number (File metadata []) ∷ touched t moment (parent q)))) (sym is) after)) in
-      subst (λ (a : Answer). IsServed new t a (reply.Handle number)) (sym (absent_is false false c f)) (record { told = refl; tree = whole })
+      subst (λ (a : Answer). IsCarriedOut new t a (reply.Handle number)) (sym (absent_is false false c f)) (record { told = refl; tree = whole })
 
 -- ---- a file that is cut
 cut_node : (room : ℕ) (c : Content) (l label : ℕ) (k m : Metadata) (bytes : List ℕ) → shown_as l (object_in k c) ≡ shown_as label (File m bytes)
@@ -235,7 +235,7 @@ module _ (old mid : StoreState) (t : Tree) (p : Path) (most : ℕ) (looked : Loo
     abbrev answer : Place → Answer
     answer place = open_file t session number moment p flags attrs place
 
-    pub open_no_way : (p ≡ [] → ⊥) → located.NoWay ≡ way_from old.nodes old.root old.root p → IsServed mid t (unless_root p (answer (place_at t p))) (reply.Status NoSuchFile)
+    pub open_no_way : (p ≡ [] → ⊥) → located.NoWay ≡ way_from old.nodes old.root old.root p → IsCarriedOut mid t (unless_root p (answer (place_at t p))) (reply.Status NoSuchFile)
     open_no_way ne e =
         let k = keeps_looked old mid t most looked h in
         past_root mid t p (answer (place_at t p)) (reply.Status NoSuchFile) ne
@@ -251,7 +251,7 @@ module _ (old mid : StoreState) (t : Tree) (p : Path) (most : ℕ) (looked : Loo
         let there : p ≡ f.1.0 ++ last_of p ∷ [] = f.1.2 ∙ ap (λ (m : Name). f.1.0 ++ m ∷ []) (sym last) in
         past_root_gives new t p (answer (place_at t p)) r ne (subst (λ (place : Place). Gives new t (answer place) r) (sym f.0) (served f.1.0 there f.1.3))
 
-    pub open_exclusive : (above y : ℕ) → (p ≡ [] → ⊥) → located.At above y ≡ way_from old.nodes old.root old.root p → (flags.create && flags.exclusive) ≡ true → IsServed mid t (unless_root p (answer (place_at t p))) (reply.Status Failure)
+    pub open_exclusive : (above y : ℕ) → (p ≡ [] → ⊥) → located.At above y ≡ way_from old.nodes old.root old.root p → (flags.create && flags.exclusive) ≡ true → IsCarriedOut mid t (unless_root p (answer (place_at t p))) (reply.Status Failure)
     open_exclusive above y ne e both =
         let k = keeps_looked old mid t most looked h in
         let f = node_at mid t k p above y (way_looked old mid p most (located.At above y) looked e) in

@@ -25,7 +25,7 @@ use Rattle.sf_keeps.specs.Keeps.{Keeps}
 use Rattle.sf_keeps.proofs.Laws.{directory_found, keeps_directory, keeps_inserted, keeps_unlinked, inserted_alike, unlinked_alike}
 use Rattle.sf_walk.specs.declared.finding.Located.TheVariants as located
 use Rattle.sf_walk.specs.Ways.{way_from, last_of}
-use Rattle.sf_walk.specs.Served.{LookedUp, IsServed}
+use Rattle.sf_walk.specs.Served.{LookedUp, IsCarriedOut}
 use Rattle.sf_walk.proofs.Fits.{name_missing, node_at}
 use Rattle.sf_walk.proofs.Looked.{keeps_looked, way_looked}
 use Rattle.sf_walk.proofs.LastNames.{last_is, parent_is}
@@ -84,7 +84,7 @@ pub make_served : (old mid made new : StoreState) (t : Tree) (p : Path) (most nu
     → LookedUp old mid most → Keeps old t → object_of t.objects number ≡ None → located.Missing dir ≡ way_from old.nodes old.root old.root p
     → Inserted mid made dir (last_of p) id (new_node it) → it.label ≡ number → object_in it.metadata (new_content it.file_type) ≡ Directory (new_metadata 0o755 moment attrs)
     → new ≡ edited (with_metadata (modified_at moment)) made dir
-    → IsServed new t (make_directory t number moment p attrs (place_at t p)) (reply.Status Success)
+    → IsCarriedOut new t (make_directory t number moment p attrs (place_at t p)) (reply.Status Success)
 make_served old mid made new t p most number moment attrs dir id it looked h fresh e did label object state =
     let k = keeps_looked old mid t most looked h in
     let f = name_missing mid t k p dir (way_looked old mid p most (located.Missing dir) looked e) in
@@ -102,12 +102,12 @@ make_served old mid made new t p most number moment attrs dir id it looked h fre
     (subst (λ (q : Path). Keeps (edited (with_metadata (modified_at moment)) made dir) (done t (NewPath q number (Directory (new_metadata 0o755 moment attrs)) ∷ touched t moment (parent q)))) (sym is)
     (subst (λ (o : Object). Keeps (edited (with_metadata (modified_at moment)) made dir) (done t (NewPath (r ++ n ∷ []) number o ∷ touched t moment (parent (r ++ n ∷ []))))) object
     (subst (λ (l : ℕ). Keeps (edited (with_metadata (modified_at moment)) made dir) (done t (NewPath (r ++ n ∷ []) l (object_in it.metadata (new_content it.file_type)) ∷ touched t moment (parent (r ++ n ∷ []))))) label after))) in
-    subst (λ (a : Answer). IsServed new t a (reply.Status Success)) (sym (ap (make_directory t number moment p attrs) f.0)) (record { told = refl; tree = whole })
+    subst (λ (a : Answer). IsCarriedOut new t a (reply.Status Success)) (sym (ap (make_directory t number moment p attrs) f.0)) (record { told = refl; tree = whole })
 
 -- ---- a path less
 pub goes_served : (s new : StoreState) (t : Tree) (p : Path) (moment dir y : ℕ)
     → Keeps s t → 0 < length p → way_from s.nodes s.root s.root p ≡ located.At dir y → is_bare_at s.nodes y ≡ true → new ≡ edited (with_metadata (modified_at moment)) (unlinked s dir (last_of p)) dir
-    → IsServed new t (goes t moment p) (reply.Status Success)
+    → IsCarriedOut new t (goes t moment p) (reply.Status Success)
 goes_served s new t p moment dir y h some e bare state = elim (node_at s t h p dir y e).1 [
   | inl root ↦ let z = ap (λ (q : Path). length q) root in absurd (omega arith)
   | inr f ↦

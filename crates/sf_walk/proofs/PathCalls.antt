@@ -23,7 +23,7 @@ use Rattle.sf_keeps.specs.Keeps.{Keeps}
 use Rattle.sf_keeps.proofs.Laws.{bare_found}
 use Rattle.sf_walk.specs.declared.finding.Located.TheVariants as located
 use Rattle.sf_walk.specs.Ways.{way_from, found_content, found_node}
-use Rattle.sf_walk.specs.Served.{LookedUp, IsServed, Gives, Stays, is_success}
+use Rattle.sf_walk.specs.Served.{LookedUp, IsCarriedOut, Gives, Stays, is_success}
 use Rattle.sf_walk.proofs.Holders.{stays_looked, stays_edited, stays_unlinked}
 use Rattle.sf_walk.proofs.Fits.{no_way, name_missing, node_at}
 use Rattle.sf_walk.proofs.Looked.{keeps_looked, way_looked}
@@ -57,10 +57,10 @@ module _ (old mid : StoreState) (t : Tree) (p : Path) (most : ℕ) (looked : Loo
   mid_keeps = keeps_looked old mid t most looked h
 
   -- no way, and a missing name, for any call that looks at what is found
-  pub no_way_served : (f : Found → Answer) → f Nowhere ≡ refuses NoSuchFile → located.NoWay ≡ way_from old.nodes old.root old.root p → IsServed mid t (f (found_at t p)) (reply.Status NoSuchFile)
+  pub no_way_served : (f : Found → Answer) → f Nowhere ≡ refuses NoSuchFile → located.NoWay ≡ way_from old.nodes old.root old.root p → IsCarriedOut mid t (f (found_at t p)) (reply.Status NoSuchFile)
   no_way_served f at e = tells_served mid t (f (found_at t p)) (reply.Status NoSuchFile) (ap f (found_no_way mid t p mid_keeps (way_looked old mid p most located.NoWay looked e)) ∙ at) mid_keeps
 
-  pub missing_served : (f : Found → Answer) → f Nothing ≡ refuses NoSuchFile → (d : ℕ) → located.Missing d ≡ way_from old.nodes old.root old.root p → IsServed mid t (f (found_at t p)) (reply.Status NoSuchFile)
+  pub missing_served : (f : Found → Answer) → f Nothing ≡ refuses NoSuchFile → (d : ℕ) → located.Missing d ≡ way_from old.nodes old.root old.root p → IsCarriedOut mid t (f (found_at t p)) (reply.Status NoSuchFile)
   missing_served f at d e = tells_served mid t (f (found_at t p)) (reply.Status NoSuchFile) (ap f (found_missing mid t p mid_keeps d (way_looked old mid p most (located.Missing d) looked e)) ∙ at) mid_keeps
 
   -- the node that was located
@@ -76,7 +76,7 @@ module _ (old mid : StoreState) (t : Tree) (p : Path) (most : ℕ) (looked : Loo
   stat_content l m (content.File contents) = refl
 
   pub stat_served : (above y : ℕ) (attrs : Attrs) → located.At above y ≡ way_from old.nodes old.root old.root p
-      → Some attrs ≡ option_map (λ (it : Node). attrs_of (object_in it.metadata it.content)) (node_in mid.nodes y) → IsServed mid t (stat (found_at t p)) (reply.Attrs attrs)
+      → Some attrs ≡ option_map (λ (it : Node). attrs_of (object_in it.metadata it.content)) (node_in mid.nodes y) → IsCarriedOut mid t (stat (found_at t p)) (reply.Attrs attrs)
   stat_served above y attrs e sent =
       let w = node_located above y e in
       let are : Some attrs ≡ Some (attrs_of (object_in w.0.metadata w.0.content)) = sent ∙ ap (option_map (λ (it : Node). attrs_of (object_in it.metadata it.content))) w.1.0 in
@@ -84,7 +84,7 @@ module _ (old mid : StoreState) (t : Tree) (p : Path) (most : ℕ) (looked : Loo
       tells_served mid t (stat (found_at t p)) (reply.Attrs attrs) (ap stat w.1.1 ∙ stat_content w.0.label w.0.metadata w.0.content ∙ ap (λ a. tells (reply.Attrs a)) same) mid_keeps
 
   pub stat_gone : (above y : ℕ) → located.At above y ≡ way_from old.nodes old.root old.root p
-      → None ≡ option_map (λ (it : Node). attrs_of (object_in it.metadata it.content)) (node_in mid.nodes y) → IsServed mid t (stat (found_at t p)) (reply.Status NoSuchFile)
+      → None ≡ option_map (λ (it : Node). attrs_of (object_in it.metadata it.content)) (node_in mid.nodes y) → IsCarriedOut mid t (stat (found_at t p)) (reply.Status NoSuchFile)
   stat_gone above y e sent =
       let w = node_located above y e in
       let are : None ≡ Some (attrs_of (object_in w.0.metadata w.0.content)) = sent ∙ ap (option_map (λ (it : Node). attrs_of (object_in it.metadata it.content))) w.1.0 in
@@ -112,13 +112,13 @@ module _ (old mid : StoreState) (t : Tree) (p : Path) (most : ℕ) (looked : Loo
       past_root_wants p (make_directory t number moment p attrs (place_at t p)) ne
       (ap (λ place. is_success (make_directory t number moment p attrs place).reply) (name_missing mid t mid_keeps p d (way_looked old mid p most (located.Missing d) looked e)).0)
 
-  pub make_no_way : (number moment : ℕ) (attrs : Attrs) → located.NoWay ≡ way_from old.nodes old.root old.root p → IsServed mid t (make_directory t number moment p attrs (place_at t p)) (reply.Status NoSuchFile)
+  pub make_no_way : (number moment : ℕ) (attrs : Attrs) → located.NoWay ≡ way_from old.nodes old.root old.root p → IsCarriedOut mid t (make_directory t number moment p attrs (place_at t p)) (reply.Status NoSuchFile)
   make_no_way number moment attrs e =
       tells_served mid t (make_directory t number moment p attrs (place_at t p)) (reply.Status NoSuchFile)
       (ap (make_directory t number moment p attrs) (no_way mid t mid_keeps p (way_looked old mid p most located.NoWay looked e))) mid_keeps
 
   pub make_present : (number moment : ℕ) (attrs : Attrs) (above y : ℕ) → located.At above y ≡ way_from old.nodes old.root old.root p
-      → IsServed mid t (make_directory t number moment p attrs (place_at t p)) (reply.Status Failure)
+      → IsCarriedOut mid t (make_directory t number moment p attrs (place_at t p)) (reply.Status Failure)
   make_present number moment attrs above y e =
       tells_served mid t (make_directory t number moment p attrs (place_at t p)) (reply.Status Failure)
       (ap (make_directory t number moment p attrs) (node_at mid t mid_keeps p above y (way_looked old mid p most (located.At above y) looked e)).2.2) mid_keeps
@@ -134,16 +134,16 @@ module _ (old mid : StoreState) (t : Tree) (p : Path) (most : ℕ) (looked : Loo
       ap (remove_file t moment p) w.1.1 ∙ remove_content moment w.0.label w.0.metadata w.0.content
       ∙ ap (λ (o : Option Node). cond {A = Answer} (option_map_or (λ (node : Node). is_directory_content node.content) o false) (refuses Failure) (goes t moment p)) (sym w.1.0)
 
-  pub remove_refused : (moment above y : ℕ) → located.At above y ≡ way_from old.nodes old.root old.root p → true ≡ is_directory_at mid.nodes y → IsServed mid t (remove_file t moment p (found_at t p)) (reply.Status Failure)
+  pub remove_refused : (moment above y : ℕ) → located.At above y ≡ way_from old.nodes old.root old.root p → true ≡ is_directory_at mid.nodes y → IsCarriedOut mid t (remove_file t moment p (found_at t p)) (reply.Status Failure)
   remove_refused moment above y e d =
       tells_served mid t (remove_file t moment p (found_at t p)) (reply.Status Failure) (remove_located moment above y e ∙ ap (λ b. cond {A = Answer} b (refuses Failure) (goes t moment p)) (sym d)) mid_keeps
 
   pub remove_served : (new : StoreState) (moment above y : ℕ) → located.At above y ≡ way_from old.nodes old.root old.root p → false ≡ is_directory_at mid.nodes y
-      → ((u : Tree) (node : ℕ) → Keeps mid u → way_from mid.nodes mid.root mid.root p ≡ located.At above node → is_bare_at mid.nodes node ≡ true → IsServed new u (goes u moment p) (reply.Status Success))
-      → IsServed new t (remove_file t moment p (found_at t p)) (reply.Status Success)
+      → ((u : Tree) (node : ℕ) → Keeps mid u → way_from mid.nodes mid.root mid.root p ≡ located.At above node → is_bare_at mid.nodes node ≡ true → IsCarriedOut new u (goes u moment p) (reply.Status Success))
+      → IsCarriedOut new t (remove_file t moment p (found_at t p)) (reply.Status Success)
   remove_served new moment above y e d served =
       let w = node_located above y e in
-      subst (λ (a : Answer). IsServed new t a (reply.Status Success)) (sym (remove_located moment above y e ∙ ap (λ b. cond {A = Answer} b (refuses Failure) (goes t moment p)) (sym d)))
+      subst (λ (a : Answer). IsCarriedOut new t a (reply.Status Success)) (sym (remove_located moment above y e ∙ ap (λ b. cond {A = Answer} b (refuses Failure) (goes t moment p)) (sym d)))
       (served t y mid_keeps (way_looked old mid p most (located.At above y) looked e) (file_bare mid.nodes y w.0 w.1.0 (sym d)))
 
   -- ---- RMDIR
@@ -160,7 +160,7 @@ module _ (old mid : StoreState) (t : Tree) (p : Path) (most : ℕ) (looked : Loo
       ∙ ap (λ (o : Option Node). cond {A = Answer} (option_map_or (λ (node : Node). is_directory_content node.content) o false) (if is_empty t.names p then goes t moment p else refuses Failure) (refuses Failure)) (sym w.1.0)
 
   pub remove_directory_file : (moment above y : ℕ) → located.At above y ≡ way_from old.nodes old.root old.root p → false ≡ is_directory_at mid.nodes y
-      → IsServed mid t (remove_directory t moment p (found_at t p)) (reply.Status Failure)
+      → IsCarriedOut mid t (remove_directory t moment p (found_at t p)) (reply.Status Failure)
   remove_directory_file moment above y e d =
       tells_served mid t (remove_directory t moment p (found_at t p)) (reply.Status Failure)
       (remove_directory_located moment above y e ∙ ap (λ b. cond {A = Answer} b (if is_empty t.names p then goes t moment p else refuses Failure) (refuses Failure)) (sym d)) mid_keeps
@@ -172,13 +172,13 @@ module _ (old mid : StoreState) (t : Tree) (p : Path) (most : ℕ) (looked : Loo
       ∙ ap (λ b. if b then goes t moment p else refuses Failure) (bare_found mid t mid_keeps p y (walk_located above y e))
 
   pub remove_directory_full : (moment above y : ℕ) → located.At above y ≡ way_from old.nodes old.root old.root p → true ≡ is_directory_at mid.nodes y → false ≡ is_bare_at mid.nodes y
-      → IsServed mid t (remove_directory t moment p (found_at t p)) (reply.Status Failure)
+      → IsCarriedOut mid t (remove_directory t moment p (found_at t p)) (reply.Status Failure)
   remove_directory_full moment above y e d full =
       tells_served mid t (remove_directory t moment p (found_at t p)) (reply.Status Failure) (remove_directory_is moment above y e d ∙ ap (λ b. if b then goes t moment p else refuses Failure) (sym full)) mid_keeps
 
   pub remove_directory_served : (new : StoreState) (moment above y : ℕ) → located.At above y ≡ way_from old.nodes old.root old.root p → true ≡ is_directory_at mid.nodes y → true ≡ is_bare_at mid.nodes y
-      → ((u : Tree) (node : ℕ) → Keeps mid u → way_from mid.nodes mid.root mid.root p ≡ located.At above node → is_bare_at mid.nodes node ≡ true → IsServed new u (goes u moment p) (reply.Status Success))
-      → IsServed new t (remove_directory t moment p (found_at t p)) (reply.Status Success)
+      → ((u : Tree) (node : ℕ) → Keeps mid u → way_from mid.nodes mid.root mid.root p ≡ located.At above node → is_bare_at mid.nodes node ≡ true → IsCarriedOut new u (goes u moment p) (reply.Status Success))
+      → IsCarriedOut new t (remove_directory t moment p (found_at t p)) (reply.Status Success)
   remove_directory_served new moment above y e d bare served =
-      subst (λ (a : Answer). IsServed new t a (reply.Status Success)) (sym (remove_directory_is moment above y e d ∙ ap (λ b. if b then goes t moment p else refuses Failure) (sym bare)))
+      subst (λ (a : Answer). IsCarriedOut new t a (reply.Status Success)) (sym (remove_directory_is moment above y e d ∙ ap (λ b. if b then goes t moment p else refuses Failure) (sym bare)))
       (served t y mid_keeps (way_looked old mid p most (located.At above y) looked e) (sym bare))

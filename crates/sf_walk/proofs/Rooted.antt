@@ -10,7 +10,7 @@ use Rattle.sf_call.specs.Calls.{Answer}
 use Rattle.sf_inode.specs.Stores.{StoreState}
 use Rattle.sf_walk.specs.declared.finding.Located.{Located}
 use Rattle.sf_walk.specs.Ways.{IsWay}
-use Rattle.sf_walk.specs.Served.{LookedUp, IsAlike, IsRefused, IsServed}
+use Rattle.sf_walk.specs.Served.{LookedUp, IsAlike, IsRefused, IsCarriedOut}
 use Rattle.sf_walk.proofs.Looked.{way_looked}
 use Rattle.sf_walk.proofs.Holders.{alike_looked}
 
@@ -25,7 +25,7 @@ pub refused_after : (old mid new : StoreState) (most : ℕ) (t : Tree) (given : 
 refused_after old mid new most t given looked h = record { told = h.told; alike = alike_trans old mid new (alike_looked old mid most looked) h.alike; tree = h.tree }
 
 pub served_after : (old mid new : StoreState) (most : ℕ) (t : Tree) (answer : Answer) (given : Reply) → LookedUp old mid most
-    → IsRefused mid new t given ⊎ IsServed new t answer given → IsRefused old new t given ⊎ IsServed new t answer given
+    → IsRefused mid new t given ⊎ IsCarriedOut new t answer given → IsRefused old new t given ⊎ IsCarriedOut new t answer given
 served_after old mid new most t answer given looked (inl h) = inl (refused_after old mid new most t given looked h)
 served_after old mid new most t answer given looked (inr h) = inr h
 

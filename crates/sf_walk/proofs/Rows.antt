@@ -21,7 +21,7 @@ use Rattle.sf_inode.specs.Nodes.{object_in, entries_past, is_directory_content}
 use Rattle.sf_keeps.specs.Listed.{listed_entry}
 use Rattle.sf_inode.specs.Stores.{StoreState, entries_at, is_directory_at, shown_handle, handle_listed}
 use Rattle.sf_keeps.proofs.Laws.{label_listed, names_listed, keeps_listed}
-use Rattle.sf_walk.specs.Served.{IsServed, is_success}
+use Rattle.sf_walk.specs.Served.{IsCarriedOut, is_success}
 use Rattle.sf_walk.proofs.Told.{tells_served}
 use Rattle.sf_walk.proofs.OpenHandles.{IsOpen, directory_is}
 
@@ -70,7 +70,7 @@ refuse_content t number h m (content.Directory es) e = absurd (let x : ⊥ = cc 
 refuse_content t number h m (content.File contents) e = refl
 
 module _ (s : StoreState) (t : Tree) (session number : ℕ) (h : OpenHandle) (o : IsOpen s t session number h) where
-  pub list_refused : false ≡ is_directory_at s.nodes h.node → IsServed s t (read_directory t number (opened t session number)) (reply.Status Failure)
+  pub list_refused : false ≡ is_directory_at s.nodes h.node → IsCarriedOut s t (read_directory t number (opened t session number)) (reply.Status Failure)
   list_refused d =
       tells_served s t (read_directory t number (opened t session number)) (reply.Status Failure)
       (ap (read_directory t number) o.opens
@@ -84,7 +84,7 @@ module _ (s : StoreState) (t : Tree) (session number : ℕ) (h : OpenHandle) (o 
         ∙ ap (λ l. lists number (shown_handle session h) (listing_of t h.listed (path_of t.names l))) (sym o.label)
         ∙ ap (lists number (shown_handle session h)) (label_listed s t o.keeps h.node h.listed o.node o.there (sym (d ∙ directory_is s t session number h o)) ∙ ap (λ (es : List (Name × ℕ)). filter_map (listed_entry s.nodes) es) (sym are))
 
-    pub list_ended : rows ≡ [] → IsServed s t (read_directory t number (opened t session number)) (reply.Status EndOfFile)
+    pub list_ended : rows ≡ [] → IsCarriedOut s t (read_directory t number (opened t session number)) (reply.Status EndOfFile)
     list_ended none =
         tells_served s t (read_directory t number (opened t session number)) (reply.Status EndOfFile)
         (answer_is ∙ ap (λ (es : List (Name × ℕ)). lists number (shown_handle session h) (filter_map (listed_entry s.nodes) es)) none) o.keeps
@@ -100,10 +100,10 @@ module _ (s : StoreState) (t : Tree) (session number : ℕ) (h : OpenHandle) (o 
         (answer_is ∙ lists_last number (shown_handle session h) (filter_map (listed_entry s.nodes) rows) last (last_named last id end))
 
     pub list_served : (new : StoreState) (last : Name) (id : ℕ) (entries : List Entry) → slice_get rows (length rows - 1) ≡ Some (last, id) → entries ≡ filter_map (listed_entry s.nodes) rows
-        → new ≡ handle_listed s session number last → IsServed new t (read_directory t number (opened t session number)) (reply.Names entries)
+        → new ≡ handle_listed s session number last → IsCarriedOut new t (read_directory t number (opened t session number)) (reply.Names entries)
     list_served new last id entries end listed state =
         let named : last_name entries ≡ Some last = ap last_name listed ∙ last_named last id end in
-        subst (λ (x : StoreState). IsServed x t (read_directory t number (opened t session number)) (reply.Names entries)) (sym state)
-        (subst (λ (a : Answer). IsServed (handle_listed s session number last) t a (reply.Names entries))
+        subst (λ (x : StoreState). IsCarriedOut x t (read_directory t number (opened t session number)) (reply.Names entries)) (sym state)
+        (subst (λ (a : Answer). IsCarriedOut (handle_listed s session number last) t a (reply.Names entries))
         (sym (answer_is ∙ ap (lists number (shown_handle session h)) (sym listed) ∙ lists_last number (shown_handle session h) entries last named))
         (record { told = refl; tree = keeps_listed s t o.keeps session number h o.at last }))

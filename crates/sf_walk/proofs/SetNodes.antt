@@ -22,7 +22,7 @@ use Rattle.sf_inode.specs.Nodes.{object_in, nothing_stored, stored_in, with_stor
 use Rattle.sf_inode.specs.Stores.{StoreState, node_in, stored_of, stored_set, is_directory_at, shown_of, shown_node, edited}
 use Rattle.sf_keeps.specs.Keeps.{Keeps}
 use Rattle.sf_keeps.proofs.Laws.{keeps_metadata, keeps_contents, keeps_file, object_again, edited_itself}
-use Rattle.sf_walk.specs.Served.{IsServed, is_success}
+use Rattle.sf_walk.specs.Served.{IsCarriedOut, is_success}
 
 pub not_above : (size : ℕ) → size ≤ MAX_FILE_SIZE → nat_lt MAX_FILE_SIZE size ≡ false
 not_above size h = grind (arith, nat_tests)
@@ -77,16 +77,16 @@ stored_bytes None l m old e = cc
 stored_bytes (Some node) l m old e = content_bytes l node.label m node.metadata node.content old e
 
 pub set_plain : (s new : StoreState) (t : Tree) (id moment : ℕ) (attrs : Attrs) (it : Node) → Keeps s t → node_in s.nodes id ≡ Some it → attrs.size ≡ None
-    → new ≡ edited (with_metadata (λ m. with_parts m attrs)) s id → IsServed new t (sets moment it.label attrs (object_in it.metadata it.content)) (reply.Status Success)
+    → new ≡ edited (with_metadata (λ m. with_parts m attrs)) s id → IsCarriedOut new t (sets moment it.label attrs (object_in it.metadata it.content)) (reply.Status Success)
 set_plain s new t id moment attrs it h at none state =
-    subst (λ (x : StoreState). IsServed x t (sets moment it.label attrs (object_in it.metadata it.content)) (reply.Status Success)) (sym state)
-    (subst (λ (a : Answer). IsServed (edited (with_metadata (λ m. with_parts m attrs)) s id) t a (reply.Status Success)) (sym (sets_plain moment it.label attrs it.metadata it.content none))
+    subst (λ (x : StoreState). IsCarriedOut x t (sets moment it.label attrs (object_in it.metadata it.content)) (reply.Status Success)) (sym state)
+    (subst (λ (a : Answer). IsCarriedOut (edited (with_metadata (λ m. with_parts m attrs)) s id) t a (reply.Status Success)) (sym (sets_plain moment it.label attrs it.metadata it.content none))
     (record { told = refl; tree = keeps_metadata (λ m. with_parts m attrs) s t id it h at }))
 
 set_cut : (s first second new : StoreState) (t : Tree) (id label moment size : ℕ) (attrs : Attrs) (m : Metadata) (old : List ℕ) (cut_to : Stored) → cut_to.bytes ≡ resized old size → Keeps s t → shown_of s.nodes id ≡ Some (label, File m old)
     → attrs.size ≡ Some size → nat_lt MAX_FILE_SIZE size ≡ false
     → first ≡ stored_set s id cut_to → second ≡ edited (with_metadata (modified_at moment)) first id → new ≡ edited (with_metadata (λ k. with_parts k attrs)) second id
-    → IsServed new t (sets moment label attrs (File m old)) (reply.Status Success)
+    → IsCarriedOut new t (sets moment label attrs (File m old)) (reply.Status Success)
 set_cut s first second new t id label moment size attrs m old cut_to is_cut h shows some fits cut marked set =
     let bytes = cut_to.bytes in
     let one = changed t (SetObject label (File m bytes)) in
@@ -102,13 +102,13 @@ set_cut s first second new t id label moment size attrs m old cut_to is_cut h sh
     let keeps_new : Keeps new (changed two (SetObject label last)) =
     subst (λ (x : StoreState). Keeps x (changed two (SetObject label last))) (sym set) (keeps_file (λ k. with_parts k attrs) second two id label (modified_at moment m) bytes keeps_two shows_two) in
     let folded : changed two (SetObject label last) ≡ changed t (SetObject label last) = object_again one label (File (modified_at moment m) bytes) last ∙ object_again t label (File m bytes) last in
-    subst (λ (a : Answer). IsServed new t a (reply.Status Success)) (sym (sets_cut moment label attrs m old size some fits))
+    subst (λ (a : Answer). IsCarriedOut new t a (reply.Status Success)) (sym (sets_cut moment label attrs m old size some fits))
     (record { told = refl; tree = subst (λ (b : List ℕ). Keeps new (changed t (SetObject label (File (with_parts (modified_at moment m) attrs) b)))) is_cut (subst (λ (u : Tree). Keeps new u) folded keeps_new) })
 
 set_content_cut : (s first second new : StoreState) (t : Tree) (id label moment size : ℕ) (attrs : Attrs) (m : Metadata) (c : Content) → Keeps s t → shown_of s.nodes id ≡ Some (label, object_in m c) → is_directory_content c ≡ false
     → attrs.size ≡ Some size → nat_lt MAX_FILE_SIZE size ≡ false
     → first ≡ stored_set s id (record (with_room (stored_of s.nodes id) size 0) { bytes = resized (stored_of s.nodes id).bytes size }) → second ≡ edited (with_metadata (modified_at moment)) first id → new ≡ edited (with_metadata (λ k. with_parts k attrs)) second id
-    → IsServed new t (sets moment label attrs (object_in m c)) (reply.Status Success)
+    → IsCarriedOut new t (sets moment label attrs (object_in m c)) (reply.Status Success)
 set_content_cut s first second new t id label moment size attrs m (content.Directory es) h shows d some fits cut marked set = absurd (let x : ⊥ = cc in x)
 set_content_cut s first second new t id label moment size attrs m (content.File c) h shows d some fits cut marked set =
     set_cut s first second new t id label moment size attrs m c.bytes (record (with_room (stored_of s.nodes id) size 0) { bytes = resized (stored_of s.nodes id).bytes size })
@@ -117,7 +117,7 @@ set_content_cut s first second new t id label moment size attrs m (content.File 
 pub set_sized : (s first second new : StoreState) (t : Tree) (id moment size : ℕ) (attrs : Attrs) (it : Node) → Keeps s t → node_in s.nodes id ≡ Some it → is_directory_at s.nodes id ≡ false
     → attrs.size ≡ Some size → nat_lt MAX_FILE_SIZE size ≡ false
     → first ≡ stored_set s id (record (with_room (stored_of s.nodes id) size 0) { bytes = resized (stored_of s.nodes id).bytes size }) → second ≡ edited (with_metadata (modified_at moment)) first id → new ≡ edited (with_metadata (λ k. with_parts k attrs)) second id
-    → IsServed new t (sets moment it.label attrs (object_in it.metadata it.content)) (reply.Status Success)
+    → IsCarriedOut new t (sets moment it.label attrs (object_in it.metadata it.content)) (reply.Status Success)
 set_sized s first second new t id moment size attrs it h at d =
     set_content_cut s first second new t id it.label moment size attrs it.metadata it.content h (ap (option_map shown_node) at)
     (sym (ap (λ (o : Option Node). option_map_or (λ (node : Node). is_directory_content node.content) o false) at) ∙ d)

@@ -19,7 +19,7 @@ use Rattle.sf_inode.specs.declared.handle.OpenHandle.{OpenHandle}
 use Rattle.sf_inode.specs.Nodes.{object_in, is_directory_content}
 use Rattle.sf_inode.specs.Stores.{StoreState, node_in, is_directory_at, shown_handle}
 use Rattle.sf_keeps.specs.Keeps.{Keeps}
-use Rattle.sf_walk.specs.Served.{IsServed, Gives}
+use Rattle.sf_walk.specs.Served.{IsCarriedOut, Gives}
 use Rattle.sf_walk.proofs.Told.{tells_served}
 use Rattle.sf_walk.proofs.OpenHandles.{IsOpen, directory_is}
 
@@ -48,7 +48,7 @@ module _ (s : StoreState) (t : Tree) (session number : ℕ) (h : OpenHandle) (o 
       ∙ (λ i. cond {A = Answer} (sym (directory_is s t session number h o) i) (if nat_eq h.label 0 then refuses Failure else sets moment h.label attrs (object_in o.node.metadata o.node.content))
       (if is_some attrs.size && not h.marks.write then refuses PermissionDenied else sets moment h.label attrs (object_in o.node.metadata o.node.content)))
 
-  pub set_root : (moment : ℕ) (attrs : Attrs) → true ≡ is_directory_at s.nodes h.node → h.label ≡ 0 → IsServed s t (set_opened moment attrs (opened t session number)) (reply.Status Failure)
+  pub set_root : (moment : ℕ) (attrs : Attrs) → true ≡ is_directory_at s.nodes h.node → h.label ≡ 0 → IsCarriedOut s t (set_opened moment attrs (opened t session number)) (reply.Status Failure)
   set_root moment attrs d zero =
       let set = sets moment h.label attrs (object_in o.node.metadata o.node.content) in
       tells_served s t (set_opened moment attrs (opened t session number)) (reply.Status Failure)
@@ -56,7 +56,7 @@ module _ (s : StoreState) (t : Tree) (session number : ℕ) (h : OpenHandle) (o 
       ∙ (λ i. if nat_eq (zero i) 0 then refuses Failure else set)) o.keeps
 
   pub set_unmarked : (moment : ℕ) (attrs : Attrs) → false ≡ is_directory_at s.nodes h.node → is_some attrs.size ≡ true → h.marks.write ≡ false
-      → IsServed s t (set_opened moment attrs (opened t session number)) (reply.Status PermissionDenied)
+      → IsCarriedOut s t (set_opened moment attrs (opened t session number)) (reply.Status PermissionDenied)
   set_unmarked moment attrs d some off =
       let set = sets moment h.label attrs (object_in o.node.metadata o.node.content) in
       tells_served s t (set_opened moment attrs (opened t session number)) (reply.Status PermissionDenied)

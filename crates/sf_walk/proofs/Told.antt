@@ -8,12 +8,12 @@ use Rattle.sf_call.specs.Tree.{Tree}
 use Rattle.sf_call.specs.Calls.{Answer, tells, unless_root}
 use Rattle.sf_inode.specs.Stores.{StoreState}
 use Rattle.sf_keeps.specs.Keeps.{Keeps}
-use Rattle.sf_walk.specs.Served.{IsServed, Gives, is_success}
+use Rattle.sf_walk.specs.Served.{IsCarriedOut, Gives, is_success}
 
-pub tells_served : (new : StoreState) (t : Tree) (answer : Answer) (r : Reply) → answer ≡ tells r → Keeps new t → IsServed new t answer r
-tells_served new t answer r e h = subst (λ (a : Answer). IsServed new t a r) (sym e) (record { told = refl; tree = h })
+pub tells_served : (new : StoreState) (t : Tree) (answer : Answer) (r : Reply) → answer ≡ tells r → Keeps new t → IsCarriedOut new t answer r
+tells_served new t answer r e h = subst (λ (a : Answer). IsCarriedOut new t a r) (sym e) (record { told = refl; tree = h })
 
-pub past_root : (new : StoreState) (t : Tree) (p : Path) (answer : Answer) (r : Reply) → (p ≡ [] → ⊥) → IsServed new t answer r → IsServed new t (unless_root p answer) r
+pub past_root : (new : StoreState) (t : Tree) (p : Path) (answer : Answer) (r : Reply) → (p ≡ [] → ⊥) → IsCarriedOut new t answer r → IsCarriedOut new t (unless_root p answer) r
 past_root new t [] answer r ne h = absurd (ne refl)
 past_root new t (n ∷ p) answer r ne h = h
 

@@ -6,15 +6,15 @@ use Rattle.sf_call.specs.Tree.{Tree}
 use Rattle.sf_call.specs.Changes.{done}
 use Rattle.sf_call.specs.Calls.{Answer}
 use Rattle.sf_inode.specs.Stores.{StoreState, node_in, with_nodes}
-use Rattle.sf_walk.specs.Served.{IsAlike, IsServed, Stays, LooksUp}
+use Rattle.sf_walk.specs.Served.{IsAlike, IsCarriedOut, Stays, LooksUp}
 use Rattle.sf_walk.proofs.Refused.{keeps_alike}
 
 -- the nodes are the same by look-ups, and all else is the same
 pub alike_trimmed : (mid new : StoreState) → ((id : ℕ) → node_in new.nodes id ≡ node_in mid.nodes id) → new ≡ with_nodes mid new.nodes → IsAlike mid new
 alike_trimmed mid new nodes rest = record { nodes = nodes; root = ap (λ (s : StoreState). s.root) rest; sessions = ap (λ (s : StoreState). s.sessions) rest }
 
-pub served_trimmed : (mid new : StoreState) (t : Tree) (answer : Answer) (given : Reply) → IsServed mid t answer given → ((id : ℕ) → node_in new.nodes id ≡ node_in mid.nodes id) → new ≡ with_nodes mid new.nodes
-    → IsServed new t answer given
+pub served_trimmed : (mid new : StoreState) (t : Tree) (answer : Answer) (given : Reply) → IsCarriedOut mid t answer given → ((id : ℕ) → node_in new.nodes id ≡ node_in mid.nodes id) → new ≡ with_nodes mid new.nodes
+    → IsCarriedOut new t answer given
 served_trimmed mid new t answer given h nodes rest = record { told = h.told; tree = keeps_alike mid new (done t answer.changes) (alike_trimmed mid new nodes rest) h.tree }
 
 pub stays_trimmed : {N : Option ℕ → ℕ → Type 0} (old mid new : StoreState) → Stays N old mid → ((id : ℕ) → node_in new.nodes id ≡ node_in mid.nodes id) → Stays N old new

@@ -56,13 +56,13 @@ abbrev pub NodesStay : ℕ → StoreState → StoreState → Type 0
 NodesStay number old new = Stays (λ holder label. (holder ≡ None) × (label ≡ number)) old new
 
 -- the number is above 0, and no label and no handle of the tree has it
-pub record IsNewNumber (t : Tree) (number : ℕ) : Type 0 where
+pub record IsUnused (t : Tree) (number : ℕ) : Type 0 where
   pub above : 0 < number
   pub label : object_of t.objects number ≡ None
   pub handle : handle_of t.handles number ≡ None
 
 -- the reply is the tree's, and the store keeps the tree after the call
-pub record IsServed (new : StoreState) (t : Tree) (answer : Answer) (given : Reply) : Type 0 where
+pub record IsCarriedOut (new : StoreState) (t : Tree) (answer : Answer) (given : Reply) : Type 0 where
   pub told : given ≡ answer.reply
   pub tree : Keeps new (done t answer.changes)
 
@@ -83,7 +83,7 @@ is_success other = true
 
 -- what a call is served; want of memory stands in place of success alone
 abbrev pub Gives : {E : Type 0} → StoreState → Tree → Answer → Result Reply E → Type 0
-Gives new t answer (Ok given) = IsServed new t answer given
+Gives new t answer (Ok given) = IsCarriedOut new t answer given
 Gives new t answer (Err error) = is_success answer.reply ≡ true
 
 -- The requests that take memory where they succeed: what is told takes it, but for a status and attributes, and so

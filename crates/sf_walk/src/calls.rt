@@ -9,7 +9,7 @@ ghost use Rattle.sf_call.specs.Handles.{opened};
 ghost use Rattle.sf_call.specs.Calls.{answer_to, read};
 ghost use Rattle.sf_keeps.specs.Keeps.{Keeps};
 ghost use Rattle.sf_walk.specs.Ways.{names_of, path_of, IsLocated};
-ghost use Rattle.sf_walk.specs.Served.{IsServed, IsRefused, IsAlike, LookedUp, LooksUp, NodesStay, IsNewNumber, is_success, takes_memory, may_want_memory};
+ghost use Rattle.sf_walk.specs.Served.{IsCarriedOut, IsRefused, IsAlike, LookedUp, LooksUp, NodesStay, IsUnused, is_success, takes_memory, may_want_memory};
 
 use crate::finding::{Located, locate};
 use crate::handle_calls::{close, read, set_stat_handle, stat_handle, write};
@@ -27,10 +27,10 @@ use std::alloc::{AllocError, Global};
 /// of look-ups; it is told in place of success alone, and never where a call makes nothing, and neither
 /// gives nor takes bytes or names.
 pub fn from_root(store: &mut Store, call: &Call) -> Reply
-    ensures served { (t : Tree) → Keeps store.old t → IsNewNumber t call.now.number
-        → IsRefused store.old store.new t result ⊎ IsServed store.new t (answer_to t call.now.session call.now.number call.now.moment call.now.request) result }
-    ensures sure { (t : Tree) → Keeps store.old t → IsNewNumber t call.now.number → may_want_memory call.now.request (answer_to t call.now.session call.now.number call.now.moment call.now.request).reply ≡ false
-        → IsServed store.new t (answer_to t call.now.session call.now.number call.now.moment call.now.request) result }
+    ensures served { (t : Tree) → Keeps store.old t → IsUnused t call.now.number
+        → IsRefused store.old store.new t result ⊎ IsCarriedOut store.new t (answer_to t call.now.session call.now.number call.now.moment call.now.request) result }
+    ensures sure { (t : Tree) → Keeps store.old t → IsUnused t call.now.number → may_want_memory call.now.request (answer_to t call.now.session call.now.number call.now.moment call.now.request).reply ≡ false
+        → IsCarriedOut store.new t (answer_to t call.now.session call.now.number call.now.moment call.now.request) result }
     ensures look_ups { LooksUp store.old store.new (names_of call.now.request) }
     ensures nodes { NodesStay call.now.number store.old store.new }
 {
@@ -78,11 +78,11 @@ fn find_way(store: &mut Store, request: &Request) -> Located
 #[tactic(auto, using(crate::proofs::Refused::keeps_alike, crate::proofs::Trimmed::served_trimmed, crate::proofs::Trimmed::stays_trimmed, crate::proofs::Trimmed::looks_same))]
 pub fn decide(store: &mut Store, call: &Call, located: Located) -> (Reply, Reply)
     requires { IsLocated store.old call.now.request located }
-    ensures served { (t : Tree) → Keeps store.old t → IsNewNumber t call.now.number
-        → IsRefused store.old store.new t result.0 ⊎ IsServed store.new t (answer_to t call.now.session call.now.number call.now.moment call.now.request) result.0 }
+    ensures served { (t : Tree) → Keeps store.old t → IsUnused t call.now.number
+        → IsRefused store.old store.new t result.0 ⊎ IsCarriedOut store.new t (answer_to t call.now.session call.now.number call.now.moment call.now.request) result.0 }
     ensures copy { result.1 ≡ result.0 }
-    ensures sure { (t : Tree) → Keeps store.old t → IsNewNumber t call.now.number → may_want_memory call.now.request (answer_to t call.now.session call.now.number call.now.moment call.now.request).reply ≡ false
-        → IsServed store.new t (answer_to t call.now.session call.now.number call.now.moment call.now.request) result.0 }
+    ensures sure { (t : Tree) → Keeps store.old t → IsUnused t call.now.number → may_want_memory call.now.request (answer_to t call.now.session call.now.number call.now.moment call.now.request).reply ≡ false
+        → IsCarriedOut store.new t (answer_to t call.now.session call.now.number call.now.moment call.now.request) result.0 }
     ensures look_ups { store.new.look_ups ≡ store.old.look_ups }
     ensures nodes { NodesStay call.now.number store.old store.new }
 {
@@ -98,11 +98,11 @@ pub fn decide(store: &mut Store, call: &Call, located: Located) -> (Reply, Reply
 #[tactic(auto, using(crate::proofs::Holders::stays_none_new, crate::proofs::Rooted::twice_copies))]
 fn answer(store: &mut Store, call: &Call, located: Located) -> Result<(Reply, Reply), AllocError>
     requires { IsLocated store.old call.now.request located }
-    ensures served { (t : Tree) → Keeps store.old t → IsNewNumber t call.now.number
-        → IfOk result (λ replies. IsServed store.new t (answer_to t call.now.session call.now.number call.now.moment call.now.request) replies.0) }
+    ensures served { (t : Tree) → Keeps store.old t → IsUnused t call.now.number
+        → IfOk result (λ replies. IsCarriedOut store.new t (answer_to t call.now.session call.now.number call.now.moment call.now.request) replies.0) }
     ensures copy { IfOk result (λ replies. replies.1 ≡ replies.0) }
     ensures sure { takes_memory call.now.request ≡ false → IsOk result }
-    ensures wants { (t : Tree) → Keeps store.old t → IsNewNumber t call.now.number → OnErr result (is_success (answer_to t call.now.session call.now.number call.now.moment call.now.request).reply ≡ true) }
+    ensures wants { (t : Tree) → Keeps store.old t → IsUnused t call.now.number → OnErr result (is_success (answer_to t call.now.session call.now.number call.now.moment call.now.request).reply ≡ true) }
     ensures err { OnErr result (IsAlike store.old store.new) }
     ensures look_ups { store.new.look_ups ≡ store.old.look_ups }
     ensures nodes { NodesStay call.now.number store.old store.new }

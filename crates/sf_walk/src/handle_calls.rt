@@ -13,7 +13,7 @@ ghost use Rattle.sf_call.specs.Handles.{handle_in, opened};
 ghost use Rattle.sf_call.specs.Calls.{close, stat_opened, set_opened, read, write};
 ghost use Rattle.sf_inode.specs.Stores.{stored_of, is_file_at, shown_of};
 ghost use Rattle.sf_keeps.specs.Keeps.{Keeps};
-ghost use Rattle.sf_walk.specs.Served.{IsServed, Gives, HoldersStay, is_success};
+ghost use Rattle.sf_walk.specs.Served.{IsCarriedOut, Gives, HoldersStay, is_success};
 
 use crate::path_calls::set_node;
 use sf_call::{MAX_FILE_SIZE, MAX_READ};
@@ -24,7 +24,7 @@ use std::alloc::AllocError;
 
 /// CLOSE.
 pub(crate) fn close(store: &mut Store, session: u64, number: u64) -> Reply
-    ensures served { (t : Tree) → Keeps store.old t → IsServed store.new t (close number (handle_in t session number)) result }
+    ensures served { (t : Tree) → Keeps store.old t → IsCarriedOut store.new t (close number (handle_in t session number)) result }
     ensures plain { IsPlain result }
     ensures look_ups { store.new.look_ups ≡ store.old.look_ups }
     ensures holders { HoldersStay store.old store.new }

@@ -8,7 +8,7 @@ ghost use Rattle.sf_call.specs.Handles.{opened};
 ghost use Rattle.sf_call.specs.Calls.{read_directory};
 ghost use Rattle.sf_keeps.specs.Listed.{listed_entry};
 ghost use Rattle.sf_keeps.specs.Keeps.{Keeps};
-ghost use Rattle.sf_walk.specs.Served.{IsServed, HoldersStay, is_success};
+ghost use Rattle.sf_walk.specs.Served.{IsCarriedOut, HoldersStay, is_success};
 
 use sf_call::MAX_ENTRIES;
 use sf_field::{Attrs, ByteString};
@@ -23,7 +23,7 @@ pub(crate) fn read_directory(
     session: u64,
     number: u64,
 ) -> Result<(Reply, Reply), AllocError>
-    ensures served { (t : Tree) → Keeps store.old t → IfOk result (λ replies. IsServed store.new t (read_directory t number (opened t session number)) replies.0) }
+    ensures served { (t : Tree) → Keeps store.old t → IfOk result (λ replies. IsCarriedOut store.new t (read_directory t number (opened t session number)) replies.0) }
     ensures wants { (t : Tree) → Keeps store.old t → OnErr result (is_success (read_directory t number (opened t session number)).reply ≡ true) }
     ensures copy { IfOk result (λ replies. replies.1 ≡ replies.0) }
     ensures err { OnErr result (store.new ≡ store.old) }

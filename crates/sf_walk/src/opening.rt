@@ -19,7 +19,7 @@ ghost use Rattle.sf_keeps.specs.Steps.{walk};
 ghost use Rattle.sf_keeps.specs.Keeps.{Keeps};
 ghost use Rattle.sf_walk.specs.Ways.{last_of, found_node, way_from};
 ghost use Rattle.sf_walk.specs.Opening.{marks_of, OpenedNew};
-ghost use Rattle.sf_walk.specs.Served.{Gives, IsAlike, HoldersStay, NodesStay, IsNewNumber};
+ghost use Rattle.sf_walk.specs.Served.{Gives, IsAlike, HoldersStay, NodesStay, IsUnused};
 
 use crate::finding::Located;
 use crate::path_calls::insert_last;
@@ -61,7 +61,7 @@ pub(crate) fn open_directory(
     number: u64,
     located: Located,
 ) -> Result<Reply, AllocError>
-    ensures served { (t : Tree) (path : Path) → Keeps store.old t → IsNewNumber t number → located ≡ way_from store.old.nodes store.old.root store.old.root path
+    ensures served { (t : Tree) (path : Path) → Keeps store.old t → IsUnused t number → located ≡ way_from store.old.nodes store.old.root store.old.root path
         → Gives store.new t (open_directory t session number (found_at t path)) result }
     ensures err { OnErr result (IsAlike store.old store.new) }
     ensures plain { IfOk result IsPlain }
@@ -82,7 +82,7 @@ fn open_listing(
     number: u64,
     node: NodeId,
 ) -> Result<Reply, AllocError>
-    ensures served { (t : Tree) (it : Node) → Keeps store.old t → IsNewNumber t number → node_in store.old.nodes node ≡ Some it → Gives store.new t (open_directory t session number (found_node it)) result }
+    ensures served { (t : Tree) (it : Node) → Keeps store.old t → IsUnused t number → node_in store.old.nodes node ≡ Some it → Gives store.new t (open_directory t session number (found_node it)) result }
     ensures err { OnErr result (store.new ≡ store.old) }
     ensures plain { IfOk result IsPlain }
     ensures look_ups { store.new.look_ups ≡ store.old.look_ups }
@@ -110,7 +110,7 @@ pub(crate) fn open(
     located: Located,
 ) -> Result<Reply, AllocError>
     requires { located ≡ way_from store.old.nodes store.old.root store.old.root path.now }
-    ensures served { (t : Tree) → Keeps store.old t → IsNewNumber t number → Gives store.new t (unless_root path.now (open_file t session number moment path.now flags attrs.now (place_at t path.now))) result }
+    ensures served { (t : Tree) → Keeps store.old t → IsUnused t number → Gives store.new t (unless_root path.now (open_file t session number moment path.now flags attrs.now (place_at t path.now))) result }
     ensures err { OnErr result (IsAlike store.old store.new) }
     ensures plain { IfOk result IsPlain }
     ensures look_ups { store.new.look_ups ≡ store.old.look_ups }
@@ -142,7 +142,7 @@ fn open_present(
     node: NodeId,
     flags: OpenFlags,
 ) -> Result<Reply, AllocError>
-    ensures served { (t : Tree) (it : Node) → Keeps store.old t → IsNewNumber t number → node_in store.old.nodes node ≡ Some it → Gives store.new t (open_present t session number moment flags (found_node it)) result }
+    ensures served { (t : Tree) (it : Node) → Keeps store.old t → IsUnused t number → node_in store.old.nodes node ≡ Some it → Gives store.new t (open_present t session number moment flags (found_node it)) result }
     ensures err { OnErr result (store.new ≡ store.old) }
     ensures plain { IfOk result IsPlain }
     ensures look_ups { store.new.look_ups ≡ store.old.look_ups }
@@ -195,7 +195,7 @@ fn open_absent(
     requires named { 0 < length path.now }
     requires directory { is_directory_at store.old.nodes parent ≡ true }
     requires missing { entry_of store.old.nodes parent (last_of path.now) ≡ None }
-    ensures served { (t : Tree) (front : Path) → Keeps store.old t → IsNewNumber t number → path.now ≡ front ++ last_of path.now ∷ [] → walk (entry_of store.old.nodes) store.old.root front ≡ Some parent
+    ensures served { (t : Tree) (front : Path) → Keeps store.old t → IsUnused t number → path.now ≡ front ++ last_of path.now ∷ [] → walk (entry_of store.old.nodes) store.old.root front ≡ Some parent
         → Gives store.new t (open_file t session number moment path.now flags attrs.now Absent) result }
     ensures err { OnErr result (IsAlike store.old store.new) }
     ensures plain { IfOk result IsPlain }

@@ -14,7 +14,7 @@ ghost use Rattle.sf_inode.specs.Stores.{Inserted, node_in, is_bare_at, edited, u
 ghost use Rattle.sf_keeps.specs.Keeps.{Keeps};
 ghost use Rattle.sf_walk.specs.declared.finding.Located.TheVariants.{At};
 ghost use Rattle.sf_walk.specs.Ways.{last_of, way_from};
-ghost use Rattle.sf_walk.specs.Served.{IsServed, Gives, IsAlike, HoldersStay, NodesStay, IsNewNumber};
+ghost use Rattle.sf_walk.specs.Served.{IsCarriedOut, Gives, IsAlike, HoldersStay, NodesStay, IsUnused};
 
 use crate::finding::Located;
 use sf_call::{FileType, MAX_FILE_SIZE, Metadata};
@@ -26,7 +26,7 @@ use std::alloc::AllocError;
 
 /// STAT.
 pub(crate) fn stat(store: &Store, located: Located) -> Reply
-    ensures served { (t : Tree) (path : Path) → Keeps store.now t → located ≡ way_from store.now.nodes store.now.root store.now.root path → IsServed store.now t (stat (found_at t path)) result }
+    ensures served { (t : Tree) (path : Path) → Keeps store.now t → located ≡ way_from store.now.nodes store.now.root store.now.root path → IsCarriedOut store.now t (stat (found_at t path)) result }
     ensures plain { IsPlain result }
 {
     match located {
@@ -107,7 +107,7 @@ pub(crate) fn mkdir(
     located: Located,
 ) -> Result<Reply, AllocError>
     requires { located ≡ way_from store.old.nodes store.old.root store.old.root path.now }
-    ensures served { (t : Tree) → Keeps store.old t → IsNewNumber t number → Gives store.new t (unless_root path.now (make_directory t number moment path.now attrs.now (place_at t path.now))) result }
+    ensures served { (t : Tree) → Keeps store.old t → IsUnused t number → Gives store.new t (unless_root path.now (make_directory t number moment path.now attrs.now (place_at t path.now))) result }
     ensures err { OnErr result (IsAlike store.old store.new) }
     ensures plain { IfOk result IsPlain }
     ensures look_ups { store.new.look_ups ≡ store.old.look_ups }
@@ -150,7 +150,7 @@ pub(crate) fn insert_last(
 /// RMDIR.
 pub(crate) fn rmdir(store: &mut Store, moment: u32, path: &Path, located: Located) -> Reply
     requires { located ≡ way_from store.old.nodes store.old.root store.old.root path.now }
-    ensures served { (t : Tree) → Keeps store.old t → IsServed store.new t (unless_root path.now (remove_directory t moment path.now (found_at t path.now))) result }
+    ensures served { (t : Tree) → Keeps store.old t → IsCarriedOut store.new t (unless_root path.now (remove_directory t moment path.now (found_at t path.now))) result }
     ensures plain { IsPlain result }
     ensures look_ups { store.new.look_ups ≡ store.old.look_ups }
     ensures holders { HoldersStay store.old store.new }
@@ -177,7 +177,7 @@ pub(crate) fn rmdir(store: &mut Store, moment: u32, path: &Path, located: Locate
 /// REMOVE.
 pub(crate) fn remove(store: &mut Store, moment: u32, path: &Path, located: Located) -> Reply
     requires { located ≡ way_from store.old.nodes store.old.root store.old.root path.now }
-    ensures served { (t : Tree) → Keeps store.old t → IsServed store.new t (unless_root path.now (remove_file t moment path.now (found_at t path.now))) result }
+    ensures served { (t : Tree) → Keeps store.old t → IsCarriedOut store.new t (unless_root path.now (remove_file t moment path.now (found_at t path.now))) result }
     ensures plain { IsPlain result }
     ensures look_ups { store.new.look_ups ≡ store.old.look_ups }
     ensures holders { HoldersStay store.old store.new }
@@ -203,7 +203,7 @@ fn remove_last(store: &mut Store, moment: u32, dir: NodeId, path: &Path)
     requires { 0 < length path.now }
     ensures state { store.new ≡ edited (with_metadata (modified_at moment)) (unlinked store.old dir (last_of path.now)) dir }
     ensures served { (t : Tree) (node : ℕ) → Keeps store.old t → way_from store.old.nodes store.old.root store.old.root path.now ≡ At dir node → is_bare_at store.old.nodes node ≡ true
-        → IsServed store.new t (goes t moment path.now) (Status Success) }
+        → IsCarriedOut store.new t (goes t moment path.now) (Status Success) }
 {
     store.unlink(dir, path.name(path.len() - 1));
     store.touch(dir, moment);
