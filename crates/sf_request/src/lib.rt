@@ -2,11 +2,13 @@
 //! written as packets.
 #![tactic(auto)]
 
+mod byte_str;
 mod laws;
 mod reading;
 mod request;
 mod requesting;
 
+pub use byte_str::ByteStr;
 pub use laws::{one_question, sent_requests};
 pub use reading::read_request;
 pub use request::{Asked, WireRequest};
