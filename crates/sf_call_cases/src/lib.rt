@@ -1,4 +1,7 @@
-//! Calls, attributes, copies and words, with values from the draft and POSIX.
+//! Cases for `sf_call`: calls, attributes, copies and words, with values from the draft and POSIX.
+//!
+//! The tests use the crate's public names alone, and stand beside it so that an edit of one isn't a
+//! check of the other. Start with `one_of_each` in `tests.rt`: one request of each kind.
 #![tactic(auto)]
 
 #[cfg(test)]

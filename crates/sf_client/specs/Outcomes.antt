@@ -61,11 +61,3 @@ ReadsDue incoming incoming' id d (Err fault.Protocol) = HasNoReply incoming id d
 ReadsDue incoming incoming' id d (Err (fault.Status code)) = ⊥
 ReadsDue incoming incoming' id d (Err fault.OutOfMemory) = (r : Reply) × (is_due d r ≡ true) × Consumes incoming incoming' (packet (reply_body id r))
 ReadsDue incoming incoming' id d (Err fault.Failed) = ⊥
-
--- Nothing was sent: the client has failed before, or there was no memory.
-abbrev pub IsUnsent : ClientView → ClientFault → Type 0
-IsUnsent v fault.Stream = ⊥
-IsUnsent v fault.Protocol = ⊥
-IsUnsent v (fault.Status code) = ⊥
-IsUnsent v fault.OutOfMemory = v.failed ≡ false
-IsUnsent v fault.Failed = v.failed ≡ true

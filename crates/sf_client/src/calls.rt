@@ -15,7 +15,7 @@ use crate::fault::ClientFault;
 use sf_field::{Attrs, NO_ATTRS};
 use sf_line::Line;
 use sf_reply::Reply;
-use sf_request::WireRequest;
+use sf_request::{ByteStr, WireRequest};
 
 impl<L: Line + Drop> Client<L> {
     /// Sends a request that STATUS OK answers.
@@ -35,7 +35,7 @@ impl<L: Line + Drop> Client<L> {
         requires { length path.now < 2 ^ 31 }
         ensures { Comes reply.Attrs self.old (request.Stat path.now) result self.new }
     {
-        let path = self.copy(path)?;
+        let path = ByteStr::new(path);
         match self.exchange(&WireRequest::Stat { path }) {
             Ok(Reply::Attrs(attrs)) => Ok(attrs),
             Ok(_) => unreachable!(),
@@ -48,7 +48,7 @@ impl<L: Line + Drop> Client<L> {
         requires { length path.now < 2 ^ 31 }
         ensures { Comes (λ _. reply.Status Success) self.old (request.Mkdir path.now no_attrs) result self.new }
     {
-        let path = self.copy(path)?;
+        let path = ByteStr::new(path);
         self.done(&WireRequest::Mkdir {
             path,
             attrs: NO_ATTRS,
@@ -60,7 +60,7 @@ impl<L: Line + Drop> Client<L> {
         requires { length path.now < 2 ^ 31 }
         ensures { Comes (λ _. reply.Status Success) self.old (request.Rmdir path.now) result self.new }
     {
-        let path = self.copy(path)?;
+        let path = ByteStr::new(path);
         self.done(&WireRequest::Rmdir { path })
     }
 
@@ -69,7 +69,7 @@ impl<L: Line + Drop> Client<L> {
         requires { length path.now < 2 ^ 31 }
         ensures { Comes (λ _. reply.Status Success) self.old (request.Remove path.now) result self.new }
     {
-        let path = self.copy(path)?;
+        let path = ByteStr::new(path);
         self.done(&WireRequest::Remove { path })
     }
 
@@ -78,8 +78,8 @@ impl<L: Line + Drop> Client<L> {
         requires { length old.now + length new.now < 2 ^ 31 }
         ensures { Comes (λ _. reply.Status Success) self.old (request.Rename old.now new.now) result self.new }
     {
-        let old = self.copy(old)?;
-        let new = self.copy(new)?;
+        let old = ByteStr::new(old);
+        let new = ByteStr::new(new);
         self.done(&WireRequest::Rename { old, new })
     }
 
@@ -88,8 +88,8 @@ impl<L: Line + Drop> Client<L> {
         requires { length old.now + length new.now < 2 ^ 31 }
         ensures { Comes (λ _. reply.Status Success) self.old (request.PosixRename old.now new.now) result self.new }
     {
-        let old = self.copy(old)?;
-        let new = self.copy(new)?;
+        let old = ByteStr::new(old);
+        let new = ByteStr::new(new);
         self.done(&WireRequest::PosixRename { old, new })
     }
 }

@@ -11,13 +11,12 @@ ghost use Rattle.sf_reply.specs.declared.reply.Reply.TheVariants.{Status};
 ghost use Rattle.sf_reply.specs.declared.reply.StatusCode.TheVariants.{Success};
 ghost use Rattle.sf_client.specs.Dues.{due_of, is_answer};
 ghost use Rattle.sf_client.specs.Exchanges.{id_after, IsGreeted, IsStarted, HasNoVersion};
-ghost use Rattle.sf_client.specs.Outcomes.{Broke, Comes, IsUnsent, ReadsDue, Settles, Takes};
+ghost use Rattle.sf_client.specs.Outcomes.{Broke, Comes, ReadsDue, Settles, Takes};
 
 use crate::due::{Due, find_due, refusal};
 use crate::fault::ClientFault;
 use crate::lines::{MAX_BODY, read_packet};
 use bytes::BytesMut;
-use sf_field::ByteString;
 use sf_line::{Line, write_all};
 use sf_reply::{Reply, is_version};
 use sf_request::{WireRequest, close_packet, init_packet, write_request};
@@ -161,21 +160,6 @@ impl<L: Line + Drop> Client<L> {
     /// The allocator that the client was made with.
     pub(crate) fn alloc(&self) -> Global {
         self.alloc
-    }
-
-    /// A copy of bytes to be sent.
-    pub(crate) fn copy(&self, bytes: &[u8]) -> Result<ByteString, ClientFault>
-        ensures ok { IfOk result (λ copy. copy ≡ bytes.now) }
-        ensures going { OnOk result (self.now.failed ≡ false) }
-        ensures err { IfErr result (λ fault. IsUnsent self.now fault) }
-    {
-        if self.failed {
-            return Err(ClientFault::Failed);
-        }
-        match ByteString::from_slice(self.alloc, bytes) {
-            Ok(copy) => Ok(copy),
-            Err(_) => Err(ClientFault::OutOfMemory),
-        }
     }
 
     /// Nothing is sent any more.

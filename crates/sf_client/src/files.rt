@@ -17,7 +17,7 @@ use crate::fault::ClientFault;
 use sf_field::{ByteString, NO_ATTRS, OpenFlags};
 use sf_line::Line;
 use sf_reply::{Entry, Listing, Reply, StatusCode};
-use sf_request::WireRequest;
+use sf_request::{ByteStr, WireRequest};
 
 /// How many bytes a READ asks for, and a WRITE sends at most.
 const PIECE: usize = 32768;
@@ -145,7 +145,8 @@ impl<L: Line + Drop> Client<L> {
         requires { self.old.failed ≡ false }
         ensures { Comes (or_eof reply.Data) self.old (read_from handle offset) result self.new }
     {
-        let handle = self.copy(&handle.to_be_bytes())?;
+        let number = handle.to_be_bytes();
+        let handle = ByteStr::new(&number);
         let came = self.read(&WireRequest::Read {
             handle,
             offset,
@@ -197,8 +198,9 @@ impl<L: Line + Drop> Client<L> {
         requires short { length piece.now ≤ PIECE }
         ensures { Comes (λ _. reply.Status Success) self.old (request.Write (be64 handle) offset piece.now) result self.new }
     {
-        let handle = self.copy(&handle.to_be_bytes())?;
-        let data = self.copy(piece)?;
+        let number = handle.to_be_bytes();
+        let handle = ByteStr::new(&number);
+        let data = ByteStr::new(piece);
         self.done(&WireRequest::Write {
             handle,
             offset,
@@ -212,7 +214,8 @@ impl<L: Line + Drop> Client<L> {
         ensures comes { Comes (or_eof reply.Names) self.old (request.ReadDir (be64 handle)) result self.new }
         ensures some { IfOk result (λ found. IfSome found (λ entries. 0 < length entries)) }
     {
-        let handle = self.copy(&handle.to_be_bytes())?;
+        let number = handle.to_be_bytes();
+        let handle = ByteStr::new(&number);
         let came = self.names(&WireRequest::ReadDir { handle });
         unless_ended(came)
     }
@@ -241,7 +244,7 @@ impl<L: Line + Drop> Client<L> {
         requires { length path.now < 2 ^ 31 }
         ensures { Comes reply.Handle self.old (request.Open path.now flags no_attrs) result self.new }
     {
-        let filename = self.copy(path)?;
+        let filename = ByteStr::new(path);
         self.open(&WireRequest::Open {
             filename,
             flags,
@@ -254,7 +257,7 @@ impl<L: Line + Drop> Client<L> {
         requires { length path.now < 2 ^ 31 }
         ensures { Comes reply.Handle self.old (request.OpenDir path.now) result self.new }
     {
-        let path = self.copy(path)?;
+        let path = ByteStr::new(path);
         self.open(&WireRequest::OpenDir { path })
     }
 

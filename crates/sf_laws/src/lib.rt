@@ -2,6 +2,10 @@
 //! may expect of a file server, said without the cases of any request; and its cases worked out.
 //!
 //! The definitions are those of `sf_call`. Each function here does nothing: its contract is the law.
+//! Start with `left_alone` and `own_changes` in `change_laws.rt` (what a request may change at all), then
+//! `listed_all` (a listing is complete) and `limits_hold`. The words that they use are in `specs/Own.antt` and
+//! `specs/LeftAlone.antt`. Who wants to see single cases reads `cases.rt`, over the small trees of
+//! `specs/Examples.antt`.
 #![tactic(auto)]
 
 mod cases;

@@ -1,5 +1,5 @@
 -- What a body asks is read, and what is read is asked.
-use Rattle.std.proofs.Common.{◌≡◌, ◌≢◌, ℕ, suc, Bool, true, false, cond, eqb, not, List, [], ◌∷◌, ◌++◌, Option, Some, None, refl, sym, ap, subst, ◌∙◌, append_assoc, arith, lit<, inl, inr}
+use Rattle.std.proofs.Common.{◌≡◌, ◌≢◌, ℕ, suc, Bool, true, false, cond, eqb, not, List, [], ◌∷◌, ◌++◌, Option, Some, None, refl, sym, ap, subst, ◌∙◌, append_assoc, arith, lit<, inl, inr, length, ◌<◌}
 use Rattle.std.specs.Str.{bytes_eq}
 use Rattle.std.specs.Int.{w32}
 use Rattle.std.proofs.lemmas.Bool.{eqb-true, eqb-false, ne_eqb}
@@ -7,9 +7,9 @@ use Rattle.std.proofs.lemmas.Slice.Eq.{bytes_eq-Decides}
 use Rattle.sf_request.specs.declared.request.WireRequest.{WireRequest}
 use Rattle.sf_request.specs.declared.request.WireRequest.TheVariants as request
 use Rattle.sf_request.specs.declared.request.Asked.{Asked}
-use Rattle.sf_request.specs.declared.request.Asked.TheVariants.{Init, Request, BadFields, Unknown, NoId}
+use Rattle.sf_request.specs.declared.request.Asked.TheVariants.{Init, Request, BadFields, Unknown, NoVersion, NoId}
 use Rattle.sf_field.specs.Fields.{be32}
-use Rattle.sf_request.specs.Requests.{kind_of, is_request, posix_rename, SpellsFields, HasId, HasOtherName, IsUnknown, Asks}
+use Rattle.sf_request.specs.Requests.{kind_of, is_request, posix_rename, SpellsFields, HasId, HasOtherName, IsUnknown, BeginsInit, Asks}
 use Rattle.sf_field.specs.Reading.{number_at, string_at}
 use Rattle.sf_request.specs.Reading.{other_name, is_unknown, request_at, answer_of, call_of, asked_of}
 use Rattle.sf_field.proofs.Laws.{IsBytes, IsBytes-rest, reads_u32, reads_string, number_none, number_short}
@@ -99,16 +99,23 @@ call_found body kind id rest true unknown p q has fits = (rest, subst (λ (k : �
 call_found body kind id rest false false p q has fits = answer_found body kind id rest (request_at kind rest) refl q has fits
 call_found body kind id rest false true p q has fits = (kind, rest, has, unknown_found kind rest fits (eqb-false kind 1 p) q)
 
+head_is : (kind n : ℕ) (rest more : List ℕ) → kind ∷ rest ≡ n ∷ more → kind ≡ n
+head_is kind n rest more e = cc
+
+short_found : (kind : ℕ) (rest : List ℕ) (one : Bool) → eqb kind 1 ≡ one → length (kind ∷ rest) < 5 → Asks (kind ∷ rest) (cond one NoVersion NoId)
+short_found kind rest true e short = (short, (rest, ap (λ (k : ℕ). k ∷ rest) (eqb-true kind 1 e)))
+short_found kind rest false e short = (short, λ init. eqb-false kind 1 e (head_is kind 1 rest init.0 init.1))
+
 number_found : (kind : ℕ) (rest : List ℕ) (o : Option (ℕ × List ℕ)) → number_at w32 rest ≡ o → IsBytes rest → Asks (kind ∷ rest) (call_of kind o)
 unfolding call_of
-number_found kind rest None e fits = omega (arith, number_none w32 rest e)
+number_found kind rest None e fits = short_found kind rest (eqb kind 1) refl (omega (arith, number_none w32 rest e))
 number_found kind rest (Some n) e fits =
     let t = reads_u32.takes rest n.0 n.1 fits e in
     call_found (kind ∷ rest) kind n.0 n.1 (eqb kind 1) (is_unknown kind n.1) refl refl (record { fits = t.1; parts = ap (λ (t : List ℕ). kind ∷ t) t.0.parts }) t.0.rest_fits
 
 pub asked_found : (body : List ℕ) → IsBytes body → Asks body (asked_of body)
 unfolding asked_of
-asked_found [] fits = lit< tt
+asked_found [] fits = (lit< tt, λ init. let e : [] ≡ 1 ∷ init.0 = init.1 in cc)
 asked_found (kind ∷ rest) fits = number_found kind rest (number_at w32 rest) refl (IsBytes-rest kind rest fits)
 
 -- ---- what is asked is read
@@ -190,5 +197,11 @@ asked_only body (BadFields id) fits h =
     let ne = no_init h.0 h.3 in
     has_call body h.0 id h.1 h.2 ∙ rw (ne, not_unknown h.0 h.1 (is_unknown h.0 h.1) refl rest_fits (eqb-false h.0 1 ne) h.4, none_read h.0 id h.1 (request_at h.0 h.1) refl rest_fits h.5) refl
 asked_only body (Unknown id) fits h = has_call body h.0 id h.1 h.2 ∙ rw (unknown_no_init h.0 h.1 h.3, unknown_only h.0 h.1 h.3) refl
+asked_only [] NoVersion fits h = let e : [] ≡ 1 ∷ h.1.0 = h.1.1 in absurd cc
+asked_only (kind ∷ rest) NoVersion fits h =
+    let init : eqb kind 1 ≡ true = ap (λ (k : ℕ). eqb k 1) (head_is kind 1 rest h.1.0 h.1.1) in
+    ap (call_of kind) (number_short w32 rest (omega (arith, h.0))) ∙ rw init refl
 asked_only [] NoId fits h = refl
-asked_only (kind ∷ rest) NoId fits h = ap (call_of kind) (number_short w32 rest (omega (arith, h)))
+asked_only (kind ∷ rest) NoId fits h =
+    let no : eqb kind 1 ≡ false = ne_eqb kind 1 (λ is. h.1 (rest, ap (λ (k : ℕ). k ∷ rest) is)) in
+    ap (call_of kind) (number_short w32 rest (omega (arith, h.0))) ∙ rw no refl

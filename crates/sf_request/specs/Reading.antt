@@ -6,7 +6,7 @@ use Rattle.sf_field.specs.declared.attrs.Attrs.{Attrs}
 use Rattle.sf_request.specs.declared.request.WireRequest.{WireRequest}
 use Rattle.sf_request.specs.declared.request.WireRequest.TheVariants as request
 use Rattle.sf_request.specs.declared.request.Asked.{Asked}
-use Rattle.sf_request.specs.declared.request.Asked.TheVariants.{Init, Request, BadFields, Unknown, NoId}
+use Rattle.sf_request.specs.declared.request.Asked.TheVariants.{Init, Request, BadFields, Unknown, NoVersion, NoId}
 use Rattle.sf_request.specs.Requests.{is_request, posix_rename}
 use Rattle.sf_field.specs.Reading.{◌>>=◌, number_at, string_at, attrs_at, flags_at}
 
@@ -81,7 +81,7 @@ unfoldable pub is_unknown : ℕ → List ℕ → Bool
 is_unknown kind bytes = if kind == 200 then other_name (string_at bytes) else not (is_request kind)
 
 unfoldable pub call_of : ℕ → Option (ℕ × List ℕ) → Asked
-call_of kind None = NoId
+call_of kind None = if kind == 1 then NoVersion else NoId
 call_of kind (Some n) =
     if kind == 1 then Init n.0
     else if is_unknown kind n.1 then Unknown n.0

@@ -5,7 +5,7 @@ use Rattle.sf_field.specs.declared.open_flags.OpenFlags.{OpenFlags}
 use Rattle.sf_request.specs.declared.request.WireRequest.{WireRequest}
 use Rattle.sf_request.specs.declared.request.WireRequest.TheVariants as request
 use Rattle.sf_request.specs.declared.request.Asked.{Asked}
-use Rattle.sf_request.specs.declared.request.Asked.TheVariants.{Init, Request, BadFields, Unknown, NoId}
+use Rattle.sf_request.specs.declared.request.Asked.TheVariants.{Init, Request, BadFields, Unknown, NoVersion, NoId}
 use Rattle.sf_field.specs.Fields.{be32, be64, string}
 use Rattle.sf_field.specs.Attributes.{SpellsAttrs, AttrsFit, attrs_text}
 use Rattle.sf_field.specs.OpenFlags.{open_flags, bits_of}
@@ -104,6 +104,9 @@ pub record HasOtherName (rest : List ℕ) : Type 0 where
 abbrev pub IsUnknown : ℕ → List ℕ → Type 0
 IsUnknown kind rest = ((is_request kind ≡ false) × (kind ≢ 1)) ⊎ ((kind ≡ 200) × HasOtherName rest)
 
+abbrev pub BeginsInit : List ℕ → Type 0
+BeginsInit body = (rest : List ℕ) × (body ≡ 1 ∷ rest)
+
 -- What a body asks. Bytes may follow the fields.
 abbrev pub Asks : List ℕ → Asked → Type 0
 Asks body (Init version) = (more : List ℕ) × HasId body 1 version more
@@ -111,7 +114,8 @@ Asks body (Request id request) = (text more : List ℕ) × HasId body (kind_of r
 Asks body (BadFields id) = (kind : ℕ) × (rest : List ℕ) × HasId body kind id rest × (is_request kind ≡ true) × (IsUnknown kind rest → ⊥)
     × ((request : WireRequest) (text more : List ℕ) → kind_of request ≡ kind → SpellsFields text request → rest ≡ text ++ more → ⊥)
 Asks body (Unknown id) = (kind : ℕ) × (rest : List ℕ) × HasId body kind id rest × IsUnknown kind rest
-Asks body NoId = length body < 5
+Asks body NoVersion = (length body < 5) × BeginsInit body
+Asks body NoId = (length body < 5) × (BeginsInit body → ⊥)
 
 -- The spelling that is sent: the bits of the flags that are set, and no other; attributes without other flags and pairs.
 abbrev pub fields_text : WireRequest → List ℕ

@@ -4,19 +4,11 @@ use Rattle.std.specs.Prelude.{OnOk, IfSome}
 use Rattle.std.specs.List.{flat_map}
 use Rattle.std.specs.Io.KnownBytes.{Appends, Consumes}
 use Rattle.std.proofs.KnownBytes.{Appends-nil, Consumes-nil, Consumes-trans}
-use Rattle.sf_wire.specs.declared.cutting.Cut.TheVariants as cut
 use Rattle.sf_field.specs.Fields.{packet, be32}
 use Rattle.sf_session.specs.declared.cause.Cause.{Cause}
-use Rattle.sf_session.specs.declared.cause.Cause.TheVariants.{Closed}
-use Rattle.sf_session.specs.declared.asking.Ask.TheVariants as ask
-use Rattle.sf_request.specs.declared.request.WireRequest.TheVariants as wire
-use Rattle.sf_request.specs.declared.request.Asked.TheVariants as asked
-use Rattle.sf_path.specs.Names.{Path}
 use Rattle.sf_inode.specs.Stores.{StoreState}
 use Rattle.sf_keeps.specs.Keeps.{Keeps}
 use Rattle.sf_call.specs.Tree.{empty_tree}
-use Rattle.sf_session.specs.Asking.{call_ask, real_path_at}
-use Rattle.sf_call.specs.declared.request.Request.{Request}
 use Rattle.sf_service.specs.declared.service.Turn.TheVariants as turn
 use Rattle.sf_session.specs.Sessions.{SessionView, EndsBy}
 use Rattle.sf_service.specs.Transcripts.{moments_of, AreAnswers, IsServed, IsEnd}
@@ -47,15 +39,6 @@ pub stays_open : (v w x : ServiceView) (t t' : Option (List ℕ)) → Answers v 
     → (x.session.ended ≡ None) × (x.session.waiting ≡ None)
 stays_open v w x t t' h e =
     (ap (λ (z : ServiceView). z.session.ended) e ∙ ap (λ (z : SessionView). z.ended) h.session, ap (λ (z : ServiceView). z.session.waiting) e ∙ ap (λ (z : SessionView). z.waiting) h.session)
-
--- no packet and no length closes a session
-call_not_closed : (id : ℕ) (call : Option Request) → call_ask id call ≡ ask.End Closed → ⊥
-call_not_closed id None e = cc
-call_not_closed id (Some request) e = cc
-
-real_path_not_closed : (id : ℕ) (found : Option Path) → real_path_at id found ≡ ask.End Closed → ⊥
-real_path_not_closed id None e = cc
-real_path_not_closed id (Some path) e = cc
 
 -- what ends a session ends it, whatever follows
 ends_more : (begun : Bool) (bytes more : List ℕ) (cause : Cause) → EndsBy begun bytes cause → EndsBy begun (bytes ++ more) cause

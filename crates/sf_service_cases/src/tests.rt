@@ -1,10 +1,9 @@
 //! Sessions from bytes to bytes, at the moment 100, fed whole, byte by byte and cut at each place.
 
-ghost use Rattle.std.specs.Prelude.{None};
-
+use sf_cases::{StillClock, hex_bytes};
 use sf_line::{MemoryLine, Pieces};
 use sf_service::serve_one;
-use sf_session::{Cause, Clock};
+use sf_session::Cause;
 use std::alloc::Global;
 use std::process::Abort;
 use std::test::*;
@@ -16,24 +15,11 @@ const INIT: &str = "00000005 01 00000003";
 const VERSION: &str =
     "00000026 02 00000003 00000018 706f7369782d72656e616d65406f70656e7373682e636f6d 00000001 31";
 
-/// A clock that stands still.
-#[derive(Drop)]
-struct StillClock;
-
-impl Clock for StillClock {
-    ghost told = { λ _. None };
-
-    fn now(&mut self) -> u32 {
-        100
-    }
-}
-
-/// The bytes of texts in hexadecimal, whose spaces only group them, one after the other.
-fn hex_bytes(alloc: Global, texts: &[&str]) -> Result<Vec<u8>, Fail> {
+/// The bytes of packets in hexadecimal, one after the other.
+fn packets(alloc: Global, texts: &[&str]) -> Result<Vec<u8>, Fail> {
     let mut bytes = Vec::new(alloc);
     for text in texts {
-        let digits: Vec<u8> = text.bytes().filter(|b| *b != b' ').collect(alloc)?;
-        bytes.extend_from_slice(&hex::decode(alloc, digits.as_slice())?)?;
+        bytes.extend_from_slice(&hex_bytes(alloc, text)?)?;
     }
     Ok(bytes)
 }
@@ -85,8 +71,8 @@ fn is_served(
     want: &[&str],
     cause: Cause,
 ) -> Result<(), Fail> {
-    let input = hex_bytes(alloc, input)?;
-    let want = hex_bytes(alloc, want)?;
+    let input = packets(alloc, input)?;
+    let want = packets(alloc, want)?;
     is_served_cut(rt, alloc, &input, input.len(), &want, cause)
 }
 
@@ -211,11 +197,11 @@ fn other_requests(rt: HostRuntime) -> Result<(), Fail> {
 #[test]
 fn realpath_of_empty_path(rt: HostRuntime) -> Result<(), Fail> {
     let alloc = rt.alloc();
-    let mut input = hex_bytes(alloc, &[INIT, "00040000 10 00000005 00000000"])?;
+    let mut input = packets(alloc, &[INIT, "00040000 10 00000005 00000000"])?;
     for _ in 0..262135 {
         input.push(0)?;
     }
-    let want = hex_bytes(
+    let want = packets(
         alloc,
         &[
             VERSION,
@@ -227,11 +213,11 @@ fn realpath_of_empty_path(rt: HostRuntime) -> Result<(), Fail> {
 
 /// A REALPATH of 255 or 256 bytes `x`.
 fn long_names(alloc: Global, front: &str, len: usize, back: &str) -> Result<Vec<u8>, Fail> {
-    let mut bytes = hex_bytes(alloc, &[front])?;
+    let mut bytes = hex_bytes(alloc, front)?;
     for _ in 0..len {
         bytes.push(b'x')?;
     }
-    bytes.extend_from_slice(&hex_bytes(alloc, &[back])?)?;
+    bytes.extend_from_slice(&hex_bytes(alloc, back)?)?;
     Ok(bytes)
 }
 
@@ -253,10 +239,10 @@ fn normal_forms(rt: HostRuntime) -> Result<(), Fail> {
         ],
         Cause::Closed,
     )?;
-    let mut input = hex_bytes(alloc, &[INIT])?;
+    let mut input = hex_bytes(alloc, INIT)?;
     input.extend_from_slice(&long_names(alloc, "00000108 10 00000003 000000ff", 255, "")?)?;
     input.extend_from_slice(&long_names(alloc, "00000109 10 00000004 00000100", 256, "")?)?;
-    let mut want = hex_bytes(alloc, &[VERSION])?;
+    let mut want = hex_bytes(alloc, VERSION)?;
     want.extend_from_slice(&long_names(
         alloc,
         "00000215 68 00000003 00000001 00000100 2f",
@@ -266,7 +252,7 @@ fn normal_forms(rt: HostRuntime) -> Result<(), Fail> {
     want.extend_from_slice(&long_names(alloc, "00000100 2f", 255, "00000000")?)?;
     want.extend_from_slice(&hex_bytes(
         alloc,
-        &["00000018 65 00000004 00000004 00000007 4661696c757265 00000000"],
+        "00000018 65 00000004 00000004 00000007 4661696c757265 00000000",
     )?)?;
     is_served_cut(&rt, alloc, &input, input.len(), &want, Cause::Closed)
 }

@@ -1,5 +1,5 @@
 -- What each body of a session asks for: the cases of the session's rules, in their order.
-use Rattle.std.specs.Prelude.{◌≡◌, ℕ, ◌≤◌, length, List, [], ◌∷◌, Bool, true, false, Option, Some, None, option_map, option_and_then, nat_eq, nat_lt, ◌==◌, if◌then◌else◌}
+use Rattle.std.specs.Prelude.{◌≡◌, ℕ, ◌≤◌, length, List, [], ◌∷◌, Bool, Option, Some, None, option_map, option_and_then, nat_eq, nat_lt, if◌then◌else◌}
 use Rattle.std.specs.Int.{w64, from_be_bytes}
 use Rattle.sf_path.specs.declared.fault.PathFault.{PathFault}
 use Rattle.sf_path.specs.Names.{Path, text_of}
@@ -20,15 +20,11 @@ use Rattle.sf_session.specs.declared.asking.Ask.{Ask}
 use Rattle.sf_session.specs.declared.asking.Ask.TheVariants as ask
 use Rattle.sf_session.specs.declared.cause.Cause.TheVariants.{NotInit, OldVersion, SecondInit, NoId}
 
-abbrev pub is_init : List ℕ → Bool
-is_init [] = false
-is_init (kind ∷ fields) = kind == 1
-
 -- the first body must be INIT with a version of 3 or above
-abbrev pub first_ask : Bool → Asked → Ask
-first_ask false a = ask.End NotInit
-first_ask true (asked.Init version) = if nat_lt version 3 then ask.End OldVersion else ask.Version
-first_ask true _ = ask.End NoId
+abbrev pub first_ask : Asked → Ask
+first_ask (asked.Init version) = if nat_lt version 3 then ask.End OldVersion else ask.Version
+first_ask asked.NoVersion = ask.End NoId
+first_ask _ = ask.End NotInit
 
 -- file name and longname are the normal text, and no attributes
 abbrev pub real_path_reply : Path → Reply
@@ -94,20 +90,20 @@ request_ask id (wire.RealPath text) = real_path_ask id text
 request_ask id request = call_ask id (call_of request)
 
 -- a later body must not be INIT
-abbrev pub later_ask : Bool → Asked → Ask
-later_ask true a = ask.End SecondInit
-later_ask false (asked.Init version) = ask.End SecondInit
-later_ask false asked.NoId = ask.End NoId
-later_ask false (asked.Unknown id) = ask.Local id (reply.Status OpUnsupported)
-later_ask false (asked.BadFields id) = ask.Local id (reply.Status BadMessage)
-later_ask false (asked.Request id request) = request_ask id request
+abbrev pub later_ask : Asked → Ask
+later_ask (asked.Init version) = ask.End SecondInit
+later_ask asked.NoVersion = ask.End SecondInit
+later_ask asked.NoId = ask.End NoId
+later_ask (asked.Unknown id) = ask.Local id (reply.Status OpUnsupported)
+later_ask (asked.BadFields id) = ask.Local id (reply.Status BadMessage)
+later_ask (asked.Request id request) = request_ask id request
 
-abbrev pub ask_by : Bool → Bool → Asked → Ask
-ask_by begun init a = if begun then later_ask init a else first_ask init a
+abbrev pub ask_in : Bool → Asked → Ask
+ask_in begun a = if begun then later_ask a else first_ask a
 
 -- What a body asks for; begun says that the session's first packet was answered.
 abbrev pub AsksFor : Bool → List ℕ → Ask → Type 0
-AsksFor begun body a = (packet : Asked) × Asks body packet × (a ≡ ask_by begun (is_init body) packet)
+AsksFor begun body a = (packet : Asked) × Asks body packet × (a ≡ ask_in begun packet)
 
 -- a local reply fits into a packet
 abbrev pub FitsPacket : Ask → Type 0

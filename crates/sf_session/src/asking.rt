@@ -1,7 +1,7 @@
 //! What a body asks of a session.
 
 ghost use Rattle.std.specs.Prelude.{◌≡◌, IfOk};
-ghost use Rattle.sf_session.specs.Asking.{AsksFor, FitsPacket, first_ask, later_ask, request_ask, call_ask, is_init, real_path_ask, real_path_reply};
+ghost use Rattle.sf_session.specs.Asking.{AsksFor, FitsPacket, first_ask, later_ask, request_ask, call_ask, real_path_ask, real_path_reply};
 
 use crate::calling::{call_of, path_of};
 use crate::cause::Cause;
@@ -32,47 +32,32 @@ pub(crate) fn ask_of(alloc: Global, begun: bool, body: &[u8]) -> Result<Ask, All
     ensures asks { IfOk result (λ ask. AsksFor begun body.now ask) }
     ensures fits { IfOk result (λ ask. FitsPacket ask) }
 {
-    let init = is_init(body);
-    let asked = read_request(alloc, body)?;
+    let asked = read_request(body);
     if begun {
-        later_ask(alloc, init, asked)
+        later_ask(alloc, asked)
     } else {
-        Ok(first_ask(init, asked))
+        Ok(first_ask(asked))
     }
 }
 
-fn is_init(body: &[u8]) -> bool
-    ensures { result ≡ is_init body.now }
-{
-    match body {
-        [] => false,
-        [kind, ..] => *kind == 1,
-    }
-}
-
-fn first_ask(init: bool, asked: Asked) -> Ask
-    ensures ask { result ≡ first_ask init asked }
+fn first_ask(asked: Asked<'_>) -> Ask
+    ensures ask { result ≡ first_ask asked.entry }
     ensures fits { FitsPacket result }
 {
-    if !init {
-        return Ask::End(Cause::NotInit);
-    }
     match asked {
         Asked::Init(version) if version < 3 => Ask::End(Cause::OldVersion),
         Asked::Init(_) => Ask::Version,
-        _ => Ask::End(Cause::NoId),
+        Asked::NoVersion => Ask::End(Cause::NoId),
+        _ => Ask::End(Cause::NotInit),
     }
 }
 
-fn later_ask(alloc: Global, init: bool, asked: Asked) -> Result<Ask, AllocError>
-    ensures ask { IfOk result (λ ask. ask ≡ later_ask init asked) }
+fn later_ask(alloc: Global, asked: Asked<'_>) -> Result<Ask, AllocError>
+    ensures ask { IfOk result (λ ask. ask ≡ later_ask asked.entry) }
     ensures fits { IfOk result (λ ask. FitsPacket ask) }
 {
-    if init {
-        return Ok(Ask::End(Cause::SecondInit));
-    }
     match asked {
-        Asked::Init(_) => Ok(Ask::End(Cause::SecondInit)),
+        Asked::Init(_) | Asked::NoVersion => Ok(Ask::End(Cause::SecondInit)),
         Asked::NoId => Ok(Ask::End(Cause::NoId)),
         Asked::Unknown(id) => Ok(status(id, StatusCode::OpUnsupported)),
         Asked::BadFields(id) => Ok(status(id, StatusCode::BadMessage)),
@@ -80,8 +65,8 @@ fn later_ask(alloc: Global, init: bool, asked: Asked) -> Result<Ask, AllocError>
     }
 }
 
-fn request_ask(alloc: Global, id: u32, request: WireRequest) -> Result<Ask, AllocError>
-    ensures ask { IfOk result (λ ask. ask ≡ request_ask id request) }
+fn request_ask(alloc: Global, id: u32, request: WireRequest<'_>) -> Result<Ask, AllocError>
+    ensures ask { IfOk result (λ ask. ask ≡ request_ask id request.entry) }
     ensures fits { IfOk result (λ ask. FitsPacket ask) }
 {
     match request {

@@ -2,11 +2,12 @@
 
 ghost use Rattle.std.specs.Prelude.{◌≡◌, ◌≤◌, length, IfOk, IfSome};
 ghost use Rattle.sf_path.specs.Names.{text_of};
+ghost use Rattle.sf_request.specs.declared.request.WireRequest.TheVariants.{Write};
 ghost use Rattle.sf_session.specs.Asking.{path_at, handle_at, paths_at, call_of, handle_call};
 
 use sf_call::Request;
 use sf_path::{Path, PathFault};
-use sf_wire::WireRequest;
+use sf_wire::{ByteString, WireRequest};
 use std::alloc::{AllocError, Global};
 
 /// The path that a text stands for, if it has no fault.
@@ -30,8 +31,11 @@ fn handle_of(bytes: &[u8]) -> Option<u64>
 }
 
 /// The call, if the request's paths have no fault and its handle is a number. REALPATH is none.
-pub(crate) fn call_of(alloc: Global, request: WireRequest) -> Result<Option<Request>, AllocError>
-    ensures { IfOk result (λ call. call ≡ call_of request) }
+pub(crate) fn call_of(
+    alloc: Global,
+    request: WireRequest<'_>,
+) -> Result<Option<Request>, AllocError>
+    ensures { IfOk result (λ call. call ≡ call_of request.entry) }
 {
     match request {
         WireRequest::RealPath { path: _path } => Ok(None),
@@ -61,45 +65,59 @@ pub(crate) fn call_of(alloc: Global, request: WireRequest) -> Result<Option<Requ
             let paths = paths_of(alloc, old.as_slice(), new.as_slice())?;
             Ok(paths.map(|(old, new)| Request::PosixRename(old, new)))
         }
-        request => Ok(handle_call(request)),
+        request => handle_call(alloc, request),
     }
 }
 
 /// The call by a handle, if it is a number. A request that names a path is none.
-fn handle_call(request: WireRequest) -> Option<Request>
-    ensures { result ≡ handle_call request }
+fn handle_call(alloc: Global, request: WireRequest<'_>) -> Result<Option<Request>, AllocError>
+    ensures { IfOk result (λ call. call ≡ handle_call request.entry) }
 {
     match request {
-        WireRequest::Close { handle } => handle_of(handle.as_slice()).map(Request::Close),
-        WireRequest::FStat { handle } => handle_of(handle.as_slice()).map(Request::FStat),
+        WireRequest::Close { handle } => Ok(handle_of(handle.as_slice()).map(Request::Close)),
+        WireRequest::FStat { handle } => Ok(handle_of(handle.as_slice()).map(Request::FStat)),
         WireRequest::FSetStat { handle, attrs } => {
-            handle_of(handle.as_slice()).map(|handle| Request::FSetStat(handle, attrs))
+            Ok(handle_of(handle.as_slice()).map(|handle| Request::FSetStat(handle, attrs)))
         }
-        WireRequest::ReadDir { handle } => handle_of(handle.as_slice()).map(Request::ReadDir),
+        WireRequest::ReadDir { handle } => Ok(handle_of(handle.as_slice()).map(Request::ReadDir)),
         WireRequest::Read {
             handle,
             offset,
             len,
         } => {
-            handle_of(handle.as_slice()).map(|handle| Request::Read {
+            Ok(handle_of(handle.as_slice()).map(|handle| Request::Read {
                 handle,
                 offset,
                 len,
-            })
+            }))
         }
         WireRequest::Write {
             handle,
             offset,
             data,
-        } => {
-            handle_of(handle.as_slice()).map(|handle| Request::Write {
-                handle,
-                offset,
-                data,
-            })
-        }
-        _ => None,
+        } => write_call(alloc, handle.as_slice(), offset, data.as_slice()),
+        _ => Ok(None),
     }
+}
+
+/// The data is copied here, once.
+fn write_call(
+    alloc: Global,
+    handle: &[u8],
+    offset: u64,
+    bytes: &[u8],
+) -> Result<Option<Request>, AllocError>
+    ensures { IfOk result (λ call. call ≡ handle_call (Write handle.now offset bytes.now)) }
+{
+    let Some(handle) = handle_of(handle) else {
+        return Ok(None);
+    };
+    let data = ByteString::from_slice(alloc, bytes)?;
+    Ok(Some(Request::Write {
+        handle,
+        offset,
+        data,
+    }))
 }
 
 /// The paths of a rename.

@@ -1,4 +1,7 @@
 //! Sessions by their calls, with the bytes that each must send.
+//!
+//! Start with `waiting` in `tests.rt`: a session that was fed a request and waits for its answer. The
+//! packets are spelled out, byte by byte, from the draft.
 #![tactic(auto)]
 
 #[cfg(test)]

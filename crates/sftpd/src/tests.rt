@@ -1,28 +1,14 @@
 //! The words, the statuses and the clock.
 
-ghost use Rattle.std.specs.Prelude.{None};
-
 use crate::clock::moment;
 use crate::program::{Action, read_words};
 use crate::stdio::run_stdio;
+use sf_cases::StillClock;
 use sf_line::{MemoryLine, Pieces};
-use sf_session::Clock;
 use std::alloc::Global;
 use std::process::Abort;
 use std::test::*;
 use std::time::Duration;
-
-/// A clock that stands still.
-#[derive(Drop)]
-struct StillClock;
-
-impl Clock for StillClock {
-    ghost told = { λ _. None };
-
-    fn now(&mut self) -> u32 {
-        100
-    }
-}
 
 /// `run_stdio` on this input answers this status and writes this line.
 fn is_told(rt: &impl Abort, alloc: Global, input: &[u8], status: u8, told: &[u8]) {

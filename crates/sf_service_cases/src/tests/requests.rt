@@ -232,19 +232,19 @@ fn digits(n: u8) -> [u8; 2] {
 
 /// OPEN of `/n01` and so on, under the number as id.
 fn put_open(alloc: Global, input: &mut Vec<u8>, n: u8) -> Result<(), Fail> {
-    input.extend_from_slice(&hex_bytes(alloc, &["00000015 03 000000"])?)?;
+    input.extend_from_slice(&hex_bytes(alloc, "00000015 03 000000")?)?;
     input.push(n)?;
     input.extend_from_slice(b"\0\0\0\x04/n")?;
     input.extend_from_slice(&digits(n))?;
-    input.extend_from_slice(&hex_bytes(alloc, &["0000000b 00000000"])?)?;
+    input.extend_from_slice(&hex_bytes(alloc, "0000000b 00000000")?)?;
     Ok(())
 }
 
 /// The handle that it is answered with.
 fn put_handle(alloc: Global, want: &mut Vec<u8>, n: u8) -> Result<(), Fail> {
-    want.extend_from_slice(&hex_bytes(alloc, &["00000011 66 000000"])?)?;
+    want.extend_from_slice(&hex_bytes(alloc, "00000011 66 000000")?)?;
     want.push(n)?;
-    want.extend_from_slice(&hex_bytes(alloc, &["00000008 00000000000000"])?)?;
+    want.extend_from_slice(&hex_bytes(alloc, "00000008 00000000000000")?)?;
     want.push(n)?;
     Ok(())
 }
@@ -257,7 +257,7 @@ fn put_entry(alloc: Global, want: &mut Vec<u8>, n: u8) -> Result<(), Fail> {
     want.extend_from_slice(&digits(n))?;
     want.extend_from_slice(&hex_bytes(
         alloc,
-        &["0000000f 0000000000000000 00000000 00000000 000081a4 00000064 00000064"],
+        "0000000f 0000000000000000 00000000 00000000 000081a4 00000064 00000064",
     )?)?;
     Ok(())
 }
@@ -265,13 +265,13 @@ fn put_entry(alloc: Global, want: &mut Vec<u8>, n: u8) -> Result<(), Fail> {
 #[test]
 fn listing_survives_removals(rt: HostRuntime) -> Result<(), Fail> {
     let alloc = rt.alloc();
-    let mut input = hex_bytes(alloc, &[INIT])?;
-    let mut want = hex_bytes(alloc, &[VERSION])?;
+    let mut input = hex_bytes(alloc, INIT)?;
+    let mut want = hex_bytes(alloc, VERSION)?;
     for n in 1..34 {
         put_open(alloc, &mut input, n)?;
         put_handle(alloc, &mut want, n)?;
     }
-    input.extend_from_slice(&hex_bytes(
+    input.extend_from_slice(&packets(
         alloc,
         &[
             "0000000a 0b 00000022 00000001 2f",
@@ -282,7 +282,7 @@ fn listing_survives_removals(rt: HostRuntime) -> Result<(), Fail> {
             "00000011 0c 00000027 00000008 0000000000000022",
         ],
     )?)?;
-    want.extend_from_slice(&hex_bytes(
+    want.extend_from_slice(&packets(
         alloc,
         &[
             "00000011 66 00000022 00000008 0000000000000022",
@@ -292,7 +292,7 @@ fn listing_survives_removals(rt: HostRuntime) -> Result<(), Fail> {
     for n in 1..33 {
         put_entry(alloc, &mut want, n)?;
     }
-    want.extend_from_slice(&hex_bytes(
+    want.extend_from_slice(&packets(
         alloc,
         &[
             "00000018 65 00000024 00000000 00000007 53756363657373 00000000",
@@ -300,7 +300,7 @@ fn listing_survives_removals(rt: HostRuntime) -> Result<(), Fail> {
         ],
     )?)?;
     put_entry(alloc, &mut want, 33)?;
-    want.extend_from_slice(&hex_bytes(
+    want.extend_from_slice(&packets(
         alloc,
         &[
             "00000018 65 00000026 00000000 00000007 53756363657373 00000000",
