@@ -7,13 +7,14 @@ ghost use Rattle.sf_request.specs.declared.request.WireRequest.TheVariants.{Clos
 ghost use Rattle.sf_field.specs.Attributes.{attrs_text};
 ghost use Rattle.sf_field.specs.Fields.{be64, packet, string};
 
+use crate::byte_str::ByteStr;
 use crate::reading::{
     CLOSE, EXTENDED, FSETSTAT, FSTAT, INIT, LSTAT, MKDIR, OPEN, OPENDIR, POSIX_RENAME, READ,
     READDIR, REALPATH, REMOVE, RENAME, RMDIR, SETSTAT, STAT, WRITE,
 };
 use crate::request::WireRequest;
 use bytes::BytesMut;
-use sf_field::{Attrs, ByteString, attrs_len, put_attrs, put_string, put_u32, put_u64};
+use sf_field::{Attrs, attrs_len, put_attrs, put_string, put_u32, put_u64};
 use std::alloc::AllocError;
 
 /// How many bytes the request's fields take.
@@ -47,7 +48,7 @@ fn fields_len(request: &WireRequest) -> usize
 }
 
 /// A path or a handle, and attributes.
-fn put_with_attrs(out: &mut BytesMut, text: &ByteString, attrs: &Attrs)
+fn put_with_attrs(out: &mut BytesMut, text: &ByteStr, attrs: &Attrs)
     requires room { length (string text.now ++ attrs_text attrs.now) ≤ out.old.spare }
     requires short { length text.now < 2 ^ 32 }
     ensures items { out.new.items ≡ out.old.items ++ (string text.now ++ attrs_text attrs.now) }
@@ -58,7 +59,7 @@ fn put_with_attrs(out: &mut BytesMut, text: &ByteString, attrs: &Attrs)
 }
 
 /// Two paths.
-fn put_both(out: &mut BytesMut, old: &ByteString, new: &ByteString)
+fn put_both(out: &mut BytesMut, old: &ByteStr, new: &ByteStr)
     requires room { length (string old.now ++ string new.now) ≤ out.old.spare }
     requires short { (length old.now < 2 ^ 32) × (length new.now < 2 ^ 32) }
     ensures items { out.new.items ≡ out.old.items ++ (string old.now ++ string new.now) }
@@ -69,7 +70,7 @@ fn put_both(out: &mut BytesMut, old: &ByteString, new: &ByteString)
 }
 
 /// A handle, and a place in its file.
-fn put_place(out: &mut BytesMut, handle: &ByteString, offset: u64)
+fn put_place(out: &mut BytesMut, handle: &ByteStr, offset: u64)
     requires room { length (string handle.now ++ be64 offset) ≤ out.old.spare }
     requires short { length handle.now < 2 ^ 32 }
     ensures items { out.new.items ≡ out.old.items ++ (string handle.now ++ be64 offset) }

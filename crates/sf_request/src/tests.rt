@@ -2,7 +2,7 @@
 
 use super::*;
 use bytes::BytesMut;
-use sf_field::{Attrs, ByteString, NO_ATTRS, OpenFlags, Owner, Times};
+use sf_field::{Attrs, NO_ATTRS, OpenFlags, Owner, Times};
 use std::alloc::Global;
 use std::process::Abort;
 use std::test::*;

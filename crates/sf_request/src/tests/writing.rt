@@ -1,14 +1,14 @@
 //! Requests written as packets.
 
-ghost use Rattle.std.specs.Prelude.{◌≡◌, ◌<◌, ◌^◌, length, IfOk};
+ghost use Rattle.std.specs.Prelude.{◌≡◌, ◌<◌, ◌^◌, length};
 ghost use Rattle.sf_request.specs.Requests.{request_body};
 
 use super::*;
 
-fn string(alloc: Global, text: &str) -> Result<ByteString, Fail>
-    ensures { IfOk result (λ s. s ≡ text.now) }
+fn string<'a>(text: &'a str) -> ByteStr<'a>
+    ensures { result ≡ text.now }
 {
-    Ok(ByteString::from_slice(alloc, text.as_bytes())?)
+    ByteStr::new(text.as_bytes())
 }
 
 /// The request is written under the id 5 as this packet, behind what was written before.
@@ -32,22 +32,22 @@ fn is_written(
 #[test]
 fn by_a_path(rt: HostRuntime) -> Result<(), Fail> {
     let alloc = rt.alloc();
-    let path = string(alloc, "/a")?;
+    let path = string("/a");
     let request = WireRequest::LStat { path };
     is_written(&rt, alloc, &request, "0000000b 07 00000005 00000002 2f61")?;
-    let path = string(alloc, "/a")?;
+    let path = string("/a");
     let request = WireRequest::OpenDir { path };
     is_written(&rt, alloc, &request, "0000000b 0b 00000005 00000002 2f61")?;
-    let path = string(alloc, "/a")?;
+    let path = string("/a");
     let request = WireRequest::Remove { path };
     is_written(&rt, alloc, &request, "0000000b 0d 00000005 00000002 2f61")?;
-    let path = string(alloc, "/a")?;
+    let path = string("/a");
     let request = WireRequest::Rmdir { path };
     is_written(&rt, alloc, &request, "0000000b 0f 00000005 00000002 2f61")?;
-    let path = string(alloc, "")?;
+    let path = string("");
     let request = WireRequest::RealPath { path };
     is_written(&rt, alloc, &request, "00000009 10 00000005 00000000")?;
-    let path = string(alloc, "/a")?;
+    let path = string("/a");
     let request = WireRequest::Stat { path };
     is_written(&rt, alloc, &request, "0000000b 11 00000005 00000002 2f61")
 }
@@ -55,13 +55,13 @@ fn by_a_path(rt: HostRuntime) -> Result<(), Fail> {
 #[test]
 fn by_two_paths(rt: HostRuntime) -> Result<(), Fail> {
     let alloc = rt.alloc();
-    let old = string(alloc, "/a")?;
-    let new = string(alloc, "/b/")?;
+    let old = string("/a");
+    let new = string("/b/");
     let request = WireRequest::Rename { old, new };
     let packet = "00000012 12 00000005 00000002 2f61 00000003 2f622f";
     is_written(&rt, alloc, &request, packet)?;
-    let old = string(alloc, "/a")?;
-    let new = string(alloc, "/b/")?;
+    let old = string("/a");
+    let new = string("/b/");
     let request = WireRequest::PosixRename { old, new };
     let packet =
         "0000002e c8 00000005 00000018 706f7369782d72656e616d65406f70656e7373682e636f6d 00000002 2f61 00000003 2f622f";
@@ -71,16 +71,16 @@ fn by_two_paths(rt: HostRuntime) -> Result<(), Fail> {
 #[test]
 fn by_a_handle(rt: HostRuntime) -> Result<(), Fail> {
     let alloc = rt.alloc();
-    let handle = string(alloc, "h")?;
+    let handle = string("h");
     let request = WireRequest::Close { handle };
     is_written(&rt, alloc, &request, "0000000a 04 00000005 00000001 68")?;
-    let handle = string(alloc, "h")?;
+    let handle = string("h");
     let request = WireRequest::FStat { handle };
     is_written(&rt, alloc, &request, "0000000a 08 00000005 00000001 68")?;
-    let handle = string(alloc, "h")?;
+    let handle = string("h");
     let request = WireRequest::ReadDir { handle };
     is_written(&rt, alloc, &request, "0000000a 0c 00000005 00000001 68")?;
-    let handle = string(alloc, "h")?;
+    let handle = string("h");
     let request = WireRequest::Read {
         handle,
         offset: 0x0102030405060708,
@@ -88,8 +88,8 @@ fn by_a_handle(rt: HostRuntime) -> Result<(), Fail> {
     };
     let packet = "00000016 05 00000005 00000001 68 0102030405060708 0a0b0c0d";
     is_written(&rt, alloc, &request, packet)?;
-    let handle = string(alloc, "h")?;
-    let data = string(alloc, "xy")?;
+    let handle = string("h");
+    let data = string("xy");
     let request = WireRequest::Write {
         handle,
         offset: 5,
@@ -113,12 +113,12 @@ const WHOLE: Attrs = Attrs {
 #[test]
 fn with_attributes(rt: HostRuntime) -> Result<(), Fail> {
     let alloc = rt.alloc();
-    let path = string(alloc, "a")?;
+    let path = string("a");
     let request = WireRequest::SetStat { path, attrs: WHOLE };
     let packet =
         "0000002a 09 00000005 00000001 61 0000000f 0102030405060708 00000009 0000000a 000081a4 0000000b 0000000c";
     is_written(&rt, alloc, &request, packet)?;
-    let handle = string(alloc, "h")?;
+    let handle = string("h");
     let request = WireRequest::FSetStat {
         handle,
         attrs: WHOLE,
@@ -126,14 +126,14 @@ fn with_attributes(rt: HostRuntime) -> Result<(), Fail> {
     let packet =
         "0000002a 0a 00000005 00000001 68 0000000f 0102030405060708 00000009 0000000a 000081a4 0000000b 0000000c";
     is_written(&rt, alloc, &request, packet)?;
-    let path = string(alloc, "a")?;
+    let path = string("a");
     let request = WireRequest::Mkdir {
         path,
         attrs: NO_ATTRS,
     };
     let packet = "0000000e 0e 00000005 00000001 61 00000000";
     is_written(&rt, alloc, &request, packet)?;
-    let filename = string(alloc, "/f")?;
+    let filename = string("/f");
     let request = WireRequest::Open {
         filename,
         flags: OpenFlags {
