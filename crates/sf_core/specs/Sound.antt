@@ -57,9 +57,9 @@ pub record SessionSound (p : PartsView) (h : List Record) (session : ℕ) (numbe
   pub present : IsPresent session h
   pub busy : (n : ℕ) → number ≡ Some n → (c : Call) × (call_at p.calls n ≡ Some c) × (c.session ≡ session)
 
--- By the whole history h: it is legal and the store keeps its tree; what calls have walked leads to what they hold, and nothing else is held;
--- each call is a session's, and each session's call is there; numbers to come are new, and so are sessions to come; there is
--- room for the record of each call and of each leaving; and the numbers drawn are those of records and of calls.
+-- Where h is the whole history: it is legal and the store keeps its tree; what calls have walked leads to what they hold, and
+-- nothing else is held; each call is a session's, and each session's call is there; numbers to come are new, and so are sessions
+-- to come; there is room for the record of each call and of each leaving; and the numbers drawn are those of records and of calls.
 pub record Sound (p : PartsView) (h : List Record) : Type 0 where
   pub legal : IsLegal h
   pub keeps : Keeps p.store (replay h)

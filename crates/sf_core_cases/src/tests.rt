@@ -37,6 +37,17 @@ fn outcome_of(reply: &Reply) -> Told {
     }
 }
 
+fn is_same(reply: &Reply, other: &Reply) -> bool {
+    match (reply, other) {
+        (Reply::Status(code), Reply::Status(other)) => code == other,
+        (Reply::Handle(number), Reply::Handle(other)) => number == other,
+        (Reply::Data(bytes), Reply::Data(other)) => bytes.as_slice() == other.as_slice(),
+        (Reply::Names(listing), Reply::Names(other)) => listing.as_slice() == other.as_slice(),
+        (Reply::Attrs(attrs), Reply::Attrs(other)) => attrs == other,
+        _ => false,
+    }
+}
+
 fn join(rt: &impl Abort, core: &mut Core) -> Lane {
     match core.join() {
         Ok(lane) => lane,

@@ -3,7 +3,6 @@
 
 use super::*;
 use sf_call::Answer;
-use sf_cases::is_same;
 use sf_cases::requests::flags;
 use sf_cases::sized;
 use sf_field::{ByteString, NO_ATTRS};
@@ -200,7 +199,10 @@ fn replayed(rt: &impl Abort, alloc: Global, core: &Core) -> Result<PlainTree, Fa
                 reply,
             } => {
                 let want = plain.apply(*session, *number, *moment, request)?;
-                assert!(rt; is_same(reply, &want), "call {number}: {reply:?}, not {want:?}");
+                assert!(rt;
+                    is_same(reply, &want),
+                    "call {number}: {reply:?}, not {want:?}"
+                );
             }
             Record::Left { session } => plain.leave(*session),
         }
@@ -235,7 +237,10 @@ fn tell_alike(
     lane.abandon();
     let want = plain.apply(given.session(), given.number(), 100, &request)?;
     let reply = given.reply();
-    assert!(rt; is_same(reply, &want), "path {number}: {reply:?}, not {want:?}");
+    assert!(rt;
+        is_same(reply, &want),
+        "path {number}: {reply:?}, not {want:?}"
+    );
     Ok(())
 }
 

@@ -34,8 +34,18 @@ fn one_record_is_enough(rt: HostRuntime) -> Result<(), Fail> {
     let mut draws = Draws::new(7);
     let mut same = Draws::new(7);
     for _ in 0..1000 {
-        begin(&rt, &mut whole, &mut first, drawn_request(alloc, &mut draws));
-        begin(&rt, &mut bounded, &mut second, drawn_request(alloc, &mut same));
+        begin(
+            &rt,
+            &mut whole,
+            &mut first,
+            drawn_request(alloc, &mut draws),
+        );
+        begin(
+            &rt,
+            &mut bounded,
+            &mut second,
+            drawn_request(alloc, &mut same),
+        );
         let want = finish(&rt, &mut whole, &mut first);
         assert_eq!(&rt; finish(&rt, &mut bounded, &mut second), want);
         draws.remember(want);

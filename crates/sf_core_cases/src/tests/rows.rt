@@ -8,7 +8,10 @@ fn with_a(rt: &impl Abort, alloc: Global) -> Result<(Core, Lane), Fail> {
     let mut lane = join(rt, &mut core);
     begin(rt, &mut core, &mut lane, mkdir(alloc, b"/a"));
     assert_eq!(rt; step(rt, &mut core, &mut lane), Told::Moved);
-    assert_eq!(rt; step(rt, &mut core, &mut lane), Told::Status(StatusCode::Success));
+    assert_eq!(rt;
+        step(rt, &mut core, &mut lane),
+        Told::Status(StatusCode::Success)
+    );
     Ok((core, lane))
 }
 
@@ -25,8 +28,14 @@ fn removal_waits_for_walker(rt: HostRuntime) -> Result<(), Fail> {
     assert_eq!(&rt; step(&rt, &mut core, &mut b), Told::Blocked(2));
     assert_eq!(&rt; core.calls(), 3);
     records_are(&rt, &core, &[1]);
-    assert_eq!(&rt; step(&rt, &mut core, &mut a), Told::Status(StatusCode::NoSuchFile));
-    assert_eq!(&rt; step(&rt, &mut core, &mut b), Told::Status(StatusCode::Success));
+    assert_eq!(&rt;
+        step(&rt, &mut core, &mut a),
+        Told::Status(StatusCode::NoSuchFile)
+    );
+    assert_eq!(&rt;
+        step(&rt, &mut core, &mut b),
+        Told::Status(StatusCode::Success)
+    );
     records_are(&rt, &core, &[1, 2, 3]);
     let share = leave(&rt, &mut core, a).merge(leave(&rt, &mut core, b));
     assert_eq!(&rt; share.calls(), 3);
@@ -47,7 +56,10 @@ fn root_is_waited_for(rt: HostRuntime) -> Result<(), Fail> {
     assert_eq!(&rt; step(&rt, &mut core, &mut a), Told::Attrs);
     assert_eq!(&rt; core.look_ups(), before.saturating_add(1));
     assert_eq!(&rt; step(&rt, &mut core, &mut b), Told::Moved);
-    assert_eq!(&rt; step(&rt, &mut core, &mut b), Told::Status(StatusCode::NoSuchFile));
+    assert_eq!(&rt;
+        step(&rt, &mut core, &mut b),
+        Told::Status(StatusCode::NoSuchFile)
+    );
     a.abandon();
     b.abandon();
     Ok(())
@@ -59,7 +71,10 @@ fn rename_is_unsupported(rt: HostRuntime) -> Result<(), Fail> {
     let request = Request::Rename(path(alloc, b"/a")?, path(alloc, b"/z")?);
     let (mut core, mut a) = with_a(&rt, alloc)?;
     begin(&rt, &mut core, &mut a, Ok(request));
-    assert_eq!(&rt; step(&rt, &mut core, &mut a), Told::Status(StatusCode::OpUnsupported));
+    assert_eq!(&rt;
+        step(&rt, &mut core, &mut a),
+        Told::Status(StatusCode::OpUnsupported)
+    );
     records_are(&rt, &core, &[1, 2]);
     a.abandon();
     Ok(())
