@@ -1,7 +1,9 @@
 //! `sftpd`, an SFTP server with its tree in memory.
 #![tactic(auto)]
 
+pub mod client;
 mod clock;
+pub mod command;
 mod program;
 pub mod stdio;
 
