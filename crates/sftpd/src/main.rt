@@ -7,7 +7,9 @@
 //! of `sf_service`.
 #![tactic(auto)]
 
+pub mod client;
 mod clock;
+pub mod command;
 mod program;
 pub mod stdio;
 

@@ -1,31 +1,104 @@
 //! What the words of a command line ask for.
 
+ghost use Rattle.std.specs.Prelude.{◌<◌, ◌^◌, IfOk};
+ghost use Rattle.sftpd.specs.Commands.{paths_len, HasShortPaths};
+
+use crate::client::run_client;
 use crate::clock::SystemClock;
+use crate::command::ClientCommand;
 use crate::stdio::run_stdio;
-use clap::{Command, Error, error};
+use clap::{Arg, ArgAction, ArgMatches, Command, Error, error};
 use sf_line::StreamLine;
-use std::alloc::Global;
+use std::alloc::{AllocError, Global};
 use std::env;
-use std::io::{ErrorKind, Input};
+use std::io::{ErrorKind, Input, Read};
+use std::os::unix::net::UnixStream;
 
 /// What the program is to do.
 #[derive(Clone, Copy, Debug, PartialEq, Eq)]
-pub(crate) enum Action {
+pub(crate) enum Action<'a> {
     /// One session on standard input and output.
     Stdio,
+    /// One command on the server behind the Unix socket of this path.
+    Client(&'a str, ClientCommand<'a>),
+}
+
+/// Words that ask for no action.
+#[derive(Debug, Drop)]
+pub(crate) enum Refused {
+    /// With the text of `clap`, or for want of memory.
+    Words(Error),
+    /// An unknown command, or another count of paths than it takes.
+    Usage,
+}
+
+impl From<Error> for Refused {
+    fn from(error: Error) -> Refused {
+        Refused::Words(error)
+    }
+}
+
+impl From<AllocError> for Refused {
+    fn from(error: AllocError) -> Refused {
+        Refused::Words(Error::from(error))
+    }
+}
+
+/// The words of `sftpd client`.
+fn client_words<'a>(alloc: Global) -> Result<Command<'a>, AllocError> {
+    let socket = Arg::new(alloc, "socket")
+        .long("socket")
+        .value_name("PATH")
+        .required(true)
+        .help("The Unix socket of the server");
+    let command = Arg::new(alloc, "command")
+        .value_name("COMMAND")
+        .required(true)
+        .help(
+            "stat, list, get, put, mkdir, rmdir or remove with one path; rename or posix-rename with two",
+        );
+    let paths = Arg::new(alloc, "paths")
+        .value_name("PATHS")
+        .num_args(0..)
+        .action(ArgAction::Append)
+        .help("The paths on the server");
+    Command::new(alloc, "client")
+        .about("Runs one command on the server behind a Unix socket")
+        .arg(socket)?
+        .arg(command)?
+        .arg(paths)
 }
 
 /// What the words ask for, the program's own name first. The text of an error is `clap`'s.
-pub(crate) fn read_words(alloc: Global, words: &[String]) -> Result<Action, Error> {
+pub(crate) fn read_words<'a>(alloc: Global, words: &'a [String]) -> Result<Action<'a>, Refused>
+    ensures { IfOk result HasShortPaths }
+{
     let stdio = Command::new(alloc, "stdio").about(
         "Serves one session on standard input and output, to the end of the input",
     );
     let program = Command::new(alloc, "sftpd")
         .about("An SFTP server, version 3, with its tree in memory")
         .subcommand_required(true)
-        .subcommand(stdio)?;
-    program.try_get_matches_from(words)?;
-    Ok(Action::Stdio)
+        .subcommand(stdio)?
+        .subcommand(client_words(alloc)?)?;
+    let matches = program.try_get_matches_from(words)?;
+    match matches.subcommand_matches("client") {
+        Some(found) => client_action(found),
+        None => Ok(Action::Stdio),
+    }
+}
+
+/// What the words after `client` ask for.
+fn client_action<'a>(matches: &ArgMatches<'a>) -> Result<Action<'a>, Refused>
+    ensures { IfOk result HasShortPaths }
+{
+    let socket = matches.get_str("socket").unwrap_or("");
+    let name = matches.get_str("command").unwrap_or("");
+    let paths = matches.get_strs("paths").unwrap_or(&[]);
+    match ClientCommand::from_words(name, paths) {
+        Some(command) => Ok(Action::Client(socket, command)),
+        None => Err(Refused::Usage),
+    }
 }
 
 /// Does what the words of the command line ask for, and answers the exit status.
@@ -40,7 +113,9 @@ pub(crate) fn run(rt: &HostRuntime) -> u8 {
     };
     match read_words(alloc, &words) {
         Ok(Action::Stdio) => stdio(rt),
-        Err(error) => refuse(rt, &error),
+        Ok(Action::Client(socket, command)) => client(rt, socket, command),
+        Err(Refused::Words(error)) => refuse(rt, &error),
+        Err(Refused::Usage) => usage(rt),
     }
 }
 
@@ -51,17 +126,53 @@ fn stdio(rt: &HostRuntime) -> u8 {
     run_stdio(rt.alloc(), &mut line, &mut clock, &mut rt.stderr())
 }
 
+/// Does a command on the server behind a socket. All of standard input is read first where it is to
+/// be put.
+fn client(rt: &HostRuntime, socket: &str, command: ClientCommand<'_>) -> u8
+    requires { paths_len command < 2 ^ 31 }
+{
+    let alloc = rt.alloc();
+    let mut data = Vec::new(alloc);
+    if matches!(command, ClientCommand::Put(_)) {
+        if let Err(error) = rt.reader().read_to_end(&mut data) {
+            return fail(rt, error.kind());
+        }
+    }
+    let Ok(stream) = UnixStream::connect(rt, socket) else {
+        let _ = rt.eprintln("sftpd: cannot connect");
+        return 1;
+    };
+    let line = StreamLine::new(&stream, &stream);
+    run_client(
+        alloc,
+        line,
+        command,
+        &data,
+        &mut rt.stdout(),
+        &mut rt.stderr(),
+    )
+}
+
+/// Tells that standard input failed, or that there is no memory for it.
+fn fail(rt: &impl Eprint, kind: ErrorKind) -> u8 {
+    let _ = match kind {
+        ErrorKind::OutOfMemory => rt.eprintln("sftpd: out of memory"),
+        _ => rt.eprintln("sftpd: stream"),
+    };
+    1
+}
+
+/// Tells that the words can't be used.
+fn usage(rt: &impl Eprint) -> u8 {
+    let _ = rt.eprintln("sftpd: usage");
+    2
+}
+
 /// Tells why the words can't be read: they are no text, or there is no memory for them.
 fn refuse_words(rt: &impl Eprint, kind: ErrorKind) -> u8 {
     match kind {
-        ErrorKind::OutOfMemory => {
-            let _ = rt.eprintln("sftpd: out of memory");
-            1
-        }
-        _ => {
-            let _ = rt.eprintln("sftpd: usage");
-            2
-        }
+        ErrorKind::OutOfMemory => fail(rt, kind),
+        _ => usage(rt),
     }
 }
 

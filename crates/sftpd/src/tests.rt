@@ -1,14 +1,17 @@
 //! The words, the statuses and the clock.
 
 use crate::clock::moment;
-use crate::program::{Action, read_words};
+use crate::command::ClientCommand;
+use crate::program::{Action, Refused, read_words};
 use crate::stdio::run_stdio;
-use sf_cases::StillClock;
+use sf_cases::{StillClock, hex_bytes};
 use sf_line::{MemoryLine, Pieces};
 use std::alloc::Global;
 use std::process::Abort;
 use std::test::*;
 use std::time::Duration;
+
+mod commands;
 
 /// `run_stdio` on this input answers this status and writes this line.
 fn is_told(rt: &impl Abort, alloc: Global, input: &[u8], status: u8, told: &[u8]) {
@@ -71,15 +74,19 @@ fn endings_are_told(rt: HostRuntime) {
     );
 }
 
-/// Words that ask for nothing: whether their text goes to standard error.
-fn is_refused(rt: &impl Abort, alloc: Global, words: &[&str], to_errors: bool) -> Result<(), Fail> {
+fn texts(alloc: Global, words: &[&str]) -> Result<Vec<String>, Fail> {
     let mut texts = Vec::new(alloc);
     for word in words {
         texts.push(String::from_str(alloc, word)?)?;
     }
-    match read_words(alloc, &texts) {
-        Ok(_) => panic!(rt; "the words were taken"),
-        Err(error) => assert_eq!(rt; error.use_stderr(), to_errors),
+    Ok(texts)
+}
+
+/// Words that ask for nothing: whether their text goes to standard error.
+fn is_refused(rt: &impl Abort, alloc: Global, words: &[&str], to_errors: bool) -> Result<(), Fail> {
+    match read_words(alloc, &texts(alloc, words)?) {
+        Err(Refused::Words(error)) => assert_eq!(rt; error.use_stderr(), to_errors),
+        _ => panic!(rt; "the words were taken"),
     }
     Ok(())
 }
@@ -87,15 +94,76 @@ fn is_refused(rt: &impl Abort, alloc: Global, words: &[&str], to_errors: bool) -
 #[test]
 fn words(rt: HostRuntime) -> Result<(), Fail> {
     let alloc = rt.alloc();
-    let taken = vec![in alloc;
-        String::from_str(alloc, "sftpd")?,
-        String::from_str(alloc, "stdio")?,
-    ]?;
-    assert_eq!(rt; read_words(alloc, &taken)?, Action::Stdio);
+    let taken = texts(alloc, &["sftpd", "stdio"])?;
+    match read_words(alloc, &taken) {
+        Ok(action) => assert_eq!(rt; action, Action::Stdio),
+        Err(_) => panic!(rt; "the words were refused"),
+    }
     is_refused(&rt, alloc, &["sftpd", "--help"], false)?;
     is_refused(&rt, alloc, &["sftpd"], true)?;
     is_refused(&rt, alloc, &["sftpd", "serve"], true)?;
     is_refused(&rt, alloc, &["sftpd", "stdio", "more"], true)
+}
+
+/// `sftpd client --socket /s`, and these words, ask for this command.
+fn is_command(
+    rt: &impl Abort,
+    alloc: Global,
+    words: &[&str],
+    want: Option<ClientCommand<'_>>,
+) -> Result<(), Fail> {
+    let mut all = texts(alloc, &["sftpd", "client", "--socket", "/s"])?;
+    all.append(&mut texts(alloc, words)?)?;
+    match (read_words(alloc, &all), want) {
+        (Ok(action), Some(want)) => assert_eq!(rt; action, Action::Client("/s", want)),
+        (Err(Refused::Usage), None) => {}
+        _ => panic!(rt; "another action"),
+    }
+    Ok(())
+}
+
+#[test]
+fn client_words(rt: HostRuntime) -> Result<(), Fail> {
+    let alloc = rt.alloc();
+    let path = b"/a".as_slice();
+    let new = b"".as_slice();
+    is_command(&rt, alloc, &["stat", "/a"], Some(ClientCommand::Stat(path)))?;
+    is_command(&rt, alloc, &["list", "/a"], Some(ClientCommand::List(path)))?;
+    is_command(&rt, alloc, &["get", "/a"], Some(ClientCommand::Get(path)))?;
+    is_command(&rt, alloc, &["put", "/a"], Some(ClientCommand::Put(path)))?;
+    is_command(
+        &rt,
+        alloc,
+        &["mkdir", "/a"],
+        Some(ClientCommand::Mkdir(path)),
+    )?;
+    is_command(
+        &rt,
+        alloc,
+        &["rmdir", "/a"],
+        Some(ClientCommand::Rmdir(path)),
+    )?;
+    is_command(
+        &rt,
+        alloc,
+        &["remove", "/a"],
+        Some(ClientCommand::Remove(path)),
+    )?;
+    let rename = ClientCommand::Rename(path, new);
+    is_command(&rt, alloc, &["rename", "/a", ""], Some(rename))?;
+    let rename = ClientCommand::PosixRename(path, new);
+    is_command(&rt, alloc, &["posix-rename", "/a", ""], Some(rename))?;
+    for words in [
+        ["link", "/a"].as_slice(),
+        &["stat"],
+        &["stat", "/a", "/b"],
+        &["rename", "/a"],
+        &["rename", "/a", "/b", "/c"],
+    ] {
+        is_command(&rt, alloc, words, None)?;
+    }
+    is_refused(&rt, alloc, &["sftpd", "client", "stat", "/a"], true)?;
+    is_refused(&rt, alloc, &["sftpd", "client", "--socket", "/s"], true)
 }
 
 #[test]
