@@ -9,7 +9,7 @@ ghost use Rattle.sf_call.specs.Handles.{opened};
 ghost use Rattle.sf_call.specs.Calls.{answer_to, read};
 ghost use Rattle.sf_keeps.specs.Keeps.{Keeps};
 ghost use Rattle.sf_walk.specs.Ways.{names_of, path_of, IsLocated};
-ghost use Rattle.sf_walk.specs.Served.{IsCarriedOut, IsRefused, IsAlike, LookedUp, LooksUp, NodesStay, IsUnused, is_success, takes_memory, may_want_memory};
+ghost use Rattle.sf_walk.specs.Served.{IsCarriedOut, IsRefused, IsAlike, LookedUp, LooksUp, NodesStay, IsUnused, ReadsOnce, is_success, takes_memory, may_want_memory};
 
 use crate::finding::{Located, locate};
 use crate::handle_calls::{close, read, set_stat_handle, stat_handle, write};
@@ -34,9 +34,27 @@ pub fn from_root(store: &mut Store, call: &Call) -> Reply
     ensures look_ups { LooksUp store.old store.new (names_of call.now.request) }
     ensures nodes { NodesStay call.now.number store.old store.new }
 {
+    if let Request::Read {
+        handle,
+        offset,
+        len,
+    } = &call.request
+    {
+        return read_once(store, call.session, *handle, *offset, *len);
+    }
     let located = find_way(store, &call.request);
     let (reply, _) = decide(store, call, located);
     reply
+}
+
+/// READ, whose bytes aren't copied.
+fn read_once(store: &Store, session: u64, number: u64, offset: u64, len: u32) -> Reply
+    ensures { (t : Tree) → Keeps store.now t → ReadsOnce (read offset len (opened t session number)) result }
+{
+    match read(store, session, number, offset, len) {
+        Ok(reply) => reply,
+        Err(_) => Reply::NoMemory,
+    }
 }
 
 /// The path that a request walks.
