@@ -1,6 +1,7 @@
 //! Laws of histories, which no call needs.
 
 ghost use Rattle.std.specs.Prelude.{◌≡◌, ◌≢◌, ◌<◌, ◌≤◌, ℕ, false, List, [], ◌∷◌, ◌++◌, length, Some, None, IsSome};
+ghost use Rattle.sf_field.specs.Fields.{max_body};
 ghost use Rattle.sf_reply.specs.declared.reply.Reply.{Reply};
 ghost use Rattle.sf_call.specs.declared.request.Request.{Request};
 ghost use Rattle.sf_call.specs.declared.record.Record.{Record};
@@ -61,6 +62,6 @@ pub fn allowed_changes()
 /// Each reply of a call that may come after a legal history fits a packet, and its numbers and its strings have a
 /// spelling.
 pub fn replies_fit()
-    ensures packet { (number session id : ℕ) (reply : Reply) → IsGiven number session reply → length (reply_body id reply) ≤ 262144 }
+    ensures packet { (number session id : ℕ) (reply : Reply) → IsGiven number session reply → length (reply_body id reply) ≤ max_body }
     ensures spelled { (number session : ℕ) (reply : Reply) → IsGiven number session reply → ReplyFits reply }
 {}

@@ -15,8 +15,9 @@ ghost use Rattle.sf_client.specs.Outcomes.{Broke, Comes, ReadsDue, Settles, Take
 
 use crate::due::{Due, find_due, refusal};
 use crate::fault::ClientFault;
-use crate::lines::{MAX_BODY, read_packet};
+use crate::lines::read_packet;
 use bytes::BytesMut;
+use sf_field::MAX_BODY;
 use sf_line::{Line, write_all};
 use sf_reply::{Reply, is_version};
 use sf_request::{WireRequest, close_packet, init_packet, write_request};
@@ -111,13 +112,14 @@ pub struct Client<L: Line + Drop> {
 
 impl<L: Line + Drop> Model for Client<L> {
     ghost use Rattle.std.specs.Prelude.{◌≡◌, ◌<◌, ◌^◌, length};
+    ghost use Rattle.sf_field.specs.Fields.{max_body};
     ghost use Rattle.sf_client.specs.Exchanges.{ClientView};
 
     ghost Value = { ClientView };
 
     ghost view = { λ c. record { next = c.next; failed = c.failed; incoming = L.incoming c.line; outgoing = L.outgoing c.line; failures = L.failed c.line } };
 
-    ghost invariant = { λ c. length c.body.items ≡ 262144 };
+    ghost invariant = { λ c. length c.body.items ≡ max_body };
 }
 
 impl<L: Line + Drop> Client<L> {

@@ -6,10 +6,8 @@ ghost use Rattle.sf_line.specs.Lines.{Rose};
 ghost use Rattle.sf_field.specs.Fields.{be32, packet};
 ghost use Rattle.sf_client.specs.Packets.{Ends, HasNoPacket};
 
+use sf_field::MAX_BODY;
 use sf_line::{Line, LineFault};
-
-/// The greatest length of a packet's body.
-pub(crate) const MAX_BODY: usize = 262144;
 
 /// Fills the buffer; false where the input ends before it is full.
 fn fill<L: Line>(line: &mut L, buffer: &mut [u8]) -> Result<bool, LineFault>

@@ -1,5 +1,6 @@
 use super::*;
 use bytes::BytesMut;
+use sf_hex::hex_bytes;
 use std::alloc::{AllocError, Global};
 use std::process::Abort;
 use std::test::*;
@@ -14,12 +15,6 @@ const DIRECTORY: Attrs = Attrs {
         mtime: 100,
     }),
 };
-
-/// The bytes of a text in hexadecimal, whose spaces only group them.
-fn hex_bytes(alloc: Global, text: &str) -> Result<Vec<u8>, Fail> {
-    let digits: Vec<u8> = text.bytes().filter(|b| *b != b' ').collect(alloc)?;
-    Ok(hex::decode(alloc, digits.as_slice())?)
-}
 
 fn string(alloc: Global, text: &str) -> Result<ByteString, AllocError> {
     ByteString::from_slice(alloc, text.as_bytes())

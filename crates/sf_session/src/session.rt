@@ -2,7 +2,7 @@
 
 ghost use Rattle.std.specs.Prelude.{◌≡◌, ◌≢◌, ◌≤◌, ◌++◌, ◌↔◌, [], length, drop, true, Err, Some, None, IsSome, IfSome, IfOk, OnOk, OnErr};
 ghost use Rattle.sf_reply.specs.Replies.{reply_body, version_body};
-ghost use Rattle.sf_field.specs.Fields.{packet};
+ghost use Rattle.sf_field.specs.Fields.{packet, max_body};
 ghost use Rattle.sf_session.specs.Sessions.{Fronts, new_session, NextGives, refusal_of};
 
 use crate::asking::Ask;
@@ -16,8 +16,8 @@ use std::marker::Model;
 use std::mem;
 use thiserror::Error;
 
-/// Room for the next replies, above the 34 bytes of the longest packet that refuses a call. The C
-/// library keeps small blocks for reuse, wherever they lie, and gives back larger ones.
+/// Room for the next replies, above that of the longest packet that refuses a call. The C library
+/// keeps small blocks for reuse, wherever they lie, and gives back larger ones.
 const REPLIES: usize = 4096;
 
 /// Why a call of a session was refused. The session is unchanged then.
@@ -54,13 +54,13 @@ pub struct Session {
 
 impl Model for Session {
     ghost use Rattle.std.specs.Prelude.{◌≢◌, ◌≤◌, None};
-    ghost use Rattle.sf_session.specs.Sessions.{SessionView};
+    ghost use Rattle.sf_session.specs.Sessions.{SessionView, refusal_len};
 
     ghost Value = { SessionView };
 
     ghost view = { λ s. record { unread = s.unread.items; output = s.output.items; begun = s.begun; waiting = s.waiting; ended = s.ended } };
 
-    ghost invariant = { λ s. s.waiting ≢ None → 34 ≤ s.output.spare };
+    ghost invariant = { λ s. s.waiting ≢ None → refusal_len ≤ s.output.spare };
 }
 
 impl Session {
@@ -162,7 +162,7 @@ impl Session {
     fn local(&mut self, id: u32, reply: Reply, len: usize) -> Result<Next, SessionFault>
         requires len { len ≤ length self.old.unread }
         requires free { self.old.waiting ≡ None }
-        requires fits { length (reply_body id reply) ≤ 262144 }
+        requires fits { length (reply_body id reply) ≤ max_body }
         ensures ok { OnOk result (self.new ≡ record self.old { unread = drop len self.old.unread; output = self.old.output ++ packet (reply_body id reply); begun = true }) }
         ensures next { IfOk result (λ next. next ≡ Next.Local) }
         ensures err { OnErr result (self.new ≡ self.old) }

@@ -1,4 +1,5 @@
-//! Bytes from hexadecimal.
+//! Bytes from hexadecimal, for the tests of all crates.
+#![tactic(auto)]
 
 ghost use Rattle.std.specs.Prelude.{◌≡◌, ◌==◌, Ok, IfOk, filter, not};
 ghost use Rattle.hex.specs.Hex.{decode_of};
