@@ -65,12 +65,13 @@ pub struct Entry {
 }
 
 impl Entry {
-    fn try_copy(&self, alloc: Global) -> Result<Entry, AllocError>
+    /// Takes no memory.
+    fn share(&self) -> Result<Entry, AllocError>
         ensures { IfOk result (λ e. e ≡ self.now) }
     {
         Ok(Entry {
-            filename: self.filename.try_copy(alloc)?,
-            longname: self.longname.try_copy(alloc)?,
+            filename: self.filename.share()?,
+            longname: self.longname.share()?,
             attrs: self.attrs,
         })
     }
@@ -119,7 +120,7 @@ impl Listing {
     {
         let mut entries = Vec::new(alloc);
         for entry in &self.entries {
-            entries.push(entry.try_copy(alloc)?)?;
+            entries.push(entry.share()?)?;
         }
         Ok(Listing::from_vec(entries))
     }
@@ -140,7 +141,7 @@ pub enum Reply {
 }
 
 impl Reply {
-    /// A copy takes memory only for data and names.
+    /// The bytes of data and of names are shared. A copy takes memory only for the list of names.
     pub fn try_copy(&self, alloc: Global) -> Result<Reply, AllocError>
         ensures equal { IfOk result (λ copy. copy ≡ self.now) }
         ensures plain { IsPlain self.now → IsOk result }
@@ -149,7 +150,7 @@ impl Reply {
             Reply::Status(code) => Reply::Status(*code),
             Reply::NoMemory => Reply::NoMemory,
             Reply::Handle(number) => Reply::Handle(*number),
-            Reply::Data(bytes) => Reply::Data(bytes.try_copy(alloc)?),
+            Reply::Data(bytes) => Reply::Data(bytes.share()?),
             Reply::Names(listing) => Reply::Names(listing.try_copy(alloc)?),
             Reply::Attrs(attrs) => Reply::Attrs(*attrs),
         })
