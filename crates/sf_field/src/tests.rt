@@ -35,7 +35,7 @@ fn byte_strings(rt: HostRuntime) -> Result<(), Fail> {
     assert_eq!(rt; shared.as_slice(), b"/a".as_slice());
     assert_eq!(rt; shared.len(), 2);
     assert!(rt; !shared.is_empty());
-    assert!(rt; string(alloc, "")?.share()?.is_empty());
+    assert!(rt; ByteString::new().share()?.is_empty());
     Ok(())
 }
 

@@ -49,8 +49,8 @@ fn longest_data(rt: HostRuntime) -> Result<(), Fail> {
 #[test]
 fn copies_of_handle_and_data(rt: HostRuntime) -> Result<(), Fail> {
     let alloc = rt.alloc();
-    assert!(rt; matches!(Reply::Handle(7).try_copy(alloc)?, Reply::Handle(7)));
-    match Reply::Data(string(alloc, "/a")?).try_copy(alloc)? {
+    assert!(rt; matches!(Reply::Handle(7).share()?, Reply::Handle(7)));
+    match Reply::Data(string(alloc, "/a")?).share()? {
         Reply::Data(bytes) => assert_eq!(rt; bytes.as_slice(), b"/a".as_slice()),
         _ => panic!(rt; "no DATA"),
     }
