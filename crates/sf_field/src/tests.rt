@@ -24,13 +24,13 @@ fn string(alloc: Global, text: &str) -> Result<ByteString, AllocError> {
 fn byte_strings(rt: HostRuntime) -> Result<(), Fail> {
     let alloc = rt.alloc();
     let bytes = string(alloc, "/a")?;
-    let copy = bytes.try_copy(alloc)?;
-    assert_eq!(rt; copy, bytes);
-    assert_eq!(rt; copy.len(), 2);
-    assert!(rt; !copy.is_empty());
-    assert!(rt; string(alloc, "")?.is_empty());
-    let again = ByteString::from_vec(copy.into_vec());
-    assert_eq!(rt; again.as_slice(), b"/a".as_slice());
+    let shared = bytes.share()?;
+    assert_eq!(rt; shared, bytes);
+    drop(bytes);
+    assert_eq!(rt; shared.as_slice(), b"/a".as_slice());
+    assert_eq!(rt; shared.len(), 2);
+    assert!(rt; !shared.is_empty());
+    assert!(rt; ByteString::new().share()?.is_empty());
     Ok(())
 }
 

@@ -18,7 +18,7 @@ ghost use Rattle.sf_inode.specs.Nodes.{object_in, entries_past};
 ghost use Rattle.sf_keeps.specs.Steps.{walk};
 ghost use Rattle.sf_keeps.specs.Listed.{listed_entry};
 ghost use Rattle.sf_inode.specs.Stores.{StoreState, node_in, entry_of, entries_at, is_directory_at, handle_at, handles_of, shown_handle, opened, handle_listed, closed, closed_all};
-ghost use Rattle.sf_keeps.specs.Keeps.{Keeps};
+ghost use Rattle.sf_keeps.specs.Keeps.{Keeps, KeepsNodes};
 
 /// A session's handle is that of the tree, its node is there and has the object of its label, and a number that no handle of
 /// the tree has is no session's.
@@ -46,10 +46,12 @@ pub fn listed_handles()
         → Keeps (handle_listed s session number name) (changed t (change.SetHandle number (with_listed (shown_handle session h) (Some name)))) }
 {}
 
-/// A handle is closed, or all of a session. What nothing names or opens any more is gone from the store as from the tree.
+/// A handle is closed, or all of a session. What nothing names or opens any more is gone from the store as from the tree, and
+/// the other nodes stay what they are.
 pub fn closed_handles()
     ensures one { (s : StoreState) (t : Tree) (session number : ℕ) (h : OpenHandle) → Keeps s t → handle_at s session number ≡ Some h → Keeps (closed s session number) (changed t (change.CloseHandle number)) }
     ensures all { (s : StoreState) (t : Tree) (session : ℕ) → Keeps s t → Keeps (closed_all s session) (leave t session) }
+    ensures nodes { (s : StoreState) (session : ℕ) → KeepsNodes s (closed_all s session) }
 {}
 
 /// A directory's label has the one path that leads to it. What the tree lists of a directory, by its label, are the first

@@ -241,11 +241,10 @@ impl PlainTree {
     }
 
     /// Gives a file other bytes, at a moment.
-    fn set_contents(&mut self, label: u64, moment: u32, metadata: Metadata, bytes: Vec<u8>)
-        ensures { self.new ≡ changed self.old (SetObject label (File (modified_at moment metadata) bytes.items)) }
+    fn set_contents(&mut self, label: u64, moment: u32, metadata: Metadata, bytes: ByteString)
+        ensures { self.new ≡ changed self.old (SetObject label (File (modified_at moment metadata) bytes)) }
     {
-        let file = Node::file(metadata.modified_at(moment), ByteString::from_vec(bytes));
-        self.set_object(label, file);
+        self.set_object(label, Node::file(metadata.modified_at(moment), bytes));
     }
 
     /// Marks a directory as modified at the moment.

@@ -39,5 +39,5 @@ fn root_listing(alloc: Global) -> Result<Listing, Fail>
         longname: ByteString::from_slice(alloc, b"/")?,
         attrs: NO_ATTRS,
     };
-    Ok(Listing::from_vec(vec![in alloc; root]?))
+    Ok(Listing::from_vec(vec![in alloc; root]?)?)
 }

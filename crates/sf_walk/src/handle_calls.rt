@@ -110,17 +110,22 @@ pub(crate) fn read(
     }
     let count = u64::from(len.min(MAX_READ)).min(size - offset);
     let bytes = bytes_at(store, handle.node, offset, count as usize)?;
-    Ok(Reply::Data(ByteString::from_vec(bytes)))
+    Ok(Reply::Data(bytes))
 }
 
 /// So many bytes of a file from an offset on.
-fn bytes_at(store: &Store, node: NodeId, offset: u64, count: usize) -> Result<Vec<u8>, AllocError>
+fn bytes_at(
+    store: &Store,
+    node: NodeId,
+    offset: u64,
+    count: usize,
+) -> Result<ByteString, AllocError>
     requires { offset + count ≤ length (stored_of store.now.nodes node).bytes }
-    ensures { IfOk result (λ bytes. bytes.items ≡ take count (drop offset (stored_of store.now.nodes node).bytes)) }
+    ensures { IfOk result (λ bytes. bytes ≡ take count (drop offset (stored_of store.now.nodes node).bytes)) }
 {
     let mut bytes = vec![in store.alloc(); 0; count]?;
     store.read(node, offset, &mut bytes);
-    Ok(bytes)
+    ByteString::from_vec(bytes)
 }
 
 /// WRITE.

@@ -49,15 +49,15 @@ pub(crate) fn read_directory(
             Reply::Status(StatusCode::EndOfFile),
         ));
     };
-    let entries = Reply::Names(Listing::from_vec(entries_of(store, &found)?));
-    let copy = entries.try_copy(store.alloc())?;
+    let entries = Reply::Names(entries_of(store, &found)?);
+    let copy = entries.share()?;
     store.listed(session, number, last)?;
     Ok((entries, copy))
 }
 
 /// The entries as they are listed. A name that leads to no node is left out.
-fn entries_of(store: &Store, found: &[(Name, NodeId)]) -> Result<Vec<Entry>, AllocError>
-    ensures { IfOk result (λ entries. entries.items ≡ filter_map (listed_entry store.now.nodes) found.now) }
+fn entries_of(store: &Store, found: &[(Name, NodeId)]) -> Result<Listing, AllocError>
+    ensures { IfOk result (λ listing. listing ≡ filter_map (listed_entry store.now.nodes) found.now) }
 {
     let mut entries = Vec::new(store.alloc());
     'entries: for (name, node) in found {
@@ -65,7 +65,7 @@ fn entries_of(store: &Store, found: &[(Name, NodeId)]) -> Result<Vec<Entry>, All
             entries.push(entry_of(store.alloc(), name, attrs)?)?;
         }
     }
-    Ok(entries)
+    Listing::from_vec(entries)
 }
 
 /// A node as it is listed, with one link.
@@ -80,7 +80,7 @@ fn entry_of(alloc: Global, name: &Name, attrs: Attrs) -> Result<Entry, AllocErro
     let line = longname(alloc, &attrs, 1, name.as_slice())?;
     Ok(Entry {
         filename,
-        longname: ByteString::from_vec(line),
+        longname: ByteString::from_vec(line)?,
         attrs,
     })
 }

@@ -178,6 +178,7 @@ impl PlainTree {
             return Ok(Reply::Status(StatusCode::Failure));
         }
         let after = written(self.alloc, contents, start as usize, bytes.as_slice())?;
+        let after = ByteString::from_vec(after)?;
         self.set_contents(label, moment, metadata, after);
         Ok(Reply::Status(StatusCode::Success))
     }

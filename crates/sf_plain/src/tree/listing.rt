@@ -52,7 +52,7 @@ fn entry_of(alloc: Global, name: &Name, node: &Node) -> Result<Entry, AllocError
     let line = longname(alloc, &attrs, 1, name.as_slice())?;
     Ok(Entry {
         filename: ByteString::from_slice(alloc, name.as_slice())?,
-        longname: ByteString::from_vec(line),
+        longname: ByteString::from_vec(line)?,
         attrs,
     })
 }
@@ -171,8 +171,9 @@ impl PlainTree {
         if entries.is_empty() {
             return Ok(Reply::Status(StatusCode::EndOfFile));
         }
+        let listing = Listing::from_vec(entries)?;
         let next = with_listed(handle, last);
         self.set_handle(number, next);
-        Ok(Reply::Names(Listing::from_vec(entries)))
+        Ok(Reply::Names(listing))
     }
 }

@@ -267,7 +267,7 @@ impl PlainTree {
         self.handles
             .insert(number, file_handle(session, label, flags))?;
         if cuts(flags) {
-            self.set_contents(label, moment, metadata, Vec::new(self.alloc));
+            self.set_contents(label, moment, metadata, ByteString::new());
         }
         Ok(Reply::Handle(number))
     }
@@ -302,7 +302,7 @@ impl PlainTree {
             Place::Absent => {
                 let parent = self.directory_at(&path.parent(self.alloc)?);
                 let made = Metadata::new_object(0o644, moment, attrs);
-                let file = Node::file(made, ByteString::from_vec(Vec::new(self.alloc)));
+                let file = Node::file(made, ByteString::new());
                 self.add_opened(path, number, file, file_handle(session, number, flags))?;
                 self.touch(parent, moment);
                 Ok(Reply::Handle(number))
