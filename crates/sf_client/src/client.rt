@@ -80,7 +80,8 @@ fn greet<L: Line>(line: &mut L, buffer: &mut [u8]) -> Result<(), ClientFault>
     requires { length buffer.old ≡ MAX_BODY }
     ensures ok { OnOk result (IsGreeted (L.incoming line.old) (L.outgoing line.old) (L.incoming line.new) (L.outgoing line.new)) }
     ensures refused { result ≡ Err ClientFault.Protocol → HasNoVersion (L.incoming line.old) }
-    ensures fault { IfErr result (λ fault. (fault ≡ ClientFault.Stream) ⊎ (fault ≡ ClientFault.Protocol)) }
+    ensures fault { IfErr result (λ fault. (fault ≡ ClientFault.Stream)
+        ⊎ (fault ≡ ClientFault.Protocol)) }
 {
     if write_all(line, &init_packet()).is_err() {
         return Err(ClientFault::Stream);
@@ -127,7 +128,8 @@ impl<L: Line + Drop> Client<L> {
     pub fn start(alloc: Global, line: L) -> Result<Client<L>, ClientFault>
         ensures ok { IfOk result (λ client. IsStarted (L.incoming line) (L.outgoing line) client) }
         ensures refused { result ≡ Err ClientFault.Protocol → HasNoVersion (L.incoming line) }
-        ensures fault { IfErr result (λ fault. (fault ≡ ClientFault.Stream) ⊎ ((fault ≡ ClientFault.Protocol) ⊎ (fault ≡ ClientFault.OutOfMemory))) }
+        ensures fault { IfErr result (λ fault. (fault ≡ ClientFault.Stream)
+            ⊎ ((fault ≡ ClientFault.Protocol) ⊎ (fault ≡ ClientFault.OutOfMemory))) }
     {
         let mut line = line;
         let Ok(mut body) = zeros(alloc, MAX_BODY) else {
@@ -176,7 +178,8 @@ impl<L: Line + Drop> Client<L> {
     /// Sends a packet.
     fn send(&mut self, packet: &[u8]) -> Result<(), ClientFault>
         ensures ok { OnOk result (Appends self.old.outgoing self.new.outgoing packet.now) }
-        ensures client { OnOk result (self.new ≡ record self.old { outgoing = self.new.outgoing; failures = self.new.failures }) }
+        ensures client { OnOk result (self.new
+            ≡ record self.old { outgoing = self.new.outgoing; failures = self.new.failures }) }
         ensures failures { self.old.failures ≤ self.new.failures }
         ensures fault { IfErr result (λ fault. fault ≡ ClientFault.Stream) }
         ensures err { OnErr result (Broke self.old self.new) }
@@ -207,8 +210,10 @@ impl<L: Line + Drop> Client<L> {
     /// Sends the packet of a request, and takes its reply.
     fn settle(&mut self, bytes: &[u8], due: Due) -> Result<Reply, ClientFault>
         requires { self.old.failed ≡ false }
-        ensures comes { (q : WireRequest) → bytes.now ≡ packet (request_body self.old.next q) → due ≡ due_of q → Settles (λ r. r) self.old q result self.new }
-        ensures loosely { (q : WireRequest) → bytes.now ≡ packet (request_body self.old.next q) → due ≡ due_of q → Comes (λ r. r) self.old q result self.new }
+        ensures comes { (q : WireRequest) → bytes.now ≡ packet (request_body self.old.next q)
+            → due ≡ due_of q → Settles (λ r. r) self.old q result self.new }
+        ensures loosely { (q : WireRequest) → bytes.now ≡ packet (request_body self.old.next q)
+            → due ≡ due_of q → Comes (λ r. r) self.old q result self.new }
         ensures answer { IfOk result (λ r. is_answer due r ≡ true) }
     {
         self.send(bytes)?;

@@ -11,8 +11,10 @@ use sf_line::{Line, LineFault};
 
 /// Fills the buffer; false where the input ends before it is full.
 fn fill<L: Line>(line: &mut L, buffer: &mut [u8]) -> Result<bool, LineFault>
-    ensures full { IfOk result (λ full. full ≡ true → Consumes (L.incoming line.old) (L.incoming line.new) buffer.new) }
-    ensures short { IfOk result (λ full. full ≡ false → Ends (L.incoming line.old) (length buffer.new)) }
+    ensures full { IfOk result (λ full. full ≡ true
+        → Consumes (L.incoming line.old) (L.incoming line.new) buffer.new) }
+    ensures short { IfOk result (λ full. full ≡ false
+        → Ends (L.incoming line.old) (length buffer.new)) }
     ensures outgoing { L.outgoing line.new ≡ L.outgoing line.old }
     ensures failures { L.failed line.old ≤ L.failed line.new }
     ensures fault { OnErr result (Rose (L.failed line.old) (L.failed line.new)) }

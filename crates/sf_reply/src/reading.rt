@@ -230,7 +230,8 @@ impl FoundReply<'_> {
 /// refused.
 pub fn read_reply(alloc: Global, body: &[u8]) -> Result<Option<(u32, Reply)>, AllocError>
     ensures found { IfOk result (λ found. IfSome found (λ x. IsReply body.now x.0 x.1)) }
-    ensures none { IfOk result (λ found. IfNone found ((id : ℕ) (r : Reply) → IsReply body.now id r → ⊥)) }
+    ensures none { IfOk result (λ found. IfNone found ((id : ℕ) (r : Reply) → IsReply body.now id r
+        → ⊥)) }
     ensures err { OnErr result ((id : ℕ) × (r : Reply) × IsReply body.now id r) }
 {
     let Some((id, found)) = find_reply(body) else {

@@ -28,8 +28,10 @@ use std::alloc::AllocError;
 /// gives nor takes bytes or names.
 pub fn from_root(store: &mut Store, call: &Call) -> Reply
     ensures served { (t : Tree) → Keeps store.old t → IsUnused t call.now.number
-        → IsRefused store.old store.new t result ⊎ IsCarriedOut store.new t (answer_to t call.now.session call.now.number call.now.moment call.now.request) result }
-    ensures sure { (t : Tree) → Keeps store.old t → IsUnused t call.now.number → may_want_memory call.now.request (answer_to t call.now.session call.now.number call.now.moment call.now.request).reply ≡ false
+        → IsRefused store.old store.new t result
+        ⊎ IsCarriedOut store.new t (answer_to t call.now.session call.now.number call.now.moment call.now.request) result }
+    ensures sure { (t : Tree) → Keeps store.old t → IsUnused t call.now.number
+        → may_want_memory call.now.request (answer_to t call.now.session call.now.number call.now.moment call.now.request).reply ≡ false
         → IsCarriedOut store.new t (answer_to t call.now.session call.now.number call.now.moment call.now.request) result }
     ensures look_ups { LooksUp store.old store.new (names_of call.now.request) }
     ensures nodes { NodesStay call.now.number store.old store.new }
@@ -79,9 +81,11 @@ fn find_way(store: &mut Store, request: &Request) -> Located
 pub fn decide(store: &mut Store, call: &Call, located: Located) -> (Reply, Reply)
     requires { IsLocated store.old call.now.request located }
     ensures served { (t : Tree) → Keeps store.old t → IsUnused t call.now.number
-        → IsRefused store.old store.new t result.0 ⊎ IsCarriedOut store.new t (answer_to t call.now.session call.now.number call.now.moment call.now.request) result.0 }
+        → IsRefused store.old store.new t result.0
+        ⊎ IsCarriedOut store.new t (answer_to t call.now.session call.now.number call.now.moment call.now.request) result.0 }
     ensures copy { result.1 ≡ result.0 }
-    ensures sure { (t : Tree) → Keeps store.old t → IsUnused t call.now.number → may_want_memory call.now.request (answer_to t call.now.session call.now.number call.now.moment call.now.request).reply ≡ false
+    ensures sure { (t : Tree) → Keeps store.old t → IsUnused t call.now.number
+        → may_want_memory call.now.request (answer_to t call.now.session call.now.number call.now.moment call.now.request).reply ≡ false
         → IsCarriedOut store.new t (answer_to t call.now.session call.now.number call.now.moment call.now.request) result.0 }
     ensures look_ups { store.new.look_ups ≡ store.old.look_ups }
     ensures nodes { NodesStay call.now.number store.old store.new }
@@ -102,7 +106,8 @@ fn answer(store: &mut Store, call: &Call, located: Located) -> Result<(Reply, Re
         → IfOk result (λ replies. IsCarriedOut store.new t (answer_to t call.now.session call.now.number call.now.moment call.now.request) replies.0) }
     ensures copy { IfOk result (λ replies. replies.1 ≡ replies.0) }
     ensures sure { takes_memory call.now.request ≡ false → IsOk result }
-    ensures wants { (t : Tree) → Keeps store.old t → IsUnused t call.now.number → OnErr result (is_success (answer_to t call.now.session call.now.number call.now.moment call.now.request).reply ≡ true) }
+    ensures wants { (t : Tree) → Keeps store.old t → IsUnused t call.now.number
+        → OnErr result (is_success (answer_to t call.now.session call.now.number call.now.moment call.now.request).reply ≡ true) }
     ensures err { OnErr result (IsAlike store.old store.new) }
     ensures look_ups { store.new.look_ups ≡ store.old.look_ups }
     ensures nodes { NodesStay call.now.number store.old store.new }
@@ -176,8 +181,10 @@ fn read_twice(
     offset: u64,
     len: u32,
 ) -> Result<(Reply, Reply), AllocError>
-    ensures served { (t : Tree) → Keeps store.now t → IfOk result (λ replies. replies.0 ≡ (read offset len (opened t session number)).reply) }
-    ensures wants { (t : Tree) → Keeps store.now t → OnErr result (is_success (read offset len (opened t session number)).reply ≡ true) }
+    ensures served { (t : Tree) → Keeps store.now t
+        → IfOk result (λ replies. replies.0 ≡ (read offset len (opened t session number)).reply) }
+    ensures wants { (t : Tree) → Keeps store.now t
+        → OnErr result (is_success (read offset len (opened t session number)).reply ≡ true) }
     ensures copy { IfOk result (λ replies. replies.1 ≡ replies.0) }
 {
     let reply = read(store, session, number, offset, len)?;

@@ -23,8 +23,11 @@ pub(crate) fn read_directory(
     session: u64,
     number: u64,
 ) -> Result<(Reply, Reply), AllocError>
-    ensures served { (t : Tree) → Keeps store.old t → IfOk result (λ replies. IsCarriedOut store.new t (read_directory t number (opened t session number)) replies.0) }
-    ensures wants { (t : Tree) → Keeps store.old t → OnErr result (is_success (read_directory t number (opened t session number)).reply ≡ true) }
+    ensures served { (t : Tree) → Keeps store.old t
+        → IfOk result (λ replies. IsCarriedOut store.new t (read_directory t number (opened t session number)) replies.0) }
+    ensures wants { (t : Tree) → Keeps store.old t
+        → OnErr result (is_success (read_directory t number (opened t session number)).reply
+        ≡ true) }
     ensures copy { IfOk result (λ replies. replies.1 ≡ replies.0) }
     ensures err { OnErr result (store.new ≡ store.old) }
     ensures look_ups { store.new.look_ups ≡ store.old.look_ups }
@@ -57,7 +60,8 @@ pub(crate) fn read_directory(
 
 /// The entries as they are listed. A name that leads to no node is left out.
 fn entries_of(store: &Store, found: &[(Name, NodeId)]) -> Result<Listing, AllocError>
-    ensures { IfOk result (λ listing. listing ≡ filter_map (listed_entry store.now.nodes) found.now) }
+    ensures { IfOk result (λ listing. listing
+        ≡ filter_map (listed_entry store.now.nodes) found.now) }
 {
     let mut entries = Vec::new(store.alloc());
     'entries: for (name, node) in found {

@@ -20,7 +20,8 @@ pub fn run_stdio<L: Line, C: Clock, W: Write>(
     clock: &mut C,
     errors: &mut W,
 ) -> u8
-    ensures served { result ≡ 0 → ServesLine (edges (L.incoming line.old) (L.outgoing line.old) (C.told clock.old))
+    ensures served { result ≡ 0
+        → ServesLine (edges (L.incoming line.old) (L.outgoing line.old) (C.told clock.old))
         (edges (L.incoming line.new) (L.outgoing line.new) (C.told clock.new)) Closed }
     ensures end { result ≡ 0 → IsAtEnd (L.incoming line.new) }
     ensures quiet { result ≡ 0 → Keeps (W.contents errors.old) (W.contents errors.new) }
