@@ -1,35 +1,48 @@
 //! The command `sftpd stdio`.
 
-ghost use Rattle.std.specs.Prelude.{◌≡◌, ◌⊎◌, Ok};
-ghost use Rattle.std.specs.Io.KnownBytes.{IsAtEnd, Keeps};
-ghost use Rattle.sf_session.specs.declared.cause.Cause.TheVariants.{Closed};
-ghost use Rattle.sf_service.specs.Serving.{edges, ServesLine};
-ghost use Rattle.sftpd.specs.Statuses.{status_of};
+ghost use Rattle.std.specs.Prelude.{◌≡◌, ◌<◌, ◌⊎◌, OnOk, OnErr};
+ghost use Rattle.std.specs.Io.KnownBytes.{Appends};
+ghost use Rattle.sf_line.specs.Lines.{Rose};
+ghost use Rattle.sftpd.specs.Statuses.{status_of, line_of, ServedSo};
 
-use sf_line::Line;
-use sf_service::serve_one;
+use sf_engine::Engine;
+use sf_line::{Line, LineFault, write_all};
+use sf_serving::serve_one;
 use sf_session::{Cause, Clock, ServeFault};
 use std::alloc::Global;
-use std::io::{self, Write};
 
-/// Serves one session over a line, writes the one line of a fault to `errors`, and answers the
-/// exit status: 0 at the end of the input, else 1.
-pub fn run_stdio<L: Line, C: Clock, W: Write>(
+/// Serves one session over a line, on an engine of its own that keeps the last `keep` records; writes
+/// the one line of an early end to `errors`; and answers the exit status: 0 at the end of the input,
+/// else 1.
+pub fn run_stdio<L: Line, C: Clock, E: Line>(
     alloc: Global,
+    keep: usize,
     line: &mut L,
     clock: &mut C,
-    errors: &mut W,
+    errors: &mut E,
 ) -> u8
-    ensures served { result ≡ 0 → ServesLine (edges (L.incoming line.old) (L.outgoing line.old) (C.told clock.old))
-        (edges (L.incoming line.new) (L.outgoing line.new) (C.told clock.new)) Closed }
-    ensures end { result ≡ 0 → IsAtEnd (L.incoming line.new) }
-    ensures quiet { result ≡ 0 → Keeps (W.contents errors.old) (W.contents errors.new) }
-    ensures status { (result ≡ 0) ⊎ (result ≡ 1) }
+    requires { 0 < keep }
+    ensures { (outcome : Result Cause ServeFault) × ServedSo (..) outcome × (result ≡ status_of outcome)
+        × (Appends (E.outgoing errors.old) (E.outgoing errors.new) (line_of outcome) ⊎ Rose (E.failed errors.old) (E.failed errors.new)) }
 {
-    let outcome = serve_one(alloc, line, clock);
+    let outcome = serve(alloc, keep, line, clock);
     // What can't be told on standard error is still told by the status.
     let _ = report(errors, outcome);
     status(outcome)
+}
+
+/// Serves the session on a new engine.
+fn serve<L: Line, C: Clock>(
+    alloc: Global,
+    keep: usize,
+    line: &mut L,
+    clock: &mut C,
+) -> Result<Cause, ServeFault>
+    requires { 0 < keep }
+    ensures { ServedSo (..) result }
+{
+    let mut engine = Engine::with_keep(alloc, keep)?;
+    serve_one(alloc, &mut engine, line, clock)
 }
 
 /// The exit status.
@@ -43,13 +56,18 @@ fn status(outcome: Result<Cause, ServeFault>) -> u8
 }
 
 /// Writes the line of a session that ended early.
-fn report<W: Write>(errors: &mut W, outcome: Result<Cause, ServeFault>) -> io::Result<()>
-    ensures { outcome ≡ Ok Closed → Keeps (W.contents errors.old) (W.contents errors.new) }
+fn report<E: Line>(errors: &mut E, outcome: Result<Cause, ServeFault>) -> Result<(), LineFault>
+    ensures told { OnOk result (Appends (E.outgoing errors.old) (E.outgoing errors.new) (line_of outcome)) }
+    ensures fault { OnErr result (Rose (E.failed errors.old) (E.failed errors.new)) }
 {
     match outcome {
         Ok(Cause::Closed) => Ok(()),
-        Ok(cause) => writeln!(errors, "sftpd: session ended: {cause}"),
-        Err(ServeFault::OutOfMemory) => writeln!(errors, "sftpd: out of memory"),
-        Err(_) => writeln!(errors, "sftpd: stream"),
+        Ok(cause) => {
+            write_all(errors, "sftpd: session ended: ".as_bytes())?;
+            write_all(errors, cause.words().as_bytes())?;
+            write_all(errors, "\n".as_bytes())
+        }
+        Err(ServeFault::OutOfMemory) => write_all(errors, "sftpd: out of memory\n".as_bytes()),
+        Err(_) => write_all(errors, "sftpd: stream\n".as_bytes()),
     }
 }
