@@ -31,7 +31,7 @@ const OK_7: &str = "00000018 65 00000007 00000000 00000007 53756363657373 000000
 
 /// By how many turns a packet is answered.
 #[derive(Clone, Copy)]
-enum Turns {
+enum Steps {
     /// The turn that reads it writes its reply.
     AtOnce,
     /// A call begins, moves so often, decides, and its reply is written.
@@ -86,8 +86,8 @@ fn feeds(
 }
 
 /// The next packet of a session is answered by these turns.
-fn is_answered(rt: &impl Abort, engine: &mut Engine, session: u64, by: Turns) {
-    if let Turns::Call(moves) = by {
+fn is_answered(rt: &impl Abort, engine: &mut Engine, session: u64, by: Steps) {
+    if let Steps::Call(moves) = by {
         turns(rt, engine, session, Happened::Begun);
         for _ in 0..moves {
             turns(rt, engine, session, Happened::Moved);
@@ -107,7 +107,7 @@ fn is_served_whole(
     rt: &impl Abort,
     alloc: Global,
     input: &[u8],
-    by: &[Turns],
+    by: &[Steps],
     want: &[u8],
 ) -> Result<(), Fail> {
     let mut engine = Engine::new(alloc)?;
@@ -126,12 +126,12 @@ fn is_served(
     rt: &impl Abort,
     alloc: Global,
     input: &[&str],
-    by: &[Turns],
+    by: &[Steps],
     want: &[&str],
 ) -> Result<(), Fail> {
     let mut bytes = hex_bytes(alloc, INIT)?;
     bytes.extend_from_slice(&packets(alloc, input)?)?;
-    let mut all = vec![in alloc; Turns::AtOnce]?;
+    let mut all = vec![in alloc; Steps::AtOnce]?;
     all.extend_from_slice(by)?;
     let mut output = hex_bytes(alloc, VERSION)?;
     output.extend_from_slice(&packets(alloc, want)?)?;

@@ -10,8 +10,8 @@ const OPEN: &str = "00000013 03 00000001 00000002 2f66 0000000b 00000000";
 const OPENED: &str = "00000011 66 00000001 00000008 0000000000000001";
 
 /// Calls by these numbers of moves.
-fn calls(alloc: Global, moves: &[u32]) -> Result<Vec<Turns>, Fail> {
-    let calls = moves.iter().map(|n| Turns::Call(*n)).collect(alloc)?;
+fn calls(alloc: Global, moves: &[u32]) -> Result<Vec<Steps>, Fail> {
+    let calls = moves.iter().map(|n| Steps::Call(*n)).collect(alloc)?;
     Ok(calls)
 }
 
@@ -119,7 +119,7 @@ fn make_files(rt: &impl Abort, alloc: Global, engine: &mut Engine) -> Result<(),
         packet.extend_from_slice(&digits(n))?;
         packet.extend_from_slice(&hex_bytes(alloc, "0000000b 00000000")?)?;
         is_fed(rt, engine, 1, packet);
-        is_answered(rt, engine, 1, Turns::Call(1));
+        is_answered(rt, engine, 1, Steps::Call(1));
     }
     Ok(())
 }
@@ -184,7 +184,7 @@ fn listing_survives_removals(rt: HostRuntime) -> Result<(), Fail> {
         ],
     )?;
     for moves in [0, 0, 1, 0, 1, 0] {
-        is_answered(&rt, &mut engine, 1, Turns::Call(moves));
+        is_answered(&rt, &mut engine, 1, Steps::Call(moves));
     }
     turns(&rt, &mut engine, 1, Happened::Idle);
     let want = listed(alloc)?;

@@ -44,7 +44,7 @@ fn old_and_new_versions(rt: HostRuntime) -> Result<(), Fail> {
     ends(&rt, alloc, "00040001", Cause::TooLong)?;
     let newer = packets(alloc, &["00000005 01 00000006"])?;
     let version = packets(alloc, &[VERSION])?;
-    is_served_whole(&rt, alloc, &newer, &[Turns::AtOnce], &version)
+    is_served_whole(&rt, alloc, &newer, &[Steps::AtOnce], &version)
 }
 
 #[test]
@@ -53,7 +53,7 @@ fn mkdir_and_stat(rt: HostRuntime) -> Result<(), Fail> {
         &rt,
         rt.alloc(),
         &[MKDIR_A, MKDIR_A, STAT_A],
-        &[Turns::Call(1), Turns::Call(1), Turns::Call(1)],
+        &[Steps::Call(1), Steps::Call(1), Steps::Call(1)],
         &[
             OK_7,
             "00000018 65 00000007 00000004 00000007 4661696c757265 00000000",
@@ -76,7 +76,7 @@ fn realpath_of_empty_path(rt: HostRuntime) -> Result<(), Fail> {
             "00000017 68 00000005 00000001 00000001 2f 00000001 2f 00000000",
         ],
     )?;
-    is_served_whole(&rt, alloc, &input, &[Turns::AtOnce, Turns::AtOnce], &want)
+    is_served_whole(&rt, alloc, &input, &[Steps::AtOnce, Steps::AtOnce], &want)
 }
 
 #[test]
@@ -89,7 +89,7 @@ fn cut_open_is_bad_message(rt: HostRuntime) -> Result<(), Fail> {
             "0000000b 13 00000009 00000002 2f61",
             "0000000a 11 00000003 00000001 2f",
         ],
-        &[Turns::AtOnce, Turns::AtOnce, Turns::Call(0)],
+        &[Steps::AtOnce, Steps::AtOnce, Steps::Call(0)],
         &[
             "0000001c 65 00000002 00000005 0000000b 426164206d657373616765 00000000",
             "00000026 65 00000009 00000008 00000015 4f7065726174696f6e20756e737570706f72746564 00000000",
@@ -118,7 +118,7 @@ fn normal_forms(rt: HostRuntime) -> Result<(), Fail> {
             "00000015 10 00000001 0000000c 612f2f2e2f622f2e2e2f2e2e",
             "0000000f 10 00000002 00000006 2f2e2e2f782f",
         ],
-        &[Turns::AtOnce, Turns::AtOnce, Turns::AtOnce],
+        &[Steps::AtOnce, Steps::AtOnce, Steps::AtOnce],
         &[
             "00000017 68 00000005 00000001 00000001 2f 00000001 2f 00000000",
             "00000017 68 00000001 00000001 00000001 2f 00000001 2f 00000000",
@@ -140,5 +140,5 @@ fn long_names(rt: HostRuntime) -> Result<(), Fail> {
     want.extend_from_slice(&long_name(alloc, "00000100 2f", 255, "00000000")?)?;
     let failure = "00000018 65 00000004 00000004 00000007 4661696c757265 00000000";
     want.extend_from_slice(&hex_bytes(alloc, failure)?)?;
-    is_served_whole(&rt, alloc, &input, &[Turns::AtOnce; 3], &want)
+    is_served_whole(&rt, alloc, &input, &[Steps::AtOnce; 3], &want)
 }

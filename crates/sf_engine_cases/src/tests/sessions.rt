@@ -51,7 +51,7 @@ fn close_under_way(rt: HostRuntime) -> Result<(), Fail> {
     let stat = "0000000d 11 00000006 00000004 2f612f66";
     feeds(&rt, alloc, &mut engine, 1, &[INIT, MKDIR_A, stat, STAT_A])?;
     turns(&rt, &mut engine, 1, Happened::Wrote);
-    is_answered(&rt, &mut engine, 1, Turns::Call(1));
+    is_answered(&rt, &mut engine, 1, Steps::Call(1));
     turns(&rt, &mut engine, 1, Happened::Begun);
     turns(&rt, &mut engine, 1, Happened::Moved);
     turns(&rt, &mut engine, 1, Happened::Moved);
@@ -105,7 +105,7 @@ fn keep_of_two(rt: HostRuntime) -> Result<(), Fail> {
     )?;
     turns(&rt, &mut engine, 1, Happened::Wrote);
     for _ in 0..4 {
-        is_answered(&rt, &mut engine, 1, Turns::Call(1));
+        is_answered(&rt, &mut engine, 1, Steps::Call(1));
     }
     records_are(&rt, &engine, &[3, 4]);
     assert_eq!(&rt; engine.core().folded(), 2);
@@ -124,7 +124,7 @@ fn output_that_was_sent(rt: HostRuntime) -> Result<(), Fail> {
     comes_to(&rt, &mut engine, Event::Sent(1, 43), Err(EngineFault::NotSent));
     comes_to(&rt, &mut engine, Event::Sent(1, 40), Ok(Happened::Sent));
     is_sent(&rt, &engine, 1, b"\x01\x31");
-    is_answered(&rt, &mut engine, 1, Turns::Call(1));
+    is_answered(&rt, &mut engine, 1, Steps::Call(1));
     comes_to(&rt, &mut engine, Event::Sent(1, 2), Ok(Happened::Sent));
     is_sent(&rt, &engine, 1, &packets(alloc, &[OK_7])?);
     comes_to(&rt, &mut engine, Event::Close(1), Ok(Happened::Closed));
