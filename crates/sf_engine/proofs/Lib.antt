@@ -1,5 +1,7 @@
 pub mod Tracing
 pub mod Moving
+pub mod Deciding
+pub mod Working
 pub mod Resting
 pub mod Under
 pub mod Writing
