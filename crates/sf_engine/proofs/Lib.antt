@@ -9,5 +9,8 @@ pub mod Turning
 pub mod Feeding
 pub mod Opening
 pub mod Running
+pub mod Orders
 pub mod Reading
+pub mod Beginning
+pub mod SentBytes
 pub mod Sending

@@ -45,7 +45,7 @@ pub begun_push : (bodies : List (List ℕ)) (body : List ℕ) → has_begun (bod
 begun_push [] body = refl
 begun_push (b ∷ bodies) body = refl
 
-transcript_push : (answers : List Answered) (a : Answered) → transcript answers ++ packet_for a ≡ transcript (answers ++ a ∷ [])
+pub transcript_push : (answers : List Answered) (a : Answered) → transcript answers ++ packet_for a ≡ transcript (answers ++ a ∷ [])
 unfolding transcript
 transcript_push answers a = flat_map_more packet_for [] answers a
 
