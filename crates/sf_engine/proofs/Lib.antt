@@ -13,4 +13,5 @@ pub mod Orders
 pub mod Reading
 pub mod Beginning
 pub mod SentBytes
+pub mod OneWorld
 pub mod Sending
