@@ -15,4 +15,4 @@ mod seat;
 
 pub use engine::Engine;
 pub use event::{EngineFault, Event, Happened};
-pub use laws::sessions_read;
+pub use laws::{one_output, records_begun, sent_bytes, sessions_read};

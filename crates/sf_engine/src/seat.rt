@@ -9,7 +9,7 @@ ghost use Rattle.sf_core.specs.Cores.{slot_of};
 ghost use Rattle.sf_core.specs.Lanes.{LaneView};
 ghost use Rattle.sf_core.specs.Events.{OwnCall, Leaves};
 ghost use Rattle.sf_core.specs.Histories.{IsHistory};
-ghost use Rattle.sf_engine.specs.Turns.{Gives, GoesOn, before, after, Reads, Settles, PlaceGives, TurnGives, CloseGives, FeedGives, FeedFault, SentGives, SentFault, IsPlaced, OpenGives, OpenFault, MayRefuseTurn};
+ghost use Rattle.sf_engine.specs.Turns.{Gives, GoesOn, before, after, seated, part, new_part, Reads, Settles, PlaceGives, CloseGives, FeedGives, FeedFault, SentGives, SentFault, IsPlaced, OpenGives, OpenFault, MayRefuseTurn};
 
 use crate::event::{EngineFault, Happened};
 use sf_call::{Answer, CoreFault};
@@ -89,7 +89,7 @@ fn read(
     requires idle { lane.call ≡ None }
     requires slot { slot_of core.old lane.session ≡ Idle }
     requires waiting { session.old.waiting ≡ None }
-    ensures ok { IfOk result (λ r. Gives core.old core.new (λ h added. Reads core.old session.old lane moment r.1 added core.new session.new r.0)) }
+    ensures ok { IfOk result (λ r. Gives core.old core.new (λ h added. Reads (seated core.old session.old lane) moment r.1 (new_part core.new added session.new r.0))) }
     ensures err { IfErr result (λ back. (back ≡ lane) × (core.new ≡ core.old) × (session.new ≡ session.old)) }
 {
     let mut lane = lane;
@@ -116,7 +116,7 @@ fn settle(core: &mut Core, session: &mut Session, lane: Lane, closed: bool) -> P
     requires idle { lane.call ≡ None }
     requires slot { slot_of core.old lane.session ≡ Idle }
     requires waiting { session.old.waiting ≡ None }
-    ensures { Gives core.old core.new (λ h added. Settles core.old session.old lane closed added core.new session.new result) }
+    ensures { Gives core.old core.new (λ h added. Settles (seated core.old session.old lane) closed (new_part core.new added session.new result)) }
 {
     if !closed {
         return Place::Resting(lane);
@@ -136,7 +136,7 @@ impl Place {
         moment: u32,
     ) -> Result<(Place, Happened), Place>
         requires { IsPlaced core.old session.old self }
-        ensures ok { IfOk result (λ r. Gives core.old core.new (λ h added. PlaceGives core.old h session.old self closed moment r.1 added core.new session.new r.0)) }
+        ensures ok { IfOk result (λ r. Gives core.old core.new (λ h added. PlaceGives (part core.old h session.old closed) self moment r.1 (new_part core.new added session.new r.0))) }
         ensures err { IfErr result (λ back. (back ≡ self) × (core.new ≡ core.old) × (session.new ≡ session.old) × MayRefuseTurn self) }
     {
         match self {
@@ -158,7 +158,7 @@ impl Place {
     /// Closing: a session that rests leaves at once. Whether it goes on to its answer first is told with the place.
     fn close(self, core: &mut Core, session: &mut Session) -> (Place, bool)
         requires { IsPlaced core.old session.old self }
-        ensures { Gives core.old core.new (λ h added. CloseGives core.old session.old self added core.new session.new result.0 result.1) }
+        ensures { Gives core.old core.new (λ h added. CloseGives core.old session.old self (new_part core.new added session.new result.0) result.1) }
     {
         match self {
             Place::Resting(lane) => (settle(core, session, lane, true), false),
@@ -176,7 +176,7 @@ pub(crate) fn turn_seat(
     moment: u32,
 ) -> Result<Happened, EngineFault>
     requires { IsPlaced core.old seat.old.session seat.old.place }
-    ensures ok { IfOk result (λ r. Gives core.old core.new (λ h added. TurnGives core.old h seat.old moment r added core.new seat.new)) }
+    ensures ok { IfOk result (λ r. Gives core.old core.new (λ h added. PlaceGives (part core.old h seat.old.session seat.old.closed) seat.old.place moment r (new_part core.new added seat.new.session seat.new.place) × (seat.new.closed ≡ seat.old.closed))) }
     ensures err { OnErr result ((core.new ≡ core.old) × (seat.new ≡ seat.old)) }
     ensures fault { IfErr result (λ fault. (fault ≡ EngineFault.OutOfMemory) × MayRefuseTurn seat.old.place) }
 {
@@ -196,7 +196,7 @@ pub(crate) fn turn_seat(
 /// Closes a session. It leaves at once if it rests, and else once its call's reply is written.
 pub(crate) fn close_seat(core: &mut Core, seat: &mut Seat)
     requires { IsPlaced core.old seat.old.session seat.old.place }
-    ensures { Gives core.old core.new (λ h added. (goes_on : Bool) × CloseGives core.old seat.old.session seat.old.place added core.new seat.new.session seat.new.place goes_on × (seat.new.closed ≡ (seat.old.closed || goes_on))) }
+    ensures { Gives core.old core.new (λ h added. (goes_on : Bool) × CloseGives core.old seat.old.session seat.old.place (new_part core.new added seat.new.session seat.new.place) goes_on × (seat.new.closed ≡ (seat.old.closed || goes_on))) }
 {
     let place = mem::replace(&mut seat.place, Place::Left(Cause::Closed));
     let (place, goes_on) = place.close(core, &mut seat.session);
