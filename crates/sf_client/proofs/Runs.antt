@@ -1,5 +1,5 @@
 -- Exchanges one after the other.
-use Rattle.std.proofs.Common.{◌≡◌, ◌+◌, ◌*◌, ◌<◌, ◌≤◌, ◌⊎◌, min, take, drop, ℕ, zero, suc, List, [], ◌∷◌, ◌++◌, length, Bool, true, false, eqb, Option, Some, None, Result, Ok, Err, is_ok, is_err, cond, inl, inr, refl, sym, ap, subst, ◌∙◌, append_assoc, append-nil, arith}
+use Rattle.std.proofs.Common.{◌≡◌, ◌+◌, ◌*◌, ◌<◌, ◌≤◌, ◌⊎◌, min, take, drop, ℕ, zero, suc, List, [], ◌∷◌, ◌++◌, length, Bool, true, false, eqb, Option, Some, None, Result, Ok, Err, is_ok, is_err, OnOk, cond, inl, inr, refl, sym, ap, subst, ◌∙◌, append_assoc, append-nil, arith}
 use Rattle.std.specs.List.{AllByRecursion, concat}
 use Rattle.std.specs.Io.KnownBytes.{Appends, Consumes}
 use Rattle.std.proofs.KnownBytes.{Appends-nil, Consumes-nil, Appends-trans, Consumes-trans}
@@ -168,6 +168,11 @@ at_length u w n offset bytes r e h = subst (λ (k : ℕ). Comes (or_eof reply.Da
 pub appended : {X E : Type 0} (r : Result (Unit {0}) E) (now more kept : List X) → is_err r ≡ false → now ≡ cond (is_ok r) more kept → now ≡ more
 appended (Ok x) now more kept ok e = e
 appended (Err x) now more kept ok e = absurd cc
+
+-- what is said of a success holds where there is no error
+pub went_well : {P X E : Type 0} (r : Result X E) → is_err r ≡ false → OnOk r P → P
+went_well (Ok x) ok h = h
+went_well (Err x) ok h = absurd cc
 
 -- ---- a call by a handle
 

@@ -1,5 +1,5 @@
 use Rattle.std.proofs.Common.{◌≡◌, ◌++◌, sym, ◌∙◌}
-use Rattle.sf_client.proofs.Runs.{lists_none, list_more, list_end, list_fault, list_no_room, appended}
+use Rattle.sf_client.proofs.Runs.{lists_none, list_more, list_end, list_fault, list_no_room, went_well}
 use Rattle.sf_client.proofs.client.Client.list_all.Goals as goal
 
 pub parts-init : goal.parts-init
@@ -14,7 +14,7 @@ pub parts-preserved : goal.parts-preserved
 parts-preserved g c =
     let h = rw c.in-Ok-Some.field-0-is at c.in-Ok-Some.ensures.comes in
     let items : c.append_to.new.others.items ≡ c.parts.entries.items ++ c.in-Ok-Some.part =
-    appended c.append_to.result _ _ _ (sym c.is_err.ensures.value ∙ c.if-is_err.false) c.append_to.ensures in
+    went_well c.append_to.result (sym c.is_err.ensures.value ∙ c.if-is_err.false) c.append_to.ensures in
     list_more _ _ _ c.args.handle c.parts.entries.items c.in-Ok-Some.part _ c.parts.invariant items h
 
 pub returns-in-Ok-None : goal.returns-in-Ok-None
