@@ -13,11 +13,21 @@ use std::alloc::{AllocError, Global};
 use std::marker::Model;
 
 /// Many sessions on one core, by events, without threads. No trace of them is kept.
-#[derive(Drop)]
 pub struct Engine {
     alloc: Global,
     core: Core,
     seats: Vec<Seat>,
+}
+
+impl Drop for Engine {
+    // By hand: where an engine is dropped, a proof then sees one call and not the engine's parts.
+    fn drop(self) {
+        let Engine {
+            alloc: _,
+            core: _core,
+            seats: _seats,
+        } = self;
+    }
 }
 
 impl Model for Engine {
