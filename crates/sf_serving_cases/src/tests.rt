@@ -1,13 +1,16 @@
 //! Sessions from bytes to bytes, at the moment 100, fed whole, byte by byte and cut at each place.
 
-use sf_cases::{StillClock, hex_bytes};
-use sf_line::{MemoryLine, Pieces};
+use sf_cases::{RisingClock, StillClock, hex_bytes};
+use sf_line::{Line, MemoryLine, Pieces};
 use sf_service::serve_one;
-use sf_session::Cause;
+use sf_session::{Cause, Clock, ServeFault};
 use std::alloc::Global;
 use std::process::Abort;
 use std::test::*;
 
+mod lines;
+mod long;
+mod on_lines;
 mod requests;
 
 const INIT: &str = "00000005 01 00000003";
@@ -24,6 +27,20 @@ fn packets(alloc: Global, texts: &[&str]) -> Result<Vec<u8>, Fail> {
     Ok(bytes)
 }
 
+/// A session by this clock.
+fn serve_at<L: Line, C: Clock>(
+    alloc: Global,
+    line: &mut L,
+    clock: &mut C,
+) -> Result<Cause, ServeFault> {
+    serve_one(alloc, line, clock)
+}
+
+/// A session at the moment 100.
+fn serve<L: Line>(alloc: Global, line: &mut L) -> Result<Cause, ServeFault> {
+    serve_at(alloc, line, &mut StillClock)
+}
+
 /// A session whose line moves its bytes in such pieces.
 fn is_sent(
     rt: &impl Abort,
@@ -34,7 +51,7 @@ fn is_sent(
     cause: Cause,
 ) -> Result<(), Fail> {
     let mut line = MemoryLine::new(alloc, input, pieces, pieces);
-    let ended = serve_one(alloc, &mut line, &mut StillClock)?;
+    let ended = serve(alloc, &mut line)?;
     assert_eq!(rt; ended, cause);
     assert_eq!(rt; line.output(), want);
     Ok(())
