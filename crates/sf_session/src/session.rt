@@ -131,6 +131,7 @@ impl Session {
     {
         self.unread = BytesMut::new(self.alloc);
         self.ended = Some(cause);
+        self.let_go();
         Next::Ended(cause)
     }
 
@@ -220,11 +221,38 @@ impl Session {
         }
     }
 
+    /// Ends the session, since it was closed. What is unread is dropped.
+    pub fn close(&mut self)
+        requires { self.old.waiting ≡ None }
+        ensures { self.new ≡ record self.old { unread = []; ended = Some Cause.Closed } }
+    {
+        self.end(Cause::Closed);
+    }
+
     /// The bytes to be sent.
     pub fn output(&self) -> &[u8]
         ensures { result.now ≡ self.now.output }
     {
         self.output.as_slice()
+    }
+
+    /// Drops the first bytes to be sent, since they were. Takes no memory. A session that has ended and
+    /// sent all keeps no buffer.
+    pub fn take_front(&mut self, n: usize)
+        requires { n ≤ length self.old.output }
+        ensures { self.new ≡ record self.old { output = drop n self.old.output } }
+    {
+        self.output.advance(n);
+        self.let_go();
+    }
+
+    /// Where it has ended and sent all, it keeps no buffer.
+    fn let_go(&mut self)
+        ensures { self.new ≡ self.old }
+    {
+        if self.ended.is_some() && self.waiting.is_none() && self.output.is_empty() {
+            self.output = BytesMut::new(self.alloc);
+        }
     }
 
     /// Takes the bytes to be sent away.

@@ -1,0 +1,10 @@
+pub mod Tracing
+pub mod Moving
+pub mod Resting
+pub mod Under
+pub mod Writing
+pub mod Turning
+pub mod Feeding
+pub mod Opening
+pub mod Running
+pub mod Reading

@@ -1,0 +1,231 @@
+-- A turn of a session whose call is under way.
+use Rattle.std.proofs.Common.{◌≡◌, ◌≢◌, ℕ, zero, suc, ◌+◌, ◌-◌, ◌<◌, ◌≤◌, ◌⊎◌, List, [], ◌∷◌, ◌++◌, Bool, slice_get, length, refl, ap, sym, ◌∙◌, subst, arith, inl, inr}
+use Rattle.std.specs.List.{AllByRecursion}
+use Rattle.std.proofs.lemmas.Bool.{cases_lt}
+use Rattle.sf_reply.specs.declared.reply.Reply.{Reply}
+use Rattle.sf_call.specs.declared.request.Request.{Request}
+use Rattle.sf_call.specs.declared.call.Call.{Call}
+use Rattle.sf_call.specs.declared.record.Record.{Record}
+use Rattle.sf_call.specs.declared.record.Record.TheVariants.{Did, Left}
+use Rattle.sf_call.specs.Answers.{Answered as Answer}
+use Rattle.sf_call.specs.Histories.{IsAmong}
+use Rattle.sf_session.specs.Sessions.{SessionView}
+use Rattle.sf_core.specs.Cores.Slot.{Gone as nobody, Idle, Busy}
+use Rattle.sf_core.specs.Lanes.{LaneView, at_rest}
+use Rattle.sf_core.specs.Cores.{CoreView, slot_of}
+use Rattle.sf_core.specs.Progress.{left_of, bound_of, did}
+use Rattle.sf_core.specs.Events.{IsOfOther}
+use Rattle.sf_core.specs.Events.{IsHelped as IsHelpedAt}
+use Rattle.sf_engine.specs.declared.seat.Seat.{Seat}
+use Rattle.sf_engine.specs.declared.seat.Place.{Place}
+use Rattle.sf_engine.specs.declared.seat.Place.TheVariants as place
+use Rattle.sf_engine.specs.declared.event.Happened.{Happened}
+use Rattle.sf_engine.specs.declared.event.Happened.TheVariants as happened
+use Rattle.sf_engine.specs.Worlds.{Answered, Phase, Resting, UnderWay, Decided, Gone, World}
+use Rattle.sf_engine.specs.Traces.{IsUnderWay, IsOthersCall, IsHelped, Decides, StepLeads, calls_begun}
+use Rattle.sf_engine.specs.Turns.{GoesOn, before, after}
+use Rattle.sf_engine.specs.Fits.{IsGoing, PlaceAgrees, SeatAgrees, Agrees}
+use Rattle.sf_engine.proofs.Moving.{Moves, OtherStays, get_within}
+use Rattle.sf_engine.proofs.Resting.{Turned, tells, seat}
+
+-- whose call the core has, its call is under way by the trace too
+under_way : (v : CoreView) (s : ℕ) (x : SessionView) (f : Phase) (p : Place) (c : Call) → slot_of v s ≡ Busy c → PlaceAgrees v s x f p → IsUnderWay f c.number c.moment c.request
+under_way v s x Resting p c here h = absurd (let w : Idle ≡ Busy c = sym h.slot ∙ here in cc)
+under_way v s x (UnderWay id n m q moves) p c here h =
+    let own : h.call ≡ c = let w : Busy h.call ≡ Busy c = sym h.slot ∙ here in cc in
+    (sym h.own.1 ∙ ap (λ (y : Call). y.number) own, sym h.own.2 ∙ ap (λ (y : Call). y.moment) own, sym h.own.3 ∙ ap (λ (y : Call). y.request) own)
+under_way v s x (Decided id n q given) p c here h = absurd (let w : Idle ≡ Busy c = sym h.slot ∙ here in cc)
+under_way v s x (Gone cause) p c here h = absurd (let w : nobody ≡ Busy c = sym h.1 ∙ here in cc)
+
+-- a number that is no session's, or one more than a place in the list
+place_of : (s n : ℕ) → ((s ≡ 0) ⊎ (n < s)) ⊎ ((i : ℕ) × (i < n) × (s ≡ i + 1))
+place_of zero n = inl (inl refl)
+place_of (suc i) n = elim (cases_lt i n) [ inl lt ↦ inr (i, lt, omega arith) | inr ge ↦ inl (inr (omega arith)) ]
+
+pub others_call : (w : World) (v : CoreView) (seats : List Seat) (s other : ℕ) (c : Call) → Agrees w (record { core = v; seats = seats }) → slot_of v other ≡ Busy c → other ≢ s
+    → IsOthersCall w s c.number other c.moment c.request
+others_call w v seats s other c agrees here apart = elim (place_of other (length w.sessions)) [
+  | inl out ↦ absurd (let k : nobody ≡ Busy c = sym (agrees.nobody other out) ∙ here in cc)
+  | inr at ↦
+      let i = at.0 in
+      let t = get_within w.sessions i at.1 in
+      let p = get_within seats i (omega (arith, at.1, agrees.count)) in
+      let had = agrees.each i t.0 p.0 t.1 p.1 in
+      let num : other - 1 ≡ i = omega (arith, at.2) in
+      record {
+        other = apart;
+        told = t.0;
+        is_session = (omega (arith, at.2), ap (λ (n : ℕ). slice_get w.sessions n) num ∙ t.1);
+        under_way = under_way v (i + 1) p.0.session t.0.phase p.0.place c (ap (λ (n : ℕ). slot_of v n) (sym at.2) ∙ here) had.at;
+      }
+]
+
+helped_one : (w : World) (v : CoreView) (seats : List Seat) (s : ℕ) (r : Record) → Agrees w (record { core = v; seats = seats }) → IsOfOther v s r → IsHelped w s r
+helped_one w v seats s (Did number session moment request given) agrees h =
+    let c = h.0 in
+    let call = others_call w v seats s session c agrees h.2 h.1 in
+    let is : Did number session moment request given ≡ Did c.number c.session c.moment c.request given = h.4 in
+    let a : c.number ≡ number = cc in
+    let b : c.moment ≡ moment = cc in
+    let d : c.request ≡ request = cc in
+    subst (λ (n : ℕ). IsOthersCall w s n session moment request) a (subst (λ (m : ℕ). IsOthersCall w s c.number session m request) b (subst (λ (q : Request). IsOthersCall w s c.number session c.moment q) d call))
+helped_one w v seats s (Left session) agrees h = absurd h
+
+are_helped : (w : World) (v : CoreView) (seats : List Seat) (s : ℕ) (rs : List Record) → Agrees w (record { core = v; seats = seats }) → AllByRecursion (IsOfOther v s) rs → AllByRecursion (IsHelped w s) rs
+are_helped w v seats s [] agrees h = tt
+are_helped w v seats s (r ∷ rs) agrees h = (helped_one w v seats s r agrees h.0, are_helped w v seats s rs agrees h.1)
+
+-- the record of the session's call, by what is told of it
+own_record : (v : CoreView) (s : ℕ) (x : SessionView) (id n m : ℕ) (q : Request) (moves : ℕ) (p : Place) (c : Call) (given : Reply) → IsGoing v s x id n m q moves p → slot_of v s ≡ Busy c → did c given ≡ Did n s m q given
+own_record v s x id n m q moves p c given at here =
+    let own : at.call ≡ c = let w : Busy at.call ≡ Busy c = sym at.slot ∙ here in cc in
+    ap (λ (y : Call). did y given) (sym own)
+    ∙ ap (λ (k : ℕ). Did k at.call.session at.call.moment at.call.request given) at.own.1
+    ∙ ap (λ (k : ℕ). Did n k at.call.moment at.call.request given) at.own.0
+    ∙ ap (λ (k : ℕ). Did n s k at.call.request given) at.own.2
+    ∙ ap (λ (k : Request). Did n s m k given) at.own.3
+
+-- the session's call was decided, and its answer waits
+decided_now : (w : World) (v v' : CoreView) (s : ℕ) (stream unread : List ℕ) (bodies : List (List ℕ)) (answers : List Answered) (closed c : Bool) (x : SessionView) (p q : Place) (id n m : ℕ) (request : Request) (moves : ℕ)
+    (a : Answer) (added : List Record)
+    → SeatAgrees v s (tells stream unread bodies answers closed (UnderWay id n m request moves)) (seat x p c) → (at : IsGoing v s x id n m request moves p)
+    → Moves v v' s (tells stream unread bodies answers closed (UnderWay id n m request moves)) (tells stream unread bodies answers closed (Decided id n request a.reply)) 0
+    → slot_of v' s ≡ Idle → q ≡ place.Answered (at_rest at.lane) a
+    → Decides w s (Did n s m request a.reply) added
+    → Turned v v' s (tells stream unread bodies answers closed (UnderWay id n m request moves)) 0 (seat x q c)
+    (λ t'. StepLeads w s (tells stream unread bodies answers closed (UnderWay id n m request moves)) id n m request moves happened.Decided added t')
+decided_now w v v' s stream unread bodies answers closed c x p q id n m request moves a added h at moved idle qis decides = record {
+  told = tells stream unread bodies answers closed (Decided id n request a.reply);
+  lead = (a.reply, decides, refl);
+  moves = moved;
+  agrees = record {
+    unread = h.unread;
+    output = h.output;
+    begun = h.begun;
+    closed = h.closed;
+    at = record { lane = at_rest at.lane; answer = a; session = at.session; idle = refl; place_is = qis; reply = refl; slot = idle; waiting = at.waiting; ended = at.ended };
+  };
+}
+
+helped_stays : (v v' : CoreView) (s : ℕ) (helped : List Record) → (slot_of v' s ≡ slot_of v s) ⊎ IsHelpedAt v v' s helped → OtherStays v v' s
+helped_stays v v' s helped (inl e) = inl e
+helped_stays v v' s helped (inr h) = inr (h.before, h.after, h.was, h.now, h.same, h.less)
+
+pub step_turned : (w : World) (v v' : CoreView) (seats : List Seat) (s : ℕ) (stream unread : List ℕ) (bodies : List (List ℕ)) (answers : List Answered) (closed c : Bool) (x : SessionView) (p q : Place) (id n m : ℕ) (request : Request) (moves : ℕ)
+    (r : Happened) (h added : List Record)
+    → Agrees w (record { core = v; seats = seats }) → h ≡ w.records
+    → SeatAgrees v s (tells stream unread bodies answers closed (UnderWay id n m request moves)) (seat x p c) → (at : IsGoing v s x id n m request moves p)
+    → (lane' : LaneView) → GoesOn (before v h at.lane) r (after v' added lane') q
+    → Turned v v' s (tells stream unread bodies answers closed (UnderWay id n m request moves)) (calls_begun r) (seat x q c)
+    (λ t'. StepLeads w s (tells stream unread bodies answers closed (UnderWay id n m request moves)) id n m request moves r added t')
+step_turned w v v' seats s stream unread bodies answers closed c x p q id n m request moves happened.Moved h added agrees hist old at lane' g =
+    let go = g.0.2 in
+    let a = g.0.0 in
+    let d = g.0.1 in
+    let t = tells stream unread bodies answers closed (UnderWay id n m request moves) in
+    let told = tells stream unread bodies answers closed (UnderWay id n m request (moves + 1)) in
+    let here : slot_of v s ≡ Busy a = ap (λ (k : ℕ). slot_of v k) (sym at.session) ∙ go.own.slot in
+    let own : at.call ≡ a = let z : Busy at.call ≡ Busy a = sym at.slot ∙ here in cc in
+    let few : moves + 1 + left_of d ≤ bound_of request = omega (arith, at.few, go.less, ap left_of own) in
+    record {
+      told = told;
+      lead = (omega (arith, few, go.some), g.1.none, refl);
+      moves = record {
+        joins = go.slot.joins;
+        drawn = go.slot.drawn ∙ omega arith;
+        joined = ap (λ (k : ℕ). k + 1) go.slot.joined;
+        others = λ i ne. inl (go.slot.others i (λ e. ne (e ∙ at.session)));
+      };
+      agrees = record {
+        unread = old.unread;
+        output = old.output;
+        begun = old.begun;
+        closed = old.closed;
+        at = record {
+          lane = at.lane;
+          call = d;
+          session = at.session;
+          number_is = at.number_is;
+          place_is = g.2 ∙ ap (λ (l : LaneView). place.UnderWay l) g.1.lane;
+          slot = ap (λ (k : ℕ). slot_of v' k) (sym at.session) ∙ go.slot.own;
+          own = (
+            go.same.session ∙ ap (λ (y : Call). y.session) (sym own) ∙ at.own.0,
+            go.same.number ∙ ap (λ (y : Call). y.number) (sym own) ∙ at.own.1,
+            go.same.moment ∙ ap (λ (y : Call). y.moment) (sym own) ∙ at.own.2,
+            go.same.request ∙ ap (λ (y : Call). y.request) (sym own) ∙ at.own.3,
+          );
+          few = few;
+          waiting = at.waiting;
+          ended = at.ended;
+        };
+      };
+    }
+step_turned w v v' seats s stream unread bodies answers closed c x p q id n m request moves (happened.Blocked holder) h added agrees hist old at lane' g =
+    let b = g.0.1 in
+    let t = tells stream unread bodies answers closed (UnderWay id n m request moves) in
+    let call = others_call w v seats s b.other b.call agrees b.slot (λ e. b.apart (e ∙ sym at.session)) in
+    let same : slot_of v' s ≡ slot_of v s = b.looks.slots s in
+    record {
+      told = t;
+      lead = ((b.other, b.call.moment, b.call.request, subst (λ (k : ℕ). IsOthersCall w s k b.other b.call.moment b.call.request) b.number call), g.1.none, refl);
+      moves = record { joins = b.looks.joins; drawn = b.looks.drawn ∙ omega arith; joined = ap (λ (k : ℕ). k + 1) b.looks.joined; others = λ i ne. inl (b.looks.slots i) };
+      agrees = record {
+        unread = old.unread;
+        output = old.output;
+        begun = old.begun;
+        closed = old.closed;
+        at = record {
+          lane = at.lane;
+          call = at.call;
+          session = at.session;
+          number_is = at.number_is;
+          place_is = g.2 ∙ ap (λ (l : LaneView). place.UnderWay l) g.1.lane;
+          slot = same ∙ at.slot;
+          own = at.own;
+          few = at.few;
+          waiting = at.waiting;
+          ended = at.ended;
+        };
+      };
+    }
+step_turned w v v' seats s stream unread bodies answers closed c x p q id n m request moves happened.Decided h added agrees hist old at lane' g =
+    let a = g.0 in
+    let d = g.1.0 in
+    let placed : q ≡ place.Answered (at_rest at.lane) a = g.3 ∙ ap (λ (l : LaneView). place.Answered l a) g.2.lane in
+    elim g.1.1 [
+      | inl f ↦
+          let here : slot_of v s ≡ Busy d = ap (λ (k : ℕ). slot_of v k) (sym at.session) ∙ f.own.slot in
+          let is = own_record v s x id n m request moves p d a.reply at here in
+          decided_now w v v' s stream unread bodies answers closed c x p q id n m request moves a added old at
+          (record {
+            joins = f.slot.joins;
+            drawn = f.slot.drawn ∙ omega arith;
+            joined = ap (λ (k : ℕ). k + 1) f.slot.joined;
+            others = λ i ne. inl (f.slot.others i (λ e. ne (e ∙ at.session)));
+          })
+          (ap (λ (k : ℕ). slot_of v' k) (sym at.session) ∙ f.slot.own) placed
+          (inl (f.none, subst (λ (y : Record). IsAmong y w.records) is (subst (λ (y : List Record). IsAmong (did d a.reply) y) hist f.recorded)))
+      | inr f ↦
+          let here : slot_of v s ≡ Busy d = ap (λ (k : ℕ). slot_of v k) (sym at.session) ∙ f.own.slot in
+          let is = own_record v s x id n m request moves p d a.reply at here in
+          decided_now w v v' s stream unread bodies answers closed c x p q id n m request moves a added old at
+          (record {
+            joins = f.joins;
+            drawn = f.drawn ∙ omega arith;
+            joined = ap (λ (k : ℕ). k + 1) f.joined;
+            others = λ i ne. helped_stays v v' i f.helped (f.others i (λ e. ne (e ∙ at.session)));
+          })
+          (ap (λ (k : ℕ). slot_of v' k) (sym at.session) ∙ f.slot) placed
+          (inr (
+            f.helped,
+            are_helped w v seats s f.helped agrees (subst (λ (k : ℕ). AllByRecursion (IsOfOther v k) f.helped) at.session f.of_others),
+            f.records ∙ ap (λ (y : Record). f.helped ++ y ∷ []) is,
+          ))
+    ]
+step_turned w v v' seats s stream unread bodies answers closed c x p q id n m request moves (happened.Opened k) h added agrees hist old at lane' g = absurd g
+step_turned w v v' seats s stream unread bodies answers closed c x p q id n m request moves happened.Fed h added agrees hist old at lane' g = absurd g
+step_turned w v v' seats s stream unread bodies answers closed c x p q id n m request moves happened.Wrote h added agrees hist old at lane' g = absurd g
+step_turned w v v' seats s stream unread bodies answers closed c x p q id n m request moves happened.Begun h added agrees hist old at lane' g = absurd g
+step_turned w v v' seats s stream unread bodies answers closed c x p q id n m request moves happened.Idle h added agrees hist old at lane' g = absurd g
+step_turned w v v' seats s stream unread bodies answers closed c x p q id n m request moves (happened.Ended k) h added agrees hist old at lane' g = absurd g
+step_turned w v v' seats s stream unread bodies answers closed c x p q id n m request moves happened.Closed h added agrees hist old at lane' g = absurd g

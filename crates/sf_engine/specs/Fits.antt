@@ -1,0 +1,114 @@
+-- When an engine fits a trace.
+use Rattle.std.specs.Prelude.{◌≡◌, ◌≢◌, ◌<◌, ◌+◌, ◌≤◌, ◌⊎◌, ℕ, List, [], ◌∷◌, ◌++◌, length, Some, None, Result, slice_get}
+use Rattle.sf_reply.specs.declared.reply.Reply.{Reply}
+use Rattle.sf_call.specs.declared.call.Call.{Call}
+use Rattle.sf_call.specs.declared.record.Record.{Record}
+use Rattle.sf_call.specs.declared.request.Request.{Request}
+use Rattle.sf_call.specs.Answers.{Answered as Answer}
+use Rattle.sf_call.specs.Histories.{IsLegal}
+use Rattle.sf_session.specs.Sessions.{SessionView}
+use Rattle.sf_core.specs.Lanes.{LaneView}
+use Rattle.sf_core.specs.Cores.Slot.{Gone, Idle, Busy}
+use Rattle.sf_core.specs.Cores.{CoreView, slot_of, joined}
+use Rattle.sf_core.specs.Progress.{left_of, bound_of}
+use Rattle.sf_core.specs.Histories.{IsHistory}
+use Rattle.sf_engine.specs.declared.seat.Seat.{Seat}
+use Rattle.sf_engine.specs.declared.seat.Place.{Place}
+use Rattle.sf_engine.specs.declared.seat.Place.TheVariants as place
+use Rattle.sf_engine.specs.declared.event.Event.{Event}
+use Rattle.sf_engine.specs.declared.event.Happened.{Happened}
+use Rattle.sf_engine.specs.declared.event.EngineFault.{EngineFault}
+use Rattle.sf_engine.specs.Worlds.{Entry, Phase, Resting, UnderWay, Decided, Gone as left, Told, World, transcript, here}
+use Rattle.sf_engine.specs.Traces.{has_begun, Tells, order, AreEntries, IsSession, IsNoSession, Leads}
+use Rattle.sf_engine.specs.Views.{EngineView}
+
+-- a resting session
+pub record IsResting (v : CoreView) (s : ℕ) (x : SessionView) (p : Place) : Type 0 where
+  pub lane : LaneView
+  pub session : lane.session ≡ s
+  pub idle : lane.call ≡ None
+  pub place_is : p ≡ place.Resting lane
+  pub slot : slot_of v s ≡ Idle
+  pub waiting : x.waiting ≡ None
+  pub ended : x.ended ≡ None
+
+-- A session whose call is under way: the core has the call, and so many steps are left to it at most.
+pub record IsGoing (v : CoreView) (s : ℕ) (x : SessionView) (id number moment : ℕ) (request : Request) (moves : ℕ) (p : Place) : Type 0 where
+  pub lane : LaneView
+  pub call : Call
+  pub session : lane.session ≡ s
+  pub number_is : lane.call ≡ Some number
+  pub place_is : p ≡ place.UnderWay lane
+  pub slot : slot_of v s ≡ Busy call
+  pub own : (call.session ≡ s) × (call.number ≡ number) × (call.moment ≡ moment) × (call.request ≡ request)
+  pub few : moves + left_of call ≤ bound_of request
+  pub waiting : x.waiting ≡ Some id
+  pub ended : x.ended ≡ None
+
+-- a session whose answer waits
+pub record IsAnswered (v : CoreView) (s : ℕ) (x : SessionView) (id : ℕ) (given : Reply) (p : Place) : Type 0 where
+  pub lane : LaneView
+  pub answer : Answer
+  pub session : lane.session ≡ s
+  pub idle : lane.call ≡ None
+  pub place_is : p ≡ place.Answered lane answer
+  pub reply : answer.reply ≡ given
+  pub slot : slot_of v s ≡ Idle
+  pub waiting : x.waiting ≡ Some id
+  pub ended : x.ended ≡ None
+
+-- what an engine has for a session is as far as a trace tells
+abbrev pub PlaceAgrees : CoreView → ℕ → SessionView → Phase → Place → Type 0
+PlaceAgrees v s x Resting p = IsResting v s x p
+PlaceAgrees v s x (UnderWay id number moment request moves) p = IsGoing v s x id number moment request moves p
+PlaceAgrees v s x (Decided id number request reply) p = IsAnswered v s x id reply p
+PlaceAgrees v s x (left cause) p = (p ≡ place.Left cause) × (slot_of v s ≡ Gone) × (x.ended ≢ None)
+
+pub record SeatAgrees (v : CoreView) (s : ℕ) (t : Told) (p : Seat) : Type 0 where
+  pub unread : p.session.unread ≡ t.unread
+  pub output : p.session.output ≡ transcript t.answers
+  pub begun : p.session.begun ≡ has_begun t.bodies
+  pub closed : p.closed ≡ t.closed
+  pub at : PlaceAgrees v s p.session t.phase p.place
+
+-- What an engine keeps is what a trace leaves that tells this.
+pub record Agrees (w : World) (e : EngineView) : Type 0 where
+  pub history : IsHistory e.core w.records
+  pub begun : e.core.drawn ≡ w.begun
+  pub opened : e.core.joins ≡ length w.sessions
+  pub here : joined e.core ≡ here w
+  pub count : length e.seats ≡ length w.sessions
+  pub each : (i : ℕ) (t : Told) (p : Seat) → slice_get w.sessions i ≡ Some t → slice_get e.seats i ≡ Some p → SeatAgrees e.core (i + 1) t p
+  pub nobody : (s : ℕ) → (s ≡ 0) ⊎ (length w.sessions < s) → slot_of e.core s ≡ Gone
+
+-- The trace is lawful. Its order is a legal history, and the core's. What the engine keeps is what the trace leaves.
+pub record Fits (e : EngineView) (trace : List Entry) : Type 0 where
+  pub world : World
+  pub tells : Tells trace world
+  pub ordered : world.records ≡ order trace
+  pub legal : IsLegal (order trace)
+  pub agrees : Agrees world e
+
+abbrev pub entry_of : Event → Result Happened EngineFault → List Record → Entry
+entry_of event result added = record { event = event; result = result; added = added }
+
+-- what is true of every engine: there is a world that it agrees with
+abbrev pub IsEngine : CoreView → List Seat → Type 0
+IsEngine core seats = (w : World) × Agrees w (record { core = core; seats = seats })
+
+-- The engine fits each trace that it fitted, followed by the event's entry, which leads on from where the trace led.
+abbrev pub GoesOnTrace : EngineView → Event → Result Happened EngineFault → EngineView → Type 0
+GoesOnTrace old event result new = (trace : List Entry) → (fits : Fits old trace)
+    → (added : List Record) × (now : Fits new (trace ++ entry_of event result added ∷ [])) × Leads fits.world (entry_of event result added) now.world
+
+-- The engine fits each trace that it fitted, followed by one entry for each event, so many of them refused.
+abbrev pub RunsTrace : EngineView → List Event → ℕ → EngineView → Type 0
+RunsTrace old events refused new = (trace : List Entry) → Fits old trace → (entries : List Entry) × AreEntries events entries refused × Fits new (trace ++ entries)
+
+-- what a session's output is, by each trace that the engine fits: the transcript of what the session was answered
+abbrev pub IsSentBy : EngineView → ℕ → List ℕ → Type 0
+IsSentBy e session output = (trace : List Entry) → (fits : Fits e trace) → (t : Told) × IsSession fits.world session t × (output ≡ transcript t.answers)
+
+-- by each trace that the engine fits there is no such session
+abbrev pub IsUnknown : EngineView → ℕ → Type 0
+IsUnknown e session = (trace : List Entry) → (fits : Fits e trace) → IsNoSession fits.world session

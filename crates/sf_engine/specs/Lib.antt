@@ -1,0 +1,6 @@
+pub mod Worlds
+pub mod Traces
+pub mod Views
+pub mod Fits
+pub mod Turns
+pub mod Laws

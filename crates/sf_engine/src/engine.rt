@@ -1,0 +1,172 @@
+//! Many sessions on one core.
+
+ghost use Rattle.std.specs.Prelude.{◌≡◌, ◌<◌, ◌≤◌, ◌+◌, ◌⊎◌, ℕ, List, [], Some, None, OnErr, IfOk, IfSome, IfNone};
+ghost use Rattle.sf_core.specs.Cores.{new_core};
+ghost use Rattle.sf_core.specs.Histories.{IsHistory};
+ghost use Rattle.sf_engine.specs.Traces.{refusals};
+ghost use Rattle.sf_engine.specs.Fits.{Fits, GoesOnTrace, RunsTrace, IsSentBy, IsUnknown};
+
+use crate::event::{EngineFault, Event, Happened};
+use crate::seat::{Seat, close_seat, feed_seat, open_seat, turn_seat};
+use sf_core::Core;
+use std::alloc::{AllocError, Global};
+use std::marker::Model;
+
+/// Many sessions on one core, by events, without threads. No trace of them is kept.
+#[derive(Drop)]
+pub struct Engine {
+    alloc: Global,
+    core: Core,
+    seats: Vec<Seat>,
+}
+
+impl Model for Engine {
+    ghost use Rattle.sf_engine.specs.Views.{EngineView};
+
+    ghost Value = { EngineView };
+
+    ghost view = { λ e. record { core = e.core; seats = e.seats.items } };
+
+    ghost use Rattle.sf_engine.specs.Fits.{IsEngine};
+
+    ghost invariant = { λ e. IsEngine e.core e.seats.items };
+}
+
+/// Where a session's seat is.
+fn index_of(session: u64, count: usize) -> Option<usize>
+    ensures some { IfSome result (λ at. (at + 1 ≡ session) × (at < count)) }
+    ensures none { IfNone result ((session ≡ 0) ⊎ (count < session)) }
+{
+    if session == 0 || session > count as u64 {
+        return None;
+    }
+    Some((session - 1) as usize)
+}
+
+/// How many were refused, none or one.
+fn refusal(outcome: &Result<Happened, EngineFault>) -> usize
+    ensures is { result ≡ refusals outcome.now }
+    ensures few { result ≤ 1 }
+{
+    match outcome {
+        Ok(_) => 0,
+        Err(_) => 1,
+    }
+}
+
+impl Engine {
+    /// No session, and the root alone. The core keeps the records of all calls.
+    pub fn new(alloc: Global) -> Result<Engine, AllocError>
+        ensures fits { IfOk result (λ engine. Fits engine []) }
+        ensures keep { IfOk result (λ engine. engine.core.keep ≡ None) }
+    {
+        let core = Core::new(alloc)?;
+        Ok(Engine::over(alloc, core))
+    }
+
+    /// As `new`, but the core keeps the last `n` records. What the engine answers is the same.
+    pub fn with_keep(alloc: Global, n: usize) -> Result<Engine, AllocError>
+        requires { 0 < n }
+        ensures fits { IfOk result (λ engine. Fits engine []) }
+        ensures keep { IfOk result (λ engine. engine.core.keep ≡ Some n) }
+    {
+        let core = Core::with_keep(alloc, n)?;
+        Ok(Engine::over(alloc, core))
+    }
+
+    /// No session, on a new core.
+    fn over(alloc: Global, core: Core) -> Engine
+        requires core { core ≡ new_core core.keep core.store }
+        requires history { IsHistory core [] }
+        ensures fits { Fits result [] }
+        ensures keep { result.core.keep ≡ core.keep }
+    {
+        Engine {
+            alloc,
+            core,
+            seats: Vec::new(alloc),
+        }
+    }
+
+    fn open(&mut self) -> Result<Happened, EngineFault>
+        ensures fits { GoesOnTrace self.old Event.Open result self.new }
+        ensures err { OnErr result (self.new ≡ self.old) }
+    {
+        open_seat(self.alloc, &mut self.core, &mut self.seats)
+    }
+
+    fn feed(&mut self, session: u64, bytes: &Vec<u8>) -> Result<Happened, EngineFault>
+        ensures fits { GoesOnTrace self.old (Event.Feed session bytes.now) result self.new }
+        ensures err { OnErr result (self.new ≡ self.old) }
+    {
+        let Some(at) = index_of(session, self.seats.len()) else {
+            return Err(EngineFault::NoSuchSession);
+        };
+        feed_seat(&mut self.seats[at], bytes)
+    }
+
+    fn turn(&mut self, session: u64, moment: u32) -> Result<Happened, EngineFault>
+        ensures fits { GoesOnTrace self.old (Event.Turn session moment) result self.new }
+        ensures err { OnErr result (self.new ≡ self.old) }
+    {
+        let Some(at) = index_of(session, self.seats.len()) else {
+            return Err(EngineFault::NoSuchSession);
+        };
+        turn_seat(&mut self.core, &mut self.seats[at], moment)
+    }
+
+    fn close(&mut self, session: u64) -> Result<Happened, EngineFault>
+        ensures fits { GoesOnTrace self.old (Event.Close session) result self.new }
+        ensures err { OnErr result (self.new ≡ self.old) }
+    {
+        let Some(at) = index_of(session, self.seats.len()) else {
+            return Err(EngineFault::NoSuchSession);
+        };
+        close_seat(&mut self.core, &mut self.seats[at]);
+        Ok(Happened::Closed)
+    }
+
+    /// One event. Refused, it changes nothing.
+    pub fn apply(&mut self, event: &Event) -> Result<Happened, EngineFault>
+        ensures fits { GoesOnTrace self.old event.now result self.new }
+        ensures err { OnErr result (self.new ≡ self.old) }
+    {
+        match event {
+            Event::Open => self.open(),
+            Event::Feed(session, bytes) => self.feed(*session, bytes),
+            Event::Turn(session, moment) => self.turn(*session, *moment),
+            Event::Close(session) => self.close(*session),
+        }
+    }
+
+    /// Applies the events in order, and answers how many were refused.
+    pub fn run(&mut self, events: &[Event]) -> usize
+        ensures { RunsTrace self.old events.now result self.new }
+    {
+        let mut refused = 0;
+        for event in events {
+            let outcome = self.apply(event);
+            refused += refusal(&outcome);
+        }
+        refused
+    }
+
+    /// What a session was sent. It stays readable after the session left.
+    pub fn output(&self, session: u64) -> Option<&[u8]>
+        ensures sent { IfSome result (λ output. IsSentBy self.now session output.now) }
+        ensures unknown { IfNone result (IsUnknown self.now session) }
+    {
+        let Some(at) = index_of(session, self.seats.len()) else {
+            return None;
+        };
+        let seat = &self.seats[at];
+        Some(seat.session.output())
+    }
+
+    /// The core, to be looked at.
+    pub fn core(&self) -> &Core
+        ensures { result.now ≡ self.now.core }
+    {
+        &self.core
+    }
+}

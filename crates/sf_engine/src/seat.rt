@@ -1,0 +1,255 @@
+//! One session of an engine: how far it is, and its turns.
+
+ghost use Rattle.std.specs.Prelude.{◌≡◌, ◌≢◌, ◌++◌, ◌∷◌, ◌||◌, ℕ, Bool, List, [], true, false, Some, None, IfOk, IfErr, OnErr, OnOk, Ok};
+ghost use Rattle.sf_call.specs.declared.record.Record.{Record};
+ghost use Rattle.sf_call.specs.declared.record.Record.TheVariants.{Left};
+ghost use Rattle.sf_call.specs.declared.call.Call.{Call};
+ghost use Rattle.sf_core.specs.Cores.Slot.{Idle};
+ghost use Rattle.sf_core.specs.Cores.{slot_of};
+ghost use Rattle.sf_core.specs.Lanes.{LaneView};
+ghost use Rattle.sf_core.specs.Events.{OwnCall, Leaves};
+ghost use Rattle.sf_core.specs.Histories.{IsHistory};
+ghost use Rattle.sf_engine.specs.Turns.{Gives, GoesOn, before, after, Reads, Settles, PlaceGives, TurnGives, CloseGives, FeedGives, FeedFault, IsPlaced, OpenGives, OpenFault, MayRefuseTurn};
+
+use crate::event::{EngineFault, Happened};
+use sf_call::{Answer, CoreFault};
+use sf_core::{Core, Lane, Step};
+use sf_session::{Cause, Next, Session, SessionFault};
+use std::alloc::Global;
+use std::mem;
+
+/// How far a session is.
+#[derive(Debug)]
+pub(crate) enum Place {
+    Resting(Lane),
+    /// Its call is in the core.
+    UnderWay(Lane),
+    /// Its call's answer waits to be written.
+    Answered(Lane, Answer),
+    Left(Cause),
+}
+
+impl Drop for Place {
+    fn drop(self) {
+        match self {
+            Place::Resting(lane) => lane.abandon(),
+            Place::UnderWay(lane) => lane.abandon(),
+            Place::Answered(lane, _answer) => lane.abandon(),
+            Place::Left(_cause) => {}
+        }
+    }
+}
+
+/// What an engine has for a session.
+#[derive(Debug, Drop)]
+pub(crate) struct Seat {
+    pub session: Session,
+    pub place: Place,
+    /// It was closed while its call went on.
+    pub closed: bool,
+}
+
+/// One step of the lane's call.
+fn go_on(core: &mut Core, lane: Lane) -> (Place, Happened)
+    requires { (h : List Record) × (c : Call) × IsHistory core.old h × OwnCall core.old lane c }
+    ensures { Gives core.old core.new (λ h added. (lane' : LaneView) × GoesOn (before core.old h lane) result.1 (after core.new added lane') result.0) }
+{
+    let mut lane = lane;
+    match core.step(&mut lane) {
+        Step::Moved => (Place::UnderWay(lane), Happened::Moved),
+        Step::Blocked(holder) => (Place::UnderWay(lane), Happened::Blocked(holder)),
+        Step::Answered(answer) => (Place::Answered(lane, answer), Happened::Decided),
+        Step::Stranger => unreachable!(),
+    }
+}
+
+/// The lane's session leaves.
+fn leave(core: &mut Core, lane: Lane)
+    requires idle { lane.call ≡ None }
+    requires slot { slot_of core.old lane.session ≡ Idle }
+    ensures left { Leaves core.old core.new lane.session }
+    ensures history { (h : List Record) → IsHistory core.old h → IsHistory core.new (h ++ Left lane.session ∷ []) }
+{
+    match core.leave(lane) {
+        Ok(_share) => {}
+        Err(lane) => {
+            lane.abandon();
+            unreachable!();
+        }
+    }
+}
+
+/// Takes the next packet of a resting session.
+fn read(
+    core: &mut Core,
+    session: &mut Session,
+    lane: Lane,
+    moment: u32,
+) -> Result<(Place, Happened), Lane>
+    requires idle { lane.call ≡ None }
+    requires slot { slot_of core.old lane.session ≡ Idle }
+    requires waiting { session.old.waiting ≡ None }
+    ensures ok { IfOk result (λ r. Gives core.old core.new (λ h added. Reads core.old session.old lane moment r.1 added core.new session.new r.0)) }
+    ensures err { IfErr result (λ back. (back ≡ lane) × (core.new ≡ core.old) × (session.new ≡ session.old)) }
+{
+    let mut lane = lane;
+    match session.next() {
+        Err(_) => Err(lane),
+        Ok(Next::More) => Ok((Place::Resting(lane), Happened::Idle)),
+        Ok(Next::Local) => Ok((Place::Resting(lane), Happened::Wrote)),
+        Ok(Next::Call(request)) => match core.begin(&mut lane, request, moment) {
+            Ok(()) => Ok((Place::UnderWay(lane), Happened::Begun)),
+            Err(fault) => {
+                session.refuse(fault);
+                Ok((Place::Resting(lane), Happened::Wrote))
+            }
+        },
+        Ok(Next::Ended(cause)) => {
+            leave(core, lane);
+            Ok((Place::Left(cause), Happened::Ended(cause)))
+        }
+    }
+}
+
+/// After a reply the session rests, or leaves if it was closed.
+fn settle(core: &mut Core, session: &mut Session, lane: Lane, closed: bool) -> Place
+    requires idle { lane.call ≡ None }
+    requires slot { slot_of core.old lane.session ≡ Idle }
+    requires waiting { session.old.waiting ≡ None }
+    ensures { Gives core.old core.new (λ h added. Settles core.old session.old lane closed added core.new session.new result) }
+{
+    if !closed {
+        return Place::Resting(lane);
+    }
+    leave(core, lane);
+    session.close();
+    Place::Left(Cause::Closed)
+}
+
+impl Place {
+    /// One turn. Where memory is wanting the place comes back.
+    fn turn(
+        self,
+        core: &mut Core,
+        session: &mut Session,
+        closed: bool,
+        moment: u32,
+    ) -> Result<(Place, Happened), Place>
+        requires { IsPlaced core.old session.old self }
+        ensures ok { IfOk result (λ r. Gives core.old core.new (λ h added. PlaceGives core.old h session.old self closed moment r.1 added core.new session.new r.0)) }
+        ensures err { IfErr result (λ back. (back ≡ self) × (core.new ≡ core.old) × (session.new ≡ session.old) × MayRefuseTurn self) }
+    {
+        match self {
+            Place::Resting(lane) => match read(core, session, lane, moment) {
+                Ok(turned) => Ok(turned),
+                Err(lane) => Err(Place::Resting(lane)),
+            },
+            Place::UnderWay(lane) => Ok(go_on(core, lane)),
+            Place::Answered(lane, answer) => {
+                if session.answer(&answer).is_err() {
+                    return Err(Place::Answered(lane, answer));
+                }
+                Ok((settle(core, session, lane, closed), Happened::Wrote))
+            }
+            Place::Left(cause) => Ok((Place::Left(cause), Happened::Ended(cause))),
+        }
+    }
+
+    /// Closing: a session that rests leaves at once. Whether it goes on to its answer first is told with the place.
+    fn close(self, core: &mut Core, session: &mut Session) -> (Place, bool)
+        requires { IsPlaced core.old session.old self }
+        ensures { Gives core.old core.new (λ h added. CloseGives core.old session.old self added core.new session.new result.0 result.1) }
+    {
+        match self {
+            Place::Resting(lane) => (settle(core, session, lane, true), false),
+            Place::UnderWay(lane) => (Place::UnderWay(lane), true),
+            Place::Answered(lane, answer) => (Place::Answered(lane, answer), true),
+            Place::Left(cause) => (Place::Left(cause), false),
+        }
+    }
+}
+
+/// One turn of a session, whatever its place.
+pub(crate) fn turn_seat(
+    core: &mut Core,
+    seat: &mut Seat,
+    moment: u32,
+) -> Result<Happened, EngineFault>
+    requires { IsPlaced core.old seat.old.session seat.old.place }
+    ensures ok { IfOk result (λ r. Gives core.old core.new (λ h added. TurnGives core.old h seat.old moment r added core.new seat.new)) }
+    ensures err { OnErr result ((core.new ≡ core.old) × (seat.new ≡ seat.old)) }
+    ensures fault { IfErr result (λ fault. (fault ≡ EngineFault.OutOfMemory) × MayRefuseTurn seat.old.place) }
+{
+    let place = mem::replace(&mut seat.place, Place::Left(Cause::Closed));
+    match place.turn(core, &mut seat.session, seat.closed, moment) {
+        Ok((place, happened)) => {
+            seat.place = place;
+            Ok(happened)
+        }
+        Err(place) => {
+            seat.place = place;
+            Err(EngineFault::OutOfMemory)
+        }
+    }
+}
+
+/// Closes a session. It leaves at once if it rests, and else once its call's reply is written.
+pub(crate) fn close_seat(core: &mut Core, seat: &mut Seat)
+    requires { IsPlaced core.old seat.old.session seat.old.place }
+    ensures { Gives core.old core.new (λ h added. (goes_on : Bool) × CloseGives core.old seat.old.session seat.old.place added core.new seat.new.session seat.new.place goes_on × (seat.new.closed ≡ (seat.old.closed || goes_on))) }
+{
+    let place = mem::replace(&mut seat.place, Place::Left(Cause::Closed));
+    let (place, goes_on) = place.close(core, &mut seat.session);
+    seat.place = place;
+    seat.closed |= goes_on;
+}
+
+/// Appends to the bytes that a session has not read.
+pub(crate) fn feed_seat(seat: &mut Seat, bytes: &[u8]) -> Result<Happened, EngineFault>
+    ensures ok { IfOk result (λ r. FeedGives seat.old bytes.now r seat.new) }
+    ensures err { OnErr result (seat.new ≡ seat.old) }
+    ensures fault { IfErr result (λ fault. FeedFault seat.old fault) }
+{
+    if seat.closed {
+        return Err(EngineFault::Ended);
+    }
+    match seat.session.feed(bytes) {
+        Ok(()) => Ok(Happened::Fed),
+        Err(SessionFault::Ended) => Err(EngineFault::Ended),
+        Err(SessionFault::OutOfMemory) => Err(EngineFault::OutOfMemory),
+    }
+}
+
+/// A session joins, and has the next seat.
+pub(crate) fn open_seat(
+    alloc: Global,
+    core: &mut Core,
+    seats: &mut Vec<Seat>,
+) -> Result<Happened, EngineFault>
+    ensures ok { IfOk result (λ r. OpenGives core.old seats.old.items r core.new seats.new.items) }
+    ensures history { OnOk result ((h : List Record) → IsHistory core.old h → IsHistory core.new h) }
+    ensures err { OnErr result ((core.new ≡ core.old) × (seats.new.items ≡ seats.old.items)) }
+    ensures fault { IfErr result (λ fault. OpenFault core.old fault) }
+{
+    match core.join_fault() {
+        Some(CoreFault::Sessions) => return Err(EngineFault::Sessions),
+        Some(_) => return Err(EngineFault::NumbersSpent),
+        None => {}
+    }
+    if seats.reserve(1).is_err() {
+        return Err(EngineFault::OutOfMemory);
+    }
+    let Ok(lane) = core.join() else {
+        return Err(EngineFault::OutOfMemory);
+    };
+    let session = lane.session();
+    let seat = Seat {
+        session: Session::new(alloc),
+        place: Place::Resting(lane),
+        closed: false,
+    };
+    if seats.push(seat).is_err() {
+        unreachable!();
+    }
+    Ok(Happened::Opened(session))
+}
