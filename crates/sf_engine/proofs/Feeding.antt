@@ -66,6 +66,7 @@ feed_fault w v at s bytes p t fault.Ended session h why = (t, session, elim why 
 feed_fault w v at s bytes p t fault.NoSuchSession session h why = absurd why
 feed_fault w v at s bytes p t fault.Sessions session h why = absurd why
 feed_fault w v at s bytes p t fault.NumbersSpent session h why = absurd why
+feed_fault w v at s bytes p t fault.NotSent session h why = absurd why
 
 pub any_feed_steps : (v : CoreView) (seats : List Seat) (at s : ℕ) (bytes : Vec ℕ Global) (p q : Seat) (r : Result Happened EngineFault) → at + 1 ≡ s → slice_get seats at ≡ Some p
     → IfOk r (λ k. FeedGives p bytes.items k q) → OnErr r (q ≡ p) → IfErr r (λ f. FeedFault p f)

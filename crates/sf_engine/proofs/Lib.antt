@@ -8,3 +8,4 @@ pub mod Feeding
 pub mod Opening
 pub mod Running
 pub mod Reading
+pub mod Sending

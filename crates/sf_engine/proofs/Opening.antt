@@ -83,6 +83,7 @@ open_fault w v seats fault.Sessions agrees h = omega (arith, h, agrees.here)
 open_fault w v seats fault.NumbersSpent agrees h = (omega (arith, h.0, agrees.here), sym agrees.opened ∙ h.1)
 open_fault w v seats fault.NoSuchSession agrees h = absurd h
 open_fault w v seats fault.Ended agrees h = absurd h
+open_fault w v seats fault.NotSent agrees h = absurd h
 
 pub any_open_steps : (v v' : CoreView) (seats seats' : List Seat) (r : Result Happened EngineFault)
     → IfOk r (λ k. OpenGives v seats k v' seats') → OnOk r ((h : List Record) → IsHistory v h → IsHistory v' h) → OnErr r ((v' ≡ v) × (seats' ≡ seats)) → IfErr r (λ f. OpenFault v f)

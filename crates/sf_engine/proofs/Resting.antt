@@ -1,5 +1,5 @@
 -- A turn of a resting session.
-use Rattle.std.proofs.Common.{◌≡◌, ℕ, ◌+◌, ◌<◌, List, [], ◌∷◌, ◌++◌, Some, None, Option, Bool, true, IfSome, refl, ap, sym, ◌∙◌, subst, arith, inl, inr}
+use Rattle.std.proofs.Common.{◌≡◌, ℕ, ◌+◌, ◌<◌, List, [], ◌∷◌, ◌++◌, Some, None, Option, Bool, true, IfSome, append_assoc, refl, ap, sym, ◌∙◌, subst, arith, inl, inr}
 use Rattle.std.proofs.lemmas.List.{flat_map_more}
 use Rattle.sf_field.specs.Fields.{packet}
 use Rattle.sf_wire.specs.declared.cutting.Cut.TheVariants as cut
@@ -24,7 +24,7 @@ use Rattle.sf_engine.specs.declared.seat.Seat.{Seat}
 use Rattle.sf_engine.specs.declared.seat.Place.{Place}
 use Rattle.sf_engine.specs.declared.event.Happened.{Happened}
 use Rattle.sf_engine.specs.declared.event.Happened.TheVariants as happened
-use Rattle.sf_engine.specs.Worlds.{Answered, Version, Locally, Refused, asked_by, packet_for, transcript, Phase, Resting, UnderWay, Told, World}
+use Rattle.sf_engine.specs.Worlds.{Answered, Version, Locally, Refused, asked_by, packet_for, transcript, Phase, Resting, UnderWay, Told, World, with_phase}
 use Rattle.sf_engine.specs.Traces.{has_begun, IsAtOnce, RestLeads, left_for, calls_begun}
 use Rattle.sf_engine.specs.Turns.{Reads}
 use Rattle.sf_engine.specs.Fits.{IsResting, SeatAgrees}
@@ -37,10 +37,7 @@ pub record Turned (v v' : CoreView) (s : ℕ) (t : Told) (more : ℕ) (q : Seat)
   pub moves : Moves v v' s t told more
   pub agrees : SeatAgrees v' s told q
 
--- what is told of a session, and what an engine has for it, by their parts
-abbrev pub tells : (stream unread : List ℕ) → List (List ℕ) → List Answered → Bool → Phase → Told
-tells stream unread bodies answers closed phase = record { stream = stream; unread = unread; bodies = bodies; answers = answers; closed = closed; phase = phase }
-
+-- what an engine has for a session, by its parts
 abbrev pub seat : SessionView → Place → Bool → Seat
 seat x p closed = record { session = x; place = p; closed = closed }
 
@@ -48,9 +45,13 @@ pub begun_push : (bodies : List (List ℕ)) (body : List ℕ) → has_begun (bod
 begun_push [] body = refl
 begun_push (b ∷ bodies) body = refl
 
-pub transcript_push : (answers : List Answered) (a : Answered) → transcript answers ++ packet_for a ≡ transcript (answers ++ a ∷ [])
+transcript_push : (answers : List Answered) (a : Answered) → transcript answers ++ packet_for a ≡ transcript (answers ++ a ∷ [])
 unfolding transcript
 transcript_push answers a = flat_map_more packet_for [] answers a
+
+-- a packet more, behind what was sent and what waits
+pub output_push : (answers : List Answered) (sent output : List ℕ) (a : Answered) → transcript answers ≡ sent ++ output → transcript (answers ++ a ∷ []) ≡ sent ++ (output ++ packet_for a)
+output_push answers sent output a is = sym (transcript_push answers a) ∙ ap (λ (b : List ℕ). b ++ packet_for a) is ∙ append_assoc sent output (packet_for a)
 
 -- the session leaves the core
 pub moves_leaves : (v v' : CoreView) (s : ℕ) (t t' : Told) → Leaves v v' s → here_in t ≡ 1 → here_in t' ≡ 0 → Moves v v' s t t' 0
@@ -74,14 +75,14 @@ stays w v v' s m t x y p q closed added h g vis none qis = record {
 }
 
 -- a packet was answered at once, and the session rests again
-answered_at_once : (w : World) (v : CoreView) (s m : ℕ) (stream unread : List ℕ) (bodies : List (List ℕ)) (answers : List Answered) (closed c : Bool) (x y : SessionView) (p q : Place) (added : List Record)
-    → SeatAgrees v s (tells stream unread bodies answers closed Resting) (seat x p c) → (at : IsResting v s x p)
+answered_at_once : (w : World) (v : CoreView) (s m : ℕ) (t : Told) (c : Bool) (x y : SessionView) (p q : Place) (added : List Record)
+    → SeatAgrees v s (with_phase t Resting) (seat x p c) → (at : IsResting v s x p)
     → (body rest : List ℕ) (a : Answered) → Begins x.unread body rest → AsksFor x.begun body (asked_by a) → IsAtOnce w a
     → y ≡ record { unread = rest; output = x.output ++ packet_for a; begun = true; waiting = None; ended = None }
     → added ≡ [] → q ≡ p
-    → Turned v v s (tells stream unread bodies answers closed Resting) 0 (seat y q c) (λ t'. RestLeads w s m (tells stream unread bodies answers closed Resting) happened.Wrote added t')
-answered_at_once w v s m stream unread bodies answers closed c x y p q added h at body rest a begins asks once now none qis =
-    let told = tells stream rest (bodies ++ body ∷ []) (answers ++ a ∷ []) closed Resting in
+    → Turned v v s (with_phase t Resting) 0 (seat y q c) (λ t'. RestLeads w s m (with_phase t Resting) happened.Wrote added t')
+answered_at_once w v s m t c x y p q added h at body rest a begins asks once now none qis =
+    let told : Told = record t { unread = rest; bodies = t.bodies ++ body ∷ []; answers = t.answers ++ a ∷ []; phase = Resting } in
     let lane = at.lane in record {
       told = told;
       lead = (
@@ -96,11 +97,11 @@ answered_at_once w v s m stream unread bodies answers closed c x y p q added h a
         },
         none,
       );
-      moves = moves_none v s (tells stream unread bodies answers closed Resting) told refl;
+      moves = moves_none v s (with_phase t Resting) told refl;
       agrees = subst (λ (z : SessionView). SeatAgrees v s told (seat z q c)) (sym now) (record {
         unread = refl;
-        output = ap (λ (b : List ℕ). b ++ packet_for a) h.output ∙ transcript_push answers a;
-        begun = sym (begun_push bodies body);
+        output = output_push t.answers t.sent x.output a h.output;
+        begun = sym (begun_push t.bodies body);
         closed = h.closed;
         at = record { lane = lane; session = at.session; idle = at.idle; place_is = qis ∙ at.place_is; slot = at.slot; waiting = refl; ended = refl };
       });
@@ -120,20 +121,20 @@ once_refused w v lane id request core.NumbersSpent drawn idle h = sym drawn ∙ 
 once_refused w v lane id request core.Sessions drawn idle h = h
 once_refused w v lane id request core.Stranger drawn idle h = absurd (h idle)
 
-pub rest_turned : (w : World) (v v' : CoreView) (s m : ℕ) (stream unread : List ℕ) (bodies : List (List ℕ)) (answers : List Answered) (closed c : Bool) (x y : SessionView) (p q : Place) (r : Happened) (added : List Record)
-    → v.drawn ≡ w.begun → SeatAgrees v s (tells stream unread bodies answers closed Resting) (seat x p c) → (at : IsResting v s x p)
+pub rest_turned : (w : World) (v v' : CoreView) (s m : ℕ) (t : Told) (c : Bool) (x y : SessionView) (p q : Place) (r : Happened) (added : List Record)
+    → v.drawn ≡ w.begun → SeatAgrees v s (with_phase t Resting) (seat x p c) → (at : IsResting v s x p)
     → Reads v x at.lane m r added v' y q
-    → Turned v v' s (tells stream unread bodies answers closed Resting) (calls_begun r) (seat y q c) (λ t'. RestLeads w s m (tells stream unread bodies answers closed Resting) r added t')
-rest_turned w v v' s m stream unread bodies answers closed c x y p q happened.Idle added drawn h at g =
-    stays w v v' s m (tells stream unread bodies answers closed Resting) x y p q c added h g.0 g.1 g.2 (g.3 ∙ sym at.place_is)
-rest_turned w v v' s m stream unread bodies answers closed c x y p q happened.Wrote added drawn h at g =
-    let t = tells stream unread bodies answers closed Resting in
-    let P : CoreView → Type 0 = λ z. Turned v z s t 0 (seat y q c) (λ t'. RestLeads w s m t happened.Wrote added t') in
+    → Turned v v' s (with_phase t Resting) (calls_begun r) (seat y q c) (λ t'. RestLeads w s m (with_phase t Resting) r added t')
+rest_turned w v v' s m t c x y p q happened.Idle added drawn h at g =
+    stays w v v' s m (with_phase t Resting) x y p q c added h g.0 g.1 g.2 (g.3 ∙ sym at.place_is)
+rest_turned w v v' s m t c x y p q happened.Wrote added drawn h at g =
+    let was = with_phase t Resting in
+    let P : CoreView → Type 0 = λ z. Turned v z s was 0 (seat y q c) (λ t'. RestLeads w s m was happened.Wrote added t') in
     subst P (sym g.1) (elim g.0 [
       | inl k ↦
           let o = k.1 in
           let a = local_answer x o.asked o.text o.local_packet in
-          answered_at_once w v s m stream unread bodies answers closed c x y p q added h at o.body o.rest a.0 o.begins (subst (λ (z : Ask). AsksFor x.begun o.body z) (sym a.1) o.asks) (a.3 w)
+          answered_at_once w v s m was c x y p q added h at o.body o.rest a.0 o.begins (subst (λ (z : Ask). AsksFor x.begun o.body z) (sym a.1) o.asks) (a.3 w)
           (o.now ∙ ap (λ (b : List ℕ). record { unread = o.rest; output = x.output ++ b; begun = true; waiting = None; ended = None }) (sym a.2)) g.2 (g.3 ∙ sym at.place_is)
       | inr k ↦
           let request = k.0 in
@@ -144,16 +145,16 @@ rest_turned w v v' s m stream unread bodies answers closed c x y p q happened.Wr
           let wrote = subst (λ (z : Option ℕ). IfSome z (λ id. y ≡ record mid { output = mid.output ++ packet (reply_body id (refusal_of fault)); waiting = None })) (ap (λ (z : SessionView). z.waiting) o.now) k.5 in
           let now : y ≡ record { unread = o.rest; output = x.output ++ packet (reply_body o.id (refusal_of fault)); begun = true; waiting = None; ended = None } =
           wrote ∙ ap (λ (z : SessionView). record { unread = z.unread; output = z.output ++ packet (reply_body o.id (refusal_of fault)); begun = z.begun; waiting = None; ended = z.ended }) o.now in
-          answered_at_once w v s m stream unread bodies answers closed c x y p q added h at o.body o.rest (Refused o.id request fault) o.begins o.asks (once_refused w v at.lane o.id request fault drawn idle k.4)
+          answered_at_once w v s m was c x y p q added h at o.body o.rest (Refused o.id request fault) o.begins o.asks (once_refused w v at.lane o.id request fault drawn idle k.4)
           now g.2 (g.3 ∙ sym at.place_is)
     ])
-rest_turned w v v' s m stream unread bodies answers closed c x y p q happened.Begun added drawn h at g =
+rest_turned w v v' s m t c x y p q happened.Begun added drawn h at g =
     let request = g.0 in
     let o = g.1.1 in
     let b = g.2 in
     let lane' : LaneView = begun at.lane v'.drawn in
     let n = w.begun + 1 in
-    let told = tells stream o.rest (bodies ++ o.body ∷ []) answers closed (UnderWay o.id n m request 0) in
+    let told : Told = record t { unread = o.rest; bodies = t.bodies ++ o.body ∷ []; phase = UnderWay o.id n m request 0 } in
     let call = new_call (v.drawn + 1) at.lane.session m request in
     let number : v.drawn + 1 ≡ n = ap (λ (k : ℕ). k + 1) drawn in
     record {
@@ -180,7 +181,7 @@ rest_turned w v v' s m stream unread bodies answers closed c x y p q happened.Be
       agrees = subst (λ (z : SessionView). SeatAgrees v' s told (seat z q c)) (sym o.now) (record {
         unread = refl;
         output = h.output;
-        begun = sym (begun_push bodies o.body);
+        begun = sym (begun_push t.bodies o.body);
         closed = h.closed;
         at = record {
           lane = lane';
@@ -196,20 +197,20 @@ rest_turned w v v' s m stream unread bodies answers closed c x y p q happened.Be
         };
       });
     }
-rest_turned w v v' s m stream unread bodies answers closed c x y p q (happened.Ended cause) added drawn h at g =
-    let t = tells stream unread bodies answers closed Resting in
-    let told = left_for t cause in
+rest_turned w v v' s m t c x y p q (happened.Ended cause) added drawn h at g =
+    let was = with_phase t Resting in
+    let told = left_for was cause in
     let left : Leaves v v' s = subst (λ (n : ℕ). Leaves v v' n) at.session g.1 in
     elim g.0 [
       | inl k ↦ absurd (let e : None ≡ Some cause = sym at.ended ∙ k.0 in cc)
       | inr k ↦ record {
         told = told;
         lead = (
-          subst (λ (b : Bool). EndsBy b unread cause) h.begun (subst (λ (b : List ℕ). EndsBy x.begun b cause) h.unread k.1),
+          subst (λ (b : Bool). EndsBy b was.unread cause) h.begun (subst (λ (b : List ℕ). EndsBy x.begun b cause) h.unread k.1),
           g.2 ∙ ap (λ (n : ℕ). Left n ∷ []) at.session,
           refl,
         );
-        moves = moves_leaves v v' s t told left refl refl;
+        moves = moves_leaves v v' s was told left refl refl;
         agrees = subst (λ (z : SessionView). SeatAgrees v' s told (seat z q c)) (sym k.2) (record {
           unread = refl;
           output = h.output;
@@ -219,9 +220,10 @@ rest_turned w v v' s m stream unread bodies answers closed c x y p q (happened.E
         });
       }
     ]
-rest_turned w v v' s m stream unread bodies answers closed c x y p q (happened.Opened n) added drawn h at g = absurd g
-rest_turned w v v' s m stream unread bodies answers closed c x y p q happened.Fed added drawn h at g = absurd g
-rest_turned w v v' s m stream unread bodies answers closed c x y p q happened.Moved added drawn h at g = absurd g
-rest_turned w v v' s m stream unread bodies answers closed c x y p q (happened.Blocked n) added drawn h at g = absurd g
-rest_turned w v v' s m stream unread bodies answers closed c x y p q happened.Decided added drawn h at g = absurd g
-rest_turned w v v' s m stream unread bodies answers closed c x y p q happened.Closed added drawn h at g = absurd g
+rest_turned w v v' s m t c x y p q (happened.Opened n) added drawn h at g = absurd g
+rest_turned w v v' s m t c x y p q happened.Fed added drawn h at g = absurd g
+rest_turned w v v' s m t c x y p q happened.Moved added drawn h at g = absurd g
+rest_turned w v v' s m t c x y p q (happened.Blocked n) added drawn h at g = absurd g
+rest_turned w v v' s m t c x y p q happened.Decided added drawn h at g = absurd g
+rest_turned w v v' s m t c x y p q happened.Closed added drawn h at g = absurd g
+rest_turned w v v' s m t c x y p q happened.Sent added drawn h at g = absurd g

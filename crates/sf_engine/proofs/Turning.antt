@@ -14,14 +14,14 @@ use Rattle.sf_engine.specs.declared.event.Happened.{Happened}
 use Rattle.sf_engine.specs.declared.event.Happened.TheVariants as happened
 use Rattle.sf_engine.specs.declared.event.EngineFault.{EngineFault}
 use Rattle.sf_engine.specs.declared.event.EngineFault.TheVariants as fault
-use Rattle.sf_engine.specs.Worlds.{Answered, Phase, Resting, UnderWay, Decided, Gone, Told, World, with_told}
+use Rattle.sf_engine.specs.Worlds.{Phase, Resting, UnderWay, Decided, Gone, Told, World, with_told, with_phase}
 use Rattle.sf_engine.specs.Traces.{TurnLeads, calls_begun, IsSession, IsNoSession, MayRefuse, MayWantMemory, closed_now}
 use Rattle.sf_engine.specs.Turns.{Gives, PlaceGives, TurnGives, CloseGives, IsPlaced, MayRefuseTurn}
 use Rattle.sf_engine.specs.Views.{EngineView}
 use Rattle.sf_engine.specs.Fits.{IsResting, IsGoing, IsAnswered, PlaceAgrees, SeatAgrees, Agrees}
 use Rattle.sf_engine.proofs.Tracing.{Steps}
 use Rattle.sf_engine.proofs.Moving.{get_within, set_same, keeps_agrees}
-use Rattle.sf_engine.proofs.Resting.{Turned, tells, seat, rest_turned}
+use Rattle.sf_engine.proofs.Resting.{Turned, seat, rest_turned}
 use Rattle.sf_engine.proofs.Under.{step_turned}
 use Rattle.sf_engine.proofs.Writing.{write_turned, gone_turned, close_turned}
 
@@ -30,33 +30,33 @@ abbrev pub engine : CoreView → List Seat → EngineView
 engine v seats = record { core = v; seats = seats }
 
 -- a turn of a session, by how far it is
-phase_turned : (w : World) (v v' : CoreView) (seats : List Seat) (s m : ℕ) (stream unread : List ℕ) (bodies : List (List ℕ)) (answers : List Answered) (closed c : Bool) (f : Phase) (x y : SessionView) (p q : Place) (r : Happened) (h added : List Record)
-    → Agrees w (engine v seats) → h ≡ w.records → SeatAgrees v s (tells stream unread bodies answers closed f) (seat x p c)
+phase_turned : (w : World) (v v' : CoreView) (seats : List Seat) (s m : ℕ) (t : Told) (c : Bool) (f : Phase) (x y : SessionView) (p q : Place) (r : Happened) (h added : List Record)
+    → Agrees w (engine v seats) → h ≡ w.records → SeatAgrees v s (with_phase t f) (seat x p c)
     → PlaceGives v h x p c m r added v' y q
-    → Turned v v' s (tells stream unread bodies answers closed f) (calls_begun r) (seat y q c) (λ t'. TurnLeads w s m (tells stream unread bodies answers closed f) f r added t')
-phase_turned w v v' seats s m stream unread bodies answers closed c Resting x y p q r h added agrees hist old g =
+    → Turned v v' s (with_phase t f) (calls_begun r) (seat y q c) (λ t'. TurnLeads w s m (with_phase t f) f r added t')
+phase_turned w v v' seats s m t c Resting x y p q r h added agrees hist old g =
     let at : IsResting v s x p = old.at in
-    rest_turned w v v' s m stream unread bodies answers closed c x y p q r added agrees.begun old at (subst (λ (z : Place). PlaceGives v h x z c m r added v' y q) at.place_is g)
-phase_turned w v v' seats s m stream unread bodies answers closed c (UnderWay id n k request moves) x y p q r h added agrees hist old g =
+    rest_turned w v v' s m t c x y p q r added agrees.begun old at (subst (λ (z : Place). PlaceGives v h x z c m r added v' y q) at.place_is g)
+phase_turned w v v' seats s m t c (UnderWay id n k request moves) x y p q r h added agrees hist old g =
     let at : IsGoing v s x id n k request moves p = old.at in
     let g' = subst (λ (z : Place). PlaceGives v h x z c m r added v' y q) at.place_is g in
-    let t = tells stream unread bodies answers closed (UnderWay id n k request moves) in
-    let P : SessionView → Type 0 = λ z. Turned v v' s t (calls_begun r) (seat z q c) (λ t'. TurnLeads w s m t (UnderWay id n k request moves) r added t') in
-    subst P (sym g'.1) (step_turned w v v' seats s stream unread bodies answers closed c x p q id n k request moves r h added agrees hist old at g'.0.0 g'.0.1)
-phase_turned w v v' seats s m stream unread bodies answers closed c (Decided id n request given) x y p q r h added agrees hist old g =
+    let was = with_phase t (UnderWay id n k request moves) in
+    let P : SessionView → Type 0 = λ z. Turned v v' s was (calls_begun r) (seat z q c) (λ t'. TurnLeads w s m was (UnderWay id n k request moves) r added t') in
+    subst P (sym g'.1) (step_turned w v v' seats s was c x p q id n k request moves r h added agrees hist old at g'.0.0 g'.0.1)
+phase_turned w v v' seats s m t c (Decided id n request given) x y p q r h added agrees hist old g =
     let at : IsAnswered v s x id given p = old.at in
-    let t = tells stream unread bodies answers closed (Decided id n request given) in
-    let old' : SeatAgrees v s t (seat x p closed) = subst (λ (b : Bool). SeatAgrees v s t (seat x p b)) old.closed old in
+    let was = with_phase t (Decided id n request given) in
+    let old' : SeatAgrees v s was (seat x p t.closed) = subst (λ (b : Bool). SeatAgrees v s was (seat x p b)) old.closed old in
     let g' = subst (λ (b : Bool). PlaceGives v h x (place.Answered at.lane at.answer) b m r added v' y q) old.closed (subst (λ (z : Place). PlaceGives v h x z c m r added v' y q) at.place_is g) in
-    let o = write_turned w v v' s m stream unread bodies answers closed x y p q id n request given r added old' at g'.0 g'.1 in
-    let P : Bool → Type 0 = λ b. Turned v v' s t (calls_begun r) (seat y q b) (λ t'. TurnLeads w s m t (Decided id n request given) r added t') in
-    let Q : ℕ → Type 0 = λ k. Turned v v' s t k (seat y q closed) (λ t'. TurnLeads w s m t (Decided id n request given) r added t') in
+    let o = write_turned w v v' s m was was.closed x y p q id n request given r added old' at g'.0 g'.1 in
+    let P : Bool → Type 0 = λ b. Turned v v' s was (calls_begun r) (seat y q b) (λ t'. TurnLeads w s m was (Decided id n request given) r added t') in
+    let Q : ℕ → Type 0 = λ k. Turned v v' s was k (seat y q t.closed) (λ t'. TurnLeads w s m was (Decided id n request given) r added t') in
     subst P (sym old.closed) (subst Q (ap calls_begun (sym g'.0)) o)
-phase_turned w v v' seats s m stream unread bodies answers closed c (Gone cause) x y p q r h added agrees hist old g =
+phase_turned w v v' seats s m t c (Gone cause) x y p q r h added agrees hist old g =
     let g' = subst (λ (z : Place). PlaceGives v h x z c m r added v' y q) old.at.0 g in
-    let t = tells stream unread bodies answers closed (Gone cause) in
-    let Q : ℕ → Type 0 = λ k. Turned v v' s t k (seat y q c) (λ t'. TurnLeads w s m t (Gone cause) r added t') in
-    subst Q (ap calls_begun (sym g'.0)) (gone_turned w v v' s m t x y p q c cause r added old old.at.0 g'.0 g'.1 g'.2 g'.3 g'.4)
+    let was = with_phase t (Gone cause) in
+    let Q : ℕ → Type 0 = λ k. Turned v v' s was k (seat y q c) (λ t'. TurnLeads w s m was (Gone cause) r added t') in
+    subst Q (ap calls_begun (sym g'.0)) (gone_turned w v v' s m was x y p q c cause r added old old.at.0 g'.0 g'.1 g'.2 g'.3 g'.4)
 
 -- what is told of a seat's session
 pub told_at : (w : World) (v : CoreView) (seats : List Seat) (at : ℕ) (p : Seat) → Agrees w (engine v seats) → slice_get seats at ≡ Some p → (t : Told) × (slice_get w.sessions at ≡ Some t) × IsSession w (at + 1) t × SeatAgrees v (at + 1) t p
@@ -74,7 +74,7 @@ turn_steps v v' seats at m p q r was gives w agrees =
     let g = gives w.records agrees.history in
     let T : Seat → Type 0 = λ z. Turned v v' (at + 1) t.0 (calls_begun r) z (λ t'. TurnLeads w (at + 1) m t.0 t.0.phase r g.0 t') in
     let same : seat q.session q.place p.closed ≡ q = ap (λ (b : Bool). seat q.session q.place b) (sym g.2.1) in
-    let o : T q = subst T same (phase_turned w v v' seats (at + 1) m t.0.stream t.0.unread t.0.bodies t.0.answers t.0.closed p.closed t.0.phase p.session q.session p.place q.place r w.records g.0 agrees refl t.3 g.2.0) in
+    let o : T q = subst T same (phase_turned w v v' seats (at + 1) m t.0 p.closed t.0.phase p.session q.session p.place q.place r w.records g.0 agrees refl t.3 g.2.0) in
     record {
       added = g.0;
       after = with_told w (at + 1) o.told g.0 (calls_begun r);
@@ -139,7 +139,7 @@ pub close_steps : (v v' : CoreView) (seats : List Seat) (at s : ℕ) (p q : Seat
 close_steps v v' seats at s p q num was gives w agrees =
     let t = told_at w v seats at p agrees was in
     let g = gives w.records agrees.history in
-    let o = close_turned v v' (at + 1) t.0.stream t.0.unread t.0.bodies t.0.answers t.0.closed p.closed q.closed g.2.0 t.0.phase p.session q.session p.place q.place g.0 t.3 g.2.1 g.2.2 in
+    let o = close_turned v v' (at + 1) t.0 p.closed q.closed g.2.0 t.0.phase p.session q.session p.place q.place g.0 t.3 g.2.1 g.2.2 in
     let T : Told → Type 0 = λ z. Agrees (with_told w (at + 1) z g.0 0) (engine v' (slice_set seats at q)) in
     let steps : Steps (engine v seats) (event.Close (at + 1)) (Ok happened.Closed) (engine v' (slice_set seats at q)) w = record {
       added = g.0;

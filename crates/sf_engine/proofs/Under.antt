@@ -21,12 +21,12 @@ use Rattle.sf_engine.specs.declared.seat.Place.{Place}
 use Rattle.sf_engine.specs.declared.seat.Place.TheVariants as place
 use Rattle.sf_engine.specs.declared.event.Happened.{Happened}
 use Rattle.sf_engine.specs.declared.event.Happened.TheVariants as happened
-use Rattle.sf_engine.specs.Worlds.{Answered, Phase, Resting, UnderWay, Decided, Gone, World}
+use Rattle.sf_engine.specs.Worlds.{Phase, Resting, UnderWay, Decided, Gone, Told, World, with_phase}
 use Rattle.sf_engine.specs.Traces.{IsUnderWay, IsOthersCall, IsHelped, Decides, StepLeads, calls_begun}
 use Rattle.sf_engine.specs.Turns.{GoesOn, before, after}
 use Rattle.sf_engine.specs.Fits.{IsGoing, PlaceAgrees, SeatAgrees, Agrees}
 use Rattle.sf_engine.proofs.Moving.{Moves, OtherStays, get_within}
-use Rattle.sf_engine.proofs.Resting.{Turned, tells, seat}
+use Rattle.sf_engine.proofs.Resting.{Turned, seat}
 
 -- whose call the core has, its call is under way by the trace too
 under_way : (v : CoreView) (s : ℕ) (x : SessionView) (f : Phase) (p : Place) (c : Call) → slot_of v s ≡ Busy c → PlaceAgrees v s x f p → IsUnderWay f c.number c.moment c.request
@@ -86,16 +86,16 @@ own_record v s x id n m q moves p c given at here =
     ∙ ap (λ (k : Request). Did n s m k given) at.own.3
 
 -- the session's call was decided, and its answer waits
-decided_now : (w : World) (v v' : CoreView) (s : ℕ) (stream unread : List ℕ) (bodies : List (List ℕ)) (answers : List Answered) (closed c : Bool) (x : SessionView) (p q : Place) (id n m : ℕ) (request : Request) (moves : ℕ)
+decided_now : (w : World) (v v' : CoreView) (s : ℕ) (t : Told) (c : Bool) (x : SessionView) (p q : Place) (id n m : ℕ) (request : Request) (moves : ℕ)
     (a : Answer) (added : List Record)
-    → SeatAgrees v s (tells stream unread bodies answers closed (UnderWay id n m request moves)) (seat x p c) → (at : IsGoing v s x id n m request moves p)
-    → Moves v v' s (tells stream unread bodies answers closed (UnderWay id n m request moves)) (tells stream unread bodies answers closed (Decided id n request a.reply)) 0
+    → SeatAgrees v s (with_phase t (UnderWay id n m request moves)) (seat x p c) → (at : IsGoing v s x id n m request moves p)
+    → Moves v v' s (with_phase t (UnderWay id n m request moves)) (with_phase t (Decided id n request a.reply)) 0
     → slot_of v' s ≡ Idle → q ≡ place.Answered (at_rest at.lane) a
     → Decides w s (Did n s m request a.reply) added
-    → Turned v v' s (tells stream unread bodies answers closed (UnderWay id n m request moves)) 0 (seat x q c)
-    (λ t'. StepLeads w s (tells stream unread bodies answers closed (UnderWay id n m request moves)) id n m request moves happened.Decided added t')
-decided_now w v v' s stream unread bodies answers closed c x p q id n m request moves a added h at moved idle qis decides = record {
-  told = tells stream unread bodies answers closed (Decided id n request a.reply);
+    → Turned v v' s (with_phase t (UnderWay id n m request moves)) 0 (seat x q c)
+    (λ t'. StepLeads w s (with_phase t (UnderWay id n m request moves)) id n m request moves happened.Decided added t')
+decided_now w v v' s t c x p q id n m request moves a added h at moved idle qis decides = record {
+  told = with_phase t (Decided id n request a.reply);
   lead = (a.reply, decides, refl);
   moves = moved;
   agrees = record {
@@ -111,19 +111,19 @@ helped_stays : (v v' : CoreView) (s : ℕ) (helped : List Record) → (slot_of v
 helped_stays v v' s helped (inl e) = inl e
 helped_stays v v' s helped (inr h) = inr (h.before, h.after, h.was, h.now, h.same, h.less)
 
-pub step_turned : (w : World) (v v' : CoreView) (seats : List Seat) (s : ℕ) (stream unread : List ℕ) (bodies : List (List ℕ)) (answers : List Answered) (closed c : Bool) (x : SessionView) (p q : Place) (id n m : ℕ) (request : Request) (moves : ℕ)
+pub step_turned : (w : World) (v v' : CoreView) (seats : List Seat) (s : ℕ) (t : Told) (c : Bool) (x : SessionView) (p q : Place) (id n m : ℕ) (request : Request) (moves : ℕ)
     (r : Happened) (h added : List Record)
     → Agrees w (record { core = v; seats = seats }) → h ≡ w.records
-    → SeatAgrees v s (tells stream unread bodies answers closed (UnderWay id n m request moves)) (seat x p c) → (at : IsGoing v s x id n m request moves p)
+    → SeatAgrees v s (with_phase t (UnderWay id n m request moves)) (seat x p c) → (at : IsGoing v s x id n m request moves p)
     → (lane' : LaneView) → GoesOn (before v h at.lane) r (after v' added lane') q
-    → Turned v v' s (tells stream unread bodies answers closed (UnderWay id n m request moves)) (calls_begun r) (seat x q c)
-    (λ t'. StepLeads w s (tells stream unread bodies answers closed (UnderWay id n m request moves)) id n m request moves r added t')
-step_turned w v v' seats s stream unread bodies answers closed c x p q id n m request moves happened.Moved h added agrees hist old at lane' g =
+    → Turned v v' s (with_phase t (UnderWay id n m request moves)) (calls_begun r) (seat x q c)
+    (λ t'. StepLeads w s (with_phase t (UnderWay id n m request moves)) id n m request moves r added t')
+step_turned w v v' seats s t c x p q id n m request moves happened.Moved h added agrees hist old at lane' g =
     let go = g.0.2 in
     let a = g.0.0 in
     let d = g.0.1 in
-    let t = tells stream unread bodies answers closed (UnderWay id n m request moves) in
-    let told = tells stream unread bodies answers closed (UnderWay id n m request (moves + 1)) in
+    let was = with_phase t (UnderWay id n m request moves) in
+    let told = with_phase was (UnderWay id n m request (moves + 1)) in
     let here : slot_of v s ≡ Busy a = ap (λ (k : ℕ). slot_of v k) (sym at.session) ∙ go.own.slot in
     let own : at.call ≡ a = let z : Busy at.call ≡ Busy a = sym at.slot ∙ here in cc in
     let few : moves + 1 + left_of d ≤ bound_of request = omega (arith, at.few, go.less, ap left_of own) in
@@ -160,13 +160,13 @@ step_turned w v v' seats s stream unread bodies answers closed c x p q id n m re
         };
       };
     }
-step_turned w v v' seats s stream unread bodies answers closed c x p q id n m request moves (happened.Blocked holder) h added agrees hist old at lane' g =
+step_turned w v v' seats s t c x p q id n m request moves (happened.Blocked holder) h added agrees hist old at lane' g =
     let b = g.0.1 in
-    let t = tells stream unread bodies answers closed (UnderWay id n m request moves) in
+    let was = with_phase t (UnderWay id n m request moves) in
     let call = others_call w v seats s b.other b.call agrees b.slot (λ e. b.apart (e ∙ sym at.session)) in
     let same : slot_of v' s ≡ slot_of v s = b.looks.slots s in
     record {
-      told = t;
+      told = was;
       lead = ((b.other, b.call.moment, b.call.request, subst (λ (k : ℕ). IsOthersCall w s k b.other b.call.moment b.call.request) b.number call), g.1.none, refl);
       moves = record { joins = b.looks.joins; drawn = b.looks.drawn ∙ omega arith; joined = ap (λ (k : ℕ). k + 1) b.looks.joined; others = λ i ne. inl (b.looks.slots i) };
       agrees = record {
@@ -188,7 +188,7 @@ step_turned w v v' seats s stream unread bodies answers closed c x p q id n m re
         };
       };
     }
-step_turned w v v' seats s stream unread bodies answers closed c x p q id n m request moves happened.Decided h added agrees hist old at lane' g =
+step_turned w v v' seats s t c x p q id n m request moves happened.Decided h added agrees hist old at lane' g =
     let a = g.0 in
     let d = g.1.0 in
     let placed : q ≡ place.Answered (at_rest at.lane) a = g.3 ∙ ap (λ (l : LaneView). place.Answered l a) g.2.lane in
@@ -196,7 +196,7 @@ step_turned w v v' seats s stream unread bodies answers closed c x p q id n m re
       | inl f ↦
           let here : slot_of v s ≡ Busy d = ap (λ (k : ℕ). slot_of v k) (sym at.session) ∙ f.own.slot in
           let is = own_record v s x id n m request moves p d a.reply at here in
-          decided_now w v v' s stream unread bodies answers closed c x p q id n m request moves a added old at
+          decided_now w v v' s t c x p q id n m request moves a added old at
           (record {
             joins = f.slot.joins;
             drawn = f.slot.drawn ∙ omega arith;
@@ -208,7 +208,7 @@ step_turned w v v' seats s stream unread bodies answers closed c x p q id n m re
       | inr f ↦
           let here : slot_of v s ≡ Busy d = ap (λ (k : ℕ). slot_of v k) (sym at.session) ∙ f.own.slot in
           let is = own_record v s x id n m request moves p d a.reply at here in
-          decided_now w v v' s stream unread bodies answers closed c x p q id n m request moves a added old at
+          decided_now w v v' s t c x p q id n m request moves a added old at
           (record {
             joins = f.joins;
             drawn = f.drawn ∙ omega arith;
@@ -222,10 +222,11 @@ step_turned w v v' seats s stream unread bodies answers closed c x p q id n m re
             f.records ∙ ap (λ (y : Record). f.helped ++ y ∷ []) is,
           ))
     ]
-step_turned w v v' seats s stream unread bodies answers closed c x p q id n m request moves (happened.Opened k) h added agrees hist old at lane' g = absurd g
-step_turned w v v' seats s stream unread bodies answers closed c x p q id n m request moves happened.Fed h added agrees hist old at lane' g = absurd g
-step_turned w v v' seats s stream unread bodies answers closed c x p q id n m request moves happened.Wrote h added agrees hist old at lane' g = absurd g
-step_turned w v v' seats s stream unread bodies answers closed c x p q id n m request moves happened.Begun h added agrees hist old at lane' g = absurd g
-step_turned w v v' seats s stream unread bodies answers closed c x p q id n m request moves happened.Idle h added agrees hist old at lane' g = absurd g
-step_turned w v v' seats s stream unread bodies answers closed c x p q id n m request moves (happened.Ended k) h added agrees hist old at lane' g = absurd g
-step_turned w v v' seats s stream unread bodies answers closed c x p q id n m request moves happened.Closed h added agrees hist old at lane' g = absurd g
+step_turned w v v' seats s t c x p q id n m request moves (happened.Opened k) h added agrees hist old at lane' g = absurd g
+step_turned w v v' seats s t c x p q id n m request moves happened.Fed h added agrees hist old at lane' g = absurd g
+step_turned w v v' seats s t c x p q id n m request moves happened.Wrote h added agrees hist old at lane' g = absurd g
+step_turned w v v' seats s t c x p q id n m request moves happened.Begun h added agrees hist old at lane' g = absurd g
+step_turned w v v' seats s t c x p q id n m request moves happened.Idle h added agrees hist old at lane' g = absurd g
+step_turned w v v' seats s t c x p q id n m request moves (happened.Ended k) h added agrees hist old at lane' g = absurd g
+step_turned w v v' seats s t c x p q id n m request moves happened.Closed h added agrees hist old at lane' g = absurd g
+step_turned w v v' seats s t c x p q id n m request moves happened.Sent h added agrees hist old at lane' g = absurd g

@@ -66,7 +66,7 @@ PlaceAgrees v s x (left cause) p = (p ≡ place.Left cause) × (slot_of v s ≡ 
 
 pub record SeatAgrees (v : CoreView) (s : ℕ) (t : Told) (p : Seat) : Type 0 where
   pub unread : p.session.unread ≡ t.unread
-  pub output : p.session.output ≡ transcript t.answers
+  pub output : transcript t.answers ≡ t.sent ++ p.session.output
   pub begun : p.session.begun ≡ has_begun t.bodies
   pub closed : p.closed ≡ t.closed
   pub at : PlaceAgrees v s p.session t.phase p.place
@@ -105,9 +105,10 @@ GoesOnTrace old event result new = (trace : List Entry) → (fits : Fits old tra
 abbrev pub RunsTrace : EngineView → List Event → ℕ → EngineView → Type 0
 RunsTrace old events refused new = (trace : List Entry) → Fits old trace → (entries : List Entry) × AreEntries events entries refused × Fits new (trace ++ entries)
 
--- what a session's output is, by each trace that the engine fits: the transcript of what the session was answered
+-- what a session's output is, by each trace that the engine fits: it follows what was sent, and both are the transcript of what the
+-- session was answered
 abbrev pub IsSentBy : EngineView → ℕ → List ℕ → Type 0
-IsSentBy e session output = (trace : List Entry) → (fits : Fits e trace) → (t : Told) × IsSession fits.world session t × (output ≡ transcript t.answers)
+IsSentBy e session output = (trace : List Entry) → (fits : Fits e trace) → (t : Told) × IsSession fits.world session t × (transcript t.answers ≡ t.sent ++ output)
 
 -- by each trace that the engine fits there is no such session
 abbrev pub IsUnknown : EngineView → ℕ → Type 0

@@ -1,5 +1,5 @@
 -- What an event does to a core and to one session, from their public contracts.
-use Rattle.std.specs.Prelude.{◌≡◌, ◌≢◌, ◌<◌, ◌≤◌, ◌+◌, ◌⊎◌, ◌++◌, ◌∷◌, ℕ, List, [], Bool, true, false, Some, None, IsSome, IfSome}
+use Rattle.std.specs.Prelude.{◌≡◌, ◌≢◌, ◌<◌, ◌≤◌, ◌+◌, ◌⊎◌, ◌++◌, ◌∷◌, ℕ, List, [], length, drop, Bool, true, false, Some, None, IsSome, IfSome}
 use Rattle.sf_field.specs.Fields.{packet}
 use Rattle.sf_reply.specs.Replies.{reply_body}
 use Rattle.sf_call.specs.declared.record.Record.{Record}
@@ -103,6 +103,16 @@ abbrev pub FeedFault : Seat → EngineFault → Type 0
 FeedFault p fault.OutOfMemory = (p.closed ≡ false) × (p.session.ended ≡ None)
 FeedFault p fault.Ended = (p.closed ≡ true) ⊎ (p.session.ended ≢ None)
 FeedFault p _ = ⊥
+
+-- the first bytes of the output were sent
+pub record SentGives (p : Seat) (n : ℕ) (r : Happened) (q : Seat) : Type 0 where
+  pub sent : r ≡ happened.Sent
+  pub within : n ≤ length p.session.output
+  pub now : q ≡ record p { session = record p.session { output = drop n p.session.output } }
+
+abbrev pub SentFault : Seat → ℕ → EngineFault → Type 0
+SentFault p n fault.NotSent = length p.session.output < n
+SentFault p n _ = ⊥
 
 -- a session joined, and has the next seat
 pub record OpenGives (v : CoreView) (seats : List Seat) (r : Happened) (w : CoreView) (seats' : List Seat) : Type 0 where

@@ -7,7 +7,7 @@ ghost use Rattle.sf_engine.specs.Traces.{refusals};
 ghost use Rattle.sf_engine.specs.Fits.{Fits, GoesOnTrace, RunsTrace, IsSentBy, IsUnknown};
 
 use crate::event::{EngineFault, Event, Happened};
-use crate::seat::{Seat, close_seat, feed_seat, open_seat, turn_seat};
+use crate::seat::{Seat, close_seat, feed_seat, open_seat, send_seat, turn_seat};
 use sf_core::Core;
 use std::alloc::{AllocError, Global};
 use std::marker::Model;
@@ -126,6 +126,16 @@ impl Engine {
         Ok(Happened::Closed)
     }
 
+    fn send(&mut self, session: u64, n: usize) -> Result<Happened, EngineFault>
+        ensures fits { GoesOnTrace self.old (Event.Sent session n) result self.new }
+        ensures err { OnErr result (self.new ≡ self.old) }
+    {
+        let Some(at) = index_of(session, self.seats.len()) else {
+            return Err(EngineFault::NoSuchSession);
+        };
+        send_seat(&mut self.seats[at], n)
+    }
+
     /// One event. Refused, it changes nothing.
     pub fn apply(&mut self, event: &Event) -> Result<Happened, EngineFault>
         ensures fits { GoesOnTrace self.old event.now result self.new }
@@ -136,6 +146,7 @@ impl Engine {
             Event::Feed(session, bytes) => self.feed(*session, bytes),
             Event::Turn(session, moment) => self.turn(*session, *moment),
             Event::Close(session) => self.close(*session),
+            Event::Sent(session, n) => self.send(*session, *n),
         }
     }
 
@@ -151,7 +162,8 @@ impl Engine {
         refused
     }
 
-    /// What a session was sent. It stays readable after the session left.
+    /// What a session is to be sent: all that it was answered, without the bytes that were sent. It stays
+    /// readable after the session left.
     pub fn output(&self, session: u64) -> Option<&[u8]>
         ensures sent { IfSome result (λ output. IsSentBy self.now session output.now) }
         ensures unknown { IfNone result (IsUnknown self.now session) }

@@ -9,7 +9,7 @@ ghost use Rattle.sf_core.specs.Cores.{slot_of};
 ghost use Rattle.sf_core.specs.Lanes.{LaneView};
 ghost use Rattle.sf_core.specs.Events.{OwnCall, Leaves};
 ghost use Rattle.sf_core.specs.Histories.{IsHistory};
-ghost use Rattle.sf_engine.specs.Turns.{Gives, GoesOn, before, after, Reads, Settles, PlaceGives, TurnGives, CloseGives, FeedGives, FeedFault, IsPlaced, OpenGives, OpenFault, MayRefuseTurn};
+ghost use Rattle.sf_engine.specs.Turns.{Gives, GoesOn, before, after, Reads, Settles, PlaceGives, TurnGives, CloseGives, FeedGives, FeedFault, SentGives, SentFault, IsPlaced, OpenGives, OpenFault, MayRefuseTurn};
 
 use crate::event::{EngineFault, Happened};
 use sf_call::{Answer, CoreFault};
@@ -218,6 +218,19 @@ pub(crate) fn feed_seat(seat: &mut Seat, bytes: &[u8]) -> Result<Happened, Engin
         Err(SessionFault::Ended) => Err(EngineFault::Ended),
         Err(SessionFault::OutOfMemory) => Err(EngineFault::OutOfMemory),
     }
+}
+
+/// Drops the first bytes of a session's output, since they were sent. Takes no memory.
+pub(crate) fn send_seat(seat: &mut Seat, n: usize) -> Result<Happened, EngineFault>
+    ensures ok { IfOk result (λ r. SentGives seat.old n r seat.new) }
+    ensures err { OnErr result (seat.new ≡ seat.old) }
+    ensures fault { IfErr result (λ fault. SentFault seat.old n fault) }
+{
+    if n > seat.session.output().len() {
+        return Err(EngineFault::NotSent);
+    }
+    seat.session.take_front(n);
+    Ok(Happened::Sent)
 }
 
 /// A session joins, and has the next seat.
