@@ -1,1 +1,4 @@
+pub mod Causes
+pub mod Ending
 pub mod Following
+pub mod Turning

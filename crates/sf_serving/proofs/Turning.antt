@@ -1,5 +1,5 @@
 -- Turns of a session that is served.
-use Rattle.std.proofs.Common.{◌≡◌, ◌≢◌, ℕ, ◌+◌, ◌-◌, ◌<◌, List, [], ◌∷◌, ◌++◌, Option, Some, None, Bool, true, false, Result, Ok, Err, slice_get, slice_set, length, refl, ap, sym, ◌∙◌, subst, inl, inr, append-nil}
+use Rattle.std.proofs.Common.{◌≡◌, ◌≢◌, ℕ, ◌+◌, ◌-◌, ◌<◌, List, [], ◌∷◌, ◌++◌, Option, Some, None, Bool, true, false, Result, Ok, Err, slice_get, slice_set, zero, suc, length, refl, ap, sym, ◌∙◌, subst, inl, inr, append-nil}
 use Rattle.std.specs.Io.KnownBytes.{Appends}
 use Rattle.sf_wire.specs.declared.cutting.Cut.TheVariants as cut
 use Rattle.sf_wire.specs.Packets.{IsCut}
@@ -17,7 +17,9 @@ use Rattle.sf_engine.specs.Worlds.{Entry, Answered, ByCall, Phase, Resting, Unde
 use Rattle.sf_engine.specs.Traces.{has_begun, IsSession, TakesBytes, LeadsBy, TurnLeads, RestLeads, StepLeads, with_answer, left_if_closed, calls_begun}
 use Rattle.sf_engine.specs.Views.{EngineView}
 use Rattle.sf_engine.specs.Fits.{Fits, GoesOnTrace}
-use Rattle.sf_serving.specs.Serving.{Scene, scene, IsFront, Progress, progress, Served, GoesOn, HasTurn}
+use Rattle.sf_line.specs.declared.line_call.LineCall.{LineCall}
+use Rattle.sf_serving.specs.Serving.{Scene, scene, IsFront, IsLow, IsLowAt, Progress, progress, Served, Serves, IsInStep, GoesOn, HasTurn, IsIdle}
+use Rattle.sf_serving.proofs.Causes.{not_closed}
 use Rattle.sf_serving.proofs.Following.{front_all, Follows, Leading, go_on, same_told}
 
 -- what a turn may do to what is told of a session that takes bytes
@@ -141,7 +143,7 @@ turned_by w s m t (Gone cause) r added t' at takes g =
     let here : is_here_in (Gone cause) ≡ true = subst (λ (f : Phase). is_here_in f ≡ true) at takes.1 in absurd (let no : false ≡ true = here in cc)
 
 get_set_same : (xs : List Told) (i : ℕ) (t u : Told) → slice_get xs i ≡ Some t → slice_get (slice_set xs i u) i ≡ Some u
-get_set_same [] i t u e = absurd (let n : None ≡ Some t = e in cc)
+get_set_same [] i t u e = absurd cc
 get_set_same (x ∷ xs) zero t u e = refl
 get_set_same (x ∷ xs) (suc i) t u e = get_set_same xs i t u e
 
@@ -184,4 +186,43 @@ turn_leads s m t unfed (Err f) takes w w' added session leads =
       subst P (sym leads.2) session,
       turn_follows t t unfed (turned_same t t refl),
       (refl, refl, refl),
+    )
+
+-- after a turn: the session goes on, waits for bytes, or has left
+abbrev pub TurnedTo : ℕ → Result Happened EngineFault → Progress → Type 0
+TurnedTo s (Ok happened.Idle) p = IsIdle s p
+TurnedTo s (Ok (happened.Ended cause)) p = IsInStep s p × (p.unfed ≡ []) × (p.told.phase ≡ Gone cause) × (cause ≢ Closed)
+TurnedTo s r p = GoesOn s p
+
+turned_to : (s : ℕ) (r : Result Happened EngineFault) (p p' : Progress) → GoesOn s p → IsInStep s p' → p'.unfed ≡ [] → TurnComesTo r p.told p'.told → TurnedTo s r p'
+turned_to s (Err f) p p' on step fed to = record { in_step = step; fed = fed; takes = takes_same p.told p'.told to on.takes }
+turned_to s (Ok happened.Idle) p p' on step fed to = (record { in_step = step; fed = fed; takes = takes_same p.told p'.told to.0 on.takes }, to.1, to.2)
+turned_to s (Ok (happened.Ended cause)) p p' on step fed to = (step, fed, to.0, λ e. not_closed (has_begun p.told.bodies) p.told.unread cause e to.1)
+turned_to s (Ok (happened.Opened n)) p p' on step fed to = record { in_step = step; fed = fed; takes = to }
+turned_to s (Ok happened.Fed) p p' on step fed to = record { in_step = step; fed = fed; takes = to }
+turned_to s (Ok happened.Moved) p p' on step fed to = record { in_step = step; fed = fed; takes = to }
+turned_to s (Ok (happened.Blocked n)) p p' on step fed to = record { in_step = step; fed = fed; takes = to }
+turned_to s (Ok happened.Decided) p p' on step fed to = record { in_step = step; fed = fed; takes = to }
+turned_to s (Ok happened.Wrote) p p' on step fed to = record { in_step = step; fed = fed; takes = to }
+turned_to s (Ok happened.Begun) p p' on step fed to = record { in_step = step; fed = fed; takes = to }
+turned_to s (Ok happened.Closed) p p' on step fed to = record { in_step = step; fed = fed; takes = to }
+turned_to s (Ok happened.Sent) p p' on step fed to = record { in_step = step; fed = fed; takes = to }
+
+-- one turn
+pub turned_serves : (start : Scene) (incoming outgoing : Option (List ℕ)) (calls : Option (List LineCall)) (told told' : Option (List ℕ)) (e e' : EngineView) (s m : ℕ) (r : Result Happened EngineFault)
+    → Serves start (scene incoming outgoing calls told e) (HasTurn s) → GoesOnTrace e (event.Turn s m) r e' → Appends told told' (m ∷ [])
+    → Serves start (scene incoming outgoing calls told' e') (TurnedTo s r)
+turned_serves start incoming outgoing calls told told' e e' s m r serves goes appends trace fits =
+    let h = serves trace fits in
+    let p = h.0 in
+    let on = h.2.0 in
+    let mine : GoesOnTrace e (event.Turn p.session m) r e' = subst (λ (k : ℕ). GoesOnTrace e (event.Turn k m) r e') (sym on.in_step.0) goes in
+    let low : (w : World) → IsSession w p.session p.told → IsLowAt w p.session (event.Turn p.session m) =
+    λ w is t other. subst (λ (z : Told). IsLow z) (same_told w p.session p.told t is other) h.2.1 in
+    let g = go_on start (scene incoming outgoing calls told e) told' e' trace fits p (event.Turn p.session m) r (λ t' unfed'. After r p.told p.unfed t' unfed') h.1 mine refl appends low
+    (turn_leads p.session m p.told p.unfed r on.takes) in
+    let after = g.3 in (
+      progress p.session g.0 g.1 p.written,
+      g.2,
+      turned_to s r p (progress p.session g.0 g.1 p.written) on (on.in_step.0, on.in_step.1 ∙ sym after.1) (after.0 ∙ on.fed) after.2,
     )
