@@ -1,3 +1,4 @@
+pub mod Acting
 pub mod Causes
 pub mod Ending
 pub mod Following
