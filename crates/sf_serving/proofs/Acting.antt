@@ -40,13 +40,13 @@ pub record HasRead (s : ℕ) (bytes : List ℕ) (p : Progress) : Type 0 where
   pub no_more : IsCut p.told.unread cut.More
   pub sent_all : HasSentAll p
 
-given_more : (log calls : List LineCall) → given (log ++ calls) ≡ given log + given calls
+pub given_more : (log calls : List LineCall) → given (log ++ calls) ≡ given log + given calls
 given_more log calls = sum_by-append bytes_given log calls
 
-taken_more : (log calls : List LineCall) → taken (log ++ calls) ≡ taken log + taken calls
+pub taken_more : (log calls : List LineCall) → taken (log ++ calls) ≡ taken log + taken calls
 taken_more log calls = sum_by-append bytes_taken log calls
 
-writes_give_none : (writes : List LineCall) → AllByRecursion IsWrite writes → given writes ≡ 0
+pub writes_give_none : (writes : List LineCall) → AllByRecursion IsWrite writes → given writes ≡ 0
 writes_give_none [] w = refl
 writes_give_none (Read n ∷ writes) w = absurd w.0
 writes_give_none (Write n ∷ writes) w =
@@ -125,7 +125,7 @@ still_serves start incoming incoming' outgoing outgoing' calls calls' told e P s
       h.2,
     )
 
-drop_front : (a b : List ℕ) → drop (length a) (a ++ b) ≡ b
+pub drop_front : (a b : List ℕ) → drop (length a) (a ++ b) ≡ b
 drop_front [] b = refl
 drop_front (x ∷ a) b = drop_front a b
 
@@ -134,7 +134,7 @@ drop_whole [] = refl
 drop_whole (x ∷ a) = drop_whole a
 
 -- where all was sent, nothing waits
-low_sent : (t : Told) → transcript t.answers ≡ t.sent → IsLow t
+pub low_sent : (t : Told) → transcript t.answers ≡ t.sent → IsLow t
 low_sent t e =
     let none : output_of t ≡ [] = ap (λ (b : List ℕ). drop (length t.sent) b) e ∙ drop_whole t.sent in
     let zero : length (output_of t) ≡ 0 = ap (λ (b : List ℕ). length b) none in
@@ -187,7 +187,7 @@ fed_serves start incoming outgoing calls told e e' s bytes serves feeds trace fi
         low_sent g.0 (ap transcript answers ∙ sym read.sent_all ∙ read.in_step.1 ∙ sym sent)),
     )
 
-no_session : (w : World) (s : ℕ) (t : Told) → IsSession w s t → IsNoSession w s → ⊥
+pub no_session : (w : World) (s : ℕ) (t : Told) → IsSession w s t → IsNoSession w s → ⊥
 no_session w s t session (inl z) = omega (arith, z, session.0)
 no_session w s t session (inr n) = let e : None ≡ Some t = sym n ∙ session.1 in cc
 
@@ -199,13 +199,13 @@ close_not_refused w s t fault.Ended session h = h
 close_not_refused w s t fault.NumbersSpent session h = h
 close_not_refused w s t fault.NotSent session h = h
 
-closed_answers : (t : Told) (f : Phase) → (closed_now t f).answers ≡ t.answers
+pub closed_answers : (t : Told) (f : Phase) → (closed_now t f).answers ≡ t.answers
 closed_answers t Resting = refl
 closed_answers t (UnderWay id n m q moves) = refl
 closed_answers t (Decided id n q given) = refl
 closed_answers t (Gone cause) = refl
 
-closed_sent : (t : Told) (f : Phase) → (closed_now t f).sent ≡ t.sent
+pub closed_sent : (t : Told) (f : Phase) → (closed_now t f).sent ≡ t.sent
 closed_sent t Resting = refl
 closed_sent t (UnderWay id n m q moves) = refl
 closed_sent t (Decided id n q given) = refl
@@ -218,7 +218,7 @@ closed_follows t (Decided id n q given) unfed = record { read = refl; stream = f
 closed_follows t (Gone cause) unfed = record { read = refl; stream = front_all t.stream; bodies = front_all t.bodies; answers = front_all t.answers }
 
 -- a session that was closed takes no more bytes
-takes_none : (t : Told) (f : Phase) → t.phase ≡ f → TakesNone (closed_now t f)
+pub takes_none : (t : Told) (f : Phase) → t.phase ≡ f → TakesNone (closed_now t f)
 takes_none t Resting at = inr refl
 takes_none t (UnderWay id n m q moves) at = inl refl
 takes_none t (Decided id n q given) at = inl refl
@@ -238,7 +238,7 @@ close_leads s t unfed (Ok r) w w' added session leads =
 close_leads s t unfed (Err f) w w' added session leads = absurd (close_not_refused w s t f session leads.0)
 
 -- one event that is no turn
-close_serves : (start : Scene) (incoming outgoing : Option (List ℕ)) (calls : Option (List LineCall)) (told : Option (List ℕ)) (e e' : EngineView) (s : ℕ) (trace : List Entry) (fits : Fits start.engine trace) (p : Progress)
+pub close_serves : (start : Scene) (incoming outgoing : Option (List ℕ)) (calls : Option (List LineCall)) (told : Option (List ℕ)) (e e' : EngineView) (s : ℕ) (trace : List Entry) (fits : Fits start.engine trace) (p : Progress)
     → p.session ≡ s → Served start (scene incoming outgoing calls told e) trace fits p → Applies e (event.Close s) e'
     → (t' : Told) × (unfed' : List ℕ) × Served start (scene incoming outgoing calls told e') trace fits (progress p.session t' unfed' p.written) × ((t' ≡ closed_now p.told p.told.phase) × (unfed' ≡ p.unfed))
 close_serves start incoming outgoing calls told e e' s trace fits p number S applies =
