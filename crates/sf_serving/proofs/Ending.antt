@@ -75,7 +75,7 @@ prompt_now law start now trace fits s p S rests =
     }
 
 -- where a list with one more at its end is cut before an item: within the list, or at its end
-nothing_after : {A : Type 0} (before : List A) (x : A) (later : List A) → [] ≡ before ++ x ∷ later → ⊥
+pub nothing_after : {A : Type 0} (before : List A) (x : A) (later : List A) → [] ≡ before ++ x ∷ later → ⊥
 nothing_after [] x later e = cc
 nothing_after (b ∷ before) x later e = cc
 

@@ -170,6 +170,10 @@ IsRounded session incoming (Some cause) p = HasLeft session cause p × HasSentAl
 abbrev pub Stops : ℕ → ServeFault → Progress → Type 0
 Stops session f p = (p.session ≡ session) × (f ≢ fault.Line → p.written ≡ p.told.sent)
 
+-- unless the line failed, all that was answered was written, and told as sent
+abbrev pub HasSentFor : ℕ → ServeFault → Progress → Type 0
+HasSentFor session f p = (p.session ≡ session) × (f ≢ fault.Line → HasSentAll p × (p.written ≡ p.told.sent))
+
 -- Serving has stopped: unless the line failed, all that was answered was written. The session is closed.
 abbrev pub HasStopped : ServeFault → Progress → Type 0
 HasStopped f p = (f ≢ fault.Line → HasSentAll p × (p.written ≡ p.told.sent)) × TakesNone p.told

@@ -6,7 +6,7 @@ ghost use Rattle.sf_line.specs.Lines.{Rose};
 ghost use Rattle.sf_engine.specs.declared.event.Event.TheVariants.{Open};
 ghost use Rattle.sf_engine.specs.declared.event.Happened.TheVariants.{Opened};
 ghost use Rattle.sf_engine.specs.Fits.{GoesOnTrace};
-ghost use Rattle.sf_serving.specs.Serving.{Scene, scene, Serves, GoesOn, HasTurn, Rests, IsDrained, IsRounded, Stops, HasStopped, Waits, Feeds, Applies, SendsAll, SendsSome, ServesLine, StopsEarly, IsOpenFault, IsRoundFault, IsServeFault};
+ghost use Rattle.sf_serving.specs.Serving.{Scene, scene, Serves, GoesOn, HasTurn, Rests, IsDrained, IsRounded, Stops, HasSentFor, HasStopped, Waits, Feeds, Applies, SendsAll, SendsSome, ServesLine, StopsEarly, IsOpenFault, IsRoundFault, IsServeFault};
 
 use sf_engine::{Engine, EngineFault, Event, Happened, sessions_read};
 use sf_line::{Line, LineFault, write_all};
@@ -136,11 +136,14 @@ fn drain<L: Line, C: Clock>(
 {
     sessions_read();
     for _ in 0..u64::MAX {
-        match turn(engine, clock, session) {
-            Ok(Happened::Idle) => return Ok(None),
-            Ok(Happened::Ended(cause)) => return Ok(Some(cause)),
-            Ok(_) => send_batch(engine, line, session)?,
+        let happened = match turn(engine, clock, session) {
+            Ok(happened) => happened,
             Err(_) => return Err(ServeFault::OutOfMemory),
+        };
+        match happened {
+            Happened::Idle => return Ok(None),
+            Happened::Ended(cause) => return Ok(Some(cause)),
+            _ => send_batch(engine, line, session)?,
         }
     }
     Err(ServeFault::NumbersSpent)
@@ -207,7 +210,28 @@ fn serve<L: Line, C: Clock>(
     Err(ServeFault::NumbersSpent)
 }
 
-/// Ends a session whose serving stops: what waits is sent, unless the line failed, and the session is closed.
+/// Sends what waits, unless the line has failed, and answers why serving stops then.
+fn send_last<L: Line>(
+    engine: &mut Engine,
+    line: &mut L,
+    session: u64,
+    fault: ServeFault,
+) -> ServeFault
+    ensures sent { (start : Scene) (told : Option (List ℕ))
+        → Serves start (scene (L.incoming line.old) (L.outgoing line.old) (L.calls line.old) told engine.old) (Stops session fault)
+        → Serves start (scene (L.incoming line.new) (L.outgoing line.new) (L.calls line.new) told engine.new) (HasSentFor session result) }
+    ensures fault { (before : ℕ) → before ≤ L.failed line.old → IsRoundFault fault before (L.failed line.old) → IsRoundFault result before (L.failed line.new) }
+{
+    match fault {
+        ServeFault::Line => ServeFault::Line,
+        other => match send(engine, line, session) {
+            Ok(()) => other,
+            Err(_) => ServeFault::Line,
+        },
+    }
+}
+
+/// Ends a session whose serving stops: what waits is sent, and the session is closed.
 fn stop<L: Line>(
     engine: &mut Engine,
     line: &mut L,
@@ -217,13 +241,9 @@ fn stop<L: Line>(
     ensures stopped { (start : Scene) (told : Option (List ℕ))
         → Serves start (scene (L.incoming line.old) (L.outgoing line.old) (L.calls line.old) told engine.old) (Stops session fault)
         → Serves start (scene (L.incoming line.new) (L.outgoing line.new) (L.calls line.new) told engine.new) (HasStopped result) }
-    ensures failures { L.failed line.old ≤ L.failed line.new }
     ensures fault { (before : ℕ) → before ≤ L.failed line.old → IsRoundFault fault before (L.failed line.old) → IsRoundFault result before (L.failed line.new) }
 {
-    let mut answered = fault;
-    if fault != ServeFault::Line && send(engine, line, session).is_err() {
-        answered = ServeFault::Line;
-    }
+    let answered = send_last(engine, line, session, fault);
     close(engine, session);
     answered
 }
