@@ -1,35 +1,31 @@
 -- What is read, fed, closed, written and told as sent.
-use Rattle.std.proofs.Common.{◌≡◌, ◌≢◌, ◌⊎◌, ℕ, ◌+◌, ◌<◌, ◌≤◌, List, [], ◌∷◌, ◌++◌, Option, Some, None, Bool, true, false, Result, Ok, Err, length, take, drop, refl, ap, sym, ◌∙◌, subst, inl, inr, append-nil, append_assoc, length-append, length-take, arith}
+use Rattle.std.proofs.Common.{◌≡◌, ℕ, ◌+◌, List, [], ◌∷◌, ◌++◌, Option, Some, None, Result, Ok, Err, length, drop, refl, ap, sym, ◌∙◌, subst, inl, inr, append-nil, append_assoc, length-append, arith}
 use Rattle.std.specs.Global.{Vec}
 use Rattle.std.specs.List.{AllByRecursion}
-use Rattle.std.specs.Io.KnownBytes.{Appends, Consumes, Keeps, IsAtEnd}
-use Rattle.std.proofs.KnownBytes.{Appends-nil, Appends-trans, Consumes-trans, Consumes-kept}
-use Rattle.std.proofs.lemmas.List.{take_all}
+use Rattle.std.specs.Io.KnownBytes.{Appends, Consumes, Keeps}
+use Rattle.std.proofs.KnownBytes.{Appends-nil, Consumes-trans, Consumes-kept}
 use Rattle.std.proofs.lemmas.List.Sums.{sum_by-append}
 use Rattle.sf_wire.specs.declared.cutting.Cut.TheVariants as cut
 use Rattle.sf_wire.specs.Packets.{IsCut}
-use Rattle.sf_call.specs.declared.record.Record.{Record}
 use Rattle.sf_line.specs.declared.line_call.LineCall.{LineCall}
 use Rattle.sf_line.specs.declared.line_call.LineCall.TheVariants.{Read, Write}
-use Rattle.sf_line.specs.Lines.{Logs, LogsWrites, SendsFront, IsWrite, given, taken, bytes_given, bytes_taken}
-use Rattle.sf_line.proofs.Laws.{logs_none, logs_more}
+use Rattle.sf_line.specs.Lines.{Logs, IsWrite, given, taken, bytes_given, bytes_taken}
+use Rattle.sf_line.proofs.Laws.{logs_more}
 use Rattle.sf_session.specs.declared.cause.Cause.TheVariants.{Closed}
-use Rattle.sf_session.specs.declared.fault.ServeFault.{ServeFault}
-use Rattle.sf_session.specs.declared.fault.ServeFault.TheVariants as serve
 use Rattle.sf_engine.specs.declared.event.Event.{Event}
 use Rattle.sf_engine.specs.declared.event.Event.TheVariants as event
 use Rattle.sf_engine.specs.declared.event.Happened.{Happened}
 use Rattle.sf_engine.specs.declared.event.EngineFault.{EngineFault}
 use Rattle.sf_engine.specs.declared.event.EngineFault.TheVariants as fault
-use Rattle.sf_engine.specs.Worlds.{Entry, Answered, transcript, Phase, Resting, UnderWay, Decided, Gone, Told, World, output_of, is_here, with_told}
-use Rattle.sf_engine.specs.Traces.{IsSession, IsNoSession, TakesBytes, TakesNone, MayRefuse, fed, closed_now, left_for, sent_more}
+use Rattle.sf_engine.specs.Worlds.{Entry, transcript, Phase, Resting, UnderWay, Decided, Gone, Told, World, output_of, is_here, with_told}
+use Rattle.sf_engine.specs.Traces.{IsSession, IsNoSession, TakesBytes, TakesNone, MayRefuse, fed, closed_now, left_for}
 use Rattle.sf_engine.specs.Views.{EngineView}
 use Rattle.sf_engine.specs.Fits.{Fits, GoesOnTrace}
 use Rattle.sf_serving.specs.Ends.{IsWhole}
-use Rattle.sf_serving.specs.Serving.{Scene, scene, IsFront, IsLow, IsLowAt, Progress, progress, Served, Serves, IsInStep, GoesOn, HasTurn, IsIdle, HasLeft, HasSentAll, Rests, Feeds, Applies, Waits, all_sent}
-use Rattle.sf_serving.proofs.Following.{front_all, front_of, front_more, Follows, Leading, IsFurther, prompt_further, go_on, same_told}
+use Rattle.sf_serving.specs.Serving.{Scene, scene, IsLow, IsLowAt, Progress, progress, Served, Serves, IsInStep, HasTurn, HasLeft, HasSentAll, Rests, Feeds, Applies}
+use Rattle.sf_serving.proofs.Following.{front_all, Follows, Leading, prompt_further, go_on, same_told}
 use Rattle.sf_serving.proofs.Turning.{told_now}
-use Rattle.sf_serving.proofs.Ending.{Law, read_of, prompt_now, prompt_push, prompt_writes, whole_closed}
+use Rattle.sf_serving.proofs.Ending.{Law, read_of, prompt_now, prompt_push, whole_closed}
 
 -- bytes were read from the line, and are not fed yet
 pub record HasRead (s : ℕ) (bytes : List ℕ) (p : Progress) : Type 0 where
@@ -179,12 +175,14 @@ fed_serves start incoming outgoing calls told e e' s bytes serves feeds trace fi
     let answers : g.0.answers ≡ p.told.answers = ap (λ (z : Told). z.answers) now in (
       progress p.session g.0 g.1 p.written,
       g.2,
-      (record {
+      (
+        record {
           in_step = (read.in_step.0, read.in_step.1 ∙ sym sent);
           fed = g.3.1;
           takes = subst (λ (z : Told). TakesBytes z) (sym now) (read.takes.0, read.takes.1);
         },
-        low_sent g.0 (ap transcript answers ∙ sym read.sent_all ∙ read.in_step.1 ∙ sym sent)),
+        low_sent g.0 (ap transcript answers ∙ sym read.sent_all ∙ read.in_step.1 ∙ sym sent),
+      ),
     )
 
 pub no_session : (w : World) (s : ℕ) (t : Told) → IsSession w s t → IsNoSession w s → ⊥

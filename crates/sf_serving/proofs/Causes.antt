@@ -1,5 +1,5 @@
 -- No packet and no wrong length closes a session.
-use Rattle.std.proofs.Common.{◌≡◌, ℕ, List, Bool, true, false, Option, Some, None, refl, sym, ◌∙◌, inl, inr, subst}
+use Rattle.std.proofs.Common.{◌≡◌, ℕ, List, Bool, true, false, Option, Some, None, inl, inr, subst}
 use Rattle.std.specs.Prelude.{nat_lt, if◌then◌else◌}
 use Rattle.sf_path.specs.Names.{Path}
 use Rattle.sf_request.specs.declared.request.WireRequest.{WireRequest}
@@ -7,11 +7,10 @@ use Rattle.sf_request.specs.declared.request.WireRequest.TheVariants as wire
 use Rattle.sf_request.specs.declared.request.Asked.{Asked}
 use Rattle.sf_request.specs.declared.request.Asked.TheVariants as asked
 use Rattle.sf_call.specs.declared.request.Request.{Request}
-use Rattle.sf_session.specs.declared.asking.Ask.{Ask}
 use Rattle.sf_session.specs.declared.asking.Ask.TheVariants as ask
 use Rattle.sf_session.specs.declared.cause.Cause.{Cause}
-use Rattle.sf_session.specs.declared.cause.Cause.TheVariants.{ZeroLength, TooLong, Closed, OldVersion, NotInit, NoId, SecondInit}
-use Rattle.sf_session.specs.Asking.{AsksFor, ask_in, first_ask, later_ask, request_ask, call_ask, call_of, real_path_at, path_at}
+use Rattle.sf_session.specs.declared.cause.Cause.TheVariants.{ZeroLength, TooLong, Closed, OldVersion}
+use Rattle.sf_session.specs.Asking.{ask_in, request_ask, call_ask, call_of, real_path_at, path_at}
 use Rattle.sf_session.specs.Sessions.{EndsBy}
 
 no_call_ends : (id : ℕ) (call : Option Request) (cause : Cause) → ask.End cause ≡ call_ask id call → ⊥

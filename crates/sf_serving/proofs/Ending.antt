@@ -1,5 +1,5 @@
 -- What is known of a session at rest, and of one that has left.
-use Rattle.std.proofs.Common.{◌≡◌, ◌≢◌, ◌⊎◌, ℕ, ◌+◌, List, [], ◌∷◌, ◌++◌, Option, Some, None, Bool, true, false, map, length, refl, ap, sym, ◌∙◌, subst, inl, inr, append-nil, append_assoc, arith}
+use Rattle.std.proofs.Common.{◌≡◌, ◌≢◌, ◌⊎◌, ℕ, List, [], ◌∷◌, ◌++◌, Bool, true, false, map, length, refl, ap, sym, ◌∙◌, subst, inl, inr, append-nil, append_assoc, arith}
 use Rattle.std.specs.List.{AllByRecursion, flat_map}
 use Rattle.std.proofs.lemmas.List.{length-map}
 use Rattle.sf_field.specs.Fields.{packet}
@@ -7,17 +7,16 @@ use Rattle.sf_wire.specs.declared.cutting.Cut.TheVariants as cut
 use Rattle.sf_wire.specs.Packets.{IsBody, IsCut, More, Cuts}
 use Rattle.sf_line.specs.declared.line_call.LineCall.{LineCall}
 use Rattle.sf_line.specs.declared.line_call.LineCall.TheVariants.{Read, Write}
-use Rattle.sf_line.specs.Lines.{given, taken, IsWrite}
+use Rattle.sf_line.specs.Lines.{IsWrite}
 use Rattle.sf_session.specs.declared.asking.Ask.{Ask}
 use Rattle.sf_session.specs.declared.cause.Cause.{Cause}
 use Rattle.sf_session.specs.declared.cause.Cause.TheVariants.{Closed}
-use Rattle.sf_session.specs.Asking.{AsksFor}
 use Rattle.sf_engine.specs.Worlds.{Entry, Answered, asked_by, transcript, Phase, Resting, Gone, Told, World}
 use Rattle.sf_engine.specs.Traces.{has_begun, IsSession, Tells, left_for}
 use Rattle.sf_engine.specs.Laws.{pending, asks_of, AreAsked, IsRest, IsRead, AreRecorded}
 use Rattle.sf_engine.specs.Fits.{Fits}
 use Rattle.sf_serving.specs.Ends.{IsEnd, IsWhole}
-use Rattle.sf_serving.specs.Serving.{Scene, IsFront, Progress, IsPromptAt, IsPrompt, Served, IsIdle, HasSentAll, Rests}
+use Rattle.sf_serving.specs.Serving.{Scene, Progress, IsPromptAt, IsPrompt, Served, Rests}
 use Rattle.sf_serving.proofs.Following.{front_all}
 
 -- the law of what a lawful trace tells of its sessions

@@ -1,6 +1,6 @@
 -- One event more of a session that is served.
-use Rattle.std.proofs.Common.{◌≡◌, ◌⊎◌, ℕ, ◌+◌, List, [], ◌∷◌, ◌++◌, Option, Result, Some, length, refl, ap, sym, ◌∙◌, subst, inl, inr, append-nil, append_assoc}
-use Rattle.std.specs.List.{AllByRecursion, flat_map}
+use Rattle.std.proofs.Common.{◌≡◌, ℕ, List, [], ◌∷◌, ◌++◌, Option, Result, Some, length, refl, ap, sym, ◌∙◌, subst, append-nil, append_assoc}
+use Rattle.std.specs.List.{AllByRecursion}
 use Rattle.std.specs.Io.KnownBytes.{Appends, Consumes}
 use Rattle.std.proofs.KnownBytes.{Appends-trans}
 use Rattle.std.proofs.lemmas.List.{flat_map_more}
@@ -8,8 +8,6 @@ use Rattle.std.proofs.lemmas.List.Concat.{flat_map-append}
 use Rattle.sf_call.specs.declared.record.Record.{Record}
 use Rattle.sf_call.specs.Histories.{IsLegal}
 use Rattle.sf_line.specs.declared.line_call.LineCall.{LineCall}
-use Rattle.sf_line.specs.declared.line_call.LineCall.TheVariants.{Read}
-use Rattle.sf_line.specs.Lines.{given, taken}
 use Rattle.sf_engine.specs.declared.event.Event.{Event}
 use Rattle.sf_engine.specs.declared.event.Happened.{Happened}
 use Rattle.sf_engine.specs.declared.event.EngineFault.{EngineFault}
@@ -17,7 +15,7 @@ use Rattle.sf_engine.specs.Worlds.{Entry, Answered, packet_for, transcript, Told
 use Rattle.sf_engine.specs.Traces.{LeadsBy, Leads, Tells, order, IsSession}
 use Rattle.sf_engine.specs.Views.{EngineView}
 use Rattle.sf_engine.specs.Fits.{Fits, GoesOnTrace, entry_of}
-use Rattle.sf_serving.specs.Serving.{Scene, scene, IsOf, IsEntryOf, moment_of, moments_of, IsLowAt, RunsLow, IsFront, Progress, progress, IsPromptAt, IsPrompt, Served}
+use Rattle.sf_serving.specs.Serving.{Scene, scene, IsOf, IsEntryOf, moment_of, moments_of, IsLowAt, RunsLow, IsFront, Progress, progress, IsPrompt, Served}
 
 pub all_push : {A : Type 0} (P : A → Type 0) (xs : List A) (x : A) → AllByRecursion P xs → P x → AllByRecursion P (xs ++ x ∷ [])
 all_push P [] x h p = (p, tt)

@@ -1,5 +1,5 @@
 -- A session that opens, and one whose serving stops.
-use Rattle.std.proofs.Common.{◌≡◌, ◌≢◌, ℕ, ◌+◌, ◌-◌, ◌<◌, ◌≤◌, List, [], ◌∷◌, ◌++◌, Some, Option, Result, Ok, slice_get, length, refl, ap, sym, ◌∙◌, subst, inl, inr, arith}
+use Rattle.std.proofs.Common.{◌≡◌, ◌≢◌, ℕ, ◌+◌, ◌-◌, ◌<◌, ◌≤◌, List, [], ◌∷◌, ◌++◌, Some, Option, Ok, Err, slice_get, length, refl, ap, sym, ◌∙◌, subst, inl, inr, arith}
 use Rattle.std.proofs.KnownBytes.{Appends-nil, Consumes-nil}
 use Rattle.sf_line.specs.declared.line_call.LineCall.{LineCall}
 use Rattle.sf_line.specs.declared.line_call.LineCall.TheVariants.{Read}
@@ -8,15 +8,18 @@ use Rattle.sf_session.specs.declared.cause.Cause.{Cause}
 use Rattle.sf_session.specs.declared.fault.ServeFault.{ServeFault}
 use Rattle.sf_session.specs.declared.fault.ServeFault.TheVariants as serve
 use Rattle.sf_engine.specs.declared.event.Event.TheVariants as event
+use Rattle.sf_engine.specs.declared.event.Happened.{Happened}
 use Rattle.sf_engine.specs.declared.event.Happened.TheVariants as happened
+use Rattle.sf_engine.specs.declared.event.EngineFault.{EngineFault}
+use Rattle.sf_engine.specs.declared.event.EngineFault.TheVariants as fault
 use Rattle.sf_engine.specs.Worlds.{Entry, transcript, Told, new_told, World}
 use Rattle.sf_engine.specs.Traces.{IsSession, TakesNone, Leads, closed_now}
 use Rattle.sf_engine.specs.Views.{EngineView}
-use Rattle.sf_engine.specs.Fits.{Fits, GoesOnTrace, entry_of}
-use Rattle.sf_serving.specs.Serving.{Scene, scene, IsLowAt, RunsLow, Progress, progress, IsPrompt, Served, Serves, IsRounded, HasSentAll, Rests, Stops, HasSentFor, HasStopped, Applies, SendsAll, SendsSome, ServesLine, IsOpenFault, IsRoundFault, IsServeFault}
+use Rattle.sf_engine.specs.Fits.{GoesOnTrace, entry_of}
+use Rattle.sf_serving.specs.Serving.{Scene, scene, IsLowAt, RunsLow, Progress, progress, IsPrompt, Serves, IsRounded, Rests, Stops, HasSentFor, HasStopped, Applies, SendsAll, SendsSome, ServesLine, StopsEarly, IsUnchanged, refusal_of, IsOpenFault, IsRoundFault, IsServeFault}
 use Rattle.sf_serving.proofs.Acting.{close_serves, takes_none, closed_answers, closed_sent}
 use Rattle.sf_serving.proofs.Ending.{nothing_after}
-use Rattle.sf_serving.proofs.Rounds.{serves_more, rose_since}
+use Rattle.sf_serving.proofs.Rounds.{serves_more}
 
 last_get : (xs : List Told) (v : Told) → slice_get (xs ++ v ∷ []) (length xs) ≡ Some v
 last_get [] v = refl
@@ -121,3 +124,19 @@ round_fault e serve.OutOfMemory old new h = tt
 round_fault e serve.Sessions old new h = absurd h
 round_fault e serve.Stranger old new h = absurd h
 round_fault e serve.NumbersSpent old new h = tt
+
+-- an event that opens a session opened one
+pub opened_only : (e e' : EngineView) (k : Happened) → ((session : ℕ) → k ≡ happened.Opened session → ⊥) → GoesOnTrace e event.Open (Ok k) e' → IsUnchanged e e'
+opened_only e e' k other goes trace fits = let g = goes trace fits in absurd (other (length fits.world.sessions + 1) g.2.0)
+
+-- why none opened
+pub refused_open : (e e' : EngineView) (f : EngineFault) → GoesOnTrace e event.Open (Err f) e' → IsOpenFault e (refusal_of f)
+refused_open e e' fault.OutOfMemory goes = tt
+refused_open e e' fault.NoSuchSession goes = tt
+refused_open e e' fault.Sessions goes = λ trace fits. (goes trace fits).2.0
+refused_open e e' fault.Ended goes = tt
+refused_open e e' fault.NumbersSpent goes = tt
+refused_open e e' fault.NotSent goes = tt
+
+pub stops_early : (start now : Scene) (f : ServeFault) → Serves start now (HasStopped f) → StopsEarly start now f
+stops_early start now f serves trace fits = inr (serves trace fits)

@@ -1,8 +1,7 @@
 -- From one turn to a round, and from a round to the whole.
-use Rattle.std.proofs.Common.{◌≡◌, ◌≢◌, ◌⊎◌, ◌<◌, ◌≤◌, ◌+◌, ℕ, List, [], ◌∷◌, Option, Some, None, Result, Ok, Err, length, take, refl, ap, sym, ◌∙◌, subst, inl, inr, arith}
+use Rattle.std.proofs.Common.{◌≡◌, ◌≤◌, ℕ, List, [], Option, Some, None, Ok, Err, take, refl, subst, inl, inr, arith}
 use Rattle.std.proofs.lemmas.Bool.{cases_lt}
-use Rattle.std.specs.Io.KnownBytes.{Appends, IsAtEnd}
-use Rattle.sf_line.specs.declared.line_call.LineCall.{LineCall}
+use Rattle.std.specs.Io.KnownBytes.{IsAtEnd}
 use Rattle.sf_line.specs.Lines.{Rose}
 use Rattle.sf_session.specs.declared.cause.Cause.{Cause}
 use Rattle.sf_session.specs.declared.cause.Cause.TheVariants.{Closed}
@@ -11,10 +10,8 @@ use Rattle.sf_session.specs.declared.fault.ServeFault.TheVariants as serve
 use Rattle.sf_engine.specs.declared.event.Happened.{Happened}
 use Rattle.sf_engine.specs.declared.event.Happened.TheVariants as happened
 use Rattle.sf_engine.specs.declared.event.EngineFault.{EngineFault}
-use Rattle.sf_engine.specs.Worlds.{Entry, Told, transcript}
-use Rattle.sf_engine.specs.Views.{EngineView}
-use Rattle.sf_engine.specs.Fits.{Fits}
-use Rattle.sf_serving.specs.Serving.{Scene, scene, Progress, progress, Served, Serves, IsInStep, GoesOn, HasTurn, IsIdle, HasLeft, IsDrained, IsRounded, HasSentAll, Rests, Stops, IsRoundFault, all_sent, SendsAll, SendsSome}
+use Rattle.sf_engine.specs.Worlds.{Told, transcript}
+use Rattle.sf_serving.specs.Serving.{Scene, Progress, progress, Serves, IsInStep, GoesOn, HasTurn, HasLeft, IsDrained, IsRounded, HasSentAll, Rests, Stops, IsRoundFault, all_sent, SendsAll, SendsSome}
 use Rattle.sf_serving.specs.Ends.{IsWhole}
 use Rattle.sf_serving.proofs.Turning.{TurnedTo}
 use Rattle.sf_serving.proofs.Acting.{HasRead}

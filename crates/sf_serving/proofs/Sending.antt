@@ -1,28 +1,25 @@
 -- What is written, and told as sent.
-use Rattle.std.proofs.Common.{◌≡◌, ◌≢◌, ℕ, ◌+◌, ◌-◌, ◌<◌, ◌≤◌, List, [], ◌∷◌, ◌++◌, Option, Result, Ok, Err, length, take, drop, refl, ap, sym, ◌∙◌, subst, inl, inr, append-nil, append_assoc, length-append, arith}
-use Rattle.std.specs.List.{AllByRecursion}
+use Rattle.std.proofs.Common.{◌≡◌, ℕ, ◌+◌, ◌<◌, ◌≤◌, List, [], ◌++◌, Option, Result, Ok, Err, length, take, drop, refl, ap, sym, ◌∙◌, subst, append-nil, append_assoc, length-append, arith}
 use Rattle.std.specs.Io.KnownBytes.{Appends, Consumes}
 use Rattle.std.proofs.KnownBytes.{Appends-nil, Appends-trans}
 use Rattle.std.proofs.lemmas.List.{take_all}
-use Rattle.sf_call.specs.declared.record.Record.{Record}
 use Rattle.sf_line.specs.declared.line_call.LineCall.{LineCall}
-use Rattle.sf_line.specs.Lines.{Logs, LogsWrites, SendsFront, given, taken}
+use Rattle.sf_line.specs.Lines.{LogsWrites, SendsFront, given, taken}
 use Rattle.sf_line.proofs.Laws.{logs_more}
-use Rattle.sf_session.specs.declared.fault.ServeFault.{ServeFault}
 use Rattle.sf_session.specs.declared.fault.ServeFault.TheVariants as serve
 use Rattle.sf_engine.specs.declared.event.Event.TheVariants as event
 use Rattle.sf_engine.specs.declared.event.Happened.{Happened}
 use Rattle.sf_engine.specs.declared.event.EngineFault.{EngineFault}
 use Rattle.sf_engine.specs.declared.event.EngineFault.TheVariants as fault
 use Rattle.sf_engine.specs.Worlds.{Entry, transcript, Told, World, output_of, with_told}
-use Rattle.sf_engine.specs.Traces.{IsSession, IsNoSession, MayRefuse, sent_more}
+use Rattle.sf_engine.specs.Traces.{IsSession, MayRefuse, sent_more}
 use Rattle.sf_engine.specs.Views.{EngineView}
 use Rattle.sf_engine.specs.Fits.{Fits, GoesOnTrace, IsSentBy, IsUnknown}
-use Rattle.sf_serving.specs.Serving.{Scene, scene, IsFront, IsLow, Progress, progress, Served, Serves, IsInStep, GoesOn, HasTurn, Stops, HasStopped, HasSentAll, Applies, Waits, all_sent, SendsAll, SendsSome}
-use Rattle.sf_serving.proofs.Following.{front_all, Follows, Leading, prompt_further, go_on, same_told}
+use Rattle.sf_serving.specs.Serving.{Scene, scene, Progress, progress, Served, Serves, IsInStep, GoesOn, HasTurn, Stops, Applies, Waits, all_sent, SendsAll, SendsSome}
+use Rattle.sf_serving.proofs.Following.{front_all, Leading, prompt_further, go_on, same_told}
 use Rattle.sf_serving.proofs.Turning.{told_now}
 use Rattle.sf_serving.proofs.Ending.{prompt_writes}
-use Rattle.sf_serving.proofs.Acting.{drop_front, low_sent, no_session, given_more, taken_more, writes_give_none, close_serves, takes_none, closed_answers, closed_sent}
+use Rattle.sf_serving.proofs.Acting.{drop_front, low_sent, no_session, given_more, taken_more, writes_give_none}
 
 -- what waits, by what the engine's output is
 pub waits_sent : (e : EngineView) (s : ℕ) (output : List ℕ) → IsSentBy e s output → Waits e s output

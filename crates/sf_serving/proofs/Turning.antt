@@ -1,26 +1,25 @@
 -- Turns of a session that is served.
-use Rattle.std.proofs.Common.{◌≡◌, ◌≢◌, ℕ, ◌+◌, ◌-◌, ◌<◌, List, [], ◌∷◌, ◌++◌, Option, Some, None, Bool, true, false, Result, Ok, Err, slice_get, slice_set, zero, suc, length, refl, ap, sym, ◌∙◌, subst, inl, inr, append-nil}
+use Rattle.std.proofs.Common.{◌≡◌, ◌≢◌, ℕ, ◌-◌, List, [], ◌∷◌, ◌++◌, Option, Some, Bool, true, false, Result, Ok, Err, slice_get, slice_set, zero, suc, refl, ap, sym, ◌∙◌, subst, append-nil}
 use Rattle.std.specs.Io.KnownBytes.{Appends}
 use Rattle.sf_wire.specs.declared.cutting.Cut.TheVariants as cut
 use Rattle.sf_wire.specs.Packets.{IsCut}
 use Rattle.sf_reply.specs.declared.reply.Reply.{Reply}
 use Rattle.sf_call.specs.declared.request.Request.{Request}
 use Rattle.sf_call.specs.declared.record.Record.{Record}
-use Rattle.sf_session.specs.declared.cause.Cause.{Cause}
 use Rattle.sf_session.specs.declared.cause.Cause.TheVariants.{Closed}
 use Rattle.sf_session.specs.Sessions.{EndsBy}
 use Rattle.sf_engine.specs.declared.event.Event.TheVariants as event
 use Rattle.sf_engine.specs.declared.event.Happened.{Happened}
 use Rattle.sf_engine.specs.declared.event.Happened.TheVariants as happened
 use Rattle.sf_engine.specs.declared.event.EngineFault.{EngineFault}
-use Rattle.sf_engine.specs.Worlds.{Entry, Answered, ByCall, Phase, Resting, UnderWay, Decided, Gone, Told, World, with_told, is_here, is_here_in}
-use Rattle.sf_engine.specs.Traces.{has_begun, IsSession, TakesBytes, LeadsBy, TurnLeads, RestLeads, StepLeads, with_answer, left_if_closed, calls_begun}
+use Rattle.sf_engine.specs.Worlds.{ByCall, Phase, Resting, UnderWay, Decided, Gone, Told, World, with_told, is_here, is_here_in}
+use Rattle.sf_engine.specs.Traces.{has_begun, IsSession, TakesBytes, TurnLeads, RestLeads, StepLeads, with_answer, left_if_closed, calls_begun}
 use Rattle.sf_engine.specs.Views.{EngineView}
-use Rattle.sf_engine.specs.Fits.{Fits, GoesOnTrace}
+use Rattle.sf_engine.specs.Fits.{GoesOnTrace}
 use Rattle.sf_line.specs.declared.line_call.LineCall.{LineCall}
-use Rattle.sf_serving.specs.Serving.{Scene, scene, IsFront, IsLow, IsLowAt, Progress, progress, Served, Serves, IsInStep, GoesOn, HasTurn, IsIdle}
+use Rattle.sf_serving.specs.Serving.{Scene, scene, IsFront, IsLow, IsLowAt, Progress, progress, Serves, IsInStep, GoesOn, HasTurn, IsIdle}
 use Rattle.sf_serving.proofs.Causes.{not_closed}
-use Rattle.sf_serving.proofs.Following.{front_all, Follows, Leading, go_on, same_told}
+use Rattle.sf_serving.proofs.Following.{Follows, Leading, go_on, same_told}
 
 -- what a turn may do to what is told of a session that takes bytes
 pub record Turned (t t' : Told) : Type 0 where
@@ -48,8 +47,6 @@ turned_same t t' e = record {
 
 takes_same : (t t' : Told) → t' ≡ t → TakesBytes t → TakesBytes t'
 takes_same t t' e takes = subst (λ (z : Told). TakesBytes z) (sym e) takes
-
-
 
 rest_turned : (w : World) (s m : ℕ) (t : Told) (r : Happened) (added : List Record) (t' : Told) → t.phase ≡ Resting → TakesBytes t → RestLeads w s m t r added t' → Turned t t' × ComesTo r t t'
 rest_turned w s m t happened.Idle added t' rests takes g =

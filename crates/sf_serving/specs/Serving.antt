@@ -18,6 +18,7 @@ use Rattle.sf_engine.specs.declared.event.Event.TheVariants as event
 use Rattle.sf_engine.specs.declared.event.Happened.{Happened}
 use Rattle.sf_engine.specs.declared.event.Happened.TheVariants as happened
 use Rattle.sf_engine.specs.declared.event.EngineFault.{EngineFault}
+use Rattle.sf_engine.specs.declared.event.EngineFault.TheVariants as refused
 use Rattle.sf_engine.specs.Worlds.{Entry, Answered, Resting, Told, World, transcript, output_of, here}
 use Rattle.sf_engine.specs.Traces.{IsSession, Leads, TakesBytes, TakesNone}
 use Rattle.sf_engine.specs.Views.{EngineView}
@@ -209,9 +210,19 @@ abbrev pub ServesLine : Scene → Scene → Cause → Type 0
 ServesLine start now cause = Serves start now
     (λ p. (p.unfed ≡ []) × IsWhole p.told cause × HasSentAll p × (p.written ≡ p.told.sent) × (cause ≡ Closed → IsAtEnd now.incoming))
 
--- What serving a line did, when it stopped so: nothing, since no session could open; or a session of its own was served so far.
+-- What serving a line did, when it stopped so: nothing, where no session could open; or a session of its own was served so far.
 abbrev pub StopsEarly : Scene → Scene → ServeFault → Type 0
-StopsEarly start now f = (now ≡ start) ⊎ Serves start now (HasStopped f)
+StopsEarly start now f = (trace : List Entry) → (fits : Fits start.engine trace) → (now ≡ start) ⊎ ((p : Progress) × Served start now trace fits p × HasStopped f p)
+
+-- whatever trace the engine fitted, it is as it was
+abbrev pub IsUnchanged : EngineView → EngineView → Type 0
+IsUnchanged e e' = (trace : List Entry) → Fits e trace → e' ≡ e
+
+-- why no session opened
+abbrev pub refusal_of : EngineFault → ServeFault
+refusal_of refused.Sessions = fault.Sessions
+refusal_of refused.NumbersSpent = fault.NumbersSpent
+refusal_of _ = fault.OutOfMemory
 
 -- Why serving stops early: the line's failures rose, or the engine has all the sessions that it takes.
 abbrev pub IsServeFault : EngineView → ServeFault → ℕ → ℕ → Type 0

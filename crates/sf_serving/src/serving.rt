@@ -6,7 +6,7 @@ ghost use Rattle.sf_line.specs.Lines.{Rose};
 ghost use Rattle.sf_engine.specs.declared.event.Event.TheVariants.{Open};
 ghost use Rattle.sf_engine.specs.declared.event.Happened.TheVariants.{Opened};
 ghost use Rattle.sf_engine.specs.Fits.{GoesOnTrace};
-ghost use Rattle.sf_serving.specs.Serving.{Scene, scene, Serves, GoesOn, HasTurn, Rests, IsDrained, IsRounded, Stops, HasSentFor, HasStopped, Waits, Feeds, Applies, SendsAll, SendsSome, ServesLine, StopsEarly, IsOpenFault, IsRoundFault, IsServeFault};
+ghost use Rattle.sf_serving.specs.Serving.{Scene, scene, Serves, GoesOn, HasTurn, Rests, IsDrained, IsRounded, Stops, HasSentFor, HasStopped, Waits, Feeds, Applies, SendsAll, SendsSome, ServesLine, StopsEarly, IsUnchanged, refusal_of, IsOpenFault, IsRoundFault, IsServeFault};
 
 use sf_engine::{Engine, EngineFault, Event, Happened, sessions_read};
 use sf_line::{Line, LineFault, write_all};
@@ -19,16 +19,29 @@ const PIECE: usize = 65536;
 /// How many bytes of replies wait, while whole packets are unread.
 const BATCH: usize = 65536;
 
+/// Why no session opened.
+fn refusal(fault: EngineFault) -> ServeFault
+    ensures { result ≡ refusal_of fault }
+{
+    match fault {
+        EngineFault::Sessions => ServeFault::Sessions,
+        EngineFault::NumbersSpent => ServeFault::NumbersSpent,
+        _ => ServeFault::OutOfMemory,
+    }
+}
+
 /// A session opens for the line.
 fn open(engine: &mut Engine) -> Result<u64, ServeFault>
     ensures opened { IfOk result (λ session. GoesOnTrace engine.old Open (Ok (Opened session)) engine.new) }
-    ensures err { OnErr result (engine.new ≡ engine.old) }
+    ensures unchanged { OnErr result (IsUnchanged engine.old engine.new) }
     ensures fault { IfErr result (λ fault. IsOpenFault engine.old fault) }
 {
-    match engine.apply(&Event::Open) {
-        Ok(Happened::Opened(session)) => Ok(session),
-        Err(EngineFault::Sessions) => Err(ServeFault::Sessions),
-        Err(EngineFault::NumbersSpent) => Err(ServeFault::NumbersSpent),
+    let happened = match engine.apply(&Event::Open) {
+        Ok(happened) => happened,
+        Err(fault) => return Err(refusal(fault)),
+    };
+    match happened {
+        Happened::Opened(session) => Ok(session),
         _ => Err(ServeFault::OutOfMemory),
     }
 }
@@ -47,11 +60,7 @@ fn feed(alloc: Global, engine: &mut Engine, session: u64, bytes: &[u8]) -> Resul
 }
 
 /// One turn of the session, at the clock's next moment.
-fn turn<C: Clock>(
-    engine: &mut Engine,
-    clock: &mut C,
-    session: u64,
-) -> Result<Happened, EngineFault>
+fn turn<C: Clock>(engine: &mut Engine, clock: &mut C, session: u64) -> Result<Happened, EngineFault>
     ensures { (moment : ℕ) × GoesOnTrace engine.old (Event.Turn session moment) result engine.new
         × Appends (C.told clock.old) (C.told clock.new) (moment ∷ []) }
 {
@@ -232,12 +241,7 @@ fn send_last<L: Line>(
 }
 
 /// Ends a session whose serving stops: what waits is sent, and the session is closed.
-fn stop<L: Line>(
-    engine: &mut Engine,
-    line: &mut L,
-    session: u64,
-    fault: ServeFault,
-) -> ServeFault
+fn stop<L: Line>(engine: &mut Engine, line: &mut L, session: u64, fault: ServeFault) -> ServeFault
     ensures stopped { (start : Scene) (told : Option (List ℕ))
         → Serves start (scene (L.incoming line.old) (L.outgoing line.old) (L.calls line.old) told engine.old) (Stops session fault)
         → Serves start (scene (L.incoming line.new) (L.outgoing line.new) (L.calls line.new) told engine.new) (HasStopped result) }

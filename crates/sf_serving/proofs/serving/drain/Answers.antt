@@ -1,9 +1,8 @@
-use Rattle.std.proofs.Common.{◌≡◌, Ok, Err, Result, sym, ◌∙◌, ap, subst, arith}
+use Rattle.std.proofs.Common.{Ok, Result, ◌∙◌, ap, subst, arith}
 use Rattle.sf_session.specs.declared.fault.ServeFault.TheVariants.{Line}
 use Rattle.sf_engine.specs.declared.event.Happened.{Happened}
-use Rattle.sf_engine.specs.declared.event.Happened.TheVariants as happened
 use Rattle.sf_engine.specs.declared.event.EngineFault.{EngineFault}
-use Rattle.sf_serving.specs.Serving.{scene, Serves, Stops, HasTurn, GoesOn}
+use Rattle.sf_serving.specs.Serving.{scene, Serves, GoesOn}
 use Rattle.sf_serving.proofs.Outcomes.{if_err_at, if_ok_none}
 use Rattle.sf_serving.proofs.Turning.{turned_serves, TurnedTo}
 use Rattle.sf_serving.proofs.Rounds.{idle_drained, ended_drained, serves_more, still_goes, refused_goes, goes_stops, turn_stops, rose_since}

@@ -1,9 +1,9 @@
-use Rattle.std.proofs.Common.{◌≡◌, ℕ, List, take, length, length-take, ap, sym, subst, arith, refl}
+use Rattle.std.proofs.Common.{◌≡◌, take, length, length-take, sym, subst, arith}
 use Rattle.sf_session.specs.declared.fault.ServeFault.TheVariants.{Line}
 use Rattle.sf_engine.specs.Views.{EngineView}
 use Rattle.sf_serving.specs.Serving.{scene, Serves, Stops}
 use Rattle.sf_serving.proofs.Outcomes.{if_err_at, if_err_any}
-use Rattle.sf_serving.proofs.Acting.{HasRead, read_serves, still_serves, fed_serves, ended_serves}
+use Rattle.sf_serving.proofs.Acting.{read_serves, still_serves, fed_serves, ended_serves}
 use Rattle.sf_serving.proofs.Rounds.{rests_stops, read_stops, none_read, round_sent, round_fails, round_ends}
 use Rattle.sf_serving.proofs.serving.round.Goals as goal
 

@@ -1,5 +1,3 @@
-use Rattle.std.proofs.Common.{◌≡◌, List, ℕ, Option}
-use Rattle.sf_serving.specs.Serving.{Scene, scene, Serves, GoesOn, HasTurn, Stops, SendsAll, SendsSome}
 use Rattle.sf_serving.proofs.Outcomes.{on_ok_more, on_err_more}
 use Rattle.sf_serving.proofs.Sending.{low_serves, batch_serves, stops_serves}
 use Rattle.sf_serving.proofs.serving.send_batch.Goals as goal

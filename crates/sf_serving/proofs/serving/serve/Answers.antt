@@ -1,4 +1,4 @@
-use Rattle.std.proofs.Common.{Option, sym, subst, arith}
+use Rattle.std.proofs.Common.{Option, subst, arith}
 use Rattle.sf_session.specs.declared.cause.Cause.{Cause}
 use Rattle.sf_serving.specs.Serving.{scene, Serves, IsRounded}
 use Rattle.sf_serving.proofs.Opening.{round_serves}
