@@ -1,9 +1,9 @@
 //! What tests of several crates share: requests made by name, the attributes that they carry, bytes from
-//! hexadecimal, and a clock that stands still. The program uses none of it.
+//! hexadecimal, and clocks. The program uses none of it.
 //!
 //! Start with `requests`: a function for each request, whose contract says which request it makes of the
-//! path that a text stands for. `sized` and `whole` make attributes, `StillClock` tells the moment 100,
-//! and `hex_bytes` the bytes that texts stand for.
+//! path that a text stands for. `sized` and `whole` make attributes, `StillClock` tells the moment 100
+//! and `RisingClock` moments that rise, and `hex_bytes` the bytes that texts stand for.
 #![tactic(auto)]
 
 mod attributes;
@@ -11,5 +11,5 @@ mod clock;
 pub mod requests;
 
 pub use attributes::{sized, whole};
-pub use clock::StillClock;
+pub use clock::{RisingClock, StillClock};
 pub use sf_hex::hex_bytes;

@@ -5,9 +5,10 @@
 
 use sf_cases::{StillClock, hex_bytes, whole};
 use sf_client::{Client, ClientFault};
+use sf_engine::Engine;
 use sf_line::{MemoryLine, Pieces};
 use sf_reply::StatusCode;
-use sf_service::serve_one;
+use sf_serving::serve_one;
 use sf_session::Cause;
 use std::alloc::Global;
 use std::process::Abort;
@@ -30,7 +31,8 @@ fn packets(alloc: Global, texts: &[&str]) -> Result<Vec<u8>, Fail> {
 fn replies(rt: &impl Abort, alloc: Global, requests: &[u8]) -> Result<Vec<u8>, Fail> {
     let all = Pieces::new(usize::MAX, usize::MAX);
     let mut line = MemoryLine::new(alloc, requests, all, all);
-    let ended = serve_one(alloc, &mut line, &mut StillClock)?;
+    let mut engine = Engine::new(alloc)?;
+    let ended = serve_one(alloc, &mut engine, &mut line, &mut StillClock)?;
     assert_eq!(rt; ended, Cause::Closed);
     Ok(Vec::from_slice(alloc, line.output())?)
 }

@@ -3,6 +3,7 @@
 ghost use Rattle.std.specs.Prelude.{◌≡◌, ◌<◌, []};
 
 use crate::line::{Failures, Line, LineFault};
+use crate::line_call::LineCall;
 use std::alloc::Global;
 
 /// How many bytes a call moves at most: the first call, and each later one.
@@ -36,25 +37,27 @@ impl Pieces {
 }
 
 /// A line that gives the bytes of a slice and keeps what is written, both in pieces, so that
-/// bytes can be cut at every place. A write fails only where there is no memory.
+/// bytes can be cut at every place. It keeps its calls too, and one fails only where there is no memory.
 #[derive(Debug, Drop)]
 pub struct MemoryLine<'a> {
     input: &'a [u8],
     output: Vec<u8>,
     reads: Pieces,
     writes: Pieces,
+    calls: Vec<LineCall>,
     failures: Failures,
 }
 
 impl<'a> MemoryLine<'a> {
-    ghost use Rattle.sf_line.specs.MemoryLines.{input_of, output_of, reads_of, writes_of, failures_of};
+    ghost use Rattle.sf_line.specs.MemoryLines.{input_of, output_of, reads_of, writes_of, calls_of, failures_of};
 
-    /// A line that has moved nothing yet. It takes memory only as bytes are written.
+    /// A line that has moved nothing yet. It takes memory only as its calls are made.
     pub fn new(alloc: Global, input: &'a [u8], reads: Pieces, writes: Pieces) -> MemoryLine<'a>
         ensures input { input_of result ≡ input.now }
         ensures output { output_of result ≡ [] }
         ensures reads { reads_of result ≡ reads }
         ensures writes { writes_of result ≡ writes }
+        ensures calls { calls_of result ≡ [] }
         ensures failures { failures_of result ≡ 0 }
     {
         MemoryLine {
@@ -62,6 +65,7 @@ impl<'a> MemoryLine<'a> {
             output: Vec::new(alloc),
             reads,
             writes,
+            calls: Vec::new(alloc),
             failures: Failures::none(),
         }
     }
@@ -72,20 +76,32 @@ impl<'a> MemoryLine<'a> {
     {
         self.output.as_slice()
     }
+
+    /// The calls that were answered, in order.
+    pub fn calls(&self) -> &[LineCall]
+        ensures { result.now ≡ calls_of self.now }
+    {
+        self.calls.as_slice()
+    }
 }
 
 impl<'a> Line for MemoryLine<'a> {
     ghost use Rattle.std.specs.Prelude.{Some};
-    ghost use Rattle.sf_line.specs.MemoryLines.{input_of, output_of, failures_of};
+    ghost use Rattle.sf_line.specs.MemoryLines.{input_of, output_of, calls_of, failures_of};
 
     ghost incoming = { λ l. Some (input_of l) };
 
     ghost outgoing = { λ l. Some (output_of l) };
 
+    ghost calls = { λ l. Some (calls_of l) };
+
     ghost failed = { λ l. failures_of l };
 
     fn read(&mut self, buffer: &mut [u8]) -> Result<usize, LineFault> {
         let n = buffer.len().min(self.input.len()).min(self.reads.take());
+        if self.calls.push(LineCall::Read(n)).is_err() {
+            return Err(self.failures.add());
+        }
         let (front, rest) = self.input.split_at(n);
         buffer[..n].copy_from_slice(front);
         self.input = rest;
@@ -94,7 +110,11 @@ impl<'a> Line for MemoryLine<'a> {
 
     fn write(&mut self, bytes: &[u8]) -> Result<usize, LineFault> {
         let n = bytes.len().min(self.writes.take());
+        if self.calls.push(LineCall::Write(n)).is_err() {
+            return Err(self.failures.add());
+        }
         if self.output.extend_from_slice(&bytes[..n]).is_err() {
+            self.calls.pop();
             return Err(self.failures.add());
         }
         Ok(n)

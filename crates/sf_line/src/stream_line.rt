@@ -43,7 +43,7 @@ fn write_some<W: Write>(writer: &mut W, bytes: &[u8]) -> Option<usize>
     None
 }
 
-/// A line over any reader and any writer. It tells their bytes where they do.
+/// A line over any reader and any writer. It tells their bytes where they do, and not its calls.
 ///
 /// A call that a signal interrupts is made again, some thousand times. Nothing is flushed: sockets and standard output
 /// keep nothing back, and whoever gives a writer that does flushes it.
@@ -72,11 +72,14 @@ impl<R, W> StreamLine<R, W> {
 }
 
 impl<R: Read, W: Write> Line for StreamLine<R, W> {
+    ghost use Rattle.std.specs.Prelude.{None};
     ghost use Rattle.sf_line.specs.StreamLines.{reader_of, writer_of, failures_of};
 
     ghost incoming = { λ l. R.remaining (reader_of l) };
 
     ghost outgoing = { λ l. W.contents (writer_of l) };
+
+    ghost calls = { λ _. None };
 
     ghost failed = { λ l. failures_of l };
 

@@ -2,7 +2,7 @@
 
 use super::*;
 use std::alloc::Global;
-use std::io::{self, ErrorKind, Read};
+use std::io::{self, ErrorKind, Read, Write};
 use std::test::*;
 
 /// Moves a line's input to its output, and answers how many bytes each read gave.
@@ -97,5 +97,81 @@ fn failing_streams(rt: HostRuntime) -> Result<(), Fail> {
     assert_eq!(rt; line.write(&buffer), Err(LineFault));
     assert_eq!(rt; line.failures(), 2);
     assert_eq!(rt; line.write(&[]), Ok(0));
+    Ok(())
+}
+
+/// Bytes one at a time, more than a million.
+#[test]
+fn a_million_reads(rt: HostRuntime) -> Result<(), Fail> {
+    let alloc = rt.alloc();
+    let input: Vec<u8> = vec![in alloc; 7u8; 1_100_000]?;
+    let mut no_room = [0u8; 0];
+    let mut line = StreamLine::new(input.as_slice(), no_room.as_mut_slice());
+    let ones = Pieces::new(1, 1);
+    let mut memory_line = MemoryLine::new(alloc, &input, ones, ones);
+    let mut buffer = [0u8; 1];
+    for _ in 0..1_100_000 {
+        assert_eq!(rt; line.read(&mut buffer), Ok(1));
+        assert_eq!(rt; memory_line.read(&mut buffer), Ok(1));
+    }
+    assert_eq!(rt; line.read(&mut buffer), Ok(0));
+    assert_eq!(rt; memory_line.read(&mut buffer), Ok(0));
+    assert_eq!(rt; line.failures(), 0);
+    assert_eq!(rt; memory_line.calls().len(), 1_100_001);
+    Ok(())
+}
+
+/// Fails at its first call, and takes all from then on.
+#[derive(Drop)]
+struct FailsOnce {
+    calls: u32,
+}
+
+impl Write for FailsOnce {
+    fn write(&mut self, buf: &[u8]) -> io::Result<usize> {
+        self.calls = self.calls.saturating_add(1);
+        if self.calls == 1 {
+            return Err(ErrorKind::ConnectionReset.into());
+        }
+        Ok(buf.len())
+    }
+
+    fn flush(&mut self) -> io::Result<()> {
+        Ok(())
+    }
+}
+
+/// An error that is no interruption is one fault after one call.
+#[test]
+fn a_writer_that_fails_once(rt: HostRuntime) -> Result<(), Fail> {
+    let mut writer = FailsOnce { calls: 0 };
+    let mut line = StreamLine::new(b"".as_slice(), &mut writer);
+    assert_eq!(rt; line.write(b"ab"), Err(LineFault));
+    assert_eq!(rt; line.failures(), 1);
+    assert_eq!(rt; line.write(b"ab"), Ok(2));
+    assert_eq!(rt; line.failures(), 1);
+    assert_eq!(rt; writer.calls, 2);
+    Ok(())
+}
+
+/// The calls are told in the order in which they were made.
+#[test]
+fn calls_in_order(rt: HostRuntime) -> Result<(), Fail> {
+    let alloc = rt.alloc();
+    let pieces = Pieces::new(2, 3);
+    let mut line = MemoryLine::new(alloc, b"abc", pieces, pieces);
+    let mut buffer = [0u8; 4];
+    assert_eq!(rt; line.read(&mut buffer), Ok(2));
+    write_all(&mut line, b"vwxyz")?;
+    assert_eq!(rt; line.read(&mut buffer), Ok(1));
+    assert_eq!(rt; line.read(&mut buffer), Ok(0));
+    let want = [
+        LineCall::Read(2),
+        LineCall::Write(2),
+        LineCall::Write(3),
+        LineCall::Read(1),
+        LineCall::Read(0),
+    ];
+    assert_eq!(rt; line.calls(), want.as_slice());
     Ok(())
 }

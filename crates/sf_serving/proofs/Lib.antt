@@ -1,0 +1,9 @@
+pub mod Acting
+pub mod Causes
+pub mod Ending
+pub mod Following
+pub mod Opening
+pub mod Outcomes
+pub mod Rounds
+pub mod Sending
+pub mod Turning

@@ -1,0 +1,37 @@
+-- What holds of an answer or of a fault, from what holds of others.
+use Rattle.std.proofs.Common.{Result, Ok, Err}
+use Rattle.std.specs.Prelude.{◌≡◌, OnOk, OnErr, IfOk, IfErr}
+use Rattle.std.specs.Result.{is_err, IsErr, IsErrAnd}
+use Rattle.std.proofs.Common.{false, refl, sym, subst}
+
+pub on_err : {T E : Type 0} (r : Result T E) (P : Type 0) → P → OnErr r P
+on_err (Ok x) P p = tt
+on_err (Err e) P p = p
+
+pub on_ok_more : {T E : Type 0} (r : Result T E) (P Q : Type 0) → OnOk r P → (P → Q) → OnOk r Q
+on_ok_more (Ok x) P Q p f = f p
+on_ok_more (Err e) P Q p f = tt
+
+pub on_err_more : {T E : Type 0} (r : Result T E) (P Q : Type 0) → OnErr r P → (P → Q) → OnErr r Q
+on_err_more (Ok x) P Q p f = tt
+on_err_more (Err e) P Q p f = f p
+
+-- what holds of the fault that is answered
+pub if_err_at : {T E : Type 0} (r : Result T E) (fault : E) (P : E → Type 0) → IsErrAnd r (λ f. f ≡ fault) → P fault → IfErr r P
+if_err_at (Ok x) fault P is p = tt
+if_err_at {T} {E} (Err e) fault P is p = subst (λ (f : E). P f) (sym is) p
+
+-- what holds of any fault
+pub if_err_any : {T E : Type 0} (r : Result T E) (P : E → Type 0) → ((f : E) → P f) → IfErr r P
+if_err_any (Ok x) P p = tt
+if_err_any (Err e) P p = p e
+
+-- nothing is asked of an answer where a fault is answered
+pub if_ok_none : {T E : Type 0} (r : Result T E) (P : T → Type 0) → IsErr r → IfOk r P
+if_ok_none (Ok x) P is = absurd (cc)
+if_ok_none (Err e) P is = tt
+
+-- what an event came to that was not refused
+pub some_ok : {T E : Type 0} (r : Result T E) → is_err r ≡ false → (x : T) × (r ≡ Ok x)
+some_ok (Ok x) e = (x, refl)
+some_ok (Err f) e = absurd (cc)

@@ -1,0 +1,225 @@
+-- Turns of a session that is served.
+use Rattle.std.proofs.Common.{◌≡◌, ◌≢◌, ℕ, ◌-◌, List, [], ◌∷◌, ◌++◌, Option, Some, Bool, true, false, Result, Ok, Err, slice_get, slice_set, zero, suc, refl, ap, sym, ◌∙◌, subst, append-nil}
+use Rattle.std.specs.Io.KnownBytes.{Appends}
+use Rattle.sf_wire.specs.declared.cutting.Cut.TheVariants as cut
+use Rattle.sf_wire.specs.Packets.{IsCut}
+use Rattle.sf_reply.specs.declared.reply.Reply.{Reply}
+use Rattle.sf_call.specs.declared.request.Request.{Request}
+use Rattle.sf_call.specs.declared.record.Record.{Record}
+use Rattle.sf_session.specs.declared.cause.Cause.TheVariants.{Closed}
+use Rattle.sf_session.specs.Sessions.{EndsBy}
+use Rattle.sf_engine.specs.declared.event.Event.TheVariants as event
+use Rattle.sf_engine.specs.declared.event.Happened.{Happened}
+use Rattle.sf_engine.specs.declared.event.Happened.TheVariants as happened
+use Rattle.sf_engine.specs.declared.event.EngineFault.{EngineFault}
+use Rattle.sf_engine.specs.Worlds.{ByCall, Phase, Resting, UnderWay, Decided, Gone, Told, World, with_told, is_here, is_here_in}
+use Rattle.sf_engine.specs.Traces.{has_begun, IsSession, TakesBytes, TurnLeads, RestLeads, StepLeads, with_answer, left_if_closed, calls_begun}
+use Rattle.sf_engine.specs.Views.{EngineView}
+use Rattle.sf_engine.specs.Fits.{GoesOnTrace}
+use Rattle.sf_line.specs.declared.line_call.LineCall.{LineCall}
+use Rattle.sf_serving.specs.Serving.{Scene, scene, IsFront, IsLow, IsLowAt, Progress, progress, Serves, IsInStep, GoesOn, HasTurn, IsIdle}
+use Rattle.sf_serving.proofs.Causes.{not_closed}
+use Rattle.sf_serving.proofs.Following.{Follows, Leading, go_on, same_told}
+
+-- what a turn may do to what is told of a session that takes bytes
+pub record Turned (t t' : Told) : Type 0 where
+  pub stream : t'.stream ≡ t.stream
+  pub sent : t'.sent ≡ t.sent
+  pub bodies : IsFront t.bodies t'.bodies
+  pub answers : IsFront t.answers t'.answers
+
+-- and what it came to
+abbrev pub ComesTo : Happened → Told → Told → Type 0
+ComesTo happened.Idle t t' = (t' ≡ t) × (t'.phase ≡ Resting) × IsCut t'.unread cut.More
+ComesTo (happened.Ended cause) t t' = (t'.phase ≡ Gone cause) × EndsBy (has_begun t.bodies) t.unread cause
+ComesTo _ t t' = TakesBytes t'
+
+same_front : {A : Type 0} (a b : List A) → b ≡ a → IsFront a b
+same_front a b e = ([], e ∙ sym (append-nil a))
+
+turned_same : (t t' : Told) → t' ≡ t → Turned t t'
+turned_same t t' e = record {
+  stream = ap (λ (z : Told). z.stream) e;
+  sent = ap (λ (z : Told). z.sent) e;
+  bodies = same_front t.bodies t'.bodies (ap (λ (z : Told). z.bodies) e);
+  answers = same_front t.answers t'.answers (ap (λ (z : Told). z.answers) e);
+}
+
+takes_same : (t t' : Told) → t' ≡ t → TakesBytes t → TakesBytes t'
+takes_same t t' e takes = subst (λ (z : Told). TakesBytes z) (sym e) takes
+
+rest_turned : (w : World) (s m : ℕ) (t : Told) (r : Happened) (added : List Record) (t' : Told) → t.phase ≡ Resting → TakesBytes t → RestLeads w s m t r added t' → Turned t t' × ComesTo r t t'
+rest_turned w s m t happened.Idle added t' rests takes g =
+    (turned_same t t' g.2, (g.2, ap (λ (z : Told). z.phase) g.2 ∙ rests, subst (λ (z : Told). IsCut z.unread cut.More) (sym g.2) g.0))
+rest_turned w s m t happened.Wrote added t' rests takes g = (
+  record {
+    stream = ap (λ (z : Told). z.stream) g.0.now;
+    sent = ap (λ (z : Told). z.sent) g.0.now;
+    bodies = (g.0.body ∷ [], ap (λ (z : Told). z.bodies) g.0.now);
+    answers = (g.0.answer ∷ [], ap (λ (z : Told). z.answers) g.0.now);
+  },
+  (ap (λ (z : Told). z.closed) g.0.now ∙ takes.0, ap (λ (z : Told). is_here z) g.0.now),
+)
+rest_turned w s m t happened.Begun added t' rests takes g = (
+  record {
+    stream = ap (λ (z : Told). z.stream) g.0.now;
+    sent = ap (λ (z : Told). z.sent) g.0.now;
+    bodies = (g.0.body ∷ [], ap (λ (z : Told). z.bodies) g.0.now);
+    answers = same_front t.answers t'.answers (ap (λ (z : Told). z.answers) g.0.now);
+  },
+  (ap (λ (z : Told). z.closed) g.0.now ∙ takes.0, ap (λ (z : Told). is_here z) g.0.now),
+)
+rest_turned w s m t (happened.Ended cause) added t' rests takes g = (
+  record {
+    stream = ap (λ (z : Told). z.stream) g.2;
+    sent = ap (λ (z : Told). z.sent) g.2;
+    bodies = same_front t.bodies t'.bodies (ap (λ (z : Told). z.bodies) g.2);
+    answers = same_front t.answers t'.answers (ap (λ (z : Told). z.answers) g.2);
+  },
+  (ap (λ (z : Told). z.phase) g.2, g.0),
+)
+rest_turned w s m t (happened.Opened n) added t' rests takes g = absurd g
+rest_turned w s m t happened.Fed added t' rests takes g = absurd g
+rest_turned w s m t happened.Moved added t' rests takes g = absurd g
+rest_turned w s m t (happened.Blocked n) added t' rests takes g = absurd g
+rest_turned w s m t happened.Decided added t' rests takes g = absurd g
+rest_turned w s m t happened.Closed added t' rests takes g = absurd g
+rest_turned w s m t happened.Sent added t' rests takes g = absurd g
+
+step_turned : (w : World) (s : ℕ) (t : Told) (id n k : ℕ) (q : Request) (moves : ℕ) (r : Happened) (added : List Record) (t' : Told) → TakesBytes t → StepLeads w s t id n k q moves r added t'
+    → Turned t t' × ComesTo r t t'
+step_turned w s t id n k q moves happened.Moved added t' takes g = (
+  record {
+    stream = ap (λ (z : Told). z.stream) g.2;
+    sent = ap (λ (z : Told). z.sent) g.2;
+    bodies = same_front t.bodies t'.bodies (ap (λ (z : Told). z.bodies) g.2);
+    answers = same_front t.answers t'.answers (ap (λ (z : Told). z.answers) g.2);
+  },
+  (ap (λ (z : Told). z.closed) g.2 ∙ takes.0, ap (λ (z : Told). is_here z) g.2),
+)
+step_turned w s t id n k q moves (happened.Blocked holder) added t' takes g = (turned_same t t' g.2, takes_same t t' g.2 takes)
+step_turned w s t id n k q moves happened.Decided added t' takes g = (
+  record {
+    stream = ap (λ (z : Told). z.stream) g.2;
+    sent = ap (λ (z : Told). z.sent) g.2;
+    bodies = same_front t.bodies t'.bodies (ap (λ (z : Told). z.bodies) g.2);
+    answers = same_front t.answers t'.answers (ap (λ (z : Told). z.answers) g.2);
+  },
+  (ap (λ (z : Told). z.closed) g.2 ∙ takes.0, ap (λ (z : Told). is_here z) g.2),
+)
+step_turned w s t id n k q moves (happened.Opened z) added t' takes g = absurd g
+step_turned w s t id n k q moves happened.Fed added t' takes g = absurd g
+step_turned w s t id n k q moves happened.Wrote added t' takes g = absurd g
+step_turned w s t id n k q moves happened.Begun added t' takes g = absurd g
+step_turned w s t id n k q moves happened.Idle added t' takes g = absurd g
+step_turned w s t id n k q moves (happened.Ended z) added t' takes g = absurd g
+step_turned w s t id n k q moves happened.Closed added t' takes g = absurd g
+step_turned w s t id n k q moves happened.Sent added t' takes g = absurd g
+
+-- a reply was written
+wrote_turned : (t : Told) (id n : ℕ) (q : Request) (given : Reply) (r : Happened) (t' : Told) → TakesBytes t → r ≡ happened.Wrote → t' ≡ left_if_closed t.closed (with_answer t (ByCall id n q given))
+    → Turned t t' × ComesTo r t t'
+wrote_turned t id n q given r t' takes is now =
+    let e : t' ≡ with_answer t (ByCall id n q given) = now ∙ ap (λ (c : Bool). left_if_closed c (with_answer t (ByCall id n q given))) takes.0 in
+    let came : ComesTo happened.Wrote t t' = (ap (λ (z : Told). z.closed) e ∙ takes.0, ap (λ (z : Told). is_here z) e) in (
+      record {
+        stream = ap (λ (z : Told). z.stream) e;
+        sent = ap (λ (z : Told). z.sent) e;
+        bodies = same_front t.bodies t'.bodies (ap (λ (z : Told). z.bodies) e);
+        answers = (ByCall id n q given ∷ [], ap (λ (z : Told). z.answers) e);
+      },
+      subst (λ (x : Happened). ComesTo x t t') (sym is) came,
+    )
+
+turned_by : (w : World) (s m : ℕ) (t : Told) (f : Phase) (r : Happened) (added : List Record) (t' : Told) → t.phase ≡ f → TakesBytes t → TurnLeads w s m t f r added t'
+    → Turned t t' × ComesTo r t t'
+turned_by w s m t Resting r added t' at takes g = rest_turned w s m t r added t' at takes g
+turned_by w s m t (UnderWay id n k q moves) r added t' at takes g = step_turned w s t id n k q moves r added t' takes g
+turned_by w s m t (Decided id n q given) r added t' at takes g = wrote_turned t id n q given r t' takes g.0 g.2
+turned_by w s m t (Gone cause) r added t' at takes g =
+    let here : is_here_in (Gone cause) ≡ true = subst (λ (f : Phase). is_here_in f ≡ true) at takes.1 in absurd (let no : false ≡ true = here in cc)
+
+get_set_same : (xs : List Told) (i : ℕ) (t u : Told) → slice_get xs i ≡ Some t → slice_get (slice_set xs i u) i ≡ Some u
+get_set_same [] i t u e = absurd cc
+get_set_same (x ∷ xs) zero t u e = refl
+get_set_same (x ∷ xs) (suc i) t u e = get_set_same xs i t u e
+
+-- what is told of a session that was written
+pub told_now : (w : World) (s : ℕ) (t t' : Told) (added : List Record) (more : ℕ) → IsSession w s t → IsSession (with_told w s t' added more) s t'
+told_now w s t t' added more session = (session.0, get_set_same w.sessions (s - 1) t t' session.1)
+
+-- what a turn comes to, refused or not
+abbrev pub TurnComesTo : Result Happened EngineFault → Told → Told → Type 0
+TurnComesTo (Ok r) t t' = ComesTo r t t'
+TurnComesTo (Err f) t t' = t' ≡ t
+
+abbrev pub After : Result Happened EngineFault → Told → List ℕ → Told → List ℕ → Type 0
+After r t unfed t' unfed' = (unfed' ≡ unfed) × (t'.sent ≡ t.sent) × TurnComesTo r t t'
+
+turn_follows : (t t' : Told) (unfed : List ℕ) → Turned t t' → Follows t t' unfed unfed
+turn_follows t t' unfed h = record {
+  read = ap (λ (b : List ℕ). b ++ unfed) h.stream;
+  stream = same_front t.stream t'.stream h.stream;
+  bodies = h.bodies;
+  answers = h.answers;
+}
+
+turn_leads : (s m : ℕ) (t : Told) (unfed : List ℕ) (r : Result Happened EngineFault) → TakesBytes t → Leading s t unfed (event.Turn s m) r (λ t' unfed'. After r t unfed t' unfed')
+turn_leads s m t unfed (Ok r) takes w w' added session leads =
+    let same : leads.0 ≡ t = same_told w s leads.0 t leads.2 session in
+    let P : World → Type 0 = λ z. IsSession z s leads.1 in
+    let L : Told → Type 0 = λ z. TurnLeads w s m z z.phase r added leads.1 in
+    let h = turned_by w s m t t.phase r added leads.1 refl takes (subst L same leads.3) in (
+      leads.1,
+      unfed,
+      subst P (sym leads.4) (told_now w s leads.0 leads.1 added (calls_begun r) leads.2),
+      turn_follows t leads.1 unfed h.0,
+      (refl, h.0.sent, h.1),
+    )
+turn_leads s m t unfed (Err f) takes w w' added session leads =
+    let P : World → Type 0 = λ z. IsSession z s t in (
+      t,
+      unfed,
+      subst P (sym leads.2) session,
+      turn_follows t t unfed (turned_same t t refl),
+      (refl, refl, refl),
+    )
+
+-- after a turn: the session goes on, waits for bytes, or has left
+abbrev pub TurnedTo : ℕ → Result Happened EngineFault → Progress → Type 0
+TurnedTo s (Ok happened.Idle) p = IsIdle s p
+TurnedTo s (Ok (happened.Ended cause)) p = IsInStep s p × (p.unfed ≡ []) × (p.told.phase ≡ Gone cause) × (cause ≢ Closed)
+TurnedTo s r p = GoesOn s p
+
+turned_to : (s : ℕ) (r : Result Happened EngineFault) (p p' : Progress) → GoesOn s p → IsInStep s p' → p'.unfed ≡ [] → TurnComesTo r p.told p'.told → TurnedTo s r p'
+turned_to s (Err f) p p' on step fed to = record { in_step = step; fed = fed; takes = takes_same p.told p'.told to on.takes }
+turned_to s (Ok happened.Idle) p p' on step fed to = (record { in_step = step; fed = fed; takes = takes_same p.told p'.told to.0 on.takes }, to.1, to.2)
+turned_to s (Ok (happened.Ended cause)) p p' on step fed to = (step, fed, to.0, λ e. not_closed (has_begun p.told.bodies) p.told.unread cause e to.1)
+turned_to s (Ok (happened.Opened n)) p p' on step fed to = record { in_step = step; fed = fed; takes = to }
+turned_to s (Ok happened.Fed) p p' on step fed to = record { in_step = step; fed = fed; takes = to }
+turned_to s (Ok happened.Moved) p p' on step fed to = record { in_step = step; fed = fed; takes = to }
+turned_to s (Ok (happened.Blocked n)) p p' on step fed to = record { in_step = step; fed = fed; takes = to }
+turned_to s (Ok happened.Decided) p p' on step fed to = record { in_step = step; fed = fed; takes = to }
+turned_to s (Ok happened.Wrote) p p' on step fed to = record { in_step = step; fed = fed; takes = to }
+turned_to s (Ok happened.Begun) p p' on step fed to = record { in_step = step; fed = fed; takes = to }
+turned_to s (Ok happened.Closed) p p' on step fed to = record { in_step = step; fed = fed; takes = to }
+turned_to s (Ok happened.Sent) p p' on step fed to = record { in_step = step; fed = fed; takes = to }
+
+-- one turn
+pub turned_serves : (start : Scene) (incoming outgoing : Option (List ℕ)) (calls : Option (List LineCall)) (told told' : Option (List ℕ)) (e e' : EngineView) (s m : ℕ) (r : Result Happened EngineFault)
+    → Serves start (scene incoming outgoing calls told e) (HasTurn s) → GoesOnTrace e (event.Turn s m) r e' → Appends told told' (m ∷ [])
+    → Serves start (scene incoming outgoing calls told' e') (TurnedTo s r)
+turned_serves start incoming outgoing calls told told' e e' s m r serves goes appends trace fits =
+    let h = serves trace fits in
+    let p = h.0 in
+    let on = h.2.0 in
+    let mine : GoesOnTrace e (event.Turn p.session m) r e' = subst (λ (k : ℕ). GoesOnTrace e (event.Turn k m) r e') (sym on.in_step.0) goes in
+    let low : (w : World) → IsSession w p.session p.told → IsLowAt w p.session (event.Turn p.session m) =
+    λ w is t other. subst (λ (z : Told). IsLow z) (same_told w p.session p.told t is other) h.2.1 in
+    let g = go_on start (scene incoming outgoing calls told e) told' e' trace fits p (event.Turn p.session m) r (λ t' unfed'. After r p.told p.unfed t' unfed') h.1 mine refl appends low
+    (turn_leads p.session m p.told p.unfed r on.takes) in
+    let after = g.3 in (
+      progress p.session g.0 g.1 p.written,
+      g.2,
+      turned_to s r p (progress p.session g.0 g.1 p.written) on (on.in_step.0, on.in_step.1 ∙ sym after.1) (after.0 ∙ on.fed) after.2,
+    )
