@@ -1,5 +1,5 @@
 -- Every record is of a call that began.
-use Rattle.std.proofs.Common.{◌≡◌, ◌≢◌, ℕ, zero, suc, ◌+◌, ◌-◌, ◌⊎◌, List, [], ◌∷◌, ◌++◌, Some, Bool, true, false, Result, Ok, Err, slice_get, slice_set, refl, ap, sym, ◌∙◌, subst, arith, inl, inr, append-nil, append_assoc}
+use Rattle.std.proofs.Common.{◌≡◌, ℕ, ◌+◌, ◌-◌, ◌⊎◌, List, [], ◌∷◌, ◌++◌, Some, Bool, true, false, Result, Ok, Err, slice_get, slice_set, refl, ap, sym, ◌∙◌, subst, arith, inl, inr, append-nil, append_assoc}
 use Rattle.std.specs.List.{AllByRecursion}
 use Rattle.std.proofs.lemmas.Bool.{cases_eq}
 use Rattle.std.proofs.lemmas.List.{flat_map_more}
@@ -14,7 +14,7 @@ use Rattle.sf_engine.specs.declared.event.Happened.{Happened}
 use Rattle.sf_engine.specs.declared.event.Happened.TheVariants as happened
 use Rattle.sf_engine.specs.declared.event.EngineFault.{EngineFault}
 use Rattle.sf_engine.specs.Worlds.{Entry, Phase, Resting, UnderWay, Decided, Gone, ByCall, Told, new_told, World, start, with_told}
-use Rattle.sf_engine.specs.Traces.{TurnLeads, RestLeads, StepLeads, IsUnderWay, IsHelped, Decides, Happens, LeadsBy, Leads, Runs, Tells, order, IsSession, calls_begun, with_answer, left_if_closed, leaving, left_by_close, closed_now, fed, sent_more}
+use Rattle.sf_engine.specs.Traces.{TurnLeads, RestLeads, IsUnderWay, IsHelped, Decides, Happens, LeadsBy, Leads, Runs, Tells, order, IsSession, calls_begun, with_answer, left_if_closed, leaving, left_by_close, closed_now, fed, sent_more}
 use Rattle.sf_engine.specs.Fits.{entry_of}
 use Rattle.sf_engine.specs.Laws.{Began, begins_at, FollowsBeginning}
 use Rattle.sf_engine.proofs.Moving.{get_set_same, get_set_other}

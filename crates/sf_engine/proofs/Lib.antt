@@ -9,9 +9,11 @@ pub mod Turning
 pub mod Feeding
 pub mod Opening
 pub mod Running
+pub mod Quiet
 pub mod Orders
 pub mod Reading
 pub mod Beginning
 pub mod SentBytes
 pub mod OneWorld
 pub mod Sending
+pub mod Examples

@@ -1,11 +1,9 @@
 -- A trace tells one world.
-use Rattle.std.proofs.Common.{◌≡◌, ◌≢◌, ℕ, zero, suc, ◌+◌, ◌-◌, ◌<◌, ◌⊎◌, List, [], ◌∷◌, ◌++◌, Some, None, Option, Bool, true, false, Result, Ok, Err, slice_get, slice_set, length, take, drop, refl, ap, sym, ◌∙◌, subst, arith, inl, inr, append-nil, append_assoc}
-use Rattle.std.specs.List.{AllByRecursion}
+use Rattle.std.proofs.Common.{◌≡◌, ℕ, ◌+◌, ◌-◌, ◌<◌, List, [], ◌∷◌, ◌++◌, Some, Bool, true, false, Result, Ok, Err, slice_get, slice_set, length, take, drop, refl, ap, sym, ◌∙◌, subst, arith, inl, inr, append_assoc}
 use Rattle.std.proofs.Math.Seq.{drop-append_seam, take-append_seam}
 use Rattle.std.proofs.lemmas.Bool.{cases_eq}
 use Rattle.std.proofs.lemmas.List.Elements.{All-append, All-take, All-drop, All-nil, All-same}
 use Rattle.sf_field.specs.Fields.{AreBytes, be32, packet}
-use Rattle.sf_wire.specs.Packets.{IsBody}
 use Rattle.sf_wire.proofs.Laws.{one_packet}
 use Rattle.sf_request.specs.declared.request.Asked.{Asked}
 use Rattle.sf_request.specs.Requests.{Asks}
@@ -14,20 +12,19 @@ use Rattle.sf_call.specs.declared.fault.CoreFault.{CoreFault}
 use Rattle.sf_call.specs.declared.fault.CoreFault.TheVariants as core
 use Rattle.sf_call.specs.declared.request.Request.{Request}
 use Rattle.sf_call.specs.declared.record.Record.{Record}
-use Rattle.sf_call.specs.declared.record.Record.TheVariants.{Did, Left}
+use Rattle.sf_call.specs.declared.record.Record.TheVariants.{Did}
 use Rattle.sf_call.specs.Histories.{IsLegal, IsLegalAfter, IsAmong, record_of}
 use Rattle.sf_session.specs.declared.asking.Ask.{Ask}
 use Rattle.sf_session.specs.declared.asking.Ask.TheVariants as ask
 use Rattle.sf_session.specs.Asking.{AsksFor, ask_in}
 use Rattle.sf_session.specs.Sessions.{Begins}
-use Rattle.sf_core.specs.Cores.{last_number}
 use Rattle.sf_engine.specs.declared.event.Event.{Event}
 use Rattle.sf_engine.specs.declared.event.Event.TheVariants as event
 use Rattle.sf_engine.specs.declared.event.Happened.{Happened}
 use Rattle.sf_engine.specs.declared.event.Happened.TheVariants as happened
 use Rattle.sf_engine.specs.declared.event.EngineFault.{EngineFault}
 use Rattle.sf_engine.specs.Worlds.{Entry, Answered, Version, Locally, ByCall, Refused, asked_by, transcript, Phase, Resting, UnderWay, Decided, Gone, Told, new_told, World, start, with_told, with_phase}
-use Rattle.sf_engine.specs.Traces.{has_begun, IsSession, IsAtOnce, AnswersAtOnce, BeginsCall, Decides, TurnLeads, RestLeads, StepLeads, Happens, LeadsBy, Leads, Runs, Tells, order, left_if_closed, with_answer, closed_now, fed, sent_more, calls_begun}
+use Rattle.sf_engine.specs.Traces.{has_begun, IsSession, IsAtOnce, Decides, TurnLeads, RestLeads, Happens, LeadsBy, Runs, Tells, order, left_if_closed, with_answer, closed_now, fed, sent_more, calls_begun}
 use Rattle.sf_engine.specs.Laws.{IsOfBytes, AreOfBytes}
 use Rattle.sf_engine.specs.Views.{EngineView}
 use Rattle.sf_engine.specs.Fits.{Fits, IsSentBy}

@@ -1,5 +1,5 @@
 -- The order of a trace: what each entry adds, and that nobody is told want of memory who takes none.
-use Rattle.std.proofs.Common.{◌≡◌, ℕ, List, [], ◌∷◌, ◌++◌, Bool, true, false, Result, Ok, Err, refl, ap, sym, ◌∙◌, subst, inl, inr, append-nil, append_assoc}
+use Rattle.std.proofs.Common.{◌≡◌, ℕ, List, [], ◌∷◌, ◌++◌, Bool, true, false, Result, Ok, Err, ap, sym, ◌∙◌, subst, inl, inr, append-nil, append_assoc}
 use Rattle.sf_call.specs.declared.record.Record.{Record}
 use Rattle.sf_call.specs.declared.record.Record.TheVariants.{Did, Left}
 use Rattle.sf_call.specs.Histories.{IsAmong}
@@ -10,7 +10,7 @@ use Rattle.sf_engine.specs.declared.event.Happened.TheVariants as happened
 use Rattle.sf_engine.specs.declared.event.EngineFault.{EngineFault}
 use Rattle.sf_engine.specs.Deciding.{IsSure, AreSure}
 use Rattle.sf_engine.specs.Worlds.{Entry, Phase, Resting, UnderWay, Decided, Gone, Told, World, start}
-use Rattle.sf_engine.specs.Traces.{TurnLeads, RestLeads, StepLeads, Decides, Happens, LeadsBy, Leads, Runs, Tells, order, left_by_close, leaving}
+use Rattle.sf_engine.specs.Traces.{TurnLeads, RestLeads, Decides, Happens, LeadsBy, Leads, Runs, Tells, order, left_by_close, leaving}
 
 happens_records : (w w' : World) (e : Event) (r : Happened) (added : List Record) → Happens w e r added w' → w'.records ≡ w.records ++ added
 happens_records w w' event.Open r added g = ap (λ (z : World). z.records) g.3 ∙ sym (append-nil w.records) ∙ ap (λ (xs : List Record). w.records ++ xs) (sym g.2)

@@ -24,7 +24,7 @@ use Rattle.sf_engine.specs.declared.seat.Seat.{Seat}
 use Rattle.sf_engine.specs.declared.seat.Place.{Place}
 use Rattle.sf_engine.specs.declared.event.Happened.{Happened}
 use Rattle.sf_engine.specs.declared.event.Happened.TheVariants as happened
-use Rattle.sf_engine.specs.Worlds.{Answered, Version, Locally, Refused, asked_by, packet_for, transcript, Phase, Resting, UnderWay, Told, World, with_phase}
+use Rattle.sf_engine.specs.Worlds.{Answered, Version, Locally, Refused, asked_by, packet_for, transcript, Resting, UnderWay, Told, World, with_phase}
 use Rattle.sf_engine.specs.Traces.{has_begun, IsAtOnce, RestLeads, left_for, calls_begun}
 use Rattle.sf_engine.specs.Turns.{seated, new_part, Reads}
 use Rattle.sf_engine.specs.Fits.{IsResting, SeatAgrees}

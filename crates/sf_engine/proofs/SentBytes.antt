@@ -1,5 +1,5 @@
 -- What was sent of a session's output is the front of its transcript.
-use Rattle.std.proofs.Common.{◌≡◌, ◌≢◌, ℕ, zero, suc, ◌+◌, ◌-◌, ◌<◌, ◌≤◌, ◌⊎◌, List, [], ◌∷◌, ◌++◌, Some, Bool, true, false, Result, Ok, Err, slice_get, slice_set, length, take, drop, refl, ap, sym, ◌∙◌, subst, arith, inl, inr, append-nil, append_assoc, length-append, length-set}
+use Rattle.std.proofs.Common.{◌≡◌, ◌≢◌, ℕ, zero, suc, ◌+◌, ◌-◌, ◌<◌, ◌⊎◌, List, [], ◌∷◌, ◌++◌, Some, Bool, true, false, Result, Ok, Err, slice_get, slice_set, length, take, drop, refl, ap, sym, ◌∙◌, subst, arith, inl, inr, append-nil, append_assoc, length-append, length-set}
 use Rattle.std.specs.Prelude.{nat_eq}
 use Rattle.std.proofs.Math.Seq.{drop-append_seam}
 use Rattle.std.proofs.lemmas.Bool.{cases_eq, ne_eqb, eq-eqb}
@@ -12,7 +12,7 @@ use Rattle.sf_engine.specs.declared.event.Happened.{Happened}
 use Rattle.sf_engine.specs.declared.event.Happened.TheVariants as happened
 use Rattle.sf_engine.specs.declared.event.EngineFault.{EngineFault}
 use Rattle.sf_engine.specs.Worlds.{Entry, Answered, ByCall, packet_for, transcript, output_of, Phase, Resting, UnderWay, Decided, Gone, Told, new_told, World, start, with_told}
-use Rattle.sf_engine.specs.Traces.{TurnLeads, RestLeads, Happens, LeadsBy, Leads, Runs, Tells, IsSession, calls_begun, left_if_closed, with_answer, closed_now, fed, sent_more}
+use Rattle.sf_engine.specs.Traces.{TurnLeads, RestLeads, Happens, LeadsBy, Runs, Tells, IsSession, calls_begun, left_if_closed, with_answer, closed_now, fed, sent_more}
 use Rattle.sf_engine.specs.Laws.{sent_if, sent_at, sent_in, IsSentAs}
 use Rattle.sf_engine.proofs.Moving.{get_set_same, get_set_other}
 use Rattle.sf_engine.proofs.Resting.{transcript_push}

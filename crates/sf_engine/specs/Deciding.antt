@@ -14,7 +14,8 @@ use Rattle.sf_walk.specs.Served.{may_want_memory}
 -- on a path where all its names but the last are walked, or where the next is missing or no directory.
 abbrev pub Stops : Tree → Option Path → ℕ → Type 0
 Stops tree None moves = moves ≡ 0
-Stops tree (Some path) moves = (moves ≡ length path) ⊎ ((0 < moves) × (moves < length path) × (is_directory tree (take moves path) ≡ false))
+Stops tree (Some path) moves =
+    (moves ≡ length path) ⊎ ((0 < moves) × (moves < length path) × (is_directory tree (take moves path) ≡ false))
 
 -- so does the call of a record
 abbrev pub HasStopped : Tree → ℕ → Record → Type 0

@@ -1,5 +1,5 @@
 -- When an engine fits a trace.
-use Rattle.std.specs.Prelude.{◌≡◌, ◌≢◌, ◌<◌, ◌+◌, ◌≤◌, ◌⊎◌, ℕ, List, [], ◌∷◌, ◌++◌, length, Some, None, Result, slice_get}
+use Rattle.std.specs.Prelude.{◌≡◌, ◌≢◌, ◌<◌, ◌+◌, ◌≤◌, ◌⊎◌, ◌↔◌, IsTrue, Bool, ℕ, List, [], ◌∷◌, ◌++◌, length, Some, None, Result, slice_get}
 use Rattle.sf_reply.specs.declared.reply.Reply.{Reply}
 use Rattle.sf_call.specs.declared.call.Call.{Call}
 use Rattle.sf_call.specs.declared.call.Stage.{Stage}
@@ -87,7 +87,8 @@ pub record Agrees (w : World) (e : EngineView) : Type 0 where
   pub opened : e.core.joins ≡ length w.sessions
   pub here : joined e.core ≡ here w
   pub count : length e.seats ≡ length w.sessions
-  pub each : (i : ℕ) (t : Told) (p : Seat) → slice_get w.sessions i ≡ Some t → slice_get e.seats i ≡ Some p → SeatAgrees e.core (i + 1) t p
+  pub each : (i : ℕ) (t : Told) (p : Seat) → slice_get w.sessions i ≡ Some t → slice_get e.seats i ≡ Some p
+      → SeatAgrees e.core (i + 1) t p
   pub nobody : (s : ℕ) → (s ≡ 0) ⊎ (length w.sessions < s) → slot_of e.core s ≡ Gone
 
 -- The trace is lawful. Its order is a legal history, and the core's. What the engine keeps is what the trace leaves.
@@ -113,17 +114,34 @@ passage old history added new = record { old = old.core; history = history; adde
 -- to the core is the step of the session's call, and so much work at most.
 abbrev pub GoesOnTrace : EngineView → Event → Result Happened EngineFault → EngineView → Type 0
 GoesOnTrace old event result new = (trace : List Entry) → (fits : Fits old trace)
-    → (added : List Record) × (now : Fits new (trace ++ entry_of event result added ∷ [])) × Leads fits.world (entry_of event result added) now.world
-    × IsStep event result (passage old fits.world.records added new) × IsWork event (passage old fits.world.records added new)
+    → (added : List Record)
+    × (now : Fits new (trace ++ entry_of event result added ∷ []))
+    × Leads fits.world (entry_of event result added) now.world
+    × IsStep event result (passage old fits.world.records added new)
+    × IsWork event (passage old fits.world.records added new)
 
 -- The engine fits each trace that it fitted, followed by one entry for each event, so many of them refused.
 abbrev pub RunsTrace : EngineView → List Event → ℕ → EngineView → Type 0
-RunsTrace old events refused new = (trace : List Entry) → Fits old trace → (entries : List Entry) × AreEntries events entries refused × Fits new (trace ++ entries)
+RunsTrace old events refused new = (trace : List Entry) → Fits old trace
+    → (entries : List Entry) × AreEntries events entries refused × Fits new (trace ++ entries)
 
 -- what a session's output is, by each trace that the engine fits: it follows what was sent, and both are the transcript of what the
 -- session was answered
 abbrev pub IsSentBy : EngineView → ℕ → List ℕ → Type 0
-IsSentBy e session output = (trace : List Entry) → (fits : Fits e trace) → (t : Told) × IsSession fits.world session t × (transcript t.answers ≡ t.sent ++ output)
+IsSentBy e session output = (trace : List Entry) → (fits : Fits e trace)
+    → (t : Told) × IsSession fits.world session t × (transcript t.answers ≡ t.sent ++ output)
+
+-- no call of a session goes on: none is under way, and no answer waits to be written
+abbrev pub IsQuiet : Phase → Type 0
+IsQuiet Resting = Unit {0}
+IsQuiet (UnderWay id number moment request moves) = ⊥
+IsQuiet (Decided id number request reply) = ⊥
+IsQuiet (left cause) = Unit {0}
+
+-- whether that is so of all sessions, by each trace that the engine fits
+abbrev pub IsQuietBy : EngineView → Bool → Type 0
+IsQuietBy e quiet = (trace : List Entry) → (fits : Fits e trace)
+    → IsTrue quiet ↔ ((session : ℕ) (t : Told) → IsSession fits.world session t → IsQuiet t.phase)
 
 -- by each trace that the engine fits there is no such session
 abbrev pub IsUnknown : EngineView → ℕ → Type 0

@@ -6,3 +6,4 @@ pub mod Works
 pub mod Fits
 pub mod Turns
 pub mod Laws
+pub mod Examples

@@ -11,7 +11,7 @@ use Rattle.sf_call.specs.Answers.{Answered as Answer}
 use Rattle.sf_session.specs.declared.cause.Cause.TheVariants.{Closed}
 use Rattle.sf_session.specs.declared.session.Next.TheVariants as next
 use Rattle.sf_session.specs.Sessions.{SessionView, NextGives, refusal_of}
-use Rattle.sf_core.specs.Lanes.{LaneView, at_rest}
+use Rattle.sf_core.specs.Lanes.{LaneView}
 use Rattle.sf_session.specs.Sessions.{new_session}
 use Rattle.sf_core.specs.Cores.Slot.{Idle}
 use Rattle.sf_core.specs.Cores.{CoreView, slot_of, joined, most_sessions, last_number}
@@ -109,6 +109,13 @@ IsPlaced v x (place.Resting lane) = (lane.call ≡ None) × (slot_of v lane.sess
 IsPlaced v x (place.UnderWay lane) = (h : List Record) × (c : Call) × IsHistory v h × OwnCall v lane c
 IsPlaced v x (place.Answered lane a) = (lane.call ≡ None) × (slot_of v lane.session ≡ Idle) × IsSome x.waiting
 IsPlaced v x (place.Left cause) = Unit {0}
+
+-- whether a session's call goes on: it is under way, or its answer waits
+abbrev pub is_busy : Place → Bool
+is_busy (place.Resting lane) = false
+is_busy (place.UnderWay lane) = true
+is_busy (place.Answered lane given) = true
+is_busy (place.Left cause) = false
 
 -- what a turn gives, by the place before it
 abbrev pub PlaceGives : Part → Place → ℕ → Happened → NewPart → Type 0
