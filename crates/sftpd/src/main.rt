@@ -4,7 +4,7 @@
 //! system's streams and clock are taken. `stdio.rt` serves one session on standard input and output; its
 //! contract says when the exit status is 0, and `specs/Statuses.antt` which status each end has.
 //! `clock.rt` tells the moment of a call. All else is in the crates below; the promise is `serve_one`'s,
-//! of `sf_service`.
+//! of `sf_serving`.
 #![tactic(auto)]
 
 pub mod client;

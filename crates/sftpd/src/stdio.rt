@@ -7,7 +7,7 @@ ghost use Rattle.sf_session.specs.declared.cause.Cause.{Cause};
 ghost use Rattle.sf_session.specs.declared.fault.ServeFault.{ServeFault};
 ghost use Rattle.sf_engine.specs.Views.{EngineView};
 ghost use Rattle.sf_serving.specs.Serving.{scene};
-ghost use Rattle.sftpd.specs.Statuses.{status_of, ending_line, line_of, ComesTo, SessionEnds};
+ghost use Rattle.sftpd.specs.Statuses.{status_of, line_of_cause, line_of, ComesTo, SessionEnds};
 
 use sf_engine::Engine;
 use sf_line::{Line, LineFault, write_all};
@@ -50,7 +50,10 @@ fn serve<L: Line, C: Clock>(
         (scene (L.incoming line.new) (L.outgoing line.new) (L.calls line.new) (C.told clock.new)) (L.failed line.old) (L.failed line.new) result }
 {
     match Engine::with_keep(alloc, keep) {
-        Ok(engine) => serve_on(alloc, engine, line, clock),
+        Ok(engine) => {
+            let mut engine = engine;
+            serve_on(alloc, &mut engine, line, clock)
+        }
         Err(_) => Err(ServeFault::OutOfMemory),
     }
 }
@@ -58,16 +61,17 @@ fn serve<L: Line, C: Clock>(
 /// Serves the session on this engine.
 fn serve_on<L: Line, C: Clock>(
     alloc: Global,
-    engine: Engine,
+    engine: &mut Engine,
     line: &mut L,
     clock: &mut C,
 ) -> Result<Cause, ServeFault>
-    ensures { (last : EngineView)
-        × ComesTo (scene (L.incoming line.old) (L.outgoing line.old) (L.calls line.old) (C.told clock.old) engine)
-            (scene (L.incoming line.new) (L.outgoing line.new) (L.calls line.new) (C.told clock.new) last) (L.failed line.old) (L.failed line.new) result }
+    ensures { ComesTo (scene (L.incoming line.old) (L.outgoing line.old) (L.calls line.old) (C.told clock.old) engine.old)
+        (scene (L.incoming line.new) (L.outgoing line.new) (L.calls line.new) (C.told clock.new) engine.new) (L.failed line.old) (L.failed line.new) result }
 {
-    let mut engine = engine;
-    serve_one(alloc, &mut engine, line, clock)
+    match serve_one(alloc, engine, line, clock) {
+        Ok(cause) => Ok(cause),
+        Err(fault) => Err(fault),
+    }
 }
 
 /// The exit status.
@@ -85,19 +89,33 @@ fn report<E: Line>(errors: &mut E, outcome: Result<Cause, ServeFault>) -> Result
     ensures told { OnOk result (Appends (E.outgoing errors.old) (E.outgoing errors.new) (line_of outcome)) }
     ensures fault { OnErr result (Rose (E.failed errors.old) (E.failed errors.new)) }
 {
+    write_all(errors, line_bytes(outcome))
+}
+
+/// The line that the end of a session is told by.
+fn line_bytes(outcome: Result<Cause, ServeFault>) -> &'static [u8]
+    ensures { result.now ≡ line_of outcome }
+{
     match outcome {
-        Ok(Cause::Closed) => Ok(()),
-        Ok(cause) => report_ending(errors, cause),
-        Err(ServeFault::OutOfMemory) => write_all(errors, b"sftpd: out of memory\n"),
-        Err(_) => write_all(errors, b"sftpd: stream\n"),
+        Ok(cause) => ending_bytes(cause),
+        Err(ServeFault::OutOfMemory) => b"sftpd: out of memory\n",
+        Err(ServeFault::Line) => b"sftpd: stream\n",
+        Err(ServeFault::Sessions) => b"sftpd: stream\n",
+        Err(ServeFault::Stranger) => b"sftpd: stream\n",
+        Err(ServeFault::NumbersSpent) => b"sftpd: stream\n",
     }
 }
 
-fn report_ending<E: Line>(errors: &mut E, cause: Cause) -> Result<(), LineFault>
-    ensures told { OnOk result (Appends (E.outgoing errors.old) (E.outgoing errors.new) (ending_line cause)) }
-    ensures fault { OnErr result (Rose (E.failed errors.old) (E.failed errors.new)) }
+fn ending_bytes(cause: Cause) -> &'static [u8]
+    ensures { result.now ≡ line_of_cause cause }
 {
-    write_all(errors, b"sftpd: session ended: ")?;
-    write_all(errors, cause.words().as_bytes())?;
-    write_all(errors, b"\n")
+    match cause {
+        Cause::NotInit => b"sftpd: session ended: first packet is not INIT\n",
+        Cause::OldVersion => b"sftpd: session ended: client version below 3\n",
+        Cause::SecondInit => b"sftpd: session ended: second INIT\n",
+        Cause::ZeroLength => b"sftpd: session ended: length 0\n",
+        Cause::TooLong => b"sftpd: session ended: length above 262144\n",
+        Cause::NoId => b"sftpd: session ended: no room for an id\n",
+        Cause::Closed => b"",
+    }
 }
