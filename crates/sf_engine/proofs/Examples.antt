@@ -1,11 +1,11 @@
 -- What the example's trace tells.
-use Rattle.std.proofs.Common.{◌≡◌, ℕ, ◌<◌, ◌^◌, List, [], ◌∷◌, ◌++◌, true, false, refl, ap, sym, arith, inl, inr, Vec, Global}
+use Rattle.std.proofs.Common.{◌≡◌, ℕ, ◌<◌, List, [], ◌∷◌, ◌++◌, true, false, refl, ap, sym, arith, inl, inr, Vec, Global}
 use Rattle.std.specs.Ordering.{nat_cmp}
 use Rattle.std.specs.List.Sorted.{IsStrictlySortedBy}
 use Rattle.sf_request.specs.declared.request.Asked.TheVariants.{Init, Request as Requested}
-use Rattle.sf_request.specs.declared.request.WireRequest.{WireRequest}
 use Rattle.sf_request.specs.declared.request.WireRequest.TheVariants as wire
-use Rattle.sf_request.specs.Requests.{Asks, RequestFits, request_body, init_body}
+use Rattle.sf_request.proofs.Laws.{sent_asks, init_asks}
+use Rattle.sf_request.specs.Requests.{request_body, init_body}
 use Rattle.sf_reply.specs.declared.reply.Reply.{Reply}
 use Rattle.sf_reply.specs.declared.reply.Reply.TheVariants as reply
 use Rattle.sf_reply.specs.declared.reply.StatusCode.TheVariants.{Success}
@@ -18,9 +18,6 @@ use Rattle.sf_engine.specs.Deciding.{AreSure}
 use Rattle.sf_engine.specs.Worlds.{Version, ByCall, transcript, Resting, UnderWay, Decided, Entry, Told, new_told, World, start, with_phase}
 use Rattle.sf_engine.specs.Traces.{Leads, Runs, Tells, IsSession, AnswersAtOnce, BeginsCall, CarriesOut, IsOthersCall}
 use Rattle.sf_engine.specs.Examples.{init_packet, mkdir_packet, stat_packet, mkdir, stat, made, found, example, version_packet, ok_packet, attrs_packet}
-
-abbrev pub SentRequests : Type 0
-SentRequests = (id : ℕ) (r : WireRequest) → id < 2 ^ 32 → RequestFits r → Asks (request_body id r) (Requested id r)
 
 abbrev mkdir_body : List ℕ
 mkdir_body = request_body 7 (wire.Mkdir (47 ∷ 97 ∷ []) no_attrs)
@@ -87,15 +84,15 @@ sure_found : AreSure (made ∷ []) (found ∷ [])
 unfolding AreSure
 sure_found = (λ e k. cc, tt)
 
-module _ (init : Asks init_body (Init 3)) (asks : SentRequests) (first second : Vec ℕ Global) (one : first.items ≡ init_packet ++ mkdir_packet) (other : second.items ≡ init_packet ++ stat_packet) where
+module _ (first second : Vec ℕ Global) (one : first.items ≡ init_packet ++ mkdir_packet) (other : second.items ≡ init_packet ++ stat_packet) where
   mkdir_asks : AsksFor true mkdir_body (ask.Call 7 mkdir)
-  mkdir_asks = (Requested 7 (wire.Mkdir (47 ∷ 97 ∷ []) no_attrs), asks 7 (wire.Mkdir (47 ∷ 97 ∷ []) no_attrs) (omega arith) (omega arith, record { size = tt; owner = tt; permissions = tt; times = tt }), refl)
+  mkdir_asks = (Requested 7 (wire.Mkdir (47 ∷ 97 ∷ []) no_attrs), sent_asks 7 (wire.Mkdir (47 ∷ 97 ∷ []) no_attrs) (omega arith) (omega arith, record { size = tt; owner = tt; permissions = tt; times = tt }), refl)
 
   stat_asks : AsksFor true stat_body (ask.Call 8 stat)
-  stat_asks = (Requested 8 (wire.Stat (47 ∷ 97 ∷ [])), asks 8 (wire.Stat (47 ∷ 97 ∷ [])) (omega arith) (omega arith), refl)
+  stat_asks = (Requested 8 (wire.Stat (47 ∷ 97 ∷ [])), sent_asks 8 (wire.Stat (47 ∷ 97 ∷ [])) (omega arith) (omega arith), refl)
 
   version_asks : AsksFor false init_body ask.Version
-  version_asks = (Init 3, init, refl)
+  version_asks = (Init 3, init_asks, refl)
 
   wrote_first : AnswersAtOnce (two (fed_with (init_packet ++ mkdir_packet)) (fed_with (init_packet ++ stat_packet)) [] 0) (fed_with (init_packet ++ mkdir_packet)) t1
   wrote_first = record {
@@ -186,7 +183,7 @@ pub second_output : transcript u3.answers ≡ version_packet ++ attrs_packet
 unfolding transcript
 second_output = refl
 
-pub shown_by : SentRequests → Asks init_body (Init 3) → (first second : Vec ℕ Global) → first.items ≡ init_packet ++ mkdir_packet → second.items ≡ init_packet ++ stat_packet
+pub shown_by : (first second : Vec ℕ Global) → first.items ≡ init_packet ++ mkdir_packet → second.items ≡ init_packet ++ stat_packet
     → (w : World) × (t : Told) × (u : Told) × Tells (example first second) w × IsSession w 1 t × IsSession w 2 u × (transcript t.answers ≡ version_packet ++ ok_packet) × (transcript u.answers ≡ version_packet ++ attrs_packet)
-shown_by asks init first second one other =
-    (two t3 u3 (made ∷ found ∷ []) 2, t3, u3, tells init asks first second one other, (omega arith, refl), (omega arith, refl), first_output, second_output)
+shown_by first second one other =
+    (two t3 u3 (made ∷ found ∷ []) 2, t3, u3, tells first second one other, (omega arith, refl), (omega arith, refl), first_output, second_output)

@@ -5,15 +5,15 @@ use Rattle.std.proofs.lemmas.Bool.{cases_eq}
 use Rattle.std.proofs.lemmas.List.Elements.{All-append, All-take, All-drop, All-nil, All-same}
 use Rattle.sf_field.specs.Fields.{AreBytes, be32, packet}
 use Rattle.sf_wire.proofs.Laws.{one_packet}
+use Rattle.sf_request.proofs.Laws.{one_question}
 use Rattle.sf_request.specs.declared.request.Asked.{Asked}
-use Rattle.sf_request.specs.Requests.{Asks}
 use Rattle.sf_reply.specs.declared.reply.Reply.{Reply}
 use Rattle.sf_call.specs.declared.fault.CoreFault.{CoreFault}
 use Rattle.sf_call.specs.declared.fault.CoreFault.TheVariants as core
 use Rattle.sf_call.specs.declared.request.Request.{Request}
 use Rattle.sf_call.specs.declared.record.Record.{Record}
 use Rattle.sf_call.specs.declared.record.Record.TheVariants.{Did}
-use Rattle.sf_call.specs.Histories.{IsLegal, IsLegalAfter, IsAmong, record_of}
+use Rattle.sf_call.specs.Histories.{IsLegal, IsLegalAfter, IsAmong, IsOther, IsNewNumber, MayFollow}
 use Rattle.sf_session.specs.declared.asking.Ask.{Ask}
 use Rattle.sf_session.specs.declared.asking.Ask.TheVariants as ask
 use Rattle.sf_session.specs.Asking.{AsksFor, ask_in}
@@ -32,14 +32,6 @@ use Rattle.sf_engine.proofs.Moving.{get_set_same, get_set_other}
 use Rattle.sf_engine.proofs.Orders.{leads_records}
 use Rattle.sf_engine.proofs.Reading.{new_get}
 
--- what the laws of the crates below say: a body asks one thing, and a call's number leads to its record
-abbrev pub OneQuestion : Type 0
-OneQuestion = (body : List ℕ) (asked other : Asked) → AreBytes body → Asks body asked → Asks body other → asked ≡ other
-
-abbrev pub FoundByNumber : Type 0
-FoundByNumber = (number session moment : ℕ) (request : Request) (reply : Reply) (history : List Record)
-    → IsLegal history → IsAmong (Did number session moment request reply) history → record_of number history ≡ Some (Did number session moment request reply)
-
 -- ---- one reading of a body
 
 whole_bytes : (body rest : List ℕ) → AreBytes (packet body ++ rest) → AreBytes body
@@ -57,8 +49,8 @@ rest_bytes body rest h =
 one_body : (unread body rest body' rest' : List ℕ) → Begins unread body rest → Begins unread body' rest' → (body ≡ body') × (rest ≡ rest')
 one_body unread body rest body' rest' b c = one_packet body body' rest rest' b.is_body c.is_body (sym b.whole ∙ c.whole)
 
-one_ask : OneQuestion → (begun : Bool) (body : List ℕ) (a b : Ask) → AreBytes body → AsksFor begun body a → AsksFor begun body b → a ≡ b
-one_ask q begun body a b bytes h k = h.2 ∙ ap (λ (z : Asked). ask_in begun z) (q body h.0 k.0 bytes h.1 k.1) ∙ sym k.2
+one_ask : (begun : Bool) (body : List ℕ) (a b : Ask) → AreBytes body → AsksFor begun body a → AsksFor begun body b → a ≡ b
+one_ask begun body a b bytes h k = h.2 ∙ ap (λ (z : Asked). ask_in begun z) (one_question body h.0 k.0 bytes h.1 k.1) ∙ sym k.2
 
 -- one fault has a call that could not begin
 one_fault : (w : World) (id id' : ℕ) (r r' : Request) (f g : CoreFault) → IsAtOnce w (Refused id r f) → IsAtOnce w (Refused id' r' g) → f ≡ g
@@ -100,20 +92,47 @@ last_same [] (y ∷ ys) a b e = absurd (nil_push ys b (let w : [] ≡ ys ++ b �
 last_same (x ∷ xs) [] a b e = absurd (nil_push xs a (let w : [] ≡ xs ++ a ∷ [] = cc in w))
 last_same (x ∷ xs) (y ∷ ys) a b e = last_same xs ys a b (let w : xs ++ a ∷ [] ≡ ys ++ b ∷ [] = cc in w)
 
-one_reply : FoundByNumber → (w : World) (s moves n k : ℕ) (q : Request) (a b : Reply) (added : List Record) → IsLegal w.records
+new_front : (number : ℕ) (before : List Record) (x : Record) → IsNewNumber number (before ++ x ∷ []) → IsNewNumber number before
+new_front number [] x new = tt
+new_front number (y ∷ before) x new = (new.0, new_front number before x new.1)
+
+new_last : (number : ℕ) (before : List Record) (x : Record) → IsNewNumber number (before ++ x ∷ []) → IsOther number x
+new_last number [] x new = new.0
+new_last number (y ∷ before) x new = new_last number before x new.1
+
+-- a later call's number is none of those before
+number_new : (n s k : ℕ) (q : Request) (given : Reply) (before rs : List Record) → IsLegalAfter before rs → IsAmong (Did n s k q given) rs → IsNewNumber n before
+unfolding IsLegalAfter IsAmong
+number_new n s k q given before [] legal among = absurd among
+number_new n s k q given before (x ∷ rs) legal (inl e) = let here = subst (λ (y : Record). MayFollow before y) e legal.0 in here.new_number
+number_new n s k q given before (x ∷ rs) legal (inr later) = new_front n before x (number_new n s k q given (before ++ x ∷ []) rs legal.1 later)
+
+-- so a legal order has one record of a call
+one_record : (n s k : ℕ) (q : Request) (a b : Reply) (before rs : List Record) → IsLegalAfter before rs → IsAmong (Did n s k q a) rs → IsAmong (Did n s k q b) rs → a ≡ b
+unfolding IsLegalAfter IsAmong
+one_record n s k q a b before [] legal h g = absurd h
+one_record n s k q a b before (x ∷ rs) legal (inl e) (inl f) = let w : Did n s k q a ≡ Did n s k q b = sym e ∙ f in cc
+one_record n s k q a b before (x ∷ rs) legal (inl e) (inr g) =
+    let other = subst (λ (y : Record). IsOther n y) e (new_last n before x (number_new n s k q b (before ++ x ∷ []) rs legal.1 g)) in absurd (other refl)
+one_record n s k q a b before (x ∷ rs) legal (inr h) (inl f) =
+    let other = subst (λ (y : Record). IsOther n y) f (new_last n before x (number_new n s k q a (before ++ x ∷ []) rs legal.1 h)) in absurd (other refl)
+one_record n s k q a b before (x ∷ rs) legal (inr h) (inr g) = one_record n s k q a b (before ++ x ∷ []) rs legal.1 h g
+
+one_legal : (n s k : ℕ) (q : Request) (a b : Reply) (h : List Record) → IsLegal h → IsAmong (Did n s k q a) h → IsAmong (Did n s k q b) h → a ≡ b
+unfolding IsLegal
+one_legal n s k q a b h legal x y = one_record n s k q a b [] h legal x y
+
+one_reply : (w : World) (s moves n k : ℕ) (q : Request) (a b : Reply) (added : List Record) → IsLegal w.records
     → Decides w s moves (Did n s k q a) added → Decides w s moves (Did n s k q b) added → a ≡ b
-one_reply found w s moves n k q a b added legal (inl h) (inl g) =
-    let x = found n s k q a w.records legal h.1 in
-    let y = found n s k q b w.records legal g.1 in
-    let e : Some (Did n s k q a) ≡ Some (Did n s k q b) = sym x ∙ y in cc
-one_reply found w s moves n k q a b added legal (inl h) (inr g) = absurd (nil_push g.helped (Did n s k q b) (sym h.0 ∙ g.records))
-one_reply found w s moves n k q a b added legal (inr h) (inl g) = absurd (nil_push h.helped (Did n s k q a) (sym g.0 ∙ h.records))
-one_reply found w s moves n k q a b added legal (inr h) (inr g) =
+one_reply w s moves n k q a b added legal (inl h) (inl g) = one_legal n s k q a b w.records legal h.1 g.1
+one_reply w s moves n k q a b added legal (inl h) (inr g) = absurd (nil_push g.helped (Did n s k q b) (sym h.0 ∙ g.records))
+one_reply w s moves n k q a b added legal (inr h) (inl g) = absurd (nil_push h.helped (Did n s k q a) (sym g.0 ∙ h.records))
+one_reply w s moves n k q a b added legal (inr h) (inr g) =
     let e : Did n s k q a ≡ Did n s k q b = last_same h.helped g.helped (Did n s k q a) (Did n s k q b) (sym h.records ∙ g.records) in cc
 
 -- ---- one world after an entry
 
-module _ (question : OneQuestion) (found : FoundByNumber) (w : World) (legal : IsLegal w.records) where
+module _ (w : World) (legal : IsLegal w.records) where
   one_rest : (s m : ℕ) (t a b : Told) (r : Happened) (added : List Record) → AreBytes t.unread → RestLeads w s m t r added a → RestLeads w s m t r added b → a ≡ b
   one_rest s m t a b happened.Idle added bytes g h = g.2 ∙ sym h.2
   one_rest s m t a b happened.Wrote added bytes g h =
@@ -121,7 +140,7 @@ module _ (question : OneQuestion) (found : FoundByNumber) (w : World) (legal : I
       let y = h.0 in
       let same = one_body t.unread x.body x.rest y.body y.rest x.begins y.begins in
       let body : AreBytes y.body = whole_bytes y.body y.rest (All-same (λ c. c < 256) (packet y.body ++ y.rest) t.unread (sym y.begins.whole) bytes) in
-      let asks = one_ask question (has_begun t.bodies) y.body (asked_by x.answer) (asked_by y.answer) body (subst (λ (z : List ℕ). AsksFor (has_begun t.bodies) z (asked_by x.answer)) same.0 x.asks) y.asks in
+      let asks = one_ask (has_begun t.bodies) y.body (asked_by x.answer) (asked_by y.answer) body (subst (λ (z : List ℕ). AsksFor (has_begun t.bodies) z (asked_by x.answer)) same.0 x.asks) y.asks in
       let answer = one_answer w x.answer y.answer x.at_once y.at_once asks in
       x.now
       ∙ ap (λ (z : List ℕ). record t { unread = z; bodies = t.bodies ++ x.body ∷ []; answers = t.answers ++ x.answer ∷ []; phase = Resting }) same.1
@@ -134,7 +153,7 @@ module _ (question : OneQuestion) (found : FoundByNumber) (w : World) (legal : I
       let same = one_body t.unread x.body x.rest y.body y.rest x.begins y.begins in
       let body : AreBytes y.body = whole_bytes y.body y.rest (All-same (λ c. c < 256) (packet y.body ++ y.rest) t.unread (sym y.begins.whole) bytes) in
       let asks : ask.Call x.id x.request ≡ ask.Call y.id y.request =
-      one_ask question (has_begun t.bodies) y.body (ask.Call x.id x.request) (ask.Call y.id y.request) body (subst (λ (z : List ℕ). AsksFor (has_begun t.bodies) z (ask.Call x.id x.request)) same.0 x.asks) y.asks in
+      one_ask (has_begun t.bodies) y.body (ask.Call x.id x.request) (ask.Call y.id y.request) body (subst (λ (z : List ℕ). AsksFor (has_begun t.bodies) z (ask.Call x.id x.request)) same.0 x.asks) y.asks in
       let id : x.id ≡ y.id = cc in
       let request : x.request ≡ y.request = cc in
       x.now
@@ -157,7 +176,7 @@ module _ (question : OneQuestion) (found : FoundByNumber) (w : World) (legal : I
   one_turn s m t a b (UnderWay id n k q moves) happened.Moved added bytes g h = g.2 ∙ sym h.2
   one_turn s m t a b (UnderWay id n k q moves) (happened.Blocked holder) added bytes g h = g.2 ∙ sym h.2
   one_turn s m t a b (UnderWay id n k q moves) happened.Decided added bytes g h =
-      g.2 ∙ ap (λ (z : Reply). with_phase t (Decided id n q z)) (one_reply found w s moves n k q g.0 h.0 added legal g.1 h.1) ∙ sym h.2
+      g.2 ∙ ap (λ (z : Reply). with_phase t (Decided id n q z)) (one_reply w s moves n k q g.0 h.0 added legal g.1 h.1) ∙ sym h.2
   one_turn s m t a b (UnderWay id n k q moves) (happened.Opened x) added bytes g h = absurd g
   one_turn s m t a b (UnderWay id n k q moves) happened.Fed added bytes g h = absurd g
   one_turn s m t a b (UnderWay id n k q moves) happened.Wrote added bytes g h = absurd g
@@ -290,27 +309,26 @@ legal_now : (xs ys : List Record) → IsLegal (xs ++ ys) → IsLegal xs
 unfolding IsLegal
 legal_now xs ys h = legal_front [] xs ys h
 
-module _ (question : OneQuestion) (found : FoundByNumber) where
-  one_run : (entries : List Entry) (w v v' : World) → AreRead w → AreOfBytes entries → IsLegal (w.records ++ order entries) → Runs w entries v → Runs w entries v' → v ≡ v'
-  unfolding Runs
-  one_run [] w v v' h of legal g k = g ∙ sym k
-  one_run (e ∷ entries) w v v' h of legal g k =
-      let now : IsLegal w.records = legal_now w.records (e.added ++ order entries) legal in
-      let same : g.0 ≡ k.0 = one_leads question found w now g.0 k.0 e.event e.result e.added h.each g.1 k.1 in
-      let all : w.records ++ (e.added ++ order entries) ≡ k.0.records ++ order entries =
-      sym (append_assoc w.records e.added (order entries)) ∙ ap (λ (xs : List Record). xs ++ order entries) (sym (leads_records w k.0 e k.1)) in
-      one_run entries k.0 v v' (leads_read w k.0 e.event e.result e.added h of.0 k.1) of.1 (subst IsLegal all legal) (subst (λ (z : World). Runs z entries v) same g.2) k.2
+one_run : (entries : List Entry) (w v v' : World) → AreRead w → AreOfBytes entries → IsLegal (w.records ++ order entries) → Runs w entries v → Runs w entries v' → v ≡ v'
+unfolding Runs
+one_run [] w v v' h of legal g k = g ∙ sym k
+one_run (e ∷ entries) w v v' h of legal g k =
+    let now : IsLegal w.records = legal_now w.records (e.added ++ order entries) legal in
+    let same : g.0 ≡ k.0 = one_leads w now g.0 k.0 e.event e.result e.added h.each g.1 k.1 in
+    let all : w.records ++ (e.added ++ order entries) ≡ k.0.records ++ order entries =
+    sym (append_assoc w.records e.added (order entries)) ∙ ap (λ (xs : List Record). xs ++ order entries) (sym (leads_records w k.0 e k.1)) in
+    one_run entries k.0 v v' (leads_read w k.0 e.event e.result e.added h of.0 k.1) of.1 (subst IsLegal all legal) (subst (λ (z : World). Runs z entries v) same g.2) k.2
 
-  pub one_world : (trace : List Entry) (w w' : World) → AreOfBytes trace → IsLegal (order trace) → Tells trace w → Tells trace w' → w ≡ w'
-  one_world trace w w' of legal g k = one_run trace start w w' (record { each = λ i t at. absurd cc }) of legal g k
+pub one_world : (trace : List Entry) (w w' : World) → AreOfBytes trace → IsLegal (order trace) → Tells trace w → Tells trace w' → w ≡ w'
+one_world trace w w' of legal g k = one_run trace start w w' (record { each = λ i t at. absurd cc }) of legal g k
 
-  pub one_output : (trace : List Entry) (e e' : EngineView) → AreOfBytes trace → Fits e trace → Fits e' trace → (session : ℕ) (output output' : List ℕ)
-      → IsSentBy e session output → IsSentBy e' session output' → output ≡ output'
-  one_output trace e e' of fits fits' session output output' sent sent' =
-      let a = sent trace fits in
-      let b = sent' trace fits' in
-      let same : fits.world ≡ fits'.world = one_world trace fits.world fits'.world of fits.legal fits.tells fits'.tells in
-      let at : IsSession fits'.world session a.0 = subst (λ (z : World). IsSession z session a.0) same a.1 in
-      let told : a.0 ≡ b.0 = let z : Some a.0 ≡ Some b.0 = sym at.1 ∙ b.1.1 in cc in
-      let both : a.0.sent ++ output ≡ a.0.sent ++ output' = sym a.2 ∙ ap (λ (z : Told). transcript z.answers) told ∙ b.2 ∙ ap (λ (z : Told). z.sent ++ output') (sym told) in
-      sym (drop-append_seam a.0.sent output) ∙ ap (λ (z : List ℕ). drop (length a.0.sent) z) both ∙ drop-append_seam a.0.sent output'
+pub one_output : (trace : List Entry) (e e' : EngineView) → AreOfBytes trace → Fits e trace → Fits e' trace → (session : ℕ) (output output' : List ℕ)
+    → IsSentBy e session output → IsSentBy e' session output' → output ≡ output'
+one_output trace e e' of fits fits' session output output' sent sent' =
+    let a = sent trace fits in
+    let b = sent' trace fits' in
+    let same : fits.world ≡ fits'.world = one_world trace fits.world fits'.world of fits.legal fits.tells fits'.tells in
+    let at : IsSession fits'.world session a.0 = subst (λ (z : World). IsSession z session a.0) same a.1 in
+    let told : a.0 ≡ b.0 = let z : Some a.0 ≡ Some b.0 = sym at.1 ∙ b.1.1 in cc in
+    let both : a.0.sent ++ output ≡ a.0.sent ++ output' = sym a.2 ∙ ap (λ (z : Told). transcript z.answers) told ∙ b.2 ∙ ap (λ (z : Told). z.sent ++ output') (sym told) in
+    sym (drop-append_seam a.0.sent output) ∙ ap (λ (z : List ℕ). drop (length a.0.sent) z) both ∙ drop-append_seam a.0.sent output'
