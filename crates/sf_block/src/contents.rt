@@ -44,7 +44,8 @@ impl Contents {
     /// many these are: none from the end on.
     pub fn read_into(&self, offset: u64, buffer: &mut [u8]) -> usize
         ensures count { result ≡ count_from self.now.bytes offset (length buffer.old) }
-        ensures buffer { buffer.new ≡ with_front (take result (drop offset self.now.bytes)) buffer.old }
+        ensures buffer { buffer.new
+            ≡ with_front (take result (drop offset self.now.bytes)) buffer.old }
     {
         let start = (offset as usize).min(self.bytes.len());
         let count = buffer.len().min(self.bytes.len() - start);
@@ -83,7 +84,8 @@ impl Contents {
 
     /// Cuts the bytes at a size, or fills them up to it with zeros, as POSIX's `ftruncate` does.
     pub fn set_len(&mut self, n: u64) -> Result<(), AllocError>
-        ensures ok { OnOk result (self.new ≡ record (with_room self.old n 0) { bytes = resized self.old.bytes n }) }
+        ensures ok { OnOk result (self.new
+            ≡ record (with_room self.old n 0) { bytes = resized self.old.bytes n }) }
         ensures enough { HasRoom self.old n 0 → IsOk result }
         ensures err { OnErr result (self.new ≡ self.old) }
     {

@@ -116,7 +116,8 @@ impl Book {
     fn forget_oldest(&mut self)
         requires { 0 < length self.old.records }
         ensures records { self.new.records ≡ drop 1 self.old.records }
-        ensures folded { self.new.folded ≡ min (self.old.folded + count_by is_deed (take 1 self.old.records)) (2 ^ 64 - 1) }
+        ensures folded { self.new.folded
+            ≡ min (self.old.folded + count_by is_deed (take 1 self.old.records)) (2 ^ 64 - 1) }
         ensures room { self.new.room ≡ self.old.room }
         ensures keep { self.new.keep ≡ self.old.keep }
     {

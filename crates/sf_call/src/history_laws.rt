@@ -1,6 +1,7 @@
 //! Laws of histories, which no call needs.
 
 ghost use Rattle.std.specs.Prelude.{◌≡◌, ◌≢◌, ◌<◌, ◌≤◌, ℕ, false, List, [], ◌∷◌, ◌++◌, length, Some, None, IsSome};
+ghost use Rattle.sf_field.specs.Fields.{max_body};
 ghost use Rattle.sf_reply.specs.declared.reply.Reply.{Reply};
 ghost use Rattle.sf_call.specs.declared.request.Request.{Request};
 ghost use Rattle.sf_call.specs.declared.record.Record.{Record};
@@ -15,14 +16,17 @@ ghost use Rattle.sf_call.specs.Histories.{after, replay, IsNewNumber, IsLegal, M
 
 /// A history goes on by one record.
 pub fn one_record_more()
-    ensures replayed { (history : List Record) (r : Record) → replay (history ++ r ∷ []) ≡ after (replay history) r }
-    ensures legal { (history : List Record) (r : Record) → IsLegal history → MayFollow history r → IsLegal (history ++ r ∷ []) }
+    ensures replayed { (history : List Record) (r : Record)
+        → replay (history ++ r ∷ []) ≡ after (replay history) r }
+    ensures legal { (history : List Record) (r : Record) → IsLegal history → MayFollow history r
+        → IsLegal (history ++ r ∷ []) }
 {}
 
 /// The reply of a call in a legal history is given by some legal history before it.
 pub fn given_by_history()
     ensures { (number session moment : ℕ) (request : Request) (reply : Reply) (history : List Record)
-        → IsLegal history → IsAmong (Did number session moment request reply) history → IsGiven number session reply }
+        → IsLegal history → IsAmong (Did number session moment request reply) history
+        → IsGiven number session reply }
 {}
 
 /// In a legal history a call's number leads to its record.
@@ -34,33 +38,44 @@ pub fn found_by_number()
 
 /// After a legal history no path, no object and no handle has the number of a call to come, and one path at most has a label.
 pub fn labels_of_paths()
-    ensures unused { (history : List Record) (number : ℕ) (path : Path) → IsLegal history → 0 < number → IsNewNumber number history → label_at (replay history).names path ≢ Some number }
-    ensures no_object { (history : List Record) (number : ℕ) → IsLegal history → 0 < number → IsNewNumber number history → object_of (replay history).objects number ≡ None }
-    ensures no_handle { (history : List Record) (number : ℕ) → IsLegal history → 0 < number → IsNewNumber number history → handle_of (replay history).handles number ≡ None }
+    ensures unused { (history : List Record) (number : ℕ) (path : Path) → IsLegal history
+        → 0 < number → IsNewNumber number history
+        → label_at (replay history).names path ≢ Some number }
+    ensures no_object { (history : List Record) (number : ℕ) → IsLegal history → 0 < number
+        → IsNewNumber number history → object_of (replay history).objects number ≡ None }
+    ensures no_handle { (history : List Record) (number : ℕ) → IsLegal history → 0 < number
+        → IsNewNumber number history → handle_of (replay history).handles number ≡ None }
     ensures one_path { (history : List Record) (path other : Path) (label : ℕ) → IsLegal history
-        → label_at (replay history).names path ≡ Some label → label_at (replay history).names other ≡ Some label → path ≡ other }
+        → label_at (replay history).names path ≡ Some label
+        → label_at (replay history).names other ≡ Some label → path ≡ other }
 {}
 
 /// After a legal history each path that is named leads over directories to an object.
 pub fn ways_of_paths()
     ensures object { (history : List Record) (path : Path) (label : ℕ) → IsLegal history
-        → label_at (replay history).names path ≡ Some label → IsSome (object_of (replay history).objects label) }
+        → label_at (replay history).names path ≡ Some label
+        → IsSome (object_of (replay history).objects label) }
     ensures way { (history : List Record) (path : Path) (label : ℕ) → IsLegal history
-        → label_at (replay history).names path ≡ Some label → is_faulty_way (replay history) path ≡ false }
+        → label_at (replay history).names path ≡ Some label
+        → is_faulty_way (replay history) path ≡ false }
 {}
 
 /// What a request that may come next changes is allowed there, as each kind of change asks; and what is allowed, a move
 /// too, keeps the tree well formed.
 pub fn allowed_changes()
-    ensures request { (history : List Record) (number session moment : ℕ) (request : Request) → IsLegal history → 0 < number → IsNewNumber number history
+    ensures request { (history : List Record) (number session moment : ℕ) (request : Request)
+        → IsLegal history → 0 < number → IsNewNumber number history
         → AreAllowed number (replay history) (answer_to (replay history) session number moment request).changes }
-    ensures kept { (history : List Record) (number : ℕ) (changes : List Change) → IsLegal history → AreAllowed number (replay history) changes
+    ensures kept { (history : List Record) (number : ℕ) (changes : List Change) → IsLegal history
+        → AreAllowed number (replay history) changes
         → IsWellFormed (done (replay history) changes) }
 {}
 
 /// Each reply of a call that may come after a legal history fits a packet, and its numbers and its strings have a
 /// spelling.
 pub fn replies_fit()
-    ensures packet { (number session id : ℕ) (reply : Reply) → IsGiven number session reply → length (reply_body id reply) ≤ 262144 }
-    ensures spelled { (number session : ℕ) (reply : Reply) → IsGiven number session reply → ReplyFits reply }
+    ensures packet { (number session id : ℕ) (reply : Reply) → IsGiven number session reply
+        → length (reply_body id reply) ≤ max_body }
+    ensures spelled { (number session : ℕ) (reply : Reply) → IsGiven number session reply
+        → ReplyFits reply }
 {}

@@ -47,7 +47,7 @@ impl Request {
         parts(self);
     }
 
-    /// Takes memory for the names of paths and for the bytes of a WRITE.
+    /// Takes memory for the names of paths. The bytes of a WRITE are shared.
     pub fn try_copy(&self, alloc: Global) -> Result<Request, AllocError>
         ensures { IfOk result (λ copy. copy ≡ self.now) }
     {
@@ -80,7 +80,7 @@ impl Request {
             } => Request::Write {
                 handle: *handle,
                 offset: *offset,
-                data: data.try_copy(alloc)?,
+                data: data.share()?,
             },
             Request::ReadDir(handle) => Request::ReadDir(*handle),
             Request::Rename(old, new) => {

@@ -28,25 +28,32 @@ pub fn ordered_trees()
 
 /// A way is open where each proper front of the path is a directory.
 pub fn open_ways()
-    ensures { (tree : Tree) (path : Path) → (is_faulty_way tree path ≡ false) ↔ ((n : ℕ) → n < length path → is_directory tree (take n path) ≡ true) }
+    ensures { (tree : Tree) (path : Path) → (is_faulty_way tree path ≡ false)
+        ↔ ((n : ℕ) → n < length path → is_directory tree (take n path) ≡ true) }
 {}
 
 /// What follows a front of a path.
 pub fn fronts()
     ensures append { (front rest : Path) → after_front front (front ++ rest) ≡ Some rest }
-    ensures front { (front path rest : Path) → after_front front path ≡ Some rest → path ≡ front ++ rest }
+    ensures front { (front path rest : Path) → after_front front path ≡ Some rest
+        → path ≡ front ++ rest }
 {}
 
 /// A move brings what stood below the old path below the new one, in the place of what stood there, and nothing else changes.
 pub fn moved_names()
-    ensures to_new { (names : List (Path × ℕ)) (old new rest : Path) → label_at (moved names old new) (new ++ rest) ≡ label_at names (old ++ rest) }
-    ensures from_old { (names : List (Path × ℕ)) (old new path rest : Path) → after_front old path ≡ Some rest → after_front new path ≡ None → label_at (moved names old new) path ≡ None }
-    ensures outside { (names : List (Path × ℕ)) (old new path : Path) → after_front old path ≡ None → after_front new path ≡ None → label_at (moved names old new) path ≡ label_at names path }
+    ensures to_new { (names : List (Path × ℕ)) (old new rest : Path)
+        → label_at (moved names old new) (new ++ rest) ≡ label_at names (old ++ rest) }
+    ensures from_old { (names : List (Path × ℕ)) (old new path rest : Path)
+        → after_front old path ≡ Some rest → after_front new path ≡ None
+        → label_at (moved names old new) path ≡ None }
+    ensures outside { (names : List (Path × ℕ)) (old new path : Path) → after_front old path ≡ None
+        → after_front new path ≡ None → label_at (moved names old new) path ≡ label_at names path }
 {}
 
 /// What a request may be answered.
 pub fn kinds_of_replies()
-    ensures { (tree : Tree) (session number moment : ℕ) (request : Request) → IsReplyTo number request (apply tree session number moment request).reply }
+    ensures { (tree : Tree) (session number moment : ℕ) (request : Request)
+        → IsReplyTo number request (apply tree session number moment request).reply }
 {}
 
 /// A record with the tree's own reply leads to the tree after it.
@@ -60,23 +67,32 @@ pub fn told_replies()
 pub fn listed_attributes()
     ensures parts { (object : Object) → HasAllParts (attrs_of object) }
     ensures kind { (object : Object) → HasType (attrs_of object).permissions }
-    ensures shown { (name : Name) (object : Object) → (entry_of name object).attrs ≡ attrs_of object }
-    ensures line { (name : Name) (object : Object) → longname_text (attrs_of object) 1 name ≡ Some (entry_of name object).longname }
+    ensures shown { (name : Name) (object : Object)
+        → (entry_of name object).attrs ≡ attrs_of object }
+    ensures line { (name : Name) (object : Object)
+        → longname_text (attrs_of object) 1 name ≡ Some (entry_of name object).longname }
 {}
 
 /// The limits in numbers: the most that passes, and what is refused.
 pub fn limit_cases()
     // A file has at most 16777216 bytes, by a size
-    ensures sized { (m : Metadata) (contents : List ℕ) → (refuses_size (File m contents) (Some 16777216) ≡ false) × (refuses_size (File m contents) (Some 16777217) ≡ true) }
+    ensures sized { (m : Metadata) (contents : List ℕ)
+        → (refuses_size (File m contents) (Some 16777216) ≡ false)
+        × (refuses_size (File m contents) (Some 16777217) ≡ true) }
     // and by a byte that is written.
-    ensures written { (moment byte : ℕ) (handle : Handle) (m : Metadata) (contents : List ℕ) → handle.write ≡ true → handle.append ≡ false
+    ensures written { (moment byte : ℕ) (handle : Handle) (m : Metadata) (contents : List ℕ)
+        → handle.write ≡ true → handle.append ≡ false
         → ((write moment 16777215 (byte ∷ []) (OpenFile handle m contents)).reply ≡ Status Success)
         × (write moment 16777216 (byte ∷ []) (OpenFile handle m contents) ≡ refuses Failure) }
     // One READ gives at most 261120 bytes.
-    ensures read { (len : ℕ) (handle : Handle) (m : Metadata) (contents : List ℕ) → handle.read ≡ true → 0 < length contents → 261120 ≤ len
+    ensures read { (len : ℕ) (handle : Handle) (m : Metadata) (contents : List ℕ)
+        → handle.read ≡ true → 0 < length contents → 261120 ≤ len
         → read 0 len (OpenFile handle m contents) ≡ tells (Data (take 261120 contents)) }
     // A session has at most 128 handles open.
-    ensures open { (tree : Tree) (session : ℕ) → (has_all_handles tree session ≡ true) ↔ (128 ≤ count_by (λ e. nat_eq e.1.session session) tree.handles) }
+    ensures open { (tree : Tree) (session : ℕ) → (has_all_handles tree session ≡ true)
+        ↔ (128 ≤ count_by (λ e. nat_eq e.1.session session) tree.handles) }
     // One READDIR gives at most 32 names.
-    ensures listed { (tree : Tree) (last : Option Name) (directory : Path) → listing tree last directory ≡ take 32 (filter_map (listed_entry tree directory last) tree.names) }
+    ensures listed { (tree : Tree) (last : Option Name) (directory : Path)
+        → listing tree last directory
+        ≡ take 32 (filter_map (listed_entry tree directory last) tree.names) }
 {}

@@ -8,9 +8,8 @@
 
 mod attributes;
 mod clock;
-mod hexadecimal;
 pub mod requests;
 
 pub use attributes::{sized, whole};
 pub use clock::{RisingClock, StillClock};
-pub use hexadecimal::hex_bytes;
+pub use sf_hex::hex_bytes;

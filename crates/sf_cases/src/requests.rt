@@ -84,7 +84,8 @@ pub fn open_dir(alloc: Global, text: &[u8]) -> Result<Request, Fail>
 
 /// OPEN, with the flags of these letters and no attributes.
 pub fn open(alloc: Global, text: &[u8], letters: &[u8]) -> Result<Request, Fail>
-    ensures { IfOk result (λ made. made ≡ request.Open (norm text.now) (flags_of letters.now) no_attrs) }
+    ensures { IfOk result (λ made. made
+        ≡ request.Open (norm text.now) (flags_of letters.now) no_attrs) }
 {
     let path = path(alloc, text)?;
     Ok(Request::Open(path, flags(letters), NO_ATTRS))

@@ -1,5 +1,5 @@
 -- Exchanges one after the other.
-use Rattle.std.proofs.Common.{◌≡◌, ◌+◌, ◌*◌, ◌<◌, ◌≤◌, ◌⊎◌, min, take, drop, ℕ, zero, suc, List, [], ◌∷◌, ◌++◌, length, Bool, true, false, eqb, Option, Some, None, Result, Ok, Err, is_ok, is_err, cond, inl, inr, refl, sym, ap, subst, ◌∙◌, append_assoc, append-nil, arith}
+use Rattle.std.proofs.Common.{◌≡◌, ◌+◌, ◌*◌, ◌<◌, ◌≤◌, ◌⊎◌, min, take, drop, ℕ, zero, suc, List, [], ◌∷◌, ◌++◌, length, Bool, true, false, eqb, Option, Some, None, Result, Ok, Err, is_ok, is_err, OnOk, cond, inl, inr, refl, sym, ap, subst, ◌∙◌, append_assoc, append-nil, arith}
 use Rattle.std.specs.List.{AllByRecursion, concat}
 use Rattle.std.specs.Io.KnownBytes.{Appends, Consumes}
 use Rattle.std.proofs.KnownBytes.{Appends-nil, Consumes-nil, Appends-trans, Consumes-trans}
@@ -91,29 +91,6 @@ pub step_no_room : {Y : Type 0} (Script : List Exchange → Result Y ClientFault
     → ((last : List Exchange) → IsLast q last fault.OutOfMemory → Script (xs ++ last) (Err fault.OutOfMemory)) → Exchanged u (asked q r ∷ []) w → Does Script v (Err fault.OutOfMemory) w
 step_no_room Script v u w xs q r ex script h = (xs ++ asked q r ∷ [], script (asked q r ∷ []) (inr (r, refl, tt)), exchanged_then v u w xs (asked q r ∷ []) ex h)
 
-refuses_eof : (r : Reply) → Refuses r EndOfFile → r ≡ reply.Status EndOfFile
-refuses_eof (reply.Status code) h = ap reply.Status (sym h.1)
-refuses_eof reply.NoMemory h = absurd cc
-refuses_eof (reply.Handle number) h = absurd h
-refuses_eof (reply.Data bytes) h = absurd h
-refuses_eof (reply.Names entries) h = absurd h
-refuses_eof (reply.Attrs attrs) h = absurd h
-
--- EOF says that there is nothing more
-pub comes_unless : {X : Type 0} (told : X → Reply) (v w : ClientView) (q : WireRequest) (r : Result X ClientFault) → Comes told v q r w → Comes (or_eof told) v q (unless_eof r) w
-comes_unless told v w q (Ok x) h = h
-comes_unless told v w q (Err fault.Stream) h = h
-comes_unless told v w q (Err fault.Protocol) h = h
-comes_unless told v w q (Err (fault.Status EndOfFile)) h = subst (λ (r : Reply). Exchanged v (asked q r ∷ []) w) (refuses_eof h.0 h.1) h.2
-comes_unless told v w q (Err (fault.Status Success)) h = h
-comes_unless told v w q (Err (fault.Status NoSuchFile)) h = h
-comes_unless told v w q (Err (fault.Status PermissionDenied)) h = h
-comes_unless told v w q (Err (fault.Status Failure)) h = h
-comes_unless told v w q (Err (fault.Status BadMessage)) h = h
-comes_unless told v w q (Err (fault.Status OpUnsupported)) h = h
-comes_unless told v w q (Err fault.OutOfMemory) h = h
-comes_unless told v w q (Err fault.Failed) h = h
-
 -- ---- reading
 
 concat_more : (pieces : List (List ℕ)) (piece : List ℕ) → concat (pieces ++ piece ∷ []) ≡ concat pieces ++ piece
@@ -191,6 +168,11 @@ at_length u w n offset bytes r e h = subst (λ (k : ℕ). Comes (or_eof reply.Da
 pub appended : {X E : Type 0} (r : Result (Unit {0}) E) (now more kept : List X) → is_err r ≡ false → now ≡ cond (is_ok r) more kept → now ≡ more
 appended (Ok x) now more kept ok e = e
 appended (Err x) now more kept ok e = absurd cc
+
+-- what is said of a success holds where there is no error
+pub went_well : {P X E : Type 0} (r : Result X E) → is_err r ≡ false → OnOk r P → P
+went_well (Ok x) ok h = h
+went_well (Err x) ok h = absurd cc
 
 -- ---- a call by a handle
 
@@ -312,14 +294,6 @@ write_fault v u w n bytes rest offset m f so_far some least h =
     let below : k < count_of_pieces bytes = omega arith in
     step_err {X = Unit {0}} (λ _. reply.Status Success) (WritesAll bytes n) v u w (writes n bytes k) (request.Write (be64 n) offset (take m rest)) f so_far.4
     (λ last how. (k, last, below, subst (λ (x : WireRequest). IsLast x last f) q how, refl)) h
-
-pub write_end : (v u : ClientView) (n : ℕ) (bytes rest : List ℕ) (offset : ℕ) → HasWritten v n bytes rest offset u → length rest ≡ 0 → Does (WritesAll bytes n) v (Ok tt) u
-write_end v u n bytes rest offset so_far none =
-    let k = so_far.0 in
-    let same : length rest ≡ length (drop (k * 32768) bytes) = ap length so_far.1 in
-    let len = length-drop (k * 32768) bytes in
-    let count : k ≡ count_of_pieces bytes = omega (arith, so_far.3) in
-    (writes n bytes k, ap (writes n bytes) count, so_far.4)
 
 pub not_empty : (b : Bool) (bytes : List ℕ) → b ≡ eqb (length bytes) 0 → b ≡ false → 0 < length bytes
 not_empty b bytes is test = let ne = eqb-false (length bytes) 0 (sym is ∙ test) in omega arith

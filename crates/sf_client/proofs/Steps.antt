@@ -110,10 +110,6 @@ pub settled_ok : (v u w : ClientView) (bytes : List ℕ) (d : Due) (r : Reply) �
     → (q : WireRequest) → bytes ≡ packet (request_body v.next q) → d ≡ due_of q → Exchanged v (asked q r ∷ []) w
 settled_ok v u w bytes d r began sent takes q is due = one_exchanged v u w bytes q r began sent is (rw (← due) takes.0) takes.1
 
-pub no_refusal : (a b : Bool) → (a || b) ≡ true → b ≡ false → a ≡ true
-no_refusal true b e f = refl
-no_refusal false b e f = absurd cc
-
 pub success_is : (r : Reply) → is_answer due.Success r ≡ true → r ≡ reply.Status status.Success
 success_is (reply.Status status.Success) e = refl
 success_is (reply.Status status.EndOfFile) e = absurd cc

@@ -6,7 +6,7 @@ use Rattle.sf_request.specs.declared.request.WireRequest.{WireRequest}
 use Rattle.sf_request.specs.Requests.{request_body, init_body}
 use Rattle.sf_reply.specs.declared.reply.Reply.{Reply}
 use Rattle.sf_reply.specs.Replies.{reply_body, version_body, ReplyFits}
-use Rattle.sf_field.specs.Fields.{packet}
+use Rattle.sf_field.specs.Fields.{packet, max_body}
 use Rattle.sf_client.specs.declared.due.Due.{Due}
 use Rattle.sf_client.specs.Dues.{due_of, is_due}
 
@@ -56,7 +56,7 @@ pub record Exchanged (v : ClientView) (xs : List Exchange) (w : ClientView) : Ty
 
 -- No due reply under this id stands at the front of the input.
 abbrev pub HasNoReply : Option (List ℕ) → ℕ → Due → Type 0
-HasNoReply incoming id d = IfSome incoming (λ input. (r : Reply) (rest : List ℕ) → ReplyFits r → is_due d r ≡ true → length (reply_body id r) ≤ 262144
+HasNoReply incoming id d = IfSome incoming (λ input. (r : Reply) (rest : List ℕ) → ReplyFits r → is_due d r ≡ true → length (reply_body id r) ≤ max_body
     → input ≡ packet (reply_body id r) ++ rest → ⊥)
 
 -- A request was sent, and no due reply came for it. The client has failed.

@@ -15,8 +15,9 @@ ghost use Rattle.sf_client.specs.Outcomes.{Broke, Comes, ReadsDue, Settles, Take
 
 use crate::due::{Due, find_due, refusal};
 use crate::fault::ClientFault;
-use crate::lines::{MAX_BODY, read_packet};
+use crate::lines::read_packet;
 use bytes::BytesMut;
+use sf_field::MAX_BODY;
 use sf_line::{Line, write_all};
 use sf_reply::{Reply, is_version};
 use sf_request::{WireRequest, close_packet, init_packet, write_request};
@@ -79,7 +80,8 @@ fn greet<L: Line>(line: &mut L, buffer: &mut [u8]) -> Result<(), ClientFault>
     requires { length buffer.old ≡ MAX_BODY }
     ensures ok { OnOk result (IsGreeted (L.incoming line.old) (L.outgoing line.old) (L.incoming line.new) (L.outgoing line.new)) }
     ensures refused { result ≡ Err ClientFault.Protocol → HasNoVersion (L.incoming line.old) }
-    ensures fault { IfErr result (λ fault. (fault ≡ ClientFault.Stream) ⊎ (fault ≡ ClientFault.Protocol)) }
+    ensures fault { IfErr result (λ fault. (fault ≡ ClientFault.Stream)
+        ⊎ (fault ≡ ClientFault.Protocol)) }
 {
     if write_all(line, &init_packet()).is_err() {
         return Err(ClientFault::Stream);
@@ -111,13 +113,14 @@ pub struct Client<L: Line + Drop> {
 
 impl<L: Line + Drop> Model for Client<L> {
     ghost use Rattle.std.specs.Prelude.{◌≡◌, ◌<◌, ◌^◌, length};
+    ghost use Rattle.sf_field.specs.Fields.{max_body};
     ghost use Rattle.sf_client.specs.Exchanges.{ClientView};
 
     ghost Value = { ClientView };
 
     ghost view = { λ c. record { next = c.next; failed = c.failed; incoming = L.incoming c.line; outgoing = L.outgoing c.line; failures = L.failed c.line } };
 
-    ghost invariant = { λ c. length c.body.items ≡ 262144 };
+    ghost invariant = { λ c. length c.body.items ≡ max_body };
 }
 
 impl<L: Line + Drop> Client<L> {
@@ -125,7 +128,8 @@ impl<L: Line + Drop> Client<L> {
     pub fn start(alloc: Global, line: L) -> Result<Client<L>, ClientFault>
         ensures ok { IfOk result (λ client. IsStarted (L.incoming line) (L.outgoing line) client) }
         ensures refused { result ≡ Err ClientFault.Protocol → HasNoVersion (L.incoming line) }
-        ensures fault { IfErr result (λ fault. (fault ≡ ClientFault.Stream) ⊎ ((fault ≡ ClientFault.Protocol) ⊎ (fault ≡ ClientFault.OutOfMemory))) }
+        ensures fault { IfErr result (λ fault. (fault ≡ ClientFault.Stream)
+            ⊎ ((fault ≡ ClientFault.Protocol) ⊎ (fault ≡ ClientFault.OutOfMemory))) }
     {
         let mut line = line;
         let Ok(mut body) = zeros(alloc, MAX_BODY) else {
@@ -174,7 +178,8 @@ impl<L: Line + Drop> Client<L> {
     /// Sends a packet.
     fn send(&mut self, packet: &[u8]) -> Result<(), ClientFault>
         ensures ok { OnOk result (Appends self.old.outgoing self.new.outgoing packet.now) }
-        ensures client { OnOk result (self.new ≡ record self.old { outgoing = self.new.outgoing; failures = self.new.failures }) }
+        ensures client { OnOk result (self.new
+            ≡ record self.old { outgoing = self.new.outgoing; failures = self.new.failures }) }
         ensures failures { self.old.failures ≤ self.new.failures }
         ensures fault { IfErr result (λ fault. fault ≡ ClientFault.Stream) }
         ensures err { OnErr result (Broke self.old self.new) }
@@ -205,8 +210,10 @@ impl<L: Line + Drop> Client<L> {
     /// Sends the packet of a request, and takes its reply.
     fn settle(&mut self, bytes: &[u8], due: Due) -> Result<Reply, ClientFault>
         requires { self.old.failed ≡ false }
-        ensures comes { (q : WireRequest) → bytes.now ≡ packet (request_body self.old.next q) → due ≡ due_of q → Settles (λ r. r) self.old q result self.new }
-        ensures loosely { (q : WireRequest) → bytes.now ≡ packet (request_body self.old.next q) → due ≡ due_of q → Comes (λ r. r) self.old q result self.new }
+        ensures comes { (q : WireRequest) → bytes.now ≡ packet (request_body self.old.next q)
+            → due ≡ due_of q → Settles (λ r. r) self.old q result self.new }
+        ensures loosely { (q : WireRequest) → bytes.now ≡ packet (request_body self.old.next q)
+            → due ≡ due_of q → Comes (λ r. r) self.old q result self.new }
         ensures answer { IfOk result (λ r. is_answer due r ≡ true) }
     {
         self.send(bytes)?;

@@ -87,7 +87,8 @@ pub(crate) fn refusal(reply: &Reply) -> Option<StatusCode>
 
 /// The due reply that a body spells under this id.
 pub(crate) fn find_due(body: &[u8], id: u32, due: Due) -> Option<FoundReply<'_>>
-    ensures found { IfSome result (λ found. IsReply body.now id (reply_of found) × (is_due due (reply_of found) ≡ true)) }
+    ensures found { IfSome result (λ found. IsReply body.now id (reply_of found)
+        × (is_due due (reply_of found) ≡ true)) }
     ensures none { IfNone result ((r : Reply) → IsReply body.now id r → is_due due r ≡ true → ⊥) }
 {
     sent_replies();

@@ -14,6 +14,7 @@ ghost use Rattle.sf_client.specs.Calls.{Does, ByHandle, ClosesAfter, EndsAfter, 
 use crate::client::Client;
 use crate::due::Due;
 use crate::fault::ClientFault;
+use crate::gathered::Gathered;
 use sf_field::{ByteString, NO_ATTRS, OpenFlags};
 use sf_line::Line;
 use sf_reply::{Entry, Listing, Reply, StatusCode};
@@ -156,7 +157,7 @@ impl<L: Line + Drop> Client<L> {
     }
 
     /// The bytes of the file, read to its end.
-    fn read_all(&mut self, handle: u64) -> Result<ByteString, ClientFault>
+    fn read_all(&mut self, handle: u64) -> Result<Gathered<u8>, ClientFault>
         requires { self.old.failed ≡ false }
         ensures { Does (ReadsAll handle) self.old result self.new }
     {
@@ -168,7 +169,7 @@ impl<L: Line + Drop> Client<L> {
                         return Err(ClientFault::OutOfMemory);
                     }
                 }
-                Ok(None) => return Ok(ByteString::from_vec(bytes)),
+                Ok(None) => return Ok(Gathered::from_vec(bytes)),
                 Err(fault) => return Err(fault),
             }
         }
@@ -221,7 +222,7 @@ impl<L: Line + Drop> Client<L> {
     }
 
     /// The names of the directory, listed to its end.
-    fn list_all(&mut self, handle: u64) -> Result<Listing, ClientFault>
+    fn list_all(&mut self, handle: u64) -> Result<Gathered<Entry>, ClientFault>
         requires { self.old.failed ≡ false }
         ensures { Does (ListsAll handle) self.old result self.new }
     {
@@ -229,11 +230,11 @@ impl<L: Line + Drop> Client<L> {
         'parts: loop {
             match self.read_names(handle) {
                 Ok(Some(part)) => {
-                    if entries.append(&mut part.into_vec()).is_err() {
+                    if part.append_to(&mut entries).is_err() {
                         return Err(ClientFault::OutOfMemory);
                     }
                 }
-                Ok(None) => return Ok(Listing::from_vec(entries)),
+                Ok(None) => return Ok(Gathered::from_vec(entries)),
                 Err(fault) => return Err(fault),
             }
         }
@@ -261,7 +262,7 @@ impl<L: Line + Drop> Client<L> {
         self.open(&WireRequest::OpenDir { path })
     }
 
-    fn get_string(&mut self, path: &[u8]) -> Result<ByteString, ClientFault>
+    fn get_all(&mut self, path: &[u8]) -> Result<Gathered<u8>, ClientFault>
         requires { length path.now < 2 ^ 31 }
         ensures { Does (ByHandle (request.Open path.now to_read no_attrs) ReadsAll) self.old result self.new }
     {
@@ -273,7 +274,7 @@ impl<L: Line + Drop> Client<L> {
         self.closed(handle, bytes)
     }
 
-    fn list_names(&mut self, path: &[u8]) -> Result<Listing, ClientFault>
+    fn list_names(&mut self, path: &[u8]) -> Result<Gathered<Entry>, ClientFault>
         requires { length path.now < 2 ^ 31 }
         ensures { Does (ByHandle (request.OpenDir path.now) ListsAll) self.old result self.new }
     {
@@ -290,7 +291,7 @@ impl<L: Line + Drop> Client<L> {
         requires { length path.now < 2 ^ 31 }
         ensures { Does (ByHandle (request.Open path.now to_read no_attrs) ReadsAll) self.old (items_of result) self.new }
     {
-        match self.get_string(path) {
+        match self.get_all(path) {
             Ok(bytes) => Ok(bytes.into_vec()),
             Err(fault) => Err(fault),
         }

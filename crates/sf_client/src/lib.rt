@@ -6,6 +6,7 @@ mod client;
 mod due;
 mod fault;
 mod files;
+mod gathered;
 mod lines;
 
 pub use client::Client;

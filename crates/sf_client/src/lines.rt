@@ -6,15 +6,15 @@ ghost use Rattle.sf_line.specs.Lines.{Rose};
 ghost use Rattle.sf_field.specs.Fields.{be32, packet};
 ghost use Rattle.sf_client.specs.Packets.{Ends, HasNoPacket};
 
+use sf_field::MAX_BODY;
 use sf_line::{Line, LineFault};
-
-/// The greatest length of a packet's body.
-pub(crate) const MAX_BODY: usize = 262144;
 
 /// Fills the buffer; false where the input ends before it is full.
 fn fill<L: Line>(line: &mut L, buffer: &mut [u8]) -> Result<bool, LineFault>
-    ensures full { IfOk result (λ full. full ≡ true → Consumes (L.incoming line.old) (L.incoming line.new) buffer.new) }
-    ensures short { IfOk result (λ full. full ≡ false → Ends (L.incoming line.old) (length buffer.new)) }
+    ensures full { IfOk result (λ full. full ≡ true
+        → Consumes (L.incoming line.old) (L.incoming line.new) buffer.new) }
+    ensures short { IfOk result (λ full. full ≡ false
+        → Ends (L.incoming line.old) (length buffer.new)) }
     ensures outgoing { L.outgoing line.new ≡ L.outgoing line.old }
     ensures failures { L.failed line.old ≤ L.failed line.new }
     ensures fault { OnErr result (Rose (L.failed line.old) (L.failed line.new)) }

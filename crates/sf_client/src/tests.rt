@@ -5,6 +5,7 @@ ghost use Rattle.std.specs.Prelude.{◌≡◌, IfOk};
 use super::*;
 use bytes::BytesMut;
 use sf_field::{Attrs, ByteString, NO_ATTRS};
+use sf_hex::hex_bytes;
 use sf_line::{MemoryLine, Pieces};
 use sf_reply::{Reply, StatusCode, write_reply, write_version};
 use std::alloc::Global;
@@ -39,12 +40,11 @@ fn string(alloc: Global, bytes: &[u8]) -> Result<ByteString, Fail>
     Ok(ByteString::from_slice(alloc, bytes)?)
 }
 
-/// The bytes of texts in hexadecimal, whose spaces only group them, one after the other.
-fn hex_bytes(alloc: Global, texts: &[&str]) -> Result<Vec<u8>, Fail> {
+/// The bytes of packets in hexadecimal, one after the other.
+fn packets(alloc: Global, texts: &[&str]) -> Result<Vec<u8>, Fail> {
     let mut bytes = Vec::new(alloc);
     for text in texts {
-        let digits: Vec<u8> = text.bytes().filter(|b| *b != b' ').collect(alloc)?;
-        bytes.extend_from_slice(&hex::decode(alloc, digits.as_slice())?)?;
+        bytes.extend_from_slice(&hex_bytes(alloc, text)?)?;
     }
     Ok(bytes)
 }
@@ -88,7 +88,7 @@ fn calls_of_one_request(rt: HostRuntime) -> Result<(), Fail> {
     client.remove(b"/h")?;
     client.rmdir(b"/a")?;
     assert_eq!(rt; client.stat(b"/f"), Ok(told));
-    let sent = hex_bytes(
+    let sent = packets(
         alloc,
         &[
             INIT,

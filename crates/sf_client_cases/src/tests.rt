@@ -3,11 +3,12 @@
 //! send, and the client then its replies. What the client sent is compared with what the server was
 //! given.
 
-use sf_cases::{StillClock, whole};
+use sf_cases::{StillClock, hex_bytes, whole};
 use sf_client::{Client, ClientFault};
+use sf_engine::Engine;
 use sf_line::{MemoryLine, Pieces};
 use sf_reply::StatusCode;
-use sf_service::serve_one;
+use sf_serving::serve_one;
 use sf_session::Cause;
 use std::alloc::Global;
 use std::process::Abort;
@@ -17,12 +18,11 @@ mod copies;
 
 const INIT: &str = "00000005 01 00000003";
 
-/// The bytes of texts in hexadecimal, whose spaces only group them, one after the other.
-fn hex_bytes(alloc: Global, texts: &[&str]) -> Result<Vec<u8>, Fail> {
+/// The bytes of packets in hexadecimal, one after the other.
+fn packets(alloc: Global, texts: &[&str]) -> Result<Vec<u8>, Fail> {
     let mut bytes = Vec::new(alloc);
     for text in texts {
-        let digits: Vec<u8> = text.bytes().filter(|b| *b != b' ').collect(alloc)?;
-        bytes.extend_from_slice(&hex::decode(alloc, digits.as_slice())?)?;
+        bytes.extend_from_slice(&hex_bytes(alloc, text)?)?;
     }
     Ok(bytes)
 }
@@ -31,7 +31,8 @@ fn hex_bytes(alloc: Global, texts: &[&str]) -> Result<Vec<u8>, Fail> {
 fn replies(rt: &impl Abort, alloc: Global, requests: &[u8]) -> Result<Vec<u8>, Fail> {
     let all = Pieces::new(usize::MAX, usize::MAX);
     let mut line = MemoryLine::new(alloc, requests, all, all);
-    let ended = serve_one(alloc, &mut line, &mut StillClock)?;
+    let mut engine = Engine::new(alloc)?;
+    let ended = serve_one(alloc, &mut engine, &mut line, &mut StillClock)?;
     assert_eq!(rt; ended, Cause::Closed);
     Ok(Vec::from_slice(alloc, line.output())?)
 }
@@ -54,7 +55,7 @@ fn has_sent(rt: &impl Abort, client: Client<MemoryLine<'_>>, requests: &[u8]) {
 #[test]
 fn tree(rt: HostRuntime) -> Result<(), Fail> {
     let alloc = rt.alloc();
-    let requests = hex_bytes(
+    let requests = packets(
         alloc,
         &[
             INIT,
@@ -101,7 +102,7 @@ fn tree(rt: HostRuntime) -> Result<(), Fail> {
 #[test]
 fn renames(rt: HostRuntime) -> Result<(), Fail> {
     let alloc = rt.alloc();
-    let requests = hex_bytes(
+    let requests = packets(
         alloc,
         &[
             INIT,

@@ -24,9 +24,15 @@ const MOST_SESSIONS: usize = 256;
 const LAST_NUMBER: u64 = u64::MAX / 2;
 
 /// One tree, and the calls of all sessions on it, each taken on by steps.
-#[derive(Drop)]
 pub struct Core {
     parts: Parts,
+}
+
+impl Drop for Core {
+    // By hand: where a core is dropped, a proof then sees one call and not the core's parts.
+    fn drop(self) {
+        let Core { parts: _parts } = self;
+    }
 }
 
 impl Model for Core {
@@ -65,8 +71,10 @@ impl Core {
 
     /// Why no session can join, other than for want of memory.
     pub fn join_fault(&self) -> Option<CoreFault>
-        ensures some { IfSome result (λ fault. (fault ≢ CoreFault.OutOfMemory) × RefusesJoin self.now fault) }
-        ensures none { IfNone result ((joined self.now < most_sessions) × (self.now.joins < last_number)) }
+        ensures some { IfSome result (λ fault. (fault ≢ CoreFault.OutOfMemory)
+            × RefusesJoin self.now fault) }
+        ensures none { IfNone result ((joined self.now < most_sessions)
+            × (self.now.joins < last_number)) }
     {
         if self.parts.joined() >= MOST_SESSIONS {
             return Some(CoreFault::Sessions);
@@ -79,9 +87,11 @@ impl Core {
 
     /// A session joins. Room is made for the record of its leaving.
     pub fn join(&mut self) -> Result<Lane, CoreFault>
-        ensures lane { IfOk result (λ lane. lane ≡ record { session = self.old.joins + 1; call = None; begun = 0 }) }
+        ensures lane { IfOk result (λ lane. lane
+            ≡ record { session = self.old.joins + 1; call = None; begun = 0 }) }
         ensures ok { OnOk result (Joins self.old self.new) }
-        ensures history { OnOk result ((h : List Record) → IsHistory self.old h → IsHistory self.new h) }
+        ensures history { OnOk result ((h : List Record) → IsHistory self.old h
+            → IsHistory self.new h) }
         ensures err { OnErr result (self.new ≡ self.old) }
         ensures fault { IfErr result (λ fault. RefusesJoin self.old fault) }
     {
@@ -106,7 +116,8 @@ impl Core {
         requires { lane.old.call ≡ None }
         ensures ok { OnOk result (Begins self.old self.new lane.old request moment) }
         ensures place { OnOk result (lane.new ≡ begun lane.old self.new.drawn) }
-        ensures history { OnOk result ((h : List Record) → IsHistory self.old h → IsHistory self.new h) }
+        ensures history { OnOk result ((h : List Record) → IsHistory self.old h
+            → IsHistory self.new h) }
         ensures err { OnErr result ((self.new ≡ self.old) × (lane.new ≡ lane.old)) }
         ensures fault { IfErr result (λ fault. RefusesBegin self.old lane.old fault) }
     {
@@ -127,7 +138,8 @@ impl Core {
     /// One step of the lane's call. Takes no memory where it moves or blocks.
     pub fn step(&mut self, lane: &mut Lane) -> Step
         requires { IsSome lane.old.call }
-        ensures { (h : List Record) → IsHistory self.old h → (added : List Record) × IsHistory self.new (h ++ added)
+        ensures { (h : List Record) → IsHistory self.old h → (added : List Record)
+            × IsHistory self.new (h ++ added)
             × Steps (record { core = self.old; history = h; lane = lane.old }) result (record { core = self.new; added = added; lane = lane.new }) }
     {
         let Some(number) = lane.call else {
@@ -155,8 +167,10 @@ impl Core {
         ensures share { IfOk result (λ share. share ≡ lane.begun) }
         ensures ok { OnOk result (Leaves self.old self.new lane.session) }
         ensures back { IfErr result (λ back. back ≡ lane) }
-        ensures history { OnOk result ((h : List Record) → IsHistory self.old h → IsHistory self.new (h ++ Left lane.session ∷ [])) }
-        ensures err { OnErr result ((self.new ≡ self.old) × (slot_of self.old lane.session ≢ Idle)) }
+        ensures history { OnOk result ((h : List Record) → IsHistory self.old h
+            → IsHistory self.new (h ++ Left lane.session ∷ [])) }
+        ensures err { OnErr result ((self.new ≡ self.old)
+            × (slot_of self.old lane.session ≢ Idle)) }
     {
         if !self.parts.is_idle(lane.session) {
             return Err(lane);

@@ -167,8 +167,10 @@ impl Parts {
     pub(crate) fn walk(&mut self, number: u64) -> Walk
         requires there { IsSome (call_at self.old.calls number) }
         requires root { is_directory_at self.old.store.nodes self.old.store.root ≡ true }
-        requires stands { (c : Call) → call_at self.old.calls number ≡ Some c → Stands self.old.store (path_of c.request) c.stage }
-        ensures { (c : Call) → call_at self.old.calls number ≡ Some c → Walked self.old self.new c number result }
+        requires stands { (c : Call) → call_at self.old.calls number ≡ Some c
+            → Stands self.old.store (path_of c.request) c.stage }
+        ensures { (c : Call) → call_at self.old.calls number ≡ Some c
+            → Walked self.old self.new c number result }
     {
         let Some(call) = self.calls.get(number) else {
             unreachable!();
@@ -183,9 +185,11 @@ impl Parts {
     /// Decides a call, and writes its record.
     pub(crate) fn finish(&mut self, number: u64, located: Located) -> Reply
         requires there { IsSome (call_at self.old.calls number) }
-        requires located { (c : Call) → call_at self.old.calls number ≡ Some c → IsLocated self.old.store c.request located }
+        requires located { (c : Call) → call_at self.old.calls number ≡ Some c
+            → IsLocated self.old.store c.request located }
         requires room { 0 < self.old.book.room }
-        ensures { (c : Call) → call_at self.old.calls number ≡ Some c → Finished self.old self.new c number result }
+        ensures { (c : Call) → call_at self.old.calls number ≡ Some c
+            → Finished self.old self.new c number result }
     {
         let Some(call) = self.calls.remove(number) else {
             unreachable!();

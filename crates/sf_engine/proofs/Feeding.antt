@@ -31,6 +31,7 @@ place_fed v s x bytes (UnderWay id n m q moves) p h = record {
   slot = h.slot;
   own = h.own;
   few = h.few;
+  walked = h.walked;
   waiting = h.waiting;
   ended = h.ended;
 }
@@ -88,6 +89,8 @@ any_feed_steps v seats at s bytes p q (Ok r) num was ok err why w agrees =
       leads = (ok.fed, refl, (t.0, t.2, (sym t.3.closed ∙ ok.unclosed, here_if v (at + 1) p.session t.0.phase p.place t.3.at ok.unended), refl));
       records = refl;
       agrees = keeps_agrees w v v seats at [] 0 p q t.0 told agrees t.1 was (subst P (sym (append-nil w.records)) agrees.history) (moves_none v (at + 1) t.0 told refl) now;
+      step = tt;
+      work = refl;
     } in
     subst (λ (k : ℕ). Steps (engine v seats) (event.Feed k bytes) (Ok r) (engine v (slice_set seats at q)) w) num steps
 any_feed_steps v seats at s bytes p q (Err f) num was ok err why w agrees =

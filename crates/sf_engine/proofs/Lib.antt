@@ -1,5 +1,7 @@
 pub mod Tracing
 pub mod Moving
+pub mod Deciding
+pub mod Working
 pub mod Resting
 pub mod Under
 pub mod Writing
@@ -7,5 +9,11 @@ pub mod Turning
 pub mod Feeding
 pub mod Opening
 pub mod Running
+pub mod Quiet
+pub mod Orders
 pub mod Reading
+pub mod Beginning
+pub mod SentBytes
+pub mod OneWorld
 pub mod Sending
+pub mod Examples

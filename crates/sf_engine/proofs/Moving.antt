@@ -1,5 +1,5 @@
 -- One session goes on, and the others stay as they are, but for calls that were carried out for them.
-use Rattle.std.proofs.Common.{◌≡◌, ◌≢◌, ℕ, zero, suc, ◌+◌, ◌-◌, ◌<◌, ◌≤◌, ◌⊎◌, List, [], ◌∷◌, ◌++◌, Some, Bool, cond, slice_get, slice_set, length, refl, ap, sym, ◌∙◌, subst, arith, inl, inr, get_or, length-set}
+use Rattle.std.proofs.Common.{◌≡◌, ◌≢◌, ℕ, zero, suc, ◌+◌, ◌-◌, ◌<◌, ◌≤◌, ◌⊎◌, List, [], ◌∷◌, ◌++◌, Some, None, Bool, cond, slice_get, slice_set, length, refl, ap, sym, ◌∙◌, subst, arith, inl, inr, get_or, length-set}
 use Rattle.std.specs.List.{sum_by}
 use Rattle.std.proofs.lemmas.Bool.{cases_eq}
 use Rattle.std.proofs.lemmas.Option.{slice_get_within, get_or_from_slice_get}
@@ -9,7 +9,7 @@ use Rattle.sf_call.specs.declared.record.Record.{Record}
 use Rattle.sf_session.specs.Sessions.{SessionView}
 use Rattle.sf_core.specs.Cores.Slot.{Gone as nobody, Idle, Busy}
 use Rattle.sf_core.specs.Cores.{CoreView, slot_of, joined}
-use Rattle.sf_core.specs.Progress.{left_of, SameCall}
+use Rattle.sf_core.specs.Progress.{reply_of, left_of, SameCall}
 use Rattle.sf_core.specs.Histories.{IsHistory}
 use Rattle.sf_engine.specs.declared.seat.Seat.{Seat}
 use Rattle.sf_engine.specs.declared.seat.Place.{Place}
@@ -51,7 +51,7 @@ here_in t = cond (is_here t) 1 0
 -- another session's slot stays, or its call was carried out
 abbrev pub OtherStays : CoreView → CoreView → ℕ → Type 0
 OtherStays v v' s = (slot_of v' s ≡ slot_of v s)
-    ⊎ ((before : Call) × (after : Call) × (slot_of v s ≡ Busy before) × (slot_of v' s ≡ Busy after) × SameCall before after × (left_of after ≤ left_of before))
+    ⊎ ((before : Call) × (after : Call) × (slot_of v s ≡ Busy before) × (slot_of v' s ≡ Busy after) × SameCall before after × (left_of after ≤ left_of before) × (reply_of after ≢ None))
 
 -- what an event does to the core for one session, of which this is told before and after it
 pub record Moves (v v' : CoreView) (s : ℕ) (t t' : Told) (more : ℕ) : Type 0 where
@@ -75,6 +75,7 @@ agrees_same v v' s x (UnderWay id n m q moves) p e h = record {
   slot = e ∙ h.slot;
   own = h.own;
   few = h.few;
+  walked = h.walked;
   waiting = h.waiting;
   ended = h.ended;
 }
@@ -92,10 +93,10 @@ agrees_same v v' s x (Decided id n q given) p e h = record {
 agrees_same v v' s x (Gone cause) p e h = (h.0, e ∙ h.1, h.2)
 
 -- a place whose call was carried out
-pub agrees_helped : (v v' : CoreView) (s : ℕ) (x : SessionView) (f : Phase) (p : Place) (c d : Call) → slot_of v s ≡ Busy c → slot_of v' s ≡ Busy d → SameCall c d → left_of d ≤ left_of c
+pub agrees_helped : (v v' : CoreView) (s : ℕ) (x : SessionView) (f : Phase) (p : Place) (c d : Call) → slot_of v s ≡ Busy c → slot_of v' s ≡ Busy d → SameCall c d → left_of d ≤ left_of c → reply_of d ≢ None
     → PlaceAgrees v s x f p → PlaceAgrees v' s x f p
-agrees_helped v v' s x Resting p c d was now same less h = absurd (let w : Idle ≡ Busy c = sym h.slot ∙ was in cc)
-agrees_helped v v' s x (UnderWay id n m q moves) p c d was now same less h =
+agrees_helped v v' s x Resting p c d was now same less done h = absurd (let w : Idle ≡ Busy c = sym h.slot ∙ was in cc)
+agrees_helped v v' s x (UnderWay id n m q moves) p c d was now same less done h =
     let own : h.call ≡ c = let w : Busy h.call ≡ Busy c = sym h.slot ∙ was in cc in record {
       lane = h.lane;
       call = d;
@@ -110,11 +111,12 @@ agrees_helped v v' s x (UnderWay id n m q moves) p c d was now same less h =
         same.request ∙ ap (λ (y : Call). y.request) (sym own) ∙ h.own.3,
       );
       few = omega (arith, h.few, less, ap left_of own);
+      walked = λ e. absurd (done e);
       waiting = h.waiting;
       ended = h.ended;
     }
-agrees_helped v v' s x (Decided id n q given) p c d was now same less h = absurd (let w : Idle ≡ Busy c = sym h.slot ∙ was in cc)
-agrees_helped v v' s x (Gone cause) p c d was now same less h = absurd (let w : nobody ≡ Busy c = sym h.1 ∙ was in cc)
+agrees_helped v v' s x (Decided id n q given) p c d was now same less done h = absurd (let w : Idle ≡ Busy c = sym h.slot ∙ was in cc)
+agrees_helped v v' s x (Gone cause) p c d was now same less done h = absurd (let w : nobody ≡ Busy c = sym h.1 ∙ was in cc)
 
 pub seat_stays : (v v' : CoreView) (s : ℕ) (t : Told) (p : Seat) → OtherStays v v' s → SeatAgrees v s t p → SeatAgrees v' s t p
 seat_stays v v' s t p stays h = record {
@@ -124,7 +126,7 @@ seat_stays v v' s t p stays h = record {
   closed = h.closed;
   at = elim stays [
     | inl e ↦ agrees_same v v' s p.session t.phase p.place e h.at
-    | inr b ↦ agrees_helped v v' s p.session t.phase p.place b.0 b.1 b.2 b.3 b.4 b.5 h.at
+    | inr b ↦ agrees_helped v v' s p.session t.phase p.place b.0 b.1 b.2 b.3 b.4 b.5 b.6 h.at
   ];
 }
 

@@ -97,6 +97,8 @@ any_open_steps v v' seats seats' (Ok r) ok history err why w agrees =
       leads = (ok.opened ∙ ap (λ (n : ℕ). happened.Opened (n + 1)) agrees.opened, may, refl, refl);
       records = sym (append-nil w.records);
       agrees = subst P (sym ok.added) (opened_agrees w v v' seats agrees ok.core (history w.records agrees.history));
+      step = tt;
+      work = ok.core.look_ups;
     }
 any_open_steps v v' seats seats' (Err f) ok history err why w agrees =
     let same : engine v' seats' ≡ engine v seats = ap (λ (z : CoreView). engine z seats') err.0 ∙ ap (λ (z : List Seat). engine v z) err.1 in

@@ -24,9 +24,9 @@ use Rattle.sf_engine.specs.declared.seat.Seat.{Seat}
 use Rattle.sf_engine.specs.declared.seat.Place.{Place}
 use Rattle.sf_engine.specs.declared.event.Happened.{Happened}
 use Rattle.sf_engine.specs.declared.event.Happened.TheVariants as happened
-use Rattle.sf_engine.specs.Worlds.{Answered, Version, Locally, Refused, asked_by, packet_for, transcript, Phase, Resting, UnderWay, Told, World, with_phase}
+use Rattle.sf_engine.specs.Worlds.{Answered, Version, Locally, Refused, asked_by, packet_for, transcript, Resting, UnderWay, Told, World, with_phase}
 use Rattle.sf_engine.specs.Traces.{has_begun, IsAtOnce, RestLeads, left_for, calls_begun}
-use Rattle.sf_engine.specs.Turns.{Reads}
+use Rattle.sf_engine.specs.Turns.{seated, new_part, Reads}
 use Rattle.sf_engine.specs.Fits.{IsResting, SeatAgrees}
 use Rattle.sf_engine.proofs.Moving.{Moves, moves_none, here_in}
 
@@ -45,7 +45,7 @@ pub begun_push : (bodies : List (List ℕ)) (body : List ℕ) → has_begun (bod
 begun_push [] body = refl
 begun_push (b ∷ bodies) body = refl
 
-transcript_push : (answers : List Answered) (a : Answered) → transcript answers ++ packet_for a ≡ transcript (answers ++ a ∷ [])
+pub transcript_push : (answers : List Answered) (a : Answered) → transcript answers ++ packet_for a ≡ transcript (answers ++ a ∷ [])
 unfolding transcript
 transcript_push answers a = flat_map_more packet_for [] answers a
 
@@ -123,7 +123,7 @@ once_refused w v lane id request core.Stranger drawn idle h = absurd (h idle)
 
 pub rest_turned : (w : World) (v v' : CoreView) (s m : ℕ) (t : Told) (c : Bool) (x y : SessionView) (p q : Place) (r : Happened) (added : List Record)
     → v.drawn ≡ w.begun → SeatAgrees v s (with_phase t Resting) (seat x p c) → (at : IsResting v s x p)
-    → Reads v x at.lane m r added v' y q
+    → Reads (seated v x at.lane) m r (new_part v' added y q)
     → Turned v v' s (with_phase t Resting) (calls_begun r) (seat y q c) (λ t'. RestLeads w s m (with_phase t Resting) r added t')
 rest_turned w v v' s m t c x y p q happened.Idle added drawn h at g =
     stays w v v' s m (with_phase t Resting) x y p q c added h g.0 g.1 g.2 (g.3 ∙ sym at.place_is)
@@ -192,6 +192,7 @@ rest_turned w v v' s m t c x y p q happened.Begun added drawn h at g =
           slot = ap (λ (k : ℕ). slot_of v' k) (sym at.session) ∙ b.own;
           own = (at.session, number, refl, refl);
           few = omega (arith, b.fresh.1);
+          walked = λ e. refl;
           waiting = refl;
           ended = refl;
         };

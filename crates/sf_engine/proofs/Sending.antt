@@ -1,5 +1,5 @@
 -- Bytes of a session's output were sent.
-use Rattle.std.proofs.Common.{◌≡◌, ℕ, ◌+◌, ◌<◌, ◌≤◌, List, [], ◌++◌, Some, Result, Ok, Err, IfOk, IfErr, OnErr, slice_get, slice_set, length, take, drop, refl, ap, sym, ◌∙◌, subst, arith, append-nil, append_assoc}
+use Rattle.std.proofs.Common.{◌≡◌, ℕ, ◌+◌, ◌<◌, ◌≤◌, List, [], ◌++◌, Some, Result, Ok, Err, IfOk, IfErr, OnErr, slice_get, slice_set, length, take, drop, refl, ap, sym, ◌∙◌, subst, append-nil, append_assoc}
 use Rattle.std.proofs.Math.Seq.{drop-append_seam}
 use Rattle.std.proofs.lemmas.List.{take-append-drop}
 use Rattle.sf_call.specs.declared.record.Record.{Record}
@@ -37,6 +37,7 @@ place_sent v s x rest (UnderWay id n m q moves) p h = record {
   slot = h.slot;
   own = h.own;
   few = h.few;
+  walked = h.walked;
   waiting = h.waiting;
   ended = h.ended;
 }
@@ -89,6 +90,8 @@ any_send_steps v seats at s n p q (Ok r) num was ok err why w agrees =
       leads = (ok.sent, refl, (t.0, t.2, subst (λ (b : List ℕ). n ≤ length b) (sym (output_is v (at + 1) t.0 p t.3)) ok.within, refl));
       records = refl;
       agrees = keeps_agrees w v v seats at [] 0 p q t.0 told agrees t.1 was (subst P (sym (append-nil w.records)) agrees.history) (moves_none v (at + 1) t.0 told refl) now;
+      step = tt;
+      work = refl;
     } in
     subst (λ (k : ℕ). Steps (engine v seats) (event.Sent k n) (Ok r) (engine v (slice_set seats at q)) w) num steps
 any_send_steps v seats at s n p q (Err f) num was ok err why w agrees =

@@ -16,10 +16,12 @@ use Rattle.sf_engine.specs.declared.event.EngineFault.{EngineFault}
 use Rattle.sf_engine.specs.declared.event.EngineFault.TheVariants as fault
 use Rattle.sf_engine.specs.Worlds.{Phase, Resting, UnderWay, Decided, Gone, Told, World, with_told, with_phase}
 use Rattle.sf_engine.specs.Traces.{TurnLeads, calls_begun, IsSession, IsNoSession, MayRefuse, MayWantMemory, closed_now}
-use Rattle.sf_engine.specs.Turns.{Gives, PlaceGives, TurnGives, CloseGives, IsPlaced, MayRefuseTurn}
+use Rattle.sf_engine.specs.Turns.{Gives, part, new_part, PlaceGives, CloseGives, IsPlaced, MayRefuseTurn}
+use Rattle.sf_engine.specs.Works.{Passage, IsStep, IsWork}
 use Rattle.sf_engine.specs.Views.{EngineView}
-use Rattle.sf_engine.specs.Fits.{IsResting, IsGoing, IsAnswered, PlaceAgrees, SeatAgrees, Agrees}
+use Rattle.sf_engine.specs.Fits.{IsResting, IsGoing, IsAnswered, PlaceAgrees, SeatAgrees, Agrees, passage}
 use Rattle.sf_engine.proofs.Tracing.{Steps}
+use Rattle.sf_engine.proofs.Working.{same_work, turn_works, close_same}
 use Rattle.sf_engine.proofs.Moving.{get_within, set_same, keeps_agrees}
 use Rattle.sf_engine.proofs.Resting.{Turned, seat, rest_turned}
 use Rattle.sf_engine.proofs.Under.{step_turned}
@@ -32,14 +34,14 @@ engine v seats = record { core = v; seats = seats }
 -- a turn of a session, by how far it is
 phase_turned : (w : World) (v v' : CoreView) (seats : List Seat) (s m : ℕ) (t : Told) (c : Bool) (f : Phase) (x y : SessionView) (p q : Place) (r : Happened) (h added : List Record)
     → Agrees w (engine v seats) → h ≡ w.records → SeatAgrees v s (with_phase t f) (seat x p c)
-    → PlaceGives v h x p c m r added v' y q
+    → PlaceGives (part v h x c) p m r (new_part v' added y q)
     → Turned v v' s (with_phase t f) (calls_begun r) (seat y q c) (λ t'. TurnLeads w s m (with_phase t f) f r added t')
 phase_turned w v v' seats s m t c Resting x y p q r h added agrees hist old g =
     let at : IsResting v s x p = old.at in
-    rest_turned w v v' s m t c x y p q r added agrees.begun old at (subst (λ (z : Place). PlaceGives v h x z c m r added v' y q) at.place_is g)
+    rest_turned w v v' s m t c x y p q r added agrees.begun old at (subst (λ (z : Place). PlaceGives (part v h x c) z m r (new_part v' added y q)) at.place_is g)
 phase_turned w v v' seats s m t c (UnderWay id n k request moves) x y p q r h added agrees hist old g =
     let at : IsGoing v s x id n k request moves p = old.at in
-    let g' = subst (λ (z : Place). PlaceGives v h x z c m r added v' y q) at.place_is g in
+    let g' = subst (λ (z : Place). PlaceGives (part v h x c) z m r (new_part v' added y q)) at.place_is g in
     let was = with_phase t (UnderWay id n k request moves) in
     let P : SessionView → Type 0 = λ z. Turned v v' s was (calls_begun r) (seat z q c) (λ t'. TurnLeads w s m was (UnderWay id n k request moves) r added t') in
     subst P (sym g'.1) (step_turned w v v' seats s was c x p q id n k request moves r h added agrees hist old at g'.0.0 g'.0.1)
@@ -47,13 +49,13 @@ phase_turned w v v' seats s m t c (Decided id n request given) x y p q r h added
     let at : IsAnswered v s x id given p = old.at in
     let was = with_phase t (Decided id n request given) in
     let old' : SeatAgrees v s was (seat x p t.closed) = subst (λ (b : Bool). SeatAgrees v s was (seat x p b)) old.closed old in
-    let g' = subst (λ (b : Bool). PlaceGives v h x (place.Answered at.lane at.answer) b m r added v' y q) old.closed (subst (λ (z : Place). PlaceGives v h x z c m r added v' y q) at.place_is g) in
+    let g' = subst (λ (b : Bool). PlaceGives (part v h x b) (place.Answered at.lane at.answer) m r (new_part v' added y q)) old.closed (subst (λ (z : Place). PlaceGives (part v h x c) z m r (new_part v' added y q)) at.place_is g) in
     let o = write_turned w v v' s m was was.closed x y p q id n request given r added old' at g'.0 g'.1 in
     let P : Bool → Type 0 = λ b. Turned v v' s was (calls_begun r) (seat y q b) (λ t'. TurnLeads w s m was (Decided id n request given) r added t') in
     let Q : ℕ → Type 0 = λ k. Turned v v' s was k (seat y q t.closed) (λ t'. TurnLeads w s m was (Decided id n request given) r added t') in
     subst P (sym old.closed) (subst Q (ap calls_begun (sym g'.0)) o)
 phase_turned w v v' seats s m t c (Gone cause) x y p q r h added agrees hist old g =
-    let g' = subst (λ (z : Place). PlaceGives v h x z c m r added v' y q) old.at.0 g in
+    let g' = subst (λ (z : Place). PlaceGives (part v h x c) z m r (new_part v' added y q)) old.at.0 g in
     let was = with_phase t (Gone cause) in
     let Q : ℕ → Type 0 = λ k. Turned v v' s was k (seat y q c) (λ t'. TurnLeads w s m was (Gone cause) r added t') in
     subst Q (ap calls_begun (sym g'.0)) (gone_turned w v v' s m was x y p q c cause r added old old.at.0 g'.0 g'.1 g'.2 g'.3 g'.4)
@@ -67,11 +69,12 @@ told_at w v seats at p agrees was =
 
 -- a turn that was not refused
 turn_steps : (v v' : CoreView) (seats : List Seat) (at m : ℕ) (p q : Seat) (r : Happened) → slice_get seats at ≡ Some p
-    → Gives v v' (λ h added. TurnGives v h p m r added v' q)
+    → Gives v v' (λ h added. PlaceGives (part v h p.session p.closed) p.place m r (new_part v' added q.session q.place) × (q.closed ≡ p.closed))
     → (w : World) → Agrees w (engine v seats) → Steps (engine v seats) (event.Turn (at + 1) m) (Ok r) (engine v' (slice_set seats at q)) w
 turn_steps v v' seats at m p q r was gives w agrees =
     let t = told_at w v seats at p agrees was in
     let g = gives w.records agrees.history in
+    let does = turn_works (part v w.records p.session p.closed) p.place (at + 1) m t.0.phase r (new_part v' g.0 q.session q.place) t.3.at g.2.0 in
     let T : Seat → Type 0 = λ z. Turned v v' (at + 1) t.0 (calls_begun r) z (λ t'. TurnLeads w (at + 1) m t.0 t.0.phase r g.0 t') in
     let same : seat q.session q.place p.closed ≡ q = ap (λ (b : Bool). seat q.session q.place b) (sym g.2.1) in
     let o : T q = subst T same (phase_turned w v v' seats (at + 1) m t.0 p.closed t.0.phase p.session q.session p.place q.place r w.records g.0 agrees refl t.3 g.2.0) in
@@ -81,11 +84,27 @@ turn_steps v v' seats at m p q r was gives w agrees =
       leads = (t.0, o.told, t.2, o.lead, refl);
       records = refl;
       agrees = keeps_agrees w v v' seats at g.0 (calls_begun r) p q t.0 o.told agrees t.1 was g.1 o.moves o.agrees;
+      step = does.step;
+      work = does.work;
     }
+
+no_step : (ev : Event) (f : EngineFault) (p : Passage) → IsStep ev (Err f) p
+no_step event.Open f p = tt
+no_step (event.Feed s bytes) f p = tt
+no_step (event.Turn s m) f p = tt
+no_step (event.Close s) f p = tt
+no_step (event.Sent s n) f p = tt
+
+no_work : (ev : Event) (p : Passage) → p.new.look_ups ≡ p.old.look_ups → IsWork ev p
+no_work event.Open p e = e
+no_work (event.Feed s bytes) p e = e
+no_work (event.Turn s m) p e = same_work s m p e
+no_work (event.Close s) p e = e
+no_work (event.Sent s n) p e = e
 
 -- a refused event changes nothing
 pub refused_steps : (e : EngineView) (ev : Event) (f : EngineFault) → (w : World) → Agrees w e → MayRefuse w ev f → Steps e ev (Err f) e w
-refused_steps e ev f w agrees may = record { added = []; after = w; leads = (may, refl, refl); records = sym (append-nil w.records); agrees = agrees }
+refused_steps e ev f w agrees may = record { added = []; after = w; leads = (may, refl, refl); records = sym (append-nil w.records); agrees = agrees; step = no_step ev f (passage e w.records [] e); work = no_work ev (passage e w.records [] e) refl }
 
 -- no session has this number
 pub no_session : (e : EngineView) (s : ℕ) (w : World) → Agrees w e → (s ≡ 0) ⊎ (length e.seats < s) → IsNoSession w s
@@ -105,7 +124,7 @@ same_engine v v' seats at p q was vis qis =
 
 -- a turn, whatever came of it
 pub any_turn_steps : (v v' : CoreView) (seats : List Seat) (at s m : ℕ) (p q : Seat) (r : Result Happened EngineFault) → at + 1 ≡ s → slice_get seats at ≡ Some p
-    → IfOk r (λ k. Gives v v' (λ h added. TurnGives v h p m k added v' q)) → OnErr r ((v' ≡ v) × (q ≡ p)) → IfErr r (λ f. (f ≡ fault.OutOfMemory) × MayRefuseTurn p.place)
+    → IfOk r (λ k. Gives v v' (λ h added. PlaceGives (part v h p.session p.closed) p.place m k (new_part v' added q.session q.place) × (q.closed ≡ p.closed))) → OnErr r ((v' ≡ v) × (q ≡ p)) → IfErr r (λ f. (f ≡ fault.OutOfMemory) × MayRefuseTurn p.place)
     → (w : World) → Agrees w (engine v seats) → Steps (engine v seats) (event.Turn s m) r (engine v' (slice_set seats at q)) w
 any_turn_steps v v' seats at s m p q (Ok r) num was ok err why w agrees =
     subst (λ (k : ℕ). Steps (engine v seats) (event.Turn k m) (Ok r) (engine v' (slice_set seats at q)) w) num (turn_steps v v' seats at m p q r was ok w agrees)
@@ -134,7 +153,7 @@ is_placed w v seats at p agrees was =
 
 -- closing
 pub close_steps : (v v' : CoreView) (seats : List Seat) (at s : ℕ) (p q : Seat) → at + 1 ≡ s → slice_get seats at ≡ Some p
-    → Gives v v' (λ h added. (goes_on : Bool) × CloseGives v p.session p.place added v' q.session q.place goes_on × (q.closed ≡ (p.closed || goes_on)))
+    → Gives v v' (λ h added. (goes_on : Bool) × CloseGives v p.session p.place (new_part v' added q.session q.place) goes_on × (q.closed ≡ (p.closed || goes_on)))
     → (w : World) → Agrees w (engine v seats) → Steps (engine v seats) (event.Close s) (Ok happened.Closed) (engine v' (slice_set seats at q)) w
 close_steps v v' seats at s p q num was gives w agrees =
     let t = told_at w v seats at p agrees was in
@@ -147,5 +166,7 @@ close_steps v v' seats at s p q num was gives w agrees =
       leads = (refl, (t.0, t.2, o.lead.0, refl));
       records = refl;
       agrees = subst T o.lead.1 (keeps_agrees w v v' seats at g.0 0 p q t.0 o.told agrees t.1 was g.1 o.moves o.agrees);
+      step = tt;
+      work = close_same v p.session p.place (new_part v' g.0 q.session q.place) g.2.0 g.2.1;
     } in
     subst (λ (k : ℕ). Steps (engine v seats) (event.Close k) (Ok happened.Closed) (engine v' (slice_set seats at q)) w) num steps

@@ -1,5 +1,5 @@
 -- A turn of a session whose call is under way.
-use Rattle.std.proofs.Common.{◌≡◌, ◌≢◌, ℕ, zero, suc, ◌+◌, ◌-◌, ◌<◌, ◌≤◌, ◌⊎◌, List, [], ◌∷◌, ◌++◌, Bool, slice_get, length, refl, ap, sym, ◌∙◌, subst, arith, inl, inr}
+use Rattle.std.proofs.Common.{◌≡◌, ◌≢◌, ℕ, zero, suc, ◌+◌, ◌-◌, ◌<◌, ◌≤◌, ◌⊎◌, List, [], ◌∷◌, ◌++◌, Some, None, Bool, slice_get, length, refl, ap, sym, ◌∙◌, subst, arith, inl, inr}
 use Rattle.std.specs.List.{AllByRecursion}
 use Rattle.std.proofs.lemmas.Bool.{cases_lt}
 use Rattle.sf_reply.specs.declared.reply.Reply.{Reply}
@@ -8,12 +8,13 @@ use Rattle.sf_call.specs.declared.call.Call.{Call}
 use Rattle.sf_call.specs.declared.record.Record.{Record}
 use Rattle.sf_call.specs.declared.record.Record.TheVariants.{Did, Left}
 use Rattle.sf_call.specs.Answers.{Answered as Answer}
-use Rattle.sf_call.specs.Histories.{IsAmong}
+use Rattle.sf_call.specs.Histories.{replay, IsAmong}
+use Rattle.sf_walk.specs.Ways.{path_of}
 use Rattle.sf_session.specs.Sessions.{SessionView}
 use Rattle.sf_core.specs.Cores.Slot.{Gone as nobody, Idle, Busy}
 use Rattle.sf_core.specs.Lanes.{LaneView, at_rest}
 use Rattle.sf_core.specs.Cores.{CoreView, slot_of}
-use Rattle.sf_core.specs.Progress.{left_of, bound_of, did}
+use Rattle.sf_core.specs.Progress.{reply_of, left_of, bound_of, MayDecide, did}
 use Rattle.sf_core.specs.Events.{IsOfOther}
 use Rattle.sf_core.specs.Events.{IsHelped as IsHelpedAt}
 use Rattle.sf_engine.specs.declared.seat.Seat.{Seat}
@@ -24,8 +25,10 @@ use Rattle.sf_engine.specs.declared.event.Happened.TheVariants as happened
 use Rattle.sf_engine.specs.Worlds.{Phase, Resting, UnderWay, Decided, Gone, Told, World, with_phase}
 use Rattle.sf_engine.specs.Traces.{IsUnderWay, IsOthersCall, IsHelped, Decides, StepLeads, calls_begun}
 use Rattle.sf_engine.specs.Turns.{GoesOn, before, after}
-use Rattle.sf_engine.specs.Fits.{IsGoing, PlaceAgrees, SeatAgrees, Agrees}
+use Rattle.sf_engine.specs.Deciding.{HasStopped, AreSure}
+use Rattle.sf_engine.specs.Fits.{HasMoved, IsGoing, PlaceAgrees, SeatAgrees, Agrees}
 use Rattle.sf_engine.proofs.Moving.{Moves, OtherStays, get_within}
+use Rattle.sf_engine.proofs.Deciding.{moved_on, stops, step_sure}
 use Rattle.sf_engine.proofs.Resting.{Turned, seat}
 
 -- whose call the core has, its call is under way by the trace too
@@ -85,13 +88,21 @@ own_record v s x id n m q moves p c given at here =
     ∙ ap (λ (k : ℕ). Did n s k at.call.request given) at.own.2
     ∙ ap (λ (k : Request). Did n s m k given) at.own.3
 
+-- a call that decides has stopped
+has_stopped : (w : World) (v : CoreView) (s : ℕ) (x : SessionView) (id n m : ℕ) (q : Request) (moves : ℕ) (p : Place) (c : Call) (given : Reply) → IsGoing v s x id n m q moves p → slot_of v s ≡ Busy c
+    → did c given ≡ Did n s m q given → MayDecide (replay w.records) c.request c.stage → reply_of c ≡ None → HasStopped (replay w.records) moves (Did n s m q given)
+has_stopped w v s x id n m q moves p c given at here is way undecided =
+    let own : at.call ≡ c = let z : Busy at.call ≡ Busy c = sym at.slot ∙ here in cc in
+    let moved : HasMoved c.stage moves = subst (λ (y : Call). HasMoved y.stage moves) own (at.walked (ap reply_of own ∙ undecided)) in
+    subst (λ (r : Record). HasStopped (replay w.records) moves r) is (stops (replay w.records) (path_of c.request) c.stage moves moved way)
+
 -- the session's call was decided, and its answer waits
 decided_now : (w : World) (v v' : CoreView) (s : ℕ) (t : Told) (c : Bool) (x : SessionView) (p q : Place) (id n m : ℕ) (request : Request) (moves : ℕ)
     (a : Answer) (added : List Record)
     → SeatAgrees v s (with_phase t (UnderWay id n m request moves)) (seat x p c) → (at : IsGoing v s x id n m request moves p)
     → Moves v v' s (with_phase t (UnderWay id n m request moves)) (with_phase t (Decided id n request a.reply)) 0
     → slot_of v' s ≡ Idle → q ≡ place.Answered (at_rest at.lane) a
-    → Decides w s (Did n s m request a.reply) added
+    → Decides w s moves (Did n s m request a.reply) added
     → Turned v v' s (with_phase t (UnderWay id n m request moves)) 0 (seat x q c)
     (λ t'. StepLeads w s (with_phase t (UnderWay id n m request moves)) id n m request moves happened.Decided added t')
 decided_now w v v' s t c x p q id n m request moves a added h at moved idle qis decides = record {
@@ -109,7 +120,7 @@ decided_now w v v' s t c x p q id n m request moves a added h at moved idle qis 
 
 helped_stays : (v v' : CoreView) (s : ℕ) (helped : List Record) → (slot_of v' s ≡ slot_of v s) ⊎ IsHelpedAt v v' s helped → OtherStays v v' s
 helped_stays v v' s helped (inl e) = inl e
-helped_stays v v' s helped (inr h) = inr (h.before, h.after, h.was, h.now, h.same, h.less)
+helped_stays v v' s helped (inr h) = inr (h.before, h.after, h.was, h.now, h.same, h.less, λ e. let k : Some h.given ≡ None = sym h.decided ∙ e in cc)
 
 pub step_turned : (w : World) (v v' : CoreView) (seats : List Seat) (s : ℕ) (t : Told) (c : Bool) (x : SessionView) (p q : Place) (id n m : ℕ) (request : Request) (moves : ℕ)
     (r : Happened) (h added : List Record)
@@ -155,6 +166,7 @@ step_turned w v v' seats s t c x p q id n m request moves happened.Moved h added
             go.same.request ∙ ap (λ (y : Call). y.request) (sym own) ∙ at.own.3,
           );
           few = few;
+          walked = λ e. moved_on a.stage d.stage moves (subst (λ (y : Call). HasMoved y.stage moves) own (at.walked (ap reply_of own ∙ go.before))) go.walks;
           waiting = at.waiting;
           ended = at.ended;
         };
@@ -183,6 +195,7 @@ step_turned w v v' seats s t c x p q id n m request moves (happened.Blocked hold
           slot = same ∙ at.slot;
           own = at.own;
           few = at.few;
+          walked = at.walked;
           waiting = at.waiting;
           ended = at.ended;
         };
@@ -216,11 +229,14 @@ step_turned w v v' seats s t c x p q id n m request moves happened.Decided h add
             others = λ i ne. helped_stays v v' i f.helped (f.others i (λ e. ne (e ∙ at.session)));
           })
           (ap (λ (k : ℕ). slot_of v' k) (sym at.session) ∙ f.slot) placed
-          (inr (
-            f.helped,
-            are_helped w v seats s f.helped agrees (subst (λ (k : ℕ). AllByRecursion (IsOfOther v k) f.helped) at.session f.of_others),
-            f.records ∙ ap (λ (y : Record). f.helped ++ y ∷ []) is,
-          ))
+          (inr (record {
+            stopped = has_stopped w v s x id n m request moves p d a.reply at here is (subst (λ (y : List Record). MayDecide (replay y) d.request d.stage) hist f.way) f.undecided;
+            helped = f.helped;
+            of_others = are_helped w v seats s f.helped agrees (subst (λ (k : ℕ). AllByRecursion (IsOfOther v k) f.helped) at.session f.of_others);
+            rising = f.order.rising;
+            records = f.records ∙ ap (λ (y : Record). f.helped ++ y ∷ []) is;
+            sure = subst (λ (y : List Record). AreSure y added) hist (step_sure (before v h at.lane) (after v' added lane') d a.reply f);
+          }))
     ]
 step_turned w v v' seats s t c x p q id n m request moves (happened.Opened k) h added agrees hist old at lane' g = absurd g
 step_turned w v v' seats s t c x p q id n m request moves happened.Fed h added agrees hist old at lane' g = absurd g

@@ -1,7 +1,9 @@
 -- When an engine fits a trace.
-use Rattle.std.specs.Prelude.{◌≡◌, ◌≢◌, ◌<◌, ◌+◌, ◌≤◌, ◌⊎◌, ℕ, List, [], ◌∷◌, ◌++◌, length, Some, None, Result, slice_get}
+use Rattle.std.specs.Prelude.{◌≡◌, ◌≢◌, ◌<◌, ◌+◌, ◌≤◌, ◌⊎◌, ◌↔◌, IsTrue, Bool, ℕ, List, [], ◌∷◌, ◌++◌, length, Some, None, Result, slice_get}
 use Rattle.sf_reply.specs.declared.reply.Reply.{Reply}
 use Rattle.sf_call.specs.declared.call.Call.{Call}
+use Rattle.sf_call.specs.declared.call.Stage.{Stage}
+use Rattle.sf_call.specs.declared.call.Stage.TheVariants as stage
 use Rattle.sf_call.specs.declared.record.Record.{Record}
 use Rattle.sf_call.specs.declared.request.Request.{Request}
 use Rattle.sf_call.specs.Answers.{Answered as Answer}
@@ -10,7 +12,7 @@ use Rattle.sf_session.specs.Sessions.{SessionView}
 use Rattle.sf_core.specs.Lanes.{LaneView}
 use Rattle.sf_core.specs.Cores.Slot.{Gone, Idle, Busy}
 use Rattle.sf_core.specs.Cores.{CoreView, slot_of, joined}
-use Rattle.sf_core.specs.Progress.{left_of, bound_of}
+use Rattle.sf_core.specs.Progress.{reply_of, left_of, bound_of}
 use Rattle.sf_core.specs.Histories.{IsHistory}
 use Rattle.sf_engine.specs.declared.seat.Seat.{Seat}
 use Rattle.sf_engine.specs.declared.seat.Place.{Place}
@@ -20,6 +22,7 @@ use Rattle.sf_engine.specs.declared.event.Happened.{Happened}
 use Rattle.sf_engine.specs.declared.event.EngineFault.{EngineFault}
 use Rattle.sf_engine.specs.Worlds.{Entry, Phase, Resting, UnderWay, Decided, Gone as left, Told, World, transcript, here}
 use Rattle.sf_engine.specs.Traces.{has_begun, Tells, order, AreEntries, IsSession, IsNoSession, Leads}
+use Rattle.sf_engine.specs.Works.{Passage, IsStep, IsWork}
 use Rattle.sf_engine.specs.Views.{EngineView}
 
 -- a resting session
@@ -32,6 +35,11 @@ pub record IsResting (v : CoreView) (s : ℕ) (x : SessionView) (p : Place) : Ty
   pub waiting : x.waiting ≡ None
   pub ended : x.ended ≡ None
 
+-- the moves of an undecided call: the first took the root, and each further one walked a name
+abbrev pub HasMoved : Stage → ℕ → Type 0
+HasMoved stage.Fresh moves = moves ≡ 0
+HasMoved (stage.At walked node) moves = moves ≡ walked + 1
+
 -- A session whose call is under way: the core has the call, and so many steps are left to it at most.
 pub record IsGoing (v : CoreView) (s : ℕ) (x : SessionView) (id number moment : ℕ) (request : Request) (moves : ℕ) (p : Place) : Type 0 where
   pub lane : LaneView
@@ -42,6 +50,7 @@ pub record IsGoing (v : CoreView) (s : ℕ) (x : SessionView) (id number moment 
   pub slot : slot_of v s ≡ Busy call
   pub own : (call.session ≡ s) × (call.number ≡ number) × (call.moment ≡ moment) × (call.request ≡ request)
   pub few : moves + left_of call ≤ bound_of request
+  pub walked : reply_of call ≡ None → HasMoved call.stage moves
   pub waiting : x.waiting ≡ Some id
   pub ended : x.ended ≡ None
 
@@ -78,7 +87,8 @@ pub record Agrees (w : World) (e : EngineView) : Type 0 where
   pub opened : e.core.joins ≡ length w.sessions
   pub here : joined e.core ≡ here w
   pub count : length e.seats ≡ length w.sessions
-  pub each : (i : ℕ) (t : Told) (p : Seat) → slice_get w.sessions i ≡ Some t → slice_get e.seats i ≡ Some p → SeatAgrees e.core (i + 1) t p
+  pub each : (i : ℕ) (t : Told) (p : Seat) → slice_get w.sessions i ≡ Some t → slice_get e.seats i ≡ Some p
+      → SeatAgrees e.core (i + 1) t p
   pub nobody : (s : ℕ) → (s ≡ 0) ⊎ (length w.sessions < s) → slot_of e.core s ≡ Gone
 
 -- The trace is lawful. Its order is a legal history, and the core's. What the engine keeps is what the trace leaves.
@@ -96,19 +106,42 @@ entry_of event result added = record { event = event; result = result; added = a
 abbrev pub IsEngine : CoreView → List Seat → Type 0
 IsEngine core seats = (w : World) × Agrees w (record { core = core; seats = seats })
 
--- The engine fits each trace that it fitted, followed by the event's entry, which leads on from where the trace led.
+-- from an engine that fits a trace to another, which added records
+abbrev pub passage : EngineView → List Record → List Record → EngineView → Passage
+passage old history added new = record { old = old.core; history = history; added = added; new = new.core }
+
+-- The engine fits each trace that it fitted, followed by the event's entry, which leads on from where the trace led. What the event did
+-- to the core is the step of the session's call, and so much work at most.
 abbrev pub GoesOnTrace : EngineView → Event → Result Happened EngineFault → EngineView → Type 0
 GoesOnTrace old event result new = (trace : List Entry) → (fits : Fits old trace)
-    → (added : List Record) × (now : Fits new (trace ++ entry_of event result added ∷ [])) × Leads fits.world (entry_of event result added) now.world
+    → (added : List Record)
+    × (now : Fits new (trace ++ entry_of event result added ∷ []))
+    × Leads fits.world (entry_of event result added) now.world
+    × IsStep event result (passage old fits.world.records added new)
+    × IsWork event (passage old fits.world.records added new)
 
 -- The engine fits each trace that it fitted, followed by one entry for each event, so many of them refused.
 abbrev pub RunsTrace : EngineView → List Event → ℕ → EngineView → Type 0
-RunsTrace old events refused new = (trace : List Entry) → Fits old trace → (entries : List Entry) × AreEntries events entries refused × Fits new (trace ++ entries)
+RunsTrace old events refused new = (trace : List Entry) → Fits old trace
+    → (entries : List Entry) × AreEntries events entries refused × Fits new (trace ++ entries)
 
 -- what a session's output is, by each trace that the engine fits: it follows what was sent, and both are the transcript of what the
 -- session was answered
 abbrev pub IsSentBy : EngineView → ℕ → List ℕ → Type 0
-IsSentBy e session output = (trace : List Entry) → (fits : Fits e trace) → (t : Told) × IsSession fits.world session t × (transcript t.answers ≡ t.sent ++ output)
+IsSentBy e session output = (trace : List Entry) → (fits : Fits e trace)
+    → (t : Told) × IsSession fits.world session t × (transcript t.answers ≡ t.sent ++ output)
+
+-- no call of a session goes on: none is under way, and no answer waits to be written
+abbrev pub IsQuiet : Phase → Type 0
+IsQuiet Resting = Unit {0}
+IsQuiet (UnderWay id number moment request moves) = ⊥
+IsQuiet (Decided id number request reply) = ⊥
+IsQuiet (left cause) = Unit {0}
+
+-- whether that is so of all sessions, by each trace that the engine fits
+abbrev pub IsQuietBy : EngineView → Bool → Type 0
+IsQuietBy e quiet = (trace : List Entry) → (fits : Fits e trace)
+    → IsTrue quiet ↔ ((session : ℕ) (t : Told) → IsSession fits.world session t → IsQuiet t.phase)
 
 -- by each trace that the engine fits there is no such session
 abbrev pub IsUnknown : EngineView → ℕ → Type 0

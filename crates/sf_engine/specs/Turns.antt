@@ -11,7 +11,7 @@ use Rattle.sf_call.specs.Answers.{Answered as Answer}
 use Rattle.sf_session.specs.declared.cause.Cause.TheVariants.{Closed}
 use Rattle.sf_session.specs.declared.session.Next.TheVariants as next
 use Rattle.sf_session.specs.Sessions.{SessionView, NextGives, refusal_of}
-use Rattle.sf_core.specs.Lanes.{LaneView, at_rest}
+use Rattle.sf_core.specs.Lanes.{LaneView}
 use Rattle.sf_session.specs.Sessions.{new_session}
 use Rattle.sf_core.specs.Cores.Slot.{Idle}
 use Rattle.sf_core.specs.Cores.{CoreView, slot_of, joined, most_sessions, last_number}
@@ -29,44 +29,79 @@ use Rattle.sf_engine.specs.declared.event.EngineFault.TheVariants as fault
 abbrev pub Gives : CoreView → CoreView → (List Record → List Record → Type 0) → Type 0
 Gives v w R = (h : List Record) → IsHistory v h → (added : List Record) × IsHistory w (h ++ added) × R h added
 
--- the step of a call under way
-abbrev pub GoesOn : Before → Happened → After → Place → Type 0
-GoesOn b happened.Moved a p = ((c : Call) × (d : Call) × Goes b.core a.core b.lane c d) × AddsNothing b a × (p ≡ place.UnderWay a.lane)
-GoesOn b (happened.Blocked holder) a p = ((c : Call) × IsBlocked b.core a.core b.lane c holder) × AddsNothing b a × (p ≡ place.UnderWay a.lane)
-GoesOn b happened.Decided a p = (given : Answer) × ((c : Call) × (Fetches b a c given.reply ⊎ Decides b a c given.reply)) × Answers b given a × (p ≡ place.Answered a.lane given)
-GoesOn b _ a p = ⊥
+-- a core, and a session with its lane
+pub record Seated : Type 0 where
+  pub core : CoreView
+  pub session : SessionView
+  pub lane : LaneView
 
--- a core with its history and a lane; a core and the records that were added, with some lane
+-- a core with its history, and a session that was closed or not, before an event on the session
+pub record Part : Type 0 where
+  pub core : CoreView
+  pub history : List Record
+  pub session : SessionView
+  pub closed : Bool
+
+-- a core and a session after it, with the records that were added
+pub record NewPart : Type 0 where
+  pub core : CoreView
+  pub added : List Record
+  pub session : SessionView
+  pub place : Place
+
+abbrev pub seated : CoreView → SessionView → LaneView → Seated
+seated v x lane = record { core = v; session = x; lane = lane }
+
+abbrev pub part : CoreView → List Record → SessionView → Bool → Part
+part v h x closed = record { core = v; history = h; session = x; closed = closed }
+
+abbrev pub new_part : CoreView → List Record → SessionView → Place → NewPart
+new_part w added y p = record { core = w; added = added; session = y; place = p }
+
 abbrev pub before : CoreView → List Record → LaneView → Before
 before v h lane = record { core = v; history = h; lane = lane }
 
 abbrev pub after : CoreView → List Record → LaneView → After
 after w added lane = record { core = w; added = added; lane = lane }
 
+-- the step of a call under way
+abbrev pub GoesOn : Before → Happened → After → Place → Type 0
+GoesOn b happened.Moved a p = ((c : Call) × (d : Call) × Goes b.core a.core b.lane c d) × AddsNothing b a × (p ≡ place.UnderWay a.lane)
+GoesOn b (happened.Blocked holder) a p = ((c : Call) × IsBlocked b.core a.core b.lane c holder) × AddsNothing b a × (p ≡ place.UnderWay a.lane)
+GoesOn b happened.Decided a p =
+    (given : Answer) × ((c : Call) × (Fetches b a c given.reply ⊎ Decides b a c given.reply)) × Answers b given a × (p ≡ place.Answered a.lane given)
+GoesOn b _ a p = ⊥
+
 -- a packet was answered with no call: by the session alone, or since the call could not begin
-abbrev pub WritesAtOnce : CoreView → SessionView → LaneView → SessionView → Type 0
-WritesAtOnce v x lane y = NextGives x next.Local y
-    ⊎ ((request : Request) × (mid : SessionView) × (fault : CoreFault) × NextGives x (next.Call request) mid × RefusesBegin v lane fault
+abbrev pub WritesAtOnce : Seated → SessionView → Type 0
+WritesAtOnce b y = NextGives b.session next.Local y
+    ⊎ ((request : Request) × (mid : SessionView) × (fault : CoreFault) × NextGives b.session (next.Call request) mid × RefusesBegin b.core b.lane fault
     × IfSome mid.waiting (λ id. y ≡ record mid { output = mid.output ++ packet (reply_body id (refusal_of fault)); waiting = None }))
 
 -- what stood at the front of a resting session's bytes
-abbrev pub Reads : CoreView → SessionView → LaneView → ℕ → Happened → List Record → CoreView → SessionView → Place → Type 0
-Reads v x lane m happened.Idle added w y p = NextGives x next.More y × (w ≡ v) × (added ≡ []) × (p ≡ place.Resting lane)
-Reads v x lane m happened.Wrote added w y p = WritesAtOnce v x lane y × (w ≡ v) × (added ≡ []) × (p ≡ place.Resting lane)
-Reads v x lane m happened.Begun added w y p = (request : Request) × NextGives x (next.Call request) y × Begins v w lane request m × (added ≡ []) × (p ≡ place.UnderWay (begun lane w.drawn))
-Reads v x lane m (happened.Ended cause) added w y p = NextGives x (next.Ended cause) y × Leaves v w lane.session × (added ≡ Left lane.session ∷ []) × (p ≡ place.Left cause)
-Reads v x lane m _ added w y p = ⊥
+abbrev pub Reads : Seated → ℕ → Happened → NewPart → Type 0
+Reads b m happened.Idle a = NextGives b.session next.More a.session × (a.core ≡ b.core) × (a.added ≡ []) × (a.place ≡ place.Resting b.lane)
+Reads b m happened.Wrote a = WritesAtOnce b a.session × (a.core ≡ b.core) × (a.added ≡ []) × (a.place ≡ place.Resting b.lane)
+Reads b m happened.Begun a =
+    (request : Request) × NextGives b.session (next.Call request) a.session × Begins b.core a.core b.lane request m
+    × (a.added ≡ []) × (a.place ≡ place.UnderWay (begun b.lane a.core.drawn))
+Reads b m (happened.Ended cause) a =
+    NextGives b.session (next.Ended cause) a.session × Leaves b.core a.core b.lane.session
+    × (a.added ≡ Left b.lane.session ∷ []) × (a.place ≡ place.Left cause)
+Reads b m _ a = ⊥
 
 -- after a reply: the session rests, or leaves since it was closed
-abbrev pub Settles : CoreView → SessionView → LaneView → Bool → List Record → CoreView → SessionView → Place → Type 0
-Settles v x lane false added w y p = (w ≡ v) × (added ≡ []) × (y ≡ x) × (p ≡ place.Resting lane)
-Settles v x lane true added w y p = Leaves v w lane.session × (added ≡ Left lane.session ∷ []) × (y ≡ record x { unread = []; ended = Some Closed }) × (p ≡ place.Left Closed)
+abbrev pub Settles : Seated → Bool → NewPart → Type 0
+Settles b false a = (a.core ≡ b.core) × (a.added ≡ []) × (a.session ≡ b.session) × (a.place ≡ place.Resting b.lane)
+Settles b true a =
+    Leaves b.core a.core b.lane.session × (a.added ≡ Left b.lane.session ∷ [])
+    × (a.session ≡ record b.session { unread = []; ended = Some Closed }) × (a.place ≡ place.Left Closed)
 
 -- the answer that waited was written
-abbrev pub Writes : CoreView → SessionView → LaneView → Answer → Bool → List Record → CoreView → SessionView → Place → Type 0
-Writes v x lane a closed added w y p = (mid : SessionView)
-    × IfSome x.waiting (λ id. mid ≡ record x { output = x.output ++ packet (reply_body id a.reply); waiting = None })
-    × Settles v mid lane closed added w y p
+abbrev pub Writes : Seated → Answer → Bool → NewPart → Type 0
+Writes b given closed a = (mid : SessionView)
+    × IfSome b.session.waiting (λ id. mid ≡ record b.session { output = b.session.output ++ packet (reply_body id given.reply); waiting = None })
+    × Settles (record b { session = mid }) closed a
 
 -- what a session's place asks of the core and of the session
 abbrev pub IsPlaced : CoreView → SessionView → Place → Type 0
@@ -75,22 +110,32 @@ IsPlaced v x (place.UnderWay lane) = (h : List Record) × (c : Call) × IsHistor
 IsPlaced v x (place.Answered lane a) = (lane.call ≡ None) × (slot_of v lane.session ≡ Idle) × IsSome x.waiting
 IsPlaced v x (place.Left cause) = Unit {0}
 
+-- whether a session's call goes on: it is under way, or its answer waits
+abbrev pub is_busy : Place → Bool
+is_busy (place.Resting lane) = false
+is_busy (place.UnderWay lane) = true
+is_busy (place.Answered lane given) = true
+is_busy (place.Left cause) = false
+
 -- what a turn gives, by the place before it
-abbrev pub PlaceGives : CoreView → List Record → SessionView → Place → Bool → ℕ → Happened → List Record → CoreView → SessionView → Place → Type 0
-PlaceGives v h x (place.Resting lane) closed m r added w y p = Reads v x lane m r added w y p
-PlaceGives v h x (place.UnderWay lane) closed m r added w y p = ((lane' : LaneView) × GoesOn (before v h lane) r (after w added lane') p) × (y ≡ x)
-PlaceGives v h x (place.Answered lane a) closed m r added w y p = (r ≡ happened.Wrote) × Writes v x lane a closed added w y p
-PlaceGives v h x (place.Left cause) closed m r added w y p = (r ≡ happened.Ended cause) × (w ≡ v) × (added ≡ []) × (y ≡ x) × (p ≡ place.Left cause)
+abbrev pub PlaceGives : Part → Place → ℕ → Happened → NewPart → Type 0
+PlaceGives b (place.Resting lane) m r a = Reads (seated b.core b.session lane) m r a
+PlaceGives b (place.UnderWay lane) m r a =
+    ((lane' : LaneView) × GoesOn (before b.core b.history lane) r (after a.core a.added lane') a.place) × (a.session ≡ b.session)
+PlaceGives b (place.Answered lane given) m r a = (r ≡ happened.Wrote) × Writes (seated b.core b.session lane) given b.closed a
+PlaceGives b (place.Left cause) m r a =
+    (r ≡ happened.Ended cause) × (a.core ≡ b.core) × (a.added ≡ []) × (a.session ≡ b.session) × (a.place ≡ place.Left cause)
 
-abbrev pub TurnGives : CoreView → List Record → Seat → ℕ → Happened → List Record → CoreView → Seat → Type 0
-TurnGives v h seat m r added w seat' = PlaceGives v h seat.session seat.place seat.closed m r added w seat'.session seat'.place × (seat'.closed ≡ seat.closed)
+-- nothing changes but that it is told whether the session goes on to its answer first
+abbrev pub StaysAs : CoreView → SessionView → Place → NewPart → Type 0
+StaysAs v x p a = (a.core ≡ v) × (a.added ≡ []) × (a.session ≡ x) × (a.place ≡ p)
 
--- what closing gives, and whether the session goes on to its answer first
-abbrev pub CloseGives : CoreView → SessionView → Place → List Record → CoreView → SessionView → Place → Bool → Type 0
-CloseGives v x (place.Resting lane) added w y p goes_on = Settles v x lane true added w y p × (goes_on ≡ false)
-CloseGives v x (place.UnderWay lane) added w y p goes_on = (w ≡ v) × (added ≡ []) × (y ≡ x) × (p ≡ place.UnderWay lane) × (goes_on ≡ true)
-CloseGives v x (place.Answered lane a) added w y p goes_on = (w ≡ v) × (added ≡ []) × (y ≡ x) × (p ≡ place.Answered lane a) × (goes_on ≡ true)
-CloseGives v x (place.Left cause) added w y p goes_on = (w ≡ v) × (added ≡ []) × (y ≡ x) × (p ≡ place.Left cause) × (goes_on ≡ false)
+-- what closing gives
+abbrev pub CloseGives : CoreView → SessionView → Place → NewPart → Bool → Type 0
+CloseGives v x (place.Resting lane) a goes_on = Settles (seated v x lane) true a × (goes_on ≡ false)
+CloseGives v x (place.UnderWay lane) a goes_on = StaysAs v x (place.UnderWay lane) a × (goes_on ≡ true)
+CloseGives v x (place.Answered lane given) a goes_on = StaysAs v x (place.Answered lane given) a × (goes_on ≡ true)
+CloseGives v x (place.Left cause) a goes_on = StaysAs v x (place.Left cause) a × (goes_on ≡ false)
 
 -- bytes were fed
 pub record FeedGives (p : Seat) (bytes : List ℕ) (r : Happened) (q : Seat) : Type 0 where

@@ -4,20 +4,30 @@ ghost use Rattle.std.specs.Prelude.{◌≡◌, ◌<◌, ◌≤◌, ◌+◌, ◌�
 ghost use Rattle.sf_core.specs.Cores.{new_core};
 ghost use Rattle.sf_core.specs.Histories.{IsHistory};
 ghost use Rattle.sf_engine.specs.Traces.{refusals};
-ghost use Rattle.sf_engine.specs.Fits.{Fits, GoesOnTrace, RunsTrace, IsSentBy, IsUnknown};
+ghost use Rattle.sf_engine.specs.Fits.{Fits, GoesOnTrace, RunsTrace, IsSentBy, IsUnknown, IsQuietBy};
 
 use crate::event::{EngineFault, Event, Happened};
-use crate::seat::{Seat, close_seat, feed_seat, open_seat, send_seat, turn_seat};
+use crate::seat::{Seat, are_quiet, close_seat, feed_seat, open_seat, send_seat, turn_seat};
 use sf_core::Core;
 use std::alloc::{AllocError, Global};
 use std::marker::Model;
 
 /// Many sessions on one core, by events, without threads. No trace of them is kept.
-#[derive(Drop)]
 pub struct Engine {
     alloc: Global,
     core: Core,
     seats: Vec<Seat>,
+}
+
+impl Drop for Engine {
+    // By hand: where an engine is dropped, a proof then sees one call and not the engine's parts.
+    fn drop(self) {
+        let Engine {
+            alloc: _,
+            core: _core,
+            seats: _seats,
+        } = self;
+    }
 }
 
 impl Model for Engine {
@@ -173,6 +183,13 @@ impl Engine {
         };
         let seat = &self.seats[at];
         Some(seat.session.output())
+    }
+
+    /// Whether no call is under way, and no answer waits to be written.
+    pub fn is_quiet(&self) -> bool
+        ensures { IsQuietBy self.now result }
+    {
+        are_quiet(&self.seats)
     }
 
     /// The core, to be looked at.

@@ -1,10 +1,11 @@
 //! Many sessions on one core, by events, without threads.
 //!
-//! Start with `Engine::apply` in `engine.rt`: an event comes, and what came of it is told. A list of events, their
-//! results and the records that they added is a trace. `specs/Worlds.antt` says what a trace tells of each session,
-//! `specs/Traces.antt` is the law of results (`Leads`: from which world an entry leads to which), and
-//! `specs/Fits.antt` says when an engine fits a trace: that is the main theorem, which `new`, `apply`, `run` and
-//! `output` carry. `laws.rt` has what every lawful trace tells. One session's turns are in `seat.rt`, whose contracts
+//! Start with `Engine::apply` in `engine.rt`: an event comes, and what came of it is told. Events, their
+//! results and the records that they added are a trace. `specs/Worlds.antt` says what a trace tells of
+//! each session, `specs/Traces.antt` is the law of results (`Leads`: from which world an entry leads to
+//! which), and `specs/Fits.antt` says when an engine fits a trace: that is the main theorem, which `new`,
+//! `apply`, `run` and `output` carry. `specs/Works.antt` has the steps and the work of a turn, and
+//! `laws.rt` what every lawful trace tells. One session's turns are in `seat.rt`, whose contracts
 //! (`specs/Turns.antt`) name no trace. No trace is kept when the program runs.
 #![tactic(auto)]
 
@@ -15,4 +16,4 @@ mod seat;
 
 pub use engine::Engine;
 pub use event::{EngineFault, Event, Happened};
-pub use laws::sessions_read;
+pub use laws::{example_told, one_output, records_begun, sent_bytes, sessions_read};

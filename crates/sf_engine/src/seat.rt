@@ -1,6 +1,6 @@
 //! One session of an engine: how far it is, and its turns.
 
-ghost use Rattle.std.specs.Prelude.{◌≡◌, ◌≢◌, ◌++◌, ◌∷◌, ◌||◌, ℕ, Bool, List, [], true, false, Some, None, IfOk, IfErr, OnErr, OnOk, Ok};
+ghost use Rattle.std.specs.Prelude.{◌≡◌, ◌≢◌, ◌++◌, ◌∷◌, ◌||◌, ◌↔◌, IsTrue, All, ℕ, Bool, List, [], true, false, Some, None, IfOk, IfErr, OnErr, OnOk, Ok};
 ghost use Rattle.sf_call.specs.declared.record.Record.{Record};
 ghost use Rattle.sf_call.specs.declared.record.Record.TheVariants.{Left};
 ghost use Rattle.sf_call.specs.declared.call.Call.{Call};
@@ -9,7 +9,7 @@ ghost use Rattle.sf_core.specs.Cores.{slot_of};
 ghost use Rattle.sf_core.specs.Lanes.{LaneView};
 ghost use Rattle.sf_core.specs.Events.{OwnCall, Leaves};
 ghost use Rattle.sf_core.specs.Histories.{IsHistory};
-ghost use Rattle.sf_engine.specs.Turns.{Gives, GoesOn, before, after, Reads, Settles, PlaceGives, TurnGives, CloseGives, FeedGives, FeedFault, SentGives, SentFault, IsPlaced, OpenGives, OpenFault, MayRefuseTurn};
+ghost use Rattle.sf_engine.specs.Turns.{Gives, GoesOn, before, after, seated, part, new_part, Reads, Settles, PlaceGives, CloseGives, FeedGives, FeedFault, SentGives, SentFault, IsPlaced, is_busy, OpenGives, OpenFault, MayRefuseTurn};
 
 use crate::event::{EngineFault, Happened};
 use sf_call::{Answer, CoreFault};
@@ -52,7 +52,8 @@ pub(crate) struct Seat {
 /// One step of the lane's call.
 fn go_on(core: &mut Core, lane: Lane) -> (Place, Happened)
     requires { (h : List Record) × (c : Call) × IsHistory core.old h × OwnCall core.old lane c }
-    ensures { Gives core.old core.new (λ h added. (lane' : LaneView) × GoesOn (before core.old h lane) result.1 (after core.new added lane') result.0) }
+    ensures { Gives core.old core.new (λ h added. (lane' : LaneView)
+        × GoesOn (before core.old h lane) result.1 (after core.new added lane') result.0) }
 {
     let mut lane = lane;
     match core.step(&mut lane) {
@@ -89,7 +90,8 @@ fn read(
     requires idle { lane.call ≡ None }
     requires slot { slot_of core.old lane.session ≡ Idle }
     requires waiting { session.old.waiting ≡ None }
-    ensures ok { IfOk result (λ r. Gives core.old core.new (λ h added. Reads core.old session.old lane moment r.1 added core.new session.new r.0)) }
+    ensures ok { IfOk result (λ r. Gives core.old core.new (λ h added.
+        Reads (seated core.old session.old lane) moment r.1 (new_part core.new added session.new r.0))) }
     ensures err { IfErr result (λ back. (back ≡ lane) × (core.new ≡ core.old) × (session.new ≡ session.old)) }
 {
     let mut lane = lane;
@@ -116,7 +118,8 @@ fn settle(core: &mut Core, session: &mut Session, lane: Lane, closed: bool) -> P
     requires idle { lane.call ≡ None }
     requires slot { slot_of core.old lane.session ≡ Idle }
     requires waiting { session.old.waiting ≡ None }
-    ensures { Gives core.old core.new (λ h added. Settles core.old session.old lane closed added core.new session.new result) }
+    ensures { Gives core.old core.new (λ h added.
+        Settles (seated core.old session.old lane) closed (new_part core.new added session.new result)) }
 {
     if !closed {
         return Place::Resting(lane);
@@ -127,6 +130,16 @@ fn settle(core: &mut Core, session: &mut Session, lane: Lane, closed: bool) -> P
 }
 
 impl Place {
+    /// Whether its call goes on, or its answer waits.
+    fn is_busy(&self) -> bool
+        ensures { result ≡ is_busy self.now }
+    {
+        match self {
+            Place::Resting(_) | Place::Left(_) => false,
+            Place::UnderWay(_) | Place::Answered(_, _) => true,
+        }
+    }
+
     /// One turn. Where memory is wanting the place comes back.
     fn turn(
         self,
@@ -136,8 +149,10 @@ impl Place {
         moment: u32,
     ) -> Result<(Place, Happened), Place>
         requires { IsPlaced core.old session.old self }
-        ensures ok { IfOk result (λ r. Gives core.old core.new (λ h added. PlaceGives core.old h session.old self closed moment r.1 added core.new session.new r.0)) }
-        ensures err { IfErr result (λ back. (back ≡ self) × (core.new ≡ core.old) × (session.new ≡ session.old) × MayRefuseTurn self) }
+        ensures ok { IfOk result (λ r. Gives core.old core.new (λ h added.
+            PlaceGives (part core.old h session.old closed) self moment r.1 (new_part core.new added session.new r.0))) }
+        ensures err { IfErr result (λ back. (back ≡ self) × (core.new ≡ core.old) × (session.new ≡ session.old)
+            × MayRefuseTurn self) }
     {
         match self {
             Place::Resting(lane) => match read(core, session, lane, moment) {
@@ -158,7 +173,8 @@ impl Place {
     /// Closing: a session that rests leaves at once. Whether it goes on to its answer first is told with the place.
     fn close(self, core: &mut Core, session: &mut Session) -> (Place, bool)
         requires { IsPlaced core.old session.old self }
-        ensures { Gives core.old core.new (λ h added. CloseGives core.old session.old self added core.new session.new result.0 result.1) }
+        ensures { Gives core.old core.new (λ h added.
+            CloseGives core.old session.old self (new_part core.new added session.new result.0) result.1) }
     {
         match self {
             Place::Resting(lane) => (settle(core, session, lane, true), false),
@@ -176,7 +192,10 @@ pub(crate) fn turn_seat(
     moment: u32,
 ) -> Result<Happened, EngineFault>
     requires { IsPlaced core.old seat.old.session seat.old.place }
-    ensures ok { IfOk result (λ r. Gives core.old core.new (λ h added. TurnGives core.old h seat.old moment r added core.new seat.new)) }
+    ensures ok { IfOk result (λ r. Gives core.old core.new (λ h added.
+        PlaceGives (part core.old h seat.old.session seat.old.closed) seat.old.place moment r
+        (new_part core.new added seat.new.session seat.new.place)
+        × (seat.new.closed ≡ seat.old.closed))) }
     ensures err { OnErr result ((core.new ≡ core.old) × (seat.new ≡ seat.old)) }
     ensures fault { IfErr result (λ fault. (fault ≡ EngineFault.OutOfMemory) × MayRefuseTurn seat.old.place) }
 {
@@ -193,10 +212,20 @@ pub(crate) fn turn_seat(
     }
 }
 
+/// Whether no session's call goes on.
+pub(crate) fn are_quiet(seats: &[Seat]) -> bool
+    ensures { IsTrue result ↔ All (λ seat. is_busy seat.place ≡ false) seats.now }
+{
+    seats.iter().all(|seat| !seat.place.is_busy())
+}
+
 /// Closes a session. It leaves at once if it rests, and else once its call's reply is written.
 pub(crate) fn close_seat(core: &mut Core, seat: &mut Seat)
     requires { IsPlaced core.old seat.old.session seat.old.place }
-    ensures { Gives core.old core.new (λ h added. (goes_on : Bool) × CloseGives core.old seat.old.session seat.old.place added core.new seat.new.session seat.new.place goes_on × (seat.new.closed ≡ (seat.old.closed || goes_on))) }
+    ensures { Gives core.old core.new (λ h added. (goes_on : Bool)
+        × CloseGives core.old seat.old.session seat.old.place
+        (new_part core.new added seat.new.session seat.new.place) goes_on
+        × (seat.new.closed ≡ (seat.old.closed || goes_on))) }
 {
     let place = mem::replace(&mut seat.place, Place::Left(Cause::Closed));
     let (place, goes_on) = place.close(core, &mut seat.session);

@@ -11,18 +11,28 @@ ghost use Rattle.sf_field.specs.Reading.{number_at, string_at, attrs_at};
 
 /// A field at the front of bytes is read as what was written there.
 pub fn field_is_read()
-    ensures number { (n : ℕ) (rest : List ℕ) → n < 2 ^ 32 → number_at w32 (be32 n ++ rest) ≡ Some (n, rest) }
-    ensures long_number { (n : ℕ) (rest : List ℕ) → n < 2 ^ 64 → number_at w64 (be64 n ++ rest) ≡ Some (n, rest) }
-    ensures string { (text rest : List ℕ) → length text < 2 ^ 32 → string_at (string text ++ rest) ≡ Some (text, rest) }
-    ensures attrs { (attrs : Attrs) (text rest : List ℕ) → SpellsAttrs text attrs → attrs_at (text ++ rest) ≡ Some (attrs, rest) }
+    ensures number { (n : ℕ) (rest : List ℕ) → n < 2 ^ 32
+        → number_at w32 (be32 n ++ rest) ≡ Some (n, rest) }
+    ensures long_number { (n : ℕ) (rest : List ℕ) → n < 2 ^ 64
+        → number_at w64 (be64 n ++ rest) ≡ Some (n, rest) }
+    ensures string { (text rest : List ℕ) → length text < 2 ^ 32
+        → string_at (string text ++ rest) ≡ Some (text, rest) }
+    ensures attrs { (attrs : Attrs) (text rest : List ℕ) → SpellsAttrs text attrs
+        → attrs_at (text ++ rest) ≡ Some (attrs, rest) }
 {}
 
 /// What is read at the front of bytes is written there.
 pub fn read_field_is_there()
-    ensures number { (bytes rest : List ℕ) (n : ℕ) → AreBytes bytes → number_at w32 bytes ≡ Some (n, rest) → (bytes ≡ be32 n ++ rest) × (n < 2 ^ 32) }
-    ensures long_number { (bytes rest : List ℕ) (n : ℕ) → AreBytes bytes → number_at w64 bytes ≡ Some (n, rest) → (bytes ≡ be64 n ++ rest) × (n < 2 ^ 64) }
-    ensures string { (bytes text rest : List ℕ) → AreBytes bytes → string_at bytes ≡ Some (text, rest) → (bytes ≡ string text ++ rest) × (length text < 2 ^ 32) }
-    ensures attrs { (bytes rest : List ℕ) (attrs : Attrs) → AreBytes bytes → attrs_at bytes ≡ Some (attrs, rest) → (text : List ℕ) × (bytes ≡ text ++ rest) × SpellsAttrs text attrs }
+    ensures number { (bytes rest : List ℕ) (n : ℕ) → AreBytes bytes
+        → number_at w32 bytes ≡ Some (n, rest) → (bytes ≡ be32 n ++ rest) × (n < 2 ^ 32) }
+    ensures long_number { (bytes rest : List ℕ) (n : ℕ) → AreBytes bytes
+        → number_at w64 bytes ≡ Some (n, rest) → (bytes ≡ be64 n ++ rest) × (n < 2 ^ 64) }
+    ensures string { (bytes text rest : List ℕ) → AreBytes bytes
+        → string_at bytes ≡ Some (text, rest) → (bytes ≡ string text ++ rest)
+        × (length text < 2 ^ 32) }
+    ensures attrs { (bytes rest : List ℕ) (attrs : Attrs) → AreBytes bytes
+        → attrs_at bytes ≡ Some (attrs, rest) → (text : List ℕ) × (bytes ≡ text ++ rest)
+        × SpellsAttrs text attrs }
 {}
 
 /// Attributes that are sent are in the grammar of those that are read.

@@ -7,6 +7,9 @@
 //! round, are the laws of `field_laws.rt`; what crates above cite of proofs is in `proofs/Laws.antt`.
 #![tactic(auto)]
 
+/// The most bytes of a packet's body, the project's own choice.
+pub const MAX_BODY: usize = 262144;
+
 mod attrs;
 mod byte_string;
 mod field_laws;

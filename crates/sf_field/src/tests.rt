@@ -1,5 +1,6 @@
 use super::*;
 use bytes::BytesMut;
+use sf_hex::hex_bytes;
 use std::alloc::{AllocError, Global};
 use std::process::Abort;
 use std::test::*;
@@ -15,12 +16,6 @@ const DIRECTORY: Attrs = Attrs {
     }),
 };
 
-/// The bytes of a text in hexadecimal, whose spaces only group them.
-fn hex_bytes(alloc: Global, text: &str) -> Result<Vec<u8>, Fail> {
-    let digits: Vec<u8> = text.bytes().filter(|b| *b != b' ').collect(alloc)?;
-    Ok(hex::decode(alloc, digits.as_slice())?)
-}
-
 fn string(alloc: Global, text: &str) -> Result<ByteString, AllocError> {
     ByteString::from_slice(alloc, text.as_bytes())
 }
@@ -29,13 +24,13 @@ fn string(alloc: Global, text: &str) -> Result<ByteString, AllocError> {
 fn byte_strings(rt: HostRuntime) -> Result<(), Fail> {
     let alloc = rt.alloc();
     let bytes = string(alloc, "/a")?;
-    let copy = bytes.try_copy(alloc)?;
-    assert_eq!(rt; copy, bytes);
-    assert_eq!(rt; copy.len(), 2);
-    assert!(rt; !copy.is_empty());
-    assert!(rt; string(alloc, "")?.is_empty());
-    let again = ByteString::from_vec(copy.into_vec());
-    assert_eq!(rt; again.as_slice(), b"/a".as_slice());
+    let shared = bytes.share()?;
+    assert_eq!(rt; shared, bytes);
+    drop(bytes);
+    assert_eq!(rt; shared.as_slice(), b"/a".as_slice());
+    assert_eq!(rt; shared.len(), 2);
+    assert!(rt; !shared.is_empty());
+    assert!(rt; ByteString::new().share()?.is_empty());
     Ok(())
 }
 

@@ -80,7 +80,8 @@ impl Entries {
         last: Option<&Name>,
         most: usize,
     ) -> Result<Vec<(Name, NodeId)>, AllocError>
-        ensures ok { IfOk result (λ found. found.items ≡ take most (entries_past (option_copied last.entry) self.now)) }
+        ensures ok { IfOk result (λ found. found.items
+            ≡ take most (entries_past (option_copied last.entry) self.now)) }
         ensures none_left { entries_past (option_copied last.entry) self.now ≡ [] → IsOk result }
     {
         let start = match last {

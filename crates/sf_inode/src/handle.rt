@@ -103,7 +103,8 @@ impl SessionHandles {
 
     /// Takes out the handle of the least number.
     pub(crate) fn pop_first(&mut self) -> Option<OpenHandle>
-        ensures some { IfSome result (λ handle. (number : ℕ) × (self.old ≡ (number, handle) ∷ self.new)) }
+        ensures some { IfSome result (λ handle. (number : ℕ)
+            × (self.old ≡ (number, handle) ∷ self.new)) }
         ensures none { IfNone result (self.old ≡ []) }
     {
         match self.handles.pop_first() {

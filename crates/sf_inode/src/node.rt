@@ -95,8 +95,10 @@ impl Node {
         last: Option<&Name>,
         most: usize,
     ) -> Result<Vec<(Name, NodeId)>, AllocError>
-        ensures ok { IfOk result (λ found. found.items ≡ take most (entries_past (option_copied last.entry) (entries_in self.now.content))) }
-        ensures none_left { entries_past (option_copied last.entry) (entries_in self.now.content) ≡ [] → IsOk result }
+        ensures ok { IfOk result (λ found. found.items
+            ≡ take most (entries_past (option_copied last.entry) (entries_in self.now.content))) }
+        ensures none_left { entries_past (option_copied last.entry) (entries_in self.now.content)
+            ≡ [] → IsOk result }
     {
         match &self.content {
             Content::Directory(entries) => entries.first_past(alloc, last, most),
@@ -150,8 +152,10 @@ impl Node {
 
     /// Puts bytes from an offset on into a buffer, and tells how many; a directory has none.
     pub(crate) fn read(&self, offset: u64, buffer: &mut [u8]) -> usize
-        ensures count { result ≡ count_from (stored_in self.now.content).bytes offset (length buffer.old) }
-        ensures buffer { buffer.new ≡ with_front (take result (drop offset (stored_in self.now.content).bytes)) buffer.old }
+        ensures count { result
+            ≡ count_from (stored_in self.now.content).bytes offset (length buffer.old) }
+        ensures buffer { buffer.new
+            ≡ with_front (take result (drop offset (stored_in self.now.content).bytes)) buffer.old }
     {
         match &self.content {
             Content::Directory(_) => 0,
@@ -161,7 +165,8 @@ impl Node {
 
     /// How many bytes a file has.
     pub(crate) fn file_len(&self) -> Option<u64>
-        ensures { result ≡ (if is_file_content self.now.content then Some (length (stored_in self.now.content).bytes) else None) }
+        ensures { result
+            ≡ (if is_file_content self.now.content then Some (length (stored_in self.now.content).bytes) else None) }
     {
         match &self.content {
             Content::Directory(_) => None,
@@ -172,7 +177,8 @@ impl Node {
     /// Gets memory for `n` bytes from an offset on. A refused growth changes nothing.
     pub(crate) fn reserve_for(&mut self, offset: u64, n: usize) -> Result<(), AllocError>
         requires { offset + n < 2 ^ 64 }
-        ensures ok { OnOk result (self.new ≡ with_content (with_stored (with_room (stored_in self.old.content) offset n)) self.old) }
+        ensures ok { OnOk result (self.new
+            ≡ with_content (with_stored (with_room (stored_in self.old.content) offset n)) self.old) }
         ensures err { OnErr result (self.new ≡ self.old) }
     {
         match &mut self.content {
@@ -184,7 +190,8 @@ impl Node {
     /// Replaces bytes from an offset on, in reserved room; a gap before them is filled with zeros.
     pub(crate) fn write(&mut self, offset: u64, bytes: &[u8])
         requires { HasRoom (stored_in self.old.content) offset (length bytes.now) }
-        ensures { self.new ≡ with_content (with_stored (record (stored_in self.old.content) { bytes = written (stored_in self.old.content).bytes offset bytes.now })) self.old }
+        ensures { self.new
+            ≡ with_content (with_stored (record (stored_in self.old.content) { bytes = written (stored_in self.old.content).bytes offset bytes.now })) self.old }
     {
         if let Content::File(contents) = &mut self.content {
             contents.write(offset, bytes);
@@ -193,7 +200,8 @@ impl Node {
 
     /// Cuts the bytes at a size, or fills them up to it with zeros.
     pub(crate) fn set_len(&mut self, n: u64) -> Result<(), AllocError>
-        ensures ok { OnOk result (self.new ≡ with_content (with_stored (record (with_room (stored_in self.old.content) n 0) { bytes = resized (stored_in self.old.content).bytes n })) self.old) }
+        ensures ok { OnOk result (self.new
+            ≡ with_content (with_stored (record (with_room (stored_in self.old.content) n 0) { bytes = resized (stored_in self.old.content).bytes n })) self.old) }
         ensures enough { HasRoom (stored_in self.old.content) n 0 → IsOk result }
         ensures err { OnErr result (self.new ≡ self.old) }
     {

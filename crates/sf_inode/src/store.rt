@@ -133,7 +133,8 @@ impl Store {
 
     /// The attributes of a node, as they are sent.
     pub fn attrs(&self, node: NodeId) -> Option<Attrs>
-        ensures { result ≡ option_map (λ it. attrs_of (object_in it.metadata it.content)) (node_in self.now.nodes node) }
+        ensures { result
+            ≡ option_map (λ it. attrs_of (object_in it.metadata it.content)) (node_in self.now.nodes node) }
     {
         match self.nodes.get(node) {
             Some(it) => Some(it.attrs()),
@@ -282,7 +283,8 @@ impl Store {
         new_dir: NodeId,
         new_name: Name,
     ) -> Result<(), AllocError>
-        ensures ok { OnOk result (self.new ≡ relinked self.old old_dir old_name.now new_dir new_name) }
+        ensures ok { OnOk result (self.new
+            ≡ relinked self.old old_dir old_name.now new_dir new_name) }
         ensures err { OnErr result (self.new ≡ self.old) }
     {
         let Some(node) = self.entry(old_dir, old_name) else {
@@ -318,8 +320,10 @@ impl Store {
     /// Puts a file's bytes from an offset on into a buffer, as many as there are and as fit, and tells
     /// how many these are.
     pub fn read(&self, node: NodeId, offset: u64, buffer: &mut [u8]) -> usize
-        ensures count { result ≡ count_from (stored_of self.now.nodes node).bytes offset (length buffer.old) }
-        ensures buffer { buffer.new ≡ with_front (take result (drop offset (stored_of self.now.nodes node).bytes)) buffer.old }
+        ensures count { result
+            ≡ count_from (stored_of self.now.nodes node).bytes offset (length buffer.old) }
+        ensures buffer { buffer.new
+            ≡ with_front (take result (drop offset (stored_of self.now.nodes node).bytes)) buffer.old }
     {
         match self.nodes.get(node) {
             Some(it) => it.read(offset, buffer),
@@ -330,7 +334,8 @@ impl Store {
     /// Gets memory for `n` bytes of a file from an offset on, and for all before them.
     pub fn reserve_for(&mut self, node: NodeId, offset: u64, n: usize) -> Result<(), AllocError>
         requires { offset + n < 2 ^ 64 }
-        ensures ok { OnOk result (self.new ≡ stored_set self.old node (with_room (stored_of self.old.nodes node) offset n)) }
+        ensures ok { OnOk result (self.new
+            ≡ stored_set self.old node (with_room (stored_of self.old.nodes node) offset n)) }
         ensures err { OnErr result (self.new ≡ self.old) }
     {
         match self.nodes.get_mut(node) {
@@ -343,7 +348,8 @@ impl Store {
     /// with zeros.
     pub fn write(&mut self, node: NodeId, offset: u64, bytes: &[u8])
         requires { HasRoom (stored_of self.old.nodes node) offset (length bytes.now) }
-        ensures { self.new ≡ stored_set self.old node (record (stored_of self.old.nodes node) { bytes = written (stored_of self.old.nodes node).bytes offset bytes.now }) }
+        ensures { self.new
+            ≡ stored_set self.old node (record (stored_of self.old.nodes node) { bytes = written (stored_of self.old.nodes node).bytes offset bytes.now }) }
     {
         if let Some(it) = self.nodes.get_mut(node) {
             it.write(offset, bytes);
@@ -352,7 +358,8 @@ impl Store {
 
     /// Cuts a file's bytes at a size, or fills them up to it with zeros.
     pub fn set_len(&mut self, node: NodeId, n: u64) -> Result<(), AllocError>
-        ensures ok { OnOk result (self.new ≡ stored_set self.old node (record (with_room (stored_of self.old.nodes node) n 0) { bytes = resized (stored_of self.old.nodes node).bytes n })) }
+        ensures ok { OnOk result (self.new
+            ≡ stored_set self.old node (record (with_room (stored_of self.old.nodes node) n 0) { bytes = resized (stored_of self.old.nodes node).bytes n })) }
         ensures enough { HasRoom (stored_of self.old.nodes node) n 0 → IsOk result }
         ensures err { OnErr result (self.new ≡ self.old) }
     {
@@ -424,7 +431,8 @@ impl Store {
 
     /// How many handles a session has.
     pub fn handles(&self, session: u64) -> usize
-        ensures { result ≡ option_map_or (λ handles. length handles) (handles_of self.now session) 0 }
+        ensures { result
+            ≡ option_map_or (λ handles. length handles) (handles_of self.now session) 0 }
     {
         match self.sessions.get(&session) {
             Some(handles) => handles.len(),
@@ -443,7 +451,8 @@ impl Store {
 
     fn take_handle(&mut self, session: u64, number: u64) -> Option<OpenHandle>
         ensures value { result ≡ handle_at self.old session number }
-        ensures rest { self.new ≡ handle_dropped self.old session number (handles_of self.old session) }
+        ensures rest { self.new
+            ≡ handle_dropped self.old session number (handles_of self.old session) }
     {
         match self.sessions.get_mut(&session) {
             Some(handles) => handles.remove(number),
@@ -488,8 +497,10 @@ impl Store {
         last: Option<&Name>,
         most: usize,
     ) -> Result<Vec<(Name, NodeId)>, AllocError>
-        ensures ok { IfOk result (λ found. found.items ≡ take most (entries_past (option_copied last.entry) (entries_at self.now.nodes dir))) }
-        ensures none_left { entries_past (option_copied last.entry) (entries_at self.now.nodes dir) ≡ [] → IsOk result }
+        ensures ok { IfOk result (λ found. found.items
+            ≡ take most (entries_past (option_copied last.entry) (entries_at self.now.nodes dir))) }
+        ensures none_left { entries_past (option_copied last.entry) (entries_at self.now.nodes dir)
+            ≡ [] → IsOk result }
     {
         match self.nodes.get(dir) {
             Some(it) => it.first_past(self.alloc, last, most),

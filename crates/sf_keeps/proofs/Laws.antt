@@ -24,6 +24,8 @@ pub use Rattle.sf_keeps.proofs.SessionHandles.{found_node, free_handles, handle_
 pub use Rattle.sf_keeps.proofs.Opening.{keeps_opened, keeps_listed}
 pub use Rattle.sf_keeps.proofs.Closing.{keeps_closed}
 pub use Rattle.sf_keeps.proofs.ClosingAll.{keeps_closed_all}
+-- what stays of nodes where a session's handles are closed
+pub use Rattle.sf_keeps.proofs.NodesKept.{nodes_kept, looks_kept, holder_kept, holder_was, directory_kept, way_kept}
 -- a directory's entries and its listing
 pub use Rattle.sf_keeps.proofs.Listings.{path_found, label_listed, nodes_listed, names_listed}
 -- lists of entries in the order of their keys: look-ups after each change, and the order; a number's own test

@@ -30,6 +30,7 @@ pub mod Opening
 pub mod Closing
 pub mod Leaving
 pub mod ClosingAll
+pub mod NodesKept
 pub mod Untouched
 pub mod KeepsShown
 pub mod SessionHandles

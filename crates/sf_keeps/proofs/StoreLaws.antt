@@ -133,11 +133,6 @@ pub kind_metadata : (m k : Metadata) (c : Content) → is_some (directory_metada
 kind_metadata m k (content.Directory es) = refl
 kind_metadata m k (content.File contents) = refl
 
--- other metadata
-pub shows_metadata : (f : Metadata → Metadata) (s : StoreState) (t : Tree) (id : ℕ) (node : Node) → Shows (view_of s) t → node_in s.nodes id ≡ Some node
-    → Shows (view_of (edited (with_metadata f) s id)) (changed t (SetObject node.label (object_in (f node.metadata) node.content)))
-shows_metadata f s t id node h here = shows_edited (with_metadata f) s t id node h here (λ m. refl) refl (kind_metadata node.metadata (f node.metadata) node.content)
-
 -- ---- a new node with its entry
 pub shows_inserted : (old new : StoreState) (t : Tree) (p : Path) (d : ℕ) (n : Name) (c : ℕ) (node above : Node) (es : List (Name × ℕ)) → Inserted old new d n c node → Shows (view_of old) t
     → walk (entry_of old.nodes) old.root p ≡ Some d → node_in old.nodes d ≡ Some above → above.content ≡ content.Directory es → lookup (same_name n) es ≡ None

@@ -1,5 +1,5 @@
 -- When a store keeps a tree: it shows the tree, and what its nodes count agrees with it.
-use Rattle.std.specs.Prelude.{◌≡◌, ℕ, ◌<◌, ◌≤◌, ◌^◌, nat_eq, T, List, Some, None, option_map}
+use Rattle.std.specs.Prelude.{◌≡◌, ℕ, ◌<◌, ◌≤◌, ◌^◌, nat_eq, T, List, Option, Some, None, option_map}
 use Rattle.std.specs.List.{count_by}
 use Rattle.std.specs.Ordering.{nat_cmp}
 use Rattle.std.specs.FinMap.{is_sorted}
@@ -47,3 +47,12 @@ pub record Keeps (s : StoreState) (t : Tree) : Type 0 where
   pub sessions : T (is_sorted nat_cmp s.sessions)
   pub handles : (session : ℕ) (handles : List (ℕ × OpenHandle)) → handles_of s session ≡ Some handles → T (is_sorted nat_cmp handles)
   pub numbers : (number : ℕ) (h : Handle) → handle_of t.handles number ≡ Some h → (0 < number) × (number < 2 ^ 64)
+
+-- a node that is there was there, with the same holder, label and content
+abbrev pub WasThere : Option Node → Node → Type 0
+WasThere None node = ⊥
+WasThere (Some was) node = (node.holder ≡ was.holder) × (node.label ≡ was.label) × (node.content ≡ was.content)
+
+-- no node is new or another one, but nodes may be gone
+pub record KeepsNodes (old new : StoreState) : Type 0 where
+  pub node : (id : ℕ) (node : Node) → node_in new.nodes id ≡ Some node → WasThere (node_in old.nodes id) node

@@ -27,83 +27,135 @@ pub fn kept_trees()
 /// A node's object is the tree's under its label, a label is one node's alone, and a path and an entry
 /// lead to nodes that are there.
 pub fn kept_nodes()
-    ensures object { (s : StoreState) (t : Tree) (id : ℕ) (node : Node) → Keeps s t → node_in s.nodes id ≡ Some node → object_of t.objects node.label ≡ Some (object_in node.metadata node.content) }
-    ensures one { (s : StoreState) (t : Tree) (i j : ℕ) (x y : Node) → Keeps s t → node_in s.nodes i ≡ Some x → node_in s.nodes j ≡ Some y → x.label ≡ y.label → i ≡ j }
-    ensures reached { (s : StoreState) (t : Tree) (p : Path) (id : ℕ) → Keeps s t → walk (entry_of s.nodes) s.root p ≡ Some id → (node : Node) × (node_in s.nodes id ≡ Some node) }
-    ensures there { (s : StoreState) (t : Tree) (dir id : ℕ) (n : Name) → Keeps s t → entry_of s.nodes dir n ≡ Some id → (node : Node) × (node_in s.nodes id ≡ Some node) × (node.names ≡ 1) }
+    ensures object { (s : StoreState) (t : Tree) (id : ℕ) (node : Node) → Keeps s t
+        → node_in s.nodes id ≡ Some node
+        → object_of t.objects node.label ≡ Some (object_in node.metadata node.content) }
+    ensures one { (s : StoreState) (t : Tree) (i j : ℕ) (x y : Node) → Keeps s t
+        → node_in s.nodes i ≡ Some x → node_in s.nodes j ≡ Some y → x.label ≡ y.label → i ≡ j }
+    ensures reached { (s : StoreState) (t : Tree) (p : Path) (id : ℕ) → Keeps s t
+        → walk (entry_of s.nodes) s.root p ≡ Some id → (node : Node)
+        × (node_in s.nodes id ≡ Some node) }
+    ensures there { (s : StoreState) (t : Tree) (dir id : ℕ) (n : Name) → Keeps s t
+        → entry_of s.nodes dir n ≡ Some id → (node : Node) × (node_in s.nodes id ≡ Some node)
+        × (node.names ≡ 1) }
 {}
 
 /// What a number shows is the label and the object of a node that is there: a directory, or a file with
 /// its bytes.
 pub fn shown_nodes()
-    ensures node { (nodes : List (Option Node)) (id label : ℕ) (object : Object) → shown_of nodes id ≡ Some (label, object) → (node : Node) × (node_in nodes id ≡ Some node) × (node.label ≡ label) × (object_in node.metadata node.content ≡ object) }
-    ensures directory { (nodes : List (Option Node)) (id label : ℕ) (m : Metadata) → shown_of nodes id ≡ Some (label, Directory m) → is_directory_at nodes id ≡ true }
-    ensures file { (nodes : List (Option Node)) (id label : ℕ) (m : Metadata) (bytes : List ℕ) → shown_of nodes id ≡ Some (label, File m bytes) → (is_file_at nodes id ≡ true) × ((stored_of nodes id).bytes ≡ bytes) }
+    ensures node { (nodes : List (Option Node)) (id label : ℕ) (object : Object)
+        → shown_of nodes id ≡ Some (label, object) → (node : Node) × (node_in nodes id ≡ Some node)
+        × (node.label ≡ label) × (object_in node.metadata node.content ≡ object) }
+    ensures directory { (nodes : List (Option Node)) (id label : ℕ) (m : Metadata)
+        → shown_of nodes id ≡ Some (label, Directory m) → is_directory_at nodes id ≡ true }
+    ensures file { (nodes : List (Option Node)) (id label : ℕ) (m : Metadata) (bytes : List ℕ)
+        → shown_of nodes id ≡ Some (label, File m bytes) → (is_file_at nodes id ≡ true)
+        × ((stored_of nodes id).bytes ≡ bytes) }
 {}
 
 /// A change leaves alone what the other nodes show and who holds them: other than the one that was
 /// changed, made, or lost its entry.
 pub fn other_nodes()
-    ensures edited { (f : Node → Node) (s : StoreState) (id i : ℕ) → i ≢ id → node_in (edited f s id).nodes i ≡ node_in s.nodes i }
-    ensures itself { (f : Node → Node) (s : StoreState) (id : ℕ) → node_in (edited f s id).nodes id ≡ option_map f (node_in s.nodes id) }
-    ensures inserted { (old new : StoreState) (dir : ℕ) (n : Name) (id : ℕ) (node : Node) (i : ℕ) → Inserted old new dir n id node → i ≢ id → (shown_of new.nodes i ≡ shown_of old.nodes i) × (holder_of new.nodes i ≡ holder_of old.nodes i) }
-    ensures unlinked { (s : StoreState) (dir : ℕ) (n : Name) (i : ℕ) → entry_of s.nodes dir n ≢ Some i → (shown_of (unlinked s dir n).nodes i ≡ shown_of s.nodes i) × (holder_of (unlinked s dir n).nodes i ≡ holder_of s.nodes i) }
-    ensures relinked { (s : StoreState) (dir : ℕ) (n : Name) (to : ℕ) (m : Name) (i : ℕ) → entry_of s.nodes to m ≢ Some i
-        → (shown_of (relinked s dir n to m).nodes i ≡ shown_of s.nodes i) × (holder_of (relinked s dir n to m).nodes i ≡ holder_of s.nodes i) }
+    ensures edited { (f : Node → Node) (s : StoreState) (id i : ℕ) → i ≢ id
+        → node_in (edited f s id).nodes i ≡ node_in s.nodes i }
+    ensures itself { (f : Node → Node) (s : StoreState) (id : ℕ)
+        → node_in (edited f s id).nodes id ≡ option_map f (node_in s.nodes id) }
+    ensures inserted { (old new : StoreState) (dir : ℕ) (n : Name) (id : ℕ) (node : Node) (i : ℕ)
+        → Inserted old new dir n id node → i ≢ id → (shown_of new.nodes i ≡ shown_of old.nodes i)
+        × (holder_of new.nodes i ≡ holder_of old.nodes i) }
+    ensures unlinked { (s : StoreState) (dir : ℕ) (n : Name) (i : ℕ)
+        → entry_of s.nodes dir n ≢ Some i
+        → (shown_of (unlinked s dir n).nodes i ≡ shown_of s.nodes i)
+        × (holder_of (unlinked s dir n).nodes i ≡ holder_of s.nodes i) }
+    ensures relinked { (s : StoreState) (dir : ℕ) (n : Name) (to : ℕ) (m : Name) (i : ℕ)
+        → entry_of s.nodes to m ≢ Some i
+        → (shown_of (relinked s dir n to m).nodes i ≡ shown_of s.nodes i)
+        × (holder_of (relinked s dir n to m).nodes i ≡ holder_of s.nodes i) }
 {}
 
 /// Where a path leads, name by name: a name of a directory is there or not, and no way leads on from a
 /// file or from what is not there.
 pub fn found_paths()
-    ensures next { (s : StoreState) (t : Tree) (p : Path) (dir : ℕ) (n : Name) → Keeps s t → walk (entry_of s.nodes) s.root p ≡ Some dir → walk (entry_of s.nodes) s.root (p ++ n ∷ []) ≡ entry_of s.nodes dir n }
-    ensures label { (s : StoreState) (t : Tree) (p : Path) → Keeps s t → label_at t.names p ≡ option_map (λ node. node.label) (option_and_then (node_in s.nodes) (walk (entry_of s.nodes) s.root p)) }
-    ensures way { (s : StoreState) (t : Tree) (p : Path) (dir : ℕ) (n : Name) → Keeps s t → walk (entry_of s.nodes) s.root p ≡ Some dir → is_directory_at s.nodes dir ≡ true → is_faulty_way t (p ++ n ∷ []) ≡ false }
-    ensures place { (s : StoreState) (t : Tree) (p : Path) (id : ℕ) (node : Node) → Keeps s t → walk (entry_of s.nodes) s.root p ≡ Some id → node_in s.nodes id ≡ Some node → place_at t p ≡ At node.label }
-    ensures found { (s : StoreState) (t : Tree) (p : Path) (id : ℕ) (node : Node) → Keeps s t → walk (entry_of s.nodes) s.root p ≡ Some id → node_in s.nodes id ≡ Some node
+    ensures next { (s : StoreState) (t : Tree) (p : Path) (dir : ℕ) (n : Name) → Keeps s t
+        → walk (entry_of s.nodes) s.root p ≡ Some dir
+        → walk (entry_of s.nodes) s.root (p ++ n ∷ []) ≡ entry_of s.nodes dir n }
+    ensures label { (s : StoreState) (t : Tree) (p : Path) → Keeps s t
+        → label_at t.names p
+        ≡ option_map (λ node. node.label) (option_and_then (node_in s.nodes) (walk (entry_of s.nodes) s.root p)) }
+    ensures way { (s : StoreState) (t : Tree) (p : Path) (dir : ℕ) (n : Name) → Keeps s t
+        → walk (entry_of s.nodes) s.root p ≡ Some dir → is_directory_at s.nodes dir ≡ true
+        → is_faulty_way t (p ++ n ∷ []) ≡ false }
+    ensures place { (s : StoreState) (t : Tree) (p : Path) (id : ℕ) (node : Node) → Keeps s t
+        → walk (entry_of s.nodes) s.root p ≡ Some id → node_in s.nodes id ≡ Some node
+        → place_at t p ≡ At node.label }
+    ensures found { (s : StoreState) (t : Tree) (p : Path) (id : ℕ) (node : Node) → Keeps s t
+        → walk (entry_of s.nodes) s.root p ≡ Some id → node_in s.nodes id ≡ Some node
         → found_at t p ≡ found_object node.label (Some (object_in node.metadata node.content)) }
-    ensures directory { (s : StoreState) (t : Tree) (p : Path) (dir label : ℕ) (m : Metadata) → Keeps s t → walk (entry_of s.nodes) s.root p ≡ Some dir → shown_of s.nodes dir ≡ Some (label, Directory m) → directory_at t p ≡ Some (label, m) }
-    ensures absent { (s : StoreState) (t : Tree) (p : Path) (dir : ℕ) (n : Name) → Keeps s t → walk (entry_of s.nodes) s.root p ≡ Some dir → is_directory_at s.nodes dir ≡ true → entry_of s.nodes dir n ≡ None
+    ensures directory { (s : StoreState) (t : Tree) (p : Path) (dir label : ℕ) (m : Metadata)
+        → Keeps s t → walk (entry_of s.nodes) s.root p ≡ Some dir
+        → shown_of s.nodes dir ≡ Some (label, Directory m) → directory_at t p ≡ Some (label, m) }
+    ensures absent { (s : StoreState) (t : Tree) (p : Path) (dir : ℕ) (n : Name) → Keeps s t
+        → walk (entry_of s.nodes) s.root p ≡ Some dir → is_directory_at s.nodes dir ≡ true
+        → entry_of s.nodes dir n ≡ None
         → place_at t (p ++ n ∷ []) ≡ Absent }
-    ensures beyond { (s : StoreState) (t : Tree) (p : Path) (dir : ℕ) (n m : Name) (q : Path) → Keeps s t → walk (entry_of s.nodes) s.root p ≡ Some dir → entry_of s.nodes dir n ≡ None → place_at t (p ++ n ∷ m ∷ q) ≡ NoWay }
-    ensures file { (s : StoreState) (t : Tree) (p : Path) (id : ℕ) (n : Name) (q : Path) → Keeps s t → walk (entry_of s.nodes) s.root p ≡ Some id → is_file_at s.nodes id ≡ true → place_at t (p ++ n ∷ q) ≡ NoWay }
-    ensures empty { (s : StoreState) (t : Tree) (p : Path) (id : ℕ) → Keeps s t → walk (entry_of s.nodes) s.root p ≡ Some id → is_empty t.names p ≡ is_bare_at s.nodes id }
+    ensures beyond { (s : StoreState) (t : Tree) (p : Path) (dir : ℕ) (n m : Name) (q : Path)
+        → Keeps s t → walk (entry_of s.nodes) s.root p ≡ Some dir → entry_of s.nodes dir n ≡ None
+        → place_at t (p ++ n ∷ m ∷ q) ≡ NoWay }
+    ensures file { (s : StoreState) (t : Tree) (p : Path) (id : ℕ) (n : Name) (q : Path) → Keeps s t
+        → walk (entry_of s.nodes) s.root p ≡ Some id → is_file_at s.nodes id ≡ true
+        → place_at t (p ++ n ∷ q) ≡ NoWay }
+    ensures empty { (s : StoreState) (t : Tree) (p : Path) (id : ℕ) → Keeps s t
+        → walk (entry_of s.nodes) s.root p ≡ Some id → is_empty t.names p ≡ is_bare_at s.nodes id }
 {}
 
 /// A look-up, a holder and memory for bytes leave the tree as it is.
 pub fn same_tree()
     ensures find { (s : StoreState) (t : Tree) → Keeps s t → Keeps (looked_up s) t }
-    ensures hold { (holder : Option ℕ) (s : StoreState) (t : Tree) (id : ℕ) → Keeps s t → Keeps (edited (with_holder holder) s id) t }
-    ensures reserve { (s : StoreState) (t : Tree) (id offset n : ℕ) → Keeps s t → Keeps (stored_set s id (with_room (stored_of s.nodes id) offset n)) t }
+    ensures hold { (holder : Option ℕ) (s : StoreState) (t : Tree) (id : ℕ) → Keeps s t
+        → Keeps (edited (with_holder holder) s id) t }
+    ensures reserve { (s : StoreState) (t : Tree) (id offset n : ℕ) → Keeps s t
+        → Keeps (stored_set s id (with_room (stored_of s.nodes id) offset n)) t }
 {}
 
 /// Other metadata of a node, or other bytes of a file, are another object under its label. Of objects that
 /// are set under one label the last one counts.
 pub fn changed_object()
-    ensures metadata { (f : Metadata → Metadata) (s : StoreState) (t : Tree) (id : ℕ) (node : Node) → Keeps s t → node_in s.nodes id ≡ Some node
+    ensures metadata { (f : Metadata → Metadata) (s : StoreState) (t : Tree) (id : ℕ) (node : Node)
+        → Keeps s t → node_in s.nodes id ≡ Some node
         → Keeps (edited (with_metadata f) s id) (changed t (SetObject node.label (object_in (f node.metadata) node.content))) }
-    ensures bytes { (new : Stored) (s : StoreState) (t : Tree) (id : ℕ) (node : Node) → Keeps s t → node_in s.nodes id ≡ Some node → is_file_at s.nodes id ≡ true
+    ensures bytes { (new : Stored) (s : StoreState) (t : Tree) (id : ℕ) (node : Node) → Keeps s t
+        → node_in s.nodes id ≡ Some node → is_file_at s.nodes id ≡ true
         → Keeps (stored_set s id new) (changed t (SetObject node.label (File node.metadata new.bytes))) }
-    ensures directory { (f : Metadata → Metadata) (s : StoreState) (t : Tree) (id label : ℕ) (m : Metadata) → Keeps s t → shown_of s.nodes id ≡ Some (label, Directory m)
+    ensures directory { (f : Metadata
+        → Metadata) (s : StoreState) (t : Tree) (id label : ℕ) (m : Metadata) → Keeps s t
+        → shown_of s.nodes id ≡ Some (label, Directory m)
         → Keeps (edited (with_metadata f) s id) (changed t (SetObject label (Directory (f m)))) }
-    ensures file { (f : Metadata → Metadata) (s : StoreState) (t : Tree) (id label : ℕ) (m : Metadata) (bytes : List ℕ) → Keeps s t → shown_of s.nodes id ≡ Some (label, File m bytes)
+    ensures file { (f : Metadata
+        → Metadata) (s : StoreState) (t : Tree) (id label : ℕ) (m : Metadata) (bytes : List ℕ)
+        → Keeps s t → shown_of s.nodes id ≡ Some (label, File m bytes)
         → Keeps (edited (with_metadata f) s id) (changed t (SetObject label (File (f m) bytes))) }
     ensures contents { (new : Stored) (s : StoreState) (t : Tree) (id label : ℕ) (m : Metadata) (old : List ℕ) → Keeps s t → shown_of s.nodes id ≡ Some (label, File m old)
         → Keeps (stored_set s id new) (changed t (SetObject label (File m new.bytes))) }
-    ensures again { (t : Tree) (label : ℕ) (o u : Object) → changed (changed t (SetObject label o)) (SetObject label u) ≡ changed t (SetObject label u) }
+    ensures again { (t : Tree) (label : ℕ) (o u : Object)
+        → changed (changed t (SetObject label o)) (SetObject label u)
+        ≡ changed t (SetObject label u) }
 {}
 
 /// A new node in a directory, under a name that it has not and with a label that is no object's, is a
 /// new path with its object.
 pub fn new_path()
     ensures { (old new : StoreState) (t : Tree) (p : Path) (dir : ℕ) (n : Name) (id : ℕ) (made : NewNode) → Keeps old t → Inserted old new dir n id (new_node made)
-        → walk (entry_of old.nodes) old.root p ≡ Some dir → is_directory_at old.nodes dir ≡ true → entry_of old.nodes dir n ≡ None → object_of t.objects made.label ≡ None
+        → walk (entry_of old.nodes) old.root p ≡ Some dir → is_directory_at old.nodes dir ≡ true
+        → entry_of old.nodes dir n ≡ None → object_of t.objects made.label ≡ None
         → Keeps new (changed t (NewPath (p ++ n ∷ []) made.label (object_in made.metadata (new_content made.file_type)))) }
 {}
 
 /// A file or an empty directory taken out of its directory is a path less. Its object goes unless a
 /// handle opens it.
 pub fn gone_path()
-    ensures { (s : StoreState) (t : Tree) (p : Path) (dir : ℕ) (n : Name) (id : ℕ) → Keeps s t → walk (entry_of s.nodes) s.root p ≡ Some dir → entry_of s.nodes dir n ≡ Some id → is_bare_at s.nodes id ≡ true
+    ensures { (s : StoreState) (t : Tree) (p : Path) (dir : ℕ) (n : Name) (id : ℕ) → Keeps s t
+        → walk (entry_of s.nodes) s.root p ≡ Some dir → entry_of s.nodes dir n ≡ Some id
+        → is_bare_at s.nodes id ≡ true
         → Keeps (unlinked s dir n) (changed t (GonePath (p ++ n ∷ []))) }
 {}
 
@@ -112,9 +164,12 @@ pub fn gone_path()
 /// handle opens it.
 pub fn moved_path()
     ensures to_nothing { (s : StoreState) (t : Tree) (p : Path) (dir : ℕ) (n : Name) (id : ℕ) (q : Path) (to : ℕ) (m : Name) → Keeps s t → walk (entry_of s.nodes) s.root p ≡ Some dir → entry_of s.nodes dir n ≡ Some id
-        → walk (entry_of s.nodes) s.root q ≡ Some to → is_directory_at s.nodes to ≡ true → after_front (p ++ n ∷ []) (q ++ m ∷ []) ≡ None → entry_of s.nodes to m ≡ None
+        → walk (entry_of s.nodes) s.root q ≡ Some to → is_directory_at s.nodes to ≡ true
+        → after_front (p ++ n ∷ []) (q ++ m ∷ []) ≡ None → entry_of s.nodes to m ≡ None
         → Keeps (relinked s dir n to m) (changed t (Move (p ++ n ∷ []) (q ++ m ∷ []))) }
     ensures in_place { (s : StoreState) (t : Tree) (p : Path) (dir : ℕ) (n : Name) (id : ℕ) (q : Path) (to : ℕ) (m : Name) (target : ℕ) → Keeps s t → walk (entry_of s.nodes) s.root p ≡ Some dir → entry_of s.nodes dir n ≡ Some id
-        → walk (entry_of s.nodes) s.root q ≡ Some to → is_directory_at s.nodes to ≡ true → after_front (p ++ n ∷ []) (q ++ m ∷ []) ≡ None → entry_of s.nodes to m ≡ Some target → is_bare_at s.nodes target ≡ true
+        → walk (entry_of s.nodes) s.root q ≡ Some to → is_directory_at s.nodes to ≡ true
+        → after_front (p ++ n ∷ []) (q ++ m ∷ []) ≡ None → entry_of s.nodes to m ≡ Some target
+        → is_bare_at s.nodes target ≡ true
         → Keeps (relinked s dir n to m) (changed t (Move (p ++ n ∷ []) (q ++ m ∷ []))) }
 {}

@@ -11,12 +11,12 @@ pub data Call : Type 0 where
   Asked : (number session moment : ℕ) → (request : Request) → Call
   Leaving : (session : ℕ) → Call
 
-abbrev pub call_of : Record → Call
-call_of (Did number session moment request given) = Asked number session moment request
-call_of (Left session) = Leaving session
+abbrev pub call_asked : Record → Call
+call_asked (Did number session moment request given) = Asked number session moment request
+call_asked (Left session) = Leaving session
 
-abbrev pub calls_of : List Record → List Call
-calls_of history = map call_of history
+abbrev pub calls_asked : List Record → List Call
+calls_asked history = map call_asked history
 
 -- the record is no call that wanted for memory
 abbrev pub HadMemory : Record → Type 0

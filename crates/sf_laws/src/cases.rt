@@ -22,19 +22,25 @@ ghost use Rattle.sf_call.specs.Attributes.Object.{File};
 
 /// MKDIR.
 pub fn mkdir_cases()
-    ensures made { apply empty_tree 1 7 100 (Mkdir (a ∷ []) no_attrs) ≡ record { reply = reply.Status Success; tree = with_directory } }
+    ensures made { apply empty_tree 1 7 100 (Mkdir (a ∷ []) no_attrs)
+        ≡ record { reply = reply.Status Success; tree = with_directory } }
     ensures asked { apply empty_tree 1 7 100 (Mkdir (a ∷ []) (all_attrs 9 5 6 0o177777 1 2))
         ≡ record { reply = reply.Status Success; tree = tree_with (Directory (metadata 5 6 0o7777 1 2)) } }
     ensures root { call with_directory (Mkdir [] no_attrs) ≡ refused with_directory Failure }
-    ensures present { call with_directory (Mkdir (a ∷ []) no_attrs) ≡ refused with_directory Failure }
-    ensures below_file { call with_file (Mkdir (a ∷ b ∷ []) no_attrs) ≡ refused with_file NoSuchFile }
-    ensures below_nothing { call with_directory (Mkdir (b ∷ a ∷ []) no_attrs) ≡ refused with_directory NoSuchFile }
+    ensures present { call with_directory (Mkdir (a ∷ []) no_attrs)
+        ≡ refused with_directory Failure }
+    ensures below_file { call with_file (Mkdir (a ∷ b ∷ []) no_attrs)
+        ≡ refused with_file NoSuchFile }
+    ensures below_nothing { call with_directory (Mkdir (b ∷ a ∷ []) no_attrs)
+        ≡ refused with_directory NoSuchFile }
 {}
 
 /// STAT.
 pub fn stat_cases()
-    ensures directory { call with_directory (Stat (a ∷ [])) ≡ told with_directory (all_attrs 0 0 0 0o40755 100 100) }
-    ensures file { call with_file (Stat (a ∷ [])) ≡ told with_file (all_attrs 3 5 6 0o100644 100 200) }
+    ensures directory { call with_directory (Stat (a ∷ []))
+        ≡ told with_directory (all_attrs 0 0 0 0o40755 100 100) }
+    ensures file { call with_file (Stat (a ∷ []))
+        ≡ told with_file (all_attrs 3 5 6 0o100644 100 200) }
     ensures absent { call with_directory (Stat (b ∷ [])) ≡ refused with_directory NoSuchFile }
     ensures below_file { call with_file (Stat (a ∷ b ∷ [])) ≡ refused with_file NoSuchFile }
 {}
@@ -73,7 +79,8 @@ pub fn listing_cases()
 
 /// RMDIR.
 pub fn rmdir_cases()
-    ensures gone { call with_directory (Rmdir (a ∷ [])) ≡ record { reply = ok; tree = touched_root } }
+    ensures gone { call with_directory (Rmdir (a ∷ []))
+        ≡ record { reply = ok; tree = touched_root } }
     ensures root { call with_directory (Rmdir []) ≡ refused with_directory Failure }
     ensures absent { call with_directory (Rmdir (b ∷ [])) ≡ refused with_directory NoSuchFile }
     ensures below_file { call with_file (Rmdir (a ∷ b ∷ [])) ≡ refused with_file NoSuchFile }
@@ -87,7 +94,8 @@ pub fn rmdir_cases()
 
 /// OPEN by its flags and its attributes, at the moment 100.
 pub fn open_cases()
-    ensures absent { replies (Open (f ∷ []) (flags true true false false) no_attrs ∷ []) ≡ reply.Status NoSuchFile ∷ [] }
+    ensures absent { replies (Open (f ∷ []) (flags true true false false) no_attrs ∷ [])
+        ≡ reply.Status NoSuchFile ∷ [] }
     ensures directory { replies (Mkdir (a ∷ []) no_attrs ∷ Open (a ∷ []) (flags true false false true) no_attrs ∷ []) ≡ ok ∷ reply.Status Failure ∷ [] }
     // EXCL counts with CREAT alone.
     ensures exclusive { replies (map (λ marks. Open (f ∷ []) marks no_attrs) (exclusively (flags true true false true) ∷ exclusively (flags true true false true) ∷ exclusively (flags true true false false) ∷ flags true true false true ∷ []))
@@ -113,9 +121,11 @@ pub fn handle_cases()
         ≡ reply.Handle 128 ∷ reply.Status Failure ∷ reply.Status Failure ∷ ok ∷ reply.Handle 132 ∷ [] }
     ensures most_of_each { replies_of_another (tree_after empty_tree 1 (replicate 128 (OpenDir []))) (OpenDir [] ∷ []) ≡ reply.Handle 1000 ∷ [] }
     // The root is not set, neither by its path nor by a handle.
-    ensures root { replies (OpenDir [] ∷ FSetStat 1 no_attrs ∷ SetStat [] no_attrs ∷ []) ≡ reply.Handle 1 ∷ reply.Status Failure ∷ reply.Status Failure ∷ [] }
+    ensures root { replies (OpenDir [] ∷ FSetStat 1 no_attrs ∷ SetStat [] no_attrs ∷ [])
+        ≡ reply.Handle 1 ∷ reply.Status Failure ∷ reply.Status Failure ∷ [] }
     // A handle's number is never used again, and a closed one is none.
-    ensures closed { replies (OpenDir [] ∷ Close 1 ∷ Close 1 ∷ ReadDir 1 ∷ OpenDir [] ∷ []) ≡ reply.Handle 1 ∷ ok ∷ reply.Status Failure ∷ reply.Status Failure ∷ reply.Handle 5 ∷ [] }
+    ensures closed { replies (OpenDir [] ∷ Close 1 ∷ Close 1 ∷ ReadDir 1 ∷ OpenDir [] ∷ [])
+        ≡ reply.Handle 1 ∷ ok ∷ reply.Status Failure ∷ reply.Status Failure ∷ reply.Handle 5 ∷ [] }
 {}
 
 /// Paths at their limits: a name of 255 bytes, and a text of 4096.

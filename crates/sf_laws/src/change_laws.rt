@@ -24,59 +24,81 @@ ghost use Rattle.sf_call.specs.Histories.{replay, IsNewNumber, IsLegal};
 /// What is not a request's own it leaves alone: the labels of other paths, other handles, and other objects, which at most
 /// are let go of.
 pub fn own_changes()
-    ensures paths { (tree : Tree) (session number moment : ℕ) (request : Request) (path : Path) → ¬ IsOwnPath request path
-        → label_at (apply tree session number moment request).tree.names path ≡ label_at tree.names path }
-    ensures handles { (tree : Tree) (session number moment handle : ℕ) (request : Request) → ¬ IsOwnHandle tree session number request handle
-        → handle_of (apply tree session number moment request).tree.handles handle ≡ handle_of tree.handles handle }
-    ensures objects { (tree : Tree) (session number moment label : ℕ) (request : Request) → label ≢ number → ¬ IsOwnObject tree session request label
+    ensures paths { (tree : Tree) (session number moment : ℕ) (request : Request) (path : Path)
+        → ¬ IsOwnPath request path
+        → label_at (apply tree session number moment request).tree.names path
+        ≡ label_at tree.names path }
+    ensures handles { (tree : Tree) (session number moment handle : ℕ) (request : Request)
+        → ¬ IsOwnHandle tree session number request handle
+        → handle_of (apply tree session number moment request).tree.handles handle
+        ≡ handle_of tree.handles handle }
+    ensures objects { (tree : Tree) (session number moment label : ℕ) (request : Request)
+        → label ≢ number → ¬ IsOwnObject tree session request label
         → IsSome (object_of (apply tree session number moment request).tree.objects label)
-        → object_of (apply tree session number moment request).tree.objects label ≡ object_of tree.objects label }
+        → object_of (apply tree session number moment request).tree.objects label
+        ≡ object_of tree.objects label }
 {}
 
 /// What each kind of change leaves alone: other paths keep their labels, other numbers their handles, and other labels
 /// their objects, which go only where nothing names or opens them any more.
 pub fn left_alone()
-    ensures paths { (tree : Tree) (change : Change) (path : Path) → ¬ IsOfPath change path → label_at (changed tree change).names path ≡ label_at tree.names path }
-    ensures handles { (tree : Tree) (change : Change) (number : ℕ) → ¬ IsOfNumber change number → handle_of (changed tree change).handles number ≡ handle_of tree.handles number }
+    ensures paths { (tree : Tree) (change : Change) (path : Path) → ¬ IsOfPath change path
+        → label_at (changed tree change).names path ≡ label_at tree.names path }
+    ensures handles { (tree : Tree) (change : Change) (number : ℕ) → ¬ IsOfNumber change number
+        → handle_of (changed tree change).handles number ≡ handle_of tree.handles number }
     ensures objects { (tree : Tree) (change : Change) (label : ℕ) → ¬ IsOfLabel change label
-        → IsSome (object_of (changed tree change).objects label) → object_of (changed tree change).objects label ≡ object_of tree.objects label }
+        → IsSome (object_of (changed tree change).objects label)
+        → object_of (changed tree change).objects label ≡ object_of tree.objects label }
     ensures used { (tree : Tree) (change : Change) (label : ℕ) → ¬ IsOfLabel change label
-        → is_used (changed tree change).names (changed tree change).handles label ≡ true → object_of (changed tree change).objects label ≡ object_of tree.objects label }
+        → is_used (changed tree change).names (changed tree change).handles label ≡ true
+        → object_of (changed tree change).objects label ≡ object_of tree.objects label }
 {}
 
 /// Of the directory in which a request makes or removes a name nothing changes, but the moment at which it was modified.
 pub fn parents_stay()
     ensures { (tree : Tree) (session number moment label : ℕ) (request : Request) (path : Path) (m : Metadata) → IsOwnPath request path → label ≢ number
-        → label_at tree.names (parent path) ≡ Some label → object_of tree.objects label ≡ Some (Directory m)
+        → label_at tree.names (parent path) ≡ Some label
+        → object_of tree.objects label ≡ Some (Directory m)
         → IsOneOf (Directory m) (Directory (modified_at moment m)) (object_of (apply tree session number moment request).tree.objects label) }
 {}
 
 /// A refused call leaves the tree as it was: a status other than OK comes with no change.
 pub fn refusals_change_nothing()
     ensures { (tree : Tree) (session number moment : ℕ) (request : Request) (code : StatusCode)
-        → (apply tree session number moment request).reply ≡ Status code → code ≢ Success → (apply tree session number moment request).tree ≡ tree }
+        → (apply tree session number moment request).reply ≡ Status code → code ≢ Success
+        → (apply tree session number moment request).tree ≡ tree }
 {}
 
 /// STAT, FSTAT and READ leave the tree as it was; so do SETSTAT and FSETSTAT with no part given, and WRITE of no bytes.
 pub fn idle_calls()
-    ensures stat { (tree : Tree) (session number moment : ℕ) (path : Path) → (apply tree session number moment (Stat path)).tree ≡ tree }
-    ensures stat_by_handle { (tree : Tree) (session number moment handle : ℕ) → (apply tree session number moment (FStat handle)).tree ≡ tree }
-    ensures read { (tree : Tree) (session number moment handle offset len : ℕ) → (apply tree session number moment (Read handle offset len)).tree ≡ tree }
-    ensures set_stat { (tree : Tree) (session number moment : ℕ) (path : Path) → (apply tree session number moment (SetStat path no_attrs)).tree ≡ tree }
-    ensures set_stat_by_handle { (tree : Tree) (session number moment handle : ℕ) → (apply tree session number moment (FSetStat handle no_attrs)).tree ≡ tree }
-    ensures write { (tree : Tree) (session number moment handle offset : ℕ) → (apply tree session number moment (Write handle offset [])).tree ≡ tree }
+    ensures stat { (tree : Tree) (session number moment : ℕ) (path : Path)
+        → (apply tree session number moment (Stat path)).tree ≡ tree }
+    ensures stat_by_handle { (tree : Tree) (session number moment handle : ℕ)
+        → (apply tree session number moment (FStat handle)).tree ≡ tree }
+    ensures read { (tree : Tree) (session number moment handle offset len : ℕ)
+        → (apply tree session number moment (Read handle offset len)).tree ≡ tree }
+    ensures set_stat { (tree : Tree) (session number moment : ℕ) (path : Path)
+        → (apply tree session number moment (SetStat path no_attrs)).tree ≡ tree }
+    ensures set_stat_by_handle { (tree : Tree) (session number moment handle : ℕ)
+        → (apply tree session number moment (FSetStat handle no_attrs)).tree ≡ tree }
+    ensures write { (tree : Tree) (session number moment handle offset : ℕ)
+        → (apply tree session number moment (Write handle offset [])).tree ≡ tree }
 {}
 
 /// What was a directory stays one, and what was a file: a request that may come next changes no object's kind.
 pub fn kinds_stay()
     ensures { (history : List Record) (number session moment label : ℕ) (request : Request) (before after : Object) → IsLegal history → 0 < number → IsNewNumber number history
-        → object_of (replay history).objects label ≡ Some before → object_of (apply (replay history) session number moment request).tree.objects label ≡ Some after
+        → object_of (replay history).objects label ≡ Some before
+        → object_of (apply (replay history) session number moment request).tree.objects label
+        ≡ Some after
         → kind_of after ≡ kind_of before }
 {}
 
 /// After a legal history each object is named or open, so that letting go of others changes nothing.
 pub fn nothing_unused()
     ensures named_or_open { (history : List Record) (label : ℕ) → IsLegal history
-        → IsSome (object_of (replay history).objects label) → is_used (replay history).names (replay history).handles label ≡ true }
-    ensures kept { (history : List Record) → IsLegal history → kept (replay history) ≡ replay history }
+        → IsSome (object_of (replay history).objects label)
+        → is_used (replay history).names (replay history).handles label ≡ true }
+    ensures kept { (history : List Record) → IsLegal history
+        → kept (replay history) ≡ replay history }
 {}

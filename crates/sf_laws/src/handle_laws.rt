@@ -28,15 +28,19 @@ pub fn new_handles()
 /// After a legal history each open handle leads to an object.
 pub fn open_handles()
     ensures { (history : List Record) (number : ℕ) (handle : Opened) → IsLegal history
-        → handle_of (replay history).handles number ≡ Some handle → IsSome (object_of (replay history).objects handle.label) }
+        → handle_of (replay history).handles number ≡ Some handle
+        → IsSome (object_of (replay history).objects handle.label) }
 {}
 
 /// After a legal history no file is above the limit, no session has more handles open than it may, and each path is of
 /// names.
 pub fn limits_hold()
-    ensures files { (history : List Record) (label : ℕ) (m : Metadata) (contents : List ℕ) → IsLegal history
-        → object_of (replay history).objects label ≡ Some (File m contents) → length contents ≤ 16777216 }
+    ensures files { (history : List Record) (label : ℕ) (m : Metadata) (contents : List ℕ)
+        → IsLegal history
+        → object_of (replay history).objects label ≡ Some (File m contents)
+        → length contents ≤ 16777216 }
     ensures handles { (history : List Record) (session : ℕ) → IsLegal history
         → count_by (λ e. nat_eq e.1.session session) (replay history).handles ≤ 128 }
-    ensures paths { (history : List Record) (path : Path) (label : ℕ) → IsLegal history → label_at (replay history).names path ≡ Some label → IsPath path }
+    ensures paths { (history : List Record) (path : Path) (label : ℕ) → IsLegal history
+        → label_at (replay history).names path ≡ Some label → IsPath path }
 {}

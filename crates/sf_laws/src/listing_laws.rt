@@ -14,18 +14,24 @@ ghost use Rattle.sf_call.specs.Histories.{after};
 
 /// The names of a listing stand in the order of their bytes, each once, and come after the last one that was given.
 pub fn listed_in_order()
-    ensures order { (tree : Tree) (last : Option Name) (directory : Path) → IsOrderedTree tree → IsStrictlySortedBy name_cmp (names_of (listing tree last directory)) }
-    ensures past { (tree : Tree) (last : Option Name) (directory : Path) → AllByRecursion (λ name. is_past last name ≡ true) (names_of (listing tree last directory)) }
+    ensures order { (tree : Tree) (last : Option Name) (directory : Path) → IsOrderedTree tree
+        → IsStrictlySortedBy name_cmp (names_of (listing tree last directory)) }
+    ensures past { (tree : Tree) (last : Option Name) (directory : Path)
+        → AllByRecursion (λ name. is_past last name
+        ≡ true) (names_of (listing tree last directory)) }
 {}
 
 /// A listing leaves nothing out: what stands in the directory after the last name that was given is listed as its object
 /// is, or the listing is full of names that come before. And what is listed stands there.
 pub fn listed_all()
     ensures complete { (tree : Tree) (last : Option Name) (directory : Path) (name : Name) (label : ℕ) (object : Object) → IsOrderedTree tree
-        → label_at tree.names (directory ++ name ∷ []) ≡ Some label → object_of tree.objects label ≡ Some object → is_past last name ≡ true
+        → label_at tree.names (directory ++ name ∷ []) ≡ Some label
+        → object_of tree.objects label ≡ Some object → is_past last name ≡ true
         → Contains (listing tree last directory) (entry_of name object)
         ⊎ ((length (listing tree last directory) ≡ MAX_ENTRIES) × AllByRecursion (λ listed. is_lt (name_cmp listed name) ≡ true) (names_of (listing tree last directory))) }
     ensures there { (tree : Tree) (last : Option Name) (directory : Path) → IsOrderedTree tree
-        → AllByRecursion (λ entry. (label : ℕ) × (object : Object) × (label_at tree.names (directory ++ entry.filename ∷ []) ≡ Some label)
-        × (object_of tree.objects label ≡ Some object) × (entry ≡ entry_of entry.filename object)) (listing tree last directory) }
+        → AllByRecursion (λ entry. (label : ℕ) × (object : Object)
+        × (label_at tree.names (directory ++ entry.filename ∷ []) ≡ Some label)
+        × (object_of tree.objects label ≡ Some object)
+        × (entry ≡ entry_of entry.filename object)) (listing tree last directory) }
 {}

@@ -13,7 +13,8 @@ const TRIES: u32 = 1024;
 fn read_some<R: Read>(reader: &mut R, buffer: &mut [u8]) -> Option<usize>
     ensures within { IfSome result (λ n. n ≤ length buffer.new) }
     ensures taken { IfSome result (λ n. Consumes (R.remaining reader.old) (R.remaining reader.new) (take n buffer.new)) }
-    ensures ended { IfSome result (λ n. n ≡ 0 → 0 < length buffer.new → IsAtEnd (R.remaining reader.new)) }
+    ensures ended { IfSome result (λ n. n ≡ 0 → 0 < length buffer.new
+        → IsAtEnd (R.remaining reader.new)) }
     ensures none { IfNone result (Keeps (R.remaining reader.old) (R.remaining reader.new)) }
 {
     for _ in 0..TRIES {

@@ -10,7 +10,8 @@ ghost use Rattle.sf_path.specs.Normal.{norm, fault_of};
 pub fn normal_text_again()
     ensures path { (names : List (List ℕ)) → IsPath names → norm (text_of names) ≡ names }
     ensures fault { (names : List (List ℕ)) → IsPath names
-        → fault_of (text_of names) ≡ (if nat_lt 4096 (length (text_of names)) then Some TooLong else None) }
+        → fault_of (text_of names)
+        ≡ (if nat_lt 4096 (length (text_of names)) then Some TooLong else None) }
 {}
 
 /// A slash before a text changes nothing but the fault of its length, and that only at 4096 bytes, which it makes one too

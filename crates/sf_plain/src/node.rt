@@ -119,21 +119,21 @@ impl Node {
             (Kind::Directory(metadata), _) => Ok(Node::directory(metadata.with_parts(attrs))),
             (Kind::File(metadata, contents), None) => Ok(Node::file(
                 metadata.with_parts(attrs),
-                contents.try_copy(alloc)?,
+                contents.share()?,
             )),
             (Kind::File(metadata, contents), Some(size)) => Ok(Node::file(
                 metadata.modified_at(moment).with_parts(attrs),
-                ByteString::from_vec(resized(alloc, contents.as_slice(), size as usize)?),
+                ByteString::from_vec(resized(alloc, contents.as_slice(), size as usize)?)?,
             )),
         }
     }
 }
 
 impl TryCopy for Node {
-    fn try_copy(&self, alloc: Global) -> Result<Node, AllocError> {
+    fn try_copy(&self, _alloc: Global) -> Result<Node, AllocError> {
         Ok(match &self.kind {
             Kind::Directory(metadata) => Node::directory(*metadata),
-            Kind::File(metadata, contents) => Node::file(*metadata, contents.try_copy(alloc)?),
+            Kind::File(metadata, contents) => Node::file(*metadata, contents.share()?),
         })
     }
 }

@@ -34,11 +34,13 @@ pub(crate) fn sweep(
     names: &BTreeMap<Path, u64>,
     handles: &BTreeMap<u64, Handle>,
 )
-    ensures { objects.new.entries ≡ filter (λ e. is_used names.now.entries handles.now.entries e.0) objects.old.entries }
+    ensures { objects.new.entries
+        ≡ filter (λ e. is_used names.now.entries handles.now.entries e.0) objects.old.entries }
 {
     objects.retain(
         |label: &u64, node: &mut Node| -> bool
-            ensures value { result ≡ is_used names.entry.now.entries handles.entry.now.entries label.now }
+            ensures value { result
+                ≡ is_used names.entry.now.entries handles.entry.now.entries label.now }
             ensures node { node.new ≡ node.old }
         { is_used(names, handles, *label) },
     );
@@ -46,7 +48,8 @@ pub(crate) fn sweep(
 
 /// Closes a session's handles.
 pub(crate) fn close_all(handles: &mut BTreeMap<u64, Handle>, session: u64)
-    ensures { handles.new.entries ≡ filter (λ e. not (nat_eq e.1.session session)) handles.old.entries }
+    ensures { handles.new.entries
+        ≡ filter (λ e. not (nat_eq e.1.session session)) handles.old.entries }
 {
     handles.retain(
         |_number: &u64, handle: &mut Handle| -> bool

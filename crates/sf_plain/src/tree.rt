@@ -72,8 +72,10 @@ impl PlainTree {
         moment: u32,
         request: &Request,
     ) -> Result<Reply, AllocError>
-        ensures reply { IfOk result (λ reply. reply ≡ (apply self.old session number moment request.now).reply) }
-        ensures tree { OnOk result (self.new ≡ (apply self.old session number moment request.now).tree) }
+        ensures reply { IfOk result (λ reply. reply
+            ≡ (apply self.old session number moment request.now).reply) }
+        ensures tree { OnOk result (self.new
+            ≡ (apply self.old session number moment request.now).tree) }
         ensures err { OnErr result (self.new ≡ self.old) }
     {
         match request {
@@ -168,7 +170,8 @@ impl PlainTree {
 
     /// Whether something stands directly below the path.
     fn has_child(&self, path: &Path) -> bool
-        ensures { result ≡ list_any (λ e. is_some (only_name (after_front path.now e.0))) self.now.names }
+        ensures { result
+            ≡ list_any (λ e. is_some (only_name (after_front path.now e.0))) self.now.names }
     {
         self.names
             .iter()
@@ -241,11 +244,11 @@ impl PlainTree {
     }
 
     /// Gives a file other bytes, at a moment.
-    fn set_contents(&mut self, label: u64, moment: u32, metadata: Metadata, bytes: Vec<u8>)
-        ensures { self.new ≡ changed self.old (SetObject label (File (modified_at moment metadata) bytes.items)) }
+    fn set_contents(&mut self, label: u64, moment: u32, metadata: Metadata, bytes: ByteString)
+        ensures { self.new
+            ≡ changed self.old (SetObject label (File (modified_at moment metadata) bytes)) }
     {
-        let file = Node::file(metadata.modified_at(moment), ByteString::from_vec(bytes));
-        self.set_object(label, file);
+        self.set_object(label, Node::file(metadata.modified_at(moment), bytes));
     }
 
     /// Marks a directory as modified at the moment.

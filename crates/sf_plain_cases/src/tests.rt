@@ -8,7 +8,7 @@ use sf_cases::requests::{
 use sf_cases::{sized, whole};
 use sf_field::{Attrs, NO_ATTRS, Owner, Times};
 use sf_plain::PlainTree;
-use sf_reply::{Entry, Reply, StatusCode};
+use sf_reply::{Listing, Reply, StatusCode};
 use std::alloc::Global;
 use std::process::Abort;
 use std::test::*;
@@ -98,9 +98,9 @@ impl Client {
         self.judge(rt, wanted, &reply);
     }
 
-    fn names(&mut self, rt: &impl Abort, request: Result<Request, Fail>) -> Vec<Entry> {
+    fn names(&mut self, rt: &impl Abort, request: Result<Request, Fail>) -> Listing {
         match self.reply(rt, request) {
-            Reply::Names(listing) => listing.into_vec(),
+            Reply::Names(listing) => listing,
             reply => panic!(rt; "call {}: {reply:?}", self.number),
         }
     }

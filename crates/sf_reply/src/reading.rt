@@ -185,14 +185,14 @@ pub fn find_reply(body: &[u8]) -> Option<(u32, FoundReply<'_>)>
 }
 
 /// Copies so many entries.
-fn entries(alloc: Global, count: u32, bytes: &[u8]) -> Result<Listing, AllocError>
-    ensures { IfOk result (λ names. names ≡ listed (entries_at count bytes.now)) }
+fn entries(alloc: Global, count: u32, bytes: &[u8]) -> Result<Vec<Entry>, AllocError>
+    ensures { IfOk result (λ entries. entries.items ≡ listed (entries_at count bytes.now)) }
 {
     let mut entries = Vec::new(alloc);
     let mut rest = bytes;
     for _ in 0..count {
         let Some((filename, longname, attrs, after)) = entry_of(rest) else {
-            return Ok(Listing::from_vec(Vec::new(alloc)));
+            return Ok(Vec::new(alloc));
         };
         let filename = ByteString::from_slice(alloc, filename)?;
         let longname = ByteString::from_slice(alloc, longname)?;
@@ -203,7 +203,7 @@ fn entries(alloc: Global, count: u32, bytes: &[u8]) -> Result<Listing, AllocErro
         })?;
         rest = after;
     }
-    Ok(Listing::from_vec(entries))
+    Ok(entries)
 }
 
 impl FoundReply<'_> {
@@ -217,7 +217,9 @@ impl FoundReply<'_> {
             FoundReply::NoMemory => Reply::NoMemory,
             FoundReply::Handle(number) => Reply::Handle(*number),
             FoundReply::Data(bytes) => Reply::Data(ByteString::from_slice(alloc, bytes)?),
-            FoundReply::Names(count, bytes) => Reply::Names(entries(alloc, *count, bytes)?),
+            FoundReply::Names(count, bytes) => {
+                Reply::Names(Listing::from_vec(entries(alloc, *count, bytes)?)?)
+            }
             FoundReply::Attrs(attrs) => Reply::Attrs(*attrs),
         })
     }
@@ -228,7 +230,8 @@ impl FoundReply<'_> {
 /// refused.
 pub fn read_reply(alloc: Global, body: &[u8]) -> Result<Option<(u32, Reply)>, AllocError>
     ensures found { IfOk result (λ found. IfSome found (λ x. IsReply body.now x.0 x.1)) }
-    ensures none { IfOk result (λ found. IfNone found ((id : ℕ) (r : Reply) → IsReply body.now id r → ⊥)) }
+    ensures none { IfOk result (λ found. IfNone found ((id : ℕ) (r : Reply) → IsReply body.now id r
+        → ⊥)) }
     ensures err { OnErr result ((id : ℕ) × (r : Reply) × IsReply body.now id r) }
 {
     let Some((id, found)) = find_reply(body) else {

@@ -1,11 +1,12 @@
 //! What a packet answers.
 
-ghost use Rattle.std.specs.Prelude.{◌≡◌, IfOk, IsOk};
+ghost use Rattle.std.specs.Prelude.{◌≡◌, ◌++◌, IfOk, IsOk, OnOk};
 ghost use Rattle.sf_reply.specs.Replies.{number_of, message_of, IsPlain};
 
 use sf_field::{Attrs, ByteString};
-use std::alloc::{AllocError, Global};
+use std::alloc::AllocError;
 use std::marker::Model;
+use std::sync::ArcSlice;
 
 /// The bytes of the longest packet that answers a status, want of memory, a handle or attributes,
 /// its length field counted.
@@ -65,46 +66,53 @@ pub struct Entry {
 }
 
 impl Entry {
-    fn try_copy(&self, alloc: Global) -> Result<Entry, AllocError>
+    /// Takes no memory.
+    fn share(&self) -> Result<Entry, AllocError>
         ensures { IfOk result (λ e. e ≡ self.now) }
     {
         Ok(Entry {
-            filename: self.filename.try_copy(alloc)?,
-            longname: self.longname.try_copy(alloc)?,
+            filename: self.filename.share()?,
+            longname: self.longname.share()?,
             attrs: self.attrs,
         })
     }
 }
 
-/// Names, which contracts see as a list.
+/// Names, which contracts see as a list. They have counted owners, so that a listing is shared and
+/// not copied.
 #[derive(Debug, Drop)]
 pub struct Listing {
-    entries: Vec<Entry>,
+    entries: ArcSlice<Entry>,
 }
 
 impl Model for Listing {
     ghost use Rattle.std.specs.Prelude.{List};
+    ghost use Rattle.std.specs.Arc.{arc_slice_items};
     ghost use Rattle.sf_reply.specs.declared.reply.Entry.{Entry};
 
     ghost Value = { List Entry };
 
-    ghost view = { λ l. l.entries.items };
+    ghost view = { λ l. arc_slice_items l.entries };
 }
 
 impl Listing {
-    /// Takes no memory.
-    pub fn from_vec(entries: Vec<Entry>) -> Listing
-        ensures { result ≡ entries.items }
+    /// Copies no name, and takes memory for the count of owners.
+    pub fn from_vec(entries: Vec<Entry>) -> Result<Listing, AllocError>
+        ensures { IfOk result (λ l. l ≡ entries.items) }
     {
-        Self { entries }
+        Ok(Self {
+            entries: ArcSlice::from_vec(entries)?,
+        })
     }
 
-    /// Takes no memory.
-    pub fn into_vec(self) -> Vec<Entry>
-        ensures { result.items ≡ self }
+    /// One more owner of the same names, which takes no memory. It fails where the owners can't be
+    /// counted: at 2^63 of them.
+    fn share(&self) -> Result<Listing, AllocError>
+        ensures { IfOk result (λ l. l ≡ self.now) }
     {
-        let Listing { entries } = self;
-        entries
+        Ok(Self {
+            entries: self.entries.clone()?,
+        })
     }
 
     /// The names in their order.
@@ -114,14 +122,14 @@ impl Listing {
         self.entries.as_slice()
     }
 
-    fn try_copy(&self, alloc: Global) -> Result<Listing, AllocError>
-        ensures { IfOk result (λ l. l ≡ self.now) }
+    /// Appends the names to others, their strings shared.
+    pub fn append_to(&self, others: &mut Vec<Entry>) -> Result<(), AllocError>
+        ensures { OnOk result (others.new.items ≡ others.old.items ++ self.now) }
     {
-        let mut entries = Vec::new(alloc);
-        for entry in &self.entries {
-            entries.push(entry.try_copy(alloc)?)?;
+        for entry in self.as_slice() {
+            others.push(entry.share()?)?;
         }
-        Ok(Listing::from_vec(entries))
+        Ok(())
     }
 }
 
@@ -140,8 +148,8 @@ pub enum Reply {
 }
 
 impl Reply {
-    /// A copy takes memory only for data and names.
-    pub fn try_copy(&self, alloc: Global) -> Result<Reply, AllocError>
+    /// The same reply once more: its data or its names are shared, which takes no memory.
+    pub fn share(&self) -> Result<Reply, AllocError>
         ensures equal { IfOk result (λ copy. copy ≡ self.now) }
         ensures plain { IsPlain self.now → IsOk result }
     {
@@ -149,8 +157,8 @@ impl Reply {
             Reply::Status(code) => Reply::Status(*code),
             Reply::NoMemory => Reply::NoMemory,
             Reply::Handle(number) => Reply::Handle(*number),
-            Reply::Data(bytes) => Reply::Data(bytes.try_copy(alloc)?),
-            Reply::Names(listing) => Reply::Names(listing.try_copy(alloc)?),
+            Reply::Data(bytes) => Reply::Data(bytes.share()?),
+            Reply::Names(listing) => Reply::Names(listing.share()?),
             Reply::Attrs(attrs) => Reply::Attrs(*attrs),
         })
     }

@@ -4,7 +4,7 @@ ghost use Rattle.std.specs.Prelude.{◌≡◌, ◌+◌, ◌<◌, ◌≤◌, ◌^
 ghost use Rattle.std.specs.List.{flat_map};
 ghost use Rattle.bytes.specs.Filled.{UsesSpare};
 ghost use Rattle.sf_reply.specs.Replies.{status_text, entry_text, fields_of, reply_body, kind_of_reply, version_body};
-ghost use Rattle.sf_field.specs.Fields.{packet};
+ghost use Rattle.sf_field.specs.Fields.{packet, max_body};
 
 use crate::reply::{Entry, Reply};
 use bytes::BytesMut;
@@ -74,14 +74,14 @@ pub fn write_version(out: &mut BytesMut) -> Result<(), AllocError>
 
 #[tactic(auto, unfolding(crate::specs::Replies::entry_text))]
 fn entry_len(entry: &Entry) -> usize
-    requires { length (entry_text entry.now) ≤ 262144 }
+    requires { length (entry_text entry.now) ≤ max_body }
     ensures { result ≡ length (entry_text entry.now) }
 {
     8 + entry.filename.len() + entry.longname.len() + attrs_len(&entry.attrs)
 }
 
 fn entries_len(entries: &[Entry]) -> usize
-    requires { length (flat_map entry_text entries.now) ≤ 262144 }
+    requires { length (flat_map entry_text entries.now) ≤ max_body }
     ensures { result ≡ length (flat_map entry_text entries.now) }
 {
     let mut total = 0;
@@ -93,7 +93,7 @@ fn entries_len(entries: &[Entry]) -> usize
 
 fn put_entries(out: &mut BytesMut, entries: &[Entry])
     requires room { length (flat_map entry_text entries.now) ≤ out.old.spare }
-    requires short { length (flat_map entry_text entries.now) ≤ 262144 }
+    requires short { length (flat_map entry_text entries.now) ≤ max_body }
     ensures items { out.new.items ≡ out.old.items ++ flat_map entry_text entries.now }
     ensures spare { out.new.spare + length (flat_map entry_text entries.now) ≡ out.old.spare }
 {
@@ -150,7 +150,7 @@ fn kind(reply: &Reply) -> u8
 
 /// Appends the reply's packet whole, or nothing. A buffer with the packet's room takes no memory.
 pub fn write_reply(id: u32, reply: &Reply, out: &mut BytesMut) -> Result<(), AllocError>
-    requires { length (reply_body id reply.now) ≤ 262144 }
+    requires { length (reply_body id reply.now) ≤ max_body }
     ensures ok { OnOk result (out.new.items ≡ out.old.items ++ packet (reply_body id reply.now)) }
     ensures err { OnErr result (out.new.items ≡ out.old.items) }
     ensures spare { UsesSpare result out.old.spare out.new.spare (length (packet (reply_body id reply.now))) }

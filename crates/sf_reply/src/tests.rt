@@ -5,6 +5,7 @@ ghost use Rattle.sf_reply.specs.Replies.{entry_text};
 use super::*;
 use bytes::BytesMut;
 use sf_field::{Attrs, ByteString, NO_ATTRS, Owner, Times};
+use sf_hex::hex_bytes;
 use std::alloc::{AllocError, Global};
 use std::process::Abort;
 use std::test::*;
@@ -24,12 +25,6 @@ const DIRECTORY: Attrs = Attrs {
     }),
 };
 
-/// The bytes of a text in hexadecimal, whose spaces only group them.
-fn hex_bytes(alloc: Global, text: &str) -> Result<Vec<u8>, Fail> {
-    let digits: Vec<u8> = text.bytes().filter(|b| *b != b' ').collect(alloc)?;
-    Ok(hex::decode(alloc, digits.as_slice())?)
-}
-
 fn string(alloc: Global, text: &str) -> Result<ByteString, AllocError> {
     ByteString::from_slice(alloc, text.as_bytes())
 }
@@ -44,5 +39,5 @@ fn root_listing(alloc: Global) -> Result<Listing, Fail>
         longname: ByteString::from_slice(alloc, b"/")?,
         attrs: NO_ATTRS,
     };
-    Ok(Listing::from_vec(vec![in alloc; root]?))
+    Ok(Listing::from_vec(vec![in alloc; root]?)?)
 }

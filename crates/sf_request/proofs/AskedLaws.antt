@@ -11,7 +11,7 @@ use Rattle.sf_request.specs.declared.request.Asked.TheVariants.{Init, Request, B
 use Rattle.sf_field.specs.Fields.{be32}
 use Rattle.sf_request.specs.Requests.{kind_of, is_request, posix_rename, SpellsFields, HasId, HasOtherName, IsUnknown, BeginsInit, Asks}
 use Rattle.sf_field.specs.Reading.{number_at, string_at}
-use Rattle.sf_request.specs.Reading.{other_name, is_unknown, request_at, answer_of, call_of, asked_of}
+use Rattle.sf_request.specs.Reading.{other_name, is_unknown, request_at, asked_by, asked_under, asked_of}
 use Rattle.sf_field.proofs.Laws.{IsBytes, IsBytes-rest, reads_u32, reads_string, number_none, number_short}
 use Rattle.sf_request.proofs.SpelledFields.{as_string}
 use Rattle.sf_request.proofs.RequestLaws.{request_takes, request_again}
@@ -78,7 +78,7 @@ known kind rest e = known_by (eqb kind 200) kind rest refl e
 
 -- ---- what is read is asked
 
-answer_found : (body : List ℕ) (kind id : ℕ) (rest : List ℕ) (o : Option WireRequest) → request_at kind rest ≡ o → is_unknown kind rest ≡ false → HasId body kind id rest → IsBytes rest → Asks body (answer_of id o)
+answer_found : (body : List ℕ) (kind id : ℕ) (rest : List ℕ) (o : Option WireRequest) → request_at kind rest ≡ o → is_unknown kind rest ≡ false → HasId body kind id rest → IsBytes rest → Asks body (asked_by id o)
 answer_found body kind id rest None e not_unknown has fits = (
   kind,
   rest,
@@ -94,7 +94,7 @@ answer_found body kind id rest (Some request) e not_unknown has fits =
     (t.text, t.more, subst (λ (k : ℕ). HasId body k id (t.text ++ t.more)) (sym t.kind_is) (subst (HasId body kind id) t.parts has), t.spelled)
 
 call_found : (body : List ℕ) (kind id : ℕ) (rest : List ℕ) (one unknown : Bool) → eqb kind 1 ≡ one → is_unknown kind rest ≡ unknown → HasId body kind id rest → IsBytes rest
-    → Asks body (cond one (Init id) (cond unknown (Unknown id) (answer_of id (request_at kind rest))))
+    → Asks body (cond one (Init id) (cond unknown (Unknown id) (asked_by id (request_at kind rest))))
 call_found body kind id rest true unknown p q has fits = (rest, subst (λ (k : ℕ). HasId body k id rest) (eqb-true kind 1 p) has)
 call_found body kind id rest false false p q has fits = answer_found body kind id rest (request_at kind rest) refl q has fits
 call_found body kind id rest false true p q has fits = (kind, rest, has, unknown_found kind rest fits (eqb-false kind 1 p) q)
@@ -106,8 +106,8 @@ short_found : (kind : ℕ) (rest : List ℕ) (one : Bool) → eqb kind 1 ≡ one
 short_found kind rest true e short = (short, (rest, ap (λ (k : ℕ). k ∷ rest) (eqb-true kind 1 e)))
 short_found kind rest false e short = (short, λ init. eqb-false kind 1 e (head_is kind 1 rest init.0 init.1))
 
-number_found : (kind : ℕ) (rest : List ℕ) (o : Option (ℕ × List ℕ)) → number_at w32 rest ≡ o → IsBytes rest → Asks (kind ∷ rest) (call_of kind o)
-unfolding call_of
+number_found : (kind : ℕ) (rest : List ℕ) (o : Option (ℕ × List ℕ)) → number_at w32 rest ≡ o → IsBytes rest → Asks (kind ∷ rest) (asked_under kind o)
+unfolding asked_under
 number_found kind rest None e fits = short_found kind rest (eqb kind 1) refl (omega (arith, number_none w32 rest e))
 number_found kind rest (Some n) e fits =
     let t = reads_u32.takes rest n.0 n.1 fits e in
@@ -120,9 +120,9 @@ asked_found (kind ∷ rest) fits = number_found kind rest (number_at w32 rest) r
 
 -- ---- what is asked is read
 
-has_call : (body : List ℕ) (kind id : ℕ) (rest : List ℕ) → HasId body kind id rest → asked_of body ≡ call_of kind (Some (id, rest))
+has_call : (body : List ℕ) (kind id : ℕ) (rest : List ℕ) → HasId body kind id rest → asked_of body ≡ asked_under kind (Some (id, rest))
 unfolding asked_of
-has_call body kind id rest has = ap asked_of has.parts ∙ ap (call_of kind) (reads_u32.again id rest has.fits)
+has_call body kind id rest has = ap asked_of has.parts ∙ ap (asked_under kind) (reads_u32.again id rest has.fits)
 
 request_kind : (r : WireRequest) → eqb (kind_of r) 1 ≡ false
 request_kind (request.Open filename flags attrs) = refl
@@ -188,7 +188,7 @@ IsBytes-parts : (kind id : ℕ) (rest : List ℕ) → IsBytes (kind ∷ be32 id 
 IsBytes-parts kind id rest h i = h (suc (suc (suc (suc (suc i)))))
 
 pub asked_only : (body : List ℕ) (other : Asked) → IsBytes body → Asks body other → asked_of body ≡ other
-unfolding asked_of call_of
+unfolding asked_of asked_under
 asked_only body (Init version) fits h = has_call body 1 version h.0 h.1
 asked_only body (Request id request) fits h =
     has_call body (kind_of request) id (h.0 ++ h.1) h.2 ∙ rw (request_kind request, request_known request h.0 h.1 h.3, request_again request h.0 h.1 h.3) refl
@@ -200,8 +200,8 @@ asked_only body (Unknown id) fits h = has_call body h.0 id h.1 h.2 ∙ rw (unkno
 asked_only [] NoVersion fits h = let e : [] ≡ 1 ∷ h.1.0 = h.1.1 in absurd cc
 asked_only (kind ∷ rest) NoVersion fits h =
     let init : eqb kind 1 ≡ true = ap (λ (k : ℕ). eqb k 1) (head_is kind 1 rest h.1.0 h.1.1) in
-    ap (call_of kind) (number_short w32 rest (omega (arith, h.0))) ∙ rw init refl
+    ap (asked_under kind) (number_short w32 rest (omega (arith, h.0))) ∙ rw init refl
 asked_only [] NoId fits h = refl
 asked_only (kind ∷ rest) NoId fits h =
     let no : eqb kind 1 ≡ false = ne_eqb kind 1 (λ is. h.1 (rest, ap (λ (k : ℕ). k ∷ rest) is)) in
-    ap (call_of kind) (number_short w32 rest (omega (arith, h.0))) ∙ rw no refl
+    ap (asked_under kind) (number_short w32 rest (omega (arith, h.0))) ∙ rw no refl

@@ -73,20 +73,20 @@ unfoldable pub request_at : ℕ → List ℕ → Option WireRequest
 request_at kind bytes = by_kind readers kind bytes
 
 -- what the bytes after a type and an id ask
-abbrev pub answer_of : ℕ → Option WireRequest → Asked
-answer_of id None = BadFields id
-answer_of id (Some request) = Request id request
+abbrev pub asked_by : ℕ → Option WireRequest → Asked
+asked_by id None = BadFields id
+asked_by id (Some request) = Request id request
 
 unfoldable pub is_unknown : ℕ → List ℕ → Bool
 is_unknown kind bytes = if kind == 200 then other_name (string_at bytes) else not (is_request kind)
 
-unfoldable pub call_of : ℕ → Option (ℕ × List ℕ) → Asked
-call_of kind None = if kind == 1 then NoVersion else NoId
-call_of kind (Some n) =
+unfoldable pub asked_under : ℕ → Option (ℕ × List ℕ) → Asked
+asked_under kind None = if kind == 1 then NoVersion else NoId
+asked_under kind (Some n) =
     if kind == 1 then Init n.0
     else if is_unknown kind n.1 then Unknown n.0
-    else answer_of n.0 (request_at kind n.1)
+    else asked_by n.0 (request_at kind n.1)
 
 unfoldable pub asked_of : List ℕ → Asked
 asked_of [] = NoId
-asked_of (kind ∷ rest) = call_of kind (number_at w32 rest)
+asked_of (kind ∷ rest) = asked_under kind (number_at w32 rest)

@@ -11,11 +11,13 @@ ghost use Rattle.sf_request.specs.Requests.{Asks, RequestFits, request_body, ini
 /// A body asks exactly one thing.
 pub fn one_question()
     ensures exists { (body : List ℕ) → AreBytes body → (asked : Asked) × Asks body asked }
-    ensures unique { (body : List ℕ) (asked other : Asked) → AreBytes body → Asks body asked → Asks body other → asked ≡ other }
+    ensures unique { (body : List ℕ) (asked other : Asked) → AreBytes body → Asks body asked
+        → Asks body other → asked ≡ other }
 {}
 
 /// The body of a request that is sent asks that request, and the body of INIT for the version 3.
 pub fn sent_requests()
-    ensures request { (id : ℕ) (r : WireRequest) → id < 2 ^ 32 → RequestFits r → Asks (request_body id r) (Request id r) }
+    ensures request { (id : ℕ) (r : WireRequest) → id < 2 ^ 32 → RequestFits r
+        → Asks (request_body id r) (Request id r) }
     ensures init { Asks init_body (Init 3) }
 {}

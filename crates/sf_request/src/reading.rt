@@ -4,7 +4,7 @@ ghost use Rattle.std.specs.Prelude.{◌≡◌, ◌≤◌, Some};
 ghost use Rattle.sf_request.specs.declared.request.Asked.{Asked};
 ghost use Rattle.sf_request.specs.Requests.{Asks};
 ghost use Rattle.sf_field.specs.Reading.{string_at, attrs_at};
-ghost use Rattle.sf_request.specs.Reading.{fields, both_at, two_strings_at, open_at, read_at, write_at, request_at, call_of, asked_of};
+ghost use Rattle.sf_request.specs.Reading.{fields, both_at, two_strings_at, open_at, read_at, write_at, request_at, asked_under, asked_of};
 
 use crate::byte_str::ByteStr;
 use crate::request::{Asked, WireRequest};
@@ -150,9 +150,9 @@ fn request(kind: u8, bytes: &[u8]) -> Option<WireRequest<'_>>
 }
 
 /// Its name first: what follows another name isn't read.
-#[tactic(auto, unfolding(crate::specs::Reading::call_of, crate::specs::Reading::is_unknown, crate::specs::Reading::request_at))]
+#[tactic(auto, unfolding(crate::specs::Reading::asked_under, crate::specs::Reading::is_unknown, crate::specs::Reading::request_at))]
 fn extended(id: u32, bytes: &[u8]) -> Asked<'_>
-    ensures { result ≡ call_of 200 (Some (id, bytes.now)) }
+    ensures { result ≡ asked_under 200 (Some (id, bytes.now)) }
 {
     let Some((name, rest)) = bytes_at(bytes) else {
         return Asked::BadFields(id);
@@ -166,9 +166,9 @@ fn extended(id: u32, bytes: &[u8]) -> Asked<'_>
     }
 }
 
-#[tactic(auto, unfolding(crate::specs::Reading::call_of, crate::specs::Reading::is_unknown))]
+#[tactic(auto, unfolding(crate::specs::Reading::asked_under, crate::specs::Reading::is_unknown))]
 fn call(kind: u8, id: u32, bytes: &[u8]) -> Asked<'_>
-    ensures { result ≡ call_of kind (Some (id, bytes.now)) }
+    ensures { result ≡ asked_under kind (Some (id, bytes.now)) }
 {
     match kind {
         INIT => Asked::Init(id),
@@ -181,7 +181,7 @@ fn call(kind: u8, id: u32, bytes: &[u8]) -> Asked<'_>
     }
 }
 
-#[tactic(auto, unfolding(crate::specs::Reading::asked_of, crate::specs::Reading::call_of))]
+#[tactic(auto, unfolding(crate::specs::Reading::asked_of, crate::specs::Reading::asked_under))]
 fn asked(body: &[u8]) -> Asked<'_>
     ensures { result ≡ asked_of body.now }
 {

@@ -52,7 +52,8 @@ fn put_with_attrs(out: &mut BytesMut, text: &ByteStr, attrs: &Attrs)
     requires room { length (string text.now ++ attrs_text attrs.now) ≤ out.old.spare }
     requires short { length text.now < 2 ^ 32 }
     ensures items { out.new.items ≡ out.old.items ++ (string text.now ++ attrs_text attrs.now) }
-    ensures spare { out.new.spare + length (string text.now ++ attrs_text attrs.now) ≡ out.old.spare }
+    ensures spare { out.new.spare + length (string text.now ++ attrs_text attrs.now)
+        ≡ out.old.spare }
 {
     put_string(out, text.as_slice());
     put_attrs(out, attrs);
@@ -159,7 +160,8 @@ fn kind(request: &WireRequest) -> u8
 /// Appends the request's packet whole, or nothing. A buffer with the packet's room takes no memory.
 pub fn write_request(id: u32, request: &WireRequest, out: &mut BytesMut) -> Result<(), AllocError>
     requires { length (request_body id request.now) < 2 ^ 32 }
-    ensures ok { OnOk result (out.new.items ≡ out.old.items ++ packet (request_body id request.now)) }
+    ensures ok { OnOk result (out.new.items
+        ≡ out.old.items ++ packet (request_body id request.now)) }
     ensures err { OnErr result (out.new.items ≡ out.old.items) }
     ensures spare { UsesSpare result out.old.spare out.new.spare (length (packet (request_body id request.now))) }
     ensures enough { length (packet (request_body id request.now)) ≤ out.old.spare → IsOk result }

@@ -3,17 +3,12 @@
 use super::*;
 use bytes::BytesMut;
 use sf_field::{Attrs, NO_ATTRS, OpenFlags, Owner, Times};
+use sf_hex::hex_bytes;
 use std::alloc::Global;
 use std::process::Abort;
 use std::test::*;
 
 mod writing;
-
-/// The bytes of a text in hexadecimal, whose spaces only group them.
-fn hex_bytes(alloc: Global, text: &str) -> Result<Vec<u8>, Fail> {
-    let digits: Vec<u8> = text.bytes().filter(|b| *b != b' ').collect(alloc)?;
-    Ok(hex::decode(alloc, digits.as_slice())?)
-}
 
 /// What a body asks that has no room for an id, or for INIT's version.
 fn short(body: &[u8]) -> &'static str {

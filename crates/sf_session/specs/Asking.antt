@@ -1,6 +1,7 @@
 -- What each body of a session asks for: the cases of the session's rules, in their order.
 use Rattle.std.specs.Prelude.{◌≡◌, ℕ, ◌≤◌, length, List, [], ◌∷◌, Bool, Option, Some, None, option_map, option_and_then, nat_eq, nat_lt, if◌then◌else◌}
 use Rattle.std.specs.Int.{w64, from_be_bytes}
+use Rattle.sf_field.specs.Fields.{max_body}
 use Rattle.sf_path.specs.declared.fault.PathFault.{PathFault}
 use Rattle.sf_path.specs.Names.{Path, text_of}
 use Rattle.sf_path.specs.Normal.{norm, fault_of}
@@ -107,5 +108,5 @@ AsksFor begun body a = (packet : Asked) × Asks body packet × (a ≡ ask_in beg
 
 -- a local reply fits into a packet
 abbrev pub FitsPacket : Ask → Type 0
-FitsPacket (ask.Local id given) = length (reply_body id given) ≤ 262144
+FitsPacket (ask.Local id given) = length (reply_body id given) ≤ max_body
 FitsPacket _ = Unit {0}

@@ -108,8 +108,8 @@ fn real_path_reply(alloc: Global, path: &Path) -> Result<Reply, AllocError>
     ensures { IfOk result (λ reply. reply ≡ real_path_reply path.now) }
 {
     let text = path.text(alloc)?;
-    let filename = ByteString::from_slice(alloc, &text)?;
-    let longname = ByteString::from_vec(text);
+    let filename = ByteString::from_vec(text)?;
+    let longname = filename.share()?;
     let attrs = Attrs {
         size: None,
         owner: None,
@@ -121,5 +121,5 @@ fn real_path_reply(alloc: Global, path: &Path) -> Result<Reply, AllocError>
         longname,
         attrs,
     };
-    Ok(Reply::Names(Listing::from_vec(vec![in alloc; entry]?)))
+    Ok(Reply::Names(Listing::from_vec(vec![in alloc; entry]?)?))
 }

@@ -2,7 +2,7 @@
 
 ghost use Rattle.std.specs.Prelude.{◌≡◌, ◌≢◌, ◌≤◌, ◌++◌, ◌↔◌, [], length, drop, true, Err, Some, None, IsSome, IfSome, IfOk, OnOk, OnErr};
 ghost use Rattle.sf_reply.specs.Replies.{reply_body, version_body};
-ghost use Rattle.sf_field.specs.Fields.{packet};
+ghost use Rattle.sf_field.specs.Fields.{packet, max_body};
 ghost use Rattle.sf_session.specs.Sessions.{Fronts, new_session, NextGives, refusal_of};
 
 use crate::asking::Ask;
@@ -16,8 +16,8 @@ use std::marker::Model;
 use std::mem;
 use thiserror::Error;
 
-/// Room for the next replies, above the 34 bytes of the longest packet that refuses a call. The C
-/// library keeps small blocks for reuse, wherever they lie, and gives back larger ones.
+/// Room for the next replies, above that of the longest packet that refuses a call. The C library
+/// keeps small blocks for reuse, wherever they lie, and gives back larger ones.
 const REPLIES: usize = 4096;
 
 /// Why a call of a session was refused. The session is unchanged then.
@@ -54,13 +54,13 @@ pub struct Session {
 
 impl Model for Session {
     ghost use Rattle.std.specs.Prelude.{◌≢◌, ◌≤◌, None};
-    ghost use Rattle.sf_session.specs.Sessions.{SessionView};
+    ghost use Rattle.sf_session.specs.Sessions.{SessionView, refusal_len};
 
     ghost Value = { SessionView };
 
     ghost view = { λ s. record { unread = s.unread.items; output = s.output.items; begun = s.begun; waiting = s.waiting; ended = s.ended } };
 
-    ghost invariant = { λ s. s.waiting ≢ None → 34 ≤ s.output.spare };
+    ghost invariant = { λ s. s.waiting ≢ None → refusal_len ≤ s.output.spare };
 }
 
 impl Session {
@@ -80,7 +80,8 @@ impl Session {
 
     /// Appends to the bytes that are unread.
     pub fn feed(&mut self, bytes: &[u8]) -> Result<(), SessionFault>
-        ensures ok { OnOk result ((self.old.ended ≡ None) × (self.new ≡ record self.old { unread = self.old.unread ++ bytes.now })) }
+        ensures ok { OnOk result ((self.old.ended ≡ None)
+            × (self.new ≡ record self.old { unread = self.old.unread ++ bytes.now })) }
         ensures err { OnErr result (self.new ≡ self.old) }
         ensures ended { (result ≡ Err SessionFault.Ended) ↔ (self.old.ended ≢ None) }
     {
@@ -147,7 +148,8 @@ impl Session {
     fn version(&mut self, len: usize) -> Result<Next, SessionFault>
         requires len { len ≤ length self.old.unread }
         requires free { self.old.waiting ≡ None }
-        ensures ok { OnOk result (self.new ≡ record self.old { unread = drop len self.old.unread; output = self.old.output ++ packet version_body; begun = true }) }
+        ensures ok { OnOk result (self.new
+            ≡ record self.old { unread = drop len self.old.unread; output = self.old.output ++ packet version_body; begun = true }) }
         ensures next { IfOk result (λ next. next ≡ Next.Local) }
         ensures err { OnErr result (self.new ≡ self.old) }
         ensures fault { result ≢ Err SessionFault.Ended }
@@ -162,8 +164,9 @@ impl Session {
     fn local(&mut self, id: u32, reply: Reply, len: usize) -> Result<Next, SessionFault>
         requires len { len ≤ length self.old.unread }
         requires free { self.old.waiting ≡ None }
-        requires fits { length (reply_body id reply) ≤ 262144 }
-        ensures ok { OnOk result (self.new ≡ record self.old { unread = drop len self.old.unread; output = self.old.output ++ packet (reply_body id reply); begun = true }) }
+        requires fits { length (reply_body id reply) ≤ max_body }
+        ensures ok { OnOk result (self.new
+            ≡ record self.old { unread = drop len self.old.unread; output = self.old.output ++ packet (reply_body id reply); begun = true }) }
         ensures next { IfOk result (λ next. next ≡ Next.Local) }
         ensures err { OnErr result (self.new ≡ self.old) }
         ensures fault { result ≢ Err SessionFault.Ended }
@@ -177,7 +180,8 @@ impl Session {
 
     fn call(&mut self, id: u32, request: Request, len: usize) -> Result<Next, SessionFault>
         requires len { len ≤ length self.old.unread }
-        ensures ok { OnOk result (self.new ≡ record self.old { unread = drop len self.old.unread; begun = true; waiting = Some id }) }
+        ensures ok { OnOk result (self.new
+            ≡ record self.old { unread = drop len self.old.unread; begun = true; waiting = Some id }) }
         ensures next { IfOk result (λ next. next ≡ Next.Call request) }
         ensures err { OnErr result (self.new ≡ self.old) }
         ensures fault { result ≢ Err SessionFault.Ended }
@@ -193,7 +197,8 @@ impl Session {
     /// Appends the reply of the request that the session waits for.
     pub fn answer(&mut self, answer: &Answer) -> Result<(), SessionFault>
         requires { IsSome self.old.waiting }
-        ensures ok { OnOk result (IfSome self.old.waiting (λ id. self.new ≡ record self.old { output = self.old.output ++ packet (reply_body id answer.now.reply); waiting = None })) }
+        ensures ok { OnOk result (IfSome self.old.waiting (λ id. self.new
+            ≡ record self.old { output = self.old.output ++ packet (reply_body id answer.now.reply); waiting = None })) }
         ensures err { OnErr result (self.new ≡ self.old) }
         ensures fault { result ≢ Err SessionFault.Ended }
     {
@@ -211,7 +216,8 @@ impl Session {
     /// `Out of memory` for want of memory, else `Failure`. Room for it was reserved.
     pub fn refuse(&mut self, fault: CoreFault)
         requires { IsSome self.old.waiting }
-        ensures { IfSome self.old.waiting (λ id. self.new ≡ record self.old { output = self.old.output ++ packet (reply_body id (refusal_of fault)); waiting = None }) }
+        ensures { IfSome self.old.waiting (λ id. self.new
+            ≡ record self.old { output = self.old.output ++ packet (reply_body id (refusal_of fault)); waiting = None }) }
     {
         if let Some(id) = self.waiting {
             if write_reply(id, &refusal(fault), &mut self.output).is_err() {

@@ -1,5 +1,5 @@
 -- What a call does to the store.
-use Rattle.std.specs.Prelude.{◌≡◌, ℕ, zero, suc, ◌<◌, ◌≤◌, ◌⊎◌, Bool, true, false, not, ◌&&◌, is_some, Option, Some, None, Ok, Err}
+use Rattle.std.specs.Prelude.{◌≡◌, ℕ, zero, suc, ◌<◌, ◌≤◌, Bool, true, false, not, ◌&&◌, is_some, Option, Some, None, Ok, Err}
 use Rattle.std.specs.declared.result.Result.{Result}
 use Rattle.sf_reply.specs.declared.reply.Reply.{Reply}
 use Rattle.sf_reply.specs.declared.reply.Reply.TheVariants as reply
@@ -105,7 +105,3 @@ takes_memory other = wants_room (wanted_by other)
 -- want of memory may be told in place of this reply to the request
 abbrev pub may_want_memory : Request → Reply → Bool
 may_want_memory request told = takes_memory request && is_success told
-
--- what is read and changes nothing: the reply is the tree's, or want of memory is told in place of success
-abbrev pub ReadsOnce : Answer → Reply → Type 0
-ReadsOnce answer given = ((given ≡ reply.NoMemory) × (is_success answer.reply ≡ true)) ⊎ (given ≡ answer.reply)

@@ -9,7 +9,7 @@ ghost use Rattle.sf_call.specs.Handles.{opened};
 ghost use Rattle.sf_call.specs.Calls.{answer_to, read};
 ghost use Rattle.sf_keeps.specs.Keeps.{Keeps};
 ghost use Rattle.sf_walk.specs.Ways.{names_of, path_of, IsLocated};
-ghost use Rattle.sf_walk.specs.Served.{IsCarriedOut, IsRefused, IsAlike, LookedUp, LooksUp, NodesStay, IsUnused, ReadsOnce, is_success, takes_memory, may_want_memory};
+ghost use Rattle.sf_walk.specs.Served.{IsCarriedOut, IsRefused, IsAlike, LookedUp, LooksUp, NodesStay, IsUnused, is_success, takes_memory, may_want_memory};
 
 use crate::finding::{Located, locate};
 use crate::handle_calls::{close, read, set_stat_handle, stat_handle, write};
@@ -20,7 +20,7 @@ use sf_call::{Call, Request};
 use sf_inode::Store;
 use sf_path::Path;
 use sf_reply::{Reply, StatusCode};
-use std::alloc::{AllocError, Global};
+use std::alloc::AllocError;
 
 /// Answers a call whole, from the root on and without locks, whoever holds the nodes on its way. Its
 /// number is above 0, and no label and no handle of the tree. `NoMemory` changes nothing but the count
@@ -28,33 +28,17 @@ use std::alloc::{AllocError, Global};
 /// gives nor takes bytes or names.
 pub fn from_root(store: &mut Store, call: &Call) -> Reply
     ensures served { (t : Tree) → Keeps store.old t → IsUnused t call.now.number
-        → IsRefused store.old store.new t result ⊎ IsCarriedOut store.new t (answer_to t call.now.session call.now.number call.now.moment call.now.request) result }
-    ensures sure { (t : Tree) → Keeps store.old t → IsUnused t call.now.number → may_want_memory call.now.request (answer_to t call.now.session call.now.number call.now.moment call.now.request).reply ≡ false
+        → IsRefused store.old store.new t result
+        ⊎ IsCarriedOut store.new t (answer_to t call.now.session call.now.number call.now.moment call.now.request) result }
+    ensures sure { (t : Tree) → Keeps store.old t → IsUnused t call.now.number
+        → may_want_memory call.now.request (answer_to t call.now.session call.now.number call.now.moment call.now.request).reply ≡ false
         → IsCarriedOut store.new t (answer_to t call.now.session call.now.number call.now.moment call.now.request) result }
     ensures look_ups { LooksUp store.old store.new (names_of call.now.request) }
     ensures nodes { NodesStay call.now.number store.old store.new }
 {
-    if let Request::Read {
-        handle,
-        offset,
-        len,
-    } = &call.request
-    {
-        return read_once(store, call.session, *handle, *offset, *len);
-    }
     let located = find_way(store, &call.request);
     let (reply, _) = decide(store, call, located);
     reply
-}
-
-/// READ, whose bytes aren't copied.
-fn read_once(store: &Store, session: u64, number: u64, offset: u64, len: u32) -> Reply
-    ensures { (t : Tree) → Keeps store.now t → ReadsOnce (read offset len (opened t session number)) result }
-{
-    match read(store, session, number, offset, len) {
-        Ok(reply) => reply,
-        Err(_) => Reply::NoMemory,
-    }
 }
 
 /// The path that a request walks.
@@ -97,9 +81,11 @@ fn find_way(store: &mut Store, request: &Request) -> Located
 pub fn decide(store: &mut Store, call: &Call, located: Located) -> (Reply, Reply)
     requires { IsLocated store.old call.now.request located }
     ensures served { (t : Tree) → Keeps store.old t → IsUnused t call.now.number
-        → IsRefused store.old store.new t result.0 ⊎ IsCarriedOut store.new t (answer_to t call.now.session call.now.number call.now.moment call.now.request) result.0 }
+        → IsRefused store.old store.new t result.0
+        ⊎ IsCarriedOut store.new t (answer_to t call.now.session call.now.number call.now.moment call.now.request) result.0 }
     ensures copy { result.1 ≡ result.0 }
-    ensures sure { (t : Tree) → Keeps store.old t → IsUnused t call.now.number → may_want_memory call.now.request (answer_to t call.now.session call.now.number call.now.moment call.now.request).reply ≡ false
+    ensures sure { (t : Tree) → Keeps store.old t → IsUnused t call.now.number
+        → may_want_memory call.now.request (answer_to t call.now.session call.now.number call.now.moment call.now.request).reply ≡ false
         → IsCarriedOut store.new t (answer_to t call.now.session call.now.number call.now.moment call.now.request) result.0 }
     ensures look_ups { store.new.look_ups ≡ store.old.look_ups }
     ensures nodes { NodesStay call.now.number store.old store.new }
@@ -120,32 +106,31 @@ fn answer(store: &mut Store, call: &Call, located: Located) -> Result<(Reply, Re
         → IfOk result (λ replies. IsCarriedOut store.new t (answer_to t call.now.session call.now.number call.now.moment call.now.request) replies.0) }
     ensures copy { IfOk result (λ replies. replies.1 ≡ replies.0) }
     ensures sure { takes_memory call.now.request ≡ false → IsOk result }
-    ensures wants { (t : Tree) → Keeps store.old t → IsUnused t call.now.number → OnErr result (is_success (answer_to t call.now.session call.now.number call.now.moment call.now.request).reply ≡ true) }
+    ensures wants { (t : Tree) → Keeps store.old t → IsUnused t call.now.number
+        → OnErr result (is_success (answer_to t call.now.session call.now.number call.now.moment call.now.request).reply ≡ true) }
     ensures err { OnErr result (IsAlike store.old store.new) }
     ensures look_ups { store.new.look_ups ≡ store.old.look_ups }
     ensures nodes { NodesStay call.now.number store.old store.new }
 {
-    let (session, number, moment, alloc) = (call.session, call.number, call.moment, store.alloc());
+    let (session, number, moment) = (call.session, call.number, call.moment);
     match &call.request {
-        Request::Stat(_) => Ok(twice(alloc, stat(store, located))),
-        Request::SetStat(path, attrs) => {
-            twice_ok(alloc, set_stat(store, moment, path, attrs, located))
-        }
+        Request::Stat(_) => Ok(twice(stat(store, located))),
+        Request::SetStat(path, attrs) => { twice_ok(set_stat(store, moment, path, attrs, located)) }
         Request::Mkdir(path, attrs) => {
-            twice_ok(alloc, mkdir(store, number, moment, path, attrs, located))
+            twice_ok(mkdir(store, number, moment, path, attrs, located))
         }
-        Request::Rmdir(path) => Ok(twice(alloc, rmdir(store, moment, path, located))),
-        Request::Remove(path) => Ok(twice(alloc, remove(store, moment, path, located))),
-        Request::OpenDir(_) => twice_ok(alloc, open_directory(store, session, number, located)),
+        Request::Rmdir(path) => Ok(twice(rmdir(store, moment, path, located))),
+        Request::Remove(path) => Ok(twice(remove(store, moment, path, located))),
+        Request::OpenDir(_) => twice_ok(open_directory(store, session, number, located)),
         Request::Open(path, flags, attrs) => {
             let opened = open(store, session, number, moment, path, *flags, attrs, located);
-            twice_ok(alloc, opened)
+            twice_ok(opened)
         }
-        Request::Close(handle) => Ok(twice(alloc, close(store, session, *handle))),
-        Request::FStat(handle) => Ok(twice(alloc, stat_handle(store, session, *handle))),
+        Request::Close(handle) => Ok(twice(close(store, session, *handle))),
+        Request::FStat(handle) => Ok(twice(stat_handle(store, session, *handle))),
         Request::FSetStat(handle, attrs) => {
             let set = set_stat_handle(store, session, moment, *handle, attrs);
-            twice_ok(alloc, set)
+            twice_ok(set)
         }
         Request::Read {
             handle,
@@ -158,37 +143,37 @@ fn answer(store: &mut Store, call: &Call, located: Located) -> Result<(Reply, Re
             data,
         } => {
             let written = write(store, session, moment, *handle, *offset, data);
-            twice_ok(alloc, written)
+            twice_ok(written)
         }
         Request::ReadDir(handle) => read_directory(store, session, *handle),
         Request::Rename(_, _) | Request::PosixRename(_, _) => {
-            Ok(twice(alloc, Reply::Status(StatusCode::OpUnsupported)))
+            Ok(twice(Reply::Status(StatusCode::OpUnsupported)))
         }
     }
 }
 
-/// A reply of neither bytes nor names, twice. Takes no memory.
-fn twice(alloc: Global, reply: Reply) -> (Reply, Reply)
+/// A reply of neither bytes nor names, twice.
+fn twice(reply: Reply) -> (Reply, Reply)
     requires { IsPlain reply }
     ensures { result ≡ (reply, reply) }
 {
-    match reply.try_copy(alloc) {
+    match reply.share() {
         Ok(copy) => (reply, copy),
         Err(_) => unreachable!(),
     }
 }
 
-fn twice_ok(alloc: Global, reply: Result<Reply, AllocError>) -> Result<(Reply, Reply), AllocError>
+fn twice_ok(reply: Result<Reply, AllocError>) -> Result<(Reply, Reply), AllocError>
     requires { IfOk reply IsPlain }
     ensures { result ≡ result_map_both (λ r. (r, r)) (λ e. e) reply }
 {
     match reply {
-        Ok(reply) => Ok(twice(alloc, reply)),
+        Ok(reply) => Ok(twice(reply)),
         Err(error) => Err(error),
     }
 }
 
-/// READ, whose reply is copied while it is still the only one.
+/// READ, whose bytes are shared by both replies.
 fn read_twice(
     store: &Store,
     session: u64,
@@ -196,11 +181,13 @@ fn read_twice(
     offset: u64,
     len: u32,
 ) -> Result<(Reply, Reply), AllocError>
-    ensures served { (t : Tree) → Keeps store.now t → IfOk result (λ replies. replies.0 ≡ (read offset len (opened t session number)).reply) }
-    ensures wants { (t : Tree) → Keeps store.now t → OnErr result (is_success (read offset len (opened t session number)).reply ≡ true) }
+    ensures served { (t : Tree) → Keeps store.now t
+        → IfOk result (λ replies. replies.0 ≡ (read offset len (opened t session number)).reply) }
+    ensures wants { (t : Tree) → Keeps store.now t
+        → OnErr result (is_success (read offset len (opened t session number)).reply ≡ true) }
     ensures copy { IfOk result (λ replies. replies.1 ≡ replies.0) }
 {
     let reply = read(store, session, number, offset, len)?;
-    let copy = reply.try_copy(store.alloc())?;
+    let copy = reply.share()?;
     Ok((reply, copy))
 }

@@ -24,7 +24,8 @@ use std::alloc::AllocError;
 
 /// CLOSE.
 pub(crate) fn close(store: &mut Store, session: u64, number: u64) -> Reply
-    ensures served { (t : Tree) → Keeps store.old t → IsCarriedOut store.new t (close number (handle_in t session number)) result }
+    ensures served { (t : Tree) → Keeps store.old t
+        → IsCarriedOut store.new t (close number (handle_in t session number)) result }
     ensures plain { IsPlain result }
     ensures look_ups { store.new.look_ups ≡ store.old.look_ups }
     ensures holders { HoldersStay store.old store.new }
@@ -41,7 +42,8 @@ pub(crate) fn close(store: &mut Store, session: u64, number: u64) -> Reply
 /// FSTAT.
 #[tactic(auto, using(sf_keeps::proofs::Laws::found_node))]
 pub(crate) fn stat_handle(store: &Store, session: u64, number: u64) -> Reply
-    ensures served { (t : Tree) → Keeps store.now t → result ≡ (stat_opened (opened t session number)).reply }
+    ensures served { (t : Tree) → Keeps store.now t
+        → result ≡ (stat_opened (opened t session number)).reply }
     ensures plain { IsPlain result }
 {
     match store.handle(session, number) {
@@ -61,7 +63,8 @@ pub(crate) fn set_stat_handle(
     number: u64,
     attrs: &Attrs,
 ) -> Result<Reply, AllocError>
-    ensures served { (t : Tree) → Keeps store.old t → Gives store.new t (set_opened moment attrs.now (opened t session number)) result }
+    ensures served { (t : Tree) → Keeps store.old t
+        → Gives store.new t (set_opened moment attrs.now (opened t session number)) result }
     ensures sure { is_some attrs.now.size ≡ false → IsOk result }
     ensures err { OnErr result (store.new ≡ store.old) }
     ensures plain { IfOk result IsPlain }
@@ -93,8 +96,10 @@ pub(crate) fn read(
     offset: u64,
     len: u32,
 ) -> Result<Reply, AllocError>
-    ensures told { (t : Tree) → Keeps store.now t → IfOk result (λ reply. reply ≡ (read offset len (opened t session number)).reply) }
-    ensures wants { (t : Tree) → Keeps store.now t → OnErr result (is_success (read offset len (opened t session number)).reply ≡ true) }
+    ensures told { (t : Tree) → Keeps store.now t
+        → IfOk result (λ reply. reply ≡ (read offset len (opened t session number)).reply) }
+    ensures wants { (t : Tree) → Keeps store.now t
+        → OnErr result (is_success (read offset len (opened t session number)).reply ≡ true) }
 {
     let Some(handle) = store.handle(session, number) else {
         return Ok(Reply::Status(StatusCode::Failure));
@@ -110,17 +115,23 @@ pub(crate) fn read(
     }
     let count = u64::from(len.min(MAX_READ)).min(size - offset);
     let bytes = bytes_at(store, handle.node, offset, count as usize)?;
-    Ok(Reply::Data(ByteString::from_vec(bytes)))
+    Ok(Reply::Data(bytes))
 }
 
 /// So many bytes of a file from an offset on.
-fn bytes_at(store: &Store, node: NodeId, offset: u64, count: usize) -> Result<Vec<u8>, AllocError>
+fn bytes_at(
+    store: &Store,
+    node: NodeId,
+    offset: u64,
+    count: usize,
+) -> Result<ByteString, AllocError>
     requires { offset + count ≤ length (stored_of store.now.nodes node).bytes }
-    ensures { IfOk result (λ bytes. bytes.items ≡ take count (drop offset (stored_of store.now.nodes node).bytes)) }
+    ensures { IfOk result (λ bytes. bytes
+        ≡ take count (drop offset (stored_of store.now.nodes node).bytes)) }
 {
     let mut bytes = vec![in store.alloc(); 0; count]?;
     store.read(node, offset, &mut bytes);
-    Ok(bytes)
+    ByteString::from_vec(bytes)
 }
 
 /// WRITE.
@@ -132,7 +143,8 @@ pub(crate) fn write(
     offset: u64,
     bytes: &ByteString,
 ) -> Result<Reply, AllocError>
-    ensures served { (t : Tree) → Keeps store.old t → Gives store.new t (write moment offset bytes.now (opened t session number)) result }
+    ensures served { (t : Tree) → Keeps store.old t
+        → Gives store.new t (write moment offset bytes.now (opened t session number)) result }
     ensures sure { is_nil bytes.now ≡ true → IsOk result }
     ensures err { OnErr result (store.new ≡ store.old) }
     ensures plain { IfOk result IsPlain }
@@ -177,7 +189,8 @@ fn put_bytes(
 ) -> Result<(), AllocError>
     requires fits { start + length bytes.now < 2 ^ 64 }
     requires file { is_file_at store.old.nodes node ≡ true }
-    ensures tree { (t : Tree) (label : ℕ) (m : Metadata) (contents : List ℕ) → Keeps store.old t → shown_of store.old.nodes node ≡ Some (label, File m contents)
+    ensures tree { (t : Tree) (label : ℕ) (m : Metadata) (contents : List ℕ) → Keeps store.old t
+        → shown_of store.old.nodes node ≡ Some (label, File m contents)
         → OnOk result (Keeps store.new (changed t (SetObject label (File (modified_at moment m) (written contents start bytes.now))))) }
     ensures err { OnErr result (store.new ≡ store.old) }
     ensures look_ups { store.new.look_ups ≡ store.old.look_ups }

@@ -23,8 +23,11 @@ pub(crate) fn read_directory(
     session: u64,
     number: u64,
 ) -> Result<(Reply, Reply), AllocError>
-    ensures served { (t : Tree) → Keeps store.old t → IfOk result (λ replies. IsCarriedOut store.new t (read_directory t number (opened t session number)) replies.0) }
-    ensures wants { (t : Tree) → Keeps store.old t → OnErr result (is_success (read_directory t number (opened t session number)).reply ≡ true) }
+    ensures served { (t : Tree) → Keeps store.old t
+        → IfOk result (λ replies. IsCarriedOut store.new t (read_directory t number (opened t session number)) replies.0) }
+    ensures wants { (t : Tree) → Keeps store.old t
+        → OnErr result (is_success (read_directory t number (opened t session number)).reply
+        ≡ true) }
     ensures copy { IfOk result (λ replies. replies.1 ≡ replies.0) }
     ensures err { OnErr result (store.new ≡ store.old) }
     ensures look_ups { store.new.look_ups ≡ store.old.look_ups }
@@ -49,15 +52,16 @@ pub(crate) fn read_directory(
             Reply::Status(StatusCode::EndOfFile),
         ));
     };
-    let entries = Reply::Names(Listing::from_vec(entries_of(store, &found)?));
-    let copy = entries.try_copy(store.alloc())?;
+    let entries = Reply::Names(entries_of(store, &found)?);
+    let copy = entries.share()?;
     store.listed(session, number, last)?;
     Ok((entries, copy))
 }
 
 /// The entries as they are listed. A name that leads to no node is left out.
-fn entries_of(store: &Store, found: &[(Name, NodeId)]) -> Result<Vec<Entry>, AllocError>
-    ensures { IfOk result (λ entries. entries.items ≡ filter_map (listed_entry store.now.nodes) found.now) }
+fn entries_of(store: &Store, found: &[(Name, NodeId)]) -> Result<Listing, AllocError>
+    ensures { IfOk result (λ listing. listing
+        ≡ filter_map (listed_entry store.now.nodes) found.now) }
 {
     let mut entries = Vec::new(store.alloc());
     'entries: for (name, node) in found {
@@ -65,7 +69,7 @@ fn entries_of(store: &Store, found: &[(Name, NodeId)]) -> Result<Vec<Entry>, All
             entries.push(entry_of(store.alloc(), name, attrs)?)?;
         }
     }
-    Ok(entries)
+    Listing::from_vec(entries)
 }
 
 /// A node as it is listed, with one link.
@@ -80,7 +84,7 @@ fn entry_of(alloc: Global, name: &Name, attrs: Attrs) -> Result<Entry, AllocErro
     let line = longname(alloc, &attrs, 1, name.as_slice())?;
     Ok(Entry {
         filename,
-        longname: ByteString::from_vec(line),
+        longname: ByteString::from_vec(line)?,
         attrs,
     })
 }

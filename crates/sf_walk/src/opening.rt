@@ -61,7 +61,8 @@ pub(crate) fn open_directory(
     number: u64,
     located: Located,
 ) -> Result<Reply, AllocError>
-    ensures served { (t : Tree) (path : Path) → Keeps store.old t → IsUnused t number → located ≡ way_from store.old.nodes store.old.root store.old.root path
+    ensures served { (t : Tree) (path : Path) → Keeps store.old t → IsUnused t number
+        → located ≡ way_from store.old.nodes store.old.root store.old.root path
         → Gives store.new t (open_directory t session number (found_at t path)) result }
     ensures err { OnErr result (IsAlike store.old store.new) }
     ensures plain { IfOk result IsPlain }
@@ -82,7 +83,9 @@ fn open_listing(
     number: u64,
     node: NodeId,
 ) -> Result<Reply, AllocError>
-    ensures served { (t : Tree) (it : Node) → Keeps store.old t → IsUnused t number → node_in store.old.nodes node ≡ Some it → Gives store.new t (open_directory t session number (found_node it)) result }
+    ensures served { (t : Tree) (it : Node) → Keeps store.old t → IsUnused t number
+        → node_in store.old.nodes node ≡ Some it
+        → Gives store.new t (open_directory t session number (found_node it)) result }
     ensures err { OnErr result (store.new ≡ store.old) }
     ensures plain { IfOk result IsPlain }
     ensures look_ups { store.new.look_ups ≡ store.old.look_ups }
@@ -110,7 +113,8 @@ pub(crate) fn open(
     located: Located,
 ) -> Result<Reply, AllocError>
     requires { located ≡ way_from store.old.nodes store.old.root store.old.root path.now }
-    ensures served { (t : Tree) → Keeps store.old t → IsUnused t number → Gives store.new t (unless_root path.now (open_file t session number moment path.now flags attrs.now (place_at t path.now))) result }
+    ensures served { (t : Tree) → Keeps store.old t → IsUnused t number
+        → Gives store.new t (unless_root path.now (open_file t session number moment path.now flags attrs.now (place_at t path.now))) result }
     ensures err { OnErr result (IsAlike store.old store.new) }
     ensures plain { IfOk result IsPlain }
     ensures look_ups { store.new.look_ups ≡ store.old.look_ups }
@@ -142,7 +146,9 @@ fn open_present(
     node: NodeId,
     flags: OpenFlags,
 ) -> Result<Reply, AllocError>
-    ensures served { (t : Tree) (it : Node) → Keeps store.old t → IsUnused t number → node_in store.old.nodes node ≡ Some it → Gives store.new t (open_present t session number moment flags (found_node it)) result }
+    ensures served { (t : Tree) (it : Node) → Keeps store.old t → IsUnused t number
+        → node_in store.old.nodes node ≡ Some it
+        → Gives store.new t (open_present t session number moment flags (found_node it)) result }
     ensures err { OnErr result (store.new ≡ store.old) }
     ensures plain { IfOk result IsPlain }
     ensures look_ups { store.new.look_ups ≡ store.old.look_ups }
@@ -163,9 +169,12 @@ fn open_present(
 
 /// Cuts a file at its start; it is modified at the moment.
 fn truncate(store: &mut Store, moment: u32, node: NodeId)
-    ensures tree { (t : Tree) (label : ℕ) (m : Metadata) (bytes : List ℕ) → Keeps store.old t → shown_of store.old.nodes node ≡ Some (label, File m bytes) → Keeps store.new (changed t (SetObject label (File (modified_at moment m) []))) }
+    ensures tree { (t : Tree) (label : ℕ) (m : Metadata) (bytes : List ℕ) → Keeps store.old t
+        → shown_of store.old.nodes node ≡ Some (label, File m bytes)
+        → Keeps store.new (changed t (SetObject label (File (modified_at moment m) []))) }
     ensures look_ups { store.new.look_ups ≡ store.old.look_ups }
-    ensures holders { (before : StoreState) → HoldersStay before store.old → HoldersStay before store.new }
+    ensures holders { (before : StoreState) → HoldersStay before store.old
+        → HoldersStay before store.new }
 {
     cut(store, node);
     store.touch(node, moment);
@@ -173,7 +182,8 @@ fn truncate(store: &mut Store, moment: u32, node: NodeId)
 
 /// Takes out a file's bytes, which takes no memory.
 fn cut(store: &mut Store, node: NodeId)
-    ensures { store.new ≡ stored_set store.old node (record (with_room (stored_of store.old.nodes node) 0 0) { bytes = [] }) }
+    ensures { store.new
+        ≡ stored_set store.old node (record (with_room (stored_of store.old.nodes node) 0 0) { bytes = [] }) }
 {
     match store.set_len(node, 0) {
         Ok(()) => {}
@@ -195,12 +205,15 @@ fn open_absent(
     requires named { 0 < length path.now }
     requires directory { is_directory_at store.old.nodes parent ≡ true }
     requires missing { entry_of store.old.nodes parent (last_of path.now) ≡ None }
-    ensures served { (t : Tree) (front : Path) → Keeps store.old t → IsUnused t number → path.now ≡ front ++ last_of path.now ∷ [] → walk (entry_of store.old.nodes) store.old.root front ≡ Some parent
+    ensures served { (t : Tree) (front : Path) → Keeps store.old t → IsUnused t number
+        → path.now ≡ front ++ last_of path.now ∷ []
+        → walk (entry_of store.old.nodes) store.old.root front ≡ Some parent
         → Gives store.new t (open_file t session number moment path.now flags attrs.now Absent) result }
     ensures err { OnErr result (IsAlike store.old store.new) }
     ensures plain { IfOk result IsPlain }
     ensures look_ups { store.new.look_ups ≡ store.old.look_ups }
-    ensures holders { (before : StoreState) → store.old.nodes ≡ before.nodes → NodesStay number before store.new }
+    ensures holders { (before : StoreState) → store.old.nodes ≡ before.nodes
+        → NodesStay number before store.new }
 {
     if !flags.create {
         return Ok(Reply::Status(StatusCode::NoSuchFile));

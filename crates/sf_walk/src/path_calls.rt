@@ -26,7 +26,9 @@ use std::alloc::AllocError;
 
 /// STAT.
 pub(crate) fn stat(store: &Store, located: Located) -> Reply
-    ensures served { (t : Tree) (path : Path) → Keeps store.now t → located ≡ way_from store.now.nodes store.now.root store.now.root path → IsCarriedOut store.now t (stat (found_at t path)) result }
+    ensures served { (t : Tree) (path : Path) → Keeps store.now t
+        → located ≡ way_from store.now.nodes store.now.root store.now.root path
+        → IsCarriedOut store.now t (stat (found_at t path)) result }
     ensures plain { IsPlain result }
 {
     match located {
@@ -48,7 +50,8 @@ pub(crate) fn set_stat(
     located: Located,
 ) -> Result<Reply, AllocError>
     requires { located ≡ way_from store.old.nodes store.old.root store.old.root path.now }
-    ensures served { (t : Tree) → Keeps store.old t → Gives store.new t (unless_root path.now (set_stat moment attrs.now (found_at t path.now))) result }
+    ensures served { (t : Tree) → Keeps store.old t
+        → Gives store.new t (unless_root path.now (set_stat moment attrs.now (found_at t path.now))) result }
     ensures sure { is_some attrs.now.size ≡ false → IsOk result }
     ensures err { OnErr result (IsAlike store.old store.new) }
     ensures plain { IfOk result IsPlain }
@@ -73,7 +76,9 @@ pub(crate) fn set_node(
     node: NodeId,
     attrs: &Attrs,
 ) -> Result<Reply, AllocError>
-    ensures served { (t : Tree) (it : Node) → Keeps store.old t → node_in store.old.nodes node ≡ Some it → Gives store.new t (sets moment it.label attrs.now (object_in it.metadata it.content)) result }
+    ensures served { (t : Tree) (it : Node) → Keeps store.old t
+        → node_in store.old.nodes node ≡ Some it
+        → Gives store.new t (sets moment it.label attrs.now (object_in it.metadata it.content)) result }
     ensures sure { is_some attrs.now.size ≡ false → IsOk result }
     ensures err { OnErr result (store.new ≡ store.old) }
     ensures plain { IfOk result IsPlain }
@@ -107,7 +112,8 @@ pub(crate) fn mkdir(
     located: Located,
 ) -> Result<Reply, AllocError>
     requires { located ≡ way_from store.old.nodes store.old.root store.old.root path.now }
-    ensures served { (t : Tree) → Keeps store.old t → IsUnused t number → Gives store.new t (unless_root path.now (make_directory t number moment path.now attrs.now (place_at t path.now))) result }
+    ensures served { (t : Tree) → Keeps store.old t → IsUnused t number
+        → Gives store.new t (unless_root path.now (make_directory t number moment path.now attrs.now (place_at t path.now))) result }
     ensures err { OnErr result (IsAlike store.old store.new) }
     ensures plain { IfOk result IsPlain }
     ensures look_ups { store.new.look_ups ≡ store.old.look_ups }
@@ -150,7 +156,8 @@ pub(crate) fn insert_last(
 /// RMDIR.
 pub(crate) fn rmdir(store: &mut Store, moment: u32, path: &Path, located: Located) -> Reply
     requires { located ≡ way_from store.old.nodes store.old.root store.old.root path.now }
-    ensures served { (t : Tree) → Keeps store.old t → IsCarriedOut store.new t (unless_root path.now (remove_directory t moment path.now (found_at t path.now))) result }
+    ensures served { (t : Tree) → Keeps store.old t
+        → IsCarriedOut store.new t (unless_root path.now (remove_directory t moment path.now (found_at t path.now))) result }
     ensures plain { IsPlain result }
     ensures look_ups { store.new.look_ups ≡ store.old.look_ups }
     ensures holders { HoldersStay store.old store.new }
@@ -177,7 +184,8 @@ pub(crate) fn rmdir(store: &mut Store, moment: u32, path: &Path, located: Locate
 /// REMOVE.
 pub(crate) fn remove(store: &mut Store, moment: u32, path: &Path, located: Located) -> Reply
     requires { located ≡ way_from store.old.nodes store.old.root store.old.root path.now }
-    ensures served { (t : Tree) → Keeps store.old t → IsCarriedOut store.new t (unless_root path.now (remove_file t moment path.now (found_at t path.now))) result }
+    ensures served { (t : Tree) → Keeps store.old t
+        → IsCarriedOut store.new t (unless_root path.now (remove_file t moment path.now (found_at t path.now))) result }
     ensures plain { IsPlain result }
     ensures look_ups { store.new.look_ups ≡ store.old.look_ups }
     ensures holders { HoldersStay store.old store.new }
@@ -201,8 +209,11 @@ pub(crate) fn remove(store: &mut Store, moment: u32, path: &Path, located: Locat
 /// Takes the last name of a path out of its directory, which is modified at the moment.
 fn remove_last(store: &mut Store, moment: u32, dir: NodeId, path: &Path)
     requires { 0 < length path.now }
-    ensures state { store.new ≡ edited (with_metadata (modified_at moment)) (unlinked store.old dir (last_of path.now)) dir }
-    ensures served { (t : Tree) (node : ℕ) → Keeps store.old t → way_from store.old.nodes store.old.root store.old.root path.now ≡ At dir node → is_bare_at store.old.nodes node ≡ true
+    ensures state { store.new
+        ≡ edited (with_metadata (modified_at moment)) (unlinked store.old dir (last_of path.now)) dir }
+    ensures served { (t : Tree) (node : ℕ) → Keeps store.old t
+        → way_from store.old.nodes store.old.root store.old.root path.now ≡ At dir node
+        → is_bare_at store.old.nodes node ≡ true
         → IsCarriedOut store.new t (goes t moment path.now) (Status Success) }
 {
     store.unlink(dir, path.name(path.len() - 1));

@@ -46,7 +46,8 @@ pub fn advance(store: &mut Store, call: &Call) -> Walk
 /// Takes the root.
 fn first(store: &mut Store, number: u64, path: &Path) -> Walk
     requires { is_directory_at store.old.nodes store.old.root ≡ true }
-    ensures { (call : Call) → path_of call.request ≡ Some path.now → call.stage ≡ stage.Fresh → call.number ≡ number → Advances store.old store.new call result }
+    ensures { (call : Call) → path_of call.request ≡ Some path.now → call.stage ≡ stage.Fresh
+        → call.number ≡ number → Advances store.old store.new call result }
 {
     let root = store.root();
     if path.is_root() {
@@ -68,7 +69,9 @@ fn first(store: &mut Store, number: u64, path: &Path) -> Walk
 /// Goes one name further from a directory.
 fn onward(store: &mut Store, number: u64, path: &Path, walked: usize, node: NodeId) -> Walk
     requires { IsOnWay store.old path.now walked node }
-    ensures { (call : Call) → path_of call.request ≡ Some path.now → call.stage ≡ stage.At walked node → call.number ≡ number → Advances store.old store.new call result }
+    ensures { (call : Call) → path_of call.request ≡ Some path.now
+        → call.stage ≡ stage.At walked node → call.number ≡ number
+        → Advances store.old store.new call result }
 {
     let is_last = walked == path.len() - 1;
     let Some(child) = store.find(node, path.name(walked)) else {
@@ -102,7 +105,8 @@ fn onward(store: &mut Store, number: u64, path: &Path, walked: usize, node: Node
 
 /// The call that holds a node, if it is another one.
 fn other_holder(store: &Store, number: u64, node: NodeId) -> Option<u64>
-    ensures some { IfSome result (λ holder. (holder_of store.now.nodes node ≡ Some holder) × (number ≢ holder)) }
+    ensures some { IfSome result (λ holder. (holder_of store.now.nodes node ≡ Some holder)
+        × (number ≢ holder)) }
     ensures none { IfNone result (IsFree store.now number node) }
 {
     match store.holder(node) {

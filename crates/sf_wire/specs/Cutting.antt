@@ -1,6 +1,7 @@
 -- Cutting from left to right.
 use Rattle.std.specs.Prelude.{ℕ, ◌+◌, List, length, Option, Some, None, nat_lt, ◌==◌, if◌then◌else◌}
 use Rattle.std.specs.Int.{w32}
+use Rattle.sf_field.specs.Fields.{max_body}
 use Rattle.sf_wire.specs.declared.cutting.Cut.{Cut}
 use Rattle.sf_wire.specs.declared.cutting.Cut.TheVariants.{Whole, More, Bad}
 use Rattle.sf_wire.specs.declared.cutting.BadCut.TheVariants.{ZeroLength, TooLong}
@@ -11,7 +12,7 @@ abbrev pub cut_by : Option (ℕ × List ℕ) → Cut
 cut_by None = More
 cut_by (Some n) =
     if n.0 == 0 then Bad ZeroLength
-    else if nat_lt 262144 n.0 then Bad TooLong
+    else if nat_lt max_body n.0 then Bad TooLong
     else if nat_lt (length n.1) n.0 then More
     else Whole (4 + n.0)
 

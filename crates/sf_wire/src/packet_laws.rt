@@ -9,31 +9,37 @@ ghost use Rattle.sf_wire.specs.Streams.{CutsAfter, IsSpelled, Stays, GrowsTo};
 
 /// No packet begins another.
 pub fn one_packet()
-    ensures { (a b x y : List ℕ) → IsBody a → IsBody b → packet a ++ x ≡ packet b ++ y → (a ≡ b) × (x ≡ y) }
+    ensures { (a b x y : List ℕ) → IsBody a → IsBody b → packet a ++ x ≡ packet b ++ y → (a ≡ b)
+        × (x ≡ y) }
 {}
 
 /// Bytes are cut in exactly one way.
 pub fn one_cutting()
-    ensures exists { (bytes : List ℕ) → AreBytes bytes → (bodies : List (List ℕ)) × (end : End) × Cuts bytes bodies end }
-    ensures unique { (bytes : List ℕ) (bodies others : List (List ℕ)) (end other : End) → Cuts bytes bodies end → Cuts bytes others other
+    ensures exists { (bytes : List ℕ) → AreBytes bytes → (bodies : List (List ℕ)) × (end : End)
+        × Cuts bytes bodies end }
+    ensures unique { (bytes : List ℕ) (bodies others : List (List ℕ)) (end other : End)
+        → Cuts bytes bodies end → Cuts bytes others other
         → (bodies ≡ others) × (end ≡ other) }
 {}
 
 /// A cutting is a spelling of the stream.
 pub fn cut_is_spelled()
-    ensures { (bytes : List ℕ) (bodies : List (List ℕ)) (end : End) → Cuts bytes bodies end ↔ IsSpelled bytes bodies end }
+    ensures { (bytes : List ℕ) (bodies : List (List ℕ)) (end : End) → Cuts bytes bodies end
+        ↔ IsSpelled bytes bodies end }
 {}
 
 /// A stream is cut packet by packet, from its front.
 pub fn cut_by_packets()
     ensures { (bytes : List ℕ) (found : Cut) → IsCut bytes found
-        → (bodies : List (List ℕ)) (end : End) → Cuts bytes bodies end ↔ CutsAfter bytes found bodies end }
+        → (bodies : List (List ℕ)) (end : End) → Cuts bytes bodies end
+        ↔ CutsAfter bytes found bodies end }
 {}
 
 /// Packets that were taken from the front stand before the cutting of what is left.
 pub fn cut_after_packets()
     ensures there { (taken : List (List ℕ)) (left : List ℕ) → AllByRecursion IsBody taken
-        → (bodies : List (List ℕ)) (end : End) → Cuts left bodies end → Cuts (flat_map packet taken ++ left) (taken ++ bodies) end }
+        → (bodies : List (List ℕ)) (end : End) → Cuts left bodies end
+        → Cuts (flat_map packet taken ++ left) (taken ++ bodies) end }
     ensures back { (taken : List (List ℕ)) (left : List ℕ) → AllByRecursion IsBody taken
         → (all : List (List ℕ)) (end : End) → Cuts (flat_map packet taken ++ left) all end
         → (bodies : List (List ℕ)) × (all ≡ taken ++ bodies) × Cuts left bodies end }
@@ -42,6 +48,7 @@ pub fn cut_after_packets()
 /// What bytes that are added do to a cutting.
 pub fn cut_in_pieces()
     ensures stays { (bytes : List ℕ) (found : Cut) → IsCut bytes found → Stays bytes found }
-    ensures grows { (bytes more : List ℕ) (bodies others : List (List ℕ)) (end last : End) → Cuts bytes bodies end → GrowsTo end more others last
+    ensures grows { (bytes more : List ℕ) (bodies others : List (List ℕ)) (end last : End)
+        → Cuts bytes bodies end → GrowsTo end more others last
         → Cuts (bytes ++ more) (bodies ++ others) last }
 {}

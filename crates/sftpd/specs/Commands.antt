@@ -31,10 +31,10 @@ paths_len (command.Remove path) = length path.now
 paths_len (command.Rename old new) = length old.now + length new.now
 paths_len (command.PosixRename old new) = length old.now + length new.now
 
--- the paths of the command that is asked for have together fewer than 2^31 bytes
-abbrev pub HasShortPaths : Action → Type 0
-HasShortPaths action.Stdio = Unit {0}
-HasShortPaths (action.Client socket command) = paths_len command < 2 ^ 31
+-- one record is kept at least, or the paths of the command have together fewer than 2^31 bytes
+abbrev pub CanBeDone : Action → Type 0
+CanBeDone (action.Stdio keep) = 0 < keep
+CanBeDone (action.Client socket command) = paths_len command < 2 ^ 31
 
 -- the number, or 0 where the part wasn't sent
 abbrev pub or_zero : Option ℕ → ℕ

@@ -1,8 +1,13 @@
--- Exit statuses.
-use Rattle.std.specs.Prelude.{ℕ, Result, Ok, Err}
+-- Exit statuses, the lines of standard error, and how the session of `stdio` ends.
+use Rattle.std.specs.Prelude.{◌≡◌, ◌⊎◌, ℕ, List, [], ◌∷◌, ◌++◌, Result, Ok, Err, codes}
 use Rattle.sf_session.specs.declared.cause.Cause.{Cause}
 use Rattle.sf_session.specs.declared.cause.Cause.TheVariants.{NotInit, OldVersion, SecondInit, ZeroLength, TooLong, NoId, Closed}
+use Rattle.sf_session.specs.Causes.{words_of}
 use Rattle.sf_session.specs.declared.fault.ServeFault.{ServeFault}
+use Rattle.sf_session.specs.declared.fault.ServeFault.TheVariants as fault
+use Rattle.sf_engine.specs.Views.{EngineView}
+use Rattle.sf_engine.specs.Fits.{Fits}
+use Rattle.sf_serving.specs.Serving.{Scene, ServesLine, StopsEarly, IsServeFault}
 
 -- the end of the input is no fault
 abbrev pub status_of_cause : Cause → ℕ
@@ -17,3 +22,35 @@ status_of_cause NoId = 1
 abbrev pub status_of : Result Cause ServeFault → ℕ
 status_of (Ok cause) = status_of_cause cause
 status_of (Err fault) = 1
+
+-- the line of a session that ended early
+abbrev pub ending_line : Cause → List ℕ
+ending_line cause = codes "sftpd: session ended: " ++ (words_of cause ++ 10 ∷ [])
+
+abbrev pub line_of_cause : Cause → List ℕ
+line_of_cause Closed = []
+line_of_cause NotInit = ending_line NotInit
+line_of_cause OldVersion = ending_line OldVersion
+line_of_cause SecondInit = ending_line SecondInit
+line_of_cause ZeroLength = ending_line ZeroLength
+line_of_cause TooLong = ending_line TooLong
+line_of_cause NoId = ending_line NoId
+
+-- the line that the end of a session is told by: none at the end of the input
+abbrev pub line_of : Result Cause ServeFault → List ℕ
+line_of (Ok cause) = line_of_cause cause
+line_of (Err fault.OutOfMemory) = codes "sftpd: out of memory" ++ 10 ∷ []
+line_of (Err fault.Line) = codes "sftpd: stream" ++ 10 ∷ []
+line_of (Err fault.Sessions) = codes "sftpd: stream" ++ 10 ∷ []
+line_of (Err fault.Stranger) = codes "sftpd: stream" ++ 10 ∷ []
+line_of (Err fault.NumbersSpent) = codes "sftpd: stream" ++ 10 ∷ []
+
+-- serving a line on an engine came to this
+abbrev pub ComesTo : (start now : Scene) → (failed failed' : ℕ) → Result Cause ServeFault → Type 0
+ComesTo start now failed failed' (Ok cause) = ServesLine start now cause
+ComesTo start now failed failed' (Err fault) = StopsEarly start now fault × IsServeFault start.engine fault failed failed'
+
+-- No engine could be made, and nothing was read or written; or a line was served on a new one, and that came to this.
+abbrev pub SessionEnds : (start now : EngineView → Scene) → (failed failed' : ℕ) → Result Cause ServeFault → Type 0
+SessionEnds start now failed failed' outcome = ((outcome ≡ Err fault.OutOfMemory) × ((e : EngineView) → now e ≡ start e))
+    ⊎ ((first last : EngineView) × Fits first [] × ComesTo (start first) (now last) failed failed' outcome)

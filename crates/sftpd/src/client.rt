@@ -24,7 +24,8 @@ pub fn run_client<L: Line + Drop, O: Write, E: Write>(
     errors: &mut E,
 ) -> u8
     requires { paths_len command < 2 ^ 31 }
-    ensures done { result ≡ 0 → (printed : List ℕ) × IsDoneOver command.entry bytes.now printed (L.incoming line) (L.outgoing line)
+    ensures done { result ≡ 0 → (printed : List ℕ)
+        × IsDoneOver command.entry bytes.now printed (L.incoming line) (L.outgoing line)
         × Appends (O.contents output.old) (O.contents output.new) printed }
     ensures quiet { result ≡ 0 → Keeps (E.contents errors.old) (E.contents errors.new) }
     ensures status { (result ≡ 0) ⊎ (result ≡ 1) }
@@ -48,7 +49,8 @@ fn do_over<L: Line + Drop, O: Write>(
     output: &mut O,
 ) -> Result<(), ClientFault>
     requires { paths_len command < 2 ^ 31 }
-    ensures { OnOk result ((printed : List ℕ) × IsDoneOver command.entry bytes.now printed (L.incoming line) (L.outgoing line)
+    ensures { OnOk result ((printed : List ℕ)
+        × IsDoneOver command.entry bytes.now printed (L.incoming line) (L.outgoing line)
         × Appends (O.contents output.old) (O.contents output.new) printed) }
 {
     let mut client = Client::start(alloc, line)?;

@@ -31,7 +31,8 @@ impl<R: std::rt::Clock> Clock for SystemClock<'_, R> {
 /// stands before it, and 4294967295 where the seconds don't fit.
 pub(crate) fn moment(since_1970: Option<Duration>) -> u32
     ensures before { IfNone since_1970 (result ≡ 0) }
-    ensures after { IfSome since_1970 (λ duration. result ≡ min (as_nanos duration / 1000000000) (2 ^ 32 - 1)) }
+    ensures after { IfSome since_1970 (λ duration. result
+        ≡ min (as_nanos duration / 1000000000) (2 ^ 32 - 1)) }
 {
     let Some(since_1970) = since_1970 else {
         return 0;

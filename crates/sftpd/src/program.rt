@@ -1,24 +1,24 @@
 //! What the words of a command line ask for.
 
 ghost use Rattle.std.specs.Prelude.{◌<◌, ◌^◌, IfOk};
-ghost use Rattle.sftpd.specs.Commands.{paths_len, HasShortPaths};
+ghost use Rattle.sftpd.specs.Commands.{paths_len, CanBeDone};
 
 use crate::client::run_client;
 use crate::clock::SystemClock;
 use crate::command::ClientCommand;
 use crate::stdio::run_stdio;
-use clap::{Arg, ArgAction, ArgMatches, Command, Error, error};
+use clap::{Arg, ArgAction, ArgMatches, Command, Error, ValueParser, error};
 use sf_line::StreamLine;
 use std::alloc::{AllocError, Global};
 use std::env;
-use std::io::{ErrorKind, Input, Read};
+use std::io::{self, ErrorKind, Input, Read};
 use std::os::unix::net::UnixStream;
 
 /// What the program is to do.
 #[derive(Clone, Copy, Debug, PartialEq, Eq)]
 pub(crate) enum Action<'a> {
-    /// One session on standard input and output.
-    Stdio,
+    /// One session on standard input and output, whose engine keeps so many records.
+    Stdio(usize),
     /// One command on the server behind the Unix socket of this path.
     Client(&'a str, ClientCommand<'a>),
 }
@@ -42,6 +42,23 @@ impl From<AllocError> for Refused {
     fn from(error: AllocError) -> Refused {
         Refused::Words(Error::from(error))
     }
+}
+
+/// How many records of calls are kept where the words don't say, and at most.
+const KEEP: usize = 256;
+
+const MOST_KEPT: u64 = 1_000_000;
+
+/// The words of `sftpd stdio`.
+fn stdio_words<'a>(alloc: Global) -> Result<Command<'a>, AllocError> {
+    let keep = Arg::new(alloc, "keep")
+        .long("keep")
+        .value_name("N")
+        .value_parser(ValueParser::unsigned(1, MOST_KEPT))
+        .help("How many records of calls are kept: 1 to 1000000, by default 256");
+    Command::new(alloc, "stdio")
+        .about("Serves one session on standard input and output, to the end of the input")
+        .arg(keep)
 }
 
 /// The words of `sftpd client`.
@@ -71,26 +88,27 @@ fn client_words<'a>(alloc: Global) -> Result<Command<'a>, AllocError> {
 
 /// What the words ask for, the program's own name first. The text of an error is `clap`'s.
 pub(crate) fn read_words<'a>(alloc: Global, words: &'a [String]) -> Result<Action<'a>, Refused>
-    ensures { IfOk result HasShortPaths }
+    ensures { IfOk result CanBeDone }
 {
-    let stdio = Command::new(alloc, "stdio").about(
-        "Serves one session on standard input and output, to the end of the input",
-    );
     let program = Command::new(alloc, "sftpd")
         .about("An SFTP server, version 3, with its tree in memory")
         .subcommand_required(true)
-        .subcommand(stdio)?
+        .subcommand(stdio_words(alloc)?)?
         .subcommand(client_words(alloc)?)?;
     let matches = program.try_get_matches_from(words)?;
-    match matches.subcommand_matches("client") {
-        Some(found) => client_action(found),
-        None => Ok(Action::Stdio),
+    if let Some(found) = matches.subcommand_matches("client") {
+        return client_action(found);
     }
+    let keep = matches
+        .subcommand_matches("stdio")
+        .and_then(|found| found.get_one::<usize>("keep"))
+        .unwrap_or(KEEP);
+    Ok(Action::Stdio(keep.max(1)))
 }
 
 /// What the words after `client` ask for.
 fn client_action<'a>(matches: &ArgMatches<'a>) -> Result<Action<'a>, Refused>
-    ensures { IfOk result HasShortPaths }
+    ensures { IfOk result CanBeDone }
 {
     let socket = matches.get_str("socket").unwrap_or("");
     let name = matches.get_str("command").unwrap_or("");
@@ -112,7 +130,7 @@ pub(crate) fn run(rt: &HostRuntime) -> u8 {
         return refuse_words(rt, ErrorKind::OutOfMemory);
     };
     match read_words(alloc, &words) {
-        Ok(Action::Stdio) => stdio(rt),
+        Ok(Action::Stdio(keep)) => stdio(rt, keep),
         Ok(Action::Client(socket, command)) => client(rt, socket, command),
         Err(Refused::Words(error)) => refuse(rt, &error),
         Err(Refused::Usage) => usage(rt),
@@ -120,10 +138,13 @@ pub(crate) fn run(rt: &HostRuntime) -> u8 {
 }
 
 /// Serves the session on standard input and output.
-fn stdio(rt: &HostRuntime) -> u8 {
+fn stdio(rt: &HostRuntime, keep: usize) -> u8
+    requires { 0 < keep }
+{
     let mut line = StreamLine::new(rt.reader(), rt.stdout());
+    let mut errors = StreamLine::new(io::empty(), rt.stderr());
     let mut clock = SystemClock::new(rt);
-    run_stdio(rt.alloc(), &mut line, &mut clock, &mut rt.stderr())
+    run_stdio(rt.alloc(), keep, &mut line, &mut clock, &mut errors)
 }
 
 /// Does a command on the server behind a socket. All of standard input is read first where it is to

@@ -17,12 +17,12 @@ mod commands;
 fn is_told(rt: &impl Abort, alloc: Global, input: &[u8], status: u8, told: &[u8]) {
     let all = Pieces::new(usize::MAX, usize::MAX);
     let mut line = MemoryLine::new(alloc, input, all, all);
-    let mut errors = Vec::new(alloc);
+    let mut errors = MemoryLine::new(alloc, b"", all, all);
     assert_eq!(rt;
-        run_stdio(alloc, &mut line, &mut StillClock, &mut errors),
+        run_stdio(alloc, 1, &mut line, &mut StillClock, &mut errors),
         status
     );
-    assert_eq!(rt; errors.as_slice(), told);
+    assert_eq!(rt; errors.output(), told);
 }
 
 #[test]
@@ -91,14 +91,26 @@ fn is_refused(rt: &impl Abort, alloc: Global, words: &[&str], to_errors: bool) -
     Ok(())
 }
 
+/// Words that ask for a session on standard streams, with so many records kept.
+fn is_stdio(rt: &impl Abort, alloc: Global, words: &[&str], keep: usize) -> Result<(), Fail> {
+    match read_words(alloc, &texts(alloc, words)?) {
+        Ok(action) => assert_eq!(rt; action, Action::Stdio(keep)),
+        Err(_) => panic!(rt; "the words were refused"),
+    }
+    Ok(())
+}
+
 #[test]
 fn words(rt: HostRuntime) -> Result<(), Fail> {
     let alloc = rt.alloc();
-    let taken = texts(alloc, &["sftpd", "stdio"])?;
-    match read_words(alloc, &taken) {
-        Ok(action) => assert_eq!(rt; action, Action::Stdio),
-        Err(_) => panic!(rt; "the words were refused"),
+    is_stdio(&rt, alloc, &["sftpd", "stdio"], 256)?;
+    is_stdio(&rt, alloc, &["sftpd", "stdio", "--keep", "1"], 1)?;
+    let most = ["sftpd", "stdio", "--keep", "1000000"];
+    is_stdio(&rt, alloc, &most, 1000000)?;
+    for wrong in ["0", "1000001", "-1", "x", ""] {
+        is_refused(&rt, alloc, &["sftpd", "stdio", "--keep", wrong], true)?;
     }
+    is_refused(&rt, alloc, &["sftpd", "stdio", "--keep"], true)?;
     is_refused(&rt, alloc, &["sftpd", "--help"], false)?;
     is_refused(&rt, alloc, &["sftpd"], true)?;
     is_refused(&rt, alloc, &["sftpd", "serve"], true)?;

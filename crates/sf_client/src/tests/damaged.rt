@@ -15,7 +15,7 @@ fn no_version(rt: HostRuntime) {
 /// After these bytes a call by a path is refused as having no reply that was due, and the next call
 /// too.
 fn is_damaged(rt: &impl Abort, alloc: Global, replies: &[&str]) -> Result<(), Fail> {
-    let replies = hex_bytes(alloc, replies)?;
+    let replies = packets(alloc, replies)?;
     let input = after_version(alloc, &replies)?;
     let mut client = client(alloc, input.as_slice())?;
     assert_eq!(rt; client.stat(b"/f"), Err(ClientFault::Protocol));
@@ -47,7 +47,7 @@ const HANDLE: &str = "00000011 66 00000001 00000008 0000000000000001";
 /// After HANDLE and these bytes a listing is refused as having no reply that was due, and the next
 /// call too.
 fn is_no_listing(rt: &impl Abort, alloc: Global, reply: &str) -> Result<(), Fail> {
-    let replies = hex_bytes(alloc, &[HANDLE, reply])?;
+    let replies = packets(alloc, &[HANDLE, reply])?;
     let input = after_version(alloc, &replies)?;
     let mut client = client(alloc, input.as_slice())?;
     assert_eq!(rt; client.list(b"/").err(), Some(ClientFault::Protocol));
@@ -67,7 +67,7 @@ fn not_a_listing(rt: HostRuntime) -> Result<(), Fail> {
 fn is_no_piece(rt: &impl Abort, alloc: Global, len: usize) -> Result<(), Fail>
     requires { len < 100000 }
 {
-    let mut input = after_version(alloc, &hex_bytes(alloc, &[HANDLE])?)?;
+    let mut input = after_version(alloc, &packets(alloc, &[HANDLE])?)?;
     let data = vec![in alloc; 7u8; len]?;
     let data = string(alloc, data.as_slice())?;
     write_reply(2, &Reply::Data(data), &mut input)?;

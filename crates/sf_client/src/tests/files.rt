@@ -14,7 +14,7 @@ fn put(rt: HostRuntime) -> Result<(), Fail> {
     }
     let mut client = client(alloc, input.as_slice())?;
     client.put(b"/f", bytes.as_slice())?;
-    let mut sent = hex_bytes(
+    let mut sent = packets(
         alloc,
         &[
             INIT,
@@ -23,7 +23,7 @@ fn put(rt: HostRuntime) -> Result<(), Fail> {
         ],
     )?;
     sent.extend_from_slice(&bytes[..32768])?;
-    sent.extend_from_slice(&hex_bytes(
+    sent.extend_from_slice(&packets(
         alloc,
         &[
             "0000001e 06 00000003 00000008 0000000000000009 0000000000008000 00000001 07",
@@ -55,7 +55,7 @@ fn get(rt: HostRuntime) -> Result<(), Fail> {
     let refused = ClientFault::Status(StatusCode::PermissionDenied);
     assert_eq!(rt; client.get(b"/g").err(), Some(refused));
     client.rmdir(b"/a")?;
-    let sent = hex_bytes(
+    let sent = packets(
         alloc,
         &[
             INIT,
@@ -80,7 +80,7 @@ fn get(rt: HostRuntime) -> Result<(), Fail> {
 fn list(rt: HostRuntime) -> Result<(), Fail> {
     let alloc = rt.alloc();
     let name = "00000001 61 00000002 2d61 00000000";
-    let replies = hex_bytes(
+    let replies = packets(
         alloc,
         &[
             "00000011 66 00000001 00000008 0000000000000001",
@@ -101,7 +101,7 @@ fn list(rt: HostRuntime) -> Result<(), Fail> {
         assert_eq!(rt; entry.longname.as_slice(), b"-a".as_slice());
         assert_eq!(rt; entry.attrs, NO_ATTRS);
     }
-    let sent = hex_bytes(
+    let sent = packets(
         alloc,
         &[
             INIT,

@@ -16,7 +16,7 @@ fn bytes(alloc: Global, len: u32) -> Result<Vec<u8>, Fail> {
 fn put_and_get(rt: HostRuntime) -> Result<(), Fail> {
     let alloc = rt.alloc();
     let file = bytes(alloc, 70000)?;
-    let mut requests = hex_bytes(
+    let mut requests = packets(
         alloc,
         &[INIT, "00000013 03 00000001 00000002 2f66 0000001a 00000000"],
     )?;
@@ -34,10 +34,10 @@ fn put_and_get(rt: HostRuntime) -> Result<(), Fail> {
             file.get(65536..),
         ),
     ] {
-        requests.extend_from_slice(&hex_bytes(alloc, &[header])?)?;
+        requests.extend_from_slice(&packets(alloc, &[header])?)?;
         requests.extend_from_slice(piece.unwrap_or(&[]))?;
     }
-    requests.extend_from_slice(&hex_bytes(
+    requests.extend_from_slice(&packets(
         alloc,
         &[
             "00000011 04 00000005 00000008 0000000000000001",
@@ -62,7 +62,7 @@ fn put_and_get(rt: HostRuntime) -> Result<(), Fail> {
 #[test]
 fn empty_files(rt: HostRuntime) -> Result<(), Fail> {
     let alloc = rt.alloc();
-    let requests = hex_bytes(
+    let requests = packets(
         alloc,
         &[
             INIT,

@@ -57,7 +57,8 @@ impl PlainTree {
     /// CLOSE.
     pub(super) fn close(&mut self, session: u64, number: u64) -> Reply
         ensures reply { result ≡ (close number (handle_in self.old session number)).reply }
-        ensures tree { self.new ≡ done self.old (close number (handle_in self.old session number)).changes }
+        ensures tree { self.new
+            ≡ done self.old (close number (handle_in self.old session number)).changes }
     {
         if self.handle_in(session, number).is_none() {
             return Reply::Status(StatusCode::Failure);
@@ -89,8 +90,10 @@ impl PlainTree {
         number: u64,
         attrs: &Attrs,
     ) -> Result<Reply, AllocError>
-        ensures reply { IfOk result (λ reply. reply ≡ (set_opened moment attrs.now (opened self.old session number)).reply) }
-        ensures tree { OnOk result (self.new ≡ done self.old (set_opened moment attrs.now (opened self.old session number)).changes) }
+        ensures reply { IfOk result (λ reply. reply
+            ≡ (set_opened moment attrs.now (opened self.old session number)).reply) }
+        ensures tree { OnOk result (self.new
+            ≡ done self.old (set_opened moment attrs.now (opened self.old session number)).changes) }
         ensures err { OnErr result (self.new ≡ self.old) }
     {
         let Some(handle) = self.handle_in(session, number) else {
@@ -123,7 +126,8 @@ impl PlainTree {
         offset: u64,
         len: u32,
     ) -> Result<Reply, AllocError>
-        ensures { IfOk result (λ reply. reply ≡ (read offset len (opened self.now session number)).reply) }
+        ensures { IfOk result (λ reply. reply
+            ≡ (read offset len (opened self.now session number)).reply) }
     {
         let Some(handle) = self.handle_in(session, number) else {
             return Ok(Reply::Status(StatusCode::Failure));
@@ -153,8 +157,10 @@ impl PlainTree {
         offset: u64,
         bytes: &ByteString,
     ) -> Result<Reply, AllocError>
-        ensures reply { IfOk result (λ reply. reply ≡ (write moment offset bytes.now (opened self.old session number)).reply) }
-        ensures tree { OnOk result (self.new ≡ done self.old (write moment offset bytes.now (opened self.old session number)).changes) }
+        ensures reply { IfOk result (λ reply. reply
+            ≡ (write moment offset bytes.now (opened self.old session number)).reply) }
+        ensures tree { OnOk result (self.new
+            ≡ done self.old (write moment offset bytes.now (opened self.old session number)).changes) }
         ensures err { OnErr result (self.new ≡ self.old) }
     {
         let Some(handle) = self.handle_in(session, number) else {
@@ -178,6 +184,7 @@ impl PlainTree {
             return Ok(Reply::Status(StatusCode::Failure));
         }
         let after = written(self.alloc, contents, start as usize, bytes.as_slice())?;
+        let after = ByteString::from_vec(after)?;
         self.set_contents(label, moment, metadata, after);
         Ok(Reply::Status(StatusCode::Success))
     }

@@ -52,7 +52,7 @@ fn entry_of(alloc: Global, name: &Name, node: &Node) -> Result<Entry, AllocError
     let line = longname(alloc, &attrs, 1, name.as_slice())?;
     Ok(Entry {
         filename: ByteString::from_slice(alloc, name.as_slice())?,
-        longname: ByteString::from_vec(line),
+        longname: ByteString::from_vec(line)?,
         attrs,
     })
 }
@@ -92,7 +92,8 @@ impl PlainTree {
         path: &Path,
         label: u64,
     ) -> Result<Option<(Entry, Name)>, AllocError>
-        ensures entry { IfOk result (λ found. option_map (λ f. f.0) found ≡ listed_entry self.now directory.now last.now (path.now, label)) }
+        ensures entry { IfOk result (λ found. option_map (λ f. f.0) found
+            ≡ listed_entry self.now directory.now last.now (path.now, label)) }
         ensures name { IfOk result (λ found. IfSome found (λ f. f.1 ≡ f.0.filename)) }
     {
         let Some(name) = name_past(directory, last, path) else {
@@ -107,8 +108,10 @@ impl PlainTree {
 
     #[tactic(auto, using(crate::proofs::Pages::page_begins, crate::proofs::Pages::page_grows, crate::proofs::Pages::page_skips, crate::proofs::Pages::page_full, crate::proofs::Pages::page_ends, crate::proofs::Pages::last_full, crate::proofs::Pages::last_ends))]
     fn page(&self, directory: &Path, last: &Option<Name>) -> Result<Page, AllocError>
-        ensures entries { IfOk result (λ page. page.entries.items ≡ listing self.now last.now directory.now) }
-        ensures last { IfOk result (λ page. page.last ≡ last_name (listing self.now last.now directory.now)) }
+        ensures entries { IfOk result (λ page. page.entries.items
+            ≡ listing self.now last.now directory.now) }
+        ensures last { IfOk result (λ page. page.last
+            ≡ last_name (listing self.now last.now directory.now)) }
     {
         let mut page = Page {
             entries: Vec::new(self.alloc),
@@ -128,8 +131,10 @@ impl PlainTree {
 
     /// What comes next for a directory's handle.
     fn page_of(&self, handle: &Handle) -> Result<Page, AllocError>
-        ensures entries { IfOk result (λ page. page.entries.items ≡ listing_of self.now handle.now.listed (path_of self.now.names handle.now.label)) }
-        ensures last { IfOk result (λ page. page.last ≡ last_name (listing_of self.now handle.now.listed (path_of self.now.names handle.now.label))) }
+        ensures entries { IfOk result (λ page. page.entries.items
+            ≡ listing_of self.now handle.now.listed (path_of self.now.names handle.now.label)) }
+        ensures last { IfOk result (λ page. page.last
+            ≡ last_name (listing_of self.now handle.now.listed (path_of self.now.names handle.now.label))) }
     {
         match self.path_of(handle.label) {
             Some(directory) => self.page(directory, &handle.listed),
@@ -153,8 +158,10 @@ impl PlainTree {
     /// READDIR.
     #[tactic(auto, using(crate::proofs::Pages::lists_opened, crate::proofs::Pages::lists_none, crate::proofs::Pages::lists_some))]
     pub(super) fn read_directory(&mut self, session: u64, number: u64) -> Result<Reply, AllocError>
-        ensures reply { IfOk result (λ reply. reply ≡ (read_directory self.old number (opened self.old session number)).reply) }
-        ensures tree { OnOk result (self.new ≡ done self.old (read_directory self.old number (opened self.old session number)).changes) }
+        ensures reply { IfOk result (λ reply. reply
+            ≡ (read_directory self.old number (opened self.old session number)).reply) }
+        ensures tree { OnOk result (self.new
+            ≡ done self.old (read_directory self.old number (opened self.old session number)).changes) }
         ensures err { OnErr result (self.new ≡ self.old) }
     {
         let tree = &*self;
@@ -171,8 +178,9 @@ impl PlainTree {
         if entries.is_empty() {
             return Ok(Reply::Status(StatusCode::EndOfFile));
         }
+        let listing = Listing::from_vec(entries)?;
         let next = with_listed(handle, last);
         self.set_handle(number, next);
-        Ok(Reply::Names(Listing::from_vec(entries)))
+        Ok(Reply::Names(listing))
     }
 }

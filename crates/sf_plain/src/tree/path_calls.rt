@@ -56,7 +56,9 @@ fn cuts(flags: OpenFlags) -> bool
 /// Brings back what stood at a number before a handle was put there. What is there already takes no memory to replace.
 fn put_back(handles: &mut BTreeMap<u64, Handle>, number: u64, replaced: Option<Handle>)
     requires { is_some (get nat_cmp handles.old number) ≡ true }
-    ensures found { (q : ℕ) → get nat_cmp handles.new q ≡ cond (is_at (nat_cmp number) q) replaced (get nat_cmp handles.old q) }
+    ensures found { (q : ℕ)
+        → get nat_cmp handles.new q
+        ≡ cond (is_at (nat_cmp number) q) replaced (get nat_cmp handles.old q) }
     ensures ordered { IsOrdered nat_cmp handles.new }
 {
     match replaced {
@@ -91,8 +93,10 @@ impl PlainTree {
         path: &Path,
         attrs: &Attrs,
     ) -> Result<Reply, AllocError>
-        ensures reply { IfOk result (λ reply. reply ≡ (unless_root path.now (set_stat moment attrs.now (found_at self.old path.now))).reply) }
-        ensures tree { OnOk result (self.new ≡ done self.old (unless_root path.now (set_stat moment attrs.now (found_at self.old path.now))).changes) }
+        ensures reply { IfOk result (λ reply. reply
+            ≡ (unless_root path.now (set_stat moment attrs.now (found_at self.old path.now))).reply) }
+        ensures tree { OnOk result (self.new
+            ≡ done self.old (unless_root path.now (set_stat moment attrs.now (found_at self.old path.now))).changes) }
         ensures err { OnErr result (self.new ≡ self.old) }
     {
         if path.is_root() {
@@ -120,8 +124,10 @@ impl PlainTree {
         path: &Path,
         attrs: &Attrs,
     ) -> Result<Reply, AllocError>
-        ensures reply { IfOk result (λ reply. reply ≡ (unless_root path.now (make_directory self.old number moment path.now attrs.now (place_at self.old path.now))).reply) }
-        ensures tree { OnOk result (self.new ≡ done self.old (unless_root path.now (make_directory self.old number moment path.now attrs.now (place_at self.old path.now))).changes) }
+        ensures reply { IfOk result (λ reply. reply
+            ≡ (unless_root path.now (make_directory self.old number moment path.now attrs.now (place_at self.old path.now))).reply) }
+        ensures tree { OnOk result (self.new
+            ≡ done self.old (unless_root path.now (make_directory self.old number moment path.now attrs.now (place_at self.old path.now))).changes) }
         ensures err { OnErr result (self.new ≡ self.old) }
     {
         if path.is_root() {
@@ -143,7 +149,8 @@ impl PlainTree {
     /// Removes a path; its parent is modified at the moment.
     fn remove_path(&mut self, moment: u32, path: &Path) -> Result<Reply, AllocError>
         ensures reply { IfOk result (λ reply. reply ≡ (goes self.old moment path.now).reply) }
-        ensures tree { OnOk result (self.new ≡ done self.old (goes self.old moment path.now).changes) }
+        ensures tree { OnOk result (self.new
+            ≡ done self.old (goes self.old moment path.now).changes) }
         ensures err { OnErr result (self.new ≡ self.old) }
     {
         let parent = self.directory_at(&path.parent(self.alloc)?);
@@ -155,8 +162,10 @@ impl PlainTree {
     /// RMDIR.
     #[tactic(auto, using(crate::proofs::Calls::removes_directory))]
     pub(super) fn rmdir(&mut self, moment: u32, path: &Path) -> Result<Reply, AllocError>
-        ensures reply { IfOk result (λ reply. reply ≡ (unless_root path.now (remove_directory self.old moment path.now (found_at self.old path.now))).reply) }
-        ensures tree { OnOk result (self.new ≡ done self.old (unless_root path.now (remove_directory self.old moment path.now (found_at self.old path.now))).changes) }
+        ensures reply { IfOk result (λ reply. reply
+            ≡ (unless_root path.now (remove_directory self.old moment path.now (found_at self.old path.now))).reply) }
+        ensures tree { OnOk result (self.new
+            ≡ done self.old (unless_root path.now (remove_directory self.old moment path.now (found_at self.old path.now))).changes) }
         ensures err { OnErr result (self.new ≡ self.old) }
     {
         if path.is_root() {
@@ -177,8 +186,10 @@ impl PlainTree {
     /// REMOVE.
     #[tactic(auto, using(crate::proofs::Calls::removes_file))]
     pub(super) fn remove(&mut self, moment: u32, path: &Path) -> Result<Reply, AllocError>
-        ensures reply { IfOk result (λ reply. reply ≡ (unless_root path.now (remove_file self.old moment path.now (found_at self.old path.now))).reply) }
-        ensures tree { OnOk result (self.new ≡ done self.old (unless_root path.now (remove_file self.old moment path.now (found_at self.old path.now))).changes) }
+        ensures reply { IfOk result (λ reply. reply
+            ≡ (unless_root path.now (remove_file self.old moment path.now (found_at self.old path.now))).reply) }
+        ensures tree { OnOk result (self.new
+            ≡ done self.old (unless_root path.now (remove_file self.old moment path.now (found_at self.old path.now))).changes) }
         ensures err { OnErr result (self.new ≡ self.old) }
     {
         if path.is_root() {
@@ -224,8 +235,10 @@ impl PlainTree {
         number: u64,
         path: &Path,
     ) -> Result<Reply, AllocError>
-        ensures reply { IfOk result (λ reply. reply ≡ (open_directory self.old session number (found_at self.old path.now)).reply) }
-        ensures tree { OnOk result (self.new ≡ done self.old (open_directory self.old session number (found_at self.old path.now)).changes) }
+        ensures reply { IfOk result (λ reply. reply
+            ≡ (open_directory self.old session number (found_at self.old path.now)).reply) }
+        ensures tree { OnOk result (self.new
+            ≡ done self.old (open_directory self.old session number (found_at self.old path.now)).changes) }
         ensures err { OnErr result (self.new ≡ self.old) }
     {
         let Place::At(label) = self.place_at(path)? else {
@@ -251,8 +264,10 @@ impl PlainTree {
         label: u64,
         flags: OpenFlags,
     ) -> Result<Reply, AllocError>
-        ensures reply { IfOk result (λ reply. reply ≡ (open_present self.old session number moment flags (found_object label (object_of self.old.objects label))).reply) }
-        ensures tree { OnOk result (self.new ≡ done self.old (open_present self.old session number moment flags (found_object label (object_of self.old.objects label))).changes) }
+        ensures reply { IfOk result (λ reply. reply
+            ≡ (open_present self.old session number moment flags (found_object label (object_of self.old.objects label))).reply) }
+        ensures tree { OnOk result (self.new
+            ≡ done self.old (open_present self.old session number moment flags (found_object label (object_of self.old.objects label))).changes) }
         ensures err { OnErr result (self.new ≡ self.old) }
     {
         let Some(node) = self.objects.get(&label) else {
@@ -267,7 +282,7 @@ impl PlainTree {
         self.handles
             .insert(number, file_handle(session, label, flags))?;
         if cuts(flags) {
-            self.set_contents(label, moment, metadata, Vec::new(self.alloc));
+            self.set_contents(label, moment, metadata, ByteString::new());
         }
         Ok(Reply::Handle(number))
     }
@@ -282,8 +297,10 @@ impl PlainTree {
         flags: OpenFlags,
         attrs: &Attrs,
     ) -> Result<Reply, AllocError>
-        ensures reply { IfOk result (λ reply. reply ≡ (unless_root path.now (open_file self.old session number moment path.now flags attrs.now (place_at self.old path.now))).reply) }
-        ensures tree { OnOk result (self.new ≡ done self.old (unless_root path.now (open_file self.old session number moment path.now flags attrs.now (place_at self.old path.now))).changes) }
+        ensures reply { IfOk result (λ reply. reply
+            ≡ (unless_root path.now (open_file self.old session number moment path.now flags attrs.now (place_at self.old path.now))).reply) }
+        ensures tree { OnOk result (self.new
+            ≡ done self.old (unless_root path.now (open_file self.old session number moment path.now flags attrs.now (place_at self.old path.now))).changes) }
         ensures err { OnErr result (self.new ≡ self.old) }
     {
         if path.is_root() {
@@ -302,7 +319,7 @@ impl PlainTree {
             Place::Absent => {
                 let parent = self.directory_at(&path.parent(self.alloc)?);
                 let made = Metadata::new_object(0o644, moment, attrs);
-                let file = Node::file(made, ByteString::from_vec(Vec::new(self.alloc)));
+                let file = Node::file(made, ByteString::new());
                 self.add_opened(path, number, file, file_handle(session, number, flags))?;
                 self.touch(parent, moment);
                 Ok(Reply::Handle(number))
@@ -319,7 +336,8 @@ impl PlainTree {
         handle: Handle,
     ) -> Result<(), AllocError>
         requires { label_at self.old.names path.now ≡ None }
-        ensures ok { OnOk result (self.new ≡ changed (changed self.old (OpenHandle number handle)) (NewPath path.now number node)) }
+        ensures ok { OnOk result (self.new
+            ≡ changed (changed self.old (OpenHandle number handle)) (NewPath path.now number node)) }
         ensures err { OnErr result (self.new ≡ self.old) }
     {
         let replaced = self.handles.insert(number, handle)?;

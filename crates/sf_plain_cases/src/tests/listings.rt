@@ -16,7 +16,7 @@ fn numbered(number: u8) -> [u8; 4] {
 /// Lists the names of these numbers.
 fn lists(rt: &impl Abort, client: &mut Client, handle: u64, first: u8, last: u8) {
     let mut number = first;
-    for entry in client.names(rt, read_dir(handle)) {
+    for entry in client.names(rt, read_dir(handle)).as_slice() {
         assert!(rt; number <= last);
         let path = numbered(number);
         assert_eq!(rt; entry.filename.as_slice(), &path[1..]);

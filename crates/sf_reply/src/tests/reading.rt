@@ -74,7 +74,7 @@ fn handles_data_and_attributes(rt: HostRuntime) -> Result<(), Fail> {
         &rt,
         alloc,
         "67 00000003 00000002 0078",
-        "3 Data(ByteString { bytes: [0, 120] })",
+        r#"3 Data(ByteString { bytes: b"\0x" })"#,
     )?;
     is_read(
         &rt,
@@ -89,7 +89,7 @@ fn names(rt: HostRuntime) -> Result<(), Fail> {
     let alloc = rt.alloc();
     let attrs = "attrs: Attrs { size: None, owner: None, permissions: None, times: None }";
     let want = format!(in alloc;
-        "5 Names(Listing {{ entries: [Entry {{ filename: ByteString {{ bytes: [47] }}, longname: ByteString {{ bytes: [47, 47] }}, {attrs} }}, Entry {{ filename: ByteString {{ bytes: [97] }}, longname: ByteString {{ bytes: [] }}, {attrs} }}] }})"
+        r#"5 Names(Listing {{ entries: [Entry {{ filename: ByteString {{ bytes: b"/" }}, longname: ByteString {{ bytes: b"//" }}, {attrs} }}, Entry {{ filename: ByteString {{ bytes: b"a" }}, longname: ByteString {{ bytes: b"" }}, {attrs} }}] }})"#
     )?;
     is_read(
         &rt,

@@ -34,7 +34,7 @@ fn longest_data(rt: HostRuntime) -> Result<(), Fail> {
     let alloc = rt.alloc();
     let data = vec![in alloc; b'x'; 261120]?;
     let mut out = BytesMut::new(alloc);
-    write_reply(3, &Reply::Data(ByteString::from_vec(data)), &mut out)?;
+    write_reply(3, &Reply::Data(ByteString::from_vec(data)?), &mut out)?;
     let bytes = out.as_slice();
     assert_eq!(rt; bytes.len(), 261133);
     let Some((front, rest)) = bytes.split_at_checked(13) else {
@@ -49,8 +49,8 @@ fn longest_data(rt: HostRuntime) -> Result<(), Fail> {
 #[test]
 fn copies_of_handle_and_data(rt: HostRuntime) -> Result<(), Fail> {
     let alloc = rt.alloc();
-    assert!(rt; matches!(Reply::Handle(7).try_copy(alloc)?, Reply::Handle(7)));
-    match Reply::Data(string(alloc, "/a")?).try_copy(alloc)? {
+    assert!(rt; matches!(Reply::Handle(7).share()?, Reply::Handle(7)));
+    match Reply::Data(string(alloc, "/a")?).share()? {
         Reply::Data(bytes) => assert_eq!(rt; bytes.as_slice(), b"/a".as_slice()),
         _ => panic!(rt; "no DATA"),
     }

@@ -3,18 +3,21 @@ use super::*;
 #[test]
 fn copies_of_replies(rt: HostRuntime) -> Result<(), Fail> {
     let alloc = rt.alloc();
-    let status = Reply::Status(StatusCode::NoSuchFile).try_copy(alloc)?;
+    let status = Reply::Status(StatusCode::NoSuchFile).share()?;
     assert!(rt; matches!(status, Reply::Status(StatusCode::NoSuchFile)));
-    assert!(rt; matches!(Reply::NoMemory.try_copy(alloc)?, Reply::NoMemory));
-    match Reply::Attrs(DIRECTORY).try_copy(alloc)? {
+    assert!(rt; matches!(Reply::NoMemory.share()?, Reply::NoMemory));
+    match Reply::Attrs(DIRECTORY).share()? {
         Reply::Attrs(attrs) => assert_eq!(rt; attrs, DIRECTORY),
         _ => panic!(rt; "no ATTRS"),
     }
-    match Reply::Names(root_listing(alloc)?).try_copy(alloc)? {
+    match Reply::Names(root_listing(alloc)?).share()? {
         Reply::Names(listing) => {
             assert_eq!(rt; listing.as_slice().len(), 1);
-            let root = root_listing(alloc)?.into_vec();
-            assert!(rt; listing.into_vec() == root);
+            let mut twice = Vec::new(alloc);
+            listing.append_to(&mut twice)?;
+            root_listing(alloc)?.append_to(&mut twice)?;
+            assert_eq!(rt; twice.len(), 2);
+            assert!(rt; twice[0] == twice[1]);
         }
         _ => panic!(rt; "no NAME"),
     }

@@ -38,7 +38,7 @@ fn longest_data(rt: HostRuntime) -> Result<(), Fail> {
     let alloc = rt.alloc();
     let data = vec![in alloc; b'x'; 261120]?;
     let mut out = BytesMut::new(alloc);
-    write_reply(3, &Reply::Data(ByteString::from_vec(data)), &mut out)?;
+    write_reply(3, &Reply::Data(ByteString::from_vec(data)?), &mut out)?;
     assert_eq!(rt; cut(out.as_slice()), Cut::Whole(261133));
     Ok(())
 }

@@ -5,7 +5,7 @@ use Rattle.sf_reply.proofs.ReadingLoop.{after, one_more, none_more, all_read, fi
 use Rattle.sf_reply.proofs.reading.entries.Goals as goal
 
 pub returns-in_default : goal.returns-in_default
-returns-in_default c = c.from_vec.ensures ∙ c.new.ensures.items ∙ none_more c.args.count c.loop.counter c.loop.entries.items c.loop.rest.now _ c.loop-test.true c.in_default.ensures c.loop.invariant
+returns-in_default c = c.new.ensures.items ∙ none_more c.args.count c.loop.counter c.loop.entries.items c.loop.rest.now _ c.loop-test.true c.in_default.ensures c.loop.invariant
 
 pub loop-init : goal.loop-init
 loop-init c = let k : c.args.count - 0 ≡ c.args.count = omega arith in rw (c.new-entries.ensures.items, k) (first (entries_at c.args.count c.args.bytes.now))
@@ -20,4 +20,4 @@ loop-preserved c =
     one_more c.args.count c.loop.counter c.loop.entries.items _ entry c.loop.rest.now _ _ c.loop-test.true read c.in_ok-push.ensures.items c.loop.invariant
 
 pub returns : goal.returns
-returns c = c.from_vec-2.ensures ∙ all_read c.args.count c.loop.counter c.loop.entries.items c.loop.rest.now _ c.loop-test.false c.loop.invariant
+returns c = all_read c.args.count c.loop.counter c.loop.entries.items c.loop.rest.now _ c.loop-test.false c.loop.invariant

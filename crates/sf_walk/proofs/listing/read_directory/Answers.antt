@@ -31,8 +31,8 @@ returns-clause-served c = λ t h.
     (is_open c.args.store.now t c.args.session c.args.number c.in-Some.handle.now h c.in-Some.ensures)
     c.if-not-is_directory.ensures c.in_ok-found.found.items
     (c.in_ok-found.ensures.ok ∙ ap (λ (last : Option Name). take MAX_ENTRIES (entries_past last (entries_at c.args.store.now.nodes c.in-Some.handle.now.node))) c.as_ref.ensures.value)
-    c.listed.new.self c.in-Some-last.field-0.now.0 c.in-Some-last.field-0.now.1 c.from_vec.result
-    (ap last_of_list (sym c.deref.ensures.value) ∙ sym c.in-Some-last.ensures.value) (c.from_vec.ensures ∙ c.in_ok-entries_of.ensures ∙ ap (filter_map (listed_entry c.args.store.now.nodes)) c.deref-2.ensures.value) c.in_ok-listed.ensures.ok
+    c.listed.new.self c.in-Some-last.field-0.now.0 c.in-Some-last.field-0.now.1 c.in_ok-entries_of.field-0
+    (ap last_of_list (sym c.deref.ensures.value) ∙ sym c.in-Some-last.ensures.value) (c.in_ok-entries_of.ensures ∙ ap (filter_map (listed_entry c.args.store.now.nodes)) c.deref-2.ensures.value) c.in_ok-listed.ensures.ok
 
 pub returns-in_err-entries_of-clause-wants : goal.returns-in_err-entries_of-clause-wants
 returns-in_err-entries_of-clause-wants c = λ t h. on_err_any c.from_residual-in_err-entries_of.result _

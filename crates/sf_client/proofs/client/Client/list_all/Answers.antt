@@ -1,6 +1,5 @@
-use Rattle.std.proofs.Common.{List, ◌≡◌, ◌++◌, sym, ap, ◌∙◌}
-use Rattle.sf_reply.specs.declared.reply.Entry.{Entry}
-use Rattle.sf_client.proofs.Runs.{lists_none, list_more, list_end, list_fault, list_no_room, appended}
+use Rattle.std.proofs.Common.{◌≡◌, ◌++◌, sym, ◌∙◌}
+use Rattle.sf_client.proofs.Runs.{lists_none, list_more, list_end, list_fault, list_no_room, went_well}
 use Rattle.sf_client.proofs.client.Client.list_all.Goals as goal
 
 pub parts-init : goal.parts-init
@@ -14,8 +13,8 @@ returns-then-is_err g c =
 pub parts-preserved : goal.parts-preserved
 parts-preserved g c =
     let h = rw c.in-Ok-Some.field-0-is at c.in-Ok-Some.ensures.comes in
-    let items : c.append.new.self.items ≡ c.parts.entries.items ++ c.in-Ok-Some.part =
-    appended c.append.result _ _ _ (sym c.is_err.ensures.value ∙ c.if-is_err.false) c.append.ensures.items ∙ ap (λ (t : List Entry). c.parts.entries.items ++ t) c.into_vec.ensures in
+    let items : c.append_to.new.others.items ≡ c.parts.entries.items ++ c.in-Ok-Some.part =
+    went_well c.append_to.result (sym c.is_err.ensures.value ∙ c.if-is_err.false) c.append_to.ensures in
     list_more _ _ _ c.args.handle c.parts.entries.items c.in-Ok-Some.part _ c.parts.invariant items h
 
 pub returns-in-Ok-None : goal.returns-in-Ok-None

@@ -5,7 +5,7 @@ use Rattle.sf_reply.specs.declared.reply.Reply.TheVariants.{Status}
 use Rattle.sf_reply.specs.declared.reply.StatusCode.TheVariants.{Success}
 use Rattle.sf_client.specs.Exchanges.{Exchanged}
 use Rattle.sf_client.specs.Outcomes.{Comes, asked}
-use Rattle.sf_client.proofs.Runs.{writes_none, write_more, write_fault, write_end, not_empty}
+use Rattle.sf_client.proofs.Runs.{writes_none, write_more, write_fault, not_empty}
 use Rattle.sf_client.proofs.client.Client.write_pieces.Goals as goal
 
 pub loop-rest-init : goal.loop-rest-init

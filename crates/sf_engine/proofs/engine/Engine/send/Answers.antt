@@ -1,4 +1,4 @@
-use Rattle.std.proofs.Common.{◌≡◌, List, ℕ, Some, Err, IfOk, refl, arith, ap, sym, subst, inl, inr, slice_get, slice_set, length}
+use Rattle.std.proofs.Common.{◌≡◌, ℕ, Some, Err, refl, arith, ap, sym, subst, inl, inr, slice_get, slice_set, length}
 use Rattle.std.proofs.lemmas.Option.{slice_get_read}
 use Rattle.sf_engine.specs.declared.event.Event.TheVariants as event
 use Rattle.sf_engine.specs.declared.event.EngineFault.TheVariants as fault

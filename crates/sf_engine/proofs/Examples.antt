@@ -1,0 +1,192 @@
+-- What the example's trace tells.
+use Rattle.std.proofs.Common.{◌≡◌, ℕ, ◌<◌, ◌^◌, List, [], ◌∷◌, ◌++◌, true, false, refl, ap, sym, arith, inl, inr, Vec, Global}
+use Rattle.std.specs.Ordering.{nat_cmp}
+use Rattle.std.specs.List.Sorted.{IsStrictlySortedBy}
+use Rattle.sf_request.specs.declared.request.Asked.TheVariants.{Init, Request as Requested}
+use Rattle.sf_request.specs.declared.request.WireRequest.{WireRequest}
+use Rattle.sf_request.specs.declared.request.WireRequest.TheVariants as wire
+use Rattle.sf_request.specs.Requests.{Asks, RequestFits, request_body, init_body}
+use Rattle.sf_reply.specs.declared.reply.Reply.{Reply}
+use Rattle.sf_reply.specs.declared.reply.Reply.TheVariants as reply
+use Rattle.sf_reply.specs.declared.reply.StatusCode.TheVariants.{Success}
+use Rattle.sf_call.specs.declared.record.Record.{Record}
+use Rattle.sf_laws.specs.Examples.{no_attrs, all_attrs}
+use Rattle.sf_session.specs.declared.asking.Ask.TheVariants as ask
+use Rattle.sf_session.specs.Asking.{AsksFor}
+use Rattle.sf_core.specs.Progress.{bound_of}
+use Rattle.sf_engine.specs.Deciding.{AreSure}
+use Rattle.sf_engine.specs.Worlds.{Version, ByCall, transcript, Resting, UnderWay, Decided, Entry, Told, new_told, World, start, with_phase}
+use Rattle.sf_engine.specs.Traces.{Leads, Runs, Tells, IsSession, AnswersAtOnce, BeginsCall, CarriesOut, IsOthersCall}
+use Rattle.sf_engine.specs.Examples.{init_packet, mkdir_packet, stat_packet, mkdir, stat, made, found, example, version_packet, ok_packet, attrs_packet}
+
+abbrev pub SentRequests : Type 0
+SentRequests = (id : ℕ) (r : WireRequest) → id < 2 ^ 32 → RequestFits r → Asks (request_body id r) (Requested id r)
+
+abbrev mkdir_body : List ℕ
+mkdir_body = request_body 7 (wire.Mkdir (47 ∷ 97 ∷ []) no_attrs)
+
+abbrev stat_body : List ℕ
+stat_body = request_body 8 (wire.Stat (47 ∷ 97 ∷ []))
+
+abbrev ok : Reply
+ok = reply.Status Success
+
+abbrev shown : Reply
+shown = reply.Attrs (all_attrs 0 0 0 0o40755 100 100)
+
+abbrev two : Told → Told → List Record → ℕ → World
+two t u records begun = record { sessions = t ∷ u ∷ []; records = records; begun = begun }
+
+abbrev fed_with : List ℕ → Told
+fed_with bytes = record new_told { stream = bytes; unread = bytes }
+
+-- both sessions, step by step
+abbrev t1 : Told
+t1 = record (fed_with (init_packet ++ mkdir_packet)) { unread = mkdir_packet; bodies = init_body ∷ []; answers = Version ∷ [] }
+
+abbrev t2 : Told
+t2 = record t1 { unread = []; bodies = init_body ∷ mkdir_body ∷ []; phase = UnderWay 7 1 100 mkdir 0 }
+
+abbrev pub t3 : Told
+t3 = record t2 { answers = Version ∷ ByCall 7 1 mkdir ok ∷ []; phase = Resting }
+
+abbrev u1 : Told
+u1 = record (fed_with (init_packet ++ stat_packet)) { unread = stat_packet; bodies = init_body ∷ []; answers = Version ∷ [] }
+
+abbrev u2 : Told
+u2 = record u1 { unread = []; bodies = init_body ∷ stat_body ∷ []; phase = UnderWay 8 2 101 stat 0 }
+
+abbrev pub u3 : Told
+u3 = record u2 { answers = Version ∷ ByCall 8 2 stat shown ∷ []; phase = Resting }
+
+leads_on : (e : Entry) (entries : List Entry) (w mid w' : World) → Leads w e mid → Runs mid entries w' → Runs w (e ∷ entries) w'
+unfolding Runs
+leads_on e entries w mid w' leads runs = (mid, leads, runs)
+
+no_more : (w : World) → Runs w [] w
+unfolding Runs
+no_more w = refl
+
+moves_fit : 1 < bound_of mkdir
+unfolding bound_of
+moves_fit = omega arith
+
+moves_fit_too : 1 < bound_of stat
+unfolding bound_of
+moves_fit_too = omega arith
+
+none_rise : IsStrictlySortedBy nat_cmp []
+unfolding IsStrictlySortedBy
+none_rise = tt
+
+sure_made : AreSure [] (made ∷ [])
+unfolding AreSure
+sure_made = (λ e k. cc, tt)
+
+sure_found : AreSure (made ∷ []) (found ∷ [])
+unfolding AreSure
+sure_found = (λ e k. cc, tt)
+
+module _ (init : Asks init_body (Init 3)) (asks : SentRequests) (first second : Vec ℕ Global) (one : first.items ≡ init_packet ++ mkdir_packet) (other : second.items ≡ init_packet ++ stat_packet) where
+  mkdir_asks : AsksFor true mkdir_body (ask.Call 7 mkdir)
+  mkdir_asks = (Requested 7 (wire.Mkdir (47 ∷ 97 ∷ []) no_attrs), asks 7 (wire.Mkdir (47 ∷ 97 ∷ []) no_attrs) (omega arith) (omega arith, record { size = tt; owner = tt; permissions = tt; times = tt }), refl)
+
+  stat_asks : AsksFor true stat_body (ask.Call 8 stat)
+  stat_asks = (Requested 8 (wire.Stat (47 ∷ 97 ∷ [])), asks 8 (wire.Stat (47 ∷ 97 ∷ [])) (omega arith) (omega arith), refl)
+
+  version_asks : AsksFor false init_body ask.Version
+  version_asks = (Init 3, init, refl)
+
+  wrote_first : AnswersAtOnce (two (fed_with (init_packet ++ mkdir_packet)) (fed_with (init_packet ++ stat_packet)) [] 0) (fed_with (init_packet ++ mkdir_packet)) t1
+  wrote_first = record {
+    body = init_body;
+    rest = mkdir_packet;
+    answer = Version;
+    begins = record { is_body = record { some = omega arith; short = omega arith }; whole = refl };
+    asks = version_asks;
+    at_once = tt;
+    now = refl;
+  }
+
+  wrote_second : AnswersAtOnce (two t1 (fed_with (init_packet ++ stat_packet)) [] 0) (fed_with (init_packet ++ stat_packet)) u1
+  wrote_second = record {
+    body = init_body;
+    rest = stat_packet;
+    answer = Version;
+    begins = record { is_body = record { some = omega arith; short = omega arith }; whole = refl };
+    asks = version_asks;
+    at_once = tt;
+    now = refl;
+  }
+
+  mkdir_begins : BeginsCall (two t1 u1 [] 0) 100 t1 t2
+  mkdir_begins = record {
+    body = mkdir_body;
+    rest = [];
+    id = 7;
+    request = mkdir;
+    begins = record { is_body = record { some = omega arith; short = omega arith }; whole = refl };
+    asks = mkdir_asks;
+    room = omega arith;
+    now = refl;
+  }
+
+  stat_begins : BeginsCall (two t2 u1 [] 1) 101 u1 u2
+  stat_begins = record {
+    body = stat_body;
+    rest = [];
+    id = 8;
+    request = stat;
+    begins = record { is_body = record { some = omega arith; short = omega arith }; whole = refl };
+    asks = stat_asks;
+    room = omega arith;
+    now = refl;
+  }
+
+  holds : IsOthersCall (two (with_phase t2 (UnderWay 7 1 100 mkdir 1)) u2 [] 2) 2 1 1 100 mkdir
+  holds = record { other = λ e. absurd (omega (arith, e)); told = with_phase t2 (UnderWay 7 1 100 mkdir 1); is_session = (omega arith, refl); under_way = (refl, refl, refl) }
+
+  makes : CarriesOut (two (with_phase t2 (UnderWay 7 1 100 mkdir 1)) u2 [] 2) 1 1 made (made ∷ [])
+  makes = record { stopped = inl refl; helped = []; of_others = tt; rising = none_rise; records = refl; sure = sure_made }
+
+  shows : CarriesOut (two (with_phase t2 (Decided 7 1 mkdir ok)) (with_phase u2 (UnderWay 8 2 101 stat 1)) (made ∷ []) 2) 2 1 found (found ∷ [])
+  shows = record { stopped = inl refl; helped = []; of_others = tt; rising = none_rise; records = refl; sure = sure_found }
+
+  pub tells : Tells (example first second) (two t3 u3 (made ∷ found ∷ []) 2)
+  tells =
+      let f1 = fed_with (init_packet ++ mkdir_packet) in
+      let f2 = fed_with (init_packet ++ stat_packet) in
+      let one_more : World = record { sessions = new_told ∷ []; records = []; begun = 0 } in
+      let goes = with_phase t2 (UnderWay 7 1 100 mkdir 1) in
+      let done = with_phase t2 (Decided 7 1 mkdir ok) in
+      let moves = with_phase u2 (UnderWay 8 2 101 stat 1) in
+      let end = two t3 u3 (made ∷ found ∷ []) 2 in
+      leads_on _ _ start one_more end (refl, (omega arith, omega arith), refl, refl)
+      (leads_on _ _ one_more (two new_told new_told [] 0) end (refl, (omega arith, omega arith), refl, refl)
+      (leads_on _ _ (two new_told new_told [] 0) (two f1 new_told [] 0) end (refl, refl, (new_told, (omega arith, refl), (refl, refl), ap (λ (z : List ℕ). two (fed_with z) new_told [] 0) (sym one)))
+      (leads_on _ _ (two f1 new_told [] 0) (two f1 f2 [] 0) end (refl, refl, (new_told, (omega arith, refl), (refl, refl), ap (λ (z : List ℕ). two f1 (fed_with z) [] 0) (sym other)))
+      (leads_on _ _ (two f1 f2 [] 0) (two t1 f2 [] 0) end (f1, t1, (omega arith, refl), (wrote_first, refl), refl)
+      (leads_on _ _ (two t1 f2 [] 0) (two t1 u1 [] 0) end (f2, u1, (omega arith, refl), (wrote_second, refl), refl)
+      (leads_on _ _ (two t1 u1 [] 0) (two t2 u1 [] 1) end (t1, t2, (omega arith, refl), (mkdir_begins, refl), refl)
+      (leads_on _ _ (two t2 u1 [] 1) (two t2 u2 [] 2) end (u1, u2, (omega arith, refl), (stat_begins, refl), refl)
+      (leads_on _ _ (two t2 u2 [] 2) (two goes u2 [] 2) end (t2, goes, (omega arith, refl), (moves_fit, refl, refl), refl)
+      (leads_on _ _ (two goes u2 [] 2) (two goes u2 [] 2) end (u2, u2, (omega arith, refl), ((1, 100, mkdir, holds), refl, refl), refl)
+      (leads_on _ _ (two goes u2 [] 2) (two done u2 (made ∷ []) 2) end (goes, done, (omega arith, refl), (ok, inr makes, refl), refl)
+      (leads_on _ _ (two done u2 (made ∷ []) 2) (two done moves (made ∷ []) 2) end (u2, moves, (omega arith, refl), (moves_fit_too, refl, refl), refl)
+      (leads_on _ _ (two done moves (made ∷ []) 2) (two done (with_phase u2 (Decided 8 2 stat shown)) (made ∷ found ∷ []) 2) end (moves, with_phase u2 (Decided 8 2 stat shown), (omega arith, refl), (shown, inr shows, refl), refl)
+      (leads_on _ _ (two done (with_phase u2 (Decided 8 2 stat shown)) (made ∷ found ∷ []) 2) (two done u3 (made ∷ found ∷ []) 2) end (with_phase u2 (Decided 8 2 stat shown), u3, (omega arith, refl), (refl, refl, refl), refl)
+      (leads_on _ _ (two done u3 (made ∷ found ∷ []) 2) end end (done, t3, (omega arith, refl), (refl, refl, refl), refl)
+      (no_more end)))))))))))))))
+
+pub first_output : transcript t3.answers ≡ version_packet ++ ok_packet
+unfolding transcript
+first_output = refl
+
+pub second_output : transcript u3.answers ≡ version_packet ++ attrs_packet
+unfolding transcript
+second_output = refl
+
+pub shown_by : SentRequests → Asks init_body (Init 3) → (first second : Vec ℕ Global) → first.items ≡ init_packet ++ mkdir_packet → second.items ≡ init_packet ++ stat_packet
+    → (w : World) × (t : Told) × (u : Told) × Tells (example first second) w × IsSession w 1 t × IsSession w 2 u × (transcript t.answers ≡ version_packet ++ ok_packet) × (transcript u.answers ≡ version_packet ++ attrs_packet)
+shown_by asks init first second one other =
+    (two t3 u3 (made ∷ found ∷ []) 2, t3, u3, tells init asks first second one other, (omega arith, refl), (omega arith, refl), first_output, second_output)

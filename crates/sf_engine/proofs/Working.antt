@@ -1,0 +1,136 @@
+-- The steps of a turn, and its work.
+use Rattle.std.proofs.Common.{◌≡◌, ℕ, List, [], ◌∷◌, ◌++◌, None, Bool, true, false, filter, cond, not, Ok, refl, ap, sym, ◌∙◌, subst, eq-eqb, arith, inl, inr}
+use Rattle.std.specs.Prelude.{nat_eq}
+use Rattle.std.specs.List.{AllByRecursion}
+use Rattle.std.proofs.lemmas.Bool.{ne_eqb}
+use Rattle.sf_reply.specs.declared.reply.Reply.{Reply}
+use Rattle.sf_call.specs.declared.call.Call.{Call}
+use Rattle.sf_call.specs.declared.record.Record.{Record}
+use Rattle.sf_call.specs.declared.record.Record.TheVariants.{Did, Left}
+use Rattle.sf_session.specs.Sessions.{SessionView}
+use Rattle.sf_core.specs.Lanes.{LaneView}
+use Rattle.sf_core.specs.Cores.{CoreView}
+use Rattle.sf_core.specs.Progress.{did, names_of}
+use Rattle.sf_core.specs.Events.{Before, After, Decides, IsOfOther}
+use Rattle.sf_engine.specs.declared.seat.Place.{Place}
+use Rattle.sf_engine.specs.declared.seat.Place.TheVariants as place
+use Rattle.sf_engine.specs.declared.event.Event.TheVariants as event
+use Rattle.sf_engine.specs.declared.event.Happened.{Happened}
+use Rattle.sf_engine.specs.declared.event.Happened.TheVariants as happened
+use Rattle.sf_engine.specs.Worlds.{Phase, Resting, UnderWay, Decided as IsDecided, Gone}
+use Rattle.sf_engine.specs.Works.{Passage, is_of_other, names_helped, IsWork, IsStep}
+use Rattle.sf_engine.specs.Turns.{Part, NewPart, Seated, Reads, Settles, GoesOn, PlaceGives, CloseGives, before, after, seated}
+use Rattle.sf_engine.specs.Fits.{IsResting, IsGoing, IsAnswered, PlaceAgrees}
+
+-- from a core with its history to another
+abbrev pub passing : CoreView → List Record → List Record → CoreView → Passage
+passing v h added w = record { old = v; history = h; added = added; new = w }
+
+-- what is said of a turn
+pub record Works (s m : ℕ) (r : Happened) (p : Passage) : Type 0 where
+  pub step : IsStep (event.Turn s m) (Ok r) p
+  pub work : IsWork (event.Turn s m) p
+
+-- another's record is one of others, and its own isn't
+other_is : (v : CoreView) (s : ℕ) (r : Record) → IsOfOther v s r → is_of_other s r ≡ true
+other_is v s (Did number session moment request given) h = ap not (ne_eqb session s h.1)
+other_is v s (Left session) h = absurd h
+
+own_is : (s : ℕ) (c : Call) (given : Reply) → c.session ≡ s → is_of_other s (did c given) ≡ false
+own_is s c given e = ap (λ (k : ℕ). not (nat_eq k s)) e ∙ ap not (eq-eqb s s refl)
+
+others_kept : (v : CoreView) (s : ℕ) (helped : List Record) (own : Record) → AllByRecursion (IsOfOther v s) helped → is_of_other s own ≡ false → filter (is_of_other s) (helped ++ own ∷ []) ≡ helped
+others_kept v s [] own h e = ap (λ (b : Bool). cond b (own ∷ []) []) e
+others_kept v s (r ∷ rs) own h e =
+    ap (λ (b : Bool). cond b (r ∷ filter (is_of_other s) (rs ++ own ∷ [])) (filter (is_of_other s) (rs ++ own ∷ []))) (other_is v s r h.0)
+    ∙ ap (λ (xs : List Record). r ∷ xs) (others_kept v s rs own h.1 e)
+
+-- how many names a step's helped calls have
+few_helped : (b : Before) (a : After) (c : Call) (given : Reply) (s : ℕ) → b.lane.session ≡ s → (d : Decides b a c given) → names_helped s a.added ≡ names_of d.helped
+few_helped b a c given s e d =
+    ap (λ (xs : List Record). names_of (filter (is_of_other s) xs)) d.records
+    ∙ ap (λ (xs : List Record). names_of xs) (others_kept b.core s d.helped (did c given) (subst (λ (k : ℕ). AllByRecursion (IsOfOther b.core k) d.helped) e d.of_others) (own_is s c given (d.own.session ∙ e)))
+
+-- look-ups that stay
+pub same_work : (s m : ℕ) (p : Passage) → p.new.look_ups ≡ p.old.look_ups → IsWork (event.Turn s m) p
+same_work s m p e = (omega (arith, e), omega (arith, e))
+
+step_works : (v : CoreView) (h : List Record) (s m : ℕ) (lane lane' : LaneView) (r : Happened) (a : NewPart) → lane.session ≡ s → GoesOn (before v h lane) r (after a.core a.added lane') a.place → Works s m r (passing v h a.added a.core)
+step_works v h s m lane lane' happened.Moved a e g = record {
+  step = (lane, lane', e, g.0);
+  work = (g.0.2.more, omega (arith, g.0.2.few));
+}
+step_works v h s m lane lane' (happened.Blocked holder) a e g = record {
+  step = (lane, lane', e, g.0);
+  work = (g.0.1.looks.more, omega (arith, g.0.1.looks.few));
+}
+step_works v h s m lane lane' happened.Decided a e g =
+    let c = g.1.0 in
+    let given = g.0.reply in
+    let b = before v h lane in
+    let n = after a.core a.added lane' in
+    record {
+      step = (lane, lane', e, (c, given, g.1.1));
+      work = elim g.1.1 [
+        | inl f ↦ same_work s m (passing v h a.added a.core) f.look_ups
+        | inr d ↦ (d.more, omega (arith, d.few, few_helped b n c given s e d))
+      ];
+    }
+step_works v h s m lane lane' (happened.Opened k) a e g = absurd g
+step_works v h s m lane lane' happened.Fed a e g = absurd g
+step_works v h s m lane lane' happened.Wrote a e g = absurd g
+step_works v h s m lane lane' happened.Begun a e g = absurd g
+step_works v h s m lane lane' happened.Idle a e g = absurd g
+step_works v h s m lane lane' (happened.Ended k) a e g = absurd g
+step_works v h s m lane lane' happened.Closed a e g = absurd g
+step_works v h s m lane lane' happened.Sent a e g = absurd g
+
+read_works : (v : CoreView) (h : List Record) (s m : ℕ) (b : Seated) (r : Happened) (a : NewPart) → b.lane.session ≡ s → b.core ≡ v → Reads b m r a → Works s m r (passing v h a.added a.core)
+read_works v h s m b happened.Idle a e i g = record { step = (b.lane, b.lane, e, tt); work = same_work s m (passing v h a.added a.core) (ap (λ (z : CoreView). z.look_ups) (g.1 ∙ i)) }
+read_works v h s m b happened.Wrote a e i g = record { step = (b.lane, b.lane, e, tt); work = same_work s m (passing v h a.added a.core) (ap (λ (z : CoreView). z.look_ups) (g.1 ∙ i)) }
+read_works v h s m b happened.Begun a e i g = record { step = (b.lane, b.lane, e, tt); work = same_work s m (passing v h a.added a.core) (g.2.look_ups ∙ ap (λ (z : CoreView). z.look_ups) i) }
+read_works v h s m b (happened.Ended cause) a e i g = record { step = (b.lane, b.lane, e, tt); work = same_work s m (passing v h a.added a.core) (g.1.look_ups ∙ ap (λ (z : CoreView). z.look_ups) i) }
+read_works v h s m b (happened.Opened k) a e i g = absurd g
+read_works v h s m b happened.Fed a e i g = absurd g
+read_works v h s m b happened.Moved a e i g = absurd g
+read_works v h s m b (happened.Blocked k) a e i g = absurd g
+read_works v h s m b happened.Decided a e i g = absurd g
+read_works v h s m b happened.Closed a e i g = absurd g
+read_works v h s m b happened.Sent a e i g = absurd g
+
+-- a session that rests or leaves after a reply makes no look-up
+pub settle_same : (b : Seated) (closed : Bool) (a : NewPart) → Settles b closed a → a.core.look_ups ≡ b.core.look_ups
+settle_same b false a g = ap (λ (z : CoreView). z.look_ups) g.0
+settle_same b true a g = g.0.look_ups
+
+pub turn_works : (b : Part) (p : Place) (s m : ℕ) (f : Phase) (r : Happened) (a : NewPart) → PlaceAgrees b.core s b.session f p → PlaceGives b p m r a → Works s m r (passing b.core b.history a.added a.core)
+turn_works b p s m Resting r a h g =
+    let at : IsResting b.core s b.session p = h in
+    read_works b.core b.history s m (seated b.core b.session at.lane) r a at.session refl (subst (λ (z : Place). PlaceGives b z m r a) at.place_is g)
+turn_works b p s m (UnderWay id n k q moves) r a h g =
+    let at : IsGoing b.core s b.session id n k q moves p = h in
+    let g' = subst (λ (z : Place). PlaceGives b z m r a) at.place_is g in
+    step_works b.core b.history s m at.lane g'.0.0 r a at.session g'.0.1
+turn_works b p s m (IsDecided id n q given) r a h g =
+    let at : IsAnswered b.core s b.session id given p = h in
+    let g' = subst (λ (z : Place). PlaceGives b z m r a) at.place_is g in
+    let P : Happened → Type 0 = λ z. Works s m z (passing b.core b.history a.added a.core) in
+    subst P (sym g'.0) (record {
+      step = (at.lane, at.lane, at.session, tt);
+      work = same_work s m (passing b.core b.history a.added a.core) (settle_same (seated b.core g'.1.0 at.lane) b.closed a g'.1.2);
+    })
+turn_works b p s m (Gone cause) r a h g =
+    let g' = subst (λ (z : Place). PlaceGives b z m r a) h.0 g in
+    let lane : LaneView = record { session = s; call = None; begun = 0 } in
+    let P : Happened → Type 0 = λ z. Works s m z (passing b.core b.history a.added a.core) in
+    subst P (sym g'.0) (record {
+      step = (lane, lane, refl, tt);
+      work = same_work s m (passing b.core b.history a.added a.core) (ap (λ (z : CoreView). z.look_ups) g'.1);
+    })
+
+-- closing makes no look-up
+pub close_same : (v : CoreView) (x : SessionView) (p : Place) (a : NewPart) (goes_on : Bool) → CloseGives v x p a goes_on → a.core.look_ups ≡ v.look_ups
+close_same v x (place.Resting lane) a goes_on g = settle_same (seated v x lane) true a g.0
+close_same v x (place.UnderWay lane) a goes_on g = ap (λ (z : CoreView). z.look_ups) g.0.0
+close_same v x (place.Answered lane given) a goes_on g = ap (λ (z : CoreView). z.look_ups) g.0.0
+close_same v x (place.Left cause) a goes_on g = ap (λ (z : CoreView). z.look_ups) g.0.0

@@ -1,0 +1,50 @@
+-- What an event does to the core, in the core's words: the steps of calls, and the work.
+use Rattle.std.specs.Prelude.{◌≡◌, ◌≤◌, ◌+◌, ◌⊎◌, ℕ, nat_eq, not, Bool, false, List, filter, Result, Ok}
+use Rattle.sf_reply.specs.declared.reply.Reply.{Reply}
+use Rattle.sf_call.specs.declared.call.Call.{Call}
+use Rattle.sf_call.specs.declared.record.Record.{Record}
+use Rattle.sf_call.specs.declared.record.Record.TheVariants.{Did, Left}
+use Rattle.sf_core.specs.Lanes.{LaneView}
+use Rattle.sf_core.specs.Cores.{CoreView}
+use Rattle.sf_core.specs.Progress.{names_of}
+use Rattle.sf_core.specs.Events.{Before, After, Goes, IsBlocked, Fetches, Decides}
+use Rattle.sf_engine.specs.declared.event.Event.{Event}
+use Rattle.sf_engine.specs.declared.event.Event.TheVariants as event
+use Rattle.sf_engine.specs.declared.event.Happened.{Happened}
+use Rattle.sf_engine.specs.declared.event.Happened.TheVariants as happened
+use Rattle.sf_engine.specs.declared.event.EngineFault.{EngineFault}
+
+-- a core with its history, and the core after an event, with the records that it added
+pub record Passage : Type 0 where
+  pub old : CoreView
+  pub history : List Record
+  pub added : List Record
+  pub new : CoreView
+
+-- how many names have the paths of the records that are of other sessions' calls
+abbrev pub is_of_other : ℕ → Record → Bool
+is_of_other s (Did number session moment request given) = not (nat_eq session s)
+is_of_other s (Left session) = false
+
+abbrev pub names_helped : ℕ → List Record → ℕ
+names_helped s added = names_of (filter (is_of_other s) added)
+
+-- By how much look-ups rise: by two at most for a turn, and by the names of the paths of other sessions' calls that it carried out.
+-- No other event makes any.
+abbrev pub IsWork : Event → Passage → Type 0
+IsWork (event.Turn s m) p = (p.old.look_ups ≤ p.new.look_ups) × (p.new.look_ups ≤ p.old.look_ups + (2 + names_helped s p.added))
+IsWork _ p = p.new.look_ups ≡ p.old.look_ups
+
+-- A step of a lane's call: it walks one name; or another call that looks further down holds what it wants; or its record was there; or
+-- it is carried out where its walk ends, behind those that it helps, in their order.
+abbrev pub StepsTo : Before → Happened → After → Type 0
+StepsTo b happened.Moved a = (c : Call) × (d : Call) × Goes b.core a.core b.lane c d
+StepsTo b (happened.Blocked holder) a = (c : Call) × IsBlocked b.core a.core b.lane c holder
+StepsTo b happened.Decided a = (c : Call) × (given : Reply) × (Fetches b a c given ⊎ Decides b a c given)
+StepsTo b _ a = Unit {0}
+
+-- a turn's step is one of the session's lane
+abbrev pub IsStep : Event → Result Happened EngineFault → Passage → Type 0
+IsStep (event.Turn s m) (Ok r) p = (lane : LaneView) × (lane' : LaneView) × (lane.session ≡ s)
+    × StepsTo (record { core = p.old; history = p.history; lane = lane }) r (record { core = p.new; added = p.added; lane = lane' })
+IsStep _ _ p = Unit {0}

@@ -1,0 +1,139 @@
+//! Sessions by events, at the moment 100, with what came of each event.
+
+use sf_cases::hex_bytes;
+use sf_engine::{Engine, EngineFault, Event, Happened};
+use sf_session::Cause;
+use std::alloc::Global;
+use std::process::Abort;
+use std::test::*;
+
+mod drawn;
+mod files;
+mod refusals;
+mod requests;
+mod sessions;
+
+const INIT: &str = "00000005 01 00000003";
+
+const VERSION: &str =
+    "00000026 02 00000003 00000018 706f7369782d72656e616d65406f70656e7373682e636f6d 00000001 31";
+
+/// STAT of `/a`, under the id 8, and the attributes of a directory that was made at the moment 100.
+const STAT_A: &str = "0000000b 11 00000008 00000002 2f61";
+
+const ATTRS_A: &str =
+    "00000025 69 00000008 0000000f 0000000000000000 00000000 00000000 000041ed 00000064 00000064";
+
+/// MKDIR of `/a`, under the id 7, and its reply.
+const MKDIR_A: &str = "0000000f 0e 00000007 00000002 2f61 00000000";
+
+const OK_7: &str = "00000018 65 00000007 00000000 00000007 53756363657373 00000000";
+
+/// By how many turns a packet is answered.
+#[derive(Clone, Copy)]
+enum Steps {
+    /// The turn that reads it writes its reply.
+    AtOnce,
+    /// A call begins, moves so often, decides, and its reply is written.
+    Call(u32),
+}
+
+/// The bytes of packets in hexadecimal, one after the other.
+fn packets(alloc: Global, texts: &[&str]) -> Result<Vec<u8>, Fail> {
+    let mut bytes = Vec::new(alloc);
+    for text in texts {
+        bytes.extend_from_slice(&hex_bytes(alloc, text)?)?;
+    }
+    Ok(bytes)
+}
+
+/// An event comes to this.
+fn comes_to(
+    rt: &impl Abort,
+    engine: &mut Engine,
+    event: Event,
+    want: Result<Happened, EngineFault>,
+) {
+    let outcome = engine.apply(&event);
+    assert!(rt; outcome == want, "{outcome:?} for {event:?}");
+}
+
+/// A turn of a session comes to this.
+fn turns(rt: &impl Abort, engine: &mut Engine, session: u64, want: Happened) {
+    comes_to(rt, engine, Event::Turn(session, 100), Ok(want));
+}
+
+/// A session opens, under this number.
+fn opens(rt: &impl Abort, engine: &mut Engine, session: u64) {
+    comes_to(rt, engine, Event::Open, Ok(Happened::Opened(session)));
+}
+
+/// A session is fed bytes.
+fn is_fed(rt: &impl Abort, engine: &mut Engine, session: u64, bytes: Vec<u8>) {
+    comes_to(rt, engine, Event::Feed(session, bytes), Ok(Happened::Fed));
+}
+
+/// A session is fed packets.
+fn feeds(
+    rt: &impl Abort,
+    alloc: Global,
+    engine: &mut Engine,
+    session: u64,
+    texts: &[&str],
+) -> Result<(), Fail> {
+    is_fed(rt, engine, session, packets(alloc, texts)?);
+    Ok(())
+}
+
+/// The next packet of a session is answered by these turns.
+fn is_answered(rt: &impl Abort, engine: &mut Engine, session: u64, by: Steps) {
+    if let Steps::Call(moves) = by {
+        turns(rt, engine, session, Happened::Begun);
+        for _ in 0..moves {
+            turns(rt, engine, session, Happened::Moved);
+        }
+        turns(rt, engine, session, Happened::Decided);
+    }
+    turns(rt, engine, session, Happened::Wrote);
+}
+
+/// The output of a session is these bytes.
+fn is_sent(rt: &impl Abort, engine: &Engine, session: u64, want: &[u8]) {
+    assert!(rt; engine.output(session) == Some(want));
+}
+
+/// A session opens on an engine of its own, and is fed these bytes at once. Its packets are answered so, and its output is this.
+fn is_served_whole(
+    rt: &impl Abort,
+    alloc: Global,
+    input: &[u8],
+    by: &[Steps],
+    want: &[u8],
+) -> Result<(), Fail> {
+    let mut engine = Engine::new(alloc)?;
+    opens(rt, &mut engine, 1);
+    is_fed(rt, &mut engine, 1, Vec::from_slice(alloc, input)?);
+    for turns in by {
+        is_answered(rt, &mut engine, 1, *turns);
+    }
+    turns(rt, &mut engine, 1, Happened::Idle);
+    is_sent(rt, &engine, 1, want);
+    Ok(())
+}
+
+/// The same of packets in hexadecimal, behind INIT.
+fn is_served(
+    rt: &impl Abort,
+    alloc: Global,
+    input: &[&str],
+    by: &[Steps],
+    want: &[&str],
+) -> Result<(), Fail> {
+    let mut bytes = hex_bytes(alloc, INIT)?;
+    bytes.extend_from_slice(&packets(alloc, input)?)?;
+    let mut all = vec![in alloc; Steps::AtOnce]?;
+    all.extend_from_slice(by)?;
+    let mut output = hex_bytes(alloc, VERSION)?;
+    output.extend_from_slice(&packets(alloc, want)?)?;
+    is_served_whole(rt, alloc, &bytes, &all, &output)
+}

@@ -1,0 +1,204 @@
+//! One session: files and listings. A call by handle, or on the root, makes no move; one on a name of the root makes one.
+
+use super::*;
+
+const OK_2: &str = "00000018 65 00000002 00000000 00000007 53756363657373 00000000";
+
+/// OPEN of `/f` to read and write, made where it is absent; its call is the first.
+const OPEN: &str = "00000013 03 00000001 00000002 2f66 0000000b 00000000";
+
+const OPENED: &str = "00000011 66 00000001 00000008 0000000000000001";
+
+/// Calls by these numbers of moves.
+fn calls(alloc: Global, moves: &[u32]) -> Result<Vec<Steps>, Fail> {
+    let calls = moves.iter().map(|n| Steps::Call(*n)).collect(alloc)?;
+    Ok(calls)
+}
+
+/// The calls of OPEN and WRITE are the first and the second, so that of OPENDIR is the fifth.
+#[test]
+fn write_read_and_list(rt: HostRuntime) -> Result<(), Fail> {
+    let alloc = rt.alloc();
+    is_served(
+        &rt,
+        alloc,
+        &[
+            OPEN,
+            "0000001e 06 00000002 00000008 0000000000000001 0000000000000005 00000001 78",
+            "0000001d 05 00000003 00000008 0000000000000001 0000000000000000 0003fc01",
+            "0000001d 05 00000004 00000008 0000000000000001 0000000000000006 00000001",
+            "0000000a 0b 00000003 00000001 2f",
+            "00000011 0c 00000004 00000008 0000000000000005",
+            "00000011 0c 00000005 00000008 0000000000000005",
+            "0000001d 0a 00000006 00000008 0000000000000001 00000001 0000000000000007",
+            "0000001d 0a 00000007 00000008 0000000000000001 00000001 0000000000000006",
+            "00000011 08 00000009 00000008 0000000000000001",
+            "0000000b 07 00000008 00000002 2f66",
+        ],
+        &calls(alloc, &[1, 0, 0, 0, 0, 0, 0, 0, 0, 0, 1])?,
+        &[
+            OPENED,
+            OK_2,
+            "0000000f 67 00000003 00000006 000000000078",
+            "0000001c 65 00000004 00000001 0000000b 456e64206f662066696c65 00000000",
+            "00000011 66 00000003 00000008 0000000000000005",
+            "0000006a 68 00000004 00000001 00000001 66 00000038",
+            "2d72772d722d2d722d2d20202031203020202020202020203020202020202020202020202020202036202020202020202020203130302066",
+            "0000000f 0000000000000006 00000000 00000000 000081a4 00000064 00000064",
+            "0000001c 65 00000005 00000001 0000000b 456e64206f662066696c65 00000000",
+            "00000018 65 00000006 00000000 00000007 53756363657373 00000000",
+            "00000018 65 00000007 00000000 00000007 53756363657373 00000000",
+            "00000025 69 00000009 0000000f 0000000000000006 00000000 00000000 000081a4 00000064 00000064",
+            "00000025 69 00000008 0000000f 0000000000000006 00000000 00000000 000081a4 00000064 00000064",
+        ],
+    )
+}
+
+#[test]
+fn size_limit(rt: HostRuntime) -> Result<(), Fail> {
+    let alloc = rt.alloc();
+    is_served(
+        &rt,
+        alloc,
+        &[
+            OPEN,
+            "0000001e 06 00000002 00000008 0000000000000001 0000000001000000 00000001 78",
+            "00000011 08 00000003 00000008 0000000000000001",
+            "0000001e 06 00000004 00000008 0000000000000001 0000000000ffffff 00000001 78",
+            "00000011 08 00000005 00000008 0000000000000001",
+        ],
+        &calls(alloc, &[1, 0, 0, 0, 0])?,
+        &[
+            OPENED,
+            "00000018 65 00000002 00000004 00000007 4661696c757265 00000000",
+            "00000025 69 00000003 0000000f 0000000000000000 00000000 00000000 000081a4 00000064 00000064",
+            "00000018 65 00000004 00000000 00000007 53756363657373 00000000",
+            "00000025 69 00000005 0000000f 0000000001000000 00000000 00000000 000081a4 00000064 00000064",
+        ],
+    )
+}
+
+#[test]
+fn unlinked_file_stays_readable(rt: HostRuntime) -> Result<(), Fail> {
+    let alloc = rt.alloc();
+    is_served(
+        &rt,
+        alloc,
+        &[
+            OPEN,
+            "00000020 06 00000002 00000008 0000000000000001 0000000000000000 00000003 616263",
+            "0000000b 0d 00000003 00000002 2f66",
+            "0000001d 05 00000004 00000008 0000000000000001 0000000000000000 00000010",
+            "00000011 04 00000005 00000008 0000000000000001",
+            "0000001d 05 00000007 00000008 0000000000000001 0000000000000000 00000010",
+            "0000000b 11 00000006 00000002 2f66",
+        ],
+        &calls(alloc, &[1, 0, 1, 0, 0, 0, 1])?,
+        &[
+            OPENED,
+            OK_2,
+            "00000018 65 00000003 00000000 00000007 53756363657373 00000000",
+            "0000000c 67 00000004 00000003 616263",
+            "00000018 65 00000005 00000000 00000007 53756363657373 00000000",
+            "00000018 65 00000007 00000004 00000007 4661696c757265 00000000",
+            "0000001d 65 00000006 00000002 0000000c 4e6f20737563682066696c65 00000000",
+        ],
+    )
+}
+
+/// The two digits of a file's number below 100.
+fn digits(n: u8) -> [u8; 2] {
+    [b'0' + n / 10, b'0' + n % 10]
+}
+
+/// Files `/n01` to `/n33` are made, by the calls 1 to 33.
+fn make_files(rt: &impl Abort, alloc: Global, engine: &mut Engine) -> Result<(), Fail> {
+    for n in 1..34_u8 {
+        let mut packet = hex_bytes(alloc, "00000015 03 00000009")?;
+        packet.extend_from_slice(b"\0\0\0\x04/n")?;
+        packet.extend_from_slice(&digits(n))?;
+        packet.extend_from_slice(&hex_bytes(alloc, "0000000b 00000000")?)?;
+        is_fed(rt, engine, 1, packet);
+        is_answered(rt, engine, 1, Steps::Call(1));
+    }
+    Ok(())
+}
+
+/// The entry that a listing gives of it.
+fn put_entry(alloc: Global, want: &mut Vec<u8>, n: u8) -> Result<(), Fail> {
+    want.extend_from_slice(b"\0\0\0\x03n")?;
+    want.extend_from_slice(&digits(n))?;
+    want.extend_from_slice(b"\0\0\0\x3a-rw-r--r--   1 0        0               0          100 n")?;
+    want.extend_from_slice(&digits(n))?;
+    let attrs = "0000000f 0000000000000000 00000000 00000000 000081a4 00000064 00000064";
+    want.extend_from_slice(&hex_bytes(alloc, attrs)?)?;
+    Ok(())
+}
+
+/// What is sent for a listing in two parts, between which the first name goes, and after which the last one goes.
+fn listed(alloc: Global) -> Result<Vec<u8>, Fail> {
+    let mut want = packets(
+        alloc,
+        &[
+            "00000011 66 00000022 00000008 0000000000000022",
+            "00000ca9 68 00000023 00000020",
+        ],
+    )?;
+    for n in 1..33 {
+        put_entry(alloc, &mut want, n)?;
+    }
+    let removed = "00000018 65 00000024 00000000 00000007 53756363657373 00000000";
+    want.extend_from_slice(&packets(alloc, &[removed, "0000006e 68 00000025 00000001"])?)?;
+    put_entry(alloc, &mut want, 33)?;
+    want.extend_from_slice(&packets(
+        alloc,
+        &[
+            "00000018 65 00000026 00000000 00000007 53756363657373 00000000",
+            "0000001c 65 00000027 00000001 0000000b 456e64206f662066696c65 00000000",
+        ],
+    )?)?;
+    Ok(want)
+}
+
+#[test]
+fn listing_survives_removals(rt: HostRuntime) -> Result<(), Fail> {
+    let alloc = rt.alloc();
+    let mut engine = Engine::new(alloc)?;
+    opens(&rt, &mut engine, 1);
+    feeds(&rt, alloc, &mut engine, 1, &[INIT])?;
+    turns(&rt, &mut engine, 1, Happened::Wrote);
+    make_files(&rt, alloc, &mut engine)?;
+    let before = output_len(&rt, &engine);
+    feeds(
+        &rt,
+        alloc,
+        &mut engine,
+        1,
+        &[
+            "0000000a 0b 00000022 00000001 2f",
+            "00000011 0c 00000023 00000008 0000000000000022",
+            "0000000d 0d 00000024 00000004 2f6e3031",
+            "00000011 0c 00000025 00000008 0000000000000022",
+            "0000000d 0d 00000026 00000004 2f6e3333",
+            "00000011 0c 00000027 00000008 0000000000000022",
+        ],
+    )?;
+    for moves in [0, 0, 1, 0, 1, 0] {
+        is_answered(&rt, &mut engine, 1, Steps::Call(moves));
+    }
+    turns(&rt, &mut engine, 1, Happened::Idle);
+    let want = listed(alloc)?;
+    match engine.output(1) {
+        Some(output) => assert!(&rt; output.get(before..) == Some(want.as_slice())),
+        None => panic!(&rt; "no output"),
+    }
+    Ok(())
+}
+
+/// How many bytes the first session was sent.
+fn output_len(rt: &impl Abort, engine: &Engine) -> usize {
+    match engine.output(1) {
+        Some(output) => output.len(),
+        None => panic!(rt; "no output"),
+    }
+}

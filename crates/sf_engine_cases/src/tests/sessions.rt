@@ -1,0 +1,136 @@
+//! Several sessions on one tree, closing, and the records that are kept.
+
+use super::*;
+use sf_call::Record;
+
+/// The second session waits for the root that the first one's call holds.
+#[test]
+fn two_sessions(rt: HostRuntime) -> Result<(), Fail> {
+    let alloc = rt.alloc();
+    let mut engine = Engine::new(alloc)?;
+    opens(&rt, &mut engine, 1);
+    opens(&rt, &mut engine, 2);
+    feeds(&rt, alloc, &mut engine, 1, &[INIT, MKDIR_A])?;
+    feeds(&rt, alloc, &mut engine, 2, &[INIT, STAT_A])?;
+    turns(&rt, &mut engine, 2, Happened::Wrote);
+    turns(&rt, &mut engine, 1, Happened::Wrote);
+    turns(&rt, &mut engine, 2, Happened::Begun);
+    turns(&rt, &mut engine, 1, Happened::Begun);
+    turns(&rt, &mut engine, 1, Happened::Moved);
+    turns(&rt, &mut engine, 2, Happened::Blocked(2));
+    turns(&rt, &mut engine, 1, Happened::Decided);
+    turns(&rt, &mut engine, 2, Happened::Moved);
+    turns(&rt, &mut engine, 2, Happened::Decided);
+    turns(&rt, &mut engine, 2, Happened::Wrote);
+    turns(&rt, &mut engine, 1, Happened::Wrote);
+    is_sent(&rt, &engine, 1, &packets(alloc, &[VERSION, OK_7])?);
+    is_sent(&rt, &engine, 2, &packets(alloc, &[VERSION, ATTRS_A])?);
+    assert_eq!(&rt; engine.core().calls(), 2);
+    Ok(())
+}
+
+/// The numbers of the records that an engine keeps, 0 where a session left, are these.
+fn records_are(rt: &impl Abort, engine: &Engine, want: &[u64]) {
+    let history = engine.core().history();
+    assert_eq!(rt; history.len(), want.len());
+    for (record, want) in history.iter().zip(want.iter()) {
+        let number = match record {
+            Record::Did { number, .. } => *number,
+            Record::Left { session: _ } => 0,
+        };
+        assert_eq!(rt; number, *want);
+    }
+}
+
+/// `/a` is there. The call of a session that is closed meanwhile is answered, and then the session leaves.
+#[test]
+fn close_under_way(rt: HostRuntime) -> Result<(), Fail> {
+    let alloc = rt.alloc();
+    let mut engine = Engine::new(alloc)?;
+    opens(&rt, &mut engine, 1);
+    let stat = "0000000d 11 00000006 00000004 2f612f66";
+    feeds(&rt, alloc, &mut engine, 1, &[INIT, MKDIR_A, stat, STAT_A])?;
+    turns(&rt, &mut engine, 1, Happened::Wrote);
+    is_answered(&rt, &mut engine, 1, Steps::Call(1));
+    turns(&rt, &mut engine, 1, Happened::Begun);
+    turns(&rt, &mut engine, 1, Happened::Moved);
+    turns(&rt, &mut engine, 1, Happened::Moved);
+    comes_to(&rt, &mut engine, Event::Close(1), Ok(Happened::Closed));
+    let late = Event::Feed(1, packets(alloc, &[STAT_A])?);
+    comes_to(&rt, &mut engine, late, Err(EngineFault::Ended));
+    turns(&rt, &mut engine, 1, Happened::Decided);
+    turns(&rt, &mut engine, 1, Happened::Wrote);
+    records_are(&rt, &engine, &[1, 2, 0]);
+    turns(&rt, &mut engine, 1, Happened::Ended(Cause::Closed));
+    comes_to(&rt, &mut engine, Event::Close(1), Ok(Happened::Closed));
+    let absent = "0000001d 65 00000006 00000002 0000000c 4e6f20737563682066696c65 00000000";
+    is_sent(&rt, &engine, 1, &packets(alloc, &[VERSION, OK_7, absent])?);
+    records_are(&rt, &engine, &[1, 2, 0]);
+    Ok(())
+}
+
+/// A session at rest leaves at once, though a packet is unread.
+#[test]
+fn close_at_rest(rt: HostRuntime) -> Result<(), Fail> {
+    let alloc = rt.alloc();
+    let mut engine = Engine::new(alloc)?;
+    opens(&rt, &mut engine, 1);
+    feeds(&rt, alloc, &mut engine, 1, &[INIT, STAT_A])?;
+    turns(&rt, &mut engine, 1, Happened::Wrote);
+    comes_to(&rt, &mut engine, Event::Close(1), Ok(Happened::Closed));
+    turns(&rt, &mut engine, 1, Happened::Ended(Cause::Closed));
+    is_sent(&rt, &engine, 1, &packets(alloc, &[VERSION])?);
+    records_are(&rt, &engine, &[0]);
+    Ok(())
+}
+
+/// Two records are kept of four calls.
+#[test]
+fn keep_of_two(rt: HostRuntime) -> Result<(), Fail> {
+    let alloc = rt.alloc();
+    let mut engine = Engine::with_keep(alloc, 2)?;
+    opens(&rt, &mut engine, 1);
+    feeds(
+        &rt,
+        alloc,
+        &mut engine,
+        1,
+        &[
+            INIT,
+            "0000000f 0e 00000001 00000002 2f61 00000000",
+            "0000000f 0e 00000002 00000002 2f62 00000000",
+            "0000000f 0e 00000003 00000002 2f63 00000000",
+            "0000000f 0e 00000004 00000002 2f64 00000000",
+        ],
+    )?;
+    turns(&rt, &mut engine, 1, Happened::Wrote);
+    for _ in 0..4 {
+        is_answered(&rt, &mut engine, 1, Steps::Call(1));
+    }
+    records_are(&rt, &engine, &[3, 4]);
+    assert_eq!(&rt; engine.core().folded(), 2);
+    assert_eq!(&rt; engine.core().calls(), 4);
+    Ok(())
+}
+
+/// What was sent is dropped from a session's output, and no more than there is.
+#[test]
+fn output_that_was_sent(rt: HostRuntime) -> Result<(), Fail> {
+    let alloc = rt.alloc();
+    let mut engine = Engine::new(alloc)?;
+    opens(&rt, &mut engine, 1);
+    feeds(&rt, alloc, &mut engine, 1, &[INIT, MKDIR_A])?;
+    turns(&rt, &mut engine, 1, Happened::Wrote);
+    comes_to(&rt, &mut engine, Event::Sent(1, 43), Err(EngineFault::NotSent));
+    comes_to(&rt, &mut engine, Event::Sent(1, 40), Ok(Happened::Sent));
+    is_sent(&rt, &engine, 1, b"\x01\x31");
+    is_answered(&rt, &mut engine, 1, Steps::Call(1));
+    comes_to(&rt, &mut engine, Event::Sent(1, 2), Ok(Happened::Sent));
+    is_sent(&rt, &engine, 1, &packets(alloc, &[OK_7])?);
+    comes_to(&rt, &mut engine, Event::Close(1), Ok(Happened::Closed));
+    comes_to(&rt, &mut engine, Event::Sent(1, 28), Ok(Happened::Sent));
+    is_sent(&rt, &engine, 1, &[]);
+    comes_to(&rt, &mut engine, Event::Sent(1, 0), Ok(Happened::Sent));
+    comes_to(&rt, &mut engine, Event::Sent(2, 0), Err(EngineFault::NoSuchSession));
+    Ok(())
+}

@@ -1,2 +1,0 @@
-pub mod Transcripts
-pub mod Serving
