@@ -1,8 +1,9 @@
 //! Sessions from bytes to bytes, at the moment 100, fed whole, byte by byte and cut at each place.
 
 use sf_cases::{RisingClock, StillClock, hex_bytes};
+use sf_engine::Engine;
 use sf_line::{Line, MemoryLine, Pieces};
-use sf_service::serve_one;
+use sf_serving::serve_one;
 use sf_session::{Cause, Clock, ServeFault};
 use std::alloc::Global;
 use std::process::Abort;
@@ -27,13 +28,14 @@ fn packets(alloc: Global, texts: &[&str]) -> Result<Vec<u8>, Fail> {
     Ok(bytes)
 }
 
-/// A session by this clock.
+/// A session by this clock, on an engine of its own that keeps the last 256 records.
 fn serve_at<L: Line, C: Clock>(
     alloc: Global,
     line: &mut L,
     clock: &mut C,
 ) -> Result<Cause, ServeFault> {
-    serve_one(alloc, line, clock)
+    let mut engine = Engine::with_keep(alloc, 256)?;
+    serve_one(alloc, &mut engine, line, clock)
 }
 
 /// A session at the moment 100.
