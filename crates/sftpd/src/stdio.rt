@@ -28,7 +28,7 @@ pub fn run_stdio<L: Line, C: Clock, E: Line>(
     requires { 0 < keep }
     ensures { (outcome : Result Cause ServeFault)
         × SessionEnds (scene (L.incoming line.old) (L.outgoing line.old) (L.calls line.old) (C.told clock.old))
-            (scene (L.incoming line.new) (L.outgoing line.new) (L.calls line.new) (C.told clock.new)) (L.failed line.old) (L.failed line.new) outcome
+        (scene (L.incoming line.new) (L.outgoing line.new) (L.calls line.new) (C.told clock.new)) (L.failed line.old) (L.failed line.new) outcome
         × (result ≡ status_of outcome)
         × (Appends (E.outgoing errors.old) (E.outgoing errors.new) (line_of outcome) ⊎ Rose (E.failed errors.old) (E.failed errors.new)) }
 {

@@ -23,7 +23,7 @@ fn schedule(alloc: Global) -> Result<Vec<Event>, AllocError> {
         Event::Open,
         Event::Open,
         Event::Feed(1, makes),
-        Event::Feed(2, looks)
+        Event::Feed(2, looks),
     ]?;
     for session in TURNS {
         events.push(Event::Turn(*session, 100))?;

@@ -3,7 +3,9 @@
 
 use super::*;
 use sf_call::{Record, Request};
-use sf_cases::requests::{close, mkdir, open, open_dir, read, read_dir, remove, rmdir, stat, write};
+use sf_cases::requests::{
+    close, mkdir, open, open_dir, read, read_dir, remove, rmdir, stat, write,
+};
 use sf_plain::PlainTree;
 use sf_reply::{Reply, read_reply};
 use sf_wire::{Cut, cut};
@@ -27,10 +29,12 @@ fn join(rt: &impl Abort, alloc: Global, engine: &mut Engine, session: u64) -> Re
 /// The handle that the latest record gives.
 fn latest_handle(engine: &Engine) -> Option<u64> {
     match engine.core().history().last() {
-        Some(Record::Did {
-            reply: Reply::Handle(number),
-            ..
-        }) => Some(*number),
+        Some(
+            Record::Did {
+                reply: Reply::Handle(number),
+                ..
+            },
+        ) => Some(*number),
         _ => None,
     }
 }
@@ -188,13 +192,28 @@ fn drawn_events(rt: HostRuntime) -> Result<(), Fail> {
         match draws.below(300) {
             0 => {
                 let session = client.close();
-                comes_to(&rt, &mut engine, Event::Close(session), Ok(Happened::Closed));
+                comes_to(
+                    &rt,
+                    &mut engine,
+                    Event::Close(session),
+                    Ok(Happened::Closed),
+                );
             }
-            1..=99 if !client.has_closed() => feed_piece(&rt, alloc, &mut engine, &mut draws, client)?,
+            1..=99 if !client.has_closed() => feed_piece(
+                &rt,
+                alloc,
+                &mut engine,
+                &mut draws,
+                client,
+            )?,
             _ => {
-                if let Some(Happened::Blocked(_)) =
-                    take_turn(&rt, &mut engine, &mut draws, client.session(), moment)
-                {
+                if let Some(Happened::Blocked(_)) = take_turn(
+                    &rt,
+                    &mut engine,
+                    &mut draws,
+                    client.session(),
+                    moment,
+                ) {
                     blocked = blocked.saturating_add(1);
                 }
             }

@@ -47,7 +47,13 @@ fn fed_after_closing(rt: HostRuntime) -> Result<(), Fail> {
     let alloc = rt.alloc();
     let mut engine = with_two_sessions(&rt, alloc)?;
     let bytes = packets(alloc, &[INIT])?;
-    is_refused(&rt, alloc, &mut engine, Event::Feed(2, bytes), EngineFault::Ended)
+    is_refused(
+        &rt,
+        alloc,
+        &mut engine,
+        Event::Feed(2, bytes),
+        EngineFault::Ended,
+    )
 }
 
 /// The 257th session at once is refused. A place is free again once a session has left.
@@ -75,7 +81,7 @@ fn refused_of_many(rt: HostRuntime) -> Result<(), Fail> {
         Event::Open,
         Event::Feed(1, bytes),
         Event::Turn(1, 100),
-        Event::Close(0)
+        Event::Close(0),
     ]?;
     assert_eq!(&rt; engine.run(&events), 2);
     is_sent(&rt, &engine, 1, &packets(alloc, &[VERSION])?);

@@ -121,7 +121,12 @@ fn output_that_was_sent(rt: HostRuntime) -> Result<(), Fail> {
     opens(&rt, &mut engine, 1);
     feeds(&rt, alloc, &mut engine, 1, &[INIT, MKDIR_A])?;
     turns(&rt, &mut engine, 1, Happened::Wrote);
-    comes_to(&rt, &mut engine, Event::Sent(1, 43), Err(EngineFault::NotSent));
+    comes_to(
+        &rt,
+        &mut engine,
+        Event::Sent(1, 43),
+        Err(EngineFault::NotSent),
+    );
     comes_to(&rt, &mut engine, Event::Sent(1, 40), Ok(Happened::Sent));
     is_sent(&rt, &engine, 1, b"\x01\x31");
     is_answered(&rt, &mut engine, 1, Steps::Call(1));
@@ -131,6 +136,11 @@ fn output_that_was_sent(rt: HostRuntime) -> Result<(), Fail> {
     comes_to(&rt, &mut engine, Event::Sent(1, 28), Ok(Happened::Sent));
     is_sent(&rt, &engine, 1, &[]);
     comes_to(&rt, &mut engine, Event::Sent(1, 0), Ok(Happened::Sent));
-    comes_to(&rt, &mut engine, Event::Sent(2, 0), Err(EngineFault::NoSuchSession));
+    comes_to(
+        &rt,
+        &mut engine,
+        Event::Sent(2, 0),
+        Err(EngineFault::NoSuchSession),
+    );
     Ok(())
 }

@@ -171,7 +171,9 @@ impl Client {
     fn send(&mut self, request: Request, kind: u8, fields: &Fields) -> Result<(), Fail> {
         self.asked.push(request)?;
         let id = u32::try_from(self.asked.len()).unwrap_or(0);
-        let len = u32::try_from(fields.bytes.len()).unwrap_or(0).saturating_add(5);
+        let len = u32::try_from(fields.bytes.len())
+            .unwrap_or(0)
+            .saturating_add(5);
         self.unsent.extend_from_slice(&len.to_be_bytes())?;
         self.unsent.push(kind)?;
         self.unsent.extend_from_slice(&id.to_be_bytes())?;
