@@ -12,6 +12,7 @@ pub mod Running
 pub mod Quiet
 pub mod Orders
 pub mod Reading
+pub mod Laws
 pub mod Beginning
 pub mod SentBytes
 pub mod OneWorld

@@ -5,15 +5,15 @@
 //! each session, `specs/Traces.antt` is the law of results (`Leads`: from which world an entry leads to
 //! which), and `specs/Fits.antt` says when an engine fits a trace: that is the main theorem, which `new`,
 //! `apply`, `run` and `output` carry. `specs/Works.antt` has the steps and the work of a turn, and
-//! `laws.rt` what every lawful trace tells. One session's turns are in `seat.rt`, whose contracts
+//! `trace_laws.rt` what every lawful trace tells. One session's turns are in `seat.rt`, whose contracts
 //! (`specs/Turns.antt`) name no trace. No trace is kept when the program runs.
 #![tactic(auto)]
 
 mod engine;
 mod event;
-mod laws;
 mod seat;
+mod trace_laws;
 
 pub use engine::Engine;
 pub use event::{EngineFault, Event, Happened};
-pub use laws::{example_told, one_output, records_begun, sent_bytes, sessions_read};
+pub use trace_laws::{example_told, one_output, records_begun, sent_bytes, sessions_read};

@@ -8,7 +8,7 @@ ghost use Rattle.sf_engine.specs.declared.event.Happened.TheVariants.{Opened};
 ghost use Rattle.sf_engine.specs.Fits.{GoesOnTrace};
 ghost use Rattle.sf_serving.specs.Serving.{Scene, scene, Serves, GoesOn, HasTurn, Rests, IsDrained, IsRounded, Stops, HasSentFor, HasStopped, Waits, Feeds, Applies, SendsAll, SendsSome, ServesLine, StopsEarly, IsUnchanged, refusal_of, IsOpenFault, IsRoundFault, IsServeFault};
 
-use sf_engine::{Engine, EngineFault, Event, Happened, sessions_read};
+use sf_engine::{Engine, EngineFault, Event, Happened};
 use sf_line::{Line, LineFault, write_all};
 use sf_session::{Cause, Clock, ServeFault};
 use std::alloc::{AllocError, Global};
@@ -143,7 +143,6 @@ fn drain<L: Line, C: Clock>(
     ensures failures { L.failed line.old ≤ L.failed line.new }
     ensures fault { IfErr result (λ fault. IsRoundFault fault (L.failed line.old) (L.failed line.new)) }
 {
-    sessions_read();
     for _ in 0..u64::MAX {
         let happened = match turn(engine, clock, session) {
             Ok(happened) => happened,
@@ -178,7 +177,6 @@ fn round<L: Line, C: Clock>(
     ensures failures { L.failed line.old ≤ L.failed line.new }
     ensures fault { IfErr result (λ fault. IsRoundFault fault (L.failed line.old) (L.failed line.new)) }
 {
-    sessions_read();
     let n = line.read(piece)?;
     if n == 0 {
         close(engine, session);

@@ -1,5 +1,6 @@
 use Rattle.std.proofs.Common.{Ok, Result, ◌∙◌, ap, subst, arith}
 use Rattle.sf_session.specs.declared.fault.ServeFault.TheVariants.{Line}
+use Rattle.sf_engine.proofs.Laws.{told_sessions}
 use Rattle.sf_engine.specs.declared.event.Happened.{Happened}
 use Rattle.sf_engine.specs.declared.event.EngineFault.{EngineFault}
 use Rattle.sf_serving.specs.Serving.{scene, Serves, GoesOn}
@@ -22,7 +23,7 @@ returns-in-Ended-clause-drained g c = λ start serves.
     c.loop.engine c.turn.new.engine c.args.session c.turn.ensures.0 c.turn.result (c.loop.invariant.serves start serves) c.turn.ensures.1 c.turn.ensures.2 in
     let now = scene (g.L.Line.incoming c.loop.line) (g.L.Line.outgoing c.loop.line) (g.L.Line.calls c.loop.line) (g.C.Clock.told c.turn.new.clock) c.turn.new.engine in
     let P : Result Happened EngineFault → Type 0 = λ r. Serves start now (TurnedTo c.args.session r) in
-    ended_drained c.sessions_read.ensures start now c.args.session c.in-Ended.cause (subst P (c.in-Ok.is ∙ ap (λ (h : Happened). Ok h) c.in-Ended.is) turned)
+    ended_drained told_sessions start now c.args.session c.in-Ended.cause (subst P (c.in-Ok.is ∙ ap (λ (h : Happened). Ok h) c.in-Ended.is) turned)
 
 pub returns-in-Err-clause-stops : goal.returns-in-Err-clause-stops
 returns-in-Err-clause-stops g c = λ start serves.

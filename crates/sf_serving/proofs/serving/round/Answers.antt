@@ -1,5 +1,6 @@
 use Rattle.std.proofs.Common.{◌≡◌, take, length, length-take, sym, subst, arith}
 use Rattle.sf_session.specs.declared.fault.ServeFault.TheVariants.{Line}
+use Rattle.sf_engine.proofs.Laws.{told_sessions}
 use Rattle.sf_engine.specs.Views.{EngineView}
 use Rattle.sf_serving.specs.Serving.{scene, Serves, Stops}
 use Rattle.sf_serving.proofs.Outcomes.{if_err_at, if_err_any}
@@ -11,7 +12,7 @@ pub returns-clause-rounded : goal.returns-clause-rounded
 returns-clause-rounded g c = λ start serves.
     let bytes = take c.in_ok-n.n c.read.new.buffer in
     let count : length bytes ≡ c.in_ok-n.n = omega (arith, length-take c.in_ok-n.n c.read.new.buffer, c.in_ok-n.ensures.within) in
-    let read = read_serves c.sessions_read.ensures start (g.L.Line.incoming c.args.line.now) (g.L.Line.incoming c.read.new.self) (g.L.Line.outgoing c.args.line.now) (g.L.Line.outgoing c.read.new.self)
+    let read = read_serves told_sessions start (g.L.Line.incoming c.args.line.now) (g.L.Line.incoming c.read.new.self) (g.L.Line.outgoing c.args.line.now) (g.L.Line.outgoing c.read.new.self)
     (g.L.Line.calls c.args.line.now) (g.L.Line.calls c.read.new.self) (g.C.Clock.told c.args.clock.now) c.args.engine.now c.args.session c.in_ok-n.n bytes serves
     c.in_ok-n.ensures.taken count c.in_ok-n.ensures.outgoing c.in_ok-n.ensures.calls in
     let fed = fed_serves start (g.L.Line.incoming c.read.new.self) (g.L.Line.outgoing c.read.new.self) (g.L.Line.calls c.read.new.self) (g.C.Clock.told c.args.clock.now) c.args.engine.now c.feed.new.engine
@@ -28,7 +29,7 @@ pub returns-in_err-feed-clause-stops : goal.returns-in_err-feed-clause-stops
 returns-in_err-feed-clause-stops g c = if_err_any c.from_residual-in_err-feed.result _ (λ fault start serves.
     let bytes = take c.in_ok-n.n c.read.new.buffer in
     let count : length bytes ≡ c.in_ok-n.n = omega (arith, length-take c.in_ok-n.n c.read.new.buffer, c.in_ok-n.ensures.within) in
-    let read = read_serves c.sessions_read.ensures start (g.L.Line.incoming c.args.line.now) (g.L.Line.incoming c.read.new.self) (g.L.Line.outgoing c.args.line.now) (g.L.Line.outgoing c.read.new.self)
+    let read = read_serves told_sessions start (g.L.Line.incoming c.args.line.now) (g.L.Line.incoming c.read.new.self) (g.L.Line.outgoing c.args.line.now) (g.L.Line.outgoing c.read.new.self)
     (g.L.Line.calls c.args.line.now) (g.L.Line.calls c.read.new.self) (g.C.Clock.told c.args.clock.now) c.args.engine.now c.args.session c.in_ok-n.n bytes serves
     c.in_ok-n.ensures.taken count c.in_ok-n.ensures.outgoing c.in_ok-n.ensures.calls in
     let now = scene (g.L.Line.incoming c.read.new.self) (g.L.Line.outgoing c.read.new.self) (g.L.Line.calls c.read.new.self) (g.C.Clock.told c.args.clock.now) in
@@ -41,7 +42,7 @@ returns-in_err-ended-clause-stops g c =
     if_err_at c.from_residual-in_err-ended.result c.in_err-ended.field-0.0 _ c.from_residual-in_err-ended.ensures.1 (λ start serves.
     let bytes = take c.in_ok-n.n c.read.new.buffer in
     let count : length bytes ≡ c.in_ok-n.n = omega (arith, length-take c.in_ok-n.n c.read.new.buffer, c.in_ok-n.ensures.within) in
-    let read = read_serves c.sessions_read.ensures start (g.L.Line.incoming c.args.line.now) (g.L.Line.incoming c.read.new.self) (g.L.Line.outgoing c.args.line.now) (g.L.Line.outgoing c.read.new.self)
+    let read = read_serves told_sessions start (g.L.Line.incoming c.args.line.now) (g.L.Line.incoming c.read.new.self) (g.L.Line.outgoing c.args.line.now) (g.L.Line.outgoing c.read.new.self)
     (g.L.Line.calls c.args.line.now) (g.L.Line.calls c.read.new.self) (g.C.Clock.told c.args.clock.now) c.args.engine.now c.args.session c.in_ok-n.n bytes serves
     c.in_ok-n.ensures.taken count c.in_ok-n.ensures.outgoing c.in_ok-n.ensures.calls in
     let fed = fed_serves start (g.L.Line.incoming c.read.new.self) (g.L.Line.outgoing c.read.new.self) (g.L.Line.calls c.read.new.self) (g.C.Clock.told c.args.clock.now) c.args.engine.now c.feed.new.engine
@@ -54,7 +55,7 @@ returns-in_err-send-clause-stops g c =
     if_err_at c.from_residual-in_err-send.result Line _ c.from_residual-in_err-send.ensures.1 (λ start serves.
     let bytes = take c.in_ok-n.n c.read.new.buffer in
     let count : length bytes ≡ c.in_ok-n.n = omega (arith, length-take c.in_ok-n.n c.read.new.buffer, c.in_ok-n.ensures.within) in
-    let read = read_serves c.sessions_read.ensures start (g.L.Line.incoming c.args.line.now) (g.L.Line.incoming c.read.new.self) (g.L.Line.outgoing c.args.line.now) (g.L.Line.outgoing c.read.new.self)
+    let read = read_serves told_sessions start (g.L.Line.incoming c.args.line.now) (g.L.Line.incoming c.read.new.self) (g.L.Line.outgoing c.args.line.now) (g.L.Line.outgoing c.read.new.self)
     (g.L.Line.calls c.args.line.now) (g.L.Line.calls c.read.new.self) (g.C.Clock.told c.args.clock.now) c.args.engine.now c.args.session c.in_ok-n.n bytes serves
     c.in_ok-n.ensures.taken count c.in_ok-n.ensures.outgoing c.in_ok-n.ensures.calls in
     let fed = fed_serves start (g.L.Line.incoming c.read.new.self) (g.L.Line.outgoing c.read.new.self) (g.L.Line.calls c.read.new.self) (g.C.Clock.told c.args.clock.now) c.args.engine.now c.feed.new.engine
@@ -65,10 +66,10 @@ pub returns-then-n-eq0-clause-rounded : goal.returns-then-n-eq0-clause-rounded
 returns-then-n-eq0-clause-rounded g c = λ start serves.
     let bytes = take c.in_ok-n.n c.read.new.buffer in
     let count : length bytes ≡ c.in_ok-n.n = omega (arith, length-take c.in_ok-n.n c.read.new.buffer, c.in_ok-n.ensures.within) in
-    let read = read_serves c.sessions_read.ensures start (g.L.Line.incoming c.args.line.now) (g.L.Line.incoming c.read.new.self) (g.L.Line.outgoing c.args.line.now) (g.L.Line.outgoing c.read.new.self)
+    let read = read_serves told_sessions start (g.L.Line.incoming c.args.line.now) (g.L.Line.incoming c.read.new.self) (g.L.Line.outgoing c.args.line.now) (g.L.Line.outgoing c.read.new.self)
     (g.L.Line.calls c.args.line.now) (g.L.Line.calls c.read.new.self) (g.C.Clock.told c.args.clock.now) c.args.engine.now c.args.session c.in_ok-n.n bytes serves
     c.in_ok-n.ensures.taken count c.in_ok-n.ensures.outgoing c.in_ok-n.ensures.calls in
     let none = none_read start _ c.args.session c.in_ok-n.n c.read.new.buffer c.if-n-eq0.true read in
     round_ends start _ c.args.session _ (c.in_ok-n.ensures.ended c.if-n-eq0.true (omega arith))
-    (ended_serves c.sessions_read.ensures start (g.L.Line.incoming c.read.new.self) (g.L.Line.outgoing c.read.new.self) (g.L.Line.calls c.read.new.self) (g.C.Clock.told c.args.clock.now) c.args.engine.now c.close.new.engine
+    (ended_serves told_sessions start (g.L.Line.incoming c.read.new.self) (g.L.Line.outgoing c.read.new.self) (g.L.Line.calls c.read.new.self) (g.C.Clock.told c.args.clock.now) c.args.engine.now c.close.new.engine
     c.args.session none c.close.ensures)

@@ -1,5 +1,5 @@
 use Rattle.sf_engine.proofs.Beginning.{all_begun}
-use Rattle.sf_engine.proofs.laws.records_begun.Goals as goal
+use Rattle.sf_engine.proofs.trace_laws.records_begun.Goals as goal
 
 pub returns : goal.returns
 returns c = all_begun
