@@ -242,8 +242,8 @@ impl Session {
         self.output.as_slice()
     }
 
-    /// Drops the first bytes to be sent, since they were. Takes no memory. A session that has ended and
-    /// sent all keeps no buffer.
+    /// Drops the first bytes to be sent, since they were. Takes no memory. A session that waits for no
+    /// answer and has sent all keeps no buffer.
     pub fn take_front(&mut self, n: usize)
         requires { n ≤ length self.old.output }
         ensures { self.new ≡ record self.old { output = drop n self.old.output } }
@@ -252,11 +252,12 @@ impl Session {
         self.let_go();
     }
 
-    /// Where it has ended and sent all, it keeps no buffer.
+    /// Where it waits for no answer and has sent all, it keeps no buffer: one that stays would lie above
+    /// memory that was freed, and the C library could give none of that back.
     fn let_go(&mut self)
         ensures { self.new ≡ self.old }
     {
-        if self.ended.is_some() && self.waiting.is_none() && self.output.is_empty() {
+        if self.waiting.is_none() && self.output.is_empty() {
             self.output = BytesMut::new(self.alloc);
         }
     }
