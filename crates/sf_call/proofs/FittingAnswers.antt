@@ -1,5 +1,5 @@
 -- The answers to requests whose parts are values of their types: short replies, and changes to trees of such values.
-use Rattle.std.proofs.Common.{◌≡◌, ℕ, zero, suc, refl, ◌+◌, ◌<◌, ◌≤◌, ◌^◌, Bool, true, false, cond, not, nat_eq, nat_lt, nat_le, ◌&&◌, List, [], ◌∷◌, length, take, filter_map, Option, Some, None, option_map, option_and_then, unwrap_or, IfSome, arith}
+use Rattle.std.proofs.Common.{◌≡◌, ℕ, zero, suc, refl, ◌+◌, ◌<◌, ◌≤◌, ◌^◌, Bool, true, false, cond, not, nat_eq, nat_lt, nat_le, ◌&&◌, List, [], ◌∷◌, ◌++◌, length, take, filter_map, Option, Some, None, option_map, option_and_then, unwrap_or, IfSome, arith}
 use Rattle.std.specs.List.{AllByRecursion}
 use Rattle.std.specs.Option.{is_some}
 use Rattle.std.specs.Ordering.{nat_cmp}
@@ -33,8 +33,14 @@ use Rattle.sf_call.specs.Handles.Opened.{NotOpen, OpenDirectory, OpenFile}
 use Rattle.sf_call.specs.Listings.{path_of, is_past, name_past, entry_of, listed_entry, listing_of}
 use Rattle.sf_call.specs.Changes.{touch, touched}
 use Rattle.sf_call.specs.Values.{IsRequest, IsCall}
-use Rattle.sf_call.specs.Calls.{Answer, answer_to, stat, refuses_size, with_size, sets, set_stat, make_directory, remove_directory, remove_file, has_all_handles, open_directory, open_present, open_file, close, stat_opened, set_opened, read, start_of, write, lists, read_directory, unless_root}
+use Rattle.sf_call.specs.Calls.{Answer, answer_to, stat, refuses_size, with_size, sets, set_stat, make_directory, remove_directory, remove_file, has_all_handles, open_directory, open_present, open_file, close, stat_opened, set_opened, read, start_of, write, lists, read_directory, unless_root, moves}
+use Rattle.sf_call.proofs.RenameCases.{rename_cases, posix_rename_cases}
 use Rattle.sf_call.proofs.FittingTrees.{MetadataFits, ObjectFits, TreeFits, ChangeFits, all_made, found_value, rest_names}
+
+-- what holds of the elements of two lists holds of those of both
+all_both : {A : Type 0} (P : A → Type 0) (xs ys : List A) → AllByRecursion P xs → AllByRecursion P ys → AllByRecursion P (xs ++ ys)
+all_both P [] ys p q = q
+all_both P (x ∷ xs) ys p q = (p.0, all_both P xs ys p.1 q)
 
 pub record EntryIsShort (e : Entry) : Type 0 where
   pub filename : length e.filename ≤ 255
@@ -306,6 +312,9 @@ module _ (tree : Tree) (fits : TreeFits tree) where
     directory_read handle (OpenFile h m contents) = (tt, tt)
     directory_read handle (OpenDirectory h m) = listed handle h (listing_of tree h.listed (path_of tree.names h.label)) (listing_short h.listed (path_of tree.names h.label))
 
+    moved_fits : (old new : Path) → IsPath new → AnswerFits (moves tree moment old new)
+    moved_fits old new p = (tt, (p, all_both ChangeFits (touched tree moment (parent old)) (touched tree moment (parent new)) (touched_fits (parent old)) (touched_fits (parent new))))
+
     rooted : (path : Path) (answer : Answer) → AnswerFits answer → AnswerFits (unless_root path answer)
     rooted [] answer f = (tt, tt)
     rooted (n ∷ path) answer f = f
@@ -324,8 +333,8 @@ module _ (tree : Tree) (fits : TreeFits tree) where
     answered (Read handle offset len) r = was_read offset len (opened tree session handle)
     answered (Write handle offset bytes) r = was_written offset bytes (opened tree session handle) (handle_opened (handle_in tree session handle))
     answered (ReadDir handle) r = directory_read handle (opened tree session handle)
-    answered (Rename old new) r = (tt, tt)
-    answered (PosixRename old new) r = (tt, tt)
+    answered (Rename old new) r = rename_cases AnswerFits (λ code. (tt, tt)) (tt, tt) tree moment old new (λ _ _. moved_fits old new r.1) session number
+    answered (PosixRename old new) r = posix_rename_cases AnswerFits (λ code. (tt, tt)) (tt, tt) tree moment old new (λ _ _. moved_fits old new r.1) session number
 
 -- the answer to a call
 pub answer_fits : (tree : Tree) (session number moment : ℕ) (request : Request) → TreeFits tree → IsCall number session moment request → AnswerFits (answer_to tree session number moment request)

@@ -22,6 +22,7 @@ use Rattle.sf_call.specs.Handles.Opened.{NotOpen, OpenDirectory, OpenFile}
 use Rattle.sf_call.specs.Listings.{path_of, listing_of}
 use Rattle.sf_call.specs.Calls.{Answer, apply, stat, refuses_size, sets, set_stat, make_directory, remove_directory, remove_file, has_all_handles, open_directory, open_present, open_file, close, stat_opened, set_opened, read, start_of, write, lists, read_directory, unless_root}
 use Rattle.sf_call.specs.ReplyKinds.{IsStatus, IsStatusOrAttrs, IsStatusOrHandle, IsStatusOrData, IsStatusOrNames, IsReplyTo}
+use Rattle.sf_call.proofs.RenameCases.{rename_cases, posix_rename_cases}
 
 -- a choice of two replies of a kind is of the kind
 choice : (Kind : Reply → Type 0) (b : Bool) (this that : Answer) → Kind this.reply → Kind that.reply → Kind (cond b this that).reply
@@ -133,8 +134,8 @@ applied tree session number moment (FSetStat handle attrs) = set_by_handle momen
 applied tree session number moment (Read handle offset len) = was_read offset len (opened tree session handle)
 applied tree session number moment (Write handle offset bytes) = was_written moment offset bytes (opened tree session handle)
 applied tree session number moment (ReadDir handle) = directory_read tree handle (opened tree session handle)
-applied tree session number moment (Rename old new) = tt
-applied tree session number moment (PosixRename old new) = tt
+applied tree session number moment (Rename old new) = rename_cases (λ answer. IsStatus answer.reply) (λ code. tt) tt tree moment old new (λ _ _. tt) session number
+applied tree session number moment (PosixRename old new) = posix_rename_cases (λ answer. IsStatus answer.reply) (λ code. tt) tt tree moment old new (λ _ _. tt) session number
 
 pub never_refused : (number : ℕ) (request : Request) → IsReplyTo number request reply.NoMemory → ⊥
 never_refused number (Stat path) k = k

@@ -49,8 +49,14 @@ pub use Rattle.sf_call.proofs.Ordered.{ordered_changed, ordered_replay}
 -- what a move leaves at a path, and letting go of what nothing names or opens at a label
 pub use Rattle.sf_call.proofs.MovedNames.{at_old, label_after_move, lookup-moved, moved_to_new, moved_outside, moved_from_old}
 pub use Rattle.sf_call.proofs.Used.{object_kept}
--- what stands where a path leads
-pub use Rattle.sf_call.proofs.Requests.{place_label, directory_there}
+-- a path that doesn't begin with another has no front that does, and no parent begins with its path
+pub use Rattle.sf_call.proofs.MovedNames.{no_front}
+pub use Rattle.sf_call.proofs.Requests.{no_parent}
+-- what stands where a path leads, and of what kind
+pub use Rattle.sf_call.proofs.Requests.{place_label, directory_there, is_there_directory, kind_by, kind_at}
+pub use Rattle.sf_call.proofs.Founded.{is_directory_object, is_directory_label, is_directory_is}
+-- what each rename answers: it is refused, does nothing or moves
+pub use Rattle.sf_call.proofs.RenameCases.{rename_cases, posix_rename_cases}
 pub use Rattle.sf_call.proofs.Founded.{kept_object}
 -- what holds of the root alone, and still holds after each call that may come and each leaving, holds after each legal
 -- history

@@ -4,6 +4,7 @@ pub mod Growth
 pub mod MovedNames
 pub mod Ordered
 pub mod LookUps
+pub mod RenameCases
 pub mod KindsOfReplies
 pub mod Labels
 pub mod Founded

@@ -1,9 +1,9 @@
 -- What a request changes is allowed.
-use Rattle.std.proofs.Common.{◌≡◌, ◌≢◌, ◌<◌, ℕ, Bool, true, false, cond, not, nat_eq, nat_lt, nat_le, ◌+◌, ◌-◌, ◌&&◌, List, [], ◌∷◌, ◌++◌, length, length-append, length-take, take, Option, Some, None, option_map, option_and_then, refl, sym, ap, ◌∙◌, append_assoc, arith}
+use Rattle.std.proofs.Common.{◌≡◌, ◌≢◌, ◌<◌, ℕ, Bool, true, false, cond, not, nat_eq, nat_lt, nat_le, ◌+◌, ◌-◌, ◌&&◌, List, [], ◌∷◌, ◌++◌, length, length-append, length-take, take, Option, Some, None, IsSome, option_map, option_and_then, refl, sym, ap, ◌∙◌, append_assoc, arith}
 use Rattle.std.specs.List.{cons_option}
 use Rattle.std.specs.Ordering.{nat_cmp}
 use Rattle.std.specs.Cmp.{nat_cmp_total}
-use Rattle.std.specs.Map.{remove_entry}
+use Rattle.std.specs.Map.{remove_entry, set_value}
 use Rattle.std.specs.BTreeMap.{insert_entry, is_at}
 use Rattle.std.specs.FinMap.{nat_cmp-IsAntisymmetric}
 use Rattle.std.specs.Option.{is_some}
@@ -15,23 +15,28 @@ use Rattle.sf_field.specs.declared.open_flags.OpenFlags.{OpenFlags}
 use Rattle.sf_reply.specs.declared.reply.Entry.{Entry}
 use Rattle.sf_call.specs.declared.limits.TheConstants.{MAX_FILE_SIZE}
 use Rattle.sf_call.specs.declared.metadata.Metadata.{Metadata}
+use Rattle.sf_call.specs.declared.metadata.FileType.{FileType}
+use Rattle.sf_call.specs.declared.metadata.FileType.TheVariants as file_type
 use Rattle.sf_call.specs.declared.place.Place.{Place}
 use Rattle.sf_call.specs.declared.place.Place.TheVariants.{NoWay, Absent, At}
 use Rattle.sf_call.specs.declared.request.Request.{Request}
 use Rattle.sf_call.specs.declared.request.Request.TheVariants.{Stat, SetStat, Mkdir, Rmdir, Remove, OpenDir, Open, Close, FStat, FSetStat, Read, Write, ReadDir, Rename, PosixRename}
-use Rattle.sf_call.specs.Attributes.{Object}
+use Rattle.sf_call.specs.Attributes.{Object, modified_at}
 use Rattle.sf_call.specs.Attributes.Object.{Directory, File}
 use Rattle.sf_call.specs.Tree.{Tree, Handle, Found, label_at, object_of, handle_of, with_names, directory_metadata, directory_at, is_directory, is_faulty_way, place_of, place_at, found_object, found_place, found_at, after_front, only_name, children, is_nil, is_empty}
 use Rattle.sf_call.specs.Tree.Found.{Nowhere, Nothing, DirectoryAt, FileAt}
 use Rattle.sf_call.specs.Handles.{Opened, if_of, handle_in, opened_object, opened_by, opened}
 use Rattle.sf_call.specs.Handles.Opened.{NotOpen, OpenDirectory, OpenFile}
 use Rattle.sf_call.specs.Listings.{path_of, listing_of}
-use Rattle.sf_call.specs.Changes.{touch}
-use Rattle.sf_call.specs.Allowed.{kind_of, IsSetRightly, IsNewHandle, AreAllowed}
-use Rattle.sf_call.specs.Calls.{Answer, answer_to, stat, refuses_size, with_size, sets, set_stat, make_directory, goes, remove_directory, remove_file, has_all_handles, open_directory, open_present, open_file, close, stat_opened, set_opened, read, start_of, write, lists, read_directory, unless_root}
+use Rattle.sf_call.specs.Moves.{moved}
+use Rattle.sf_call.specs.Changes.{touch, touched, changed}
+use Rattle.sf_call.specs.Changes.Change.{SetObject, Move}
+use Rattle.sf_call.specs.Allowed.{kind_of, IsSetRightly, IsNewHandle, AreAllowed, IsMove}
+use Rattle.sf_call.specs.Calls.{Answer, answer_to, stat, refuses_size, with_size, sets, set_stat, make_directory, goes, remove_directory, remove_file, has_all_handles, open_directory, open_present, open_file, close, stat_opened, set_opened, read, start_of, write, lists, read_directory, unless_root, moves, rename_to, rename, replace_by, posix_rename}
 use Rattle.sf_call.proofs.Ways.{open_way}
-use Rattle.sf_call.proofs.MovedNames.{same_path_is, after_front-append}
+use Rattle.sf_call.proofs.MovedNames.{same_path_is, after_front-append, no_front, no_proper_front, moved_outside}
 use Rattle.sf_call.proofs.Orders.{exact_paths}
+use Rattle.sf_call.proofs.RenameCases.{apart}
 use Rattle.sf_call.proofs.LookUps.{other_put, other_removed}
 use Rattle.sf_call.proofs.Founded.{IsFounded, is_file, kept_object, is_directory_object, is_directory_label, is_directory_is, not_both}
 
@@ -77,7 +82,7 @@ label_or_none : (o : Option ℕ) → ((label : ℕ) → o ≡ Some label → ⊥
 label_or_none None no_label = refl
 label_or_none (Some label) no_label = absurd (no_label label refl)
 
-is_there_directory : (tree : Tree) (path : Path) → is_directory tree path ≡ true → (label : ℕ) × (label_at tree.names path ≡ Some label)
+pub is_there_directory : (tree : Tree) (path : Path) → is_directory tree path ≡ true → (label : ℕ) × (label_at tree.names path ≡ Some label)
 is_there_directory tree path h =
     elim (label_at tree.names path) as (λ o. is_directory_label tree.objects o ≡ true → (label : ℕ) × (o ≡ Some label)) [
       | None ↦ λ k. cc
@@ -121,6 +126,47 @@ other_parent (n ∷ path) not_root same =
     let lengths : length (take (length (n ∷ path) - 1) (n ∷ path)) ≡ length (n ∷ path) = ap length same in
     let short = length-take (length (n ∷ path) - 1) (n ∷ path) in omega arith
 
+-- a set object keeps the kinds of all
+kinds_set : (objects : List (ℕ × Object)) (label l : ℕ) (object : Object) → option_map kind_of (object_of objects label) ≡ Some (kind_of object)
+    → option_map kind_of (object_of (set_value (is_at (nat_cmp label)) objects object) l) ≡ option_map kind_of (object_of objects l)
+kinds_set [] label l object right = refl
+kinds_set (e ∷ es) label l object right =
+    elim (is_at (nat_cmp label) e.0) as (λ b. option_map kind_of (cond b (Some e.1) (object_of es label)) ≡ Some (kind_of object)
+    → option_map kind_of (object_of (cond b ((e.0, object) ∷ es) (e ∷ set_value (is_at (nat_cmp label)) es object)) l) ≡ option_map kind_of (cond (is_at (nat_cmp l) e.0) (Some e.1) (object_of es l))) [
+      | true ↦ λ here. elim (is_at (nat_cmp l) e.0) as (λ b. option_map kind_of (cond b (Some object) (object_of es l)) ≡ option_map kind_of (cond b (Some e.1) (object_of es l))) [
+        | true ↦ sym here
+        | false ↦ refl
+      ]
+      | false ↦ λ later. elim (is_at (nat_cmp l) e.0) as (λ b. option_map kind_of (cond b (Some e.1) (object_of (set_value (is_at (nat_cmp label)) es object) l)) ≡ option_map kind_of (cond b (Some e.1) (object_of es l))) [
+        | true ↦ refl
+        | false ↦ kinds_set es label l object later
+      ]
+    ] right
+
+-- the kind of what is a directory or a file
+abbrev pub kind_by : Bool → FileType
+kind_by b = cond b file_type.Directory file_type.File
+
+kind_told : (o : Option Object) → is_some o ≡ true → option_map kind_of o ≡ Some (kind_by (is_directory_object o))
+kind_told None some = cc
+kind_told (Some (Directory m)) some = refl
+kind_told (Some (File m contents)) some = refl
+
+pub kind_at : (tree : Tree) (path : Path) (label : ℕ) → IsSome (object_of tree.objects label) → label_at tree.names path ≡ Some label
+    → option_map kind_of (object_of tree.objects label) ≡ Some (kind_by (is_directory tree path))
+kind_at tree path label some e =
+    kind_told (object_of tree.objects label) some
+    ∙ ap (λ b. Some (kind_by b)) (ap (is_directory_label tree.objects) (sym e) ∙ sym (is_directory_is tree path))
+
+both_true : (a b : Bool) → a && b ≡ true → (a ≡ true) × (b ≡ true)
+both_true true b t = (refl, t)
+both_true false b t = cc
+
+-- a path that isn't the front of all paths isn't a front of its parent
+pub no_parent : (p q : Path) → after_front p q ≡ None → after_front p (parent p) ≡ None
+no_parent [] q none = cc
+no_parent (n ∷ p) q none = no_proper_front (n ∷ p) (length (n ∷ p) - 1) (omega arith)
+
 module _ (tree : Tree) (number moment : ℕ) (unused : (q : Path) → label_at tree.names q ≢ Some number) (no_object : object_of tree.objects number ≡ None) (unopened : handle_of tree.handles number ≡ None) (f : IsFounded tree) where
   abbrev pub IsRight : Answer → Type 0
   IsRight answer = AreAllowed number tree answer.changes
@@ -133,11 +179,16 @@ module _ (tree : Tree) (number moment : ℕ) (unused : (q : Path) → label_at t
   either_if true this that p q = p refl
   either_if false this that p q = q refl
 
+  -- a directory that stayed of its kind may be set
+  touch_kinds : (t : Tree) (path : Path) (at : Option (ℕ × Metadata)) → directory_at tree path ≡ at
+      → ((label : ℕ) → label_at tree.names path ≡ Some label → option_map kind_of (object_of t.objects label) ≡ option_map kind_of (object_of tree.objects label)) → AreAllowed number t (touch moment at)
+  touch_kinds t path None e same = tt
+  touch_kinds t path (Some d) e same = let there = directory_there tree path d e in (same d.0 there.0 ∙ ap (option_map kind_of) there.1, tt)
+
   -- a directory that another change left alone may be set
   allowed_touch : (t : Tree) (path : Path) (at : Option (ℕ × Metadata)) → directory_at tree path ≡ at
       → ((label : ℕ) → label_at tree.names path ≡ Some label → object_of t.objects label ≡ object_of tree.objects label) → AreAllowed number t (touch moment at)
-  allowed_touch t path None e same = tt
-  allowed_touch t path (Some d) e same = let there = directory_there tree path d e in (ap (option_map kind_of) (same d.0 there.0 ∙ there.1), tt)
+  allowed_touch t path at e same = touch_kinds t path at e (λ label named. ap (option_map kind_of) (same label named))
 
   new_leaves : (path : Path) (object : Object) (label : ℕ) → label_at tree.names path ≡ Some label → object_of (insert_entry nat_cmp tree.objects number object) label ≡ object_of tree.objects label
   new_leaves path object label e = other_put nat_cmp nat_cmp-IsAntisymmetric nat_cmp_total tree.objects number object label (λ same. unused path (e ∙ ap Some same))
@@ -291,6 +342,101 @@ module _ (tree : Tree) (number moment : ℕ) (unused : (q : Path) → label_at t
   rooted [] answer p = tt
   rooted (n ∷ path) answer p = p (λ e. cc)
 
+  -- ---- renames
+
+  touch_both : (t : Tree) (path other : Path) (at : Option (ℕ × Metadata)) → directory_at tree path ≡ at
+      → ((label : ℕ) → label_at tree.names path ≡ Some label → option_map kind_of (object_of t.objects label) ≡ option_map kind_of (object_of tree.objects label))
+      → ((label : ℕ) → label_at tree.names other ≡ Some label → option_map kind_of (object_of t.objects label) ≡ option_map kind_of (object_of tree.objects label))
+      → AreAllowed number t (touch moment at ++ touched tree moment other)
+  touch_both t path other None e same also = touch_kinds t other (directory_at tree other) refl also
+  touch_both t path other (Some d) e same also =
+      let there = directory_there tree path d e in
+      let object : Object = Directory (modified_at moment d.1) in
+      let right : option_map kind_of (object_of t.objects d.0) ≡ Some (kind_of object) = same d.0 there.0 ∙ ap (option_map kind_of) there.1 in
+      (right, touch_kinds (changed t (SetObject d.0 object)) other (directory_at tree other) refl (λ label at. kinds_set t.objects d.0 label object right ∙ also label at))
+
+  moved_leaves : (old new path : Path) (label : ℕ) → after_front old path ≡ None → after_front new path ≡ None → label_at tree.names path ≡ Some label
+      → option_map kind_of (object_of (changed tree (Move old new)).objects label) ≡ option_map kind_of (object_of tree.objects label)
+  moved_leaves old new path label not_old not_new e =
+      ap (option_map kind_of) (kept_object (with_names tree (moved tree.names old new)) path label (moved_outside tree.names old new path not_old not_new ∙ e))
+
+  may_move : (old new : Path) → IsMove tree old new → IsRight (moves tree moment old new)
+  may_move old new may = (
+    may,
+    touch_both (changed tree (Move old new)) (parent old) (parent new) (directory_at tree (parent old)) refl
+        (λ label e. moved_leaves old new (parent old) label (no_parent old new may.not_inside) (no_front new old (length old - 1) may.not_around) e)
+        (λ label e. moved_leaves old new (parent new) label (no_front old new (length new - 1) may.not_inside) (no_parent new old may.not_around) e),
+  )
+
+  below_none : (path : Path) → label_at tree.names path ≡ None → (name : Name) (rest : Path) (label : ℕ) → label_at tree.names (path ++ name ∷ rest) ≡ Some label → ⊥
+  below_none path none name rest label e =
+      let named = is_there_directory tree path (front_directory tree path name rest label f e) in
+      let found : Some named.0 ≡ None = sym named.1 ∙ none in cc
+
+  module _ (old new : Path) (label : ℕ) (named : label_at tree.names old ≡ Some label) (not_inside : after_front old new ≡ None) (not_around : after_front new old ≡ None) where
+    to_free : place_at tree new ≡ Absent → IsRight (moves tree moment old new)
+    to_free e =
+        let free = place_free tree new e in
+        may_move old new (record {
+          label = label;
+          named = named;
+          not_inside = not_inside;
+          not_around = not_around;
+          way = free.0;
+          bare = λ name rest. label_or_none (label_at tree.names (new ++ name ∷ rest)) (λ l there. below_none new free.1 name rest l there);
+          alike = λ replaced at. let found : Some replaced ≡ None = sym at ∙ free.1 in cc;
+        })
+
+    over : (at : ℕ) → label_at tree.names new ≡ Some at → ((name : Name) (rest : Path) (l : ℕ) → label_at tree.names (new ++ name ∷ rest) ≡ Some l → ⊥)
+        → option_map kind_of (object_of tree.objects at) ≡ Some (kind_by (is_directory tree old)) → IsRight (moves tree moment old new)
+    over at here below kind =
+        may_move old new (record {
+          label = label;
+          named = named;
+          not_inside = not_inside;
+          not_around = not_around;
+          way = f.way new at here;
+          bare = λ name rest. label_or_none (label_at tree.names (new ++ name ∷ rest)) (λ l there. below name rest l there);
+          alike = λ replaced there. let same : Some replaced ≡ Some at = sym there ∙ here in let is : replaced ≡ at = cc in
+              ap (λ (l : ℕ). option_map kind_of (object_of tree.objects l)) is ∙ kind ∙ sym (kind_at tree old label (f.object old label named) named);
+        })
+
+    moved_to : (place : Place) → place_at tree new ≡ place → IsRight (rename_to tree moment old new place)
+    moved_to NoWay e = tt
+    moved_to (At at) e = tt
+    moved_to Absent e = to_free e
+
+    replaced : (place : Place) → place_at tree new ≡ place → IsRight (replace_by tree moment old new (found_place tree.objects place))
+    replaced NoWay e = tt
+    replaced Absent e = to_free e
+    replaced (At at) e = replaced_object (object_of tree.objects at) refl where
+      here : label_at tree.names new ≡ Some at
+      here = place_label tree new at e
+
+      replaced_object : (o : Option Object) → object_of tree.objects at ≡ o → IsRight (replace_by tree moment old new (found_object at o))
+      replaced_object None is = let some : is_some (object_of tree.objects at) ≡ true = f.object new at here in let none : is_some (object_of tree.objects at) ≡ false = ap (λ (o : Option Object). is_some o) is in cc
+      replaced_object (Some (Directory m)) is =
+          either_if (is_directory tree old && is_empty tree.names new) _ _
+          (λ both. let two = both_true (is_directory tree old) (is_empty tree.names new) both in
+          over at here (below_empty new two.1) (ap (option_map kind_of) is ∙ ap (λ b. Some (kind_by b)) (sym two.0)))
+          (λ other. tt)
+      replaced_object (Some (File m contents)) is =
+          either_if (is_directory tree old) _ _ (λ directory. tt)
+          (λ file. over at here (below_file new at here (ap is_file is)) (ap (option_map kind_of) is ∙ ap (λ b. Some (kind_by b)) (sym file)))
+
+  renamed : (old new : Path) (place : Place) → place_at tree old ≡ place → IsRight (rename tree moment old new place)
+  renamed old new NoWay e = tt
+  renamed old new Absent e = tt
+  renamed old new (At label) e =
+      apart IsRight old new _ tt (λ not_inside not_around. moved_to old new label (place_label tree old label e) not_inside not_around (place_at tree new) refl)
+
+  posix_renamed : (old new : Path) (place : Place) → place_at tree old ≡ place → IsRight (posix_rename tree moment old new place)
+  posix_renamed old new NoWay e = tt
+  posix_renamed old new Absent e = tt
+  posix_renamed old new (At label) e =
+      either (same_path old new) _ _ tt
+      (apart IsRight old new _ tt (λ not_inside not_around. replaced old new label (place_label tree old label e) not_inside not_around (place_at tree new) refl))
+
   pub allowed : (session : ℕ) (request : Request) → AreAllowed number tree (answer_to tree session number moment request).changes
   allowed session (Stat path) = found_stat (found_at tree path)
   allowed session (SetStat path attrs) = rooted path _ (λ not_root. set_place attrs (place_at tree path))
@@ -305,5 +451,5 @@ module _ (tree : Tree) (number moment : ℕ) (unused : (q : Path) → label_at t
   allowed session (Read handle offset len) = was_read offset len (opened tree session handle)
   allowed session (Write handle offset bytes) = was_written offset bytes (handle_in tree session handle)
   allowed session (ReadDir handle) = directory_read session handle (handle_in tree session handle) refl
-  allowed session (Rename old new) = tt
-  allowed session (PosixRename old new) = tt
+  allowed session (Rename old new) = rooted old _ (λ _. rooted new _ (λ _. renamed old new (place_at tree old) refl))
+  allowed session (PosixRename old new) = rooted old _ (λ _. rooted new _ (λ _. posix_renamed old new (place_at tree old) refl))

@@ -1,5 +1,5 @@
 -- What is kept of a directory or a file, and what is sent of it.
-use Rattle.std.specs.Prelude.{ℕ, ◌+◌, ◌%◌, Some, None, unwrap_or, List, length}
+use Rattle.std.specs.Prelude.{ℕ, ◌+◌, ◌%◌, Some, unwrap_or, List, length}
 use Rattle.std.specs.Option.{option_map_or}
 use Rattle.sf_field.specs.declared.attrs.Attrs.{Attrs}
 use Rattle.sf_call.specs.declared.metadata.FileType.{FileType}

@@ -1,13 +1,13 @@
 -- What the tree answers to each request, and what the request changes. Cases are tried in order; the first that fits answers.
-use Rattle.std.specs.Prelude.{ℕ, ◌+◌, not, nat_eq, nat_lt, nat_le, min, Bool, true, false, ◌&&◌, ◌||◌, if◌then◌else◌, List, [], ◌∷◌, length, take, drop, filter, count_by, Option, Some, None, is_some}
+use Rattle.std.specs.Prelude.{ℕ, ◌+◌, not, nat_eq, nat_lt, nat_le, min, Bool, true, false, ◌&&◌, ◌||◌, if◌then◌else◌, List, [], ◌∷◌, ◌++◌, length, take, drop, filter, count_by, Option, Some, None, is_some}
 use Rattle.sf_field.specs.declared.attrs.Attrs.{Attrs}
 use Rattle.sf_field.specs.declared.open_flags.OpenFlags.{OpenFlags}
 use Rattle.sf_reply.specs.declared.reply.Entry.{Entry}
 use Rattle.sf_reply.specs.declared.reply.Reply.{Reply}
 use Rattle.sf_reply.specs.declared.reply.Reply.TheVariants as reply
 use Rattle.sf_reply.specs.declared.reply.StatusCode.{StatusCode}
-use Rattle.sf_reply.specs.declared.reply.StatusCode.TheVariants.{Success, EndOfFile, NoSuchFile, PermissionDenied, Failure, OpUnsupported}
-use Rattle.sf_path.specs.Order.{parent}
+use Rattle.sf_reply.specs.declared.reply.StatusCode.TheVariants.{Success, EndOfFile, NoSuchFile, PermissionDenied, Failure}
+use Rattle.sf_path.specs.Order.{parent, same_path}
 use Rattle.sf_path.specs.Names.{Path}
 use Rattle.sf_call.specs.declared.limits.TheConstants.{MAX_FILE_SIZE, MAX_READ, MAX_HANDLES}
 use Rattle.sf_call.specs.declared.request.Request.{Request}
@@ -16,13 +16,13 @@ use Rattle.sf_call.specs.declared.place.Place.TheVariants.{NoWay, Absent, At}
 use Rattle.sf_call.specs.Attributes.{Metadata, Object, new_metadata, with_parts, modified_at, attrs_of}
 use Rattle.sf_call.specs.Attributes.Object.{Directory, File}
 use Rattle.sf_block.specs.Contents.{resized, written}
-use Rattle.sf_call.specs.Tree.{Tree, Handle, Place, Found, place_at, found_object, found_at, object_of, is_empty, is_nil, kept, with_handles}
+use Rattle.sf_call.specs.Tree.{Tree, Handle, Place, Found, place_at, found_object, found_at, object_of, is_directory, after_front, is_empty, is_nil, kept, with_handles}
 use Rattle.sf_call.specs.Tree.Found.{Nowhere, Nothing, DirectoryAt, FileAt}
 use Rattle.sf_call.specs.Handles.{Opened, handle_in, opened, with_listed}
 use Rattle.sf_call.specs.Handles.Opened.{NotOpen, OpenDirectory, OpenFile}
 use Rattle.sf_call.specs.Listings.{path_of, listing_of, last_name}
 use Rattle.sf_call.specs.Changes.{Change, done, touched}
-use Rattle.sf_call.specs.Changes.Change.{SetObject, NewPath, GonePath, OpenHandle, SetHandle, CloseHandle}
+use Rattle.sf_call.specs.Changes.Change.{SetObject, NewPath, GonePath, Move, OpenHandle, SetHandle, CloseHandle}
 
 -- what a request is answered, and what it changes
 pub record Answer : Type 0 where
@@ -145,6 +145,41 @@ open_file tree session number moment path flags attrs Absent =
     else opens number (file_handle session number flags)
     (NewPath path number (File (new_metadata 0o644 moment attrs) []) ∷ touched tree moment (parent path))
 
+-- ---- renames
+
+-- what began with old begins with new; both parents are modified
+abbrev pub moves : Tree → ℕ → Path → Path → Answer
+moves tree moment old new = succeeds (Move old new ∷ (touched tree moment (parent old) ++ touched tree moment (parent new)))
+
+-- no path is moved into itself or over what it stands in
+abbrev pub unless_nested : Path → Path → Answer → Answer
+unless_nested old new answer = if is_some (after_front old new) || is_some (after_front new old) then refuses Failure else answer
+
+-- RENAME (draft, section 6.5): to a path where nothing stands
+abbrev pub rename_to : Tree → ℕ → Path → Path → Place → Answer
+rename_to tree moment old new NoWay = refuses NoSuchFile
+rename_to tree moment old new (At label) = refuses Failure
+rename_to tree moment old new Absent = moves tree moment old new
+
+abbrev pub rename : Tree → ℕ → Path → Path → Place → Answer
+rename tree moment old new NoWay = refuses NoSuchFile
+rename tree moment old new Absent = refuses NoSuchFile
+rename tree moment old new (At label) = unless_nested old new (rename_to tree moment old new (place_at tree new))
+
+-- the extension posix-rename (POSIX, rename): a file also takes a file's place, and a directory an empty directory's
+abbrev pub replace_by : Tree → ℕ → Path → Path → Found → Answer
+replace_by tree moment old new Nowhere = refuses NoSuchFile
+replace_by tree moment old new Nothing = moves tree moment old new
+replace_by tree moment old new (DirectoryAt label m) =
+    if is_directory tree old && is_empty tree.names new then moves tree moment old new else refuses Failure
+replace_by tree moment old new (FileAt label m contents) = if is_directory tree old then refuses Failure else moves tree moment old new
+
+abbrev pub posix_rename : Tree → ℕ → Path → Path → Place → Answer
+posix_rename tree moment old new NoWay = refuses NoSuchFile
+posix_rename tree moment old new Absent = refuses NoSuchFile
+posix_rename tree moment old new (At label) =
+    if same_path old new then succeeds [] else unless_nested old new (replace_by tree moment old new (found_at tree new))
+
 -- ---- calls by handle
 
 -- CLOSE (draft, section 6.3)
@@ -203,7 +238,7 @@ read_directory tree number (OpenDirectory handle m) = lists number handle (listi
 
 -- ---- all calls
 
--- the root is neither made, set nor removed
+-- the root is neither made, set, removed nor moved
 abbrev pub unless_root : Path → Answer → Answer
 unless_root [] answer = refuses Failure
 unless_root (name ∷ path) answer = answer
@@ -223,8 +258,8 @@ answer_to tree session number moment (FSetStat handle attrs) = set_opened moment
 answer_to tree session number moment (Read handle offset len) = read offset len (opened tree session handle)
 answer_to tree session number moment (Write handle offset bytes) = write moment offset bytes (opened tree session handle)
 answer_to tree session number moment (ReadDir handle) = read_directory tree handle (opened tree session handle)
-answer_to tree session number moment (Rename old new) = refuses OpUnsupported
-answer_to tree session number moment (PosixRename old new) = refuses OpUnsupported
+answer_to tree session number moment (Rename old new) = unless_root old (unless_root new (rename tree moment old new (place_at tree old)))
+answer_to tree session number moment (PosixRename old new) = unless_root old (unless_root new (posix_rename tree moment old new (place_at tree old)))
 
 -- the reply, and the tree after it
 pub record Applied : Type 0 where

@@ -43,3 +43,14 @@ touch moment (Some e) = SetObject e.0 (Directory (modified_at moment e.1)) ∷ [
 
 abbrev pub touched : Tree → ℕ → Path → List Change
 touched tree moment path = touch moment (directory_at tree path)
+
+-- the old path, where changes are a move
+abbrev pub moved_by : List Change → Option Path
+moved_by [] = None
+moved_by (Move old new ∷ changes) = Some old
+moved_by (SetObject label object ∷ changes) = moved_by changes
+moved_by (NewPath path label object ∷ changes) = moved_by changes
+moved_by (GonePath path ∷ changes) = moved_by changes
+moved_by (OpenHandle number handle ∷ changes) = moved_by changes
+moved_by (SetHandle number handle ∷ changes) = moved_by changes
+moved_by (CloseHandle number ∷ changes) = moved_by changes

@@ -1,15 +1,18 @@
 //! Calls that wait for their answers.
 
 ghost use Rattle.std.specs.Prelude.{◌≡◌, ◌<◌, ◌^◌, [], length, OnOk, OnErr};
-ghost use Rattle.std.specs.Option.{option_copied};
+ghost use Rattle.std.specs.Option.{option_copied, option_and_then};
 ghost use Rattle.std.specs.Ordering.{nat_cmp};
 ghost use Rattle.std.specs.Map.{lookup, remove_entry};
 ghost use Rattle.std.specs.BTreeMap.{is_at, insert_entry};
-ghost use Rattle.sf_call.specs.Unanswered.{staged};
+ghost use Rattle.sf_call.specs.declared.call.Call.{Call};
+ghost use Rattle.sf_call.specs.Unanswered.{staged, answered, gone_where_answered};
 
 use crate::request::Request;
+use sf_reply::Reply;
 use std::alloc::{AllocError, Global};
 use std::collections::BTreeMap;
+use std::collections::btree_map::Iter;
 use std::marker::Model;
 
 /// How far a call has walked along the path of its request.
@@ -25,7 +28,7 @@ pub enum Stage {
     },
 }
 
-/// A call of a session that has no answer yet.
+/// A call of a session that has not been answered yet.
 #[derive(Debug, Drop)]
 pub struct Call {
     /// Above 0, and no other call's.
@@ -35,6 +38,10 @@ pub struct Call {
     pub moment: u32,
     pub request: Request,
     pub stage: Stage,
+    /// The request again, for the record of a call that another one carries out while its session waits.
+    pub copy: Option<Request>,
+    /// The reply that waits for the session, where another call carried this one out.
+    pub reply: Option<Reply>,
 }
 
 /// The unanswered calls by rising number.
@@ -86,6 +93,13 @@ impl Calls {
         self.calls.get(&number)
     }
 
+    /// The calls by rising number.
+    pub fn iter(&self) -> Iter<'_, u64, Call>
+        ensures { result ≡ self.now }
+    {
+        self.calls.iter()
+    }
+
     /// The call of a number has come to a stage. Takes no memory.
     pub fn set_stage(&mut self, number: u64, stage: Stage)
         ensures { self.new ≡ staged self.old number stage }
@@ -93,6 +107,30 @@ impl Calls {
         if let Some(call) = self.calls.get_mut(&number) {
             call.stage = stage;
         }
+    }
+
+    /// The reply to the call of a number waits from now on. The copy of its request comes out.
+    pub fn set_reply(&mut self, number: u64, reply: Reply) -> Option<Request>
+        ensures calls { self.new ≡ answered self.old number reply }
+        ensures copy { result
+            ≡ option_and_then (λ (call : Call). call.copy) (lookup (is_at (nat_cmp number)) self.old) }
+    {
+        let call = self.calls.get_mut(&number)?;
+        call.reply = Some(reply);
+        call.copy.take()
+    }
+
+    /// Takes out the call of a number, if its reply waits.
+    pub fn take_reply(&mut self, number: u64) -> Option<Reply>
+        ensures reply { result
+            ≡ option_and_then (λ (call : Call). call.reply) (lookup (is_at (nat_cmp number)) self.old) }
+        ensures rest { self.new ≡ gone_where_answered self.old number result }
+    {
+        let waits = self.get(number)?.reply.is_some();
+        if !waits {
+            return None;
+        }
+        self.remove(number)?.reply
     }
 
     /// Takes out the call of a number.

@@ -177,6 +177,8 @@ fn unanswered_calls(rt: HostRuntime) -> Result<(), Fail> {
             moment: 100,
             request: Request::Close(number),
             stage: Stage::Fresh,
+            copy: None,
+            reply: None,
         };
         calls.insert(call)?;
     }

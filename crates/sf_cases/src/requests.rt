@@ -91,6 +91,24 @@ pub fn open(alloc: Global, text: &[u8], letters: &[u8]) -> Result<Request, Fail>
     Ok(Request::Open(path, flags(letters), NO_ATTRS))
 }
 
+/// RENAME.
+pub fn rename(alloc: Global, old: &[u8], new: &[u8]) -> Result<Request, Fail>
+    ensures { IfOk result (λ made. made ≡ request.Rename (norm old.now) (norm new.now)) }
+{
+    let old_path = path(alloc, old)?;
+    let new_path = path(alloc, new)?;
+    Ok(Request::Rename(old_path, new_path))
+}
+
+/// The extension `posix-rename@openssh.com`.
+pub fn posix_rename(alloc: Global, old: &[u8], new: &[u8]) -> Result<Request, Fail>
+    ensures { IfOk result (λ made. made ≡ request.PosixRename (norm old.now) (norm new.now)) }
+{
+    let old_path = path(alloc, old)?;
+    let new_path = path(alloc, new)?;
+    Ok(Request::PosixRename(old_path, new_path))
+}
+
 /// CLOSE.
 pub fn close(handle: u64) -> Result<Request, Fail>
     ensures { IfOk result (λ made. made ≡ request.Close handle) }

@@ -98,7 +98,7 @@ fn tree(rt: HostRuntime) -> Result<(), Fail> {
     Ok(())
 }
 
-/// Neither rename is served yet, and what they name stays.
+/// A directory goes to another path and comes back.
 #[test]
 fn renames(rt: HostRuntime) -> Result<(), Fail> {
     let alloc = rt.alloc();
@@ -109,16 +109,18 @@ fn renames(rt: HostRuntime) -> Result<(), Fail> {
             "0000000f 0e 00000001 00000002 2f61 00000000",
             "00000011 12 00000002 00000002 2f61 00000002 2f62",
             "0000002d c8 00000003 00000018 706f7369782d72656e616d65406f70656e7373682e636f6d",
-            "00000002 2f61 00000002 2f62",
-            "0000000b 11 00000004 00000002 2f61",
+            "00000002 2f62 00000002 2f61",
+            "00000011 12 00000004 00000002 2f61 00000002 2f61",
+            "0000000b 11 00000005 00000002 2f61",
         ],
     )?;
     let replies = replies(&rt, alloc, &requests)?;
     let mut client = client(alloc, &replies)?;
     client.mkdir(b"/a")?;
-    let refused = ClientFault::Status(StatusCode::OpUnsupported);
-    assert_eq!(rt; client.rename(b"/a", b"/b"), Err(refused));
-    assert_eq!(rt; client.posix_rename(b"/a", b"/b"), Err(refused));
+    client.rename(b"/a", b"/b")?;
+    client.posix_rename(b"/b", b"/a")?;
+    let refused = ClientFault::Status(StatusCode::Failure);
+    assert_eq!(rt; client.rename(b"/a", b"/a"), Err(refused));
     let told = whole(0, 0o40755, 100, 100);
     assert_eq!(rt; client.stat(b"/a"), Ok(told));
     has_sent(&rt, client, &requests);

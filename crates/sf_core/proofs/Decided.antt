@@ -15,7 +15,7 @@ use Rattle.sf_inode.specs.Stores.{StoreState, node_in, entry_of, holder_of}
 use Rattle.sf_keeps.specs.Steps.{walk}
 use Rattle.sf_keeps.specs.Keeps.{Keeps}
 use Rattle.sf_keeps.proofs.Laws.{reached_node}
-use Rattle.sf_coupling.specs.Walks.{Spot, Standing, Holds, LeadsTo, scene, AreWalks, HoldsInstead}
+use Rattle.sf_coupling.specs.Walks.{Spot, Standing, Holds, HoldsIn, BetweenIn, IsShapedIn, LeadsTo, scene, AreWalks, HoldsInstead}
 use Rattle.sf_coupling.proofs.Laws.{keeps_walks}
 use Rattle.sf_walk.specs.Ways.{path_of}
 use Rattle.sf_walk.specs.Served.{IsAsBefore, NodesStay, IsRefused, IsCarriedOut}
@@ -84,31 +84,33 @@ module _ (old mid : StoreState) (history : List Record) (n session moment : ℕ)
         ∙ ap (option_and_then (λ (x : Node). x.holder)) still.1.1
         ∙ holder_is s.node m (node_in old.nodes s.node) still.1.0 refl (stays.node s.node still.1.0 still.1.1) held
 
-  instead : HoldsInstead (holder_of old.nodes) (holder_of (freed at mid).nodes) n None
-  instead = record {
-    own = λ s h. absurd h;
-    only = λ l h. elim (own_or_not at l) [
-      | inl e ↦ let x : None ≡ Some n = sym (freed_own at mid l e) ∙ h in absurd (let z : ⊥ = cc in z)
-      | inr ne ↦ absurd (ne (held_own at l own (mid_was l n (sym (freed_other at mid l ne) ∙ h))))
-    ];
-    others = λ l m other h. let w = walks.holds l m h in
-        ap (holder_of (freed at mid).nodes) (sym w.4) ∙ held_still m w.0 w.1 other w.2 w.3;
-    no_more = λ l m other h. elim (own_or_not at l) [
-      | inl e ↦ let x : None ≡ Some m = sym (freed_own at mid l e) ∙ h in absurd (let z : ⊥ = cc in z)
-      | inr ne ↦ mid_was l m (sym (freed_other at mid l ne) ∙ h)
-    ];
-  }
+  -- what is left of the call holds nothing
+  module _ (now : Option Standing) (nothing : (s : Spot) → HoldsIn now s → ⊥) (shaped : IsShapedIn now) (nowhere : (q : Path) → BetweenIn now q → ⊥) where
+    instead : HoldsInstead (holder_of old.nodes) (holder_of (freed at mid).nodes) n now
+    instead = record {
+      own = λ s h. absurd (nothing s h);
+      only = λ l h. elim (own_or_not at l) [
+        | inl e ↦ let x : None ≡ Some n = sym (freed_own at mid l e) ∙ h in absurd (let z : ⊥ = cc in z)
+        | inr ne ↦ absurd (ne (held_own at l own (mid_was l n (sym (freed_other at mid l ne) ∙ h))))
+      ];
+      others = λ l m other h. let w = walks.holds l m h in
+          ap (holder_of (freed at mid).nodes) (sym w.4) ∙ held_still m w.0 w.1 other w.2 w.3;
+      no_more = λ l m other h. elim (own_or_not at l) [
+        | inl e ↦ let x : None ≡ Some m = sym (freed_own at mid l e) ∙ h in absurd (let z : ⊥ = cc in z)
+        | inr ne ↦ mid_was l m (sym (freed_other at mid l ne) ∙ h)
+      ];
+    }
 
-  -- the other calls' walks are what they were
-  pub decided_keeps : (f' : ℕ → Option Standing) → f' n ≡ None → ((m : ℕ) → n ≢ m → f' m ≡ f m) → AreWalks (scene (terrain (freed at mid)) f' (holder_of (freed at mid).nodes))
-  decided_keeps f' set same =
-      keeps_walks (scene (terrain old) f (holder_of old.nodes)) (scene (terrain (freed at mid)) f' (holder_of (freed at mid).nodes)) n None walks (record {
-        set = set;
-        same = same;
-        holders = instead;
-        shaped = tt;
-        spared = λ m h s other is hold _. spared m h s other is hold;
-        leads = λ s h. absurd h;
-        apart = λ m h s other is hold b. b;
-        aside = λ m h s other is hold b. hold;
-      })
+    -- the other calls' walks are what they were
+    pub decided_keeps : (f' : ℕ → Option Standing) → f' n ≡ now → ((m : ℕ) → n ≢ m → f' m ≡ f m) → AreWalks (scene (terrain (freed at mid)) f' (holder_of (freed at mid).nodes))
+    decided_keeps f' set same =
+        keeps_walks (scene (terrain old) f (holder_of old.nodes)) (scene (terrain (freed at mid)) f' (holder_of (freed at mid).nodes)) n now walks (record {
+          set = set;
+          same = same;
+          holders = instead;
+          shaped = shaped;
+          spared = λ m h s other is hold _. spared m h s other is hold;
+          leads = λ s h. absurd (nothing s h);
+          apart = λ m h s other is hold b. nowhere s.path b;
+          aside = λ m h s other is hold b. nothing s hold;
+        })

@@ -1,5 +1,5 @@
 -- A decision keeps a core sound.
-use Rattle.std.specs.Prelude.{◌≡◌, ◌≢◌, ◌⊎◌, ◌<◌, ◌≤◌, ◌+◌, ℕ, T, List, [], ◌∷◌, ◌++◌, length, option_map, Option, Some, None, refl}
+use Rattle.std.specs.Prelude.{◌≡◌, ◌≢◌, ◌⊎◌, ◌<◌, ◌≤◌, ◌+◌, ℕ, T, List, [], ◌∷◌, ◌++◌, length, option_map, Option, Some, None}
 use Rattle.std.proofs.Common.{sym, ap, subst, ◌∙◌, inl, inr, arith}
 use Rattle.std.specs.Ordering.{nat_cmp}
 use Rattle.std.specs.Map.{set_value, remove_entry}
@@ -11,52 +11,52 @@ use Rattle.sf_call.specs.declared.call.Call.{Call}
 use Rattle.sf_call.specs.declared.call.Stage.{Stage}
 use Rattle.sf_call.specs.declared.call.Stage.TheVariants as stage
 use Rattle.sf_book.specs.Books.{put}
-use Rattle.sf_call.specs.Tree.{Tree}
+use Rattle.sf_call.specs.Tree.{Tree, label_at}
 use Rattle.sf_call.specs.Calls.{answer_to}
-use Rattle.sf_call.specs.Histories.{replay, IsNewNumber, IsPresent, IsOther, IsNoLeaving, CallMayFollow, IsGiven}
-use Rattle.sf_inode.specs.Stores.{StoreState}
+use Rattle.sf_call.specs.Histories.{after, replay, IsNewNumber, IsPresent, IsOther, IsNoLeaving, CallMayFollow, IsGiven}
+use Rattle.sf_path.specs.Names.{Path}
+use Rattle.sf_inode.specs.Stores.{StoreState, entry_of, holder_of}
+use Rattle.sf_keeps.specs.Steps.{walk}
 use Rattle.sf_call.proofs.Laws.{replay-push, IsLegal-push, no_object, no_handle}
 use Rattle.sf_keeps.specs.Keeps.{Keeps}
 use Rattle.sf_keeps.proofs.Laws.{keeps_held}
 use Rattle.sf_coupling.proofs.Laws.{same_or_not}
-use Rattle.sf_walk.specs.declared.finding.Located.{Located}
-use Rattle.sf_walk.specs.Ways.{path_of, IsLocated}
 use Rattle.sf_walk.specs.Served.{IsUnused, IsRefused, IsCarriedOut}
-use Rattle.sf_walk.specs.Steps.{IsFreeAt, MayDecideAt}
 use Rattle.sf_core.specs.Cores.{call_at, session_at}
-use Rattle.sf_core.specs.Progress.{did}
+use Rattle.sf_core.specs.Progress.{reply_of, did, undecided_in}
 use Rattle.sf_core.specs.Parts.{PartsView}
 use Rattle.sf_core.specs.Sound.{standing_of, standings, CallSound, Sound}
 use Rattle.sf_core.specs.Stepping.{session_set_by, session_set, freed, Finished}
-use Rattle.sf_core.proofs.Maps.{set_same, set_other, removed_same, removed_other, count_removed, count_set, rise_removed, rise_set}
-use Rattle.sf_core.proofs.Spared.{keeps_after, label_still}
+use Rattle.sf_core.proofs.Maps.{set_same, set_other, removed_same, removed_other, count_set, rise_removed, rise_set, passing_removed}
+use Rattle.sf_core.proofs.Spared.{keeps_after}
 use Rattle.sf_core.proofs.Decided.{decided_keeps}
-use Rattle.sf_core.proofs.Sounds.{all_push, deeds_push, some_eq, none_some, call_kept}
+use Rattle.sf_core.proofs.Sounds.{all_push, deeds_push, some_eq, none_some, among_more, is_undecided, undecided_one, call_kept}
 
-freed_keeps : (at : Stage) (s : StoreState) (t : Tree) → Keeps s t → Keeps (freed at s) t
+pub freed_keeps : (at : Stage) (s : StoreState) (t : Tree) → Keeps s t → Keeps (freed at s) t
 freed_keeps stage.Fresh s t h = h
 freed_keeps (stage.At walked node) s t h = keeps_held None s t node h
 
-pub new_to : (p : PartsView) (history : List Record) (number : ℕ) (c : Call) → Sound p history → CallSound p history number c → IsUnused (replay history) number
-new_to p history number c sound h = record {
+pub new_to : (p : PartsView) (history : List Record) (number : ℕ) (c : Call) → Sound p history → CallSound p history number c → reply_of c ≡ None → IsUnused (replay history) number
+new_to p history number c sound h undecided = record {
   above = h.above;
-  label = no_object history number sound.legal h.above h.new_number;
-  handle = no_handle history number sound.legal h.above h.new_number;
+  label = no_object history number sound.legal h.above (h.new_number undecided);
+  handle = no_handle history number sound.legal h.above (h.new_number undecided);
 }
 
-module _ (p : PartsView) (history : List Record) (sound : Sound p history) (c : Call) (at : call_at p.calls c.number ≡ Some c) (q : PartsView) (given : Reply) (fin : Finished p q c c.number given)
-    (found : Located) (is_located : IsLocated p.store c.request found) (free : IsFreeAt p.store c.number c.stage found) (may : MayDecideAt p.store (path_of c.request) c.stage) where
+module _ (p : PartsView) (history : List Record) (sound : Sound p history) (c : Call) (at : call_at p.calls c.number ≡ Some c) (undecided : reply_of c ≡ None) (q : PartsView) (given : Reply) (fin : Finished p q c c.number given)
+    (labels : (path : Path) (l holder : ℕ) → walk (entry_of p.store.nodes) p.store.root path ≡ Some l → holder_of p.store.nodes l ≡ Some holder → c.number ≢ holder
+    → label_at (after (replay history) (did c given)).names path ≡ label_at (replay history).names path) where
   call : CallSound p history c.number c
   call = sound.calls c.number c at
 
   served : IsRefused p.store fin.mid (replay history) given ⊎ IsCarriedOut fin.mid (replay history) (answer_to (replay history) c.session c.number c.moment c.request) given
-  served = fin.served (replay history) sound.keeps (new_to p history c.number c sound call)
+  served = fin.serves.served (replay history) sound.keeps (new_to p history c.number c sound call undecided)
 
   pub may_follow : CallMayFollow history c.number c.session c.moment c.request given
   may_follow = record {
     is_call = call.is_call;
     above_zero = call.above;
-    new_number = call.new_number;
+    new_number = call.new_number undecided;
     present = (sound.sessions c.session (Some c.number) call.session).present;
     answered = elim served [ inl e ↦ inr e.told | inr e ↦ inl e.told ];
   }
@@ -95,8 +95,8 @@ module _ (p : PartsView) (history : List Record) (sound : Sound p history) (c : 
     joins = p.joins;
   }
 
-  fewer : length (remove_entry (is_at (nat_cmp c.number)) p.calls) + 1 ≡ length p.calls
-  fewer = count_removed (is_at (nat_cmp c.number)) p.calls c at
+  fewer : undecided_in (remove_entry (is_at (nat_cmp c.number)) p.calls) + 1 ≡ undecided_in p.calls
+  fewer = let a = passing_removed is_undecided (is_at (nat_cmp c.number)) p.calls c at in let b = undecided_one c undecided in omega (arith, a, b)
 
   pub as_many : length (session_set p.sessions c.session None) ≡ length p.sessions
   as_many = ap (λ (ss : List (ℕ × Option ℕ)). length ss) set_is ∙ count_set (is_at (nat_cmp c.session)) p.sessions None
@@ -114,11 +114,11 @@ module _ (p : PartsView) (history : List Record) (sound : Sound p history) (c : 
     keeps =
         freed_keeps c.stage fin.mid (replay (history ++ did c given ∷ []))
         (subst (λ (t : Tree). Keeps fin.mid t) (sym (replay-push history (did c given)))
-        (keeps_after p.store fin.mid history c.number c.session c.moment c.request given sound.legal call.above call.new_number sound.keeps served fin.nodes));
+        (keeps_after p.store fin.mid history c.number c.session c.moment c.request given sound.legal call.above (call.new_number undecided) sound.keeps served fin.serves.nodes));
     walks =
-        decided_keeps p.store fin.mid history c.number c.session c.moment c.request given sound.legal call.above call.new_number sound.keeps served fin.nodes
-        (label_still p.store fin.mid history c.number c.session c.moment c.request given sound.legal call.above call.new_number sound.keeps served fin.nodes c.stage found is_located free may)
-        c.stage (standings p.calls) sound.walks (ap (option_map standing_of) at) (standings (remove_entry (is_at (nat_cmp c.number)) p.calls))
+        decided_keeps p.store fin.mid history c.number c.session c.moment c.request given sound.legal call.above (call.new_number undecided) sound.keeps served fin.serves.nodes
+        labels
+        c.stage (standings p.calls) sound.walks (ap (option_map standing_of) at) None (λ s h. h) tt (λ s h. h) (standings (remove_entry (is_at (nat_cmp c.number)) p.calls))
         (ap (option_map standing_of) gone_here) (λ m ne. ap (option_map standing_of) (gone_other m (λ e. ne (sym e))));
     calls = λ m d is. elim (same_or_not c.number m) [
       | inl e ↦ absurd (none_some d (sym gone_here ∙ ap (call_at (remove_entry (is_at (nat_cmp c.number)) p.calls)) e ∙ is))
@@ -126,7 +126,7 @@ module _ (p : PartsView) (history : List Record) (sound : Sound p history) (c : 
           let before : call_at p.calls m ≡ Some d = sym (gone_other m (λ e. ne (sym e))) ∙ is in
           let h = sound.calls m d before in
           let apart : d.session ≢ c.session = λ e. ne (some_eq c.number m (some_eq (Some c.number) (Some m) (sym call.session ∙ ap (session_at p.sessions) (sym e) ∙ h.session))) in
-          call_kept p after_decision history (history ++ did c given ∷ []) m d d h refl refl refl refl (omega arith) (new_after m ne h.new_number) (session_other d.session apart ∙ h.session) h.short
+          call_kept p after_decision history (history ++ did c given ∷ []) m d h (omega arith) (λ e. new_after m ne (h.new_number e)) (λ r a. among_more r history (did c given ∷ []) a) (session_other d.session apart ∙ h.session)
     ];
     sessions = λ s o is. elim (same_or_not s c.session) [
       | inl e ↦

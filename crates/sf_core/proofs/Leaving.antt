@@ -1,5 +1,5 @@
 -- A leaving keeps a core sound.
-use Rattle.std.specs.Prelude.{◌≡◌, ◌≢◌, ◌<◌, ◌+◌, ℕ, List, [], ◌∷◌, ◌++◌, length, Option, Some, None, refl}
+use Rattle.std.specs.Prelude.{◌≡◌, ◌≢◌, ◌+◌, ℕ, List, [], ◌∷◌, ◌++◌, length, Option, Some, None, refl}
 use Rattle.std.proofs.Common.{sym, ap, subst, ◌∙◌, inl, inr, arith}
 use Rattle.std.specs.Ordering.{nat_cmp}
 use Rattle.std.specs.Map.{remove_entry}
@@ -24,7 +24,7 @@ use Rattle.sf_core.specs.Parts.{PartsView, seen}
 use Rattle.sf_core.specs.Sound.{terrain, standings, SessionSound, Sound}
 use Rattle.sf_core.specs.Stepping.{Parted}
 use Rattle.sf_core.proofs.Maps.{removed_same, removed_other, count_removed, rise_removed}
-use Rattle.sf_core.proofs.Sounds.{all_push, deeds_push, some_eq, none_some, call_kept}
+use Rattle.sf_core.proofs.Sounds.{all_push, deeds_push, some_eq, none_some, among_more, call_kept}
 use Rattle.sf_core.proofs.Telling.{slot_kept, slot_idle}
 
 -- ---- walks
@@ -93,7 +93,7 @@ module _ (p q : PartsView) (history : List Record) (sound : Sound p history) (se
     calls = λ n c at.
         let h = sound.calls n c at in
         let apart : c.session ≢ session = λ e. none_some n (some_eq None (Some n) (sym idle ∙ ap (session_at p.sessions) (sym e) ∙ h.session)) in
-        call_kept p after_leaving history (history ++ Left session ∷ []) n c c h refl refl refl refl (omega arith) (new_after n h.new_number) (gone_other c.session apart ∙ h.session) h.short;
+        call_kept p after_leaving history (history ++ Left session ∷ []) n c h (omega arith) (λ e. new_after n (h.new_number e)) (λ r a. among_more r history (Left session ∷ []) a) (gone_other c.session apart ∙ h.session);
     sessions = λ s o at. elim (same_or_not s session) [
       | inl e ↦ absurd (none_some o (sym gone_here ∙ ap (session_at (remove_entry (is_at (nat_cmp session)) p.sessions)) (sym e) ∙ at))
       | inr ne ↦ let h = sound.sessions s o (sym (gone_other s ne) ∙ at) in record { above = h.above; most = h.most; present = present_after s ne h.present; busy = h.busy }

@@ -5,7 +5,7 @@ use Rattle.sf_call.specs.Tree.{Tree}
 use Rattle.sf_inode.specs.Stores.{StoreState}
 use Rattle.sf_keeps.specs.Keeps.{Keeps}
 use Rattle.sf_keeps.proofs.Laws.{keeps_looked}
-use Rattle.sf_walk.specs.Served.{LookedUp, after_look_ups}
+use Rattle.sf_walk.specs.Served.{LookedUp, LooksUp, after_look_ups}
 
 after_nodes : (k : ℕ) (s : StoreState) → (after_look_ups k s).nodes ≡ s.nodes
 after_nodes zero s = refl
@@ -37,9 +37,20 @@ looks_more (suc k) s fits =
     let b : min (x + 1) (2 ^ 64 - 1) ≤ s.look_ups + suc k = omega (arith, h.1) in
     (a, b)
 
-pub looked_between : (s new : StoreState) → s.look_ups < 2 ^ 64 → LookedUp s new 1 → (s.look_ups ≤ new.look_ups) × (new.look_ups ≤ s.look_ups + 1)
-looked_between s new fits looked =
-    let h = looks_more looked.count s fits in
-    let e = ap (λ (x : StoreState). x.look_ups) looked.state in
-    let few = looked.few in
+fits_more : (k : ℕ) (s : StoreState) → s.look_ups < 2 ^ 64 → (after_look_ups k s).look_ups < 2 ^ 64
+fits_more zero s fits = fits
+fits_more (suc k) s fits = let x = (after_look_ups k s).look_ups in let a : min (x + 1) (2 ^ 64 - 1) < 2 ^ 64 = omega arith in a
+
+pub looks_between : (s new : StoreState) (most : ℕ) → s.look_ups < 2 ^ 64 → LooksUp s new most → (s.look_ups ≤ new.look_ups) × (new.look_ups ≤ s.look_ups + most)
+looks_between s new most fits looks =
+    let h = looks_more looks.count s fits in
+    let e = looks.look_ups in
+    let few = looks.few in
     (omega (arith, h.0, e), omega (arith, h.1, e, few))
+
+pub looks_fit : (s new : StoreState) (most : ℕ) → LooksUp s new most → s.look_ups < 2 ^ 64 → new.look_ups < 2 ^ 64
+looks_fit s new most looks fits = let f = fits_more looks.count s fits in let e = looks.look_ups in omega (arith, f, e)
+
+-- nothing but look-ups were made
+pub looks_of_looked : (s new : StoreState) (most : ℕ) → LookedUp s new most → LooksUp s new most
+looks_of_looked s new most looked = record { count = looked.count; few = looked.few; look_ups = ap (λ (x : StoreState). x.look_ups) looked.state }

@@ -1,5 +1,5 @@
 -- Maps from numbers: look-ups and lengths after each change.
-use Rattle.std.specs.Prelude.{◌≡◌, ◌≢◌, ◌+◌, ℕ, nat_eq, Bool, true, false, cond, T, List, [], ◌∷◌, length, Option, Some, None, IsSome, refl}
+use Rattle.std.specs.Prelude.{◌≡◌, ◌≢◌, ◌+◌, ℕ, nat_eq, Bool, true, false, cond, T, List, [], ◌∷◌, length, filter, Option, Some, None, IsSome, refl}
 use Rattle.std.proofs.Common.{sym, ap, ◌∙◌, arith, eqb-true}
 use Rattle.std.specs.declared.cmp.Ordering.TheVariants.{Less, Equal, Greater}
 use Rattle.std.specs.Ordering.{nat_cmp, match_ordering, is_eq}
@@ -15,11 +15,16 @@ use Rattle.sf_keeps.proofs.Laws.{lookup-set, lookup-removed, at_is, nat_at_itsel
 by_number : (k q : ℕ) → is_at (nat_cmp k) q ≡ nat_eq k q
 by_number k q = at_is k q
 
-itself : (k : ℕ) → is_at (nat_cmp k) k ≡ true
+pub itself : (k : ℕ) → is_at (nat_cmp k) k ≡ true
 itself k = nat_at_itself k
 
 pub apart_at : (k q : ℕ) → k ≢ q → is_at (nat_cmp k) q ≡ false
 apart_at k q ne = at_is k q ∙ elim (nat_eq k q) as (λ b. nat_eq k q ≡ b → b ≡ false) [ true ↦ λ e. absurd (ne (eqb-true k q e)) | false ↦ λ e. refl ] refl
+
+-- 1 for what passes
+abbrev pub one_if : Bool → ℕ
+one_if true = 1
+one_if false = 0
 
 module _ {X : Type 0} where
   pub put_same : (es : List (ℕ × X)) (k : ℕ) (v : X) → lookup (is_at (nat_cmp k)) (insert_entry nat_cmp es k v) ≡ Some v
@@ -73,3 +78,48 @@ module _ {X : Type 0} where
 
   pub rise_set : (test : ℕ → Bool) (v : X) (es : List (ℕ × X)) → T (is_sorted nat_cmp es) → T (is_sorted nat_cmp (set_value test es v))
   rise_set test v es h = sorted_set nat_cmp test v es h
+
+  -- how many entries pass a test of their values
+  module _ (passes : X → Bool) where
+    first_more : (b : Bool) (x : ℕ × X) (ys : List (ℕ × X)) → length (cond b (x ∷ ys) ys) ≡ length ys + one_if b
+    first_more true x ys = omega arith
+    first_more false x ys = omega arith
+
+    more : (x : ℕ × X) (es : List (ℕ × X)) → length (filter (λ (e : ℕ × X). passes e.1) (x ∷ es)) ≡ length (filter (λ (e : ℕ × X). passes e.1) es) + one_if (passes x.1)
+    more x es = first_more (passes x.1) x (filter (λ (e : ℕ × X). passes e.1) es)
+
+    the_same : (v w : X) → Some v ≡ Some w → one_if (passes v) ≡ one_if (passes w)
+    the_same v w e = let same : v ≡ w = cc in ap (λ y. one_if (passes y)) same
+
+    pub passing_removed : (test : ℕ → Bool) (es : List (ℕ × X)) (v : X) → lookup test es ≡ Some v
+        → length (filter (λ (e : ℕ × X). passes e.1) (remove_entry test es)) + one_if (passes v) ≡ length (filter (λ (e : ℕ × X). passes e.1) es)
+    passing_removed test [] v e = absurd (let x : ⊥ = cc in x)
+    passing_removed test (x ∷ es) v e =
+        elim (test x.0) as (λ b. cond b (Some x.1) (lookup test es) ≡ Some v
+        → length (filter (λ (e : ℕ × X). passes e.1) (cond b es (x ∷ remove_entry test es))) + one_if (passes v) ≡ length (filter (λ (e : ℕ × X). passes e.1) (x ∷ es))) [
+          | true ↦ λ h. let a = more x es in let s = the_same x.1 v h in omega (arith, a, s)
+          | false ↦ λ h. let r = passing_removed test es v h in let a = more x es in let b = more x (remove_entry test es) in omega (arith, r, a, b)
+        ] e
+
+    pub passing_put : (es : List (ℕ × X)) (k : ℕ) (v : X) → lookup (is_at (nat_cmp k)) es ≡ None
+        → length (filter (λ (e : ℕ × X). passes e.1) (insert_entry nat_cmp es k v)) ≡ length (filter (λ (e : ℕ × X). passes e.1) es) + one_if (passes v)
+    passing_put [] k v e = more (k, v) []
+    passing_put (x ∷ es) k v e =
+        elim (nat_cmp k x.0) as (λ r. cond (is_eq r) (Some x.1) (lookup (is_at (nat_cmp k)) es) ≡ None
+        → length (filter (λ (e : ℕ × X). passes e.1) (match_ordering r ((k, v) ∷ x ∷ es) ((x.0, v) ∷ es) (x ∷ insert_entry nat_cmp es k v)))
+        ≡ length (filter (λ (e : ℕ × X). passes e.1) (x ∷ es)) + one_if (passes v)) [
+          | Less ↦ λ h. more (k, v) (x ∷ es)
+          | Equal ↦ λ h. absurd (let z : ⊥ = cc in z)
+          | Greater ↦ λ h. let r = passing_put es k v h in let a = more x es in let b = more x (insert_entry nat_cmp es k v) in omega (arith, r, a, b)
+        ] e
+
+    pub passing_set : (test : ℕ → Bool) (es : List (ℕ × X)) (v w : X) → lookup test es ≡ Some w
+        → length (filter (λ (e : ℕ × X). passes e.1) (set_value test es v)) + one_if (passes w) ≡ length (filter (λ (e : ℕ × X). passes e.1) es) + one_if (passes v)
+    passing_set test [] v w e = absurd (let x : ⊥ = cc in x)
+    passing_set test (x ∷ es) v w e =
+        elim (test x.0) as (λ b. cond b (Some x.1) (lookup test es) ≡ Some w
+        → length (filter (λ (e : ℕ × X). passes e.1) (cond b ((x.0, v) ∷ es) (x ∷ set_value test es v))) + one_if (passes w)
+        ≡ length (filter (λ (e : ℕ × X). passes e.1) (x ∷ es)) + one_if (passes v)) [
+          | true ↦ λ h. let a = more x es in let b = more (x.0, v) es in let s = the_same x.1 w h in omega (arith, a, b, s)
+          | false ↦ λ h. let r = passing_set test es v w h in let a = more x es in let b = more x (set_value test es v) in omega (arith, r, a, b)
+        ] e

@@ -1,5 +1,5 @@
 -- Each event keeps a core sound.
-use Rattle.std.specs.Prelude.{◌≡◌, ◌≢◌, ◌≤◌, ◌+◌, ℕ, T, List, [], ◌∷◌, ◌++◌, length, take, option_map, Option, Some, None, refl}
+use Rattle.std.specs.Prelude.{◌≡◌, ◌≢◌, ◌<◌, ◌≤◌, ◌+◌, ℕ, Bool, true, false, cond, T, List, [], ◌∷◌, ◌++◌, length, take, filter, option_map, Option, Some, None, is_none, refl}
 use Rattle.std.proofs.Common.{sym, ap, subst, ◌∙◌, inl, inr, arith}
 use Rattle.std.specs.List.{AllByRecursion, count_by}
 use Rattle.std.specs.Ordering.{nat_cmp}
@@ -7,16 +7,15 @@ use Rattle.std.specs.Map.{set_value}
 use Rattle.std.specs.BTreeMap.{is_at}
 use Rattle.std.specs.FinMap.{is_sorted}
 use Rattle.sf_path.specs.Names.{Path}
-use Rattle.sf_call.specs.declared.request.Request.{Request}
+use Rattle.sf_reply.specs.declared.reply.Reply.{Reply}
 use Rattle.sf_call.specs.declared.record.Record.{Record}
 use Rattle.sf_call.specs.declared.call.Call.{Call}
 use Rattle.sf_call.specs.declared.call.Stage.{Stage}
 use Rattle.sf_call.specs.declared.call.Stage.TheVariants as stage
-use Rattle.sf_call.specs.Histories.{after, replay, IsNewNumber}
+use Rattle.sf_call.specs.Histories.{after, replay, IsNewNumber, IsAmong}
 use Rattle.sf_book.specs.Books.{is_deed}
 use Rattle.sf_book.proofs.Laws.{deeds-append}
 use Rattle.sf_call.specs.Unanswered.{at_stage, staged_by, staged}
-use Rattle.sf_call.specs.Values.{IsCall}
 use Rattle.sf_inode.specs.Nodes.{with_holder}
 use Rattle.sf_inode.specs.Stores.{StoreState, holder_of, looked_up, edited}
 use Rattle.sf_keeps.specs.Keeps.{Keeps}
@@ -29,9 +28,10 @@ use Rattle.sf_walk.specs.Served.{LookedUp}
 use Rattle.sf_walk.specs.Steps.{IsOnWay, IsFree, Takes, stepped, next_of}
 use Rattle.sf_core.proofs.LookUps.{looked_nodes, looked_root, keeps_counted}
 use Rattle.sf_core.specs.Cores.{call_at, session_at}
+use Rattle.sf_core.specs.Progress.{reply_of, did, undecided_in}
 use Rattle.sf_core.specs.Parts.{PartsView}
 use Rattle.sf_core.specs.Sound.{terrain, standing_at, standing_of, standings, IsShort, CallSound, Sound}
-use Rattle.sf_core.proofs.Maps.{set_same, set_other, count_set, rise_set}
+use Rattle.sf_core.proofs.Maps.{set_same, set_other, rise_set, one_if, passing_removed, passing_set}
 use Rattle.sf_core.proofs.Holding.{same_nodes, leads_same, walks_on, walks_alike}
 use Rattle.sf_core.proofs.Coupled.{first_keeps, next_keeps}
 
@@ -52,17 +52,64 @@ none_some a e = cc
 abbrev pub with_store : PartsView → StoreState → PartsView
 with_store p s = record { store = s; book = p.book; sessions = p.sessions; calls = p.calls; drawn = p.drawn; joins = p.joins }
 
--- what is said of one call and of one session stays, where the numbers drawn and given are no fewer
-pub call_kept : (p q : PartsView) (h g : List Record) (number : ℕ) (c d : Call) → CallSound p h number c → d.number ≡ c.number → d.session ≡ c.session → d.moment ≡ c.moment → d.request ≡ c.request → p.drawn ≤ q.drawn → IsNewNumber number g
-    → session_at q.sessions d.session ≡ Some (Some number) → IsShort (path_of d.request) d.stage → CallSound q g number d
-call_kept p q before after number c d h en es em er more new session short = record {
-  is_number = en ∙ h.is_number;
-  above = h.above;
-  most = let m = h.most in omega (arith, m, more);
+-- ---- words on a call
+pub reply_is : (c : Call) → reply_of c ≡ c.reply
+unfolding reply_of
+reply_is c = refl
+
+pub reply_staged : (after : Stage) (c : Call) → reply_of (at_stage after c) ≡ reply_of c
+unfolding reply_of
+reply_staged after c = refl
+
+-- ---- records that are there
+pub among_more : (r : Record) (h rs : List Record) → IsAmong r h → IsAmong r (h ++ rs)
+unfolding IsAmong
+among_more r [] rs a = absurd a
+among_more r (x ∷ h) rs (inl e) = inl e
+among_more r (x ∷ h) rs (inr a) = inr (among_more r h rs a)
+
+pub among_last : (r : Record) (h : List Record) → IsAmong r (h ++ r ∷ [])
+unfolding IsAmong
+among_last r [] = inl refl
+among_last r (x ∷ h) = inr (among_last r h)
+
+-- ---- how many calls are undecided
+abbrev pub is_undecided : Call → Bool
+is_undecided c = is_none (reply_of c)
+
+pub undecided_one : (c : Call) → reply_of c ≡ None → one_if (is_undecided c) ≡ 1
+undecided_one c e = ap (λ (o : Option Reply). one_if (is_none o)) e
+
+pub decided_none : (c : Call) (given : Reply) → reply_of c ≡ Some given → one_if (is_undecided c) ≡ 0
+decided_none c given e = ap (λ (o : Option Reply). one_if (is_none o)) e
+
+-- no more than there are
+pub undecided_few : (calls : List (ℕ × Call)) → undecided_in calls ≤ length calls
+undecided_few [] = omega arith
+undecided_few (e ∷ calls) =
+    let h = undecided_few calls in
+    elim (is_none (reply_of e.1)) as (λ b. length (cond b (e ∷ filter (λ (x : ℕ × Call). is_none (reply_of x.1)) calls) (filter (λ (x : ℕ × Call). is_none (reply_of x.1)) calls)) ≤ length (e ∷ calls)) [
+      | true ↦ omega (arith, h)
+      | false ↦ omega (arith, h)
+    ]
+
+-- one that is there is one of them
+pub one_there : (calls : List (ℕ × Call)) (n : ℕ) (c : Call) → call_at calls n ≡ Some c → reply_of c ≡ None → 0 < undecided_in calls
+one_there calls n c at undecided = let a = passing_removed is_undecided (is_at (nat_cmp n)) calls c at in let b = undecided_one c undecided in omega (arith, a, b)
+
+-- what is said of one call and of one session stays, where the numbers drawn and given are no fewer and no record goes
+pub call_kept : (p q : PartsView) (h g : List Record) (number : ℕ) (c : Call) → CallSound p h number c → p.drawn ≤ q.drawn → (reply_of c ≡ None → IsNewNumber number g)
+    → ((r : Record) → IsAmong r h → IsAmong r g) → session_at q.sessions c.session ≡ Some (Some number) → CallSound q g number c
+call_kept p q h g number c k more new among session = record {
+  is_number = k.is_number;
+  above = k.above;
+  most = let m = k.most in omega (arith, m, more);
   new_number = new;
-  is_call = subst (λ (r : Request). IsCall number d.session d.moment r) (sym er) (subst (λ m. IsCall number d.session m c.request) (sym em) (subst (λ s. IsCall number s c.moment c.request) (sym es) h.is_call));
+  copied = k.copied;
+  recorded = λ given e. let r = k.recorded given e in (r.0, among (did c given) r.1);
+  is_call = k.is_call;
   session = session;
-  short = short;
+  short = k.short;
 }
 
 -- ---- look-ups alone
@@ -75,7 +122,7 @@ sound_looked p history s most sound looked =
       keeps = keeps_counted p.store s (replay history) most looked sound.keeps;
       walks = walks_alike (terrain s) (standings p.calls) (standings p.calls) (holder_of p.store.nodes) (holder_of s.nodes) (λ n. refl) (λ l i. holder_of (nodes i) l)
           (walks_on (terrain p.store) (terrain s) (standings p.calls) (holder_of p.store.nodes) (leads_same p.store s (same_nodes p.store s nodes root)) sound.walks);
-      calls = λ n c at. let h = sound.calls n c at in call_kept p (with_store p s) history history n c c h refl refl refl refl (omega arith) h.new_number h.session h.short;
+      calls = λ n c at. let h = sound.calls n c at in call_kept p (with_store p s) history history n c h (omega arith) h.new_number (λ r a. a) h.session;
       sessions = λ x o at. let h = sound.sessions x o at in record { above = h.above; most = h.most; present = h.present; busy = h.busy };
       later = sound.later;
       newcomers = sound.newcomers;
@@ -92,38 +139,104 @@ sound_looked p history s most sound looked =
 pub staged_is : (calls : List (ℕ × Call)) (n : ℕ) (after : Stage) (c : Call) → call_at calls n ≡ Some c → staged calls n after ≡ set_value (is_at (nat_cmp n)) calls (at_stage after c)
 staged_is calls n after c at = ap (staged_by calls n after) at
 
-module _ (p : PartsView) (history : List Record) (sound : Sound p history) (n : ℕ) (c : Call) (at : call_at p.calls n ≡ Some c) (s : StoreState) (after : Stage) (takes : Takes p.store s c after) where
+module _ (p : PartsView) (history : List Record) (sound : Sound p history) (n : ℕ) (c : Call) (at : call_at p.calls n ≡ Some c) (undecided : reply_of c ≡ None) (s : StoreState) (after : Stage) where
   call : CallSound p history n c
   call = sound.calls n c at
 
-  after_here : call_at (staged p.calls n after) n ≡ Some (at_stage after c)
+  pub after_here : call_at (staged p.calls n after) n ≡ Some (at_stage after c)
   after_here = ap (λ cs. call_at cs n) (staged_is p.calls n after c at) ∙ set_same p.calls n (at_stage after c) c at
 
-  after_other : (m : ℕ) → n ≢ m → call_at (staged p.calls n after) m ≡ call_at p.calls m
+  pub after_other : (m : ℕ) → n ≢ m → call_at (staged p.calls n after) m ≡ call_at p.calls m
   after_other m ne = ap (λ cs. call_at cs m) (staged_is p.calls n after c at) ∙ set_other p.calls n (at_stage after c) c m (λ e. ne (sym e)) at
 
+  abbrev after_stage : PartsView
+  after_stage = record { store = s; book = p.book; sessions = p.sessions; calls = staged p.calls n after; drawn = p.drawn; joins = p.joins }
+
+  as_many : undecided_in (staged p.calls n after) ≡ undecided_in p.calls
+  as_many =
+      let a = ap (λ (cs : List (ℕ × Call)). undecided_in cs) (staged_is p.calls n after c at) in
+      let b = passing_set is_undecided (is_at (nat_cmp n)) p.calls (at_stage after c) c at in
+      let d = undecided_one c undecided in
+      let e = undecided_one (at_stage after c) (reply_staged after c ∙ undecided) in
+      omega (arith, a, b, d, e)
+
+  module _ (keeps : Keeps s (replay history)) (walks : AreWalks (scene (terrain s) (standings (staged p.calls n after)) (holder_of s.nodes))) (short : IsShort (path_of c.request) after) where
+    here : CallSound after_stage history n (at_stage after c)
+    here = record {
+      is_number = call.is_number;
+      above = call.above;
+      most = call.most;
+      new_number = λ e. call.new_number undecided;
+      copied = λ path e f. call.copied path e undecided;
+      recorded = λ given e. absurd (none_some given (sym undecided ∙ sym (reply_staged after c) ∙ e));
+      is_call = call.is_call;
+      session = call.session;
+      short = short;
+    }
+
+    -- the call came to another stage
+    pub sound_staged : Sound (record { store = s; book = p.book; sessions = p.sessions; calls = staged p.calls n after; drawn = p.drawn; joins = p.joins }) history
+    sound_staged = record {
+      legal = sound.legal;
+      keeps = keeps;
+      walks = walks;
+      calls = λ m d is. elim (same_or_not n m) [
+        | inl e ↦
+            let same : d ≡ at_stage after c = some_eq d (at_stage after c) (sym is ∙ ap (call_at (staged p.calls n after)) (sym e) ∙ after_here) in
+            subst (λ k. CallSound after_stage history k d) e (subst (λ (x : Call). CallSound after_stage history n x) (sym same) here)
+        | inr ne ↦ let h = sound.calls m d (sym (after_other m ne) ∙ is) in call_kept p after_stage history history m d h (omega arith) h.new_number (λ r a. a) h.session
+      ];
+      sessions = λ x o is. let h = sound.sessions x o is in record {
+        above = h.above;
+        most = h.most;
+        present = h.present;
+        busy = λ m e. let b = h.busy m e in elim (same_or_not n m) [
+          | inl same ↦
+              let d : b.0 ≡ c = some_eq b.0 c (sym b.1 ∙ ap (call_at p.calls) (sym same) ∙ at) in
+              (at_stage after c, ap (call_at (staged p.calls n after)) (sym same) ∙ after_here, ap (λ (y : Call). y.session) (sym d) ∙ b.2)
+          | inr ne ↦ (b.0, after_other m ne ∙ b.1, b.2)
+        ];
+      };
+      later = sound.later;
+      newcomers = sound.newcomers;
+      room = let r = sound.room in omega (arith, r, as_many);
+      counted = let r = sound.counted in omega (arith, r, as_many);
+      drawn_fits = sound.drawn_fits;
+      joins_fit = sound.joins_fit;
+      few = sound.few;
+      calls_rise = subst (λ cs. T (is_sorted nat_cmp cs)) (sym (staged_is p.calls n after c at)) (rise_set (is_at (nat_cmp n)) (at_stage after c) p.calls sound.calls_rise);
+      sessions_rise = sound.sessions_rise;
+    }
+
+module _ (p : PartsView) (history : List Record) (sound : Sound p history) (n : ℕ) (c : Call) (at : call_at p.calls n ≡ Some c) (undecided : reply_of c ≡ None) (s : StoreState) (after : Stage) (takes : Takes p.store s c after) where
   own_standing : (g : Stage) → c.stage ≡ g → standings p.calls n ≡ Some (standing_at (Some takes.path) g)
   own_standing g e = ap (option_map standing_of) at ∙ ap (λ x. Some (standing_at (path_of c.request) x)) e ∙ ap (λ o. Some (standing_at o g)) takes.is_path
 
   new_standing : (g : Stage) → c.stage ≡ g → standings (staged p.calls n after) n ≡ Some (At (record { path = take (next_of g) takes.path; node = takes.node }))
   new_standing g e =
-      ap (option_map standing_of) after_here ∙ ap (λ o. Some (standing_at o after)) takes.is_path
+      ap (option_map standing_of) (after_here p history sound n c at undecided s after) ∙ ap (λ o. Some (standing_at o after)) takes.is_path
       ∙ ap (λ x. Some (standing_at (Some takes.path) x)) (takes.after_is ∙ ap (λ x. stage.At (next_of x) takes.node) e)
 
+  other_standing : (m : ℕ) → n ≢ m → standings (staged p.calls n after) m ≡ standings p.calls m
+  other_standing m ne = ap (option_map standing_of) (after_other p history sound n c at undecided s after m ne)
+
+  number_is : c.number ≡ n
+  number_is = (sound.calls n c at).is_number
+
   free : IsFree p.store n takes.node
-  free m h = sym call.is_number ∙ takes.free m h
+  free m h = sym number_is ∙ takes.free m h
 
   state : s ≡ stepped p.store n c.stage takes.node
-  state = takes.state ∙ ap (λ k. stepped p.store k c.stage takes.node) call.is_number
+  state = takes.state ∙ ap (λ k. stepped p.store k c.stage takes.node) number_is
 
   walks_by : (g : Stage) → c.stage ≡ g → IsOnWay p.store takes.path (next_of g) takes.node
       → AreWalks (scene (terrain (stepped p.store n g takes.node)) (standings (staged p.calls n after)) (holder_of (stepped p.store n g takes.node).nodes))
   walks_by stage.Fresh e way =
       first_keeps p.store history sound.legal sound.keeps (standings p.calls) n sound.walks takes.path takes.node free way (own_standing stage.Fresh e)
-      (standings (staged p.calls n after)) (new_standing stage.Fresh e) (λ m ne. ap (option_map standing_of) (after_other m ne))
+      (standings (staged p.calls n after)) (new_standing stage.Fresh e) other_standing
   walks_by (stage.At walked above) e way =
       next_keeps p.store history sound.legal sound.keeps (standings p.calls) n sound.walks takes.path takes.node free walked above way (own_standing (stage.At walked above) e)
-      (standings (staged p.calls n after)) (new_standing (stage.At walked above) e) (λ m ne. ap (option_map standing_of) (after_other m ne))
+      (standings (staged p.calls n after)) (new_standing (stage.At walked above) e) other_standing
 
   keeps_by : (g : Stage) → Keeps (stepped p.store n g takes.node) (replay history)
   keeps_by stage.Fresh = keeps_held (Some n) p.store (replay history) takes.node sound.keeps
@@ -131,42 +244,8 @@ module _ (p : PartsView) (history : List Record) (sound : Sound p history) (n : 
       keeps_held None (edited (with_holder (Some n)) (looked_up p.store) takes.node) (replay history) above
       (keeps_held (Some n) (looked_up p.store) (replay history) takes.node (keeps_looked p.store (replay history) sound.keeps))
 
-  abbrev after_step : PartsView
-  after_step = record { store = s; book = p.book; sessions = p.sessions; calls = staged p.calls n after; drawn = p.drawn; joins = p.joins }
-
-  short : IsShort (path_of c.request) after
-  short = subst (λ (o : Option Path). IsShort o after) (sym takes.is_path) (subst (λ (g : Stage). IsShort (Some takes.path) g) (sym takes.after_is) takes.on_way.short)
-
   pub sound_took : Sound (record { store = s; book = p.book; sessions = p.sessions; calls = staged p.calls n after; drawn = p.drawn; joins = p.joins }) history
-  sound_took = record {
-    legal = sound.legal;
-    keeps = subst (λ (x : StoreState). Keeps x (replay history)) (sym state) (keeps_by c.stage);
-    walks = subst (λ (x : StoreState). AreWalks (scene (terrain x) (standings (staged p.calls n after)) (holder_of x.nodes))) (sym state) (walks_by c.stage refl takes.on_way);
-    calls = λ m d is. elim (same_or_not n m) [
-      | inl e ↦
-          let same : d ≡ at_stage after c = some_eq d (at_stage after c) (sym is ∙ ap (call_at (staged p.calls n after)) (sym e) ∙ after_here) in
-          subst (λ k. CallSound after_step history k d) e (subst (λ (x : Call). CallSound after_step history n x) (sym same)
-          (call_kept p after_step history history n c (at_stage after c) call refl refl refl refl (omega arith) call.new_number call.session short))
-      | inr ne ↦ let h = sound.calls m d (sym (after_other m ne) ∙ is) in call_kept p after_step history history m d d h refl refl refl refl (omega arith) h.new_number h.session h.short
-    ];
-    sessions = λ x o is. let h = sound.sessions x o is in record {
-      above = h.above;
-      most = h.most;
-      present = h.present;
-      busy = λ m e. let b = h.busy m e in elim (same_or_not n m) [
-        | inl same ↦
-            let d : b.0 ≡ c = some_eq b.0 c (sym b.1 ∙ ap (call_at p.calls) (sym same) ∙ at) in
-            (at_stage after c, ap (call_at (staged p.calls n after)) (sym same) ∙ after_here, ap (λ (y : Call). y.session) (sym d) ∙ b.2)
-        | inr ne ↦ (b.0, after_other m ne ∙ b.1, b.2)
-      ];
-    };
-    later = sound.later;
-    newcomers = sound.newcomers;
-    room = let e : length (staged p.calls n after) ≡ length p.calls = ap (λ (cs : List (ℕ × Call)). length cs) (staged_is p.calls n after c at) ∙ count_set (is_at (nat_cmp n)) p.calls (at_stage after c) in let r = sound.room in omega (arith, e, r);
-    counted = let e : length (staged p.calls n after) ≡ length p.calls = ap (λ (cs : List (ℕ × Call)). length cs) (staged_is p.calls n after c at) ∙ count_set (is_at (nat_cmp n)) p.calls (at_stage after c) in let r = sound.counted in omega (arith, e, r);
-    drawn_fits = sound.drawn_fits;
-    joins_fit = sound.joins_fit;
-    few = sound.few;
-    calls_rise = subst (λ cs. T (is_sorted nat_cmp cs)) (sym (staged_is p.calls n after c at)) (rise_set (is_at (nat_cmp n)) (at_stage after c) p.calls sound.calls_rise);
-    sessions_rise = sound.sessions_rise;
-  }
+  sound_took = sound_staged p history sound n c at undecided s after
+      (subst (λ (x : StoreState). Keeps x (replay history)) (sym state) (keeps_by c.stage))
+      (subst (λ (x : StoreState). AreWalks (scene (terrain x) (standings (staged p.calls n after)) (holder_of x.nodes))) (sym state) (walks_by c.stage refl takes.on_way))
+      (subst (λ (o : Option Path). IsShort o after) (sym takes.is_path) (subst (λ (g : Stage). IsShort (Some takes.path) g) (sym takes.after_is) takes.on_way.short))

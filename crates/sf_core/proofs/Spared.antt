@@ -18,7 +18,10 @@ use Rattle.sf_laws.specs.Own.{IsOwnPath}
 use Rattle.sf_laws.proofs.Laws.{other_labels, kinds_stay}
 use Rattle.sf_call.specs.Allowed.{kind_of}
 use Rattle.sf_call.specs.Histories.{after, replay, IsLegal, IsNewNumber}
-use Rattle.sf_call.proofs.Laws.{after_told, no_object}
+use Rattle.sf_call.proofs.Laws.{after_told, no_object, same_path_is}
+use Rattle.std.specs.Ordering.{is_eq}
+use Rattle.std.specs.Cmp.{tied_itself}
+use Rattle.sf_path.specs.Order.{same_path, path_total}
 use Rattle.sf_inode.specs.declared.node.Node.{Node}
 use Rattle.sf_inode.specs.declared.node.Content.{Content}
 use Rattle.sf_inode.specs.declared.node.Content.TheVariants as content
@@ -29,53 +32,90 @@ use Rattle.sf_keeps.specs.Keeps.{Keeps}
 use Rattle.sf_keeps.proofs.Laws.{object_there, one_node, reached_node, label_found}
 use Rattle.sf_walk.specs.declared.finding.Located.{Located}
 use Rattle.sf_walk.specs.declared.finding.Located.TheVariants as located
-use Rattle.sf_walk.specs.Ways.{way_from, missing, path_of, IsWay, IsLocated}
+use Rattle.sf_call.specs.Requests.{Target, target_of}
+use Rattle.sf_call.specs.Requests.Target.{ByHandle, OnPath, OnPaths}
+use Rattle.sf_walk.specs.Ways.{way_from, missing, path_at, path_of}
 use Rattle.sf_walk.specs.Served.{IsAsBefore, NodesStay, IsRefused, IsCarriedOut}
 use Rattle.sf_walk.specs.Steps.{IsFreeAt, MayDecideAt}
 
--- a request's own path is the one that it walks
-pub own_is : (r : Request) (q : Path) → IsOwnPath r q → path_of r ≡ Some q
-own_is (request.Stat path) q e = absurd e
-own_is (request.SetStat path attrs) q e = absurd e
-own_is (request.Mkdir path attrs) q e = ap Some (sym e)
-own_is (request.Rmdir path) q e = ap Some (sym e)
-own_is (request.Remove path) q e = ap Some (sym e)
-own_is (request.OpenDir path) q e = absurd e
-own_is (request.Open path flags attrs) q e = ap Some (sym e)
-own_is (request.Close handle) q e = absurd e
-own_is (request.FStat handle) q e = absurd e
-own_is (request.FSetStat handle attrs) q e = absurd e
-own_is (request.Read handle offset len) q e = absurd e
-own_is (request.Write handle offset bytes) q e = absurd e
-own_is (request.ReadDir handle) q e = absurd e
-own_is (request.Rename old new) q e = absurd e
-own_is (request.PosixRename old new) q e = absurd e
+on_path : (p : Path) (h : ℕ) → OnPath p ≡ ByHandle h → ⊥
+on_path p h e = cc
 
-never_root : (q p : Path) (x : Name) → q ≡ [] → q ≡ x ∷ p → ⊥
-never_root q p x root own = let z : (x ∷ p) ≡ [] = sym own ∙ root in cc
+on_paths : (old new : Path) (h : ℕ) → OnPaths old new ≡ ByHandle h → ⊥
+on_paths old new h e = cc
 
--- no request changes the root's label
-module _ (t : Tree) (session number moment : ℕ) (q : Path) (root : q ≡ []) where
-  root_label : (r : Request) → label_at (apply t session number moment r).tree.names q ≡ label_at t.names q
-  root_label (request.Stat path) = other_labels t session number moment (request.Stat path) q (λ e. e)
-  root_label (request.SetStat path attrs) = other_labels t session number moment (request.SetStat path attrs) q (λ e. e)
-  root_label (request.Mkdir [] attrs) = refl
-  root_label (request.Mkdir (x ∷ p) attrs) = other_labels t session number moment (request.Mkdir (x ∷ p) attrs) q (never_root q p x root)
-  root_label (request.Rmdir []) = refl
-  root_label (request.Rmdir (x ∷ p)) = other_labels t session number moment (request.Rmdir (x ∷ p)) q (never_root q p x root)
-  root_label (request.Remove []) = refl
-  root_label (request.Remove (x ∷ p)) = other_labels t session number moment (request.Remove (x ∷ p)) q (never_root q p x root)
-  root_label (request.OpenDir path) = other_labels t session number moment (request.OpenDir path) q (λ e. e)
-  root_label (request.Open [] flags attrs) = refl
-  root_label (request.Open (x ∷ p) flags attrs) = other_labels t session number moment (request.Open (x ∷ p) flags attrs) q (never_root q p x root)
-  root_label (request.Close handle) = other_labels t session number moment (request.Close handle) q (λ e. e)
-  root_label (request.FStat handle) = other_labels t session number moment (request.FStat handle) q (λ e. e)
-  root_label (request.FSetStat handle attrs) = other_labels t session number moment (request.FSetStat handle attrs) q (λ e. e)
-  root_label (request.Read handle offset len) = other_labels t session number moment (request.Read handle offset len) q (λ e. e)
-  root_label (request.Write handle offset bytes) = other_labels t session number moment (request.Write handle offset bytes) q (λ e. e)
-  root_label (request.ReadDir handle) = other_labels t session number moment (request.ReadDir handle) q (λ e. e)
-  root_label (request.Rename old new) = other_labels t session number moment (request.Rename old new) q (λ e. e)
-  root_label (request.PosixRename old new) = other_labels t session number moment (request.PosixRename old new) q (λ e. e)
+target_by : (g : Target) (path : Path) → path_at g ≡ Some path → g ≡ OnPath path
+target_by (ByHandle handle) path e = absurd (let z : None ≡ Some path = e in let k : ⊥ = cc in k)
+target_by (OnPath p) path e = let same : p ≡ path = cc in ap OnPath same
+target_by (OnPaths old new) path e = absurd (let z : None ≡ Some path = e in let k : ⊥ = cc in k)
+
+-- what walks a path is aimed at it
+pub path_target : (r : Request) (path : Path) → path_of r ≡ Some path → target_of r ≡ OnPath path
+path_target r path e = target_by (target_of r) path e
+
+-- a request's own path is the one that it walks, if it walks one
+by_path : (r : Request) (q path : Path) → path_of r ≡ Some path → IsOwnPath r q → q ≡ path
+by_path (request.Stat p) q path e own = absurd own
+by_path (request.SetStat p attrs) q path e own = absurd own
+by_path (request.Mkdir p attrs) q path e own = let same : p ≡ path = cc in own ∙ same
+by_path (request.Rmdir p) q path e own = let same : p ≡ path = cc in own ∙ same
+by_path (request.Remove p) q path e own = let same : p ≡ path = cc in own ∙ same
+by_path (request.OpenDir p) q path e own = absurd own
+by_path (request.Open p flags attrs) q path e own = let same : p ≡ path = cc in own ∙ same
+by_path (request.Close handle) q path e own = absurd own
+by_path (request.FStat handle) q path e own = absurd own
+by_path (request.FSetStat handle attrs) q path e own = absurd own
+by_path (request.Read handle offset len) q path e own = absurd own
+by_path (request.Write handle offset bytes) q path e own = absurd own
+by_path (request.ReadDir handle) q path e own = absurd own
+by_path (request.Rename old new) q path e own = let z : None ≡ Some path = e in absurd (let k : ⊥ = cc in k)
+by_path (request.PosixRename old new) q path e own = let z : None ≡ Some path = e in absurd (let k : ⊥ = cc in k)
+
+pub own_is : (r : Request) (q path : Path) → path_of r ≡ Some path → IsOwnPath r q → q ≡ path
+own_is r q path e own = by_path r q path e own
+
+some_root : (x : Name) (p : Path) → Some (x ∷ p) ≡ Some [] → ⊥
+some_root x p e = cc
+
+-- a call by handle has no path of its own
+by_handle : (r : Request) (handle : ℕ) (q : Path) → target_of r ≡ ByHandle handle → IsOwnPath r q → ⊥
+by_handle (request.Stat p) h q e own = own
+by_handle (request.SetStat p attrs) h q e own = own
+by_handle (request.Mkdir p attrs) h q e own = on_path p h e
+by_handle (request.Rmdir p) h q e own = on_path p h e
+by_handle (request.Remove p) h q e own = on_path p h e
+by_handle (request.OpenDir p) h q e own = own
+by_handle (request.Open p flags attrs) h q e own = on_path p h e
+by_handle (request.Close handle) h q e own = own
+by_handle (request.FStat handle) h q e own = own
+by_handle (request.FSetStat handle attrs) h q e own = own
+by_handle (request.Read handle offset len) h q e own = own
+by_handle (request.Write handle offset bytes) h q e own = own
+by_handle (request.ReadDir handle) h q e own = own
+by_handle (request.Rename old new) h q e own = on_paths old new h e
+by_handle (request.PosixRename old new) h q e own = on_paths old new h e
+
+-- no call on the root's path changes the root's label
+root_by : (t : Tree) (session number moment : ℕ) (r : Request) → path_of r ≡ Some [] → label_at (apply t session number moment r).tree.names [] ≡ label_at t.names []
+root_by t session number moment (request.Stat path) e = other_labels t session number moment (request.Stat path) [] (λ o. o)
+root_by t session number moment (request.SetStat path attrs) e = other_labels t session number moment (request.SetStat path attrs) [] (λ o. o)
+root_by t session number moment (request.Mkdir [] attrs) e = refl
+root_by t session number moment (request.Mkdir (x ∷ p) attrs) e = absurd (some_root x p e)
+root_by t session number moment (request.Rmdir []) e = refl
+root_by t session number moment (request.Rmdir (x ∷ p)) e = absurd (some_root x p e)
+root_by t session number moment (request.Remove []) e = refl
+root_by t session number moment (request.Remove (x ∷ p)) e = absurd (some_root x p e)
+root_by t session number moment (request.OpenDir path) e = other_labels t session number moment (request.OpenDir path) [] (λ o. o)
+root_by t session number moment (request.Open [] flags attrs) e = refl
+root_by t session number moment (request.Open (x ∷ p) flags attrs) e = absurd (some_root x p e)
+root_by t session number moment (request.Close handle) e = other_labels t session number moment (request.Close handle) [] (λ o. o)
+root_by t session number moment (request.FStat handle) e = other_labels t session number moment (request.FStat handle) [] (λ o. o)
+root_by t session number moment (request.FSetStat handle attrs) e = other_labels t session number moment (request.FSetStat handle attrs) [] (λ o. o)
+root_by t session number moment (request.Read handle offset len) e = other_labels t session number moment (request.Read handle offset len) [] (λ o. o)
+root_by t session number moment (request.Write handle offset bytes) e = other_labels t session number moment (request.Write handle offset bytes) [] (λ o. o)
+root_by t session number moment (request.ReadDir handle) e = other_labels t session number moment (request.ReadDir handle) [] (λ o. o)
+root_by t session number moment (request.Rename old new) e = absurd (let z : None ≡ Some [] = e in let k : ⊥ = cc in k)
+root_by t session number moment (request.PosixRename old new) e = absurd (let z : None ≡ Some [] = e in let k : ⊥ = cc in k)
 
 content_has : (c : Content) (n : Name) (y : ℕ) → entry_in c n ≡ Some y → is_directory_content c ≡ true
 content_has (content.Directory es) n y e = refl
@@ -90,7 +130,7 @@ has_entry nodes x n y e = by_node (node_in nodes x) e
     by_node (Some node) f = content_has node.content n y f
 
 -- what walking finds is located there
-located_at : (nodes : List (Option Node)) (q : Path) (above x l : ℕ) → walk (entry_of nodes) x q ≡ Some l → (parent : ℕ) × (way_from nodes above x q ≡ located.At parent l)
+pub located_at : (nodes : List (Option Node)) (q : Path) (above x l : ℕ) → walk (entry_of nodes) x q ≡ Some l → (parent : ℕ) × (way_from nodes above x q ≡ located.At parent l)
 located_at nodes [] above x l e = (above, let same : x ≡ l = cc in ap (located.At above) same)
 located_at nodes (n ∷ q) above x l e =
     elim (entry_of nodes x n) as (λ o. entry_of nodes x n ≡ o → option_and_then (λ y. walk (entry_of nodes) y q) o ≡ Some l
@@ -174,28 +214,42 @@ module _ (old mid : StoreState) (history : List Record) (n session moment : ℕ)
         directory_is mid.nodes l node now ∙ directory_kind node.metadata node.content (kind ∙ kind_directory was.metadata was.content content_was)
   ]
 
-  -- a path that another call stands at is not the call's own, or nothing happens there
-  module _ (at : Stage) (found : Located) (is_located : IsLocated old r found) (free : IsFreeAt old n at found) (may : MayDecideAt old (path_of r) at) where
-    not_own : (q : Path) (l holder : ℕ) → (q ≡ [] → ⊥) → walk (entry_of old.nodes) old.root q ≡ Some l → holder_of old.nodes l ≡ Some holder → n ≢ holder → IsOwnPath r q → ⊥
-    not_own q l holder past w held other own =
-        let is = own_is r q own in
-        let there = located_at old.nodes q old.root old.root l w in
-        let way : found ≡ located.At there.0 l = subst (λ (o : Option Path). IsWay old o found) is is_located ∙ there.1 in
-        by_stage at (subst (λ (o : Option Path). MayDecideAt old o at) is may) (subst (λ (f : Located). IsFreeAt old n at f) way free)
+  -- what the tree's answer leaves, the record leaves
+  pub label_after : (q : Path) → label_at (apply (replay history) session n moment r).tree.names q ≡ label_at (replay history).names q
+      → label_at (after (replay history) (Did n session moment r given)).names q ≡ label_at (replay history).names q
+  label_after q same = elim served [
+    | inl e ↦ ap (λ (g : Reply). label_at (after (replay history) (Did n session moment r g)).names q) e.told
+    | inr e ↦
+        ap (λ (g : Reply). label_at (after (replay history) (Did n session moment r g)).names q) e.told ∙ ap (λ (u : Tree). label_at u.names q) (after_told (replay history) session n moment r)
+        ∙ same
+  ]
+
+  -- a call by handle changes no label
+  pub label_by_handle : (handle : ℕ) → target_of r ≡ ByHandle handle → (q : Path) → label_at (after (replay history) (Did n session moment r given)).names q ≡ label_at (replay history).names q
+  label_by_handle handle e q = label_after q (other_labels (replay history) session n moment r q (λ own. by_handle r handle q e own))
+
+  -- the path that another call stands at is not the call's own, or nothing happens there
+  module _ (path : Path) (is_path : path_of r ≡ Some path) (at : Stage) (found : Located) (way : found ≡ way_from old.nodes old.root old.root path) (free : IsFreeAt old n at found) (may : MayDecideAt old (Some path) at) where
+    apart : (l holder : ℕ) → walk (entry_of old.nodes) old.root path ≡ Some l → holder_of old.nodes l ≡ Some holder → n ≢ holder → path ≡ []
+    apart l holder w held other =
+        let there = located_at old.nodes path old.root old.root l w in
+        by_stage at may (subst (λ (f : Located). IsFreeAt old n at f) (way ∙ there.1) free)
       where
-        by_stage : (g : Stage) → MayDecideAt old (Some q) g → IsFreeAt old n g (located.At (located_at old.nodes q old.root old.root l w).0 l) → ⊥
-        by_stage stage.Fresh e f = past e
-        by_stage (stage.At walked node) e f = other (f holder held)
+        by_stage : (g : Stage) → MayDecideAt old (Some path) g → IsFreeAt old n g (located.At (located_at old.nodes path old.root old.root l w).0 l) → path ≡ []
+        by_stage stage.Fresh e f = e
+        by_stage (stage.At walked node) e f = absurd (other (f holder held))
+
+    own_or_not : (q : Path) → (q ≡ path) ⊎ (IsOwnPath r q → ⊥)
+    own_or_not q = elim (same_path q path) as (λ b. same_path q path ≡ b → (q ≡ path) ⊎ (IsOwnPath r q → ⊥)) [
+      | true ↦ λ e. inl (same_path_is q path e)
+      | false ↦ λ e. inr (λ own. let x : false ≡ true = sym e ∙ ap (λ y. same_path y path) (own_is r q path is_path own) ∙ ap is_eq (tied_itself path_total path) in let k : ⊥ = cc in k)
+    ] refl
 
     pub label_still : (q : Path) (l holder : ℕ) → walk (entry_of old.nodes) old.root q ≡ Some l → holder_of old.nodes l ≡ Some holder → n ≢ holder
         → label_at (after (replay history) (Did n session moment r given)).names q ≡ label_at (replay history).names q
-    label_still q l holder w held other = elim served [
-      | inl e ↦ ap (λ (g : Reply). label_at (after (replay history) (Did n session moment r g)).names q) e.told
-      | inr e ↦
-          ap (λ (g : Reply). label_at (after (replay history) (Did n session moment r g)).names q) e.told ∙ ap (λ (u : Tree). label_at u.names q) (after_told (replay history) session n moment r)
-          ∙ by_path q refl
-    ]
-      where
-        by_path : (p : Path) → q ≡ p → label_at (apply (replay history) session n moment r).tree.names q ≡ label_at (replay history).names q
-        by_path [] e = root_label (replay history) session n moment q e r
-        by_path (x ∷ p) e = other_labels (replay history) session n moment r q (not_own q l holder (λ z. let y : (x ∷ p) ≡ [] = sym e ∙ z in absurd (let k : ⊥ = cc in k)) w held other)
+    label_still q l holder w held other = label_after q (elim (own_or_not q) [
+      | inl e ↦
+          let root : path ≡ [] = apart l holder (ap (walk (entry_of old.nodes) old.root) (sym e) ∙ w) held other in
+          ap (label_at (apply (replay history) session n moment r).tree.names) (e ∙ root) ∙ root_by (replay history) session n moment r (is_path ∙ ap Some root) ∙ ap (label_at (replay history).names) (sym (e ∙ root))
+      | inr ne ↦ other_labels (replay history) session n moment r q ne
+    ])

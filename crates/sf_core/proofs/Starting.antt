@@ -5,6 +5,7 @@ use Rattle.std.specs.Ordering.{nat_cmp}
 use Rattle.std.specs.Map.{set_value}
 use Rattle.std.specs.BTreeMap.{is_at, insert_entry}
 use Rattle.std.specs.FinMap.{is_sorted}
+use Rattle.sf_path.specs.Names.{Path}
 use Rattle.sf_call.specs.declared.request.Request.{Request}
 use Rattle.sf_book.specs.Books.{BookView}
 use Rattle.sf_call.specs.declared.call.Call.{Call}
@@ -19,12 +20,12 @@ use Rattle.sf_coupling.specs.Walks.{scene, HoldsInstead}
 use Rattle.sf_coupling.specs.Walks.Standing.{Fresh}
 use Rattle.sf_coupling.proofs.Laws.{same_or_not, keeps_walks}
 use Rattle.sf_core.specs.Cores.{call_at, session_at, last_number, most_sessions}
-use Rattle.sf_core.specs.Progress.{new_call}
+use Rattle.sf_core.specs.Progress.{copy_of, new_call, undecided_in}
 use Rattle.sf_core.specs.Parts.{PartsView}
 use Rattle.sf_core.specs.Sound.{terrain, standing_of, standings, CallSound, Sound}
 use Rattle.sf_core.specs.Stepping.{session_set_by, session_set, Joined, Begun, SameButRoom, IsNewParts}
-use Rattle.sf_core.proofs.Maps.{put_same, put_other, set_same, set_other, count_put, count_set, rise_put, rise_set}
-use Rattle.sf_core.proofs.Sounds.{some_eq, none_some, call_kept}
+use Rattle.sf_core.proofs.Maps.{put_same, put_other, set_same, set_other, count_put, count_set, rise_put, rise_set, passing_put}
+use Rattle.sf_core.proofs.Sounds.{some_eq, none_some, reply_is, is_undecided, undecided_one, undecided_few, call_kept}
 
 -- ---- more room
 abbrev with_book : PartsView → BookView → PartsView
@@ -40,7 +41,7 @@ sound_roomy p q history sound same = subst (λ (x : PartsView). Sound x history)
       legal = sound.legal;
       keeps = sound.keeps;
       walks = record { shaped = sound.walks.shaped; leads = sound.walks.leads; held = sound.walks.held; holds = sound.walks.holds; apart = sound.walks.apart };
-      calls = λ n c at. let h = sound.calls n c at in call_kept p (with_book p book) history history n c c h refl refl refl refl (omega arith) h.new_number h.session h.short;
+      calls = λ n c at. let h = sound.calls n c at in call_kept p (with_book p book) history history n c h (omega arith) h.new_number (λ r a. a) h.session;
       sessions = λ x o at. let h = sound.sessions x o at in record { above = h.above; most = h.most; present = h.present; busy = h.busy };
       later = sound.later;
       newcomers = sound.newcomers;
@@ -75,7 +76,7 @@ module _ (p q : PartsView) (history : List Record) (sound : Sound p history) (jo
     calls = λ n c at.
         let h = sound.calls n c at in
         let ne : c.session ≢ p.joins + 1 = λ e. let m = (sound.sessions c.session (Some n) h.session).most in absurd (omega (arith, m, e)) in
-        call_kept p after_joining history history n c c h refl refl refl refl (omega arith) h.new_number (joined_other c.session ne ∙ h.session) h.short;
+        call_kept p after_joining history history n c h (omega arith) h.new_number (λ r a. a) (joined_other c.session ne ∙ h.session);
     sessions = λ s o at. elim (same_or_not s (p.joins + 1)) [
       | inl e ↦
           let none : o ≡ None = some_eq o None (sym at ∙ ap (session_at (insert_entry nat_cmp p.sessions (p.joins + 1) None)) e ∙ put_same p.sessions (p.joins + 1) None) in
@@ -84,7 +85,7 @@ module _ (p q : PartsView) (history : List Record) (sound : Sound p history) (jo
     ];
     later = sound.later;
     newcomers = λ s less. sound.newcomers s (omega (arith, less));
-    room = let r = joined.room in let e = count_put p.sessions (p.joins + 1) None no_session in omega (arith, r, e);
+    room = let r = joined.room in let e = count_put p.sessions (p.joins + 1) None no_session in let u = undecided_few p.calls in omega (arith, r, e, u);
     counted = sound.counted;
     drawn_fits = sound.drawn_fits;
     joins_fit = omega (arith, unspent);
@@ -142,6 +143,12 @@ module _ (p q : PartsView) (history : List Record) (sound : Sound p history) (se
     no_more = λ l m ne at. at;
   }
 
+  one_more : undecided_in (insert_entry nat_cmp p.calls (p.drawn + 1) (new_call (p.drawn + 1) session moment request)) ≡ undecided_in p.calls + 1
+  one_more =
+      let a = passing_put is_undecided p.calls (p.drawn + 1) (new_call (p.drawn + 1) session moment request) no_call in
+      let b = undecided_one (new_call (p.drawn + 1) session moment request) (reply_is (new_call (p.drawn + 1) session moment request)) in
+      omega (arith, a, b)
+
   with_call : Sound (record {
     store = p.store;
     book = q.book;
@@ -170,7 +177,9 @@ module _ (p q : PartsView) (history : List Record) (sound : Sound p history) (se
             is_number = refl;
             above = omega arith;
             most = omega arith;
-            new_number = sound.later (p.drawn + 1) (omega arith);
+            new_number = λ e. sound.later (p.drawn + 1) (omega arith);
+            copied = λ path e f. ap (λ (o : Option Path). copy_of o request) e;
+            recorded = λ given e. absurd (none_some given (sym (reply_is (new_call (p.drawn + 1) session moment request)) ∙ e));
             is_call = begun.is_call;
             session = begun_here;
             short = tt;
@@ -178,7 +187,7 @@ module _ (p q : PartsView) (history : List Record) (sound : Sound p history) (se
       | inr ne ↦
           let h = sound.calls n c (sym (call_other n ne) ∙ at) in
           let apart : c.session ≢ session = λ e. none_some n (some_eq None (Some n) (sym idle ∙ ap (session_at p.sessions) (sym e) ∙ h.session)) in
-          call_kept p after_beginning history history n c c h refl refl refl refl (omega arith) h.new_number (begun_other c.session apart ∙ h.session) h.short
+          call_kept p after_beginning history history n c h (omega arith) h.new_number (λ r a. a) (begun_other c.session apart ∙ h.session)
     ];
     sessions = λ s o at. elim (same_or_not s session) [
       | inl e ↦
@@ -202,9 +211,9 @@ module _ (p q : PartsView) (history : List Record) (sound : Sound p history) (se
     ];
     later = λ n less. sound.later n (omega (arith, less));
     newcomers = sound.newcomers;
-    room = let r = begun.room in let e = count_put p.calls (p.drawn + 1) (new_call (p.drawn + 1) session moment request) no_call in
-        let f = ap (λ (ss : List (ℕ × Option ℕ)). length ss) set_is ∙ count_set (is_at (nat_cmp session)) p.sessions (Some (p.drawn + 1)) in omega (arith, r, e, f);
-    counted = let r = sound.counted in let e = count_put p.calls (p.drawn + 1) (new_call (p.drawn + 1) session moment request) no_call in omega (arith, r, e);
+    room = let r = begun.room in let e = one_more in let u = undecided_few p.calls in
+        let f = ap (λ (ss : List (ℕ × Option ℕ)). length ss) set_is ∙ count_set (is_at (nat_cmp session)) p.sessions (Some (p.drawn + 1)) in omega (arith, r, e, f, u);
+    counted = let r = sound.counted in let e = one_more in omega (arith, r, e);
     drawn_fits = omega (arith, unspent);
     joins_fit = sound.joins_fit;
     few = let h = sound.few in let f = ap (λ (ss : List (ℕ × Option ℕ)). length ss) set_is ∙ count_set (is_at (nat_cmp session)) p.sessions (Some (p.drawn + 1)) in omega (arith, h, f);

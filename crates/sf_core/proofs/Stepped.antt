@@ -18,13 +18,15 @@ use Rattle.sf_walk.specs.Ways.{path_at, path_of}
 use Rattle.sf_walk.specs.Steps.{Stands, Takes, stepped, next_of}
 use Rattle.sf_core.specs.Lanes.{LaneView}
 use Rattle.sf_core.specs.Cores.{call_at, session_at}
-use Rattle.sf_core.specs.Progress.{names_at, path_names, left_at, left_of, WalksOn}
+use Rattle.sf_walk.specs.Ways.{names_at, names_of as path_names}
+use Rattle.sf_core.specs.Progress.{reply_of, left_at, left_of, WalksOn}
 use Rattle.sf_core.specs.Events.{OwnCall, KeepsRecords, Goes}
 use Rattle.sf_core.specs.Parts.{PartsView, seen}
 use Rattle.sf_core.specs.Sound.{standing_at, standing_of, standings, IsShort, Sound}
 use Rattle.sf_core.proofs.Maps.{set_same, set_other}
 use Rattle.sf_core.proofs.Sounds.{some_eq, none_some, staged_is}
-use Rattle.sf_core.proofs.Telling.{slot_kept, slot_busy, no_reply, left_is}
+use Rattle.sf_core.proofs.Telling.{slot_kept, slot_busy, left_is}
+use Rattle.sf_core.proofs.Sounds.{reply_staged}
 
 -- ---- where a call stands
 stands_by : (p : PartsView) (history : List Record) → Sound p history → (n : ℕ) (o : Option Path) (g : Stage) → standings p.calls n ≡ Some (standing_at o g) → IsShort o g → Stands p.store o g
@@ -52,7 +54,7 @@ names_by (ByHandle handle) p e = absurd (none_some p e)
 names_by (OnPath path) p e = ap (λ (q : Path). length q) (some_eq path p e)
 names_by (OnPaths old new) p e = absurd (none_some p e)
 
-names_path : (r : Request) (p : Path) → path_of r ≡ Some p → path_names r ≡ length p
+pub names_path : (r : Request) (p : Path) → path_of r ≡ Some p → path_names r ≡ length p
 names_path r p e = names_by (target_of r) p e
 
 -- the same book shows the same records
@@ -85,9 +87,9 @@ module _ (p : PartsView) (history : List Record) (sound : Sound p history) (lane
       let d : b.0 ≡ c = some_eq b.0 c (sym b.1 ∙ ap (call_at p.calls) same ∙ at) in
       ne (sym b.2 ∙ ap (λ (x : Call). x.session) d ∙ own_session)
 
-  pub goes : (q : PartsView) (after : Stage) → Takes p.store q.store c after → q.book ≡ p.book → q.sessions ≡ p.sessions → q.calls ≡ staged p.calls n after → q.drawn ≡ p.drawn → q.joins ≡ p.joins
+  pub goes : reply_of c ≡ None → (q : PartsView) (after : Stage) → Takes p.store q.store c after → q.book ≡ p.book → q.sessions ≡ p.sessions → q.calls ≡ staged p.calls n after → q.drawn ≡ p.drawn → q.joins ≡ p.joins
       → Goes (seen p) (seen q) lane c (at_stage after c)
-  goes q after takes book sessions calls drawn joins =
+  goes undecided q after takes book sessions calls drawn joins =
       let here : call_at q.calls n ≡ Some (at_stage after c) = ap (λ cs. call_at cs n) (calls ∙ staged_is p.calls n after c at) ∙ set_same p.calls n (at_stage after c) c at in
       let there : (m : ℕ) → m ≢ n → call_at q.calls m ≡ call_at p.calls m = λ m ne. ap (λ cs. call_at cs m) (calls ∙ staged_is p.calls n after c at) ∙ set_other p.calls n (at_stage after c) c m ne at in
       let ss : (s : ℕ) → session_at q.sessions s ≡ session_at p.sessions s = λ s. ap (λ x. session_at x s) sessions in
@@ -95,14 +97,14 @@ module _ (p : PartsView) (history : List Record) (sound : Sound p history) (lane
       let e = ap (λ (x : StoreState). x.look_ups) takes.state in
       let short : next_of c.stage < path_names c.request = subst (λ k. next_of c.stage < k) (sym (names_path c.request takes.path takes.is_path)) takes.on_way.short in
       let left_now : left_of (at_stage after c) ≡ left_at (path_names c.request) (stage.At (next_of c.stage) takes.node) =
-      left_is (at_stage after c) ∙ ap (left_at (path_names c.request)) takes.after_is in
+      left_is (at_stage after c) (reply_staged after c ∙ undecided) ∙ ap (left_at (path_names c.request)) takes.after_is in
       record {
         own = own;
         same = record { number = refl; session = refl; moment = refl; request = refl };
-        before = no_reply c;
-        after = no_reply (at_stage after c);
+        before = undecided;
+        after = reply_staged after c ∙ undecided;
         walks = subst (WalksOn c.stage) (sym takes.after_is) (walks_on_by c.stage takes.node);
-        less = let h = less_by c.stage takes.node (path_names c.request) short in omega (arith, h, left_is c, left_now);
+        less = let h = less_by c.stage takes.node (path_names c.request) short in omega (arith, h, left_is c undecided, left_now);
         some = let h = some_by c.stage takes.node (path_names c.request) short in omega (arith, h, left_now);
         slot = record {
           own = slot_busy (seen q) lane.session n (at_stage after c) (ss lane.session ∙ busy) here;

@@ -1,115 +1,230 @@
 -- What a step makes of a core, of its history and of the lane.
-use Rattle.std.specs.Prelude.{◌≡◌, ◌<◌, ◌^◌, ℕ, List, [], ◌∷◌, ◌++◌, Some, refl}
-use Rattle.std.proofs.Common.{sym, ap, subst, ◌∙◌, inr, arith, append-nil}
-use Rattle.std.specs.Ordering.{nat_cmp}
-use Rattle.std.specs.BTreeMap.{is_at}
+use Rattle.std.specs.Prelude.{◌≡◌, ◌<◌, ◌≤◌, ◌^◌, ℕ, List, [], ◌∷◌, ◌++◌, option_and_then, Some, None, refl}
+use Rattle.std.proofs.Common.{sym, ap, subst, ◌∙◌, inl, inr, arith, append-nil}
+use Rattle.std.proofs.lemmas.List.{append_assoc}
 use Rattle.sf_reply.specs.declared.reply.Reply.{Reply}
-use Rattle.sf_book.specs.Books.{BookView}
 use Rattle.sf_call.specs.Answers.{Answered as Answer}
 use Rattle.sf_call.specs.Histories.{IsGiven}
 use Rattle.sf_call.specs.declared.call.Call.{Call}
 use Rattle.sf_call.specs.declared.call.Stage.{Stage}
 use Rattle.sf_call.specs.declared.record.Record.{Record}
-use Rattle.sf_walk.specs.declared.finding.Located.{Located}
+use Rattle.sf_walk.specs.declared.finding.Ways.{Ways}
+use Rattle.sf_walk.specs.Ways.{IsLocated}
 use Rattle.sf_walk.specs.declared.walking.Walk.TheVariants as walked
 use Rattle.sf_core.specs.declared.step.Step.{Step}
 use Rattle.sf_core.specs.declared.step.Step.TheVariants as step
 use Rattle.sf_core.specs.Lanes.{LaneView, at_rest}
 use Rattle.sf_core.specs.Cores.{CoreView, call_at, session_at}
-use Rattle.sf_core.specs.Progress.{did}
+use Rattle.sf_core.specs.Progress.{reply_of, did, undecided_in}
 use Rattle.sf_core.specs.Histories.{IsHistory}
-use Rattle.sf_core.specs.Events.{Steps, Decides}
+use Rattle.sf_core.specs.Events.{Steps, Fetches, Decides}
 use Rattle.sf_core.specs.Parts.{PartsView, seen}
-use Rattle.sf_core.specs.Sound.{IsCore, Sound}
-use Rattle.sf_core.specs.Stepping.{Walked, Finished}
-use Rattle.sf_core.proofs.Maps.{count_removed}
-use Rattle.sf_core.proofs.Handing.{sound_of, core_same, history_same, core_more, history_more}
-use Rattle.sf_core.proofs.Making.{walked_records, moved_sound, moved_told, blocked_sound, blocked_told, decided_sound, decided_given, decided_book, decided_told}
+use Rattle.sf_core.specs.Sound.{IsCore, IsWritten, Sound}
+use Rattle.sf_core.specs.Stepping.{Walked, Fetched, Overtakes, Finished}
+use Rattle.sf_core.proofs.Sounds.{reply_is, one_there}
+use Rattle.sf_core.proofs.Handing.{history_of, written_of, sound_of, core_same, history_same, undecided_same, undecided_less}
+use Rattle.sf_core.proofs.Telling.{no_stranger}
+use Rattle.sf_core.proofs.Stepped.{same_book}
+use Rattle.sf_core.proofs.Fetching.{fetched_sound, fetched_given, fetched_told}
+use Rattle.sf_core.proofs.Making.{walked_records, moved_sound, moved_told, blocked_sound, blocked_told, ready_sound, ready_at, ready_located, made, made_at, decided_sound, decided_written, decided_given, decided_drawn, decided_told}
 
 -- what a step ensures
 abbrev StepsOn : CoreView → LaneView → Step → CoreView → LaneView → Type 0
 StepsOn v l s w m = (h : List Record) → IsHistory v h → (added : List Record) × IsHistory w (h ++ added)
     × Steps (record { core = v; history = h; lane = l }) s (record { core = w; added = added; lane = m })
 
-module _ (p : PartsView) (core : IsCore p) (lane : LaneView) (n : ℕ) (busy : session_at p.sessions lane.session ≡ Some (Some n)) (call : lane.call ≡ Some n) (fits : p.store.look_ups < 2 ^ 64) (q : PartsView) where
-  the : (c : Call) × (call_at p.calls n ≡ Some c) × (c.session ≡ lane.session)
+-- a lane of no session of this core
+pub step_stranger : (p : PartsView) → IsCore p → (lane : LaneView) (n : ℕ) → lane.call ≡ Some n → (session_at p.sessions lane.session ≡ Some (Some n) → ⊥) → (v : CoreView) → seen p ≡ v → (l : LaneView) → lane ≡ l
+    → StepsOn v l step.Stranger v l
+step_stranger p core lane n call never v ev l el =
+    subst (λ (x : CoreView). StepsOn x l step.Stranger x l) ev (subst (λ (x : LaneView). StepsOn (seen p) x step.Stranger (seen p) x) el
+    (λ h is. ([], subst (λ (g : List Record). IsHistory (seen p) g) (sym (append-nil h)) is, ((λ c own. no_stranger p core.history core.sound lane n call never c own), refl, record { none = refl; lane = refl }))))
+
+module _ (p : PartsView) (core : IsCore p) (lane : LaneView) (n : ℕ) (busy : session_at p.sessions lane.session ≡ Some (Some n)) (call : lane.call ≡ Some n) (fits : p.store.look_ups < 2 ^ 64) where
+  pub the : (c : Call) × (call_at p.calls n ≡ Some c) × (c.session ≡ lane.session)
   the = (core.sound.sessions lane.session (Some n) busy).busy n refl
 
-  module _ (after : Stage) (walks : (c : Call) → call_at p.calls n ≡ Some c → Walked p q c n (walked.Moved after)) where
-    sound_moved : (h : List Record) → Sound p h → Sound q h
-    sound_moved h sound = moved_sound p h sound lane n busy call fits the.0 the.1 q after walks
+  reply_there : reply_of the.0 ≡ option_and_then (λ (c : Call). c.reply) (call_at p.calls n)
+  reply_there = reply_is the.0 ∙ sym (ap (option_and_then (λ (c : Call). c.reply)) the.1)
 
-    pub core_moved : IsCore q
-    core_moved = core_same p q core (walked_records p core.history core.sound lane n busy call fits the.0 the.1 q (walked.Moved after) walks) sound_moved
+  -- ---- a reply was fetched
+  module _ (q : PartsView) (given : Reply) (waits : Some given ≡ option_and_then (λ (c : Call). c.reply) (call_at p.calls n)) (fetched : Fetched p q lane.session n) where
+    decided : reply_of the.0 ≡ Some given
+    decided = reply_there ∙ sym waits
 
-    moved_on : StepsOn (seen p) lane step.Moved (seen q) lane
-    moved_on h is =
-        let same = walked_records p core.history core.sound lane n busy call fits the.0 the.1 q (walked.Moved after) walks in (
-          [],
-          subst (λ (g : List Record). IsHistory (seen q) g) (sym (append-nil h)) (history_same p q core same sound_moved h is),
-          (moved_told p h (sound_of p core h is) lane n busy call fits the.0 the.1 q after walks, record { none = refl; lane = refl }),
-        )
+    sound_fetched : (h : List Record) → Sound p h → Sound q h
+    sound_fetched h sound = fetched_sound p h sound lane n the.0 the.1 busy call fits given decided q fetched
 
-    pub step_moved : (v : CoreView) → seen p ≡ v → (l : LaneView) → lane ≡ l → StepsOn v l step.Moved (seen q) l
-    step_moved v ev l el = subst (λ (x : CoreView). StepsOn x l step.Moved (seen q) l) ev (subst (λ (x : LaneView). StepsOn (seen p) x step.Moved (seen q) x) el moved_on)
+    pub places_fetched : (places : ℕ) → undecided_in p.calls ≤ places → undecided_in q.calls ≤ places
+    places_fetched places fit = let e = undecided_same p q core.history core.sound (sound_fetched core.history core.sound) fetched.drawn in omega (arith, e, fit)
 
-  module _ (holder : ℕ) (walks : (c : Call) → call_at p.calls n ≡ Some c → Walked p q c n (walked.Blocked holder)) where
-    sound_blocked : (h : List Record) → Sound p h → Sound q h
-    sound_blocked h sound = blocked_sound p h sound lane n busy call fits the.0 the.1 q holder walks
+    pub core_fetched : IsCore q
+    core_fetched = core_same p q core (same_book p q fetched.book) sound_fetched
 
-    pub core_blocked : IsCore q
-    core_blocked = core_same p q core (walked_records p core.history core.sound lane n busy call fits the.0 the.1 q (walked.Blocked holder) walks) sound_blocked
+    pub given_fetched : IsGiven n lane.session given
+    given_fetched = fetched_given p core.history core.sound lane n the.0 the.1 busy call fits given decided q fetched
 
-    blocked_on : StepsOn (seen p) lane (step.Blocked holder) (seen q) lane
-    blocked_on h is =
-        let same = walked_records p core.history core.sound lane n busy call fits the.0 the.1 q (walked.Blocked holder) walks in (
-          [],
-          subst (λ (g : List Record). IsHistory (seen q) g) (sym (append-nil h)) (history_same p q core same sound_blocked h is),
-          (blocked_told p h (sound_of p core h is) lane n busy call fits the.0 the.1 q holder walks, record { none = refl; lane = refl }),
-        )
+    fetched_on : (a : Answer) → a ≡ record { number = n; session = lane.session; reply = given } → StepsOn (seen p) lane (step.Answered a) (seen q) (at_rest lane)
+    fetched_on a is_answer h is = (
+      [],
+      subst (λ (g : List Record). IsHistory (seen q) g) (sym (append-nil h)) (history_same p q core (same_book p q fetched.book) sound_fetched h is),
+      (
+        (
+          the.0,
+          inl (subst (λ (g : Reply). Fetches (record { core = seen p; history = h; lane = lane }) (record { core = seen q; added = []; lane = at_rest lane }) the.0 g) (sym (ap (λ (x : Answer). x.reply) is_answer))
+              (fetched_told p h (sound_of p core h is) lane n the.0 the.1 busy call fits given decided q fetched (at_rest lane))),
+        ),
+        record { session = ap (λ (x : Answer). x.session) is_answer; number = call ∙ ap Some (sym (ap (λ (x : Answer). x.number) is_answer)); lane = refl },
+      ),
+    )
 
-    pub step_blocked : (v : CoreView) → seen p ≡ v → (l : LaneView) → lane ≡ l → StepsOn v l (step.Blocked holder) (seen q) l
-    step_blocked v ev l el = subst (λ (x : CoreView). StepsOn x l (step.Blocked holder) (seen q) l) ev (subst (λ (x : LaneView). StepsOn (seen p) x (step.Blocked holder) (seen q) x) el blocked_on)
+    pub step_fetched : (a : Answer) → a ≡ record { number = n; session = lane.session; reply = given } → (v : CoreView) → seen p ≡ v → (l : LaneView) → lane ≡ l
+        → StepsOn v l (step.Answered a) (seen q) (at_rest lane)
+    step_fetched a is_answer v ev l el =
+        subst (λ (x : CoreView). StepsOn x l (step.Answered a) (seen q) (at_rest lane)) ev
+        (subst (λ (x : LaneView). StepsOn (seen p) x (step.Answered a) (seen q) (at_rest lane)) el (fetched_on a is_answer))
 
-  module _ (found : Located) (walks : (c : Call) → call_at p.calls n ≡ Some c → Walked p q c n (walked.Ready found)) where
-    -- there is room for the record
-    pub room_left : 0 < q.book.room
-    room_left =
-        let some = count_removed (is_at (nat_cmp n)) p.calls the.0 the.1 in
-        let room = core.sound.room in
-        let same = ap (λ (b : BookView). b.room) (walks the.0 the.1).book in
-        omega (arith, some, room, same)
+  -- ---- no reply waits
+  module _ (none : None ≡ option_and_then (λ (c : Call). c.reply) (call_at p.calls n)) (q : PartsView) where
+    undecided : reply_of the.0 ≡ None
+    undecided = reply_there ∙ sym none
 
-    module _ (r : PartsView) (given : Reply) (fin : (c : Call) → call_at q.calls n ≡ Some c → Finished q r c n given) where
-      sound_decided : (h : List Record) → Sound p h → Sound r (h ++ did the.0 given ∷ [])
-      sound_decided h sound = decided_sound p h sound lane n busy call fits the.0 the.1 q found walks r given fin
+    module _ (after : Stage) (walks : (c : Call) → call_at p.calls n ≡ Some c → Walked p q c n (walked.Moved after)) where
+      sound_moved : (h : List Record) → Sound p h → Sound q h
+      sound_moved h sound = moved_sound p h sound lane n busy call fits the.0 the.1 undecided q after walks
 
-      pub core_decided : IsCore r
-      core_decided = core_more p r core (did the.0 given) (decided_book p core.history core.sound lane n busy call fits the.0 the.1 q found walks r given fin) sound_decided
+      pub places_moved : (places : ℕ) → undecided_in p.calls ≤ places → undecided_in q.calls ≤ places
+      places_moved places fit = let e = undecided_same p q core.history core.sound (sound_moved core.history core.sound) (walks the.0 the.1).drawn in omega (arith, e, fit)
 
-      pub given_decided : IsGiven n lane.session given
-      given_decided = decided_given p core.history core.sound lane n busy call fits the.0 the.1 q found walks r given fin
+      pub core_moved : IsCore q
+      core_moved = core_same p q core (walked_records p core.history core.sound lane n busy call fits the.0 the.1 undecided q (walked.Moved after) walks) sound_moved
 
-      decided_on : (a : Answer) → a ≡ record { number = n; session = lane.session; reply = given } → StepsOn (seen p) lane (step.Answered a) (seen r) (at_rest lane)
-      decided_on a is_answer h is =
-          let told = decided_told p h (sound_of p core h is) lane n busy call fits the.0 the.1 q found walks r given fin (at_rest lane) in (
-            did the.0 given ∷ [],
-            history_more p r core (did the.0 given) (decided_book p core.history core.sound lane n busy call fits the.0 the.1 q found walks r given fin) sound_decided h is,
-            (
-              (
-                the.0,
-                inr (subst (λ (g : Reply). Decides (record { core = seen p; history = h; lane = lane }) (record { core = seen r; added = did the.0 given ∷ []; lane = at_rest lane }) the.0 g) (sym (ap (λ (x : Answer). x.reply) is_answer)) told),
-              ),
-              record {
-                session = ap (λ (x : Answer). x.session) is_answer;
-                number = call ∙ ap Some (sym (ap (λ (x : Answer). x.number) is_answer));
-                lane = refl;
-              },
-            ),
+      moved_on : StepsOn (seen p) lane step.Moved (seen q) lane
+      moved_on h is =
+          let same = walked_records p core.history core.sound lane n busy call fits the.0 the.1 undecided q (walked.Moved after) walks in (
+            [],
+            subst (λ (g : List Record). IsHistory (seen q) g) (sym (append-nil h)) (history_same p q core same sound_moved h is),
+            (moved_told p h (sound_of p core h is) lane n busy call fits the.0 the.1 undecided q after walks, record { none = refl; lane = refl }),
           )
 
-      pub step_decided : (a : Answer) → a ≡ record { number = n; session = lane.session; reply = given } → (v : CoreView) → seen p ≡ v → (l : LaneView) → lane ≡ l
-          → StepsOn v l (step.Answered a) (seen r) (at_rest lane)
-      step_decided a is_answer v ev l el =
-          subst (λ (x : CoreView). StepsOn x l (step.Answered a) (seen r) (at_rest lane)) ev
-          (subst (λ (x : LaneView). StepsOn (seen p) x (step.Answered a) (seen r) (at_rest lane)) el (decided_on a is_answer))
+      pub step_moved : (v : CoreView) → seen p ≡ v → (l : LaneView) → lane ≡ l → StepsOn v l step.Moved (seen q) l
+      step_moved v ev l el = subst (λ (x : CoreView). StepsOn x l step.Moved (seen q) l) ev (subst (λ (x : LaneView). StepsOn (seen p) x step.Moved (seen q) x) el moved_on)
+
+    module _ (holder : ℕ) (walks : (c : Call) → call_at p.calls n ≡ Some c → Walked p q c n (walked.Blocked holder)) where
+      sound_blocked : (h : List Record) → Sound p h → Sound q h
+      sound_blocked h sound = blocked_sound p h sound lane n busy call fits the.0 the.1 undecided q holder walks
+
+      pub places_blocked : (places : ℕ) → undecided_in p.calls ≤ places → undecided_in q.calls ≤ places
+      places_blocked places fit = let e = undecided_same p q core.history core.sound (sound_blocked core.history core.sound) (walks the.0 the.1).drawn in omega (arith, e, fit)
+
+      pub core_blocked : IsCore q
+      core_blocked = core_same p q core (walked_records p core.history core.sound lane n busy call fits the.0 the.1 undecided q (walked.Blocked holder) walks) sound_blocked
+
+      blocked_on : StepsOn (seen p) lane (step.Blocked holder) (seen q) lane
+      blocked_on h is =
+          let same = walked_records p core.history core.sound lane n busy call fits the.0 the.1 undecided q (walked.Blocked holder) walks in (
+            [],
+            subst (λ (g : List Record). IsHistory (seen q) g) (sym (append-nil h)) (history_same p q core same sound_blocked h is),
+            (blocked_told p h (sound_of p core h is) lane n busy call fits the.0 the.1 undecided q holder walks, record { none = refl; lane = refl }),
+          )
+
+      pub step_blocked : (v : CoreView) → seen p ≡ v → (l : LaneView) → lane ≡ l → StepsOn v l (step.Blocked holder) (seen q) l
+      step_blocked v ev l el = subst (λ (x : CoreView). StepsOn x l (step.Blocked holder) (seen q) l) ev (subst (λ (x : LaneView). StepsOn (seen p) x (step.Blocked holder) (seen q) x) el blocked_on)
+
+    module _ (ways : Ways) (walks : (c : Call) → call_at p.calls n ≡ Some c → Walked p q c n (walked.Ready ways)) where
+      sound_ready : Sound q core.history
+      sound_ready = ready_sound p core.history core.sound lane n busy call fits the.0 the.1 undecided q ways walks
+
+      at_ready : call_at q.calls n ≡ Some the.0
+      at_ready = ready_at p core.history core.sound lane n busy call fits the.0 the.1 undecided q ways walks
+
+      -- what overtaking asks
+      pub ready_ways : (c : Call) → call_at q.calls n ≡ Some c → IsLocated q.store c.request ways
+      ready_ways c at =
+          subst (λ (x : Call). IsLocated q.store x.request ways) (some_is the.0 c (sym at_ready ∙ at))
+          (ready_located p core.history core.sound lane n busy call fits the.0 the.1 undecided q ways walks)
+        where
+          some_is : (a b : Call) → Some a ≡ Some b → a ≡ b
+          some_is a b e = cc
+
+      pub ready_room : undecided_in q.calls ≤ q.book.room
+      ready_room = let r = sound_ready.room in omega (arith, r)
+
+      pub ready_places : (places : ℕ) → undecided_in p.calls ≤ places → undecided_in q.calls ≤ places
+      ready_places places fit = let e = undecided_same p q core.history core.sound sound_ready (walks the.0 the.1).drawn in omega (arith, e, fit)
+
+      module _ (m : PartsView) (over : (c : Call) → call_at q.calls n ≡ Some c → c.number ≡ n → Overtakes q m c) where
+        -- what deciding asks
+        pub made_ways : (c : Call) → call_at m.calls n ≡ Some c → IsLocated m.store c.request ways
+        made_ways c at =
+            subst (λ (x : Call). IsLocated m.store x.request ways)
+            (some_is the.0 c (sym (made_at p core.history core.sound lane n busy call fits the.0 the.1 undecided q ways walks m over) ∙ at))
+            (made p core.history core.sound lane n busy call fits the.0 the.1 undecided q ways walks m over).located
+          where
+            some_is : (a b : Call) → Some a ≡ Some b → a ≡ b
+            some_is a b e = cc
+
+        pub made_there : call_at m.calls n ≡ Some the.0
+        made_there = made_at p core.history core.sound lane n busy call fits the.0 the.1 undecided q ways walks m over
+
+        -- there is room for the record
+        pub room_left : 0 < m.book.room
+        room_left =
+            let it = made p core.history core.sound lane n busy call fits the.0 the.1 undecided q ways walks m over in
+            let some = one_there m.calls n the.0 made_there undecided in
+            let room = it.sound.room in
+            omega (arith, some, room)
+
+        module _ (r : PartsView) (given : Reply) (fin : (c : Call) → call_at m.calls n ≡ Some c → Finished m r c n given) where
+          added_by : (h : List Record) → Sound p h → List Record
+          added_by h sound = (made p h sound lane n busy call fits the.0 the.1 undecided q ways walks m over).helped ++ did the.0 given ∷ []
+
+          sound_decided : (h : List Record) (sound : Sound p h) → Sound r (h ++ added_by h sound)
+          unfolding added_by
+          sound_decided h sound =
+              subst (λ (x : List Record). Sound r x) (append_assoc h (made p h sound lane n busy call fits the.0 the.1 undecided q ways walks m over).helped (did the.0 given ∷ []))
+              (decided_sound p h sound lane n busy call fits the.0 the.1 undecided q ways walks m over r given fin)
+
+          written_decided : (h : List Record) (sound : Sound p h) → IsWritten p.book h → IsWritten r.book (h ++ added_by h sound)
+          unfolding added_by
+          written_decided h sound w =
+              subst (λ (x : List Record). IsWritten r.book x) (append_assoc h (made p h sound lane n busy call fits the.0 the.1 undecided q ways walks m over).helped (did the.0 given ∷ []))
+              (decided_written p h sound lane n busy call fits the.0 the.1 undecided q ways walks m over r given fin w)
+
+          pub places_decided : (places : ℕ) → undecided_in p.calls ≤ places → undecided_in r.calls ≤ places
+          places_decided places fit =
+              let same = decided_drawn p core.history core.sound lane n busy call fits the.0 the.1 undecided q ways walks m over r given fin in
+              let e = undecided_less p r core.history (added_by core.history core.sound) core.sound (sound_decided core.history core.sound) same in
+              omega (arith, e, fit)
+
+          pub core_decided : IsCore r
+          core_decided = record {
+            history = core.history ++ added_by core.history core.sound;
+            written = written_decided core.history core.sound core.written;
+            sound = sound_decided core.history core.sound;
+          }
+
+          pub given_decided : IsGiven n lane.session given
+          given_decided = decided_given p core.history core.sound lane n busy call fits the.0 the.1 undecided q ways walks m over r given fin
+
+          decided_on : (a : Answer) → a ≡ record { number = n; session = lane.session; reply = given } → StepsOn (seen p) lane (step.Answered a) (seen r) (at_rest lane)
+          unfolding added_by
+          decided_on a is_answer h is =
+              let sound = sound_of p core h is in
+              let told = decided_told p h sound lane n busy call fits the.0 the.1 undecided q ways walks m over r given fin (at_rest lane) in (
+                added_by h sound,
+                history_of r (h ++ added_by h sound) (sound_decided h sound) (written_decided h sound (written_of p h is)),
+                (
+                  (
+                    the.0,
+                    inr (subst (λ (g : Reply). Decides (record { core = seen p; history = h; lane = lane }) (record { core = seen r; added = added_by h sound; lane = at_rest lane }) the.0 g) (sym (ap (λ (x : Answer). x.reply) is_answer)) told),
+                  ),
+                  record { session = ap (λ (x : Answer). x.session) is_answer; number = call ∙ ap Some (sym (ap (λ (x : Answer). x.number) is_answer)); lane = refl },
+                ),
+              )
+
+          pub step_decided : (a : Answer) → a ≡ record { number = n; session = lane.session; reply = given } → (v : CoreView) → seen p ≡ v → (l : LaneView) → lane ≡ l
+              → StepsOn v l (step.Answered a) (seen r) (at_rest lane)
+          step_decided a is_answer v ev l el =
+              subst (λ (x : CoreView). StepsOn x l (step.Answered a) (seen r) (at_rest lane)) ev
+              (subst (λ (x : LaneView). StepsOn (seen p) x (step.Answered a) (seen r) (at_rest lane)) el (decided_on a is_answer))

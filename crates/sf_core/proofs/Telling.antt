@@ -1,24 +1,25 @@
 -- What the layer above is told of each event.
-use Rattle.std.specs.Prelude.{◌≡◌, ◌<◌, ◌+◌, ℕ, List, [], ◌∷◌, length, Option, Some, None, refl}
-use Rattle.std.proofs.Common.{sym, ap, ◌∙◌, arith}
-use Rattle.std.specs.List.{count_by}
+use Rattle.std.specs.Prelude.{◌≡◌, ◌<◌, ◌+◌, ℕ, List, length, Option, Some, None, refl}
+use Rattle.std.proofs.Common.{sym, ap, ◌∙◌}
 use Rattle.std.specs.Ordering.{nat_cmp}
 use Rattle.std.specs.BTreeMap.{is_at, insert_entry}
 use Rattle.sf_call.specs.declared.request.Request.{Request}
-use Rattle.sf_book.specs.Books.{BookView, is_deed}
+use Rattle.sf_book.specs.Books.{BookView}
+use Rattle.sf_reply.specs.declared.reply.Reply.{Reply}
 use Rattle.sf_call.specs.declared.call.Call.{Call}
 use Rattle.sf_call.specs.declared.record.Record.{Record}
 use Rattle.sf_inode.specs.Stores.{StoreState}
 use Rattle.sf_core.specs.Lanes.{LaneView}
 use Rattle.sf_core.specs.Cores.{CoreView, call_at, session_at, busy_with, slot_by, slot_of, last_number, most_sessions}
 use Rattle.sf_core.specs.Cores.Slot.{Idle, Busy}
-use Rattle.sf_core.specs.Progress.{reply_of, path_names, left_at, left_of, bound_of, new_call, undecided_in}
+use Rattle.sf_walk.specs.Ways.{names_of as path_names}
+use Rattle.sf_core.specs.Progress.{reply_of, left_at, left_by, left_of, bound_of, new_call}
 use Rattle.sf_core.specs.Events.{OwnCall, KeepsRecords, Joins, Begins}
 use Rattle.sf_core.specs.Parts.{PartsView, seen}
 use Rattle.sf_core.specs.Sound.{Sound}
 use Rattle.sf_core.specs.Stepping.{session_set_by, session_set, Joined, Begun}
 use Rattle.sf_core.proofs.Maps.{put_same, put_other, count_put, count_set}
-use Rattle.sf_core.proofs.Sounds.{some_eq, none_some}
+use Rattle.sf_core.proofs.Sounds.{some_eq, none_some, reply_is}
 use Rattle.sf_core.proofs.Starting.{no_session, no_call, begun_here, begun_other, call_here, call_other}
 
 -- ---- slots
@@ -66,27 +67,20 @@ no_stranger p history sound lane n call never c own =
     never (b.1 ∙ ap (λ m. Some (Some m)) same)
 
 -- ---- words on a call
--- no call is carried out by another's
-pub no_reply : (c : Call) → reply_of c ≡ None
-unfolding reply_of
-no_reply c = refl
-
-pub left_is : (c : Call) → left_of c ≡ left_at (path_names c.request) c.stage
+pub left_is : (c : Call) → reply_of c ≡ None → left_of c ≡ left_at (path_names c.request) c.stage
 unfolding left_of
-left_is c = refl
+left_is c e = ap (left_by (path_names c.request) c.stage) e
+
+pub left_one : (c : Call) (given : Reply) → reply_of c ≡ Some given → left_of c ≡ 1
+unfolding left_of
+left_one c given e = ap (left_by (path_names c.request) c.stage) e
+
+pub undecided_new : (number session moment : ℕ) (request : Request) → reply_of (new_call number session moment request) ≡ None
+undecided_new number session moment request = reply_is (new_call number session moment request)
 
 all_left : (number session moment : ℕ) (request : Request) → left_of (new_call number session moment request) ≡ bound_of request
-unfolding left_of bound_of
-all_left number session moment request = refl
-
--- ---- counts
-pub all_undecided : (calls : List (ℕ × Call)) → undecided_in calls ≡ length calls
-unfolding reply_of
-all_undecided [] = refl
-all_undecided (e ∷ calls) = let h = all_undecided calls in omega (arith, h)
-
-pub counted_all : (p : PartsView) (history : List Record) → Sound p history → p.drawn ≡ count_by is_deed history + undecided_in p.calls
-counted_all p history sound = let c = sound.counted in let u = all_undecided p.calls in omega (arith, c, u)
+unfolding bound_of
+all_left number session moment request = left_is (new_call number session moment request) (undecided_new number session moment request)
 
 -- ---- joining and beginning
 -- a book that has another room alone shows the same records
@@ -121,7 +115,7 @@ begins_told p q history sound lane request moment begun idle unspent =
       unspent = unspent;
       own = slot_busy (seen q) lane.session (p.drawn + 1) (new_call (p.drawn + 1) lane.session moment request) (at lane.session ∙ begun_here p q history sound lane.session moment request begun idle unspent)
           (call (p.drawn + 1) ∙ call_here p q history sound lane.session moment request begun idle unspent);
-      fresh = (no_reply (new_call (p.drawn + 1) lane.session moment request), all_left (p.drawn + 1) lane.session moment request);
+      fresh = (undecided_new (p.drawn + 1) lane.session moment request, all_left (p.drawn + 1) lane.session moment request);
       others = λ s ne. slot_kept (seen p) (seen q) s (session_at p.sessions s) refl (at s ∙ begun_other p q history sound lane.session moment request begun idle unspent s ne)
           (λ m e. call m ∙ call_other p q history sound lane.session moment request begun idle unspent m
           (λ same. let b = (sound.sessions s (Some m) e).busy m refl in none_some b.0 (sym none ∙ ap (call_at p.calls) (sym same) ∙ b.1)));

@@ -1,27 +1,26 @@
 -- What each event does to a core.
-use Rattle.std.specs.Prelude.{◌≡◌, ◌≢◌, ◌⊎◌, ◌<◌, ◌≤◌, ◌+◌, ◌-◌, ◌^◌, ℕ, min, false, List, [], ◌∷◌, ◌++◌, filter_map, Some, None}
+use Rattle.std.specs.Prelude.{◌≡◌, ◌≢◌, ◌⊎◌, ◌<◌, ◌≤◌, ◌+◌, ◌-◌, ◌^◌, ℕ, min, List, [], ◌∷◌, ◌++◌, filter_map, Some, None}
 use Rattle.std.specs.Ordering.{nat_cmp}
 use Rattle.std.specs.List.{AllByRecursion}
 use Rattle.std.specs.List.Sorted.{IsStrictlySortedBy}
 use Rattle.sf_reply.specs.declared.reply.Reply.{Reply}
-use Rattle.sf_reply.specs.declared.reply.Reply.TheVariants as reply
 use Rattle.sf_call.specs.declared.request.Request.{Request}
 use Rattle.sf_call.specs.declared.record.Record.{Record}
 use Rattle.sf_call.specs.declared.record.Record.TheVariants.{Did, Left}
 use Rattle.sf_call.specs.declared.call.Call.{Call}
 use Rattle.sf_call.specs.Answers.{Answered as Answer}
 use Rattle.sf_call.specs.declared.fault.CoreFault.{CoreFault}
-use Rattle.sf_call.specs.Answers.{Answered as Answer}
 use Rattle.sf_call.specs.declared.fault.CoreFault.TheVariants as fault
+use Rattle.sf_call.specs.Changes.{moved_by}
 use Rattle.sf_call.specs.Calls.{answer_to}
 use Rattle.sf_call.specs.Histories.{replay, IsNewNumber, IsAmong}
-use Rattle.sf_walk.specs.Served.{may_want_memory}
+use Rattle.sf_core.specs.Sure.{AreSure}
 use Rattle.sf_core.specs.declared.step.Step.{Step}
 use Rattle.sf_core.specs.declared.step.Step.TheVariants.{Moved, Blocked, Answered, Stranger}
 use Rattle.sf_core.specs.Lanes.{LaneView, at_rest}
 use Rattle.sf_core.specs.Cores.{CoreView, Slot, call_at, slot_of, joined, last_number, most_sessions}
 use Rattle.sf_core.specs.Cores.Slot.{Gone, Idle, Busy}
-use Rattle.sf_core.specs.Progress.{reply_of, left_of, bound_of, depth_of, WalksOn, MayDecide, did, new_call, SameCall, moved_by, overtaken, names_of, number_at}
+use Rattle.sf_core.specs.Progress.{reply_of, left_of, bound_of, depth_of, WalksOn, MayDecide, did, new_call, SameCall, overtaken, most_looks, names_of, number_at}
 
 -- the lane's call, if the lane is this core's
 pub record OwnCall (v : CoreView) (lane : LaneView) (c : Call) : Type 0 where
@@ -80,7 +79,7 @@ pub record IsBlocked (v w : CoreView) (lane : LaneView) (c : Call) (holder : ℕ
   pub holds : reply_of call ≡ None
   pub number : call.number ≡ holder
   pub deeper : depth_of c < depth_of call
-  pub looks : LooksOnly v w 2
+  pub looks : LooksOnly v w (most_looks c.request)
 
 -- a core with its history, and a lane, before a step; and after it, with the records that were added
 pub record Before : Type 0 where
@@ -134,8 +133,8 @@ abbrev pub IsOfOther : CoreView → ℕ → Record → Type 0
 IsOfOther v session (Did number s moment request given) = (c : Call) × (s ≢ session) × (slot_of v s ≡ Busy c) × (reply_of c ≡ None) × (Did number s moment request given ≡ did c given)
 IsOfOther v session (Left s) = ⊥
 
--- The call is decided: its record is the last of those added. Want of memory is told in place of a reply of the tree, after those
--- that were helped, that takes memory.
+-- The call is decided: its record is the last of those added. Want of memory is told in place of a reply of the tree, after the
+-- records before it, only where that takes memory.
 pub record Decides (b : Before) (a : After) (c : Call) (given : Reply) : Type 0 where
   pub own : OwnCall b.core b.lane c
   pub undecided : reply_of c ≡ None
@@ -144,7 +143,7 @@ pub record Decides (b : Before) (a : After) (c : Call) (given : Reply) : Type 0 
   pub helped : List Record
   pub order : HelpsInOrder b.core b.history c helped
   pub of_others : AllByRecursion (IsOfOther b.core b.lane.session) helped
-  pub sure : may_want_memory c.request (answer_to (replay (b.history ++ helped)) c.session c.number c.moment c.request).reply ≡ false → given ≢ reply.NoMemory
+  pub sure : AreSure b.history a.added
   pub records : a.added ≡ helped ++ did c given ∷ []
   pub keep : a.core.keep ≡ b.core.keep
   pub slot : slot_of a.core b.lane.session ≡ Idle
@@ -153,7 +152,7 @@ pub record Decides (b : Before) (a : After) (c : Call) (given : Reply) : Type 0 
   pub drawn : a.core.drawn ≡ b.core.drawn
   pub joins : a.core.joins ≡ b.core.joins
   pub more : b.core.look_ups ≤ a.core.look_ups
-  pub few : a.core.look_ups ≤ b.core.look_ups + (2 + names_of helped)
+  pub few : a.core.look_ups ≤ b.core.look_ups + (most_looks c.request + names_of helped)
 
 -- no record was added, and the lane is as it was
 pub record AddsNothing (b : Before) (a : After) : Type 0 where

@@ -2,17 +2,18 @@
 -- end of it alone.
 use Rattle.std.specs.Prelude.{◌≡◌, ◌<◌, ◌+◌, ℕ, List, Option, Some, None}
 use Rattle.std.specs.List.{count_by}
+use Rattle.sf_reply.specs.declared.reply.Reply.{Reply}
 use Rattle.sf_call.specs.declared.call.Call.{Call}
 use Rattle.sf_call.specs.declared.record.Record.{Record}
-use Rattle.sf_call.specs.Histories.{replay, IsLegal, IsNewNumber, IsPresent}
+use Rattle.sf_call.specs.Histories.{replay, IsLegal, IsNewNumber, IsPresent, IsAmong}
 use Rattle.sf_book.specs.Books.{is_deed, kept_of, gone_of}
 use Rattle.sf_keeps.specs.Keeps.{Keeps}
 use Rattle.sf_core.specs.Cores.{CoreView, call_at, session_at}
-use Rattle.sf_core.specs.Progress.{reply_of, undecided_in}
+use Rattle.sf_core.specs.Progress.{reply_of, did, undecided_in}
 
 -- The last records of the history are kept, those of calls before them are counted, and the store keeps the tree at its end.
 -- The numbers drawn are those of its calls and of the undecided ones, which are in no record; so are numbers to come. A session
--- that is joined or to come hasn't left.
+-- that is joined or to come hasn't left. The record of a call whose reply waits is there.
 pub record IsHistory (v : CoreView) (h : List Record) : Type 0 where
   pub legal : IsLegal h
   pub records : v.records ≡ kept_of v.keep h
@@ -20,6 +21,7 @@ pub record IsHistory (v : CoreView) (h : List Record) : Type 0 where
   pub tree : Keeps v.store (replay h)
   pub counted : v.drawn ≡ count_by is_deed h + undecided_in v.calls
   pub undecided : (number : ℕ) (c : Call) → call_at v.calls number ≡ Some c → reply_of c ≡ None → IsNewNumber number h
+  pub decided : (number : ℕ) (c : Call) (given : Reply) → call_at v.calls number ≡ Some c → reply_of c ≡ Some given → IsAmong (did c given) h
   pub later : (number : ℕ) → v.drawn < number → IsNewNumber number h
   pub sessions : (session : ℕ) (number : Option ℕ) → session_at v.sessions session ≡ Some number → IsPresent session h
   pub newcomers : (session : ℕ) → v.joins < session → IsPresent session h

@@ -1,6 +1,7 @@
 pub mod Lanes
 pub mod Cores
 pub mod Progress
+pub mod Sure
 pub mod Parts
 pub mod Stepping
 pub mod Sound

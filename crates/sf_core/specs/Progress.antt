@@ -1,32 +1,22 @@
 -- How far an unanswered call is.
-use Rattle.std.specs.Prelude.{◌≡◌, ◌⊎◌, ◌<◌, ◌+◌, ◌-◌, ℕ, Bool, false, not, nat_eq, nat_le, ◌&&◌, List, [], ◌∷◌, length, take, map, sum, filter, Option, Some, None, is_none, is_some}
+use Rattle.std.specs.Prelude.{◌≡◌, ◌⊎◌, ◌<◌, ◌+◌, ◌-◌, ℕ, Bool, false, not, nat_eq, nat_le, ◌&&◌, List, [], length, take, map, sum, filter, Option, Some, None, is_none, is_some}
 use Rattle.sf_path.specs.Names.{Path}
 use Rattle.sf_reply.specs.declared.reply.Reply.{Reply}
 use Rattle.sf_call.specs.declared.request.Request.{Request}
-use Rattle.sf_call.specs.Requests.{Target, target_of}
-use Rattle.sf_call.specs.Requests.Target.{ByHandle, OnPath, OnPaths}
 use Rattle.sf_call.specs.declared.record.Record.{Record}
 use Rattle.sf_call.specs.declared.record.Record.TheVariants.{Did, Left}
 use Rattle.sf_call.specs.declared.call.Call.{Call}
 use Rattle.sf_call.specs.declared.call.Stage.{Stage}
 use Rattle.sf_call.specs.declared.call.Stage.TheVariants as stage
 use Rattle.sf_call.specs.Tree.{Tree, is_directory, after_front}
-use Rattle.sf_call.specs.Changes.{Change}
-use Rattle.sf_call.specs.Changes.Change.{SetObject, NewPath, GonePath, Move, OpenHandle, SetHandle, CloseHandle}
 use Rattle.sf_walk.specs.Ways.{path_of}
+use Rattle.sf_walk.specs.Ways.{names_of as path_names}
+use Rattle.sf_call.specs.Requests.{Target, target_of}
+use Rattle.sf_call.specs.Requests.Target.{ByHandle, OnPath, OnPaths}
 
--- the reply that waits, where another call carried this one out: no call does so yet
+-- the reply that waits, where another call carried this one out
 unfoldable pub reply_of : Call → Option Reply
-reply_of c = None
-
--- how many names a request's paths have
-abbrev pub names_at : Target → ℕ
-names_at (ByHandle handle) = 0
-names_at (OnPath path) = length path
-names_at (OnPaths old new) = length old + length new
-
-abbrev pub path_names : Request → ℕ
-path_names request = names_at (target_of request)
+reply_of c = c.reply
 
 -- the most steps of a call that aren't blocked
 unfoldable pub bound_of : Request → ℕ
@@ -37,8 +27,22 @@ abbrev pub left_at : ℕ → Stage → ℕ
 left_at names stage.Fresh = names + 3
 left_at names (stage.At walked node) = names + 2 - walked
 
+-- a call whose reply waits makes one step more, which fetches it
+abbrev pub left_by : ℕ → Stage → Option Reply → ℕ
+left_by names at None = left_at names at
+left_by names at (Some given) = 1
+
 unfoldable pub left_of : Call → ℕ
-left_of c = left_at (path_names c.request) c.stage
+left_of c = left_by (path_names c.request) c.stage (reply_of c)
+
+-- how many look-ups a step makes at most: two, and a rename looks up the names of its paths in the one step that it makes
+abbrev pub names_renamed : Target → ℕ
+names_renamed (ByHandle handle) = 0
+names_renamed (OnPath path) = 0
+names_renamed (OnPaths old new) = length old + length new
+
+abbrev pub most_looks : Request → ℕ
+most_looks request = 2 + names_renamed (target_of request)
 
 -- how far down a call looks next
 abbrev pub depth_at : Stage → ℕ
@@ -72,8 +76,21 @@ MayDecide tree request at = MayDecideBy tree (path_of request) at
 abbrev pub did : Call → Reply → Record
 did c given = Did c.number c.session c.moment c.request given
 
+-- a call that walks may be carried out by another one while its session waits, so its request is there twice
+abbrev pub copy_of : Option Path → Request → Option Request
+copy_of None request = None
+copy_of (Some path) request = Some request
+
 abbrev pub new_call : ℕ → ℕ → ℕ → Request → Call
-new_call number session moment request = record { number = number; session = session; moment = moment; request = request; stage = stage.Fresh }
+new_call number session moment request = record {
+  number = number;
+  session = session;
+  moment = moment;
+  request = request;
+  stage = stage.Fresh;
+  copy = copy_of (path_of request) request;
+  reply = None;
+}
 
 -- the same call, further on
 pub record SameCall (c d : Call) : Type 0 where
@@ -91,16 +108,11 @@ has_passed_by (Some path) (stage.At walked node) old = nat_le (length old) walke
 abbrev pub has_passed : Call → Path → Bool
 has_passed c old = has_passed_by (path_of c.request) c.stage old
 
--- the old path, where changes are a move
-abbrev pub moved_by : List Change → Option Path
-moved_by [] = None
-moved_by (Move old new ∷ changes) = Some old
-moved_by (SetObject label object ∷ changes) = moved_by changes
-moved_by (NewPath path label object ∷ changes) = moved_by changes
-moved_by (GonePath path ∷ changes) = moved_by changes
-moved_by (OpenHandle number handle ∷ changes) = moved_by changes
-moved_by (SetHandle number handle ∷ changes) = moved_by changes
-moved_by (CloseHandle number ∷ changes) = moved_by changes
+-- the path that a rename moves
+abbrev pub old_at : Target → Option Path
+old_at (ByHandle handle) = None
+old_at (OnPath path) = None
+old_at (OnPaths old new) = Some old
 
 -- the numbers of the undecided calls, but for one, that have passed a path
 abbrev pub overtaken : List (ℕ × Call) → ℕ → Option Path → List ℕ

@@ -4,11 +4,12 @@ use Rattle.std.specs.List.{count_by}
 use Rattle.std.specs.Ordering.{nat_cmp}
 use Rattle.std.specs.FinMap.{is_sorted}
 use Rattle.sf_path.specs.Names.{Path}
+use Rattle.sf_reply.specs.declared.reply.Reply.{Reply}
 use Rattle.sf_call.specs.declared.call.Call.{Call}
 use Rattle.sf_call.specs.declared.call.Stage.{Stage}
 use Rattle.sf_call.specs.declared.call.Stage.TheVariants as stage
 use Rattle.sf_call.specs.declared.record.Record.{Record}
-use Rattle.sf_call.specs.Histories.{replay, IsLegal, IsNewNumber, IsPresent}
+use Rattle.sf_call.specs.Histories.{replay, IsLegal, IsNewNumber, IsPresent, IsAmong}
 use Rattle.sf_call.specs.Values.{IsCall}
 use Rattle.sf_book.specs.Books.{BookView, is_deed, kept_of, gone_of}
 use Rattle.sf_inode.specs.Stores.{StoreState, entry_of, holder_of, is_directory_at}
@@ -18,6 +19,7 @@ use Rattle.sf_coupling.specs.Walks.{Terrain, Standing, scene, AreWalks}
 use Rattle.sf_coupling.specs.Walks.Standing.{Fresh, At}
 use Rattle.sf_walk.specs.Ways.{path_of}
 use Rattle.sf_core.specs.Cores.{call_at, session_at, last_number, most_sessions}
+use Rattle.sf_core.specs.Progress.{reply_of, did, undecided_in}
 use Rattle.sf_core.specs.Parts.{PartsView}
 
 -- where paths lead in a store
@@ -46,7 +48,9 @@ pub record CallSound (p : PartsView) (h : List Record) (number : ℕ) (c : Call)
   pub is_number : c.number ≡ number
   pub above : 0 < number
   pub most : number ≤ p.drawn
-  pub new_number : IsNewNumber number h
+  pub new_number : reply_of c ≡ None → IsNewNumber number h
+  pub copied : (path : Path) → path_of c.request ≡ Some path → reply_of c ≡ None → c.copy ≡ Some c.request
+  pub recorded : (given : Reply) → reply_of c ≡ Some given → (c.stage ≡ stage.Fresh) × IsAmong (did c given) h
   pub is_call : IsCall number c.session c.moment c.request
   pub session : session_at p.sessions c.session ≡ Some (Some number)
   pub short : IsShort (path_of c.request) c.stage
@@ -59,7 +63,8 @@ pub record SessionSound (p : PartsView) (h : List Record) (session : ℕ) (numbe
 
 -- Where h is the whole history: it is legal and the store keeps its tree; what calls have walked leads to what they hold, and
 -- nothing else is held; each call is a session's, and each session's call is there; numbers to come are new, and so are sessions
--- to come; there is room for the record of each call and of each leaving; and the numbers drawn are those of records and of calls.
+-- to come; there is room for the record of each undecided call and of each leaving; and the numbers drawn are those of records
+-- and of undecided calls.
 pub record Sound (p : PartsView) (h : List Record) : Type 0 where
   pub legal : IsLegal h
   pub keeps : Keeps p.store (replay h)
@@ -68,8 +73,8 @@ pub record Sound (p : PartsView) (h : List Record) : Type 0 where
   pub sessions : (session : ℕ) (number : Option ℕ) → session_at p.sessions session ≡ Some number → SessionSound p h session number
   pub later : (number : ℕ) → p.drawn < number → IsNewNumber number h
   pub newcomers : (session : ℕ) → p.joins < session → IsPresent session h
-  pub room : length p.calls + length p.sessions ≤ p.book.room
-  pub counted : p.drawn ≡ count_by is_deed h + length p.calls
+  pub room : undecided_in p.calls + length p.sessions ≤ p.book.room
+  pub counted : p.drawn ≡ count_by is_deed h + undecided_in p.calls
   pub drawn_fits : p.drawn ≤ last_number
   pub joins_fit : p.joins ≤ last_number
   pub few : length p.sessions ≤ most_sessions

@@ -1,5 +1,5 @@
 -- What each event does to the parts of a core.
-use Rattle.std.specs.Prelude.{◌≡◌, ◌⊎◌, ◌≤◌, ◌+◌, ℕ, false, List, [], length, Option, Some, None}
+use Rattle.std.specs.Prelude.{◌≡◌, ◌⊎◌, ◌≤◌, ◌+◌, ℕ, false, List, [], ◌∷◌, length, Option, Some, None}
 use Rattle.std.specs.Ordering.{nat_cmp}
 use Rattle.std.specs.Map.{set_value, remove_entry}
 use Rattle.std.specs.BTreeMap.{is_at, insert_entry}
@@ -11,7 +11,8 @@ use Rattle.sf_call.specs.declared.call.Stage.{Stage}
 use Rattle.sf_call.specs.declared.call.Stage.TheVariants as stage
 use Rattle.sf_call.specs.Tree.{Tree}
 use Rattle.sf_call.specs.Calls.{answer_to}
-use Rattle.sf_call.specs.Unanswered.{staged}
+use Rattle.sf_call.specs.Changes.{moved_by}
+use Rattle.sf_call.specs.Unanswered.{staged, answered}
 use Rattle.sf_call.specs.Values.{IsCall}
 use Rattle.sf_book.specs.Books.{put}
 use Rattle.sf_inode.specs.Nodes.{with_holder}
@@ -19,10 +20,11 @@ use Rattle.sf_inode.specs.Stores.{StoreState, IsFirst, edited, closed_all}
 use Rattle.sf_keeps.specs.Keeps.{Keeps}
 use Rattle.sf_walk.specs.declared.walking.Walk.{Walk}
 use Rattle.sf_walk.specs.declared.walking.Walk.TheVariants as walk
-use Rattle.sf_walk.specs.Served.{IsCarriedOut, IsRefused, IsUnused, NodesStay, may_want_memory}
+use Rattle.sf_walk.specs.Ways.{names_of}
+use Rattle.sf_walk.specs.Served.{IsCarriedOut, IsRefused, IsUnused, LooksUp, NodesStay, may_want_memory}
 use Rattle.sf_walk.specs.Steps.{Advances}
-use Rattle.sf_core.specs.Cores.{session_at}
-use Rattle.sf_core.specs.Progress.{did, new_call}
+use Rattle.sf_core.specs.Cores.{call_at, session_at}
+use Rattle.sf_core.specs.Progress.{did, new_call, overtaken}
 use Rattle.sf_core.specs.Parts.{PartsView}
 
 -- a session has this call, or none, if it is joined
@@ -94,17 +96,67 @@ abbrev pub freed : Stage → StoreState → StoreState
 freed stage.Fresh s = s
 freed (stage.At walked node) s = edited (with_holder None) s node
 
+-- a call was answered on the store
+pub record Serves (old new : StoreState) (c : Call) (given : Reply) : Type 0 where
+  pub served : (t : Tree) → Keeps old t → IsUnused t c.number → IsRefused old new t given ⊎ IsCarriedOut new t (answer_to t c.session c.number c.moment c.request) given
+  pub sure : (t : Tree) → Keeps old t → IsUnused t c.number → may_want_memory c.request (answer_to t c.session c.number c.moment c.request).reply ≡ false
+      → IsCarriedOut new t (answer_to t c.session c.number c.moment c.request) given
+  pub nodes : NodesStay c.number old new
+
 -- a call was decided: the store after it, the reply, and its record
 pub record Finished (p q : PartsView) (c : Call) (number : ℕ) (given : Reply) : Type 0 where
   pub mid : StoreState
-  pub served : (t : Tree) → Keeps p.store t → IsUnused t c.number → IsRefused p.store mid t given ⊎ IsCarriedOut mid t (answer_to t c.session c.number c.moment c.request) given
-  pub sure : (t : Tree) → Keeps p.store t → IsUnused t c.number → may_want_memory c.request (answer_to t c.session c.number c.moment c.request).reply ≡ false
-      → IsCarriedOut mid t (answer_to t c.session c.number c.moment c.request) given
+  pub serves : Serves p.store mid c given
   pub look_ups : mid.look_ups ≡ p.store.look_ups
-  pub nodes : NodesStay c.number p.store mid
   pub store : q.store ≡ freed c.stage mid
   pub book : q.book ≡ put p.book (did c given)
   pub sessions : q.sessions ≡ session_set p.sessions c.session None
+  pub calls : q.calls ≡ remove_entry (is_at (nat_cmp number)) p.calls
+  pub drawn : q.drawn ≡ p.drawn
+  pub joins : q.joins ≡ p.joins
+
+-- a call was set back: it holds nothing, and has walked nothing
+abbrev pub set_back_by : PartsView → ℕ → Option Call → PartsView
+set_back_by p number None = p
+set_back_by p number (Some c) = record p { store = freed c.stage p.store; calls = staged p.calls number stage.Fresh }
+
+abbrev pub set_back : PartsView → ℕ → PartsView
+set_back p number = set_back_by p number (call_at p.calls number)
+
+abbrev pub all_set_back : PartsView → List ℕ → PartsView
+all_set_back p [] = p
+all_set_back p (number ∷ numbers) = all_set_back (set_back p number) numbers
+
+-- a call was carried out for its session to fetch: its record is written, and its reply waits
+pub record Helped (p q : PartsView) (c : Call) (number : ℕ) (given : Reply) : Type 0 where
+  pub serves : Serves p.store q.store c given
+  pub looks : LooksUp p.store q.store (names_of c.request)
+  pub book : q.book ≡ put p.book (did c given)
+  pub sessions : q.sessions ≡ p.sessions
+  pub calls : q.calls ≡ answered p.calls number given
+  pub drawn : q.drawn ≡ p.drawn
+  pub joins : q.joins ≡ p.joins
+
+-- so was the call of a number, if its request is there twice
+abbrev pub Helps : PartsView → PartsView → ℕ → Type 0
+Helps p q number = (c : Call) → call_at p.calls number ≡ Some c → c.copy ≡ Some c.request → (given : Reply) × Helped p q c number given
+
+-- so were the calls of all these numbers, one after the other
+abbrev pub HelpsAll : PartsView → List ℕ → PartsView → Type 0
+HelpsAll p [] q = q ≡ p
+HelpsAll p (number ∷ numbers) q = (mid : PartsView) × Helps p mid number × HelpsAll mid numbers q
+
+-- before a call is decided: where its case is a move, the calls that it overtakes were set back, and then carried out
+abbrev pub Overtakes : PartsView → PartsView → Call → Type 0
+Overtakes p q c = (t : Tree) → Keeps p.store t → (numbers : List ℕ)
+    × (numbers ≡ overtaken p.calls c.number (moved_by (answer_to t c.session c.number c.moment c.request).changes))
+    × HelpsAll (all_set_back p numbers) numbers q
+
+-- a reply that waited was fetched
+pub record Fetched (p q : PartsView) (session number : ℕ) : Type 0 where
+  pub store : q.store ≡ p.store
+  pub book : q.book ≡ p.book
+  pub sessions : q.sessions ≡ session_set p.sessions session None
   pub calls : q.calls ≡ remove_entry (is_at (nat_cmp number)) p.calls
   pub drawn : q.drawn ≡ p.drawn
   pub joins : q.joins ≡ p.joins

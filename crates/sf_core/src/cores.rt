@@ -26,16 +26,24 @@ const LAST_NUMBER: u64 = u64::MAX / 2;
 /// One tree, and the calls of all sessions on it, each taken on by steps.
 pub struct Core {
     parts: Parts,
+    // The numbers of the calls that a rename overtakes: there is room for all.
+    overtaken: Vec<u64>,
 }
 
 impl Drop for Core {
     // By hand: where a core is dropped, a proof then sees one call and not the core's parts.
     fn drop(self) {
-        let Core { parts: _parts } = self;
+        let Core {
+            parts: _parts,
+            overtaken: _overtaken,
+        } = self;
     }
 }
 
 impl Model for Core {
+    ghost use Rattle.std.specs.Prelude.{◌≤◌};
+    ghost use Rattle.sf_core.specs.Progress.{undecided_in};
+    ghost use Rattle.std.specs.Vec.{vec_capacity};
     ghost use Rattle.sf_core.specs.Cores.{CoreView};
     ghost use Rattle.sf_core.specs.Parts.{seen};
     ghost use Rattle.sf_core.specs.Sound.{IsCore};
@@ -44,7 +52,7 @@ impl Model for Core {
 
     ghost view = { λ core. seen core.parts };
 
-    ghost invariant = { λ core. IsCore core.parts };
+    ghost invariant = { λ core. IsCore core.parts × (undecided_in core.parts.calls ≤ vec_capacity core.overtaken) };
 }
 
 impl Core {
@@ -55,6 +63,7 @@ impl Core {
     {
         Ok(Core {
             parts: Parts::new(alloc, Book::new(alloc))?,
+            overtaken: Vec::new(alloc),
         })
     }
 
@@ -66,6 +75,7 @@ impl Core {
     {
         Ok(Core {
             parts: Parts::new(alloc, Book::with_keep(alloc, n))?,
+            overtaken: Vec::new(alloc),
         })
     }
 
@@ -111,7 +121,8 @@ impl Core {
         })
     }
 
-    /// A call of the lane begins, under the next number. It has made no step. Room is made for its record.
+    /// A call of the lane begins, under the next number. It has made no step. Room is made for its record,
+    /// and for its number where it is overtaken.
     pub fn begin(&mut self, lane: &mut Lane, request: Request, moment: u32) -> Result<(), CoreFault>
         requires { lane.old.call ≡ None }
         ensures ok { OnOk result (Begins self.old self.new lane.old request moment) }
@@ -127,6 +138,10 @@ impl Core {
         if self.parts.drawn() >= LAST_NUMBER {
             return Err(CoreFault::NumbersSpent);
         }
+        let places = self.parts.unanswered() + 1;
+        let Ok(()) = self.overtaken.reserve(places) else {
+            return Err(CoreFault::OutOfMemory);
+        };
         let Ok(()) = self.parts.begin(lane.session, request, moment) else {
             return Err(CoreFault::OutOfMemory);
         };
@@ -149,11 +164,16 @@ impl Core {
             return Step::Stranger;
         }
         let _count = self.parts.look_ups();
+        if let Some(reply) = self.parts.fetch(lane.session, number) {
+            lane.call = None;
+            return Step::Answered(Answer::new(number, lane.session, reply));
+        }
         match self.parts.walk(number) {
             Walk::Moved(_) => Step::Moved,
             Walk::Blocked(holder) => Step::Blocked(holder),
-            Walk::Ready(located) => {
-                let reply = self.parts.finish(number, located);
+            Walk::Ready(ways) => {
+                self.parts.overtake(number, ways, &mut self.overtaken);
+                let reply = self.parts.finish(number, ways);
                 lane.call = None;
                 Step::Answered(Answer::new(number, lane.session, reply))
             }

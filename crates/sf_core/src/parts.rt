@@ -1,19 +1,25 @@
 //! What a core is made of, and what each event does to it.
 
-ghost use Rattle.std.specs.Prelude.{◌≡◌, ◌<◌, ◌≤◌, ◌+◌, ◌-◌, ◌^◌, ◌↔◌, [], ℕ, true, length, Some, None, IsTrue, IsSome, IfOk, OnOk, OnErr, IfSome};
+ghost use Rattle.std.specs.Prelude.{◌≡◌, ◌<◌, ◌≤◌, ◌+◌, ◌-◌, ◌^◌, ◌↔◌, ◌&&◌, [], ℕ, not, nat_eq, true, length, Some, None, is_none, is_some, IsTrue, IsSome, IfOk, OnOk, OnErr, IfSome, IfNone};
+ghost use Rattle.std.specs.Option.{option_and_then, option_copied};
+ghost use Rattle.sf_call.specs.Requests.{target_of};
+ghost use Rattle.std.specs.Vec.{vec_capacity};
 ghost use Rattle.sf_call.specs.declared.call.Call.{Call};
+ghost use Rattle.sf_call.specs.Tree.{after_front};
 ghost use Rattle.sf_inode.specs.Stores.{is_directory_at};
 ghost use Rattle.sf_walk.specs.Ways.{path_of, IsLocated};
 ghost use Rattle.sf_walk.specs.Steps.{Stands};
 ghost use Rattle.sf_core.specs.Cores.{call_at, session_at};
-ghost use Rattle.sf_core.specs.Stepping.{IsNewParts, SameButRoom, Joined, Begun, Walked, Finished, Parted, freed};
+ghost use Rattle.sf_core.specs.Progress.{reply_of, has_passed, overtaken, undecided_in, copy_of, old_at};
+ghost use Rattle.sf_core.specs.Stepping.{IsNewParts, SameButRoom, Joined, Begun, Walked, Finished, Fetched, Overtakes, Helps, HelpsAll, Parted, freed, set_back, all_set_back};
 
 use crate::sessions::Sessions;
 use sf_book::Book;
 use sf_call::{Call, Calls, Record, Request, Stage};
 use sf_inode::Store;
+use sf_path::Path;
 use sf_reply::Reply;
-use sf_walk::{Located, Walk, advance, decide};
+use sf_walk::{Walk, Ways, advance, decide, from_root_twice, is_move, path_of};
 use std::alloc::{AllocError, Global};
 use std::marker::Model;
 
@@ -96,6 +102,14 @@ impl Parts {
         self.sessions.len()
     }
 
+    /// How many calls are unanswered.
+    pub(crate) fn unanswered(&self) -> usize
+        ensures count { result ≡ length self.now.calls }
+        ensures small { result < 2 ^ 63 }
+    {
+        self.calls.len()
+    }
+
     /// Whether a session is joined and has no unanswered call.
     pub(crate) fn is_idle(&self, session: u64) -> bool
         ensures { IsTrue result ↔ (session_at self.now.sessions session ≡ Some None) }
@@ -151,12 +165,15 @@ impl Parts {
         self.make_room()?;
         let number = self.drawn + 1;
         request.is_call(number, session, moment);
+        let copy = copy_of(self.store.alloc(), &request)?;
         self.calls.insert(Call {
             number,
             session,
             moment,
             request,
             stage: Stage::Fresh,
+            copy,
+            reply: None,
         })?;
         self.sessions.set(session, Some(number));
         self.drawn = number;
@@ -182,11 +199,101 @@ impl Parts {
         walk
     }
 
+    /// Takes the call of a number out, where its reply waits for the session.
+    pub(crate) fn fetch(&mut self, session: u64, number: u64) -> Option<Reply>
+        ensures reply { result
+            ≡ option_and_then (λ (c : Call). c.reply) (call_at self.old.calls number) }
+        ensures some { IfSome result (λ reply. Fetched self.old self.new session number) }
+        ensures none { IfNone result (self.new ≡ self.old) }
+    {
+        let reply = self.calls.take_reply(number)?;
+        self.sessions.set(session, None);
+        Some(reply)
+    }
+
+    /// Before a call is decided that moves a path: all calls that it overtakes are set back, and then
+    /// carried out whole, by rising number. Their sessions fetch the replies.
+    pub(crate) fn overtake(&mut self, number: u64, ways: Ways, numbers: &mut Vec<u64>)
+        requires located { (c : Call) → call_at self.old.calls number ≡ Some c
+            → IsLocated self.old.store c.request ways }
+        requires room { undecided_in self.old.calls ≤ self.old.book.room }
+        requires places { undecided_in self.old.calls ≤ vec_capacity numbers.old }
+        ensures helped { (c : Call) → call_at self.old.calls number ≡ Some c → c.number ≡ number
+            → Overtakes self.old self.new c }
+        ensures places { vec_capacity numbers.old ≤ vec_capacity numbers.new }
+    {
+        let Some(call) = self.calls.get(number) else {
+            return;
+        };
+        let Some(old) = old_path(&call.request) else {
+            return;
+        };
+        if !is_move(&self.store, call, ways) {
+            return;
+        }
+        overtaken(&self.calls, number, old, numbers);
+        self.set_back_all(numbers);
+        self.help_all(numbers);
+    }
+
+    fn set_back_all(&mut self, numbers: &[u64])
+        ensures { self.new ≡ all_set_back self.old numbers.now }
+    {
+        for number in numbers {
+            self.set_back(*number);
+        }
+    }
+
+    /// The call of a number frees what it holds, and stands nowhere.
+    fn set_back(&mut self, number: u64)
+        ensures { self.new ≡ set_back self.old number }
+    {
+        let Some(call) = self.calls.get(number) else {
+            return;
+        };
+        let stage = call.stage;
+        self.free(stage);
+        self.calls.set_stage(number, Stage::Fresh);
+    }
+
+    fn help_all(&mut self, numbers: &[u64])
+        requires { length numbers.now ≤ self.old.book.room }
+        ensures { HelpsAll self.old numbers.now self.new }
+    {
+        for number in numbers {
+            self.help(*number);
+        }
+    }
+
+    /// Carries a call out whole, for its session to fetch: writes its record, for which the copy of the
+    /// request is there, and lets the reply wait.
+    fn help(&mut self, overtaken: u64)
+        requires { 0 < self.old.book.room }
+        ensures helps { Helps self.old self.new overtaken }
+        ensures room { self.old.book.room ≤ self.new.book.room + 1 }
+    {
+        let Some(call) = self.calls.get(overtaken) else {
+            return;
+        };
+        let (number, session, moment) = (call.number, call.session, call.moment);
+        let (reply, waiting) = from_root_twice(&mut self.store, call);
+        let Some(request) = self.calls.set_reply(overtaken, waiting) else {
+            return;
+        };
+        self.book.put(Record::Did {
+            number,
+            session,
+            moment,
+            request,
+            reply,
+        });
+    }
+
     /// Decides a call, and writes its record.
-    pub(crate) fn finish(&mut self, number: u64, located: Located) -> Reply
+    pub(crate) fn finish(&mut self, number: u64, ways: Ways) -> Reply
         requires there { IsSome (call_at self.old.calls number) }
         requires located { (c : Call) → call_at self.old.calls number ≡ Some c
-            → IsLocated self.old.store c.request located }
+            → IsLocated self.old.store c.request ways }
         requires room { 0 < self.old.book.room }
         ensures { (c : Call) → call_at self.old.calls number ≡ Some c
             → Finished self.old self.new c number result }
@@ -194,7 +301,7 @@ impl Parts {
         let Some(call) = self.calls.remove(number) else {
             unreachable!();
         };
-        let (reply, copy) = decide(&mut self.store, &call, located);
+        let (reply, copy) = decide(&mut self.store, &call, ways);
         self.free(call.stage);
         self.sessions.set(call.session, None);
         self.book.put(Record::Did {
@@ -225,4 +332,68 @@ impl Parts {
         self.sessions.remove(session);
         self.book.put(Record::Left { session });
     }
+}
+
+/// A call that walks may be carried out by another one while its session waits, so its request is there
+/// twice.
+fn copy_of(alloc: Global, request: &Request) -> Result<Option<Request>, AllocError>
+    ensures { IfOk result (λ copy. copy ≡ copy_of (path_of request.now) request.now) }
+{
+    match path_of(request) {
+        Some(_) => Ok(Some(request.try_copy(alloc)?)),
+        None => Ok(None),
+    }
+}
+
+/// The path that a rename moves.
+fn old_path(request: &Request) -> Option<&Path>
+    ensures { option_copied result ≡ old_at (target_of request.now) }
+{
+    match request {
+        Request::Rename(old, _) | Request::PosixRename(old, _) => Some(old),
+        _ => None,
+    }
+}
+
+/// The numbers of the undecided calls, but for one, that have passed a path.
+fn overtaken(calls: &Calls, number: u64, old: &Path, numbers: &mut Vec<u64>)
+    requires { undecided_in calls.now ≤ vec_capacity numbers.old }
+    ensures numbers { numbers.new.items ≡ overtaken calls.now number (Some old.now) }
+    ensures places { vec_capacity numbers.old ≤ vec_capacity numbers.new }
+{
+    numbers.clear();
+    'calls: for (other, call) in calls.iter() {
+        if is_overtaken(call, *other, number, old) {
+            numbers.push_reserved(*other);
+        }
+    }
+}
+
+/// Whether a call of this number is another one, undecided, and has passed a path.
+#[tactic(auto, using(crate::proofs::Sounds::reply_is))]
+fn is_overtaken(call: &Call, other: u64, number: u64, old: &Path) -> bool
+    ensures { result
+        ≡ (not (nat_eq other number) && is_none (reply_of call.now) && has_passed call.now old.now) }
+{
+    other != number && call.reply.is_none() && has_passed(call, old)
+}
+
+/// Whether the names that a call has walked begin with a path.
+fn has_passed(call: &Call, old: &Path) -> bool
+    ensures { result ≡ has_passed call.now old.now }
+{
+    let Some(path) = path_of(&call.request) else {
+        return false;
+    };
+    match call.stage {
+        Stage::Fresh => false,
+        Stage::At { walked, node: _ } => old.len() <= walked && begins(path, old),
+    }
+}
+
+/// Whether a path begins with another.
+fn begins(path: &Path, front: &Path) -> bool
+    ensures { result ≡ is_some (after_front front.now path.now) }
+{
+    path.begins_with(front)
 }

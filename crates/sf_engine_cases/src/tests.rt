@@ -1,5 +1,6 @@
 //! Sessions by events, at the moment 100, with what came of each event.
 
+use sf_call::Record;
 use sf_cases::hex_bytes;
 use sf_engine::{Engine, EngineFault, Event, Happened};
 use sf_session::Cause;
@@ -10,6 +11,7 @@ use std::test::*;
 mod drawn;
 mod files;
 mod refusals;
+mod renames;
 mod requests;
 mod sessions;
 
@@ -100,6 +102,19 @@ fn is_answered(rt: &impl Abort, engine: &mut Engine, session: u64, by: Steps) {
 /// The output of a session is these bytes.
 fn is_sent(rt: &impl Abort, engine: &Engine, session: u64, want: &[u8]) {
     assert!(rt; engine.output(session) == Some(want));
+}
+
+/// The numbers of the records that an engine keeps, 0 where a session left, are these.
+fn records_are(rt: &impl Abort, engine: &Engine, want: &[u64]) {
+    let history = engine.core().history();
+    assert_eq!(rt; history.len(), want.len());
+    for (record, want) in history.iter().zip(want.iter()) {
+        let number = match record {
+            Record::Did { number, .. } => *number,
+            Record::Left { session: _ } => 0,
+        };
+        assert_eq!(rt; number, *want);
+    }
 }
 
 /// A session opens on an engine of its own, and is fed these bytes at once. Its packets are answered so, and its output is this.

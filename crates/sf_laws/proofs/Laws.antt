@@ -14,8 +14,13 @@ use Rattle.sf_laws.proofs.OwnChanges.{own, other_paths}
 use Rattle.sf_laws.specs.Examples.{a, b, history}
 -- no request makes a file of a directory or a directory of a file
 pub use Rattle.sf_laws.proofs.SameKinds.{kinds_stay}
--- no request moves a path yet
-pub use Rattle.sf_laws.proofs.NeverMoves.{never_moves}
+-- What a rename moves is its old path, where a move may be made, and else nothing changes; no other request moves.
+pub use Rattle.sf_laws.proofs.Renames.{unmoved_tree, moved_changes, moved_old, never_moved}
+-- A rename leaves the labels of paths that begin with neither of its two. A request with one path, strictly below old,
+-- leaves those that aren't strictly below old, and the move of old.
+pub use Rattle.sf_laws.proofs.Renames.{spared_labels, below_labels, still_move}
+-- where a move may be made, the renames make it
+pub use Rattle.sf_laws.proofs.MovingRenames.{rename_moves, posix_rename_moves}
 
 -- a path that isn't a request's own keeps its label
 pub other_labels : (tree : Tree) (session number moment : ℕ) (request : Request) (path : Path) → ¬ IsOwnPath request path

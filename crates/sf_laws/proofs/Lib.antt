@@ -6,8 +6,10 @@ mod Idle
 mod SameKinds
 mod NewHandles
 mod OpenHandles
+mod MovingRenames
+mod StillMoves
+mod Renames
 mod InOrder
 mod ListedAll
 mod SameReplies
-pub mod NeverMoves
 pub mod Laws

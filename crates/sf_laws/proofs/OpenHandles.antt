@@ -1,5 +1,5 @@
 -- After a legal history no session has too many handles open, and each handle leads to an object.
-use Rattle.std.proofs.Common.{◌≡◌, ◌<◌, ◌≤◌, ℕ, ◌+◌, Bool, true, false, cond, not, nat_eq, nat_lt, nat_le, ◌&&◌, ◌||◌, List, [], ◌∷◌, length, filter, Option, Some, None, option_and_then, IsSome, is_some, IfSome, refl, sym, ap, ◌∙◌, subst, eq-eqb, arith}
+use Rattle.std.proofs.Common.{◌≡◌, ◌<◌, ◌≤◌, ℕ, ◌+◌, Bool, true, false, cond, not, nat_eq, nat_lt, nat_le, ◌&&◌, ◌||◌, List, [], ◌∷◌, ◌++◌, length, filter, Option, Some, None, option_and_then, IsSome, is_some, IfSome, refl, sym, ap, ◌∙◌, subst, eq-eqb, arith}
 use Rattle.std.proofs.lemmas.Bool.{leb-false, eqb-true}
 use Rattle.std.proofs.lemmas.List.Sums.{sum_by-cons}
 use Rattle.std.specs.List.{AllByRecursion, list_any, count_by}
@@ -28,11 +28,12 @@ use Rattle.sf_call.specs.Tree.Found.{Nowhere, Nothing, DirectoryAt, FileAt}
 use Rattle.sf_call.specs.Handles.{Opened, handle_in, opened, opened_by, opened_object, if_of}
 use Rattle.sf_call.specs.Handles.Opened.{NotOpen, OpenDirectory, OpenFile}
 use Rattle.sf_call.specs.Listings.{path_of, listing_of}
+use Rattle.sf_call.specs.Moves.{moved}
 use Rattle.sf_call.specs.Changes.{changed, done, touch, touched}
-use Rattle.sf_call.specs.Changes.Change.{SetObject, NewPath, GonePath, OpenHandle, SetHandle, CloseHandle}
-use Rattle.sf_call.specs.Calls.{Answer, answer_to, leave, stat, refuses_size, sets, set_stat, make_directory, remove_directory, remove_file, has_all_handles, directory_handle, file_handle, open_directory, open_present, open_file, close, stat_opened, set_opened, read, start_of, write, lists, read_directory, unless_root}
+use Rattle.sf_call.specs.Changes.Change.{SetObject, NewPath, GonePath, Move, OpenHandle, SetHandle, CloseHandle}
+use Rattle.sf_call.specs.Calls.{Answer, answer_to, leave, stat, refuses_size, sets, set_stat, make_directory, remove_directory, remove_file, has_all_handles, directory_handle, file_handle, open_directory, open_present, open_file, close, stat_opened, set_opened, read, start_of, write, lists, read_directory, unless_root, moves}
 use Rattle.sf_call.specs.Histories.{replay, IsLegal}
-use Rattle.sf_call.proofs.Laws.{lookup-put, object_kept, all_filtered, all_removed, all_put, all_set, found_value, holds_after}
+use Rattle.sf_call.proofs.Laws.{lookup-put, object_kept, all_filtered, all_removed, all_put, all_set, found_value, holds_after, rename_cases, posix_rename_cases}
 
 -- the handles of a session
 abbrev pub is_of_session : ℕ → ℕ × Handle → Bool
@@ -175,9 +176,16 @@ new_holds tree path label object h = record {
 gone_holds : (tree : Tree) (path : Path) → HandlesHold tree → HandlesHold (changed tree (GonePath path))
 gone_holds tree path h = kept_holds (with_names tree (remove_entry (is_at (path_cmp path)) tree.names)) (record { few = h.few; founded = h.founded })
 
+move_holds : (tree : Tree) (old new : Path) → HandlesHold tree → HandlesHold (changed tree (Move old new))
+move_holds tree old new h = kept_holds (with_names tree (moved tree.names old new)) (record { few = h.few; founded = h.founded })
+
 touch_holds : (tree : Tree) (moment : ℕ) (at : Option (ℕ × Metadata)) → HandlesHold tree → HandlesHold (done tree (touch moment at))
 touch_holds tree moment None h = h
 touch_holds tree moment (Some d) h = set_holds tree d.0 _ h
+
+touches_hold : (tree : Tree) (moment : ℕ) (this that : Option (ℕ × Metadata)) → HandlesHold tree → HandlesHold (done tree (touch moment this ++ touch moment that))
+touches_hold tree moment None that h = touch_holds tree moment that h
+touches_hold tree moment (Some d) that h = touch_holds _ moment that (set_holds tree d.0 _ h)
 
 one_more : (session : ℕ) (h : Handle) (count : ℕ) → (nat_eq h.session session ≡ true → count < MAX_HANDLES) → count ≤ MAX_HANDLES → more_of session h + count ≤ MAX_HANDLES
 unfolding more_of
@@ -350,6 +358,9 @@ module _ (tree : Tree) (session number moment : ℕ) (h : HandlesHold tree) wher
   read_by_handle n None is = h
   read_by_handle n (Some handle) is = directory_read n handle (of_session session (handle_of tree.handles n) handle is) (object_of tree.objects handle.label)
 
+  moved_holds : (old new : Path) → Keeps (moves tree moment old new)
+  moved_holds old new = touches_hold _ moment (directory_at tree (parent old)) (directory_at tree (parent new)) (move_holds tree old new h)
+
   pub answer_holds : (request : Request) → Keeps (answer_to tree session number moment request)
   answer_holds (Stat path) = told (found_at tree path)
   answer_holds (SetStat path attrs) = rooted path _ (set_found attrs (found_at tree path))
@@ -364,8 +375,8 @@ module _ (tree : Tree) (session number moment : ℕ) (h : HandlesHold tree) wher
   answer_holds (Read handle offset len) = was_read offset len (opened tree session handle)
   answer_holds (Write handle offset bytes) = was_written offset bytes (opened tree session handle)
   answer_holds (ReadDir handle) = read_by_handle handle (handle_in tree session handle) refl
-  answer_holds (Rename old new) = h
-  answer_holds (PosixRename old new) = h
+  answer_holds (Rename old new) = rename_cases Keeps (λ code. h) h tree moment old new (λ _ _. moved_holds old new) session number
+  answer_holds (PosixRename old new) = posix_rename_cases Keeps (λ code. h) h tree moment old new (λ _ _. moved_holds old new) session number
 
 pub handles_hold : (history : List Record) → IsLegal history → HandlesHold (replay history)
 handles_hold =

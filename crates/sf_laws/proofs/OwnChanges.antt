@@ -1,5 +1,5 @@
 -- A request changes its own alone.
-use Rattle.std.proofs.Common.{◌≡◌, ◌≢◌, ◌⊎◌, ℕ, Bool, true, false, cond, not, nat_eq, nat_lt, nat_le, ◌+◌, ◌&&◌, List, [], ◌∷◌, length, Option, Some, None, IsSome, is_some, refl, sym, ap, ◌∙◌, subst, inl, inr}
+use Rattle.std.proofs.Common.{◌≡◌, ◌≢◌, ◌⊎◌, ℕ, Bool, true, false, cond, not, nat_eq, nat_lt, nat_le, ◌+◌, ◌&&◌, List, [], ◌∷◌, ◌++◌, length, Option, Some, None, IsSome, is_some, refl, sym, ap, ◌∙◌, subst, inl, inr}
 use Rattle.std.specs.List.{AllByRecursion}
 use Rattle.sf_path.specs.Names.{Path}
 use Rattle.sf_path.specs.Order.{parent}
@@ -20,12 +20,12 @@ use Rattle.sf_call.specs.Tree.Found.{Nowhere, Nothing, DirectoryAt, FileAt}
 use Rattle.sf_call.specs.Handles.{Opened, handle_in, opened_object, opened_by, opened}
 use Rattle.sf_call.specs.Handles.Opened.{NotOpen, OpenDirectory, OpenFile}
 use Rattle.sf_call.specs.Listings.{path_of, listing_of}
-use Rattle.sf_call.specs.Changes.{Change, changed, done, touch}
+use Rattle.sf_call.specs.Changes.{Change, changed, done, touch, touched}
 use Rattle.sf_call.specs.Changes.Change.{SetObject, NewPath, GonePath, Move, OpenHandle, SetHandle, CloseHandle}
 use Rattle.sf_laws.specs.LeftAlone.{IsOfPath, IsOfLabel, IsOfNumber}
 use Rattle.sf_laws.specs.Own.{IsOwnPath, IsOwnObject, IsOwnHandle}
-use Rattle.sf_call.specs.Calls.{Answer, answer_to, stat, refuses_size, sets, set_stat, make_directory, remove_directory, remove_file, has_all_handles, open_directory, open_present, open_file, close, stat_opened, set_opened, read, start_of, write, lists, read_directory, unless_root}
-use Rattle.sf_call.proofs.Laws.{directory_there, place_label}
+use Rattle.sf_call.specs.Calls.{Answer, answer_to, stat, refuses_size, sets, set_stat, make_directory, remove_directory, remove_file, has_all_handles, open_directory, open_present, open_file, close, stat_opened, set_opened, read, start_of, write, lists, read_directory, unless_root, moves}
+use Rattle.sf_call.proofs.Laws.{directory_there, place_label, rename_cases, posix_rename_cases}
 use Rattle.sf_laws.proofs.LeftAlone.{other_path, other_object, other_handle}
 
 module _ (tree : Tree) (session number : ℕ) where
@@ -165,6 +165,20 @@ module _ (tree : Tree) (session number : ℕ) where
     directory_read handle None e = tt
     directory_read handle (Some h) e = listed_object handle h (object_of tree.objects h.label) e
 
+    both_own : (request : Request) (cs ds : List Change) → AreOwn request cs → AreOwn request ds → AreOwn request (cs ++ ds)
+    both_own request [] ds p q = q
+    both_own request (c ∷ cs) ds p q = (p.0, both_own request cs ds p.1 q)
+
+    moved_own : (request : Request) (old new : Path) → ((path : Path) → IsOfPath (Move old new) path → IsOwnPath request path)
+        → ((label : ℕ) → label_at tree.names (parent old) ≡ Some label → IsOwnObject tree session request label)
+        → ((label : ℕ) → label_at tree.names (parent new) ≡ Some label → IsOwnObject tree session request label)
+        → AreOwn request (moves tree moment old new).changes
+    moved_own request old new paths from to = (
+      paths,
+      both_own request (touched tree moment (parent old)) (touched tree moment (parent new))
+          (touch_own request (parent old) (directory_at tree (parent old)) refl from) (touch_own request (parent new) (directory_at tree (parent new)) refl to),
+    )
+
     pub own : (request : Request) → AreOwn request (answer_to tree session number moment request).changes
     own (Stat path) = told (Stat path) (found_at tree path)
     own (SetStat path attrs) = rooted (SetStat path attrs) path _ (set_place path attrs (place_at tree path) refl)
@@ -179,8 +193,12 @@ module _ (tree : Tree) (session number : ℕ) where
     own (Read handle offset len) = was_read (Read handle offset len) offset len (opened tree session handle)
     own (Write handle offset bytes) = was_written handle offset bytes (handle_in tree session handle) refl
     own (ReadDir handle) = directory_read handle (handle_in tree session handle) refl
-    own (Rename old new) = tt
-    own (PosixRename old new) = tt
+    own (Rename old new) =
+        rename_cases (λ answer. AreOwn (Rename old new) answer.changes) (λ code. tt) tt tree moment old new
+        (λ _ _. moved_own (Rename old new) old new (λ path of. of) (λ label at. inl at) (λ label at. inr at)) session number
+    own (PosixRename old new) =
+        posix_rename_cases (λ answer. AreOwn (PosixRename old new) answer.changes) (λ code. tt) tt tree moment old new
+        (λ _ _. moved_own (PosixRename old new) old new (λ path of. of) (λ label at. inl at) (λ label at. inr at)) session number
 
   module _ (request : Request) where
     own_path : (change : Change) (path : Path) → IsOwnChange request change → IsOfPath change path → IsOwnPath request path

@@ -1,5 +1,6 @@
 -- What a request does to the directory in which it makes or removes a name.
-use Rattle.std.proofs.Common.{◌≡◌, ◌≢◌, ◌-◌, ℕ, Bool, true, false, cond, not, ◌&&◌, [], ◌∷◌, length, Option, Some, None, refl, sym, ap, ◌∙◌, subst, inl, inr, arith}
+use Rattle.std.proofs.Common.{◌≡◌, ◌≢◌, ◌⊎◌, ◌-◌, ℕ, nat_eq, Bool, true, false, cond, not, ◌&&◌, [], ◌∷◌, ◌++◌, length, Option, Some, None, refl, sym, ap, ◌∙◌, subst, eq-eqb, inl, inr, arith}
+use Rattle.std.proofs.lemmas.Bool.{eqb-true}
 use Rattle.std.specs.Ordering.{nat_cmp}
 use Rattle.std.specs.Cmp.{nat_cmp_total}
 use Rattle.std.specs.Map.{remove_entry}
@@ -17,17 +18,69 @@ use Rattle.sf_call.specs.declared.request.Request.{Request}
 use Rattle.sf_call.specs.declared.request.Request.TheVariants.{Stat, SetStat, Mkdir, Rmdir, Remove, OpenDir, Open, Close, FStat, FSetStat, Read, Write, ReadDir, Rename, PosixRename}
 use Rattle.sf_call.specs.Attributes.{Object, modified_at}
 use Rattle.sf_call.specs.Attributes.Object.{Directory, File}
-use Rattle.sf_call.specs.Tree.{Tree, Found, label_at, object_of, directory_at, place_at, found_object, found_at, is_empty, with_names}
+use Rattle.sf_call.specs.Tree.{Tree, Found, label_at, object_of, directory_at, place_at, found_object, found_at, is_empty, after_front, with_names}
+use Rattle.sf_call.specs.Moves.{moved}
 use Rattle.sf_call.specs.Tree.Found.{Nowhere, Nothing, DirectoryAt, FileAt}
 use Rattle.sf_call.specs.Changes.{changed, done, touch, touched}
-use Rattle.sf_call.specs.Changes.Change.{SetObject, NewPath, GonePath}
-use Rattle.sf_call.specs.Calls.{Answer, answer_to, make_directory, remove_directory, remove_file, has_all_handles, open_present, open_file}
-use Rattle.sf_call.proofs.Laws.{exact_paths, other_put, other_set, other_removed, set_there, kept_object, directory_there}
-use Rattle.sf_laws.specs.Own.{IsOneOf, IsOwnPath}
+use Rattle.sf_call.specs.Changes.Change.{SetObject, NewPath, GonePath, Move}
+use Rattle.sf_call.specs.Calls.{Answer, answer_to, make_directory, remove_directory, remove_file, has_all_handles, open_present, open_file, moves}
+use Rattle.sf_call.proofs.Laws.{exact_paths, other_put, other_set, other_removed, set_there, kept_object, directory_there, moved_outside, no_front, no_parent, rename_cases, posix_rename_cases}
+use Rattle.sf_laws.specs.Own.{IsOneOf, IsEntryOf}
 
 -- a path that isn't the root's has another parent
 other_parent : (name : Name) (path : Path) → parent (name ∷ path) ≢ name ∷ path
 other_parent name path same = let lengths = ap length same in omega (arith, lengths, length-take (length (name ∷ path) - 1) (name ∷ path))
+
+-- a directory that was as it is or modified at the moment is so after a touch
+module _ (tree : Tree) (moment label : ℕ) (m : Metadata) (is : object_of tree.objects label ≡ Some (Directory m)) where
+  abbrev pub MayBeTouched : Tree → Type 0
+  MayBeTouched after = IsOneOf (Directory m) (Directory (modified_at moment m)) (object_of after.objects label)
+
+  set_here : (after : Tree) (object : Object) → MayBeTouched after → object_of (changed after (SetObject label object)).objects label ≡ Some object
+  set_here after object (inl at) = set_there (is_at (nat_cmp label)) after.objects (Directory m) object at
+  set_here after object (inr at) = set_there (is_at (nat_cmp label)) after.objects (Directory (modified_at moment m)) object at
+
+  touched_or_not : (after : Tree) (path : Path) (at : Option (ℕ × Metadata)) → directory_at tree path ≡ at → MayBeTouched after → MayBeTouched (done after (touch moment at))
+  touched_or_not after path None e before = before
+  touched_or_not after path (Some d) e before =
+      elim (nat_eq d.0 label) as (λ b. nat_eq d.0 label ≡ b → MayBeTouched (changed after (SetObject d.0 (Directory (modified_at moment d.1))))) [
+        | true ↦ λ same. inr (here (eqb-true d.0 label same))
+        | false ↦ λ apart. subst (λ (o : Option Object). IsOneOf (Directory m) (Directory (modified_at moment m)) o)
+            (sym (other_set nat_cmp nat_cmp-IsAntisymmetric after.objects d.0 _ label (λ same. let tied = eq-eqb d.0 label (sym same) in cc))) before
+      ] refl where
+        metadata_is : (x : Metadata) → Some (Directory x) ≡ Some (Directory m) → x ≡ m
+        metadata_is x e = cc
+
+        here : d.0 ≡ label → object_of (changed after (SetObject d.0 (Directory (modified_at moment d.1)))).objects label ≡ Some (Directory (modified_at moment m))
+        here same =
+            let metadata : d.1 ≡ m = metadata_is d.1 (sym (directory_there tree path d e).1 ∙ ap (object_of tree.objects) same ∙ is) in
+            ap (λ (l : ℕ). object_of (changed after (SetObject l (Directory (modified_at moment d.1)))).objects label) same
+            ∙ set_here after (Directory (modified_at moment d.1)) before
+            ∙ ap (λ (x : Metadata). Some (Directory (modified_at moment x))) metadata
+
+  both_touched : (after : Tree) (path other : Path) (at : Option (ℕ × Metadata)) → directory_at tree path ≡ at → MayBeTouched after
+      → MayBeTouched (done after (touch moment at ++ touched tree moment other))
+  both_touched after path other None e before = touched_or_not after other (directory_at tree other) refl before
+  both_touched after path other (Some d) e before =
+      touched_or_not (done after (touch moment (Some d))) other (directory_at tree other) refl (touched_or_not after path (Some d) e before)
+
+  -- the parents of what is moved stay where they are
+  parent_moved : (old new path : Path) → after_front old (parent path) ≡ None → after_front new (parent path) ≡ None
+      → label_at tree.names (parent path) ≡ Some label → MayBeTouched (done tree (moves tree moment old new).changes)
+  parent_moved old new path not_old not_new named =
+      both_touched (changed tree (Move old new)) (parent old) (parent new) (directory_at tree (parent old)) refl
+      (inl (kept_object (with_names tree (moved tree.names old new)) (parent path) label (moved_outside tree.names old new (parent path) not_old not_new ∙ named) ∙ is))
+
+  pub both_ends : (old new path : Path) → (path ≡ old) ⊎ (path ≡ new) → after_front old new ≡ None → after_front new old ≡ None
+      → label_at tree.names (parent path) ≡ Some label → MayBeTouched (done tree (moves tree moment old new).changes)
+  both_ends old new path (inl at_old) not_inside not_around named =
+      parent_moved old new path
+      (ap (λ (p : Path). after_front old (parent p)) at_old ∙ no_parent old new not_inside)
+      (ap (λ (p : Path). after_front new (parent p)) at_old ∙ no_front new old (length old - 1) not_around) named
+  both_ends old new path (inr at_new) not_inside not_around named =
+      parent_moved old new path
+      (ap (λ (p : Path). after_front old (parent p)) at_new ∙ no_front old new (length new - 1) not_inside)
+      (ap (λ (p : Path). after_front new (parent p)) at_new ∙ no_parent new old not_around) named
 
 module _ (tree : Tree) (session number moment label : ℕ) (path : Path) (m : Metadata) (apart : label ≢ number)
     (named : label_at tree.names (parent path) ≡ Some label) (is : object_of tree.objects label ≡ Some (Directory m)) where
@@ -41,23 +94,8 @@ module _ (tree : Tree) (session number moment label : ℕ) (path : Path) (m : Me
   either true this that p q = p
   either false this that p q = q
 
-  -- the parent is the directory that is touched
   touch_stays : (after : Tree) (at : Option (ℕ × Metadata)) → directory_at tree (parent path) ≡ at → object_of after.objects label ≡ Some (Directory m) → Stays (done after (touch moment at))
-  touch_stays after None e still = inl still
-  touch_stays after (Some d) e still =
-      let there = directory_there tree (parent path) d e in
-      let same : d.0 ≡ label = label_is d.0 (sym there.0 ∙ named) in
-      let metadata : d.1 ≡ m = metadata_is d.1 (sym there.1 ∙ ap (object_of tree.objects) same ∙ is) in
-      inr (
-      ap (λ (l : ℕ). object_of (changed after (SetObject l (Directory (modified_at moment d.1)))).objects label) same
-      ∙ set_there (is_at (nat_cmp label)) after.objects (Directory m) (Directory (modified_at moment d.1)) still
-      ∙ ap (λ (x : Metadata). Some (Directory (modified_at moment x))) metadata
-      ) where
-        label_is : (l : ℕ) → Some l ≡ Some label → l ≡ label
-        label_is l e = cc
-
-        metadata_is : (x : Metadata) → Some (Directory x) ≡ Some (Directory m) → x ≡ m
-        metadata_is x e = cc
+  touch_stays after at e still = touched_or_not tree moment label m is after (parent path) at e (inl still)
 
   new_stays : (new : Path) (object : Object) → object_of (changed tree (NewPath new number object)).objects label ≡ Some (Directory m)
   new_stays new object = other_put nat_cmp nat_cmp-IsAntisymmetric nat_cmp_total tree.objects number object label apart ∙ is
@@ -106,6 +144,9 @@ module _ (tree : Tree) (session number moment label : ℕ) (m : Metadata) (apart
   KeepsParent path request = label_at tree.names (parent path) ≡ Some label
       → IsOneOf (Directory m) (Directory (modified_at moment m)) (object_of (done tree (answer_to tree session number moment request).changes).objects label)
 
+  abbrev pub StillThere : Answer → Type 0
+  StillThere answer = MayBeTouched tree moment label m is (done tree answer.changes)
+
   mkdir : (path : Path) (attrs : Attrs) → KeepsParent path (Mkdir path attrs)
   mkdir [] attrs named = inl is
   mkdir (n ∷ path) attrs named = made tree session number moment label (n ∷ path) m apart named is attrs (place_at tree (n ∷ path))
@@ -122,7 +163,7 @@ module _ (tree : Tree) (session number moment label : ℕ) (m : Metadata) (apart
   open' [] flags attrs named = inl is
   open' (n ∷ path) flags attrs named = file_opened tree session number moment label (n ∷ path) m apart named is flags attrs (place_at tree (n ∷ path))
 
-  pub parents : (request : Request) (path : Path) → IsOwnPath request path → KeepsParent path request
+  pub parents : (request : Request) (path : Path) → IsEntryOf request path → KeepsParent path request
   parents (Stat p) path own = absurd own
   parents (SetStat p attrs) path own = absurd own
   parents (Mkdir p attrs) path own = subst (λ (q : Path). KeepsParent path (Mkdir q attrs)) own (mkdir path attrs)
@@ -136,5 +177,9 @@ module _ (tree : Tree) (session number moment label : ℕ) (m : Metadata) (apart
   parents (Read handle offset len) path own = absurd own
   parents (Write handle offset bytes) path own = absurd own
   parents (ReadDir handle) path own = absurd own
-  parents (Rename old new) path own = absurd own
-  parents (PosixRename old new) path own = absurd own
+  parents (Rename old new) path own = λ named.
+      rename_cases StillThere (λ code. inl is) (inl is) tree moment old new
+      (λ not_inside not_around. both_ends tree moment label m is old new path own not_inside not_around named) session number
+  parents (PosixRename old new) path own = λ named.
+      posix_rename_cases StillThere (λ code. inl is) (inl is) tree moment old new
+      (λ not_inside not_around. both_ends tree moment label m is old new path own not_inside not_around named) session number

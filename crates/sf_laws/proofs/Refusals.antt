@@ -22,8 +22,9 @@ use Rattle.sf_call.specs.Tree.Found.{Nowhere, Nothing, DirectoryAt, FileAt}
 use Rattle.sf_call.specs.Handles.{Opened, handle_in, opened}
 use Rattle.sf_call.specs.Handles.Opened.{NotOpen, OpenDirectory, OpenFile}
 use Rattle.sf_call.specs.Listings.{path_of, listing_of}
-use Rattle.sf_call.specs.Calls.{Answer, answer_to, stat, refuses_size, sets, set_stat, make_directory, remove_directory, remove_file, has_all_handles, open_directory, open_present, open_file, close, stat_opened, set_opened, read, start_of, write, lists, read_directory, unless_root}
+use Rattle.sf_call.specs.Calls.{Answer, answer_to, stat, refuses_size, sets, set_stat, make_directory, remove_directory, remove_file, has_all_handles, open_directory, open_present, open_file, close, stat_opened, set_opened, read, start_of, write, lists, read_directory, unless_root, refuses}
 use Rattle.sf_call.specs.Changes.{Change}
+use Rattle.sf_call.proofs.Laws.{rename_cases, posix_rename_cases}
 
 -- with a refusal there are no changes
 abbrev pub IsStill : Reply → List Change → Type 0
@@ -42,6 +43,15 @@ IsStill (reply.Attrs attrs) changes = Unit {0}
 
 abbrev pub RefusesStill : Answer → Type 0
 RefusesStill answer = IsStill answer.reply answer.changes
+
+refused : (code : StatusCode) → RefusesStill (refuses code)
+refused Success = tt
+refused EndOfFile = refl
+refused NoSuchFile = refl
+refused PermissionDenied = refl
+refused Failure = refl
+refused BadMessage = refl
+refused OpUnsupported = refl
 
 choice : (b : Bool) (this that : Answer) → RefusesStill this → RefusesStill that → RefusesStill (cond b this that)
 choice true this that p q = p
@@ -150,8 +160,8 @@ answered tree session number moment (FSetStat handle attrs) = set_by_handle mome
 answered tree session number moment (Read handle offset len) = was_read offset len (opened tree session handle)
 answered tree session number moment (Write handle offset bytes) = was_written moment offset bytes (opened tree session handle)
 answered tree session number moment (ReadDir handle) = directory_read tree handle (opened tree session handle)
-answered tree session number moment (Rename old new) = refl
-answered tree session number moment (PosixRename old new) = refl
+answered tree session number moment (Rename old new) = rename_cases RefusesStill refused tt tree moment old new (λ _ _. tt) session number
+answered tree session number moment (PosixRename old new) = posix_rename_cases RefusesStill refused tt tree moment old new (λ _ _. tt) session number
 
 no_changes : (given : Reply) (changes : List Change) (code : StatusCode) → IsStill given changes → given ≡ reply.Status code → code ≢ Success → changes ≡ []
 no_changes (reply.Status Success) changes code still is other = absurd (other (let e : Success ≡ code = cc in sym e))

@@ -5,16 +5,16 @@ use Rattle.sf_field.specs.declared.open_flags.OpenFlags.{OpenFlags}
 use Rattle.sf_reply.specs.declared.reply.Reply.{Reply}
 use Rattle.sf_reply.specs.declared.reply.Reply.TheVariants as reply
 use Rattle.sf_reply.specs.declared.reply.StatusCode.{StatusCode}
-use Rattle.sf_reply.specs.declared.reply.StatusCode.TheVariants.{Success, NoSuchFile}
+use Rattle.sf_reply.specs.declared.reply.StatusCode.TheVariants.{Success, NoSuchFile, Failure}
 use Rattle.sf_call.specs.declared.request.Request.{Request}
-use Rattle.sf_call.specs.declared.request.Request.TheVariants.{Stat, Mkdir, Open}
+use Rattle.sf_call.specs.declared.request.Request.TheVariants.{Stat, Mkdir, Open, Rename, PosixRename}
 use Rattle.sf_call.specs.declared.record.Record.{Record}
 use Rattle.sf_call.specs.declared.record.Record.TheVariants.{Did, Left}
 use Rattle.sf_call.specs.declared.metadata.Metadata.{Metadata}
 use Rattle.sf_call.specs.Attributes.{Object}
 pub use Rattle.sf_field.specs.Attributes.{no_attrs}
 use Rattle.sf_call.specs.Attributes.Object.{Directory, File}
-use Rattle.sf_path.specs.Names.{Name}
+use Rattle.sf_path.specs.Names.{Name, Path}
 use Rattle.sf_call.specs.Tree.{Tree, empty_tree}
 use Rattle.sf_call.specs.Calls.{Applied, apply}
 
@@ -95,6 +95,12 @@ replies requests = replies_from empty_tree 1 requests
 abbrev pub ok : Reply
 ok = reply.Status Success
 
+abbrev pub failed : Reply
+failed = reply.Status Failure
+
+abbrev pub absent : Reply
+absent = reply.Status NoSuchFile
+
 abbrev pub sized : ℕ → Attrs
 sized size = record { size = Some size; owner = None; permissions = None; times = None }
 
@@ -126,8 +132,19 @@ exclusively marks = record {
 abbrev pub f : Name
 f = codes "f"
 
+abbrev pub g : Name
+g = codes "g"
+
 abbrev pub new_file : Name → Request
 new_file name = Open (name ∷ []) (flags true true false true) no_attrs
+
+-- the directories `/a`, `/a/b` and `/b` and the open files `/f` and `/g`, made by calls 1 to 5
+abbrev pub of_five : Tree
+of_five = tree_after empty_tree 1 (Mkdir (a ∷ []) no_attrs ∷ Mkdir (a ∷ b ∷ []) no_attrs ∷ Mkdir (b ∷ []) no_attrs ∷ new_file f ∷ new_file g ∷ [])
+
+-- the replies to the plain rename and to the posix one there, each alone
+abbrev pub renames : Path → Path → List Reply
+renames old new = (call of_five (Rename old new)).reply ∷ (call of_five (PosixRename old new)).reply ∷ []
 
 -- a file's attributes as it was made and modified at the moment 100
 abbrev pub file_attrs : ℕ → Attrs

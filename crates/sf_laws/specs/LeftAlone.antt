@@ -5,12 +5,16 @@ use Rattle.sf_call.specs.Tree.{after_front}
 use Rattle.sf_call.specs.Changes.{Change}
 use Rattle.sf_call.specs.Changes.Change.{SetObject, NewPath, GonePath, Move, OpenHandle, SetHandle, CloseHandle}
 
+-- what begins with this path or that
+abbrev pub BeginsWithEither : Path → Path → Path → Type 0
+BeginsWithEither this that path = IsSome (after_front this path) ⊎ IsSome (after_front that path)
+
 -- the paths at which another label may stand
 abbrev pub IsOfPath : Change → Path → Type 0
 IsOfPath (SetObject label object) path = ⊥
 IsOfPath (NewPath new label object) path = path ≡ new
 IsOfPath (GonePath gone) path = path ≡ gone
-IsOfPath (Move old new) path = IsSome (after_front old path) ⊎ IsSome (after_front new path)
+IsOfPath (Move old new) path = BeginsWithEither old new path
 IsOfPath (OpenHandle number handle) path = ⊥
 IsOfPath (SetHandle number handle) path = ⊥
 IsOfPath (CloseHandle number) path = ⊥

@@ -3,19 +3,28 @@ use Rattle.std.specs.Prelude.{◌≡◌, ◌⊎◌, ℕ, Option, Some, IsSome}
 use Rattle.sf_path.specs.Names.{Path}
 use Rattle.sf_path.specs.Order.{parent}
 use Rattle.sf_call.specs.declared.request.Request.{Request}
-use Rattle.sf_call.specs.declared.request.Request.TheVariants.{SetStat, Mkdir, Rmdir, Remove, OpenDir, Open, Close, FSetStat, Write, ReadDir}
+use Rattle.sf_call.specs.declared.request.Request.TheVariants.{SetStat, Mkdir, Rmdir, Remove, OpenDir, Open, Close, FSetStat, Write, ReadDir, Rename, PosixRename}
 use Rattle.sf_call.specs.declared.handle.Handle.{Handle}
 use Rattle.sf_call.specs.Attributes.{Object}
 use Rattle.sf_call.specs.Tree.{Tree, label_at}
 use Rattle.sf_call.specs.Handles.{handle_in}
+use Rattle.sf_laws.specs.LeftAlone.{BeginsWithEither}
 
--- the path that it names anew or removes
+-- the path that it names anew or removes; of a rename both
+abbrev pub IsEntryOf : Request → Path → Type 0
+IsEntryOf (Mkdir path attrs) other = other ≡ path
+IsEntryOf (Rmdir path) other = other ≡ path
+IsEntryOf (Remove path) other = other ≡ path
+IsEntryOf (Open path flags attrs) other = other ≡ path
+IsEntryOf (Rename old new) other = (other ≡ old) ⊎ (other ≡ new)
+IsEntryOf (PosixRename old new) other = (other ≡ old) ⊎ (other ≡ new)
+IsEntryOf request other = ⊥
+
+-- that path; of a rename all that begins with one of its two
 abbrev pub IsOwnPath : Request → Path → Type 0
-IsOwnPath (Mkdir path attrs) other = other ≡ path
-IsOwnPath (Rmdir path) other = other ≡ path
-IsOwnPath (Remove path) other = other ≡ path
-IsOwnPath (Open path flags attrs) other = other ≡ path
-IsOwnPath request other = ⊥
+IsOwnPath (Rename old new) other = BeginsWithEither old new other
+IsOwnPath (PosixRename old new) other = BeginsWithEither old new other
+IsOwnPath request other = IsEntryOf request other
 
 abbrev pub IsAt : Tree → Path → ℕ → Type 0
 IsAt tree path label = label_at tree.names path ≡ Some label
@@ -23,7 +32,7 @@ IsAt tree path label = label_at tree.names path ≡ Some label
 abbrev pub IsOpened : Tree → ℕ → ℕ → ℕ → Type 0
 IsOpened tree session number label = (handle : Handle) × (handle_in tree session number ≡ Some handle) × (handle.label ≡ label)
 
--- the labels whose objects it sets: the path's, its parent's, or the handle's
+-- the labels whose objects it sets: the path's, its parent's or both parents', or the handle's
 abbrev pub IsOwnObject : Tree → ℕ → Request → ℕ → Type 0
 IsOwnObject tree session (SetStat path attrs) label = IsAt tree path label
 IsOwnObject tree session (Mkdir path attrs) label = IsAt tree (parent path) label
@@ -32,6 +41,8 @@ IsOwnObject tree session (Remove path) label = IsAt tree (parent path) label
 IsOwnObject tree session (Open path flags attrs) label = IsAt tree path label ⊎ IsAt tree (parent path) label
 IsOwnObject tree session (FSetStat handle attrs) label = IsOpened tree session handle label
 IsOwnObject tree session (Write handle offset bytes) label = IsOpened tree session handle label
+IsOwnObject tree session (Rename old new) label = IsAt tree (parent old) label ⊎ IsAt tree (parent new) label
+IsOwnObject tree session (PosixRename old new) label = IsAt tree (parent old) label ⊎ IsAt tree (parent new) label
 IsOwnObject tree session request label = ⊥
 
 -- the handle that the call with this number opens, or one of the session that it closes or lists by

@@ -3,13 +3,13 @@
 ghost use Rattle.std.specs.Prelude.{◌≡◌, [], ◌∷◌, ◌++◌, true, false, map, drop, replicate, codes, Some, None};
 ghost use Rattle.sf_reply.specs.declared.reply.Reply.TheVariants as reply;
 ghost use Rattle.sf_reply.specs.declared.reply.StatusCode.TheVariants.{Success, EndOfFile, NoSuchFile, PermissionDenied, Failure};
-ghost use Rattle.sf_call.specs.declared.request.Request.TheVariants.{Stat, SetStat, Mkdir, Rmdir, Remove, OpenDir, Open, Close, FStat, FSetStat, Read, Write, ReadDir};
+ghost use Rattle.sf_call.specs.declared.request.Request.TheVariants.{Stat, SetStat, Mkdir, Rmdir, Remove, OpenDir, Open, Close, FStat, FSetStat, Read, Write, ReadDir, Rename, PosixRename};
 ghost use Rattle.sf_call.specs.declared.record.Record.TheVariants.{Did};
 ghost use Rattle.sf_call.specs.Attributes.Object.{Directory};
 ghost use Rattle.sf_call.specs.Tree.{empty_tree};
 ghost use Rattle.sf_call.specs.Calls.{apply};
 ghost use Rattle.sf_call.specs.Histories.{IsLegal, replay};
-ghost use Rattle.sf_laws.specs.Examples.{a, b, no_attrs, all_attrs, metadata, tree_with, touched_root, with_directory, with_file, call, refused, told, history, replies, replies_of_another, tree_after, ok, sized, flags, exclusively, truncating, f, new_file, file_attrs, numbered, up_to_32, names_in};
+ghost use Rattle.sf_laws.specs.Examples.{a, b, no_attrs, all_attrs, metadata, tree_with, touched_root, with_directory, with_file, call, refused, told, history, replies, replies_of_another, tree_after, ok, failed, absent, sized, flags, exclusively, truncating, f, g, new_file, of_five, renames, file_attrs, numbered, up_to_32, names_in};
 ghost use Rattle.sf_path.specs.Names.{slash};
 ghost use Rattle.sf_path.specs.Normal.{fault_of};
 ghost use Rattle.sf_path.specs.declared.fault.PathFault.TheVariants.{TooLong, NameTooLong};
@@ -142,4 +142,57 @@ pub fn packet_cases()
     ensures shortest { IsCut (be32 1 ++ 7 ∷ []) (cut.Whole 5) }
     ensures longest { IsCut (be32 262144) cut.More }
     ensures longer { IsCut (be32 262145) (cut.Bad bad_cut.TooLong) }
+{}
+
+/// RENAME and the extension posix-rename, in the cases of the table.
+pub fn rename_cases()
+    ensures root { renames [] (a ∷ []) ++ renames (a ∷ []) [] ≡ replicate 4 failed }
+    ensures absent { renames (a ∷ a ∷ []) (a ∷ a ∷ []) ++ renames (f ∷ a ∷ []) (b ∷ b ∷ [])
+        ≡ replicate 4 absent }
+    ensures same_path { renames (a ∷ []) (a ∷ []) ≡ failed ∷ ok ∷ [] }
+    ensures inside { renames (a ∷ []) (a ∷ b ∷ []) ++ renames (a ∷ []) (a ∷ f ∷ f ∷ [])
+        ≡ replicate 4 failed }
+    ensures around { renames (a ∷ b ∷ []) (a ∷ []) ≡ replicate 2 failed }
+    ensures bad_way { renames (b ∷ []) (f ∷ b ∷ []) ++ renames (f ∷ []) (b ∷ f ∷ f ∷ [])
+        ≡ replicate 4 absent }
+    ensures file_over_file { renames (f ∷ []) (g ∷ []) ≡ failed ∷ ok ∷ [] }
+    ensures directory_over_empty_one { renames (a ∷ []) (b ∷ []) ≡ failed ∷ ok ∷ [] }
+    ensures directory_over_full_one { renames (b ∷ []) (a ∷ []) ≡ replicate 2 failed }
+    ensures directory_over_file { renames (b ∷ []) (f ∷ []) ≡ replicate 2 failed }
+    ensures file_over_directory { renames (f ∷ []) (b ∷ []) ≡ replicate 2 failed }
+    ensures to_free_path { renames (a ∷ []) (b ∷ a ∷ []) ++ renames (f ∷ []) (a ∷ f ∷ [])
+        ≡ replicate 4 ok }
+{}
+
+/// What a rename leaves behind.
+pub fn move_cases()
+    ensures same_path { call with_directory (PosixRename (a ∷ []) (a ∷ []))
+        ≡ record { reply = ok; tree = with_directory } }
+    ensures moved { call with_directory (Rename (a ∷ []) (b ∷ []))
+        ≡ record {
+          reply = ok;
+          tree = record {
+            names = ([], 0) ∷ (b ∷ [], 7) ∷ [];
+            objects = (0, Directory (metadata 0 0 0o755 0 300))
+                ∷ (7, Directory (metadata 0 0 0o755 100 100)) ∷ [];
+            handles = [];
+          };
+        } }
+    // What lies below moves too, and both parents are modified.
+    ensures below { (call of_five (PosixRename (a ∷ []) (b ∷ []))).tree.names
+        ≡ ([], 0) ∷ (b ∷ [], 1) ∷ (b ∷ b ∷ [], 2) ∷ (f ∷ [], 4) ∷ (g ∷ [], 5) ∷ [] }
+    ensures parents { (call of_five (Rename (a ∷ b ∷ []) (b ∷ a ∷ []))).tree.objects
+        ≡ (0, Directory (metadata 0 0 0o755 0 100)) ∷ (1, Directory (metadata 0 0 0o755 100 300))
+        ∷ (2, Directory (metadata 0 0 0o755 100 100)) ∷ (3, Directory (metadata 0 0 0o755 100 300))
+        ∷ (4, File (metadata 0 0 0o644 100 100) []) ∷ (5, File (metadata 0 0 0o644 100 100) []) ∷ [] }
+    // A replaced file is read by its handle, a moved one too.
+    ensures replaced { replies (new_file f ∷ Write 1 0 (codes "abc") ∷ new_file a
+        ∷ PosixRename (a ∷ []) (f ∷ []) ∷ Write 3 0 (codes "x") ∷ Read 1 0 10 ∷ Read 3 0 10
+        ∷ Stat (f ∷ []) ∷ Stat (a ∷ []) ∷ [])
+        ≡ reply.Handle 1 ∷ ok ∷ reply.Handle 3 ∷ ok ∷ ok ∷ reply.Data (codes "abc")
+        ∷ reply.Data (codes "x") ∷ reply.Attrs (file_attrs 1) ∷ absent ∷ [] }
+    // An open directory that is moved lists what it holds.
+    ensures listed { map names_in (replies (Mkdir (a ∷ []) no_attrs ∷ Mkdir (a ∷ f ∷ []) no_attrs
+        ∷ OpenDir (a ∷ []) ∷ Rename (a ∷ []) (b ∷ []) ∷ ReadDir 3 ∷ []))
+        ≡ [] ∷ [] ∷ [] ∷ [] ∷ (f ∷ []) ∷ [] }
 {}

@@ -1,24 +1,24 @@
 //! What requests change, and what they leave alone.
 
-ghost use Rattle.std.specs.Prelude.{◌≡◌, ◌≢◌, ◌<◌, ℕ, true, List, [], Some, IsSome};
+ghost use Rattle.std.specs.Prelude.{◌≡◌, ◌≢◌, ◌<◌, ℕ, true, List, [], ◌∷◌, Some, None, IsSome};
 ghost use Rattle.sf_call.specs.declared.request.Request.{Request};
-ghost use Rattle.sf_call.specs.declared.request.Request.TheVariants.{Stat, SetStat, FStat, FSetStat, Read, Write};
+ghost use Rattle.sf_call.specs.declared.request.Request.TheVariants.{Stat, SetStat, FStat, FSetStat, Read, Write, Rename, PosixRename};
 ghost use Rattle.sf_call.specs.declared.record.Record.{Record};
-ghost use Rattle.sf_path.specs.Names.{Path};
+ghost use Rattle.sf_path.specs.Names.{Name, Path};
 ghost use Rattle.sf_path.specs.Order.{parent};
 ghost use Rattle.sf_call.specs.declared.metadata.Metadata.{Metadata};
-ghost use Rattle.sf_call.specs.Tree.{Tree, label_at, object_of, handle_of, is_used, kept};
+ghost use Rattle.sf_call.specs.Tree.{Tree, label_at, object_of, handle_of, is_used, kept, after_front};
 ghost use Rattle.sf_call.specs.Changes.{Change, changed};
 ghost use Rattle.sf_laws.specs.LeftAlone.{IsOfPath, IsOfLabel, IsOfNumber};
-ghost use Rattle.sf_call.specs.Calls.{apply};
+ghost use Rattle.sf_call.specs.Calls.{answer_to, apply, moves};
 ghost use Rattle.sf_reply.specs.declared.reply.Reply.TheVariants.{Status};
 ghost use Rattle.sf_reply.specs.declared.reply.StatusCode.{StatusCode};
 ghost use Rattle.sf_reply.specs.declared.reply.StatusCode.TheVariants.{Success};
 ghost use Rattle.sf_field.specs.Attributes.{no_attrs};
 ghost use Rattle.sf_call.specs.Attributes.{Object, modified_at};
 ghost use Rattle.sf_call.specs.Attributes.Object.{Directory};
-ghost use Rattle.sf_laws.specs.Own.{IsOneOf, IsOwnPath, IsOwnObject, IsOwnHandle};
-ghost use Rattle.sf_call.specs.Allowed.{kind_of};
+ghost use Rattle.sf_laws.specs.Own.{IsOneOf, IsEntryOf, IsOwnPath, IsOwnObject, IsOwnHandle};
+ghost use Rattle.sf_call.specs.Allowed.{IsMove, kind_of};
 ghost use Rattle.sf_call.specs.Histories.{replay, IsNewNumber, IsLegal};
 
 /// What is not a request's own it leaves alone: the labels of other paths, other handles, and other objects, which at most
@@ -54,9 +54,10 @@ pub fn left_alone()
         → object_of (changed tree change).objects label ≡ object_of tree.objects label }
 {}
 
-/// Of the directory in which a request makes or removes a name nothing changes, but the moment at which it was modified.
+/// Of a directory in which a request makes or removes a name nothing changes, but the moment at which it was modified.
 pub fn parents_stay()
-    ensures { (tree : Tree) (session number moment label : ℕ) (request : Request) (path : Path) (m : Metadata) → IsOwnPath request path → label ≢ number
+    ensures { (tree : Tree) (session number moment label : ℕ) (request : Request) (path : Path)
+        (m : Metadata) → IsEntryOf request path → label ≢ number
         → label_at tree.names (parent path) ≡ Some label
         → object_of tree.objects label ≡ Some (Directory m)
         → IsOneOf (Directory m) (Directory (modified_at moment m)) (object_of (apply tree session number moment request).tree.objects label) }
@@ -101,4 +102,27 @@ pub fn nothing_unused()
         → is_used (replay history).names (replay history).handles label ≡ true }
     ensures kept { (history : List Record) → IsLegal history
         → kept (replay history) ≡ replay history }
+{}
+
+/// After a legal history a rename moves where a move may be made, the plain one to a path that is free.
+pub fn moving_renames()
+    ensures plain { (history : List Record) (session number moment : ℕ) (old new : Path)
+        → IsLegal history → IsMove (replay history) old new
+        → label_at (replay history).names new ≡ None
+        → answer_to (replay history) session number moment (Rename old new)
+        ≡ moves (replay history) moment old new }
+    ensures posix { (history : List Record) (session number moment : ℕ) (old new : Path)
+        → IsLegal history → IsMove (replay history) old new
+        → answer_to (replay history) session number moment (PosixRename old new)
+        ≡ moves (replay history) moment old new }
+{}
+
+/// Where a move may be made, it may be made after a request whose own paths all lie below the old one.
+pub fn still_moves()
+    ensures { (history : List Record) (number session moment : ℕ) (request : Request) (old new : Path)
+        → IsLegal history → 0 < number → IsNewNumber number history
+        → ((path : Path) → IsOwnPath request path
+        → (name : Name) × (rest : Path) × (after_front old path ≡ Some (name ∷ rest)))
+        → IsMove (replay history) old new
+        → IsMove (apply (replay history) session number moment request).tree old new }
 {}

@@ -15,12 +15,12 @@ mod history_laws;
 mod listing_laws;
 
 pub use cases::{
-    file_cases, handle_cases, history_cases, listing_cases, mkdir_cases, open_cases, packet_cases,
-    path_cases, rmdir_cases, stat_cases,
+    file_cases, handle_cases, history_cases, listing_cases, mkdir_cases, move_cases, open_cases,
+    packet_cases, path_cases, rename_cases, rmdir_cases, stat_cases,
 };
 pub use change_laws::{
-    idle_calls, kinds_stay, left_alone, nothing_unused, own_changes, parents_stay,
-    refusals_change_nothing,
+    idle_calls, kinds_stay, left_alone, moving_renames, nothing_unused, own_changes, parents_stay,
+    refusals_change_nothing, still_moves,
 };
 pub use handle_laws::{limits_hold, new_handles, open_handles};
 pub use history_laws::equal_replies;

@@ -1,6 +1,6 @@
 //! Paths.
 
-ghost use Rattle.std.specs.Prelude.{◌≡◌, ◌≢◌, ℕ, ◌+◌, ◌<◌, ◌≤◌, ◌↔◌, [], length, take, slice_get, refl, IsTrue, IfOk, IsOkUnless, Some, None, Err};
+ghost use Rattle.std.specs.Prelude.{◌≡◌, ◌≢◌, ℕ, ◌+◌, ◌<◌, ◌≤◌, ◌↔◌, [], ◌++◌, length, take, drop, slice_get, refl, IsTrue, IfOk, IsOkUnless, Some, None, Err};
 ghost use Rattle.std.specs.Cmp.{eq_by_cmp_equiv, partial_equiv_from_equiv, partial_order_from_total};
 ghost use Rattle.sf_path.specs.declared.fault.PathFault.{PathFault};
 ghost use Rattle.sf_path.specs.Names.{IsPath, BeginsWith, text_of};
@@ -149,6 +149,19 @@ impl Path {
         ensures { IfOk result (λ copy. copy ≡ self.now) }
     {
         self.front(alloc, self.len())
+    }
+
+    /// The path with the names of another behind its own, from the `n`th on.
+    pub fn joined(&self, alloc: Global, other: &Path, n: usize) -> Result<Path, AllocError>
+        requires { n ≤ length other.now }
+        ensures { IfOk result (λ path. path ≡ self.now ++ drop n other.now) }
+    {
+        self.are_names();
+        let mut names = self.try_copy(alloc)?.into_names();
+        for name in &other.names[n..] {
+            names.push(name.try_copy(alloc)?)?;
+        }
+        Ok(Path { names })
     }
 
     /// The path's names, without taking memory.

@@ -8,9 +8,9 @@ use Rattle.sf_reply.specs.declared.reply.Reply.TheVariants as reply
 use Rattle.sf_call.specs.Attributes.{Object, attrs_of}
 use Rattle.sf_call.specs.Attributes.Object.{Directory, File}
 use Rattle.sf_call.specs.declared.handle.Handle.{Handle}
-use Rattle.sf_call.specs.Tree.{Tree, directory_metadata, found_object, is_empty}
+use Rattle.sf_call.specs.Tree.{Tree, directory_metadata, is_directory, found_object, is_empty}
 use Rattle.sf_call.specs.Handles.{opened_object}
-use Rattle.sf_call.specs.Calls.{Answer, refuses, sets, set_stat, goes, remove_directory, remove_file, has_all_handles, opens, directory_handle, open_directory, set_opened, tells, stat_opened}
+use Rattle.sf_call.specs.Calls.{Answer, refuses, sets, set_stat, goes, moves, replace_by, remove_directory, remove_file, has_all_handles, opens, directory_handle, open_directory, set_opened, tells, stat_opened}
 
 abbrev pub is_directory_node : Object → Bool
 is_directory_node o = is_some (directory_metadata o)
@@ -47,3 +47,9 @@ sets_opened moment attrs h (File m contents) = refl
 pub tells_opened : (h : Handle) (o : Object) → stat_opened (opened_object h (Some o)) ≡ tells (reply.Attrs (attrs_of o))
 tells_opened h (Directory m) = refl
 tells_opened h (File m contents) = refl
+
+pub replaces_object : (tree : Tree) (moment : ℕ) (old new : Path) (label : ℕ) (o : Object)
+    → replace_by tree moment old new (found_object label (Some o))
+    ≡ cond (cond (is_directory_node o) (is_directory tree old && is_empty tree.names new) (not (is_directory tree old))) (moves tree moment old new) (refuses Failure)
+replaces_object tree moment old new label (Directory m) = refl
+replaces_object tree moment old new label (File m contents) = negated (is_directory tree old) (refuses Failure) (moves tree moment old new)

@@ -16,7 +16,7 @@ use crate::sweep::{close_all, sweep};
 use sf_call::{Handle, Metadata, Place, Request};
 use sf_field::{Attrs, ByteString, Owner, Times};
 use sf_path::{Name, Path};
-use sf_reply::{Reply, StatusCode};
+use sf_reply::Reply;
 use std::alloc::{AllocError, Global};
 use std::collections::BTreeMap;
 use std::marker::Model;
@@ -24,6 +24,7 @@ use std::marker::Model;
 mod handle_calls;
 mod listing;
 mod path_calls;
+mod renames;
 
 /// A tree of files.
 #[derive(Drop)]
@@ -104,9 +105,8 @@ impl PlainTree {
                 data,
             } => self.write(session, moment, *handle, *offset, data),
             Request::ReadDir(handle) => self.read_directory(session, *handle),
-            Request::Rename(_, _) | Request::PosixRename(_, _) => {
-                Ok(Reply::Status(StatusCode::OpUnsupported))
-            }
+            Request::Rename(old, new) => self.rename(moment, old, new),
+            Request::PosixRename(old, new) => self.posix_rename(moment, old, new),
         }
     }
 

@@ -2,8 +2,8 @@
 
 use sf_call::Request;
 use sf_cases::requests::{
-    close, mkdir, open, open_dir, path, read, read_dir, remove, rmdir, set_handle, set_stat, stat,
-    stat_handle, write,
+    close, mkdir, open, open_dir, path, posix_rename, read, read_dir, remove, rename, rmdir,
+    set_handle, set_stat, stat, stat_handle, write,
 };
 use sf_cases::{sized, whole};
 use sf_field::{Attrs, NO_ATTRS, Owner, Times};
@@ -19,6 +19,7 @@ mod files;
 mod handles;
 mod listings;
 mod opening;
+mod renames;
 
 /// A session on a tree of its own. Its calls are numbered from 1 on, and the moment of each is a hundred times its number.
 #[derive(Drop)]

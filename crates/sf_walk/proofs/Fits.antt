@@ -89,7 +89,7 @@ module _ (s : StoreState) (t : Tree) (h : Keeps s t) where
   pub object_there : (x : ℕ) (node : Node) → node_in s.nodes x ≡ Some node → object_of t.objects node.label ≡ Some (object_in node.metadata node.content)
   object_there x node here = h.shows.by.objects x node.label (object_in node.metadata node.content) (ap (option_map shown_node) here)
 
-  directory_says : (p : Path) (x : ℕ) → walk (entry_of s.nodes) s.root p ≡ Some x → is_directory t p ≡ is_directory_at s.nodes x
+  pub directory_says : (p : Path) (x : ℕ) → walk (entry_of s.nodes) s.root p ≡ Some x → is_directory t p ≡ is_directory_at s.nodes x
   directory_says p x at =
       let w = node_there p x at in
       ap (λ (o : Option ℕ). is_some {T = ℕ × Metadata} (option_and_then (λ (label : ℕ). option_map (λ (m : Metadata). (label, m)) (option_and_then directory_metadata (object_of t.objects label))) o)) (label_there p x w.0 at w.1)

@@ -7,7 +7,7 @@ use Rattle.sf_inode.specs.declared.node.Node.{Node}
 use Rattle.sf_inode.specs.declared.handle.OpenHandle.{OpenHandle}
 use Rattle.sf_inode.specs.declared.handle.Marks.{Marks}
 use Rattle.sf_inode.specs.Nodes.{less_content, more_content, with_content, with_stored, with_opened, without_name, is_unused}
-use Rattle.sf_inode.specs.Stores.{StoreState, node_in, entry_of, edited_by, edited, stored_set, entry_taken, with_nodes, released_if, released, unlinked_from, unlinked, handles_of, handles_put, handle_put, opened_at, opened, handle_dropped, closed_by, closed, handle_at, Inserted}
+use Rattle.sf_inode.specs.Stores.{StoreState, node_in, entry_of, edited_by, edited, stored_set, entry_taken, entry_put, moved_entry, relinked_from, relinked, with_nodes, released_if, released, unlinked_from, unlinked, handles_of, handles_put, handle_put, opened_at, opened, handle_dropped, closed_by, closed, handle_at, Inserted}
 use Rattle.sf_walk.specs.Served.{IsAsBefore, Stays, HoldersStay, IsAlike, LookedUp, after_look_ups}
 use Rattle.sf_walk.proofs.LookUps.{looked_nodes}
 
@@ -96,6 +96,19 @@ stays_unlinked {N} old s dir n h =
       | None ↦ h
       | Some id ↦ stays_released old (edited without_name (entry_taken s dir n) id) id
           (stays_edited without_name (λ node. (refl, refl)) old (entry_taken s dir n) id (stays_edited (with_content (less_content n)) (λ node. (refl, refl)) old s dir h))
+    ]
+
+pub stays_relinked : {N : Option ℕ → ℕ → Type 0} (old s : StoreState) (dir : ℕ) (n : Name) (to : ℕ) (m : Name) → Stays N old s → Stays N old (relinked s dir n to m)
+stays_relinked {N} old s dir n to m h =
+    elim (entry_of s.nodes dir n) as (λ o. Stays N old (relinked_from s dir n to m o (entry_of s.nodes to m))) [
+      | None ↦ h
+      | Some id ↦
+          let moved : Stays N old (moved_entry s dir n to m id) =
+          stays_edited (with_content (less_content n)) (λ node. (refl, refl)) old (entry_put s to m id) dir (stays_edited (with_content (more_content m id)) (λ node. (refl, refl)) old s to h) in
+          elim (entry_of s.nodes to m) as (λ r. Stays N old (relinked_from s dir n to m (Some id) r)) [
+            | None ↦ moved
+            | Some target ↦ stays_released old (edited without_name (moved_entry s dir n to m id) target) target (stays_edited without_name (λ node. (refl, refl)) old (moved_entry s dir n to m id) target moved)
+          ]
     ]
 
 pub stays_inserted : {N : Option ℕ → ℕ → Type 0} (old s new : StoreState) (dir : ℕ) (n : Name) (id : ℕ) (node : Node) → s.nodes ≡ old.nodes → Inserted s new dir n id node → N node.holder node.label → Stays N old new

@@ -1,6 +1,7 @@
 pub mod WaySteps
 pub mod LookUps
 pub mod Fits
+pub mod Laws
 pub mod Holders
 pub mod Looked
 pub mod LastNames
@@ -18,5 +19,11 @@ pub mod Dispatch
 pub mod Refused
 pub mod Trimmed
 pub mod Rooted
+pub mod Targets
 pub mod Onward
+pub mod AtOnce
+pub mod NoMoves
+pub mod Begins
+pub mod Courses
+pub mod MovedEntries
 pub mod Ends

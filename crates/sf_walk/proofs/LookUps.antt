@@ -19,5 +19,16 @@ after_nodes (suc k) s = after_nodes k s
 pub looked_nodes : (old new : StoreState) (most : ℕ) → LookedUp old new most → new.nodes ≡ old.nodes
 looked_nodes old new most h = ap (λ (s : StoreState). s.nodes) h.state ∙ after_nodes h.count old
 
+after_more : (k j : ℕ) (s : StoreState) → after_look_ups k (after_look_ups j s) ≡ after_look_ups (k + j) s
+after_more zero j s = let e : j ≡ 0 + j = omega arith in ap (λ i. after_look_ups i s) e
+after_more (suc k) j s = let e : suc (k + j) ≡ suc k + j = omega arith in ap looked_up (after_more k j s) ∙ ap (λ i. after_look_ups i s) e
+
+pub looked_on : (old mid new : StoreState) (few more : ℕ) → LookedUp old mid few → LookedUp mid new more → LookedUp old new (few + more)
+looked_on old mid new few more g h = record {
+  count = h.count + g.count;
+  few = let a = g.few in let b = h.few in omega arith;
+  state = h.state ∙ ap (after_look_ups h.count) g.state ∙ after_more h.count g.count old;
+}
+
 pub looked_itself : (s : StoreState) (most : ℕ) → LookedUp s s most
 looked_itself s most = looked_less s s 0 most (looked_none s) (omega arith)

@@ -9,17 +9,20 @@ use Rattle.sf_path.specs.Names.{Name, Path}
 use Rattle.sf_call.specs.declared.call.Call.{Call}
 use Rattle.sf_call.specs.declared.call.Stage.{Stage}
 use Rattle.sf_call.specs.declared.call.Stage.TheVariants as stage
+use Rattle.sf_call.specs.Requests.{Target, target_of}
 use Rattle.sf_inode.specs.declared.node.Node.{Node}
 use Rattle.sf_inode.specs.declared.node.Content.{Content}
 use Rattle.sf_inode.specs.declared.node.Content.TheVariants as content
 use Rattle.sf_inode.specs.Nodes.{entry_in, is_directory_content}
 use Rattle.sf_inode.specs.Stores.{StoreState, node_in, entry_of, holder_of, is_directory_at, looked_up}
 use Rattle.sf_keeps.specs.Steps.{Steps, walk}
+use Rattle.sf_walk.specs.declared.finding.Ways.{Ways}
 use Rattle.sf_walk.specs.declared.finding.Located.{Located}
 use Rattle.sf_walk.specs.declared.finding.Located.TheVariants as located
-use Rattle.sf_walk.specs.Ways.{way_from, missing, path_of, IsWay}
+use Rattle.sf_walk.specs.Ways.{way_from, missing, path_of, along, AreWays}
 use Rattle.sf_walk.specs.Served.{LookedUp}
-use Rattle.sf_walk.specs.Steps.{IsOnWay, next_of, IsFree, stepped, Takes, Waits, LeadsNowhere, MayDecideAt, IsFreeAt, Decides}
+use Rattle.sf_walk.specs.Steps.{IsOnWay, next_of, IsFree, stepped, Takes, Waits, LeadsNowhere, MayDecideAt, IsFreeAt, AreFree, Decides, looks_at}
+use Rattle.sf_walk.proofs.Targets.{on_path}
 use Rattle.sf_walk.proofs.LookUps.{looked_none, looked_more, looked_itself}
 use Rattle.sf_walk.proofs.WaySteps.{way_stops, way_lacks, way_goes, missing_last, missing_on, way_ends}
 
@@ -94,13 +97,15 @@ module _ (old : StoreState) (path : Path) (walked node : ℕ) (way : IsOnWay old
       looked e = looked_more old old new 0 (looked_none old) e
 
       decides : (found : Located) → found ≡ way_from old.nodes old.root old.root path → (walked + 1 ≡ length path) ⊎ ((walked + 1 < length path) × LeadsNowhere old node (slice_get path walked))
-          → IsFreeAt old call.number (stage.At walked node) found → new ≡ looked_up old → Decides old new call found
-      decides found is may free e = record {
-        may = subst (λ (o : Option Path). MayDecideAt old o call.stage) (sym is_path) (subst (λ (g : Stage). MayDecideAt old (Some path) g) (sym is_stage) may);
-        located = subst (λ (o : Option Path). IsWay new o found) (sym is_path) (subst (λ (s : StoreState). found ≡ way_from s.nodes s.root s.root path) (sym e) is);
-        free = subst (λ (g : Stage). IsFreeAt old call.number g found) (sym is_stage) free;
-        looked = looked e;
-      }
+          → IsFreeAt old call.number (stage.At walked node) found → new ≡ looked_up old → Decides old new call (along found)
+      decides found is may free e =
+          let on = sym (on_path (target_of call.request) path is_path) in
+          record {
+            may = subst (λ (o : Option Path). MayDecideAt old o call.stage) (sym is_path) (subst (λ (g : Stage). MayDecideAt old (Some path) g) (sym is_stage) may);
+            located = subst (λ (g : Target). AreWays new g (along found)) on (subst (λ (s : StoreState). found ≡ way_from s.nodes s.root s.root path) (sym e) is);
+            free = subst (λ (g : Target). AreFree old call.number call.stage g (along found)) on (subst (λ (g : Stage). IsFreeAt old call.number g found) (sym is_stage) free);
+            looked = subst (λ (g : Target). LookedUp old new (looks_at g)) on (looked e);
+          }
 
       nowhere_none : entry_of old.nodes node n ≡ None → LeadsNowhere old node (slice_get path walked)
       nowhere_none none = subst (LeadsNowhere old node) (sym at) (λ child some. let h : None ≡ Some child = sym none ∙ some in absurd (let x : ⊥ = cc in x))
@@ -108,16 +113,16 @@ module _ (old : StoreState) (path : Path) (walked node : ℕ) (way : IsOnWay old
       nowhere_file : (y : ℕ) → entry_of old.nodes node n ≡ Some y → is_directory_at old.nodes y ≡ false → LeadsNowhere old node (slice_get path walked)
       nowhere_file y is file = subst (LeadsNowhere old node) (sym at) (λ child some. let h : Some child ≡ Some y = sym some ∙ is in let same : child ≡ y = cc in ap (is_directory_at old.nodes) same ∙ file)
 
-      pub ready_missing : entry_of old.nodes node n ≡ None → length path ≡ walked + 1 → new ≡ looked_up old → Decides old new call (located.Missing node)
+      pub ready_missing : entry_of old.nodes node n ≡ None → length path ≡ walked + 1 → new ≡ looked_up old → Decides old new call (along (located.Missing node))
       ready_missing none last e = decides (located.Missing node) (is_missing none (omega (arith, last))) (inl (sym last)) tt e
 
-      pub ready_cut : entry_of old.nodes node n ≡ None → walked + 1 < length path → new ≡ looked_up old → Decides old new call located.NoWay
+      pub ready_cut : entry_of old.nodes node n ≡ None → walked + 1 < length path → new ≡ looked_up old → Decides old new call (along located.NoWay)
       ready_cut none more e = decides located.NoWay (is_cut none more) (inr (more, nowhere_none none)) tt e
 
-      pub ready_file : (y : ℕ) → entry_of old.nodes node n ≡ Some y → walked + 1 < length path → is_directory_at old.nodes y ≡ false → new ≡ looked_up old → Decides old new call located.NoWay
+      pub ready_file : (y : ℕ) → entry_of old.nodes node n ≡ Some y → walked + 1 < length path → is_directory_at old.nodes y ≡ false → new ≡ looked_up old → Decides old new call (along located.NoWay)
       ready_file y some more file e = decides located.NoWay (is_file y some more file) (inr (more, nowhere_file y some file)) tt e
 
-      pub ready_there : (y : ℕ) → entry_of old.nodes node n ≡ Some y → length path ≡ walked + 1 → IsFree old call.number y → new ≡ looked_up old → Decides old new call (located.At node y)
+      pub ready_there : (y : ℕ) → entry_of old.nodes node n ≡ Some y → length path ≡ walked + 1 → IsFree old call.number y → new ≡ looked_up old → Decides old new call (along (located.At node y))
       ready_there y some last free e = decides (located.At node y) (is_there y some (omega (arith, last))) (inl (sym last)) free e
 
       pub waits : (y holder : ℕ) → entry_of old.nodes node n ≡ Some y → holder_of old.nodes y ≡ Some holder → call.number ≢ holder → new ≡ looked_up old → Waits old new call holder
@@ -145,13 +150,16 @@ module _ (old : StoreState) (path : Path) (walked node : ℕ) (way : IsOnWay old
 
 -- ---- from the root
 module _ (old : StoreState) (path : Path) (call : Call) (is_path : path_of call.request ≡ Some path) (is_stage : call.stage ≡ stage.Fresh) where
-  pub first_ready : path ≡ [] → Decides old old call (located.At old.root old.root)
-  first_ready root = record {
-    may = subst (λ (o : Option Path). MayDecideAt old o call.stage) (sym is_path) (subst (λ (g : Stage). MayDecideAt old (Some path) g) (sym is_stage) root);
-    located = subst (λ (o : Option Path). IsWay old o (located.At old.root old.root)) (sym is_path) (sym (ap (way_from old.nodes old.root old.root) root));
-    free = subst (λ (g : Stage). IsFreeAt old call.number g (located.At old.root old.root)) (sym is_stage) tt;
-    looked = looked_itself old 1;
-  }
+  pub first_ready : path ≡ [] → Decides old old call (along (located.At old.root old.root))
+  first_ready root =
+      let on = sym (on_path (target_of call.request) path is_path) in
+      let found = along (located.At old.root old.root) in
+      record {
+        may = subst (λ (o : Option Path). MayDecideAt old o call.stage) (sym is_path) (subst (λ (g : Stage). MayDecideAt old (Some path) g) (sym is_stage) root);
+        located = subst (λ (g : Target). AreWays old g found) on (sym (ap (way_from old.nodes old.root old.root) root));
+        free = subst (λ (g : Target). AreFree old call.number call.stage g found) on (subst (λ (g : Stage). IsFreeAt old call.number g (located.At old.root old.root)) (sym is_stage) tt);
+        looked = subst (λ (g : Target). LookedUp old old (looks_at g)) on (looked_itself old 1);
+      }
 
   pub first_waits : (holder : ℕ) → holder_of old.nodes old.root ≡ Some holder → call.number ≢ holder → Waits old old call holder
   first_waits holder held other = record {

@@ -39,7 +39,7 @@ file_content_bare : (c : Content) → is_directory_content c ≡ false → is_ba
 file_content_bare (content.Directory es) e = cc
 file_content_bare (content.File contents) e = refl
 
-file_bare : (nodes : List (Option Node)) (y : ℕ) (node : Node) → node_in nodes y ≡ Some node → is_directory_at nodes y ≡ false → is_bare_at nodes y ≡ true
+pub file_bare : (nodes : List (Option Node)) (y : ℕ) (node : Node) → node_in nodes y ≡ Some node → is_directory_at nodes y ≡ false → is_bare_at nodes y ≡ true
 file_bare nodes y node at d =
     ap (λ (o : Option Node). option_map_or (λ (it : Node). is_bare_content it.content) o false) at
     ∙ file_content_bare node.content (sym (ap (λ (o : Option Node). option_map_or (λ (it : Node). is_directory_content it.content) o false) at) ∙ d)

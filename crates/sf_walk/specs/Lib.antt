@@ -2,3 +2,4 @@ pub mod Ways
 pub mod Opening
 pub mod Served
 pub mod Steps
+pub mod Renames

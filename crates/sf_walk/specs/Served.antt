@@ -5,6 +5,7 @@ use Rattle.sf_reply.specs.declared.reply.Reply.{Reply}
 use Rattle.sf_reply.specs.declared.reply.Reply.TheVariants as reply
 use Rattle.sf_reply.specs.declared.reply.StatusCode.{StatusCode}
 use Rattle.sf_reply.specs.declared.reply.StatusCode.TheVariants.{Success}
+use Rattle.sf_path.specs.Order.{same_path}
 use Rattle.sf_call.specs.declared.request.Request.{Request}
 use Rattle.sf_call.specs.declared.request.Request.TheVariants as request
 use Rattle.sf_call.specs.Requests.{Wanted, wanted_by}
@@ -87,7 +88,7 @@ Gives new t answer (Ok given) = IsCarriedOut new t answer given
 Gives new t answer (Err error) = is_success answer.reply ≡ true
 
 -- The requests that take memory where they succeed: what is told takes it, but for a status and attributes, and so
--- does what is made, and a file's bytes.
+-- does what is made, a file's bytes, and another name.
 abbrev pub wants_room : Wanted → Bool
 wants_room StatusAlone = false
 wants_room Attributes = false
@@ -100,6 +101,8 @@ takes_memory (request.Mkdir path attrs) = true
 takes_memory (request.Write handle offset bytes) = not (is_nil bytes)
 takes_memory (request.SetStat path attrs) = is_some attrs.size
 takes_memory (request.FSetStat handle attrs) = is_some attrs.size
+takes_memory (request.Rename old new) = true
+takes_memory (request.PosixRename old new) = not (same_path old new)
 takes_memory other = wants_room (wanted_by other)
 
 -- want of memory may be told in place of this reply to the request

@@ -9,17 +9,18 @@ ghost use Rattle.sf_call.specs.Handles.{opened};
 ghost use Rattle.sf_call.specs.Calls.{answer_to, read};
 ghost use Rattle.sf_keeps.specs.Keeps.{Keeps};
 ghost use Rattle.sf_walk.specs.Ways.{names_of, path_of, IsLocated};
-ghost use Rattle.sf_walk.specs.Served.{IsCarriedOut, IsRefused, IsAlike, LookedUp, LooksUp, NodesStay, IsUnused, is_success, takes_memory, may_want_memory};
+ghost use Rattle.sf_walk.specs.Served.{IsCarriedOut, IsRefused, IsAlike, LooksUp, NodesStay, IsUnused, is_success, takes_memory, may_want_memory};
 
-use crate::finding::{Located, locate};
+use crate::finding::{Ways, locate_all};
 use crate::handle_calls::{close, read, set_stat_handle, stat_handle, write};
 use crate::listing::read_directory;
 use crate::opening::{open, open_directory};
 use crate::path_calls::{mkdir, remove, rmdir, set_stat, stat};
+use crate::renames::{posix_rename, rename};
 use sf_call::{Call, Request};
 use sf_inode::Store;
 use sf_path::Path;
-use sf_reply::{Reply, StatusCode};
+use sf_reply::Reply;
 use std::alloc::AllocError;
 
 /// Answers a call whole, from the root on and without locks, whoever holds the nodes on its way. Its
@@ -36,12 +37,27 @@ pub fn from_root(store: &mut Store, call: &Call) -> Reply
     ensures look_ups { LooksUp store.old store.new (names_of call.now.request) }
     ensures nodes { NodesStay call.now.number store.old store.new }
 {
-    let located = find_way(store, &call.request);
-    let (reply, _) = decide(store, call, located);
+    let (reply, _) = from_root_twice(store, call);
     reply
 }
 
-/// The path that a request walks.
+/// As `from_root`, with the reply twice, once for the call's record.
+pub fn from_root_twice(store: &mut Store, call: &Call) -> (Reply, Reply)
+    ensures served { (t : Tree) → Keeps store.old t → IsUnused t call.now.number
+        → IsRefused store.old store.new t result.0
+        ⊎ IsCarriedOut store.new t (answer_to t call.now.session call.now.number call.now.moment call.now.request) result.0 }
+    ensures copy { result.1 ≡ result.0 }
+    ensures sure { (t : Tree) → Keeps store.old t → IsUnused t call.now.number
+        → may_want_memory call.now.request (answer_to t call.now.session call.now.number call.now.moment call.now.request).reply ≡ false
+        → IsCarriedOut store.new t (answer_to t call.now.session call.now.number call.now.moment call.now.request) result.0 }
+    ensures look_ups { LooksUp store.old store.new (names_of call.now.request) }
+    ensures nodes { NodesStay call.now.number store.old store.new }
+{
+    let ways = locate_all(store, &call.request);
+    decide(store, call, ways)
+}
+
+/// The path that a request walks. A rename walks none.
 pub fn path_of(request: &Request) -> Option<&Path>
     ensures { option_copied result ≡ path_of request.now }
 {
@@ -64,22 +80,11 @@ pub fn path_of(request: &Request) -> Option<&Path>
     }
 }
 
-/// Walks the path of a request, if it has one.
-fn find_way(store: &mut Store, request: &Request) -> Located
-    ensures located { IsLocated store.old request.now result }
-    ensures looked { LookedUp store.old store.new (names_of request.now) }
-{
-    match path_of(request) {
-        Some(path) => locate(store, path),
-        None => Located::NoWay,
-    }
-}
-
-/// Answers a call where its path was found to lead, without a look-up: its reply twice, once for its record. A call without
-/// a path asks nothing of what was located.
+/// Answers a call where its paths were found to lead, without a look-up: its reply twice, once for its
+/// record. A call without a path asks nothing of what was located.
 #[tactic(auto, using(crate::proofs::Refused::keeps_alike, crate::proofs::Trimmed::served_trimmed, crate::proofs::Trimmed::stays_trimmed, crate::proofs::Trimmed::looks_same))]
-pub fn decide(store: &mut Store, call: &Call, located: Located) -> (Reply, Reply)
-    requires { IsLocated store.old call.now.request located }
+pub fn decide(store: &mut Store, call: &Call, ways: Ways) -> (Reply, Reply)
+    requires { IsLocated store.old call.now.request ways }
     ensures served { (t : Tree) → Keeps store.old t → IsUnused t call.now.number
         → IsRefused store.old store.new t result.0
         ⊎ IsCarriedOut store.new t (answer_to t call.now.session call.now.number call.now.moment call.now.request) result.0 }
@@ -90,7 +95,7 @@ pub fn decide(store: &mut Store, call: &Call, located: Located) -> (Reply, Reply
     ensures look_ups { store.new.look_ups ≡ store.old.look_ups }
     ensures nodes { NodesStay call.now.number store.old store.new }
 {
-    match answer(store, call, located) {
+    match answer(store, call, ways) {
         Ok(replies) => {
             store.trim();
             replies
@@ -100,8 +105,8 @@ pub fn decide(store: &mut Store, call: &Call, located: Located) -> (Reply, Reply
 }
 
 #[tactic(auto, using(crate::proofs::Holders::stays_none_new, crate::proofs::Rooted::twice_copies))]
-fn answer(store: &mut Store, call: &Call, located: Located) -> Result<(Reply, Reply), AllocError>
-    requires { IsLocated store.old call.now.request located }
+fn answer(store: &mut Store, call: &Call, ways: Ways) -> Result<(Reply, Reply), AllocError>
+    requires { IsLocated store.old call.now.request ways }
     ensures served { (t : Tree) → Keeps store.old t → IsUnused t call.now.number
         → IfOk result (λ replies. IsCarriedOut store.new t (answer_to t call.now.session call.now.number call.now.moment call.now.request) replies.0) }
     ensures copy { IfOk result (λ replies. replies.1 ≡ replies.0) }
@@ -113,6 +118,7 @@ fn answer(store: &mut Store, call: &Call, located: Located) -> Result<(Reply, Re
     ensures nodes { NodesStay call.now.number store.old store.new }
 {
     let (session, number, moment) = (call.session, call.number, call.moment);
+    let located = ways.path;
     match &call.request {
         Request::Stat(_) => Ok(twice(stat(store, located))),
         Request::SetStat(path, attrs) => { twice_ok(set_stat(store, moment, path, attrs, located)) }
@@ -146,9 +152,8 @@ fn answer(store: &mut Store, call: &Call, located: Located) -> Result<(Reply, Re
             twice_ok(written)
         }
         Request::ReadDir(handle) => read_directory(store, session, *handle),
-        Request::Rename(_, _) | Request::PosixRename(_, _) => {
-            Ok(twice(Reply::Status(StatusCode::OpUnsupported)))
-        }
+        Request::Rename(old, new) => twice_ok(rename(store, moment, old, new, ways)),
+        Request::PosixRename(old, new) => twice_ok(posix_rename(store, moment, old, new, ways)),
     }
 }
 

@@ -1,9 +1,11 @@
 //! Where a path leads in the store.
 
 ghost use Rattle.std.specs.Prelude.{◌≡◌, ◌≤◌, length};
-ghost use Rattle.sf_walk.specs.Ways.{way_from};
+ghost use Rattle.std.specs.Option.{option_copied};
+ghost use Rattle.sf_walk.specs.Ways.{IsLocated, IsWay, along, names_in, names_of, paths_of, way_from};
 ghost use Rattle.sf_walk.specs.Served.{LookedUp};
 
+use sf_call::Request;
 use sf_inode::{NodeId, Store};
 use sf_path::Path;
 
@@ -14,6 +16,26 @@ pub enum Located {
     NoWay,
     Missing { parent: NodeId },
     At { parent: NodeId, node: NodeId },
+}
+
+/// Where the paths of a call lead: its path, or a rename's old one; and a rename's new one.
+#[derive(Clone, Copy, Debug, PartialEq, Eq)]
+pub struct Ways {
+    pub path: Located,
+    /// `NoWay` for all but renames.
+    pub new: Located,
+}
+
+impl Ways {
+    /// Those of a call that is no rename.
+    pub fn along(path: Located) -> Ways
+        ensures { result ≡ along path }
+    {
+        Ways {
+            path,
+            new: Located::NoWay,
+        }
+    }
 }
 
 /// Walks a path from the root, whoever holds the nodes on it. Each of its names is looked up once at
@@ -43,4 +65,49 @@ pub fn locate(store: &mut Store, path: &Path) -> Located
         }
     }
     Located::At { parent, node }
+}
+
+/// The paths of a request: its path, or a rename's old one; and a rename's new one.
+pub(crate) fn paths_of(request: &Request) -> (Option<&Path>, Option<&Path>)
+    ensures path { option_copied result.0 ≡ (paths_of request.now).0 }
+    ensures new { option_copied result.1 ≡ (paths_of request.now).1 }
+{
+    match request {
+        Request::Stat(path)
+        | Request::SetStat(path, _)
+        | Request::Mkdir(path, _)
+        | Request::Rmdir(path)
+        | Request::Remove(path)
+        | Request::OpenDir(path)
+        | Request::Open(path, _, _) => (Some(path), None),
+        Request::Rename(old, new) | Request::PosixRename(old, new) => (Some(old), Some(new)),
+        Request::Close(_)
+        | Request::FStat(_)
+        | Request::FSetStat(_, _)
+        | Request::Read { .. }
+        | Request::Write { .. }
+        | Request::ReadDir(_) => (None, None),
+    }
+}
+
+/// Walks a path from the root, if there is one.
+fn locate_some(store: &mut Store, path: Option<&Path>) -> Located
+    ensures found { IsWay store.old (option_copied path.entry) result }
+    ensures looked { LookedUp store.old store.new (names_in (option_copied path.entry)) }
+{
+    match path {
+        Some(path) => locate(store, path),
+        None => Located::NoWay,
+    }
+}
+
+/// Walks all paths of a request.
+pub(crate) fn locate_all(store: &mut Store, request: &Request) -> Ways
+    ensures located { IsLocated store.old request.now result }
+    ensures looked { LookedUp store.old store.new (names_of request.now) }
+{
+    let (path, new) = paths_of(request);
+    let path = locate_some(store, path);
+    let new = locate_some(store, new);
+    Ways { path, new }
 }

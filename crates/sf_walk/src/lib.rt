@@ -4,7 +4,8 @@
 //! which the store keeps, and leaves a store that keeps the tree after it (`IsCarriedOut`, `specs/Served.antt`).
 //! `from_root` is a walk and then `decide`; `advance` in `walking` is one step of that walk, which holds the next
 //! directory before it frees the one above (`specs/Steps.antt`). Where paths lead is `way_from` in
-//! `specs/Ways.antt`. The requests are carried out in `path_calls`, `opening`, `handle_calls` and `listing`.
+//! `specs/Ways.antt`. The requests are carried out in `path_calls`, `renames`, `opening`, `handle_calls` and
+//! `listing`.
 #![tactic(auto)]
 
 mod calls;
@@ -13,10 +14,12 @@ mod handle_calls;
 mod listing;
 mod opening;
 mod path_calls;
+mod renames;
 mod walking;
 
-pub use calls::{decide, from_root, path_of};
-pub use finding::{Located, locate};
+pub use calls::{decide, from_root, from_root_twice, path_of};
+pub use finding::{Located, Ways, locate};
+pub use renames::is_move;
 pub use walking::{Walk, advance};
 
 #[cfg(test)]

@@ -29,6 +29,8 @@ impl Client {
             moment: 100,
             request,
             stage: Stage::Fresh,
+            copy: None,
+            reply: None,
         };
         from_root(&mut self.store, &call)
     }
@@ -122,6 +124,8 @@ fn a_call_takes_the_root(rt: HostRuntime) -> Result<(), Fail> {
         moment: 100,
         request: Request::Stat(path(alloc, b"/d")?),
         stage: Stage::Fresh,
+        copy: None,
+        reply: None,
     };
     let node = store.root();
     let taken = Stage::At { walked: 0, node };
@@ -142,10 +146,56 @@ fn a_decision_is_told_twice(rt: HostRuntime) -> Result<(), Fail> {
         moment: 100,
         request: Request::Close(9),
         stage: Stage::Fresh,
+        copy: None,
+        reply: None,
     };
     assert!(rt; path_of(&call.request).is_none());
-    match decide(&mut store, &call, Located::NoWay) {
+    match decide(&mut store, &call, Ways::along(Located::NoWay)) {
         (Reply::Status(StatusCode::Failure), Reply::Status(StatusCode::Failure)) => Ok(()),
         replies => panic!(rt; "{replies:?}"),
     }
+}
+
+#[test]
+fn a_directory_moves_with_what_is_below(rt: HostRuntime) -> Result<(), Fail> {
+    let alloc = rt.alloc();
+    let store = Store::new(alloc)?;
+    let mut client = Client { store, number: 0 };
+    for text in [b"/a".as_slice(), b"/a/b".as_slice(), b"/c".as_slice()] {
+        let mkdir = Request::Mkdir(path(alloc, text)?, NO_ATTRS);
+        client.status(&rt, Ok(mkdir), StatusCode::Success);
+    }
+    let rename = Request::Rename(path(alloc, b"/a")?, path(alloc, b"/c/d")?);
+    client.status(&rt, Ok(rename), StatusCode::Success);
+    let stat = Request::Stat(path(alloc, b"/a")?);
+    client.status(&rt, Ok(stat), StatusCode::NoSuchFile);
+    let full = Request::PosixRename(path(alloc, b"/c/d/b")?, path(alloc, b"/c/d")?);
+    client.status(&rt, Ok(full), StatusCode::Failure);
+    let out = Request::PosixRename(path(alloc, b"/c/d/b")?, path(alloc, b"/a")?);
+    client.status(&rt, Ok(out), StatusCode::Success);
+    let same = Request::PosixRename(path(alloc, b"/a")?, path(alloc, b"/a")?);
+    client.status(&rt, Ok(same), StatusCode::Success);
+    let over = Request::PosixRename(path(alloc, b"/a")?, path(alloc, b"/c/d")?);
+    client.status(&rt, Ok(over), StatusCode::Success);
+    Ok(())
+}
+
+#[test]
+fn a_missing_path_does_not_move(rt: HostRuntime) -> Result<(), Fail> {
+    let alloc = rt.alloc();
+    let mut store = Store::new(alloc)?;
+    let call = Call {
+        number: 1,
+        session: 1,
+        moment: 100,
+        request: Request::PosixRename(path(alloc, b"/a")?, path(alloc, b"/b")?),
+        stage: Stage::Fresh,
+        copy: None,
+        reply: None,
+    };
+    let Walk::Ready(ways) = advance(&mut store, &call) else {
+        panic!(rt; "not ready");
+    };
+    assert!(rt; !is_move(&store, &call, ways));
+    Ok(())
 }

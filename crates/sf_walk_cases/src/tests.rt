@@ -80,6 +80,8 @@ impl Pair {
             moment: self.number,
             request,
             stage: Stage::Fresh,
+            copy: None,
+            reply: None,
         };
         from_root(&mut self.store, &call)
     }

@@ -113,7 +113,7 @@ pub(super) fn drawn_request(alloc: Global, draws: &mut Draws) -> Result<Request,
         return by_handle(alloc, draws);
     }
     let path = draws.path(alloc)?;
-    Ok(match draws.below(17) {
+    Ok(match draws.below(32) {
         0..=2 => Request::Stat(path),
         3..=8 => Request::Mkdir(path, NO_ATTRS),
         9 => Request::Rmdir(path),
@@ -121,8 +121,23 @@ pub(super) fn drawn_request(alloc: Global, draws: &mut Draws) -> Result<Request,
         11..=13 => Request::Open(path, flags(b"rwc"), NO_ATTRS),
         14 => Request::OpenDir(path),
         15 => Request::SetStat(path, sized(draws.below(40))),
-        _ => Request::Rename(path, draws.path(alloc)?),
+        16 => Request::Rename(path, draws.path(alloc)?),
+        17 => Request::PosixRename(path, draws.path(alloc)?),
+        18..=20 => Request::Rename(near_root(alloc, draws)?, near_root(alloc, draws)?),
+        _ => Request::PosixRename(near_root(alloc, draws)?, near_root(alloc, draws)?),
     })
+}
+
+/// A path near the root: calls often stand below it.
+fn near_root(alloc: Global, draws: &mut Draws) -> Result<Path, Fail> {
+    let text: &[u8] = match draws.below(8) {
+        0 | 1 => b"/a",
+        2 | 3 => b"/b",
+        4 | 5 => b"/c",
+        6 => b"/a/c",
+        _ => b"/b/a",
+    };
+    path(alloc, text)
 }
 
 /// A session's place, if it has joined.
@@ -254,8 +269,11 @@ fn random_events(rt: HostRuntime) -> Result<(), Fail> {
         seats.push(Seat { lane: None })?;
     }
     let mut blocked = 0_u32;
+    let mut helped = 0_usize;
     for moment in 0..EVENTS {
         let place = draws.place(SESSIONS);
+        // A step that decides adds its own record, behind those of the calls that it helps.
+        let own = core.history().len().saturating_add(1);
         if let Some(seat) = seats.get_mut(place) {
             match event(&rt, alloc, &mut core, seat, &mut draws, moment) {
                 Some(Told::Blocked(_)) => blocked = blocked.saturating_add(1),
@@ -263,8 +281,10 @@ fn random_events(rt: HostRuntime) -> Result<(), Fail> {
                 None => {}
             }
         }
+        helped = helped.saturating_add(core.history().len().saturating_sub(own));
     }
     assert!(&rt; blocked > 1000, "{blocked}");
+    assert!(&rt; helped > 20, "{helped}");
     for _ in 0..100 {
         step_all(&rt, &mut core, &mut seats);
     }

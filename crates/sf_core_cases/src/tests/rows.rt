@@ -65,17 +65,36 @@ fn root_is_waited_for(rt: HostRuntime) -> Result<(), Fail> {
     Ok(())
 }
 
+/// What a call does that no other call meets.
+fn comes_to(
+    rt: &impl Abort,
+    core: &mut Core,
+    lane: &mut Lane,
+    request: Result<Request, Fail>,
+    want: Told,
+) {
+    begin(rt, core, lane, request);
+    assert_eq!(rt; finish(rt, core, lane), want);
+}
+
 #[test]
-fn rename_is_unsupported(rt: HostRuntime) -> Result<(), Fail> {
+fn renames(rt: HostRuntime) -> Result<(), Fail> {
     let alloc = rt.alloc();
-    let request = Request::Rename(path(alloc, b"/a")?, path(alloc, b"/z")?);
     let (mut core, mut a) = with_a(&rt, alloc)?;
-    begin(&rt, &mut core, &mut a, Ok(request));
-    assert_eq!(&rt;
-        step(&rt, &mut core, &mut a),
-        Told::Status(StatusCode::OpUnsupported)
-    );
-    records_are(&rt, &core, &[1, 2]);
+    let success = Told::Status(StatusCode::Success);
+    let failure = Told::Status(StatusCode::Failure);
+    let absent = Told::Status(StatusCode::NoSuchFile);
+    comes_to(&rt, &mut core, &mut a, mkdir(alloc, b"/a/b"), success);
+    comes_to(&rt, &mut core, &mut a, rename(alloc, b"/a", b"/z"), success);
+    comes_to(&rt, &mut core, &mut a, stat(alloc, b"/a"), absent);
+    comes_to(&rt, &mut core, &mut a, stat(alloc, b"/z/b"), Told::Attrs);
+    comes_to(&rt, &mut core, &mut a, mkdir(alloc, b"/a"), success);
+    comes_to(&rt, &mut core, &mut a, rename(alloc, b"/z", b"/a"), failure);
+    let replacing = posix_rename(alloc, b"/z", b"/a");
+    comes_to(&rt, &mut core, &mut a, replacing, success);
+    comes_to(&rt, &mut core, &mut a, stat(alloc, b"/a/b"), Told::Attrs);
+    comes_to(&rt, &mut core, &mut a, stat(alloc, b"/z"), absent);
+    records_are(&rt, &core, &[1, 2, 3, 4, 5, 6, 7, 8, 9, 10]);
     a.abandon();
     Ok(())
 }

@@ -2,9 +2,9 @@
 //! own requests, in the order of the history, and its replies are those that the session was sent.
 
 use super::*;
-use sf_call::{Record, Request};
+use sf_call::Request;
 use sf_cases::requests::{
-    close, mkdir, open, open_dir, read, read_dir, remove, rmdir, stat, write,
+    close, mkdir, open, open_dir, posix_rename, read, read_dir, remove, rename, rmdir, stat, write,
 };
 use sf_plain::PlainTree;
 use sf_reply::{Reply, read_reply};

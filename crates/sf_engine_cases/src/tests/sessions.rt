@@ -1,7 +1,6 @@
 //! Several sessions on one tree, closing, and the records that are kept.
 
 use super::*;
-use sf_call::Record;
 
 /// The second session waits for the root that the first one's call holds.
 #[test]
@@ -27,19 +26,6 @@ fn two_sessions(rt: HostRuntime) -> Result<(), Fail> {
     is_sent(&rt, &engine, 2, &packets(alloc, &[VERSION, ATTRS_A])?);
     assert_eq!(&rt; engine.core().calls(), 2);
     Ok(())
-}
-
-/// The numbers of the records that an engine keeps, 0 where a session left, are these.
-fn records_are(rt: &impl Abort, engine: &Engine, want: &[u64]) {
-    let history = engine.core().history();
-    assert_eq!(rt; history.len(), want.len());
-    for (record, want) in history.iter().zip(want.iter()) {
-        let number = match record {
-            Record::Did { number, .. } => *number,
-            Record::Left { session: _ } => 0,
-        };
-        assert_eq!(rt; number, *want);
-    }
 }
 
 /// `/a` is there. The call of a session that is closed meanwhile is answered, and then the session leaves.

@@ -1,7 +1,7 @@
 //! Calls that make, set, remove and tell by path.
 
 use super::*;
-use StatusCode::{Failure, NoSuchFile, OpUnsupported, Success};
+use StatusCode::{Failure, NoSuchFile, Success};
 
 #[test]
 fn a_new_tree(rt: HostRuntime) -> Result<(), Fail> {
@@ -113,20 +113,5 @@ fn settings(rt: HostRuntime) -> Result<(), Fail> {
     client.status(&rt, set_stat(alloc, b"/f", sized(longest)), Success);
     let set = whole(longest, 0o107600, 5, 1400);
     client.attrs(&rt, stat(alloc, b"/f"), set);
-    Ok(())
-}
-
-#[test]
-fn renames_are_not_served(rt: HostRuntime) -> Result<(), Fail> {
-    let alloc = rt.alloc();
-    let mut client = Client::new(alloc)?;
-    client.status(&rt, mkdir(alloc, b"/d"), Success);
-    let (old, new) = (path(alloc, b"/d")?, path(alloc, b"/e")?);
-    client.status(&rt, Ok(Request::Rename(old, new)), OpUnsupported);
-    let (old, new) = (path(alloc, b"/d")?, path(alloc, b"/e")?);
-    client.status(&rt, Ok(Request::PosixRename(old, new)), OpUnsupported);
-    client.attrs(&rt, stat(alloc, b"/"), whole(0, 0o40755, 0, 100));
-    client.attrs(&rt, stat(alloc, b"/d"), whole(0, 0o40755, 100, 100));
-    client.status(&rt, stat(alloc, b"/e"), NoSuchFile);
     Ok(())
 }

@@ -10,13 +10,12 @@ const CALLS: u32 = 10_000;
 /// A session leaves after one of so many calls, by the draws.
 const LEAVING: u64 = 1200;
 
-const KINDS: [Kind; 10] = [
+const KINDS: [Kind; 9] = [
     Kind::Status(StatusCode::Success),
     Kind::Status(StatusCode::EndOfFile),
     Kind::Status(StatusCode::NoSuchFile),
     Kind::Status(StatusCode::PermissionDenied),
     Kind::Status(StatusCode::Failure),
-    Kind::Status(StatusCode::OpUnsupported),
     Kind::Handle,
     Kind::Data,
     Kind::Names,

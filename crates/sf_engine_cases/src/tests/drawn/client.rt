@@ -210,7 +210,7 @@ impl Client {
     fn ask_on_path(&mut self, alloc: Global, draws: &mut Draws) -> Result<(), Fail> {
         let path = draws.path(alloc)?;
         let fields = Fields::new(alloc).string(&path)?;
-        match draws.below(16) {
+        match draws.below(18) {
             0..=2 => self.send(stat(alloc, &path)?, 17, &fields),
             3..=8 => self.send(mkdir(alloc, &path)?, 14, &fields.number(0)?),
             9 => self.send(rmdir(alloc, &path)?, 15, &fields),
@@ -224,7 +224,17 @@ impl Client {
                 let fields = fields.number(1)?.long_number(size)?;
                 self.send(set_stat(alloc, &path, sized(size))?, 9, &fields)
             }
-            _ => self.send(open_dir(alloc, &path)?, 11, &fields),
+            15 => self.send(open_dir(alloc, &path)?, 11, &fields),
+            16 => {
+                let new = draws.path(alloc)?;
+                self.send(rename(alloc, &path, &new)?, 18, &fields.string(&new)?)
+            }
+            _ => {
+                let new = draws.path(alloc)?;
+                let name = Fields::new(alloc).string(b"posix-rename@openssh.com")?;
+                let fields = name.string(&path)?.string(&new)?;
+                self.send(posix_rename(alloc, &path, &new)?, 200, &fields)
+            }
         }
     }
 }

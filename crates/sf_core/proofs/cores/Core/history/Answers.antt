@@ -6,5 +6,5 @@ use Rattle.sf_core.proofs.cores.Core.history.Goals as goal
 
 pub returns-clause-whole : goal.returns-clause-whole
 returns-clause-whole c =
-    let core = c.self.invariant in
+    let core = c.self.invariant.0 in
     (core.history, subst (λ (v : CoreView). IsHistory v core.history) c.self.view_is (history_of c.self.inside.parts core.history core.sound core.written))

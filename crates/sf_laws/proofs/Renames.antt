@@ -1,0 +1,180 @@
+-- What a rename moves, which labels stay, and which requests leave a move possible.
+use Rattle.std.proofs.Common.{◌≡◌, ◌≢◌, ◌<◌, ◌⊎◌, ℕ, List, [], ◌∷◌, ◌++◌, length, Option, Some, None, IsSome, is_some, refl, sym, ap, ◌∙◌, subst, inl, inr, arith, length-append}
+use Rattle.std.proofs.lemmas.List.{append-nil}
+use Rattle.sf_path.specs.Names.{Name, Path}
+use Rattle.sf_call.specs.declared.request.Request.{Request}
+use Rattle.sf_call.specs.declared.request.Request.TheVariants as request
+use Rattle.sf_call.specs.declared.record.Record.{Record}
+use Rattle.sf_call.specs.Requests.{Target, target_of}
+use Rattle.sf_call.specs.Requests.Target.{ByHandle, OnPath, OnPaths}
+use Rattle.sf_call.specs.Tree.{Tree, label_at, after_front}
+use Rattle.sf_call.specs.Changes.{Change, done, moved_by}
+use Rattle.sf_call.specs.Changes.Change.{SetObject, NewPath, GonePath, Move, OpenHandle, SetHandle, CloseHandle}
+use Rattle.sf_call.specs.Allowed.{AreAllowed, IsMove}
+use Rattle.sf_call.specs.Calls.{answer_to, apply, moves}
+use Rattle.sf_call.specs.Histories.{replay, IsNewNumber, IsLegal}
+use Rattle.sf_call.proofs.Laws.{after_front-append, append-after_front, allowed_changes, rename_cases, posix_rename_cases}
+use Rattle.sf_laws.specs.LeftAlone.{BeginsWithEither}
+use Rattle.sf_laws.specs.Own.{IsOwnPath}
+use Rattle.sf_laws.proofs.OwnChanges.{IsOwnChange, AreOwn, own, other_paths}
+use Rattle.sf_laws.proofs.StillMoves.{still_after}
+
+-- ---- own paths by the target
+
+-- none, the path, or what begins with one of two
+abbrev pub IsOfTarget : Target → Path → Type 0
+IsOfTarget (ByHandle handle) q = ⊥
+IsOfTarget (OnPath path) q = q ≡ path
+IsOfTarget (OnPaths old new) q = BeginsWithEither old new q
+
+own_of_target : (r : Request) (q : Path) → IsOwnPath r q → IsOfTarget (target_of r) q
+own_of_target (request.Stat path) q own = absurd own
+own_of_target (request.SetStat path attrs) q own = absurd own
+own_of_target (request.Mkdir path attrs) q own = own
+own_of_target (request.Rmdir path) q own = own
+own_of_target (request.Remove path) q own = own
+own_of_target (request.OpenDir path) q own = absurd own
+own_of_target (request.Open path flags attrs) q own = own
+own_of_target (request.Close handle) q own = absurd own
+own_of_target (request.FStat handle) q own = absurd own
+own_of_target (request.FSetStat handle attrs) q own = absurd own
+own_of_target (request.Read handle offset len) q own = absurd own
+own_of_target (request.Write handle offset bytes) q own = absurd own
+own_of_target (request.ReadDir handle) q own = absurd own
+own_of_target (request.Rename old new) q own = own
+own_of_target (request.PosixRename old new) q own = own
+
+own_of : (r : Request) (target : Target) (q : Path) → target_of r ≡ target → IsOwnPath r q → IsOfTarget target q
+own_of r target q e own = subst (λ (t : Target). IsOfTarget t q) e (own_of_target r q own)
+
+-- a path that isn't the target's keeps its label
+labels_by_target : (tree : Tree) (session number moment : ℕ) (r : Request) (target : Target) (q : Path) → target_of r ≡ target → ¬ IsOfTarget target q
+    → label_at (apply tree session number moment r).tree.names q ≡ label_at tree.names q
+labels_by_target tree session number moment r target q e other =
+    other_paths tree session number r (answer_to tree session number moment r).changes tree q (own tree session number moment r) (λ is. other (own_of r target q e is))
+
+-- ---- what moves
+
+-- the request is one of the renames
+by_target : (r : Request) (old new : Path) → target_of r ≡ OnPaths old new → (r ≡ request.Rename old new) ⊎ (r ≡ request.PosixRename old new)
+by_target (request.Stat path) old new e = cc
+by_target (request.SetStat path attrs) old new e = cc
+by_target (request.Mkdir path attrs) old new e = cc
+by_target (request.Rmdir path) old new e = cc
+by_target (request.Remove path) old new e = cc
+by_target (request.OpenDir path) old new e = cc
+by_target (request.Open path flags attrs) old new e = cc
+by_target (request.Close handle) old new e = cc
+by_target (request.FStat handle) old new e = cc
+by_target (request.FSetStat handle attrs) old new e = cc
+by_target (request.Read handle offset len) old new e = cc
+by_target (request.Write handle offset bytes) old new e = cc
+by_target (request.ReadDir handle) old new e = cc
+by_target (request.Rename a b) old new e = let first : a ≡ old = cc in let second : b ≡ new = cc in inl cc
+by_target (request.PosixRename a b) old new e = let first : a ≡ old = cc in let second : b ≡ new = cc in inr cc
+
+module _ (tree : Tree) (session number moment : ℕ) (r : Request) (old new : Path) (e : target_of r ≡ OnPaths old new) where
+  -- a rename changes nothing, or moves
+  abbrev pub IsStillOrMoves : List Change → Type 0
+  IsStillOrMoves changes = (changes ≡ []) ⊎ (changes ≡ (moves tree moment old new).changes)
+
+  still_or_moves : IsStillOrMoves (answer_to tree session number moment r).changes
+  still_or_moves = elim (by_target r old new e) [
+    | inl is ↦ subst (λ (q : Request). IsStillOrMoves (answer_to tree session number moment q).changes) (sym is)
+        (rename_cases (λ answer. IsStillOrMoves answer.changes) (λ code. inl refl) (inl refl) tree moment old new (λ _ _. inr refl) session number)
+    | inr is ↦ subst (λ (q : Request). IsStillOrMoves (answer_to tree session number moment q).changes) (sym is)
+        (posix_rename_cases (λ answer. IsStillOrMoves answer.changes) (λ code. inl refl) (inl refl) tree moment old new (λ _ _. inr refl) session number)
+  ]
+
+  pub unmoved_tree : moved_by (answer_to tree session number moment r).changes ≡ None → (answer_to tree session number moment r).changes ≡ []
+  unmoved_tree none = elim still_or_moves [
+    | inl still ↦ still
+    | inr is ↦ let some : Some old ≡ None = ap (λ (changes : List Change). moved_by changes) (sym is) ∙ none in cc
+  ]
+
+  pub moved_changes : (p : Path) → moved_by (answer_to tree session number moment r).changes ≡ Some p → (p ≡ old) × ((answer_to tree session number moment r).changes ≡ (moves tree moment old new).changes)
+  moved_changes p some = elim still_or_moves [
+    | inl still ↦ let none : None ≡ Some p = ap (λ (changes : List Change). moved_by changes) (sym still) ∙ some in cc
+    | inr is ↦ let same : Some old ≡ Some p = ap (λ (changes : List Change). moved_by changes) (sym is) ∙ some in (cc, is)
+  ]
+
+pub moved_old : (history : List Record) (number session moment : ℕ) (r : Request) (old new p : Path) → IsLegal history → 0 < number → IsNewNumber number history
+    → target_of r ≡ OnPaths old new → moved_by (answer_to (replay history) session number moment r).changes ≡ Some p → (p ≡ old) × IsMove (replay history) old new
+moved_old history number session moment r old new p legal above fresh e some =
+    let moved = moved_changes (replay history) session number moment r old new e p some in
+    (moved.0, (subst (AreAllowed number (replay history)) moved.1 (allowed_changes history number session moment r legal above fresh)).0)
+
+-- two own paths of a request that is no rename are one
+one_own : (t : Target) (p q : Path) → ((old new : Path) → t ≢ OnPaths old new) → IsOfTarget t p → IsOfTarget t q → p ≡ q
+one_own (ByHandle handle) p q other a b = absurd a
+one_own (OnPath path) p q other a b = a ∙ sym b
+one_own (OnPaths old new) p q other a b = absurd (other old new refl)
+
+module _ (tree : Tree) (session number : ℕ) (r : Request) (other : (old new : Path) → target_of r ≢ OnPaths old new) where
+  no_own_move : (old new : Path) → IsOwnChange tree session number r (Move old new) → ⊥
+  no_own_move old new is =
+      let here = own_of_target r (old ++ []) (is (old ++ []) (inl (ap (λ o. is_some o) (after_front-append old [])))) in
+      let below = own_of_target r (old ++ [] ∷ []) (is (old ++ [] ∷ []) (inl (ap (λ o. is_some o) (after_front-append old ([] ∷ []))))) in
+      let lengths = ap (λ (p : Path). length p) (one_own (target_of r) (old ++ []) (old ++ [] ∷ []) other here below) in
+      absurd (omega (arith, lengths, length-append old [], length-append old ([] ∷ [])))
+
+  none_moved : (changes : List Change) → AreOwn tree session number r changes → moved_by changes ≡ None
+  none_moved [] all = refl
+  none_moved (Move old new ∷ cs) all = absurd (no_own_move old new all.0)
+  none_moved (SetObject label object ∷ cs) all = none_moved cs all.1
+  none_moved (NewPath path label object ∷ cs) all = none_moved cs all.1
+  none_moved (GonePath path ∷ cs) all = none_moved cs all.1
+  none_moved (OpenHandle handle opened ∷ cs) all = none_moved cs all.1
+  none_moved (SetHandle handle opened ∷ cs) all = none_moved cs all.1
+  none_moved (CloseHandle handle ∷ cs) all = none_moved cs all.1
+
+pub never_moved : (tree : Tree) (session number moment : ℕ) (r : Request) → ((old new : Path) → target_of r ≢ OnPaths old new) → moved_by (answer_to tree session number moment r).changes ≡ None
+never_moved tree session number moment r other = none_moved tree session number r other (answer_to tree session number moment r).changes (own tree session number moment r)
+
+-- ---- which labels stay
+
+not_some : (o : Option ℕ) → IsSome o → o ≡ None → ⊥
+not_some None some none = cc
+not_some (Some label) some none = cc
+
+nor_below : (tree : Tree) (old new q : Path) → IsMove tree old new → IsSome (label_at tree.names q) → q ≢ new → after_front new q ≡ None
+nor_below tree old new q may some other = by_rest (after_front new q) refl where
+  by_rest : (o : Option Path) → after_front new q ≡ o → o ≡ None
+  by_rest None e = refl
+  by_rest (Some []) e = absurd (other (append-after_front new q [] e ∙ append-nil new))
+  by_rest (Some (name ∷ rest)) e =
+      absurd (not_some (label_at tree.names q) some (ap (label_at tree.names) (append-after_front new q (name ∷ rest) e) ∙ may.bare name rest))
+
+outside : (old new q : Path) → after_front old q ≡ None → after_front new q ≡ None → BeginsWithEither old new q → ⊥
+outside old new q not_old not_new (inl is) = let no = ap (λ (o : Option Path). is_some o) not_old in cc
+outside old new q not_old not_new (inr is) = let no = ap (λ (o : Option Path). is_some o) not_new in cc
+
+pub spared_labels : (history : List Record) (number session moment : ℕ) (r : Request) (old new q : Path) → IsLegal history → 0 < number → IsNewNumber number history
+    → target_of r ≡ OnPaths old new → IsSome (label_at (replay history).names q) → after_front old q ≡ None → q ≢ new
+    → label_at (apply (replay history) session number moment r).tree.names q ≡ label_at (replay history).names q
+spared_labels history number session moment r old new q legal above fresh e some not_old other =
+    by_move (moved_by changes) refl where
+      changes : List Change
+      changes = (answer_to (replay history) session number moment r).changes
+
+      by_move : (o : Option Path) → moved_by changes ≡ o → label_at (done (replay history) changes).names q ≡ label_at (replay history).names q
+      by_move None none = ap (λ (cs : List Change). label_at (done (replay history) cs).names q) (unmoved_tree (replay history) session number moment r old new e none)
+      by_move (Some p) moved =
+          let may = (moved_old history number session moment r old new p legal above fresh e moved).1 in
+          labels_by_target (replay history) session number moment r (OnPaths old new) q e
+          (λ is. outside old new q not_old (nor_below (replay history) old new q may some other) is)
+
+pub below_labels : (tree : Tree) (session number moment : ℕ) (r : Request) (old path : Path) (name : Name) (rest : Path) (q : Path)
+    → target_of r ≡ OnPath path → after_front old path ≡ Some (name ∷ rest) → ((n : Name) (s : Path) → after_front old q ≢ Some (n ∷ s))
+    → label_at (apply tree session number moment r).tree.names q ≡ label_at tree.names q
+below_labels tree session number moment r old path name rest q e below not_below =
+    labels_by_target tree session number moment r (OnPath path) q e (λ same. not_below name rest (ap (after_front old) same ∙ below))
+
+-- ---- which requests leave a move possible
+
+pub still_move : (history : List Record) (number session moment : ℕ) (r : Request) (old new path : Path) (name : Name) (rest : Path)
+    → IsLegal history → 0 < number → IsNewNumber number history → target_of r ≡ OnPath path → after_front old path ≡ Some (name ∷ rest)
+    → IsMove (replay history) old new → IsMove (apply (replay history) session number moment r).tree old new
+still_move history number session moment r old new path name rest legal above fresh e below may =
+    still_after history number session moment r old new legal above fresh
+    (λ q own. (name, rest, ap (after_front old) (own_of r (OnPath path) q e own) ∙ below)) may

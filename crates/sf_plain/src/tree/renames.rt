@@ -1,0 +1,196 @@
+//! Renames.
+
+ghost use Rattle.std.specs.Option.{is_some, option_map};
+ghost use Rattle.std.specs.Prelude.{◌≡◌, ◌||◌, ◌++◌, ℕ, cond, filter, IfOk, OnOk, OnErr};
+ghost use Rattle.sf_reply.specs.declared.reply.StatusCode.TheVariants.{Failure};
+ghost use Rattle.sf_call.specs.Tree.{after_front, place_at, found_object, object_of};
+ghost use Rattle.sf_call.specs.Moves.{is_outside, moved};
+ghost use Rattle.sf_call.specs.Changes.{changed, done};
+ghost use Rattle.sf_call.specs.Changes.Change.{Move};
+ghost use Rattle.sf_call.specs.Calls.{moves, rename, replace_by, posix_rename, refuses, unless_root};
+
+use super::PlainTree;
+use crate::copies::copy_of;
+use crate::sweep::sweep;
+use sf_call::Place;
+use sf_path::Path;
+use sf_reply::{Reply, StatusCode};
+use std::alloc::{AllocError, Global};
+use std::collections::BTreeMap;
+
+/// Whether the path begins with a front.
+fn begins(path: &Path, front: &Path) -> bool
+    ensures { result ≡ is_some (after_front front.now path.now) }
+{
+    path.begins_with(front)
+}
+
+/// Whether the path begins with neither.
+fn is_outside(path: &Path, old: &Path, new: &Path) -> bool
+    ensures { result ≡ is_outside old.now new.now path.now }
+{
+    !begins(path, old) && !begins(path, new)
+}
+
+/// Whether one of the paths begins with the other.
+fn are_nested(old: &Path, new: &Path) -> bool
+    ensures { result
+        ≡ (is_some (after_front old.now new.now) || is_some (after_front new.now old.now)) }
+{
+    begins(new, old) || begins(old, new)
+}
+
+/// The path that begins with `new` in place of `old`, if it begins with `old`.
+fn carried(alloc: Global, path: &Path, old: &Path, new: &Path) -> Result<Option<Path>, AllocError>
+    ensures { IfOk result (λ there. there
+        ≡ option_map (λ rest. new.now ++ rest) (after_front old.now path.now)) }
+{
+    if begins(path, old) {
+        Ok(Some(new.joined(alloc, path, old.len())?))
+    } else {
+        Ok(None)
+    }
+}
+
+impl PlainTree {
+    /// The names that begin with neither path.
+    fn names_outside(&self, old: &Path, new: &Path) -> Result<BTreeMap<Path, u64>, AllocError>
+        ensures { IfOk result (λ names. names.entries
+            ≡ filter (λ e. is_outside old.now new.now e.0) self.now.names) }
+    {
+        let mut names = copy_of(self.alloc, &self.names)?;
+        names.retain(
+            |path: &Path, label: &mut u64| -> bool
+                ensures value { result ≡ is_outside old.entry.now new.entry.now path.now }
+                ensures label { label.new ≡ label.old }
+            { is_outside(path, old, new) },
+        );
+        Ok(names)
+    }
+
+    /// The names, once what began with `old` begins with `new`.
+    fn moved_names(&self, old: &Path, new: &Path) -> Result<BTreeMap<Path, u64>, AllocError>
+        ensures { IfOk result (λ names. names.entries ≡ moved self.now.names old.now new.now) }
+    {
+        let mut names = self.names_outside(old, new)?;
+        'names: for (path, label) in self.names.iter().rev() {
+            if let Some(there) = carried(self.alloc, path, old, new)? {
+                names.insert(there, *label)?;
+            }
+        }
+        Ok(names)
+    }
+
+    /// Moves what begins with `old`, and lets go of what `new` was the last to name.
+    fn carry(&mut self, old: &Path, new: &Path) -> Result<(), AllocError>
+        ensures ok { OnOk result (self.new ≡ changed self.old (Move old.now new.now)) }
+        ensures err { OnErr result (self.new ≡ self.old) }
+    {
+        self.names = self.moved_names(old, new)?;
+        sweep(&mut self.objects, &self.names, &self.handles);
+        Ok(())
+    }
+
+    /// Moves what begins with `old`; both parents are modified at the moment.
+    #[tactic(auto, using(crate::proofs::Renames::done_then))]
+    fn move_path(&mut self, moment: u32, old: &Path, new: &Path) -> Result<Reply, AllocError>
+        ensures reply { IfOk result (λ reply. reply
+            ≡ (moves self.old moment old.now new.now).reply) }
+        ensures tree { OnOk result (self.new
+            ≡ done self.old (moves self.old moment old.now new.now).changes) }
+        ensures err { OnErr result (self.new ≡ self.old) }
+    {
+        let from = self.directory_at(&old.parent(self.alloc)?);
+        let to = self.directory_at(&new.parent(self.alloc)?);
+        self.carry(old, new)?;
+        self.touch(from, moment);
+        self.touch(to, moment);
+        Ok(Reply::Status(StatusCode::Success))
+    }
+
+    /// RENAME.
+    pub(super) fn rename(
+        &mut self,
+        moment: u32,
+        old: &Path,
+        new: &Path,
+    ) -> Result<Reply, AllocError>
+        ensures reply { IfOk result (λ reply. reply
+            ≡ (unless_root old.now (unless_root new.now
+            (rename self.old moment old.now new.now (place_at self.old old.now)))).reply) }
+        ensures tree { OnOk result (self.new
+            ≡ done self.old (unless_root old.now (unless_root new.now
+            (rename self.old moment old.now new.now (place_at self.old old.now)))).changes) }
+        ensures err { OnErr result (self.new ≡ self.old) }
+    {
+        if old.is_root() || new.is_root() {
+            return Ok(Reply::Status(StatusCode::Failure));
+        }
+        let Place::At(_) = self.place_at(old)? else {
+            return Ok(Reply::Status(StatusCode::NoSuchFile));
+        };
+        if are_nested(old, new) {
+            return Ok(Reply::Status(StatusCode::Failure));
+        }
+        match self.place_at(new)? {
+            Place::NoWay => Ok(Reply::Status(StatusCode::NoSuchFile)),
+            Place::At(_) => Ok(Reply::Status(StatusCode::Failure)),
+            Place::Absent => self.move_path(moment, old, new),
+        }
+    }
+
+    /// Whether what `old` names may take the place of the object that `new` names.
+    #[tactic(auto, using(crate::proofs::Calls::replaces_object))]
+    fn gives_way(&self, label: u64, old: &Path, new: &Path) -> bool
+        ensures { (moment : ℕ)
+            → replace_by self.now moment old.now new.now
+            (found_object label (object_of self.now.objects label))
+            ≡ cond result (moves self.now moment old.now new.now) (refuses Failure) }
+    {
+        let Some(node) = self.objects.get(&label) else {
+            return true;
+        };
+        let moves_directory = self.directory_at(old).is_some();
+        if node.as_directory().is_some() {
+            moves_directory && self.is_empty(new)
+        } else {
+            !moves_directory
+        }
+    }
+
+    /// The extension `posix-rename@openssh.com`.
+    pub(super) fn posix_rename(
+        &mut self,
+        moment: u32,
+        old: &Path,
+        new: &Path,
+    ) -> Result<Reply, AllocError>
+        ensures reply { IfOk result (λ reply. reply
+            ≡ (unless_root old.now (unless_root new.now
+            (posix_rename self.old moment old.now new.now (place_at self.old old.now)))).reply) }
+        ensures tree { OnOk result (self.new
+            ≡ done self.old (unless_root old.now (unless_root new.now
+            (posix_rename self.old moment old.now new.now (place_at self.old old.now)))).changes) }
+        ensures err { OnErr result (self.new ≡ self.old) }
+    {
+        if old.is_root() || new.is_root() {
+            return Ok(Reply::Status(StatusCode::Failure));
+        }
+        let Place::At(_) = self.place_at(old)? else {
+            return Ok(Reply::Status(StatusCode::NoSuchFile));
+        };
+        if old == new {
+            return Ok(Reply::Status(StatusCode::Success));
+        }
+        if are_nested(old, new) {
+            return Ok(Reply::Status(StatusCode::Failure));
+        }
+        match self.place_at(new)? {
+            Place::NoWay => Ok(Reply::Status(StatusCode::NoSuchFile)),
+            Place::At(label) if !self.gives_way(label, old, new) => {
+                Ok(Reply::Status(StatusCode::Failure))
+            }
+            Place::Absent | Place::At(_) => self.move_path(moment, old, new),
+        }
+    }
+}

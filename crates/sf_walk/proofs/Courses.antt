@@ -1,0 +1,178 @@
+-- What a rename comes to, in the store and in the tree that it keeps.
+use Rattle.std.specs.Prelude.{◌≡◌, ℕ, Bool, true, false, cond, not, ◌&&◌, ◌||◌, List, [], ◌∷◌, ◌++◌, is_some, Option, Some, None, refl}
+use Rattle.std.specs.Option.{option_map_or}
+use Rattle.std.proofs.Common.{sym, ap, ◌∙◌, inl, inr}
+use Rattle.sf_path.specs.Names.{Name, Path}
+use Rattle.sf_path.specs.Order.{same_path}
+use Rattle.sf_reply.specs.declared.reply.StatusCode.TheVariants.{NoSuchFile, Failure}
+use Rattle.sf_call.specs.declared.metadata.Metadata.{Metadata}
+use Rattle.sf_call.specs.declared.place.Place.{Place}
+use Rattle.sf_call.specs.declared.place.Place.TheVariants as place
+use Rattle.sf_call.specs.Tree.{Tree, Found, after_front, place_at, found_at, is_directory, is_empty}
+use Rattle.sf_call.specs.Calls.{Answer, refuses, succeeds, moves, unless_nested, unless_root, rename_to, rename, replace_by, posix_rename}
+use Rattle.sf_inode.specs.declared.node.Node.{Node}
+use Rattle.sf_inode.specs.declared.node.Content.{Content}
+use Rattle.sf_inode.specs.declared.node.Content.TheVariants as content
+use Rattle.sf_inode.specs.Nodes.{is_directory_content}
+use Rattle.sf_inode.specs.Stores.{StoreState, node_in, entry_of, is_directory_at, is_bare_at}
+use Rattle.sf_keeps.specs.Steps.{walk}
+use Rattle.sf_keeps.specs.Keeps.{Keeps}
+use Rattle.sf_keeps.proofs.Laws.{bare_found}
+use Rattle.sf_walk.specs.declared.finding.Located.TheVariants as located
+use Rattle.sf_walk.specs.Ways.{way_from, found_content, found_node}
+use Rattle.sf_walk.specs.Renames.{may_replace, MayMove}
+use Rattle.sf_walk.proofs.Fits.{Known, no_way, name_missing, node_at, directory_says}
+use Rattle.sf_walk.proofs.Parents.{entry_owns}
+use Rattle.sf_walk.proofs.PathCalls.{file_bare, found_no_way, found_missing}
+
+abbrev AreNoRoots : Path → Path → Type 0
+AreNoRoots old new = (old ≡ [] → ⊥) × (new ≡ [] → ⊥)
+
+abbrev Nested : Path → Path → Bool
+Nested old new = is_some (after_front old new) || is_some (after_front new old)
+
+no_root : (p : Path) (a : Answer) → (p ≡ [] → ⊥) → unless_root p a ≡ a
+no_root [] a ne = absurd (ne refl)
+no_root (n ∷ p) a ne = refl
+
+none_first : (o : Option Path) (b : Bool) → (is_some o || b) ≡ false → o ≡ None
+none_first None b e = refl
+none_first (Some p) b e = cc
+
+either : (b : Bool) (this that : Answer) → cond b this that ≡ cond (not b) that this
+either true this that = refl
+either false this that = refl
+
+last_known : (nodes : List (Option Node)) (root : ℕ) (p : Path) (above y : ℕ) → (p ≡ [] → ⊥) → Known nodes root p above y
+    → (r : Path) × (n : Name) × (p ≡ r ++ n ∷ []) × (walk (entry_of nodes) root r ≡ Some above) × (entry_of nodes above n ≡ Some y)
+last_known nodes root p above y ne (inl e) = absurd (ne e)
+last_known nodes root p above y ne (inr h) = h
+
+module _ (s : StoreState) (t : Tree) (k : Keeps s t) (moment : ℕ) (old new : Path) (ne : AreNoRoots old new) where
+  past_roots : (a : Answer) → unless_root old (unless_root new a) ≡ a
+  past_roots a = no_root old (unless_root new a) ne.0 ∙ no_root new a ne.1
+
+  -- ---- old isn't there
+  pub old_no_way : (f : Place → Answer) → f place.NoWay ≡ refuses NoSuchFile → way_from s.nodes s.root s.root old ≡ located.NoWay → unless_root old (unless_root new (f (place_at t old))) ≡ refuses NoSuchFile
+  old_no_way f at e = past_roots (f (place_at t old)) ∙ ap f (no_way s t k old e) ∙ at
+
+  pub old_missing : (f : Place → Answer) → f place.Absent ≡ refuses NoSuchFile → (d : ℕ) → way_from s.nodes s.root s.root old ≡ located.Missing d → unless_root old (unless_root new (f (place_at t old))) ≡ refuses NoSuchFile
+  old_missing f at d e = past_roots (f (place_at t old)) ∙ ap f (name_missing s t k old d e).0 ∙ at
+
+  -- ---- old is there
+  module _ (from node : ℕ) (at : way_from s.nodes s.root s.root old ≡ located.At from node) where
+    there : (f : Place → Answer) → unless_root old (unless_root new (f (place_at t old))) ≡ f (place.At (node_at s t k old from node at).2.0.label)
+    there f = past_roots (f (place_at t old)) ∙ ap f (node_at s t k old from node at).2.2
+
+    pub rename_nested : Nested old new ≡ true → unless_root old (unless_root new (rename t moment old new (place_at t old))) ≡ refuses Failure
+    rename_nested nested = there (rename t moment old new) ∙ ap (λ b. cond {A = Answer} b (refuses Failure) (rename_to t moment old new (place_at t new))) nested
+
+    pub posix_same : same_path old new ≡ true → unless_root old (unless_root new (posix_rename t moment old new (place_at t old))) ≡ succeeds []
+    posix_same same = there (posix_rename t moment old new) ∙ ap (λ b. cond {A = Answer} b (succeeds []) (unless_nested old new (replace_by t moment old new (found_at t new)))) same
+
+    posix_other : same_path old new ≡ false → unless_root old (unless_root new (posix_rename t moment old new (place_at t old))) ≡ unless_nested old new (replace_by t moment old new (found_at t new))
+    posix_other other = there (posix_rename t moment old new) ∙ ap (λ b. cond {A = Answer} b (succeeds []) (unless_nested old new (replace_by t moment old new (found_at t new)))) other
+
+    pub posix_nested : same_path old new ≡ false → Nested old new ≡ true → unless_root old (unless_root new (posix_rename t moment old new (place_at t old))) ≡ refuses Failure
+    posix_nested other nested = posix_other other ∙ ap (λ b. cond {A = Answer} b (refuses Failure) (replace_by t moment old new (found_at t new))) nested
+
+    module _ (apart : Nested old new ≡ false) where
+      rename_is : (place : Place) → place_at t new ≡ place → unless_root old (unless_root new (rename t moment old new (place_at t old))) ≡ rename_to t moment old new place
+      rename_is place e =
+          there (rename t moment old new) ∙ ap (λ b. cond {A = Answer} b (refuses Failure) (rename_to t moment old new (place_at t new))) apart ∙ ap (rename_to t moment old new) e
+
+      -- ---- the entry moves
+      may_move : (beside : Path) (last : Name) (into : ℕ) → new ≡ beside ++ last ∷ [] → walk (entry_of s.nodes) s.root beside ≡ Some into → is_directory_at s.nodes into ≡ true
+          → ((target : ℕ) → entry_of s.nodes into last ≡ Some target → is_bare_at s.nodes target ≡ true) → MayMove s old new from into
+      may_move beside last into is leads dir bare =
+          let f = last_known s.nodes s.root old from node ne.0 (node_at s t k old from node at).1 in
+          record {
+            above = f.0;
+            name = f.1;
+            node = node;
+            is_old = f.2;
+            leads = f.3;
+            there = f.4;
+            beside = beside;
+            last = last;
+            is_new = is;
+            leads_new = leads;
+            directory = dir;
+            not_inside = none_first (after_front old new) (is_some (after_front new old)) apart;
+            bare = bare;
+          }
+
+      may_move_free : (into : ℕ) → way_from s.nodes s.root s.root new ≡ located.Missing into → MayMove s old new from into
+      may_move_free into e =
+          let f = (name_missing s t k new into e).1 in
+          may_move f.0 f.1 into f.2 f.3 f.5 (λ target some. let h : None ≡ Some target = sym f.4 ∙ some in absurd (let x : ⊥ = cc in x))
+
+      may_move_over : (into target : ℕ) → way_from s.nodes s.root s.root new ≡ located.At into target → is_bare_at s.nodes target ≡ true → MayMove s old new from into
+      may_move_over into target e bare =
+          let f = last_known s.nodes s.root new into target ne.1 (node_at s t k new into target e).1 in
+          may_move f.0 f.1 into f.2 f.3 (entry_owns s.nodes into f.1 target f.4)
+          (λ other some. let h : Some target ≡ Some other = sym f.4 ∙ some in let same : target ≡ other = cc in ap (is_bare_at s.nodes) (sym same) ∙ bare)
+
+      -- ---- RENAME
+      pub rename_no_way : way_from s.nodes s.root s.root new ≡ located.NoWay → unless_root old (unless_root new (rename t moment old new (place_at t old))) ≡ refuses NoSuchFile
+      rename_no_way e = rename_is place.NoWay (no_way s t k new e)
+
+      pub rename_taken : (d y : ℕ) → way_from s.nodes s.root s.root new ≡ located.At d y → unless_root old (unless_root new (rename t moment old new (place_at t old))) ≡ refuses Failure
+      rename_taken d y e = rename_is (place.At (node_at s t k new d y e).2.0.label) (node_at s t k new d y e).2.2
+
+      pub rename_moves : (into : ℕ) → way_from s.nodes s.root s.root new ≡ located.Missing into
+          → (unless_root old (unless_root new (rename t moment old new (place_at t old))) ≡ moves t moment old new) × MayMove s old new from into
+      rename_moves into e = (rename_is place.Absent (name_missing s t k new into e).0, may_move_free into e)
+
+      -- ---- the extension
+      module _ (other : same_path old new ≡ false) where
+        posix_is : (found : Found) → found_at t new ≡ found → unless_root old (unless_root new (posix_rename t moment old new (place_at t old))) ≡ replace_by t moment old new found
+        posix_is found e =
+            posix_other other ∙ ap (λ b. cond {A = Answer} b (refuses Failure) (replace_by t moment old new (found_at t new))) apart ∙ ap (replace_by t moment old new) e
+
+        pub posix_no_way : way_from s.nodes s.root s.root new ≡ located.NoWay → unless_root old (unless_root new (posix_rename t moment old new (place_at t old))) ≡ refuses NoSuchFile
+        posix_no_way e = posix_is _ (found_no_way s t new k e)
+
+        pub posix_moves : (into : ℕ) → way_from s.nodes s.root s.root new ≡ located.Missing into
+            → (unless_root old (unless_root new (posix_rename t moment old new (place_at t old))) ≡ moves t moment old new) × MayMove s old new from into
+        posix_moves into e = (posix_is _ (found_missing s t new k into e), may_move_free into e)
+
+        replace_content : (l : ℕ) (m : Metadata) (c : Content) → replace_by t moment old new (found_content l m c)
+            ≡ cond (cond (is_directory_content c) (is_directory t old && is_empty t.names new) (not (is_directory t old))) (moves t moment old new) (refuses Failure)
+        replace_content l m (content.Directory es) = refl
+        replace_content l m (content.File contents) = either (is_directory t old) (refuses Failure) (moves t moment old new)
+
+        replaces : (into target : ℕ) → way_from s.nodes s.root s.root new ≡ located.At into target
+            → unless_root old (unless_root new (posix_rename t moment old new (place_at t old))) ≡ cond (may_replace s.nodes node target) (moves t moment old new) (refuses Failure)
+        replaces into target e =
+            let w = node_at s t k new into target e in
+            let it = w.2.0 in
+            posix_is (found_node it) w.2.3 ∙ replace_content it.label it.metadata it.content
+            ∙ ap (λ b. cond {A = Answer} (cond b (is_directory t old && is_empty t.names new) (not (is_directory t old))) (moves t moment old new) (refuses Failure))
+            (sym (ap (λ (o : Option Node). option_map_or (λ (x : Node). is_directory_content x.content) o false) w.2.1))
+            ∙ ap (λ d. cond {A = Answer} (cond (is_directory_at s.nodes target) (d && is_empty t.names new) (not d)) (moves t moment old new) (refuses Failure))
+            (directory_says s t k old node (node_at s t k old from node at).0)
+            ∙ ap (λ b. cond {A = Answer} (cond (is_directory_at s.nodes target) (is_directory_at s.nodes node && b) (not (is_directory_at s.nodes node))) (moves t moment old new) (refuses Failure))
+            (bare_found s t k new target w.0)
+
+        pub posix_refused : (into target : ℕ) → way_from s.nodes s.root s.root new ≡ located.At into target → may_replace s.nodes node target ≡ false
+            → unless_root old (unless_root new (posix_rename t moment old new (place_at t old))) ≡ refuses Failure
+        posix_refused into target e may = replaces into target e ∙ ap (λ b. cond {A = Answer} b (moves t moment old new) (refuses Failure)) may
+
+        second : (a b : Bool) → (a && b) ≡ true → b ≡ true
+        second true b e = e
+        second false b e = cc
+
+        bare : (target : ℕ) (it : Node) → node_in s.nodes target ≡ Some it → may_replace s.nodes node target ≡ true → is_bare_at s.nodes target ≡ true
+        bare target it here =
+            elim (is_directory_at s.nodes target) as (λ b. is_directory_at s.nodes target ≡ b
+            → cond b (is_directory_at s.nodes node && is_bare_at s.nodes target) (not (is_directory_at s.nodes node)) ≡ true → is_bare_at s.nodes target ≡ true) [
+              | true ↦ λ d e. second (is_directory_at s.nodes node) (is_bare_at s.nodes target) e
+              | false ↦ λ d e. file_bare s.nodes target it here d
+            ] refl
+
+        pub posix_replaces : (into target : ℕ) → way_from s.nodes s.root s.root new ≡ located.At into target → may_replace s.nodes node target ≡ true
+            → (unless_root old (unless_root new (posix_rename t moment old new (place_at t old))) ≡ moves t moment old new) × MayMove s old new from into
+        posix_replaces into target e may =
+            let w = node_at s t k new into target e in
+            (replaces into target e ∙ ap (λ b. cond {A = Answer} b (moves t moment old new) (refuses Failure)) may, may_move_over into target e (bare target w.2.0 w.2.1 may))

@@ -1,0 +1,149 @@
+-- Requests other than renames move nothing.
+use Rattle.std.specs.Prelude.{◌≡◌, ℕ, Bool, true, false, cond, not, nat_eq, nat_lt, nat_le, ◌+◌, ◌&&◌, List, [], ◌∷◌, length, is_some, Option, Some, None, refl}
+use Rattle.std.proofs.Common.{ap, sym, ◌∙◌}
+use Rattle.sf_path.specs.Names.{Path}
+use Rattle.sf_path.specs.Order.{parent}
+use Rattle.sf_field.specs.declared.attrs.Attrs.{Attrs}
+use Rattle.sf_field.specs.declared.open_flags.OpenFlags.{OpenFlags}
+use Rattle.sf_reply.specs.declared.reply.Entry.{Entry}
+use Rattle.sf_call.specs.declared.limits.TheConstants.{MAX_FILE_SIZE}
+use Rattle.sf_call.specs.declared.metadata.Metadata.{Metadata}
+use Rattle.sf_call.specs.declared.request.Request.{Request}
+use Rattle.sf_call.specs.declared.request.Request.TheVariants as request
+use Rattle.sf_call.specs.declared.place.Place.{Place}
+use Rattle.sf_call.specs.declared.place.Place.TheVariants as place
+use Rattle.sf_call.specs.Attributes.{Object}
+use Rattle.sf_call.specs.Attributes.Object.{Directory, File}
+use Rattle.sf_call.specs.declared.handle.Handle.{Handle}
+use Rattle.sf_call.specs.Tree.{Tree, Found, place_at, found_at, found_object, object_of, directory_at, is_empty, is_nil}
+use Rattle.sf_call.specs.Tree.Found.{Nowhere, Nothing, DirectoryAt, FileAt}
+use Rattle.sf_call.specs.Handles.{Opened, handle_in, opened}
+use Rattle.sf_call.specs.Handles.Opened.{NotOpen, OpenDirectory, OpenFile}
+use Rattle.sf_call.specs.Listings.{path_of, listing_of}
+use Rattle.sf_call.specs.Changes.{touch, moved_by}
+use Rattle.sf_call.specs.Calls.{Answer, answer_to, stat, set_stat, sets, refuses_size, make_directory, remove_directory, remove_file, goes, open_directory, open_present, open_file, has_all_handles, close, stat_opened, set_opened, read, write, start_of, read_directory, lists, unless_root}
+use Rattle.sf_inode.specs.Stores.{StoreState}
+use Rattle.sf_walk.specs.declared.renames.Course.{Course}
+use Rattle.sf_walk.specs.declared.renames.Course.TheVariants.{Told, Moves}
+use Rattle.sf_walk.specs.Renames.{IsCourse, does_move}
+
+abbrev Stays : Answer → Type 0
+Stays answer = moved_by answer.changes ≡ None
+
+either : (b : Bool) (this that : Answer) → Stays this → Stays that → Stays (cond b this that)
+either true this that a b = a
+either false this that a b = b
+
+rooted : (p : Path) (answer : Answer) → Stays answer → Stays (unless_root p answer)
+rooted [] answer h = refl
+rooted (n ∷ p) answer h = h
+
+touches : (moment : ℕ) (o : Option (ℕ × Metadata)) → moved_by (touch moment o) ≡ None
+touches moment None = refl
+touches moment (Some e) = refl
+
+stat_stays : (found : Found) → Stays (stat found)
+stat_stays Nowhere = refl
+stat_stays Nothing = refl
+stat_stays (DirectoryAt label m) = refl
+stat_stays (FileAt label m contents) = refl
+
+sets_stays : (moment label : ℕ) (attrs : Attrs) (object : Object) → Stays (sets moment label attrs object)
+sets_stays moment label attrs object = either (refuses_size object attrs.size) _ _ refl refl
+
+set_stat_stays : (moment : ℕ) (attrs : Attrs) (found : Found) → Stays (set_stat moment attrs found)
+set_stat_stays moment attrs Nowhere = refl
+set_stat_stays moment attrs Nothing = refl
+set_stat_stays moment attrs (DirectoryAt label m) = sets_stays moment label attrs (Directory m)
+set_stat_stays moment attrs (FileAt label m contents) = sets_stays moment label attrs (File m contents)
+
+module _ (t : Tree) (session number moment : ℕ) where
+  make_stays : (p : Path) (attrs : Attrs) (at : Place) → Stays (make_directory t number moment p attrs at)
+  make_stays p attrs place.NoWay = refl
+  make_stays p attrs (place.At label) = refl
+  make_stays p attrs place.Absent = touches moment (directory_at t (parent p))
+
+  remove_directory_stays : (p : Path) (found : Found) → Stays (remove_directory t moment p found)
+  remove_directory_stays p Nowhere = refl
+  remove_directory_stays p Nothing = refl
+  remove_directory_stays p (DirectoryAt label m) = either (is_empty t.names p) _ _ (touches moment (directory_at t (parent p))) refl
+  remove_directory_stays p (FileAt label m contents) = refl
+
+  remove_stays : (p : Path) (found : Found) → Stays (remove_file t moment p found)
+  remove_stays p Nowhere = refl
+  remove_stays p Nothing = refl
+  remove_stays p (DirectoryAt label m) = refl
+  remove_stays p (FileAt label m contents) = touches moment (directory_at t (parent p))
+
+  open_directory_stays : (found : Found) → Stays (open_directory t session number found)
+  open_directory_stays Nowhere = refl
+  open_directory_stays Nothing = refl
+  open_directory_stays (DirectoryAt label m) = either (has_all_handles t session) _ _ refl refl
+  open_directory_stays (FileAt label m contents) = refl
+
+  present_stays : (flags : OpenFlags) (found : Found) → Stays (open_present t session number moment flags found)
+  present_stays flags Nowhere = refl
+  present_stays flags Nothing = refl
+  present_stays flags (DirectoryAt label m) = refl
+  present_stays flags (FileAt label m contents) = either (has_all_handles t session) _ _ refl (either (flags.truncate && flags.write) _ _ refl refl)
+
+  open_stays : (p : Path) (flags : OpenFlags) (attrs : Attrs) (at : Place) → Stays (open_file t session number moment p flags attrs at)
+  open_stays p flags attrs place.NoWay = refl
+  open_stays p flags attrs (place.At label) = either (flags.create && flags.exclusive) _ _ refl (present_stays flags (found_object label (object_of t.objects label)))
+  open_stays p flags attrs place.Absent = either (not flags.create) _ _ refl (either (has_all_handles t session) _ _ refl (touches moment (directory_at t (parent p))))
+
+  close_stays : (o : Option Handle) → Stays (close number o)
+  close_stays None = refl
+  close_stays (Some handle) = refl
+
+  stat_opened_stays : (o : Opened) → Stays (stat_opened o)
+  stat_opened_stays NotOpen = refl
+  stat_opened_stays (OpenDirectory handle m) = refl
+  stat_opened_stays (OpenFile handle m contents) = refl
+
+  set_opened_stays : (attrs : Attrs) (o : Opened) → Stays (set_opened moment attrs o)
+  set_opened_stays attrs NotOpen = refl
+  set_opened_stays attrs (OpenDirectory handle m) = either (nat_eq handle.label 0) _ _ refl (sets_stays moment handle.label attrs (Directory m))
+  set_opened_stays attrs (OpenFile handle m contents) = either (is_some attrs.size && not handle.write) _ _ refl (sets_stays moment handle.label attrs (File m contents))
+
+  read_stays : (offset len : ℕ) (o : Opened) → Stays (read offset len o)
+  read_stays offset len NotOpen = refl
+  read_stays offset len (OpenDirectory handle m) = refl
+  read_stays offset len (OpenFile handle m contents) = either (not handle.read) _ _ refl (either (nat_le (length contents) offset) _ _ refl refl)
+
+  write_stays : (offset : ℕ) (bytes : List ℕ) (o : Opened) → Stays (write moment offset bytes o)
+  write_stays offset bytes NotOpen = refl
+  write_stays offset bytes (OpenDirectory handle m) = refl
+  write_stays offset bytes (OpenFile handle m contents) =
+      either (not handle.write) _ _ refl (either (is_nil bytes) _ _ refl (either (nat_lt MAX_FILE_SIZE (start_of handle contents offset + length bytes)) _ _ refl refl))
+
+  lists_stays : (handle : Handle) (es : List Entry) → Stays (lists number handle es)
+  lists_stays handle [] = refl
+  lists_stays handle (e ∷ es) = refl
+
+  list_stays : (o : Opened) → Stays (read_directory t number o)
+  list_stays NotOpen = refl
+  list_stays (OpenDirectory handle m) = lists_stays handle (listing_of t handle.listed (path_of t.names handle.label))
+  list_stays (OpenFile handle m contents) = refl
+
+pub others_stay : (t : Tree) (session number moment : ℕ) (r : Request) → ((old new : Path) → r ≡ request.Rename old new → ⊥) → ((old new : Path) → r ≡ request.PosixRename old new → ⊥) → moved_by (answer_to t session number moment r).changes ≡ None
+others_stay t session number moment (request.Stat p) a b = stat_stays (found_at t p)
+others_stay t session number moment (request.SetStat p attrs) a b = rooted p _ (set_stat_stays moment attrs (found_at t p))
+others_stay t session number moment (request.Mkdir p attrs) a b = rooted p _ (make_stays t session number moment p attrs (place_at t p))
+others_stay t session number moment (request.Rmdir p) a b = rooted p _ (remove_directory_stays t session number moment p (found_at t p))
+others_stay t session number moment (request.Remove p) a b = rooted p _ (remove_stays t session number moment p (found_at t p))
+others_stay t session number moment (request.OpenDir p) a b = open_directory_stays t session number moment (found_at t p)
+others_stay t session number moment (request.Open p flags attrs) a b = rooted p _ (open_stays t session number moment p flags attrs (place_at t p))
+others_stay t session number moment (request.Close handle) a b = close_stays t session handle moment (handle_in t session handle)
+others_stay t session number moment (request.FStat handle) a b = stat_opened_stays t session number moment (opened t session handle)
+others_stay t session number moment (request.FSetStat handle attrs) a b = set_opened_stays t session number moment attrs (opened t session handle)
+others_stay t session number moment (request.Read handle offset len) a b = read_stays t session number moment offset len (opened t session handle)
+others_stay t session number moment (request.Write handle offset bytes) a b = write_stays t session number moment offset bytes (opened t session handle)
+others_stay t session number moment (request.ReadDir handle) a b = list_stays t session handle moment (opened t session handle)
+others_stay t session number moment (request.Rename old new) a b = absurd (a old new refl)
+others_stay t session number moment (request.PosixRename old new) a b = absurd (b old new refl)
+
+-- what a rename comes to tells whether it moves
+pub course_moves : (s : StoreState) (t : Tree) (moment : ℕ) (old new : Path) (answer : Answer) (course : Course) → IsCourse s t moment old new answer course → does_move course ≡ is_some (moved_by answer.changes)
+course_moves s t moment old new answer (Told code) e = sym (ap (λ (a : Answer). is_some (moved_by a.changes)) e)
+course_moves s t moment old new answer (Moves from into) e = sym (ap (λ (a : Answer). is_some (moved_by a.changes)) e.0)

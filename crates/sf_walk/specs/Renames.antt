@@ -1,0 +1,52 @@
+-- What a rename comes to in the store.
+use Rattle.std.specs.Prelude.{◌≡◌, ◌<◌, ℕ, Bool, true, false, not, ◌&&◌, if◌then◌else◌, List, [], ◌∷◌, ◌++◌, length, Option, Some, None}
+use Rattle.sf_path.specs.Names.{Name, Path}
+use Rattle.sf_reply.specs.declared.reply.Reply.TheVariants as reply
+use Rattle.sf_call.specs.Tree.{Tree, after_front}
+use Rattle.sf_call.specs.Calls.{Answer, tells, moves}
+use Rattle.sf_inode.specs.declared.node.Node.{Node}
+use Rattle.sf_inode.specs.Stores.{StoreState, entry_of, is_directory_at, is_bare_at}
+use Rattle.sf_keeps.specs.Steps.{walk}
+use Rattle.sf_walk.specs.declared.renames.Course.{Course}
+use Rattle.sf_walk.specs.declared.renames.Course.TheVariants.{Told, Moves}
+
+-- a node may take another's place: a file a file's, and a directory an empty directory's
+abbrev pub may_replace : List (Option Node) → ℕ → ℕ → Bool
+may_replace nodes node target =
+    if is_directory_at nodes target then is_directory_at nodes node && is_bare_at nodes target else not (is_directory_at nodes node)
+
+-- A path's entry may move from one directory into another, not below itself: what stands at the new path is bare.
+pub record MayMove (s : StoreState) (old new : Path) (from into : ℕ) : Type 0 where
+  pub above : Path
+  pub name : Name
+  pub node : ℕ
+  pub is_old : old ≡ above ++ name ∷ []
+  pub leads : walk (entry_of s.nodes) s.root above ≡ Some from
+  pub there : entry_of s.nodes from name ≡ Some node
+  pub beside : Path
+  pub last : Name
+  pub is_new : new ≡ beside ++ last ∷ []
+  pub leads_new : walk (entry_of s.nodes) s.root beside ≡ Some into
+  pub directory : is_directory_at s.nodes into ≡ true
+  pub not_inside : after_front old new ≡ None
+  pub bare : (target : ℕ) → entry_of s.nodes into last ≡ Some target → is_bare_at s.nodes target ≡ true
+
+-- what is told is the tree's answer, or the answer is the move and it may be done
+abbrev pub IsCourse : StoreState → Tree → ℕ → Path → Path → Answer → Course → Type 0
+IsCourse s t moment old new answer (Told code) = answer ≡ tells (reply.Status code)
+IsCourse s t moment old new answer (Moves from into) = (answer ≡ moves t moment old new) × MayMove s old new from into
+
+-- where there is a move, neither path is the root
+abbrev pub AreNamed : Path → Path → Course → Type 0
+AreNamed old new (Told code) = Unit {0}
+AreNamed old new (Moves from into) = (0 < length old) × (0 < length new)
+
+-- whether there is a move
+abbrev pub does_move : Course → Bool
+does_move (Told code) = false
+does_move (Moves from into) = true
+
+-- nothing moves
+abbrev pub IsTold : Course → Type 0
+IsTold (Told code) = Unit {0}
+IsTold (Moves from into) = ⊥

@@ -1,0 +1,234 @@
+//! Both renames.
+
+ghost use Rattle.std.specs.Prelude.{◌≡◌, ◌≢◌, ◌⊎◌, ◌||◌, ◌<◌, ℕ, true, false, [], length, is_some, OnOk, OnErr, IsOk, IfOk};
+ghost use Rattle.sf_path.specs.Order.{same_path};
+ghost use Rattle.sf_reply.specs.Replies.{IsPlain};
+ghost use Rattle.sf_call.specs.Tree.{Tree, after_front, place_at};
+ghost use Rattle.sf_call.specs.Changes.{moved_by};
+ghost use Rattle.sf_call.specs.Calls.{Answer, answer_to, rename, posix_rename, unless_root};
+ghost use Rattle.sf_inode.specs.Stores.{StoreState, relinked};
+ghost use Rattle.sf_keeps.specs.Keeps.{Keeps};
+ghost use Rattle.sf_walk.specs.Ways.{last_of, way_from, IsLocated};
+ghost use Rattle.sf_walk.specs.Served.{Gives, IsAlike, HoldersStay};
+ghost use Rattle.sf_walk.specs.Renames.{does_move, may_replace, IsCourse, AreNamed, IsTold};
+
+use crate::finding::{Located, Ways};
+use sf_call::{Call, Request};
+use sf_inode::{NodeId, Store};
+use sf_path::Path;
+use sf_reply::{Reply, StatusCode};
+use std::alloc::AllocError;
+
+/// What a rename comes to.
+#[derive(Clone, Copy)]
+pub(crate) enum Course {
+    /// It is answered this, and nothing changes.
+    Told(StatusCode),
+    /// The old path's entry moves from one directory into another.
+    Moves { from: NodeId, into: NodeId },
+}
+
+/// Whether the call is a rename that moves what its old path leads to.
+pub fn is_move(store: &Store, call: &Call, ways: Ways) -> bool
+    requires { IsLocated store.now call.now.request ways }
+    ensures { (t : Tree) → Keeps store.now t
+        → result ≡ is_some (moved_by (answer_to t call.now.session call.now.number call.now.moment call.now.request).changes) }
+{
+    match &call.request {
+        Request::Rename(old, new) => does_move(rename_course(old, new, ways)),
+        Request::PosixRename(old, new) => does_move(posix_course(store, old, new, ways)),
+        _ => false,
+    }
+}
+
+fn does_move(course: Course) -> bool
+    ensures { result ≡ does_move course }
+{
+    match course {
+        Course::Told(_) => false,
+        Course::Moves { from: _, into: _ } => true,
+    }
+}
+
+/// RENAME.
+pub(crate) fn rename(
+    store: &mut Store,
+    moment: u32,
+    old: &Path,
+    new: &Path,
+    ways: Ways,
+) -> Result<Reply, AllocError>
+    requires old { ways.path ≡ way_from store.old.nodes store.old.root store.old.root old.now }
+    requires new { ways.new ≡ way_from store.old.nodes store.old.root store.old.root new.now }
+    ensures served { (t : Tree) → Keeps store.old t
+        → Gives store.new t (unless_root old.now (unless_root new.now (rename t moment old.now new.now (place_at t old.now)))) result }
+    ensures err { OnErr result (IsAlike store.old store.new) }
+    ensures plain { IfOk result IsPlain }
+    ensures look_ups { store.new.look_ups ≡ store.old.look_ups }
+    ensures holders { HoldersStay store.old store.new }
+{
+    let course = rename_course(old, new, ways);
+    carry_out(store, moment, old, new, course)
+}
+
+/// The extension posix-rename.
+pub(crate) fn posix_rename(
+    store: &mut Store,
+    moment: u32,
+    old: &Path,
+    new: &Path,
+    ways: Ways,
+) -> Result<Reply, AllocError>
+    requires old { ways.path ≡ way_from store.old.nodes store.old.root store.old.root old.now }
+    requires new { ways.new ≡ way_from store.old.nodes store.old.root store.old.root new.now }
+    ensures served { (t : Tree) → Keeps store.old t
+        → Gives store.new t (unless_root old.now (unless_root new.now (posix_rename t moment old.now new.now (place_at t old.now)))) result }
+    ensures sure { same_path old.now new.now ≡ true → IsOk result }
+    ensures err { OnErr result (IsAlike store.old store.new) }
+    ensures plain { IfOk result IsPlain }
+    ensures look_ups { store.new.look_ups ≡ store.old.look_ups }
+    ensures holders { HoldersStay store.old store.new }
+{
+    let course = posix_course(store, old, new, ways);
+    carry_out(store, moment, old, new, course)
+}
+
+/// RENAME moves to a path where nothing stands.
+fn rename_course(old: &Path, new: &Path, ways: Ways) -> Course
+    ensures course { (s : StoreState) (t : Tree) (moment : ℕ) → Keeps s t
+        → ways.path ≡ way_from s.nodes s.root s.root old.now
+        → ways.new ≡ way_from s.nodes s.root s.root new.now
+        → IsCourse s t moment old.now new.now (unless_root old.now (unless_root new.now (rename t moment old.now new.now (place_at t old.now)))) result }
+    ensures named { AreNamed old.now new.now result }
+{
+    if has_root(old, new) {
+        return Course::Told(StatusCode::Failure);
+    }
+    match ways.path {
+        Located::NoWay => Course::Told(StatusCode::NoSuchFile),
+        Located::Missing { parent: _ } => Course::Told(StatusCode::NoSuchFile),
+        Located::At { parent, node: _ } => {
+            if are_nested(old, new) {
+                return Course::Told(StatusCode::Failure);
+            }
+            match ways.new {
+                Located::NoWay => Course::Told(StatusCode::NoSuchFile),
+                Located::At { parent: _, node: _ } => Course::Told(StatusCode::Failure),
+                Located::Missing { parent: into } => Course::Moves { from: parent, into },
+            }
+        }
+    }
+}
+
+/// The extension posix-rename also moves to where something stands that may be replaced.
+fn posix_course(store: &Store, old: &Path, new: &Path, ways: Ways) -> Course
+    requires old { ways.path ≡ way_from store.now.nodes store.now.root store.now.root old.now }
+    requires new { ways.new ≡ way_from store.now.nodes store.now.root store.now.root new.now }
+    ensures course { (t : Tree) (moment : ℕ) → Keeps store.now t
+        → IsCourse store.now t moment old.now new.now (unless_root old.now (unless_root new.now (posix_rename t moment old.now new.now (place_at t old.now)))) result }
+    ensures named { AreNamed old.now new.now result }
+    ensures same { same_path old.now new.now ≡ true → IsTold result }
+{
+    if has_root(old, new) {
+        return Course::Told(StatusCode::Failure);
+    }
+    match ways.path {
+        Located::NoWay => Course::Told(StatusCode::NoSuchFile),
+        Located::Missing { parent: _ } => Course::Told(StatusCode::NoSuchFile),
+        Located::At { parent, node } => {
+            if *old == *new {
+                return Course::Told(StatusCode::Success);
+            }
+            if are_nested(old, new) {
+                return Course::Told(StatusCode::Failure);
+            }
+            match ways.new {
+                Located::NoWay => Course::Told(StatusCode::NoSuchFile),
+                Located::Missing { parent: into } => Course::Moves { from: parent, into },
+                Located::At {
+                    parent: into,
+                    node: target,
+                } => {
+                    if may_replace(store, node, target) {
+                        Course::Moves { from: parent, into }
+                    } else {
+                        Course::Told(StatusCode::Failure)
+                    }
+                }
+            }
+        }
+    }
+}
+
+/// Whether one of the paths is the root.
+fn has_root(old: &Path, new: &Path) -> bool
+    ensures yes { result ≡ true → (old.now ≡ []) ⊎ (new.now ≡ []) }
+    ensures no { result ≡ false → (old.now ≢ []) × (new.now ≢ []) }
+{
+    old.is_root() || new.is_root()
+}
+
+/// Whether one path begins with the other.
+fn are_nested(old: &Path, new: &Path) -> bool
+    ensures { result ≡ (is_some (after_front old.now new.now) || is_some (after_front new.now old.now)) }
+{
+    new.begins_with(old) || old.begins_with(new)
+}
+
+/// Whether a node may take another's place.
+fn may_replace(store: &Store, node: NodeId, target: NodeId) -> bool
+    ensures { result ≡ may_replace store.now.nodes node target }
+{
+    if store.is_directory(target) {
+        store.is_directory(node) && store.is_empty(target)
+    } else {
+        !store.is_directory(node)
+    }
+}
+
+/// Does what a rename comes to. The directories of both paths are modified at the moment.
+fn carry_out(
+    store: &mut Store,
+    moment: u32,
+    old: &Path,
+    new: &Path,
+    course: Course,
+) -> Result<Reply, AllocError>
+    requires { AreNamed old.now new.now course }
+    ensures served { (t : Tree) (answer : Answer) → Keeps store.old t
+        → IsCourse store.old t moment old.now new.now answer course
+        → Gives store.new t answer result }
+    ensures sure { IsTold course → IsOk result }
+    ensures err { OnErr result (IsAlike store.old store.new) }
+    ensures plain { IfOk result IsPlain }
+    ensures look_ups { store.new.look_ups ≡ store.old.look_ups }
+    ensures holders { HoldersStay store.old store.new }
+{
+    match course {
+        Course::Told(code) => Ok(Reply::Status(code)),
+        Course::Moves { from, into } => {
+            relink_last(store, old, new, from, into)?;
+            store.touch(from, moment);
+            store.touch(into, moment);
+            Ok(Reply::Status(StatusCode::Success))
+        }
+    }
+}
+
+/// Moves the entry of the old path's last name to that of the new one's.
+fn relink_last(
+    store: &mut Store,
+    old: &Path,
+    new: &Path,
+    from: NodeId,
+    into: NodeId,
+) -> Result<(), AllocError>
+    requires old { 0 < length old.now }
+    requires new { 0 < length new.now }
+    ensures ok { OnOk result (store.new
+        ≡ relinked store.old from (last_of old.now) into (last_of new.now)) }
+    ensures err { OnErr result (store.new ≡ store.old) }
+{
+    let name = new.name(new.len() - 1).try_copy(store.alloc())?;
+    store.relink(from, old.name(old.len() - 1), into, name)
+}
