@@ -48,10 +48,16 @@ pub struct Row {
     pub title: &'static str,
     pub unit: Unit,
     pub make: fn(Setting) -> Box<dyn Workload>,
+    /// It takes turns with the row before, which it is to be compared with.
+    pub is_beside: bool,
 }
 
 const fn row(title: &'static str, unit: Unit, make: fn(Setting) -> Box<dyn Workload>) -> Row {
-    Row { title, unit, make }
+    Row { title, unit, make, is_beside: false }
+}
+
+const fn beside(row: Row) -> Row {
+    Row { is_beside: true, ..row }
 }
 
 /// The names of a small directory.
@@ -87,27 +93,27 @@ pub const ROWS: [Row; 24] = [
     row("plain rename of an empty directory, one at a time", CALLS, |setting| {
         MoveDirectory::new(Setting { names: 0, ..setting }, Rename::Plain, 1)
     }),
-    row("plain rename of a large directory, one at a time", CALLS, |setting| {
+    beside(row("plain rename of a large directory, one at a time", CALLS, |setting| {
         MoveDirectory::new(setting, Rename::Plain, 1)
-    }),
+    })),
     row("posix rename of an empty directory, one at a time", CALLS, |setting| {
         MoveDirectory::new(Setting { names: 0, ..setting }, Rename::Posix, 1)
     }),
-    row("posix rename of a large directory, one at a time", CALLS, |setting| {
+    beside(row("posix rename of a large directory, one at a time", CALLS, |setting| {
         MoveDirectory::new(setting, Rename::Posix, 1)
-    }),
+    })),
     row("plain rename of an empty directory, 64 sent ahead", CALLS, |setting| {
         MoveDirectory::new(Setting { names: 0, ..setting }, Rename::Plain, 64)
     }),
-    row("plain rename of a large directory, 64 sent ahead", CALLS, |setting| {
+    beside(row("plain rename of a large directory, 64 sent ahead", CALLS, |setting| {
         MoveDirectory::new(setting, Rename::Plain, 64)
-    }),
+    })),
     row("posix rename of an empty directory, 64 sent ahead", CALLS, |setting| {
         MoveDirectory::new(Setting { names: 0, ..setting }, Rename::Posix, 64)
     }),
-    row("posix rename of a large directory, 64 sent ahead", CALLS, |setting| {
+    beside(row("posix rename of a large directory, 64 sent ahead", CALLS, |setting| {
         MoveDirectory::new(setting, Rename::Posix, 64)
-    }),
+    })),
 ];
 
 fn open(request: Request, path: &[u8], flags: u32) {
