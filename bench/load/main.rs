@@ -4,7 +4,8 @@
 //!   load [--seconds S] [--files N] [--names N] [--only WORD] NAME=COMMAND..
 //!
 //! Each workload runs in five rounds, of S / 5 seconds or of one whole file, listing or directory
-//! of new files where that takes longer, and the servers take turns from round to round. A rate is the median round's.
+//! of new files where that takes longer, and the servers take turns from round to round, and so do
+//! workloads that are to be compared with each other. A rate is the median round's.
 //! Ratios are those of the first server to each other one. A server with `:` at the end of its
 //! name keeps no tree: of its attributes and names only the form is checked.
 //! The first wrong reply ends the run with status 1.
@@ -74,6 +75,7 @@ fn read_options(mut words: impl Iterator<Item = String>) -> Outcome<Options> {
 
 /// One workload on one server.
 struct Lane {
+    name: String,
     session: Session,
     workload: Box<dyn Workload>,
     rates: Vec<f64>,
@@ -83,24 +85,21 @@ struct Lane {
 
 impl Lane {
     fn start(row: &Row, server: &Server, options: &Options) -> Outcome<Lane> {
+        let name = format!("{}: {}", row.title, server.name);
         let (files, names) = (options.files, options.names);
         let begun = Instant::now();
         let mut session = Session::start(&server.command)?;
         let mut workload = (row.make)(Setting { files, names, is_constant: server.is_constant });
-        workload.prepare(&mut session)?;
+        workload.prepare(&mut session).map_err(|error| format!("{name}: {error}"))?;
         let processor_before = session.processor_seconds()?;
-        eprintln!(
-            "{}: {}: prepared in {:.2} s",
-            row.title,
-            server.name,
-            begun.elapsed().as_secs_f64()
-        );
-        Ok(Lane { session, workload, rates: vec![], units: 0, processor_before })
+        eprintln!("{name}: prepared in {:.2} s", begun.elapsed().as_secs_f64());
+        Ok(Lane { name, session, workload, rates: vec![], units: 0, processor_before })
     }
 
     fn round(&mut self, length: Duration) -> Outcome<()> {
         let begun = Instant::now();
-        let units = self.workload.round(&mut self.session, begun + length)?;
+        let units = self.workload.round(&mut self.session, begun + length);
+        let units = units.map_err(|error| format!("{}: {error}", self.name))?;
         self.rates.push(units as f64 / begun.elapsed().as_secs_f64());
         self.units += units;
         Ok(())
@@ -115,20 +114,27 @@ impl Lane {
     }
 }
 
-/// The servers' figures for one workload.
-fn measure(row: &Row, options: &Options) -> Outcome<Vec<Figure>> {
-    let about = |server: &Server, error| format!("{}: {}: {error}", row.title, server.name);
+/// The servers' figures for workloads that take turns.
+fn measure<'a>(rows: &[&'a Row], options: &Options) -> Outcome<Vec<(&'a Row, Vec<Figure>)>> {
     let mut lanes = vec![];
-    for server in &options.servers {
-        lanes.push(Lane::start(row, server, options).map_err(|error| about(server, error))?);
+    for row in rows {
+        for server in &options.servers {
+            lanes.push(Lane::start(row, server, options)?);
+        }
     }
     let length = Duration::from_secs_f64(options.seconds / f64::from(ROUNDS));
     for _ in 0..ROUNDS {
-        for (lane, server) in lanes.iter_mut().zip(&options.servers) {
-            lane.round(length).map_err(|error| about(server, error))?;
+        for lane in &mut lanes {
+            lane.round(length)?;
         }
     }
-    lanes.into_iter().map(|lane| lane.finish(row.unit.size)).collect()
+    let mut measured = vec![];
+    for row in rows {
+        let own = lanes.drain(..options.servers.len());
+        let figures: Outcome<_> = own.map(|lane| lane.finish(row.unit.size)).collect();
+        measured.push((*row, figures?));
+    }
+    Ok(measured)
 }
 
 /// A number with two digits or more that mean something.
@@ -178,9 +184,10 @@ fn print_figures(
 
 fn run() -> Outcome<()> {
     let options = read_options(std::env::args().skip(1))?;
+    let wanted: Vec<&Row> = ROWS.iter().filter(|row| row.title.contains(&options.only)).collect();
     let mut rows = vec![];
-    for row in ROWS.iter().filter(|row| row.title.contains(&options.only)) {
-        rows.push((row, measure(row, &options)?));
+    for together in wanted.chunk_by(|_, next| next.is_beside) {
+        rows.extend(measure(together, &options)?);
     }
     println!(
         "{} files in the tree, {} names in a large directory, {} s for a cell",

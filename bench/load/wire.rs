@@ -15,11 +15,13 @@ pub const REMOVE: u8 = 13;
 pub const MKDIR: u8 = 14;
 pub const RMDIR: u8 = 15;
 pub const STAT: u8 = 17;
+pub const RENAME: u8 = 18;
 pub const STATUS: u8 = 101;
 pub const HANDLE: u8 = 102;
 pub const DATA: u8 = 103;
 pub const NAME: u8 = 104;
 pub const ATTRS: u8 = 105;
+pub const EXTENDED: u8 = 200;
 
 pub const OK: u32 = 0;
 pub const EOF: u32 = 1;

@@ -2,8 +2,9 @@
 
 use crate::session::Session;
 use crate::wire::{
-    Field, Outcome, Reply, Request, CLOSE, CREATE, EOF, EXCLUSIVE, FOR_READING, FOR_WRITING, MKDIR,
-    NO_ATTRIBUTES, OK, OPEN, OPENDIR, READ, READDIR, REMOVE, RMDIR, STAT, STATUS, TRUNCATE, WRITE,
+    Field, Outcome, Reply, Request, CLOSE, CREATE, EOF, EXCLUSIVE, EXTENDED, FOR_READING,
+    FOR_WRITING, MKDIR, NO_ATTRIBUTES, OK, OPEN, OPENDIR, READ, READDIR, REMOVE, RENAME, RMDIR,
+    STAT, STATUS, TRUNCATE, WRITE,
 };
 use std::time::Instant;
 
@@ -47,16 +48,22 @@ pub struct Row {
     pub title: &'static str,
     pub unit: Unit,
     pub make: fn(Setting) -> Box<dyn Workload>,
+    /// It takes turns with the row before, which it is to be compared with.
+    pub is_beside: bool,
 }
 
 const fn row(title: &'static str, unit: Unit, make: fn(Setting) -> Box<dyn Workload>) -> Row {
-    Row { title, unit, make }
+    Row { title, unit, make, is_beside: false }
+}
+
+const fn beside(row: Row) -> Row {
+    Row { is_beside: true, ..row }
 }
 
 /// The names of a small directory.
 const FEW: usize = 10;
 
-pub const ROWS: [Row; 16] = [
+pub const ROWS: [Row; 24] = [
     row("STAT at a depth of 4, one at a time", CALLS, |setting| Stat::new(setting, 1)),
     row("STAT at a depth of 4, 64 sent ahead", CALLS, |setting| Stat::new(setting, 64)),
     row("MKDIR and RMDIR, one at a time", CALLS, |setting| MakeDirectories::new(setting, 1)),
@@ -83,6 +90,30 @@ pub const ROWS: [Row; 16] = [
     row("READDIR of a large directory, made in random order", NAMES, |setting| {
         List::new(setting, Order::Random)
     }),
+    row("plain rename of an empty directory, one at a time", CALLS, |setting| {
+        MoveDirectory::new(Setting { names: 0, ..setting }, Rename::Plain, 1)
+    }),
+    beside(row("plain rename of a large directory, one at a time", CALLS, |setting| {
+        MoveDirectory::new(setting, Rename::Plain, 1)
+    })),
+    row("posix rename of an empty directory, one at a time", CALLS, |setting| {
+        MoveDirectory::new(Setting { names: 0, ..setting }, Rename::Posix, 1)
+    }),
+    beside(row("posix rename of a large directory, one at a time", CALLS, |setting| {
+        MoveDirectory::new(setting, Rename::Posix, 1)
+    })),
+    row("plain rename of an empty directory, 64 sent ahead", CALLS, |setting| {
+        MoveDirectory::new(Setting { names: 0, ..setting }, Rename::Plain, 64)
+    }),
+    beside(row("plain rename of a large directory, 64 sent ahead", CALLS, |setting| {
+        MoveDirectory::new(setting, Rename::Plain, 64)
+    })),
+    row("posix rename of an empty directory, 64 sent ahead", CALLS, |setting| {
+        MoveDirectory::new(Setting { names: 0, ..setting }, Rename::Posix, 64)
+    }),
+    beside(row("posix rename of a large directory, 64 sent ahead", CALLS, |setting| {
+        MoveDirectory::new(setting, Rename::Posix, 64)
+    })),
 ];
 
 fn open(request: Request, path: &[u8], flags: u32) {
@@ -585,5 +616,85 @@ impl Workload for List {
             names += self.list(session)?;
         }
         Ok(names)
+    }
+}
+
+/// Which of the two renames.
+#[derive(Clone, Copy)]
+enum Rename {
+    Plain,
+    Posix,
+}
+
+impl Rename {
+    fn send(self, request: Request, old: &str, new: &str) {
+        let [old, new] = [old, new].map(|path| Field::Bytes(path.as_bytes()));
+        match self {
+            Rename::Plain => request.send(RENAME, &[old, new]),
+            Rename::Posix => {
+                request.send(EXTENDED, &[Field::Bytes(b"posix-rename@openssh.com"), old, new])
+            }
+        }
+    }
+}
+
+/// The places between which a directory moves.
+const ABOVE: &str = "d";
+const BELOW: &str = "u/v/d";
+
+/// Moves a directory down and up again, over and over. Requests sent ahead rely on the order in
+/// which they were sent: each but the first finds the directory only where the one before put it.
+struct MoveDirectory {
+    setting: Setting,
+    rename: Rename,
+    ahead: usize,
+    is_below: bool,
+}
+
+impl MoveDirectory {
+    fn new(setting: Setting, rename: Rename, ahead: usize) -> Box<dyn Workload> {
+        Box::new(MoveDirectory { setting, rename, ahead, is_below: false })
+    }
+
+    /// Asks for ten of the directory's files at the place where it is now.
+    fn look(&self, session: &mut Session) -> Outcome<()> {
+        let directory = if self.is_below { BELOW } else { ABOVE };
+        for number in (0..self.setting.names).step_by(self.setting.names / 10 + 1) {
+            let path = name_in(directory, number);
+            let size = session
+                .ask(&|request| request.send(STAT, &[Field::Bytes(&path)]), &|reply| {
+                    reply.file_size()
+                })?;
+            if size != 0 {
+                return Err(format!("STAT of an empty file: size {size}"));
+            }
+        }
+        Ok(())
+    }
+}
+
+impl Workload for MoveDirectory {
+    fn prepare(&mut self, session: &mut Session) -> Outcome<()> {
+        for path in ["u", "u/v"] {
+            session.succeed(&|request| make_directory(request, path.as_bytes()))?;
+        }
+        make_names(session, ABOVE, &numbers(Order::Random, self.setting.names))
+    }
+
+    fn round(&mut self, session: &mut Session, until: Instant) -> Outcome<u64> {
+        let calls = session.pump(self.ahead, &mut |_, reply, request| {
+            if let Some(reply) = reply {
+                reply.status(OK)?;
+                if Instant::now() >= until {
+                    return Ok(false);
+                }
+            }
+            let (old, new) = if self.is_below { (BELOW, ABOVE) } else { (ABOVE, BELOW) };
+            self.rename.send(request, old, new);
+            self.is_below = !self.is_below;
+            Ok(true)
+        })?;
+        self.look(session)?;
+        Ok(calls)
     }
 }
