@@ -1,28 +1,26 @@
 -- One request and its reply.
-use Rattle.std.proofs.Common.{◌≡◌, ◌+◌, ◌^◌, ◌<◌, ◌≤◌, ℕ, List, [], ◌∷◌, ◌++◌, length, take, drop, Bool, true, false, Option, Some, None, Result, Ok, Err, inl, inr, refl, sym, ap, subst, ◌∙◌, append_assoc, append-nil, arith, lit<, lit≤}
-use Rattle.std.specs.Prelude.{◌||◌, IfSome}
-use Rattle.std.specs.Io.KnownBytes.{Appends, Consumes}
+use Rattle.std.proofs.Common.{◌≡◌, ◌^◌, ◌<◌, ◌≤◌, ℕ, List, [], ◌∷◌, ◌++◌, length, take, true, false, Option, Some, None, Ok, Err, inl, inr, refl, sym, ap, subst, ◌∙◌, append_assoc, arith, lit<, lit≤}
+use Rattle.std.specs.Io.KnownBytes.{Consumes}
 use Rattle.std.proofs.lemmas.Bool.{cases_lt}
 use Rattle.std.proofs.lemmas.List.{take_at}
 use Rattle.sf_line.specs.Lines.{Rose}
 use Rattle.sf_field.specs.Fields.{be32, packet}
-use Rattle.sf_wire.specs.Packets.{IsBody}
 use Rattle.sf_request.specs.declared.request.WireRequest.{WireRequest}
 use Rattle.sf_request.specs.Requests.{request_body}
 use Rattle.sf_reply.specs.declared.reply.Reply.{Reply}
 use Rattle.sf_reply.specs.declared.reply.Reply.TheVariants as reply
-use Rattle.sf_reply.specs.declared.reply.StatusCode.{StatusCode}
 use Rattle.sf_reply.specs.declared.reply.StatusCode.TheVariants as status
-use Rattle.sf_reply.specs.Replies.{reply_body, version_body, ReplyFits}
+use Rattle.sf_reply.specs.Replies.{reply_body, version_body}
 use Rattle.sf_reply.specs.Reading.{IsReply}
 use Rattle.sf_client.specs.declared.due.Due.{Due}
 use Rattle.sf_client.specs.declared.due.Due.TheVariants as due
 use Rattle.sf_client.specs.declared.fault.ClientFault.{ClientFault}
 use Rattle.sf_client.specs.declared.fault.ClientFault.TheVariants as fault
 use Rattle.sf_client.specs.Packets.{HasNoPacket}
-use Rattle.sf_client.specs.Dues.{due_of, is_answer, is_refusal, is_due, Refuses}
-use Rattle.sf_client.specs.Exchanges.{ClientView, Exchange, Exchanged, Unanswered, Took, HasNoReply, HasNoVersion, id_after, last_id, requests_from, replies_from}
+use Rattle.sf_client.specs.Dues.{due_of, is_answer, is_due}
+use Rattle.sf_client.specs.Exchanges.{ClientView, Exchanged, SentAhead, Sent, Took, HasNoReply, HasNoVersion, last_id}
 use Rattle.sf_client.specs.Outcomes.{asked, Broke, Comes, Settles, Takes}
+use Rattle.sf_client.proofs.Exchanging.{exchanged_none, sent_more, took_one}
 use Rattle.sf_client.proofs.Filling.{header_is, same_number}
 
 -- ---- no reply
@@ -54,33 +52,14 @@ a_reply a b id body r read is = subst (λ (t : List ℕ). Consumes a b (packet t
 
 -- ---- one exchange
 
--- what a request that is sent leaves
-pub record Sent (v : ClientView) (bytes : List ℕ) (u : ClientView) : Type 0 where
-  pub wrote : Appends v.outgoing u.outgoing bytes
-  pub client : u ≡ record v { outgoing = u.outgoing; failures = u.failures }
-  pub failures : v.failures ≤ u.failures
+-- one request was sent
+pub sent_alone : (v u : ClientView) (bytes : List ℕ) (q : WireRequest) → v.failed ≡ false → Sent v bytes u → bytes ≡ packet (request_body v.next q) → SentAhead v [] (q ∷ []) u
+unfolding last_id
+sent_alone v u bytes q began sent is = sent_more v v u [] [] v.next q (exchanged_none v began) refl (subst (λ (t : List ℕ). Sent v t u) is sent)
 
 pub one_exchanged : (v u w : ClientView) (bytes : List ℕ) (q : WireRequest) (r : Reply) → v.failed ≡ false → Sent v bytes u → bytes ≡ packet (request_body v.next q) → is_due (due_of q) r ≡ true → Took u r w
     → Exchanged v (asked q r ∷ []) w
-unfolding last_id requests_from replies_from
-one_exchanged v u w bytes q r began sent is due took =
-    let next : u.next ≡ v.next = ap (λ (z : ClientView). z.next) sent.client in
-    let failed : u.failed ≡ v.failed = ap (λ (z : ClientView). z.failed) sent.client in
-    let incoming : u.incoming ≡ v.incoming = ap (λ (z : ClientView). z.incoming) sent.client in
-    let wrote : Appends v.outgoing w.outgoing bytes = rw took.outgoing sent.wrote in
-    let wrote_packet : Appends v.outgoing w.outgoing (packet (request_body v.next q) ++ []) = subst (Appends v.outgoing w.outgoing) (is ∙ sym (append-nil (packet (request_body v.next q)))) wrote in
-    let read : Consumes v.incoming w.incoming (packet (reply_body u.next r)) = rw (← incoming) took.read in
-    let read_packet : Consumes v.incoming w.incoming (packet (reply_body v.next r) ++ []) =
-    subst (Consumes v.incoming w.incoming) (ap (λ (n : ℕ). packet (reply_body n r)) next ∙ sym (append-nil (packet (reply_body v.next r)))) read in
-    record {
-      began = began;
-      going = took.same ∙ failed ∙ began;
-      next = took.next ∙ ap id_after next;
-      wrote = wrote_packet;
-      read = read_packet;
-      due = (due, tt);
-      failures = omega (arith, sent.failures, took.failures);
-    }
+one_exchanged v u w bytes q r began sent is due took = took_one v u w [] q [] r (sent_alone v u bytes q began sent is) due took
 
 rose_since : (a b c : ℕ) → a ≤ b → b ≤ c → Rose b c → Rose a c
 rose_since a b c le grew (inl more) = inl (omega arith)
@@ -93,15 +72,7 @@ broke_since u v w le broke = record { failed = broke.failed; grew = omega (arith
 pub settled_err : (v u w : ClientView) (bytes : List ℕ) (d : Due) (f : ClientFault) → v.failed ≡ false → Sent v bytes u → Takes u d (Err f) w
     → (q : WireRequest) → bytes ≡ packet (request_body v.next q) → d ≡ due_of q → Settles {X = Reply} (λ r. r) v q (Err f) w
 settled_err v u w bytes d fault.Stream began sent takes q is due = broke_since v u w sent.failures takes
-settled_err v u w bytes d fault.Protocol began sent takes q is due =
-    let next : u.next ≡ v.next = ap (λ (z : ClientView). z.next) sent.client in
-    let incoming : u.incoming ≡ v.incoming = ap (λ (z : ClientView). z.incoming) sent.client in
-    record {
-      began = began;
-      failed = takes.0;
-      wrote = rw (takes.1, ← is) sent.wrote;
-      none = rw (← next, ← incoming, ← due) takes.2;
-    }
+settled_err v u w bytes d fault.Protocol began sent takes q is due = (u, sent_alone v u bytes q began sent is, record { failed = takes.0; outgoing = takes.1; none = rw (← due) takes.2 })
 settled_err v u w bytes d (fault.Status code) began sent takes q is due = absurd takes
 settled_err v u w bytes d fault.OutOfMemory began sent takes q is due = (takes.0, one_exchanged v u w bytes q takes.0 began sent is (rw (← due) takes.1) takes.2)
 settled_err v u w bytes d fault.Failed began sent takes q is due = absurd takes
@@ -109,6 +80,9 @@ settled_err v u w bytes d fault.Failed began sent takes q is due = absurd takes
 pub settled_ok : (v u w : ClientView) (bytes : List ℕ) (d : Due) (r : Reply) → v.failed ≡ false → Sent v bytes u → Takes u d (Ok r) w
     → (q : WireRequest) → bytes ≡ packet (request_body v.next q) → d ≡ due_of q → Exchanged v (asked q r ∷ []) w
 settled_ok v u w bytes d r began sent takes q is due = one_exchanged v u w bytes q r began sent is (rw (← due) takes.0) takes.1
+
+pub answer_due : (d : Due) (r : Reply) → is_answer d r ≡ true → is_due d r ≡ true
+answer_due d r answer = rw answer refl
 
 pub success_is : (r : Reply) → is_answer due.Success r ≡ true → r ≡ reply.Status status.Success
 success_is (reply.Status status.Success) e = refl

@@ -1,39 +1,32 @@
 -- The exchanges of whole calls.
-use Rattle.std.specs.Prelude.{◌≡◌, ◌<◌, ◌+◌, ◌*◌, ◌/◌, ◌⊎◌, ℕ, zero, suc, List, [], ◌∷◌, ◌++◌, length, take, drop, true, false, Option, Some, None, Result, Ok, Err}
-use Rattle.std.specs.List.{concat, flat_map}
+use Rattle.std.specs.Prelude.{◌≡◌, ◌≢◌, ◌≤◌, ◌+◌, ◌*◌, ◌/◌, ◌⊎◌, ℕ, zero, suc, List, [], ◌∷◌, ◌++◌, length, take, drop, true, false, Option, Some, None, Result, Ok, Err, unwrap_or}
+use Rattle.std.specs.List.{AllByRecursion, concat, flat_map}
 use Rattle.std.specs.Global.{Vec}
 use Rattle.sf_field.specs.Fields.{be64}
-use Rattle.sf_field.specs.Attributes.{no_attrs}
 use Rattle.sf_field.specs.declared.open_flags.OpenFlags.{OpenFlags}
 use Rattle.sf_request.specs.declared.request.WireRequest.{WireRequest}
 use Rattle.sf_request.specs.declared.request.WireRequest.TheVariants as request
 use Rattle.sf_reply.specs.declared.reply.Entry.{Entry}
 use Rattle.sf_reply.specs.declared.reply.Reply.{Reply}
 use Rattle.sf_reply.specs.declared.reply.Reply.TheVariants as reply
+use Rattle.sf_reply.specs.declared.reply.StatusCode.{StatusCode}
 use Rattle.sf_reply.specs.declared.reply.StatusCode.TheVariants.{Success, EndOfFile}
 use Rattle.sf_client.specs.declared.fault.ClientFault.{ClientFault}
 use Rattle.sf_client.specs.declared.fault.ClientFault.TheVariants as fault
 use Rattle.sf_client.specs.Dues.{Refuses}
-use Rattle.sf_client.specs.Exchanges.{ClientView, Exchange, Exchanged, Unanswered}
-use Rattle.sf_client.specs.Outcomes.{asked, Broke, Settles}
+use Rattle.sf_client.specs.Exchanges.{ClientView, Exchange, Exchanged, Unanswered, requests_of}
+use Rattle.sf_client.specs.Outcomes.{asked, Broke, Comes, Settles}
+use Rattle.sf_client.specs.Ahead.{EndsBy}
 
--- What came of a call whose exchanges are told by a script: it made them, in step; or the line failed; or no due reply
--- came for a request that was sent after some exchanges.
+-- What came of a call whose exchanges are told by a script: it made them, in step; or the line
+-- failed; or after some exchanges no due reply came for the next request.
 abbrev pub Does : {X : Type 0} → (List Exchange → Result X ClientFault → Type 0) → ClientView → Result X ClientFault → ClientView → Type 0
 Does Script v (Ok x) w = (xs : List Exchange) × Script xs (Ok x) × Exchanged v xs w
 Does Script v (Err fault.Stream) w = Broke v w
-Does Script v (Err fault.Protocol) w = (xs : List Exchange) × (u : ClientView) × (q : WireRequest) × Exchanged v xs u × Unanswered u q w
+Does Script v (Err fault.Protocol) w = (xs : List Exchange) × (q : WireRequest) × (later : List WireRequest) × Unanswered v xs q later w
 Does Script v (Err (fault.Status code)) w = (xs : List Exchange) × Script xs (Err (fault.Status code)) × Exchanged v xs w
 Does Script v (Err fault.OutOfMemory) w = (xs : List Exchange) × Script xs (Err fault.OutOfMemory) × Exchanged v xs w
 Does Script v (Err fault.Failed) w = (v.failed ≡ true) × (w ≡ v)
-
--- the reply ends its call by this fault: it refuses by the code, or there was no memory for it
-abbrev pub EndsBy : Reply → ClientFault → Type 0
-EndsBy r fault.Stream = ⊥
-EndsBy r fault.Protocol = ⊥
-EndsBy r (fault.Status code) = Refuses r code
-EndsBy r fault.OutOfMemory = Unit {0}
-EndsBy r fault.Failed = ⊥
 
 -- The last request ended the call by this fault; or it wasn't sent, for want of memory.
 abbrev pub IsLast : WireRequest → List Exchange → ClientFault → Type 0
@@ -67,10 +60,38 @@ unfoldable pub reads : ℕ → ℕ → List (List ℕ) → List Exchange
 reads n offset [] = []
 reads n offset (piece ∷ pieces) = asked (read_from n offset) (reply.Data piece) ∷ reads n (offset + length piece) pieces
 
--- a file's bytes were read to the end
+-- a file's bytes were read to the end, each READ from where the one before ended
+abbrev pub ReadsOn : ℕ → List Exchange → Result (List ℕ) ClientFault → Type 0
+ReadsOn n xs (Ok bytes) = (pieces : List (List ℕ)) × (bytes ≡ concat pieces) × (xs ≡ reads n 0 pieces ++ asked (read_from n (length bytes)) (reply.Status EndOfFile) ∷ [])
+ReadsOn n xs (Err f) = (pieces : List (List ℕ)) × (last : List Exchange) × IsLast (read_from n (length (concat pieces))) last f × (xs ≡ reads n 0 pieces ++ last)
+
+abbrev pub IsReadOf : ℕ → WireRequest → Type 0
+IsReadOf n q = (offset : ℕ) × (q ≡ read_from n offset)
+
+-- These are READs. Some are kept, in their order; the replies of the others were dropped.
+unfoldable pub KeepsSome : ℕ → List Exchange → List Exchange → Type 0
+KeepsSome n [] kept = kept ≡ []
+KeepsSome n (x ∷ xs) kept = IsReadOf n x.request × (((others : List Exchange) × (kept ≡ x ∷ others) × KeepsSome n xs others) ⊎ KeepsSome n xs kept)
+
+-- READs that were sent ahead: those that are kept read the file.
+abbrev pub Reads : ℕ → List Exchange → Result (List ℕ) ClientFault → Type 0
+Reads n xs r = (kept : List Exchange) × KeepsSome n xs kept × ReadsOn n kept r
+
+-- the size that a reply to FSTAT tells, or 0
+abbrev pub size_of : Reply → ℕ
+size_of (reply.Attrs attrs) = unwrap_or attrs.size 0
+size_of _ = 0
+
+-- what came of FSTAT: a refusal tells 0
+abbrev pub AsksSize : ℕ → ClientView → Result ℕ ClientFault → ClientView → Type 0
+AsksSize n v (Ok size) w = (r : Reply) × (size ≡ size_of r) × Exchanged v (asked (request.FStat (be64 n)) r ∷ []) w
+AsksSize n v (Err f) w = ((code : StatusCode) → f ≢ fault.Status code) × Comes reply.Attrs v (request.FStat (be64 n)) (Err f) w
+
+-- FSTAT, whatever it told, and the file's READs
 abbrev pub ReadsAll : ℕ → List Exchange → Result (List ℕ) ClientFault → Type 0
-ReadsAll n xs (Ok bytes) = (pieces : List (List ℕ)) × (bytes ≡ concat pieces) × (xs ≡ reads n 0 pieces ++ asked (read_from n (length bytes)) (reply.Status EndOfFile) ∷ [])
-ReadsAll n xs (Err f) = (pieces : List (List ℕ)) × (last : List Exchange) × IsLast (read_from n (length (concat pieces))) last f × (xs ≡ reads n 0 pieces ++ last)
+ReadsAll n xs (Ok bytes) = (r : Reply) × (ys : List Exchange) × Reads n ys (Ok bytes) × (xs ≡ asked (request.FStat (be64 n)) r ∷ ys)
+ReadsAll n xs (Err f) = (IsLast (request.FStat (be64 n)) xs f × (f ≡ fault.OutOfMemory))
+    ⊎ ((r : Reply) × (ys : List Exchange) × Reads n ys (Err f) × (xs ≡ asked (request.FStat (be64 n)) r ∷ ys))
 
 -- the bytes in pieces of 32768, the last one shorter: how many, and the k-th
 abbrev pub count_of_pieces : List ℕ → ℕ
@@ -79,14 +100,26 @@ count_of_pieces bytes = (length bytes + 32767) / 32768
 abbrev pub write_at : ℕ → List ℕ → ℕ → WireRequest
 write_at n bytes k = request.Write (be64 n) (k * 32768) (take 32768 (drop (k * 32768) bytes))
 
--- the first k pieces were written, each where it stands
-unfoldable pub writes : ℕ → List ℕ → ℕ → List Exchange
+-- the WRITEs of the first k pieces, each where it stands
+unfoldable pub writes : ℕ → List ℕ → ℕ → List WireRequest
 writes n bytes zero = []
-writes n bytes (suc k) = writes n bytes k ++ asked (write_at n bytes k) (reply.Status Success) ∷ []
+writes n bytes (suc k) = writes n bytes k ++ write_at n bytes k ∷ []
 
+abbrev pub IsDone : Exchange → Type 0
+IsDone x = x.reply ≡ reply.Status Success
+
+-- The first refusal refused by this code; or memory was wanting.
+abbrev pub Stops : List Exchange → ClientFault → Type 0
+Stops xs fault.Stream = ⊥
+Stops xs fault.Protocol = ⊥
+Stops xs (fault.Status code) = (before : List Exchange) × (x : Exchange) × (after : List Exchange) × AllByRecursion IsDone before × Refuses x.reply code × (xs ≡ before ++ x ∷ after)
+Stops xs fault.OutOfMemory = Unit {0}
+Stops xs fault.Failed = ⊥
+
+-- All pieces were written, in order; or only some, where a WRITE was refused or memory was wanting.
 abbrev pub WritesAll : List ℕ → ℕ → List Exchange → Result (Unit {0}) ClientFault → Type 0
-WritesAll bytes n xs (Ok x) = xs ≡ writes n bytes (count_of_pieces bytes)
-WritesAll bytes n xs (Err f) = (k : ℕ) × (last : List Exchange) × (k < count_of_pieces bytes) × IsLast (write_at n bytes k) last f × (xs ≡ writes n bytes k ++ last)
+WritesAll bytes n xs (Ok x) = (requests_of xs ≡ writes n bytes (count_of_pieces bytes)) × AllByRecursion IsDone xs
+WritesAll bytes n xs (Err f) = (k : ℕ) × (k ≤ count_of_pieces bytes) × (requests_of xs ≡ writes n bytes k) × Stops xs f
 
 -- a directory's names were listed to the end
 unfoldable pub listings : ℕ → List (List Entry) → List Exchange
@@ -96,9 +129,16 @@ listings n (entries ∷ others) = asked (request.ReadDir (be64 n)) (reply.Names 
 abbrev pub all_entries : List (List Entry) → List Entry
 all_entries parts = flat_map (λ (entries : List Entry). entries) parts
 
+abbrev pub ListsOn : ℕ → List Exchange → Result (List Entry) ClientFault → Type 0
+ListsOn n xs (Ok entries) = (parts : List (List Entry)) × (entries ≡ all_entries parts) × (xs ≡ listings n parts ++ asked (request.ReadDir (be64 n)) (reply.Status EndOfFile) ∷ [])
+ListsOn n xs (Err f) = (parts : List (List Entry)) × (last : List Exchange) × IsLast (request.ReadDir (be64 n)) last f × (xs ≡ listings n parts ++ last)
+
+abbrev pub IsListing : ℕ → Exchange → Type 0
+IsListing n x = x.request ≡ request.ReadDir (be64 n)
+
+-- READDIRs that were sent ahead: the replies after the last that counts were dropped.
 abbrev pub ListsAll : ℕ → List Exchange → Result (List Entry) ClientFault → Type 0
-ListsAll n xs (Ok entries) = (parts : List (List Entry)) × (entries ≡ all_entries parts) × (xs ≡ listings n parts ++ asked (request.ReadDir (be64 n)) (reply.Status EndOfFile) ∷ [])
-ListsAll n xs (Err f) = (parts : List (List Entry)) × (last : List Exchange) × IsLast (request.ReadDir (be64 n)) last f × (xs ≡ listings n parts ++ last)
+ListsAll n xs r = (kept : List Exchange) × (after : List Exchange) × ListsOn n kept r × AllByRecursion (IsListing n) after × (xs ≡ kept ++ after)
 
 -- a vector's items, where there is one
 abbrev pub items_of : {X : Type 0} → Result (Vec X) ClientFault → Result (List X) ClientFault
@@ -108,7 +148,7 @@ items_of (Err f) = Err f
 -- CLOSE was sent after a fault, which is told unless the client fails here.
 abbrev pub EndsAfter : ℕ → ClientFault → ClientView → ClientFault → ClientView → Type 0
 EndsAfter n first v f w = ((f ≡ first) × ((r : Reply) × Exchanged v (asked (request.Close (be64 n)) r ∷ []) w))
-    ⊎ (((f ≡ fault.Stream) × Broke v w) ⊎ ((f ≡ fault.Protocol) × Unanswered v (request.Close (be64 n)) w))
+    ⊎ (((f ≡ fault.Stream) × Broke v w) ⊎ ((f ≡ fault.Protocol) × Unanswered v [] (request.Close (be64 n)) [] w))
 
 -- What CLOSE did to what came of a call by a handle. After a fault of the line or of the protocol it isn't sent.
 abbrev pub ClosesAfter : {X : Type 0} → ℕ → Result X ClientFault → ClientView → Result X ClientFault → ClientView → Type 0
@@ -140,11 +180,13 @@ told_of first (Err fault.OutOfMemory) = first
 told_of first (Err fault.Failed) = first
 
 -- EOF is no fault here: it says that there is nothing more
-abbrev pub unless_eof : {X : Type 0} → Result X ClientFault → Result (Option X) ClientFault
-unless_eof (Ok x) = Ok (Some x)
-unless_eof (Err (fault.Status EndOfFile)) = Ok None
-unless_eof (Err f) = Err f
+abbrev pub ended_by : {X : Type 0} → Option ClientFault → X → Result X ClientFault
+ended_by (Some (fault.Status EndOfFile)) x = Ok x
+ended_by (Some f) x = Err f
+ended_by None x = Ok x
 
-abbrev pub or_eof : {X : Type 0} → (X → Reply) → Option X → Reply
-or_eof told None = reply.Status EndOfFile
-or_eof told (Some x) = told x
+-- the replies that data, and names, tell
+abbrev pub told_by : {X : Type 0} → (X → Reply) → Result (Option X) ClientFault → Result (Option Reply) ClientFault
+told_by told (Ok (Some x)) = Ok (Some (told x))
+told_by told (Ok None) = Ok None
+told_by told (Err f) = Err f

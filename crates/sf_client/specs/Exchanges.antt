@@ -1,5 +1,5 @@
 -- Requests that were sent, and the replies that were taken for them.
-use Rattle.std.specs.Prelude.{◌≡◌, ◌≤◌, ◌+◌, ◌-◌, ◌^◌, ℕ, List, [], ◌∷◌, ◌++◌, length, Bool, true, false, Option, IfSome, ◌==◌, if◌then◌else◌}
+use Rattle.std.specs.Prelude.{◌≡◌, ◌≤◌, ◌+◌, ◌-◌, ◌^◌, ℕ, List, [], ◌∷◌, ◌++◌, length, Bool, true, false, Option, IfSome, map, ◌==◌, if◌then◌else◌}
 use Rattle.std.specs.List.{AllByRecursion}
 use Rattle.std.specs.Io.KnownBytes.{Appends, Consumes}
 use Rattle.sf_request.specs.declared.request.WireRequest.{WireRequest}
@@ -10,8 +10,9 @@ use Rattle.sf_field.specs.Fields.{packet, max_body}
 use Rattle.sf_client.specs.declared.due.Due.{Due}
 use Rattle.sf_client.specs.Dues.{due_of, is_due}
 
--- What can be seen of a client: the id of its next request, whether it has failed, what its line has still to give and
--- has taken where it tells that, and how many calls of its line failed.
+-- What can be seen of a client: the id of the next reply, and in step of the next request, whether
+-- it has failed, what its line has still to give and has taken where it tells that, and how many
+-- calls of its line failed.
 pub record ClientView : Type 0 where
   pub next : ℕ
   pub failed : Bool
@@ -27,14 +28,17 @@ pub record Exchange : Type 0 where
 abbrev pub id_after : ℕ → ℕ
 id_after id = if id == 2 ^ 32 - 1 then 0 else id + 1
 
-unfoldable pub last_id : ℕ → List Exchange → ℕ
+unfoldable pub last_id : {X : Type 0} → ℕ → List X → ℕ
 last_id id [] = id
 last_id id (x ∷ xs) = last_id (id_after id) xs
 
+abbrev pub requests_of : List Exchange → List WireRequest
+requests_of xs = map (λ (x : Exchange). x.request) xs
+
 -- the packets of the requests, and of the replies, which have the same ids
-unfoldable pub requests_from : ℕ → List Exchange → List ℕ
+unfoldable pub requests_from : ℕ → List WireRequest → List ℕ
 requests_from id [] = []
-requests_from id (x ∷ xs) = packet (request_body id x.request) ++ requests_from (id_after id) xs
+requests_from id (q ∷ qs) = packet (request_body id q) ++ requests_from (id_after id) qs
 
 unfoldable pub replies_from : ℕ → List Exchange → List ℕ
 replies_from id [] = []
@@ -44,29 +48,43 @@ replies_from id (x ∷ xs) = packet (reply_body id x.reply) ++ replies_from (id_
 abbrev pub IsDue : Exchange → Type 0
 IsDue x = is_due (due_of x.request) x.reply ≡ true
 
--- The client sent these requests, in order, and took their replies, and is in step.
-pub record Exchanged (v : ClientView) (xs : List Exchange) (w : ClientView) : Type 0 where
+-- The client sent these requests, in order, and took their replies. It has sent some later requests
+-- too, whose replies are due.
+pub record SentAhead (v : ClientView) (xs : List Exchange) (later : List WireRequest) (w : ClientView) : Type 0 where
   pub began : v.failed ≡ false
   pub going : w.failed ≡ false
   pub next : w.next ≡ last_id v.next xs
-  pub wrote : Appends v.outgoing w.outgoing (requests_from v.next xs)
+  pub wrote : Appends v.outgoing w.outgoing (requests_from v.next (requests_of xs ++ later))
   pub read : Consumes v.incoming w.incoming (replies_from v.next xs)
   pub due : AllByRecursion IsDue xs
   pub failures : v.failures ≤ w.failures
+
+-- Nothing more was sent: the client is in step.
+abbrev pub Exchanged : ClientView → List Exchange → ClientView → Type 0
+Exchanged v xs w = SentAhead v xs [] w
 
 -- No due reply under this id stands at the front of the input.
 abbrev pub HasNoReply : Option (List ℕ) → ℕ → Due → Type 0
 HasNoReply incoming id d = IfSome incoming (λ input. (r : Reply) (rest : List ℕ) → ReplyFits r → is_due d r ≡ true → length (reply_body id r) ≤ max_body
     → input ≡ packet (reply_body id r) ++ rest → ⊥)
 
--- A request was sent, and no due reply came for it. The client has failed.
-pub record Unanswered (v : ClientView) (q : WireRequest) (w : ClientView) : Type 0 where
-  pub began : v.failed ≡ false
+-- No due reply to a request that was sent stood where it had to. The client has failed.
+pub record Spoilt (v : ClientView) (q : WireRequest) (w : ClientView) : Type 0 where
   pub failed : w.failed ≡ true
-  pub wrote : Appends v.outgoing w.outgoing (packet (request_body v.next q))
+  pub outgoing : w.outgoing ≡ v.outgoing
   pub none : HasNoReply v.incoming v.next (due_of q)
 
--- A reply was taken, under the id of the request that was sent last.
+-- After these exchanges a request was sent, and maybe later ones, and no due reply came for it.
+abbrev pub Unanswered : ClientView → List Exchange → WireRequest → List WireRequest → ClientView → Type 0
+Unanswered v xs q later w = (u : ClientView) × SentAhead v xs (q ∷ later) u × Spoilt u q w
+
+-- These bytes were sent.
+pub record Sent (v : ClientView) (bytes : List ℕ) (w : ClientView) : Type 0 where
+  pub wrote : Appends v.outgoing w.outgoing bytes
+  pub client : w ≡ record v { outgoing = w.outgoing; failures = w.failures }
+  pub failures : v.failures ≤ w.failures
+
+-- A reply was taken, under the id of the first request whose reply was due.
 pub record Took (v : ClientView) (r : Reply) (w : ClientView) : Type 0 where
   pub same : w.failed ≡ v.failed
   pub next : w.next ≡ id_after v.next

@@ -1,20 +1,17 @@
 -- What came of a call.
-use Rattle.std.specs.Prelude.{◌≡◌, ◌≢◌, ◌≤◌, ◌+◌, ◌/◌, ◌*◌, ◌⊎◌, ℕ, zero, suc, List, [], ◌∷◌, ◌++◌, length, take, drop, Bool, true, false, Option, None, Result, Ok, Err}
-use Rattle.std.specs.List.{concat}
+use Rattle.std.specs.Prelude.{◌≡◌, ◌≤◌, ◌⊎◌, ℕ, List, [], ◌∷◌, true, false, Option, Result, Ok, Err}
 use Rattle.std.specs.Io.KnownBytes.{Consumes}
 use Rattle.sf_line.specs.Lines.{Rose}
 use Rattle.sf_field.specs.Fields.{packet}
 use Rattle.sf_reply.specs.Replies.{reply_body}
+use Rattle.sf_request.specs.Requests.{request_body}
 use Rattle.sf_request.specs.declared.request.WireRequest.{WireRequest}
-use Rattle.sf_request.specs.declared.request.WireRequest.TheVariants as request
 use Rattle.sf_reply.specs.declared.reply.Reply.{Reply}
-use Rattle.sf_reply.specs.declared.reply.Reply.TheVariants as reply
-use Rattle.sf_reply.specs.declared.reply.StatusCode.{StatusCode}
 use Rattle.sf_client.specs.declared.fault.ClientFault.{ClientFault}
 use Rattle.sf_client.specs.declared.fault.ClientFault.TheVariants as fault
 use Rattle.sf_client.specs.declared.due.Due.{Due}
-use Rattle.sf_client.specs.Dues.{Refuses, is_refusal, is_due}
-use Rattle.sf_client.specs.Exchanges.{ClientView, Exchange, Exchanged, Unanswered, Took, HasNoReply}
+use Rattle.sf_client.specs.Dues.{Refuses, is_due}
+use Rattle.sf_client.specs.Exchanges.{ClientView, Exchange, Exchanged, Unanswered, Sent, Took, HasNoReply}
 
 abbrev pub asked : WireRequest → Reply → Exchange
 asked q r = record { request = q; reply = r }
@@ -30,7 +27,7 @@ pub record Broke (v w : ClientView) : Type 0 where
 abbrev pub Comes : {X : Type 0} → (X → Reply) → ClientView → WireRequest → Result X ClientFault → ClientView → Type 0
 Comes told v q (Ok x) w = Exchanged v (asked q (told x) ∷ []) w
 Comes told v q (Err fault.Stream) w = Broke v w
-Comes told v q (Err fault.Protocol) w = Unanswered v q w
+Comes told v q (Err fault.Protocol) w = Unanswered v [] q [] w
 Comes told v q (Err (fault.Status code)) w = (r : Reply) × Refuses r code × Exchanged v (asked q r ∷ []) w
 Comes told v q (Err fault.OutOfMemory) w = (v.failed ≡ false) × ((w ≡ v) ⊎ ((r : Reply) × Exchanged v (asked q r ∷ []) w))
 Comes told v q (Err fault.Failed) w = (v.failed ≡ true) × (w ≡ v)
@@ -39,7 +36,7 @@ Comes told v q (Err fault.Failed) w = (v.failed ≡ true) × (w ≡ v)
 abbrev pub Settles : {X : Type 0} → (X → Reply) → ClientView → WireRequest → Result X ClientFault → ClientView → Type 0
 Settles told v q (Ok x) w = Exchanged v (asked q (told x) ∷ []) w
 Settles told v q (Err fault.Stream) w = Broke v w
-Settles told v q (Err fault.Protocol) w = Unanswered v q w
+Settles told v q (Err fault.Protocol) w = Unanswered v [] q [] w
 Settles told v q (Err (fault.Status code)) w = (r : Reply) × Refuses r code × Exchanged v (asked q r ∷ []) w
 Settles told v q (Err fault.OutOfMemory) w = (r : Reply) × Exchanged v (asked q r ∷ []) w
 Settles told v q (Err fault.Failed) w = ⊥
@@ -52,6 +49,15 @@ Takes v d (Err fault.Protocol) w = (w.failed ≡ true) × (w.outgoing ≡ v.outg
 Takes v d (Err (fault.Status code)) w = ⊥
 Takes v d (Err fault.OutOfMemory) w = (r : Reply) × (is_due d r ≡ true) × Took v r w
 Takes v d (Err fault.Failed) w = ⊥
+
+-- what came of sending a request under an id, with no wait for its reply
+abbrev pub Sends : ClientView → ℕ → WireRequest → Result (Unit {0}) ClientFault → ClientView → Type 0
+Sends v id q (Ok x) w = Sent v (packet (request_body id q)) w
+Sends v id q (Err fault.Stream) w = Broke v w
+Sends v id q (Err fault.Protocol) w = ⊥
+Sends v id q (Err (fault.Status code)) w = ⊥
+Sends v id q (Err fault.OutOfMemory) w = w ≡ v
+Sends v id q (Err fault.Failed) w = ⊥
 
 -- what came of reading a reply, under an id
 abbrev pub ReadsDue : Option (List ℕ) → Option (List ℕ) → ℕ → Due → Result Reply ClientFault → Type 0

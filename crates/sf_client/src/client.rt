@@ -1,6 +1,6 @@
 //! A client, and one request with its reply.
 
-ghost use Rattle.std.specs.Prelude.{◌≡◌, ◌≢◌, ◌+◌, ◌<◌, ◌≤◌, ◌^◌, ℕ, length, true, false, Ok, Err, IfOk, IfErr, OnOk, OnErr, vec_len, ◌⊎◌};
+ghost use Rattle.std.specs.Prelude.{◌≡◌, ◌≢◌, ◌+◌, ◌<◌, ◌≤◌, ◌^◌, ℕ, length, true, false, Ok, Err, IfOk, IfErr, OnOk, OnErr, vec_len, ◌⊎◌, None};
 ghost use Rattle.std.specs.Io.KnownBytes.{Appends, Consumes};
 ghost use Rattle.sf_line.specs.Lines.{Rose};
 ghost use Rattle.sf_field.specs.Fields.{be64, packet};
@@ -11,8 +11,9 @@ ghost use Rattle.sf_reply.specs.declared.reply.Reply.TheVariants.{Status};
 ghost use Rattle.sf_reply.specs.declared.reply.StatusCode.TheVariants.{Success};
 ghost use Rattle.sf_client.specs.Dues.{due_of, is_answer};
 ghost use Rattle.sf_client.specs.Exchanges.{id_after, IsGreeted, IsStarted, HasNoVersion};
-ghost use Rattle.sf_client.specs.Outcomes.{Broke, Comes, ReadsDue, Settles, Takes};
+ghost use Rattle.sf_client.specs.Outcomes.{Broke, Comes, ReadsDue, Sends, Settles, Takes};
 
+use crate::ahead::Ahead;
 use crate::due::{Due, find_due, refusal};
 use crate::fault::ClientFault;
 use crate::lines::read_packet;
@@ -25,7 +26,7 @@ use std::alloc::{AllocError, Global};
 use std::marker::Model;
 
 /// The id after this one.
-fn id_following(id: u32) -> u32
+pub(crate) fn id_following(id: u32) -> u32
     ensures { result ≡ id_after id }
 {
     if id == u32::MAX { 0 } else { id + 1 }
@@ -98,12 +99,13 @@ fn greet<L: Line>(line: &mut L, buffer: &mut [u8]) -> Result<(), ClientFault>
     }
 }
 
-/// A client of one session. It sends a request and takes its reply before it sends another.
+/// A client of one session. The calls of one request send it and take its reply; those by a handle
+/// send requests ahead, and take every reply before they return.
 #[derive(Drop)]
 pub struct Client<L: Line + Drop> {
     alloc: Global,
     line: L,
-    /// The id of the next request.
+    /// The id of the next reply; where none is due, of the next request.
     next: u32,
     /// The line failed, or gave another reply than the due one.
     failed: bool,
@@ -166,6 +168,13 @@ impl<L: Line + Drop> Client<L> {
         self.alloc
     }
 
+    /// Nothing is on its way yet.
+    pub(crate) fn ahead(&self) -> Ahead
+        ensures { result ≡ record { id = self.now.next; waiting = 0; dropped = 0; stopped = None } }
+    {
+        Ahead::from_id(self.next)
+    }
+
     /// Nothing is sent any more.
     fn fail(&mut self, fault: ClientFault) -> ClientFault
         ensures fault { result ≡ fault }
@@ -190,8 +199,19 @@ impl<L: Line + Drop> Client<L> {
         }
     }
 
-    /// The reply of the request that was sent last.
-    fn take_reply(&mut self, due: Due) -> Result<Reply, ClientFault>
+    /// Sends a request under this id, and waits for nothing. Want of memory sends nothing.
+    pub(crate) fn send_request(&mut self, id: u32, request: &WireRequest) -> Result<(), ClientFault>
+        requires { length (request_body id request.now) < 2 ^ 32 }
+        ensures { Sends self.old id request.now result self.new }
+    {
+        let Ok(packet) = packet_of(self.alloc, id, request) else {
+            return Err(ClientFault::OutOfMemory);
+        };
+        self.send(packet.as_slice())
+    }
+
+    /// The reply of the first request whose reply is due.
+    pub(crate) fn take_reply(&mut self, due: Due) -> Result<Reply, ClientFault>
         ensures { Takes self.old due result self.new }
     {
         match read_due(self.alloc, &mut self.line, &mut self.body, self.next, due) {

@@ -1,6 +1,6 @@
 //! The calls by a handle: it is opened, used and closed in one call.
 
-ghost use Rattle.std.specs.Prelude.{◌≡◌, ◌+◌, ◌<◌, ◌≤◌, ◌^◌, length, false, Ok, Err, IfOk, IfSome};
+ghost use Rattle.std.specs.Prelude.{◌≡◌, ◌≢◌, ◌+◌, ◌<◌, ◌≤◌, ◌^◌, length, false, Ok, Err, IfOk, IfSome, None, nat_lt};
 ghost use Rattle.sf_field.specs.Fields.{be64};
 ghost use Rattle.sf_reply.specs.declared.reply.StatusCode.TheVariants.{Success};
 ghost use Rattle.sf_field.specs.Attributes.{no_attrs};
@@ -9,8 +9,10 @@ ghost use Rattle.sf_request.specs.Requests.{request_body};
 ghost use Rattle.sf_reply.specs.declared.reply.Reply.TheVariants as reply;
 ghost use Rattle.sf_client.specs.Dues.{due_of};
 ghost use Rattle.sf_client.specs.Outcomes.{Comes};
-ghost use Rattle.sf_client.specs.Calls.{Does, ByHandle, ClosesAfter, EndsAfter, IsKept, told_of, unless_eof, or_eof, read_from, to_read, to_write, ReadsAll, WritesAll, ListsAll, items_of};
+ghost use Rattle.sf_client.specs.Ahead.{SendsOn, TakesOn, GathersPiece, GathersNames, most_ahead};
+ghost use Rattle.sf_client.specs.Calls.{Does, ByHandle, ClosesAfter, EndsAfter, IsKept, AsksSize, told_of, told_by, ended_by, read_from, to_read, to_write, Reads, ReadsAll, WritesAll, ListsAll, items_of};
 
+use crate::ahead::Ahead;
 use crate::client::Client;
 use crate::due::Due;
 use crate::fault::ClientFault;
@@ -22,6 +24,9 @@ use sf_request::{ByteStr, WireRequest};
 
 /// How many bytes a READ asks for, and a WRITE sends at most.
 const PIECE: usize = 32768;
+
+/// How many READDIRs are on their way at most.
+const LISTINGS: u32 = 2;
 
 /// READ alone.
 const TO_READ: OpenFlags = OpenFlags {
@@ -54,14 +59,42 @@ fn told_after(first: ClientFault, closing: Result<(), ClientFault>) -> ClientFau
     }
 }
 
-/// EOF says that there is nothing more.
-fn unless_ended<T: Drop>(came: Result<T, ClientFault>) -> Result<Option<T>, ClientFault>
-    ensures { result ≡ unless_eof came }
+/// Gathers a piece of a file, and answers whether it is a short one: those that follow it on their
+/// way are then dropped. Where there is no memory for it, nothing more is read.
+fn gather_piece(ahead: &mut Ahead, bytes: &mut Vec<u8>, piece: ByteString) -> bool
+    ensures short { result ≡ nat_lt (length piece) PIECE }
+    ensures gathers { GathersPiece bytes.old.items piece bytes.new.items ahead.old ahead.new }
 {
-    match came {
-        Ok(value) => Ok(Some(value)),
-        Err(ClientFault::Status(StatusCode::EndOfFile)) => Ok(None),
-        Err(fault) => Err(fault),
+    let short = piece.len() < PIECE;
+    if bytes.extend_from_slice(piece.as_slice()).is_err() {
+        ahead.stop(ClientFault::OutOfMemory);
+    } else if short {
+        ahead.drop_waiting();
+    }
+    short
+}
+
+/// Gathers some names. Where there is no memory for them, nothing more is listed.
+fn gather_names(ahead: &mut Ahead, entries: &mut Vec<Entry>, names: Listing)
+    ensures { GathersNames entries.old.items names entries.new.items ahead.old ahead.new }
+{
+    if names.append_to(entries).is_err() {
+        ahead.stop(ClientFault::OutOfMemory);
+    }
+}
+
+/// What was gathered, where EOF ended it.
+fn ended<T: Drop>(
+    stopped: Option<ClientFault>,
+    gathered: Gathered<T>,
+) -> Result<Gathered<T>, ClientFault>
+    requires { stopped ≢ None }
+    ensures { result ≡ ended_by stopped gathered }
+{
+    match stopped {
+        Some(ClientFault::Status(StatusCode::EndOfFile)) => Ok(gathered),
+        Some(fault) => Err(fault),
+        None => unreachable!(),
     }
 }
 
@@ -114,128 +147,208 @@ impl<L: Line + Drop> Client<L> {
         told_after(first, closing)
     }
 
-    /// Sends a READ.
-    fn read(&mut self, request: &WireRequest) -> Result<ByteString, ClientFault>
-        requires short { length (request_body self.old.next request.now) < 2 ^ 32 }
-        requires due { due_of request.now ≡ Due.Data 32768 }
-        ensures { Comes reply.Data self.old request.now result self.new }
-    {
-        match self.exchange(request) {
-            Ok(Reply::Data(bytes)) => Ok(bytes),
-            Ok(_) => unreachable!(),
-            Err(fault) => Err(fault),
-        }
-    }
-
-    /// Sends a READDIR.
-    fn names(&mut self, request: &WireRequest) -> Result<Listing, ClientFault>
-        requires short { length (request_body self.old.next request.now) < 2 ^ 32 }
-        requires due { due_of request.now ≡ Due.Names }
-        ensures comes { Comes reply.Names self.old request.now result self.new }
-        ensures some { IfOk result (λ entries. 0 < length entries) }
-    {
-        match self.exchange(request) {
-            Ok(Reply::Names(entries)) => Ok(entries),
-            Ok(_) => unreachable!(),
-            Err(fault) => Err(fault),
-        }
-    }
-
-    /// One read from the offset on; nothing at the end of the file.
-    fn read_piece(&mut self, handle: u64, offset: u64) -> Result<Option<ByteString>, ClientFault>
+    /// The size that FSTAT tells, for what it is worth: 0 where it is refused, or tells none.
+    fn told_size(&mut self, handle: u64) -> Result<u64, ClientFault>
         requires { self.old.failed ≡ false }
-        ensures { Comes (or_eof reply.Data) self.old (read_from handle offset) result self.new }
+        ensures { AsksSize handle self.old result self.new }
     {
         let number = handle.to_be_bytes();
         let handle = ByteStr::new(&number);
-        let came = self.read(&WireRequest::Read {
+        let attrs = match self.exchange(&WireRequest::FStat { handle }) {
+            Ok(Reply::Attrs(attrs)) => attrs,
+            Ok(_) => unreachable!(),
+            Err(ClientFault::Status(_)) => return Ok(0),
+            Err(fault) => return Err(fault),
+        };
+        Ok(attrs.size.unwrap_or(0))
+    }
+
+    /// Sends a READ.
+    fn ask_piece(
+        &mut self,
+        ahead: &mut Ahead,
+        handle: u64,
+        offset: u64,
+    ) -> Result<bool, ClientFault>
+        requires { ahead.old.waiting < most_ahead }
+        ensures { SendsOn self.old ahead.old (read_from handle offset) result self.new ahead.new }
+    {
+        let number = handle.to_be_bytes();
+        let handle = ByteStr::new(&number);
+        let request = WireRequest::Read {
             handle,
             offset,
             len: 32768,
-        });
-        unless_ended(came)
+        };
+        self.send_on(ahead, &request)
     }
 
-    /// The bytes of the file, read to its end.
-    fn read_all(&mut self, handle: u64) -> Result<Gathered<u8>, ClientFault>
+    /// Takes the bytes of a READ.
+    fn take_piece(&mut self, ahead: &mut Ahead) -> Result<Option<ByteString>, ClientFault>
+        requires { 0 < ahead.old.waiting }
+        ensures { TakesOn self.old ahead.old (Due.Data 32768) (told_by reply.Data result) self.new ahead.new }
+    {
+        match self.take_on(ahead, Due::Data(32768)) {
+            Ok(Some(Reply::Data(bytes))) => Ok(Some(bytes)),
+            Ok(Some(_)) => unreachable!(),
+            Ok(None) => Ok(None),
+            Err(fault) => Err(fault),
+        }
+    }
+
+    /// The bytes of the file, read to its end. READs go ahead up to the size that was told; after a
+    /// short piece those on their way are of no use, and the reading goes on one READ at a time.
+    fn read_pieces(&mut self, handle: u64, size: u64) -> Result<Gathered<u8>, ClientFault>
         requires { self.old.failed ≡ false }
-        ensures { Does (ReadsAll handle) self.old result self.new }
+        ensures { Does (Reads handle) self.old result self.new }
     {
         let mut bytes = Vec::new(self.alloc());
+        let mut ahead = self.ahead();
+        let mut expected = size;
         'pieces: loop {
-            match self.read_piece(handle, bytes.len() as u64) {
-                Ok(Some(piece)) => {
-                    if bytes.extend_from_slice(piece.as_slice()).is_err() {
-                        return Err(ClientFault::OutOfMemory);
-                    }
+            let offset = bytes.len() as u64 + u64::from(ahead.waiting) * PIECE as u64;
+            if ahead.has_room_at(offset, expected) {
+                match self.ask_piece(&mut ahead, handle, offset) {
+                    Ok(_) => {}
+                    Err(fault) => return Err(fault),
                 }
-                Ok(None) => return Ok(Gathered::from_vec(bytes)),
-                Err(fault) => return Err(fault),
+            } else if ahead.waiting > 0 {
+                match self.take_piece(&mut ahead) {
+                    Ok(Some(piece)) => {
+                        if gather_piece(&mut ahead, &mut bytes, piece) {
+                            expected = 0;
+                        }
+                    }
+                    Ok(None) => {}
+                    Err(fault) => return Err(fault),
+                }
+            } else {
+                return ended(ahead.stopped, Gathered::from_vec(bytes));
             }
         }
     }
 
-    /// Writes the bytes from the file's beginning on, in pieces.
+    /// The bytes of the file.
+    fn read_all(&mut self, handle: u64) -> Result<Gathered<u8>, ClientFault>
+        requires { self.old.failed ≡ false }
+        ensures { Does (ReadsAll handle) self.old result self.new }
+    {
+        match self.told_size(handle) {
+            Ok(size) => self.read_pieces(handle, size),
+            Err(fault) => Err(fault),
+        }
+    }
+
+    /// Sends a WRITE.
+    fn send_piece(
+        &mut self,
+        ahead: &mut Ahead,
+        handle: u64,
+        offset: u64,
+        piece: &[u8],
+    ) -> Result<bool, ClientFault>
+        requires short { length piece.now ≤ PIECE }
+        requires room { ahead.old.waiting < most_ahead }
+        ensures { SendsOn self.old ahead.old (request.Write (be64 handle) offset piece.now) result self.new ahead.new }
+    {
+        let number = handle.to_be_bytes();
+        let request = WireRequest::Write {
+            handle: ByteStr::new(&number),
+            offset,
+            data: ByteStr::new(piece),
+        };
+        self.send_on(ahead, &request)
+    }
+
+    /// Takes the STATUS OK of a WRITE.
+    fn take_success(&mut self, ahead: &mut Ahead) -> Result<Option<()>, ClientFault>
+        requires { 0 < ahead.old.waiting }
+        ensures { TakesOn self.old ahead.old Due.Success (told_by (λ _. reply.Status Success) result) self.new ahead.new }
+    {
+        match self.take_on(ahead, Due::Success) {
+            Ok(Some(_reply)) => Ok(Some(())),
+            Ok(None) => Ok(None),
+            Err(fault) => Err(fault),
+        }
+    }
+
+    /// Writes the bytes from the file's beginning on, in pieces that are sent ahead.
     fn write_pieces(&mut self, handle: u64, bytes: &[u8]) -> Result<(), ClientFault>
         requires { self.old.failed ≡ false }
         ensures { Does (WritesAll bytes.now handle) self.old result self.new }
     {
         let mut rest = bytes;
         let mut offset = 0;
-        while !rest.is_empty() {
-            let (piece, after) = rest.split_at(rest.len().min(PIECE));
-            if let Err(fault) = self.write_piece(handle, offset, piece) {
-                return Err(fault);
+        let mut ahead = self.ahead();
+        'pieces: loop {
+            if ahead.has_room() && !rest.is_empty() {
+                let (piece, after) = rest.split_at(rest.len().min(PIECE));
+                match self.send_piece(&mut ahead, handle, offset, piece) {
+                    Ok(true) => {
+                        offset += piece.len() as u64;
+                        rest = after;
+                    }
+                    Ok(false) => {}
+                    Err(fault) => return Err(fault),
+                }
+            } else if ahead.waiting > 0 {
+                match self.take_success(&mut ahead) {
+                    Ok(_) => {}
+                    Err(fault) => return Err(fault),
+                }
+            } else {
+                return match ahead.stopped {
+                    None => Ok(()),
+                    Some(fault) => Err(fault),
+                };
             }
-            offset += piece.len() as u64;
-            rest = after;
         }
-        Ok(())
     }
 
-    /// One write.
-    fn write_piece(&mut self, handle: u64, offset: u64, piece: &[u8]) -> Result<(), ClientFault>
-        requires going { self.old.failed ≡ false }
-        requires short { length piece.now ≤ PIECE }
-        ensures { Comes (λ _. reply.Status Success) self.old (request.Write (be64 handle) offset piece.now) result self.new }
+    /// Sends a READDIR.
+    fn ask_names(&mut self, ahead: &mut Ahead, handle: u64) -> Result<bool, ClientFault>
+        requires { ahead.old.waiting < most_ahead }
+        ensures { SendsOn self.old ahead.old (request.ReadDir (be64 handle)) result self.new ahead.new }
     {
         let number = handle.to_be_bytes();
         let handle = ByteStr::new(&number);
-        let data = ByteStr::new(piece);
-        self.done(&WireRequest::Write {
-            handle,
-            offset,
-            data,
-        })
+        self.send_on(ahead, &WireRequest::ReadDir { handle })
     }
 
-    /// Some more names; nothing at the end of the directory.
-    fn read_names(&mut self, handle: u64) -> Result<Option<Listing>, ClientFault>
-        requires { self.old.failed ≡ false }
-        ensures comes { Comes (or_eof reply.Names) self.old (request.ReadDir (be64 handle)) result self.new }
-        ensures some { IfOk result (λ found. IfSome found (λ entries. 0 < length entries)) }
+    /// Takes the names of a READDIR.
+    fn take_names(&mut self, ahead: &mut Ahead) -> Result<Option<Listing>, ClientFault>
+        requires { 0 < ahead.old.waiting }
+        ensures { TakesOn self.old ahead.old Due.Names (told_by reply.Names result) self.new ahead.new }
     {
-        let number = handle.to_be_bytes();
-        let handle = ByteStr::new(&number);
-        let came = self.names(&WireRequest::ReadDir { handle });
-        unless_ended(came)
+        match self.take_on(ahead, Due::Names) {
+            Ok(Some(Reply::Names(entries))) => Ok(Some(entries)),
+            Ok(Some(_)) => unreachable!(),
+            Ok(None) => Ok(None),
+            Err(fault) => Err(fault),
+        }
     }
 
-    /// The names of the directory, listed to its end.
+    /// The names of the directory, listed to its end, with one READDIR ahead.
     fn list_all(&mut self, handle: u64) -> Result<Gathered<Entry>, ClientFault>
         requires { self.old.failed ≡ false }
         ensures { Does (ListsAll handle) self.old result self.new }
     {
         let mut entries = Vec::new(self.alloc());
+        let mut ahead = self.ahead();
         'parts: loop {
-            match self.read_names(handle) {
-                Ok(Some(part)) => {
-                    if part.append_to(&mut entries).is_err() {
-                        return Err(ClientFault::OutOfMemory);
-                    }
+            if ahead.has_room() && ahead.waiting < LISTINGS {
+                match self.ask_names(&mut ahead, handle) {
+                    Ok(_) => {}
+                    Err(fault) => return Err(fault),
                 }
-                Ok(None) => return Ok(Gathered::from_vec(entries)),
-                Err(fault) => return Err(fault),
+            } else if ahead.waiting > 0 {
+                match self.take_names(&mut ahead) {
+                    Ok(Some(part)) => gather_names(&mut ahead, &mut entries, part),
+                    Ok(None) => {}
+                    Err(fault) => return Err(fault),
+                }
+            } else {
+                return ended(ahead.stopped, Gathered::from_vec(entries));
             }
         }
     }

@@ -1,6 +1,7 @@
 //! A client of the SSH File Transfer Protocol, version 3, over a line.
 #![tactic(auto)]
 
+mod ahead;
 mod calls;
 mod client;
 mod due;

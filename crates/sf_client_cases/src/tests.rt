@@ -1,7 +1,6 @@
-//! The client against the server, both over memory. A client waits for each reply, and a server over
-//! memory wants its input whole: so the server is first given the requests that the client should
-//! send, and the client then its replies. What the client sent is compared with what the server was
-//! given.
+//! The client against the server, both over memory. A server over memory wants its input whole: so it
+//! is first given the requests that the client should send, and the client then its replies. What the
+//! client sent is compared with what the server was given.
 
 use sf_cases::{StillClock, hex_bytes, whole};
 use sf_client::{Client, ClientFault};
@@ -67,11 +66,12 @@ fn tree(rt: HostRuntime) -> Result<(), Fail> {
             "0000000b 0b 00000006 00000002 2f61",
             "00000011 0c 00000007 00000008 0000000000000006",
             "00000011 0c 00000008 00000008 0000000000000006",
-            "00000011 04 00000009 00000008 0000000000000006",
-            "0000000b 0f 0000000a 00000002 2f61",
-            "0000000d 0d 0000000b 00000004 2f612f66",
-            "0000000b 0f 0000000c 00000002 2f61",
-            "0000000b 11 0000000d 00000002 2f61",
+            "00000011 0c 00000009 00000008 0000000000000006",
+            "00000011 04 0000000a 00000008 0000000000000006",
+            "0000000b 0f 0000000b 00000002 2f61",
+            "0000000d 0d 0000000c 00000004 2f612f66",
+            "0000000b 0f 0000000d 00000002 2f61",
+            "0000000b 11 0000000e 00000002 2f61",
         ],
     )?;
     let replies = replies(&rt, alloc, &requests)?;

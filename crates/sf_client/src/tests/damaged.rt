@@ -63,14 +63,15 @@ fn not_a_listing(rt: HostRuntime) -> Result<(), Fail> {
     is_no_listing(&rt, alloc, "00000009 68 00000002 00000000")
 }
 
-/// After HANDLE and DATA of so many bytes a file's reading is refused so.
+/// After HANDLE, ATTRS and DATA of so many bytes a file's reading is refused so.
 fn is_no_piece(rt: &impl Abort, alloc: Global, len: usize) -> Result<(), Fail>
     requires { len < 100000 }
 {
     let mut input = after_version(alloc, &packets(alloc, &[HANDLE])?)?;
     let data = vec![in alloc; 7u8; len]?;
     let data = string(alloc, data.as_slice())?;
-    write_reply(2, &Reply::Data(data), &mut input)?;
+    write_reply(2, &Reply::Attrs(NO_ATTRS), &mut input)?;
+    write_reply(3, &Reply::Data(data), &mut input)?;
     let mut client = client(alloc, input.as_slice())?;
     assert_eq!(rt; client.get(b"/f").err(), Some(ClientFault::Protocol));
     assert_eq!(rt; client.stat(b"/f"), Err(ClientFault::Failed));

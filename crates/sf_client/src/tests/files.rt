@@ -35,20 +35,28 @@ fn put(rt: HostRuntime) -> Result<(), Fail> {
     Ok(())
 }
 
-/// Two pieces and the end of the file; then a READ that is refused, and CLOSE all the same.
+/// FSTAT tells the size; a READ up to it is sent ahead, and after a short piece the others are dropped.
+/// Then a READ that is refused, and CLOSE all the same.
 #[test]
 fn get(rt: HostRuntime) -> Result<(), Fail> {
     let alloc = rt.alloc();
+    let told = Attrs {
+        size: Some(32768),
+        ..NO_ATTRS
+    };
     let mut input = after_version(alloc, b"")?;
     write_reply(1, &Reply::Handle(1), &mut input)?;
-    write_reply(2, &Reply::Data(string(alloc, b"abc")?), &mut input)?;
-    write_reply(3, &Reply::Data(string(alloc, b"de")?), &mut input)?;
-    write_reply(4, &Reply::Status(StatusCode::EndOfFile), &mut input)?;
-    put_success(&mut input, 5)?;
-    write_reply(6, &Reply::Handle(6), &mut input)?;
-    write_reply(7, &Reply::Status(StatusCode::PermissionDenied), &mut input)?;
-    put_success(&mut input, 8)?;
-    put_success(&mut input, 9)?;
+    write_reply(2, &Reply::Attrs(told), &mut input)?;
+    write_reply(3, &Reply::Data(string(alloc, b"abc")?), &mut input)?;
+    write_reply(4, &Reply::Data(string(alloc, b"xyz")?), &mut input)?;
+    write_reply(5, &Reply::Data(string(alloc, b"de")?), &mut input)?;
+    write_reply(6, &Reply::Status(StatusCode::EndOfFile), &mut input)?;
+    put_success(&mut input, 7)?;
+    write_reply(8, &Reply::Handle(6), &mut input)?;
+    write_reply(9, &Reply::Status(StatusCode::NoSuchFile), &mut input)?;
+    write_reply(10, &Reply::Status(StatusCode::PermissionDenied), &mut input)?;
+    put_success(&mut input, 11)?;
+    put_success(&mut input, 12)?;
     let mut client = client(alloc, input.as_slice())?;
     let bytes = client.get(b"/f")?;
     assert_eq!(rt; bytes.as_slice(), b"abcde".as_slice());
@@ -60,14 +68,17 @@ fn get(rt: HostRuntime) -> Result<(), Fail> {
         &[
             INIT,
             "00000013 03 00000001 00000002 2f66 00000001 00000000",
-            "0000001d 05 00000002 00000008 0000000000000001 0000000000000000 00008000",
-            "0000001d 05 00000003 00000008 0000000000000001 0000000000000003 00008000",
-            "0000001d 05 00000004 00000008 0000000000000001 0000000000000005 00008000",
-            "00000011 04 00000005 00000008 0000000000000001",
-            "00000013 03 00000006 00000002 2f67 00000001 00000000",
-            "0000001d 05 00000007 00000008 0000000000000006 0000000000000000 00008000",
-            "00000011 04 00000008 00000008 0000000000000006",
-            "0000000b 0f 00000009 00000002 2f61",
+            "00000011 08 00000002 00000008 0000000000000001",
+            "0000001d 05 00000003 00000008 0000000000000001 0000000000000000 00008000",
+            "0000001d 05 00000004 00000008 0000000000000001 0000000000008000 00008000",
+            "0000001d 05 00000005 00000008 0000000000000001 0000000000000003 00008000",
+            "0000001d 05 00000006 00000008 0000000000000001 0000000000000005 00008000",
+            "00000011 04 00000007 00000008 0000000000000001",
+            "00000013 03 00000008 00000002 2f67 00000001 00000000",
+            "00000011 08 00000009 00000008 0000000000000006",
+            "0000001d 05 0000000a 00000008 0000000000000006 0000000000000000 00008000",
+            "00000011 04 0000000b 00000008 0000000000000006",
+            "0000000b 0f 0000000c 00000002 2f61",
         ],
     )?;
     let line = client.into_line();
@@ -75,7 +86,42 @@ fn get(rt: HostRuntime) -> Result<(), Fail> {
     Ok(())
 }
 
-/// NAME twice, and the end of the directory.
+/// The second of 66 WRITEs is refused: those that were on their way are answered too, no other is
+/// sent, and the client is in step.
+#[test]
+fn put_refused(rt: HostRuntime) -> Result<(), Fail> {
+    let alloc = rt.alloc();
+    let bytes = vec![in alloc; 7u8; 66 * 32768]?;
+    let mut input = after_version(alloc, b"")?;
+    write_reply(1, &Reply::Handle(9), &mut input)?;
+    put_success(&mut input, 2)?;
+    write_reply(3, &Reply::Status(StatusCode::PermissionDenied), &mut input)?;
+    for id in 4..67 {
+        put_success(&mut input, id)?;
+    }
+    put_success(&mut input, 67)?;
+    put_success(&mut input, 68)?;
+    let mut client = client(alloc, input.as_slice())?;
+    let refused = ClientFault::Status(StatusCode::PermissionDenied);
+    assert_eq!(rt; client.put(b"/f", bytes.as_slice()).err(), Some(refused));
+    client.rmdir(b"/a")?;
+    let line = client.into_line();
+    let close = packets(
+        alloc,
+        &[
+            "00000011 04 00000043 00000008 0000000000000009",
+            "0000000b 0f 00000044 00000002 2f61",
+        ],
+    )?;
+    assert!(rt; line.output().ends_with(close.as_slice()));
+    assert_eq!(rt;
+        line.output().len(),
+        9 + 23 + 65 * (33 + 32768) + close.len()
+    );
+    Ok(())
+}
+
+/// NAME twice, and the end of the directory. One READDIR is sent ahead.
 #[test]
 fn list(rt: HostRuntime) -> Result<(), Fail> {
     let alloc = rt.alloc();
@@ -92,7 +138,8 @@ fn list(rt: HostRuntime) -> Result<(), Fail> {
     )?;
     let mut input = after_version(alloc, &replies)?;
     write_reply(4, &Reply::Status(StatusCode::EndOfFile), &mut input)?;
-    put_success(&mut input, 5)?;
+    write_reply(5, &Reply::Status(StatusCode::EndOfFile), &mut input)?;
+    put_success(&mut input, 6)?;
     let mut client = client(alloc, input.as_slice())?;
     let entries = client.list(b"/a")?;
     assert_eq!(rt; entries.len(), 2);
@@ -109,7 +156,8 @@ fn list(rt: HostRuntime) -> Result<(), Fail> {
             "00000011 0c 00000002 00000008 0000000000000001",
             "00000011 0c 00000003 00000008 0000000000000001",
             "00000011 0c 00000004 00000008 0000000000000001",
-            "00000011 04 00000005 00000008 0000000000000001",
+            "00000011 0c 00000005 00000008 0000000000000001",
+            "00000011 04 00000006 00000008 0000000000000001",
         ],
     )?;
     let line = client.into_line();

@@ -1,4 +1,4 @@
-use Rattle.std.proofs.Common.{take, ap, subst, arith}
+use Rattle.std.proofs.Common.{take, subst, arith}
 use Rattle.std.proofs.lemmas.List.{length-take-le}
 use Rattle.sf_client.specs.Exchanges.{HasNoVersion}
 use Rattle.sf_client.proofs.Steps.{no_version, other_version}

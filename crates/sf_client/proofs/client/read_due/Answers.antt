@@ -1,4 +1,4 @@
-use Rattle.std.proofs.Common.{take, length, arith}
+use Rattle.std.proofs.Common.{take, arith}
 use Rattle.std.proofs.lemmas.List.{length-take-le}
 use Rattle.sf_reply.specs.Reading.{reply_of}
 use Rattle.sf_client.proofs.Steps.{no_packet, no_due, a_reply}

@@ -1,6 +1,6 @@
 use Rattle.sf_field.specs.Attributes.{no_attrs}
 use Rattle.sf_request.specs.declared.request.WireRequest.TheVariants as request
-use Rattle.sf_client.specs.Calls.{to_read, to_write, ReadsAll, WritesAll, ListsAll}
+use Rattle.sf_client.specs.Calls.{to_read, ReadsAll}
 use Rattle.sf_client.proofs.Runs.{by_handle_unopened, by_handle_done}
 use Rattle.sf_client.proofs.client.Client.get_all.Goals as goal
 

@@ -1,4 +1,5 @@
-use Rattle.sf_client.proofs.Steps.{Sent, settled_err, settled_ok, settled_comes}
+use Rattle.sf_client.specs.Exchanges.{Sent}
+use Rattle.sf_client.proofs.Steps.{settled_err, settled_ok, settled_comes}
 use Rattle.sf_client.proofs.client.Client.settle.Goals as goal
 
 pub returns-in-Err-clause-comes : goal.returns-in-Err-clause-comes

@@ -1,24 +1,18 @@
-use Rattle.std.proofs.Common.{ℕ, List, Err, Result, subst, arith}
-use Rattle.sf_field.specs.Fields.{be64}
-use Rattle.sf_request.specs.declared.request.WireRequest.TheVariants as request
-use Rattle.sf_reply.specs.declared.reply.Reply.TheVariants.{Status}
-use Rattle.sf_reply.specs.declared.reply.StatusCode.TheVariants.{Success}
-use Rattle.sf_client.specs.Exchanges.{Exchanged}
-use Rattle.sf_client.specs.Outcomes.{Comes, asked}
-use Rattle.sf_client.proofs.Runs.{writes_none, write_more, write_fault, not_empty}
+use Rattle.sf_client.proofs.Writing.{write_none, write_sent, write_replied, write_failed, not_empty}
 use Rattle.sf_client.proofs.client.Client.write_pieces.Goals as goal
 
-pub loop-rest-init : goal.loop-rest-init
-loop-rest-init g c = writes_none _ c.args.handle c.args.bytes.now c.requires
+pub pieces-init : goal.pieces-init
+pieces-init g c = write_none c.args.handle c.args.bytes.now c.args.self.now c.ahead-ahead.result c.requires c.ahead-ahead.ensures
 
-pub returns-in-Err : goal.returns-in-Err
-returns-in-Err g c =
-    let some = not_empty c.is_empty.result c.loop-rest.rest.now c.is_empty.ensures c.loop-rest-test.true in
-    write_fault _ _ _ c.args.handle c.args.bytes.now c.loop-rest.rest.now c.loop-rest.offset c.min.result c.in-Err.fault c.loop-rest.invariant some c.min.ensures
-    (subst (λ (p : List ℕ). Comes {X = Unit {0}} (λ _. Status Success) c.loop-rest.self (request.Write (be64 c.args.handle) c.loop-rest.offset p) (Err c.in-Err.fault) c.write_piece.new.self) c.split_at.ensures.front c.in-Err.ensures)
+pub pieces-preserved-in-Ok-true : goal.pieces-preserved-in-Ok-true
+pieces-preserved-in-Ok-true g c =
+    let some = not_empty c.is_empty.result c.pieces.rest.now c.is_empty.ensures c.if-not-is_empty.true in
+    let h = rw (c.in-Ok-true.field-0-test, c.split_at.ensures.front) at c.in-Ok-true.ensures in
+    rw (c.split_at.ensures.front, c.split_at.ensures.back)
+    (write_sent c.args.handle c.args.bytes.now _ _ _ c.pieces.rest.now c.pieces.offset c.min.result c.pieces.ahead _ c.pieces.invariant some c.min.ensures (c.has_room.ensures.going c.if-has_room.true) (c.has_room.ensures.room c.if-has_room.true) h.0 h.1)
 
-pub loop-rest-preserved : goal.loop-rest-preserved
-loop-rest-preserved g c =
-    let some = not_empty c.is_empty.result c.loop-rest.rest.now c.is_empty.ensures c.loop-rest-test.true in
-    let ex = rw c.split_at.ensures.front at c.in_default.ensures in
-    rw (c.split_at.ensures.front, c.split_at.ensures.back) (write_more _ _ _ c.args.handle c.args.bytes.now c.loop-rest.rest.now c.loop-rest.offset c.min.result c.loop-rest.invariant some c.min.ensures ex)
+pub returns-in-Err-take_success : goal.returns-in-Err-take_success
+returns-in-Err-take_success g c = write_failed c.args.handle c.args.bytes.now _ _ _ _ _ _ _ c.in-Err-take_success.fault c.pieces.invariant c.if-ahead-gt0.true c.in-Err-take_success.ensures
+
+pub pieces-preserved : goal.pieces-preserved
+pieces-preserved g c = write_replied c.args.handle c.args.bytes.now _ _ _ _ _ _ _ c.in-Ok.field-0 c.pieces.invariant c.if-ahead-gt0.true c.in-Ok.ensures

@@ -1,11 +1,15 @@
-use Rattle.std.proofs.Common.{◌≡◌, ◌+◌, ◌*◌, ◌<◌, ℕ, length, drop}
-use Rattle.sf_client.specs.Exchanges.{Exchanged}
-use Rattle.sf_client.specs.Calls.{writes}
+use Rattle.std.proofs.Common.{◌+◌, ◌*◌, length, Option, Some, None, ℕ}
+use Rattle.sf_client.specs.declared.fault.ClientFault.{ClientFault}
+use Rattle.sf_client.proofs.Writing.{Writing}
 use Rattle.sf_client.proofs.client.Client.write_pieces.Given as goal
 
-abbrev pub invariant-loop-rest : goal.invariant-loop-rest
-invariant-loop-rest g l =
-    (k : ℕ) × (l.rest ≡ drop (k * 32768) l.bytes) × (l.offset + length l.rest ≡ length l.bytes) × (k * 32768 < length l.bytes + 32768) × Exchanged l.fn.self (writes l.handle l.bytes k) l.self
+abbrev pub invariant-pieces : goal.invariant-pieces
+invariant-pieces g l = Writing l.handle l.bytes l.fn.self l.rest l.offset l.ahead l.self
 
-abbrev pub decreases-loop-rest : goal.decreases-loop-rest
-decreases-loop-rest g l = length l.rest
+-- a stop comes once
+abbrev still : Option ClientFault → ℕ
+still None = 1
+still (Some f) = 0
+
+abbrev pub decreases-pieces : goal.decreases-pieces
+decreases-pieces g l = 2 * length l.rest + l.ahead.waiting + still l.ahead.stopped

@@ -1,0 +1,63 @@
+-- Requests that are sent before the replies of earlier ones are taken.
+use Rattle.std.specs.Prelude.{◌≡◌, ◌<◌, ◌+◌, ◌-◌, ◌≤◌, ◌⊎◌, ℕ, List, ◌++◌, length, Bool, true, false, Option, Some, None, Result, Ok, Err}
+use Rattle.sf_field.specs.Fields.{packet}
+use Rattle.sf_request.specs.declared.request.WireRequest.{WireRequest}
+use Rattle.sf_request.specs.Requests.{request_body}
+use Rattle.sf_reply.specs.declared.reply.Entry.{Entry}
+use Rattle.sf_reply.specs.declared.reply.Reply.{Reply}
+use Rattle.sf_client.specs.declared.ahead.Ahead.{Ahead}
+use Rattle.sf_client.specs.declared.due.Due.{Due}
+use Rattle.sf_client.specs.declared.fault.ClientFault.{ClientFault}
+use Rattle.sf_client.specs.declared.fault.ClientFault.TheVariants as fault
+use Rattle.sf_client.specs.Dues.{is_answer, is_refusal, is_due, Refuses}
+use Rattle.sf_client.specs.Exchanges.{ClientView, Sent, Took, HasNoReply, id_after}
+use Rattle.sf_client.specs.Outcomes.{Broke}
+
+-- how many requests are on their way at most
+abbrev pub most_ahead : ℕ
+most_ahead = 64
+
+-- the reply ends its call by this fault: it refuses by the code, or there was no memory for it
+abbrev pub EndsBy : Reply → ClientFault → Type 0
+EndsBy r fault.Stream = ⊥
+EndsBy r fault.Protocol = ⊥
+EndsBy r (fault.Status code) = Refuses r code
+EndsBy r fault.OutOfMemory = Unit {0}
+EndsBy r fault.Failed = ⊥
+
+-- A reply came and was dropped; or nothing was to be dropped, and this fault stops the sending.
+abbrev pub Misses : ClientFault → Ahead → Ahead → Type 0
+Misses f a b = ((0 < a.dropped) × (b ≡ record a { waiting = a.waiting - 1; dropped = a.dropped - 1 }))
+    ⊎ ((a.dropped ≡ 0) × (b ≡ record a { waiting = a.waiting - 1; dropped = a.waiting - 1; stopped = Some f }))
+
+-- what is made of a reply that came
+abbrev pub Keeps : Ahead → Reply → Option Reply → Ahead → Type 0
+Keeps a r (Some x) b = (x ≡ r) × (is_refusal r ≡ false) × (a.dropped ≡ 0) × (b ≡ record a { waiting = a.waiting - 1 })
+Keeps a r None b = (f : ClientFault) × ((a.dropped ≡ 0) → EndsBy r f) × Misses f a b
+
+-- what came of sending one more request; none was sent where there was no memory
+abbrev pub SendsOn : ClientView → Ahead → WireRequest → Result Bool ClientFault → ClientView → Ahead → Type 0
+SendsOn v a q (Ok true) w b = Sent v (packet (request_body a.id q)) w × (b ≡ record a { id = id_after a.id; waiting = a.waiting + 1 })
+SendsOn v a q (Ok false) w b = (w ≡ v) × (b ≡ record a { dropped = a.waiting; stopped = Some fault.OutOfMemory })
+SendsOn v a q (Err f) w b = (f ≡ fault.Stream) × Broke v w
+
+-- what came of taking the first of the replies that are due
+abbrev pub TakesOn : ClientView → Ahead → Due → Result (Option Reply) ClientFault → ClientView → Ahead → Type 0
+TakesOn v a d (Ok (Some r)) w b = (is_answer d r ≡ true) × (a.dropped ≡ 0) × Took v r w × (b ≡ record a { waiting = a.waiting - 1 })
+TakesOn v a d (Ok None) w b = (r : Reply) × (f : ClientFault) × (is_due d r ≡ true) × Took v r w × ((a.dropped ≡ 0) → EndsBy r f) × Misses f a b
+TakesOn v a d (Err fault.Stream) w b = Broke v w
+TakesOn v a d (Err fault.Protocol) w b = (w.failed ≡ true) × (w.outgoing ≡ v.outgoing) × HasNoReply v.incoming v.next d
+TakesOn v a d (Err (fault.Status code)) w b = ⊥
+TakesOn v a d (Err fault.OutOfMemory) w b = ⊥
+TakesOn v a d (Err fault.Failed) w b = ⊥
+
+-- there was no memory for what came: nothing more is sent
+abbrev pub RunsShort : Ahead → Ahead → Type 0
+RunsShort a b = b ≡ record a { dropped = a.waiting; stopped = Some fault.OutOfMemory }
+
+-- A piece was gathered. After a short one the replies that are still due are dropped.
+abbrev pub GathersPiece : List ℕ → List ℕ → List ℕ → Ahead → Ahead → Type 0
+GathersPiece old piece now a b = ((now ≡ old ++ piece) × (((length piece < 32768) × (b ≡ record a { dropped = a.waiting })) ⊎ ((32768 ≤ length piece) × (b ≡ a)))) ⊎ RunsShort a b
+
+abbrev pub GathersNames : List Entry → List Entry → List Entry → Ahead → Ahead → Type 0
+GathersNames old part now a b = ((now ≡ old ++ part) × (b ≡ a)) ⊎ RunsShort a b

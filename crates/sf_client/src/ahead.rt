@@ -1,0 +1,168 @@
+//! Requests on their way: they are sent before the replies of earlier ones are taken.
+
+ghost use Rattle.std.specs.Prelude.{◌≡◌, ◌≢◌, ◌+◌, ◌-◌, ◌<◌, ◌≤◌, ◌^◌, length, true, false, Some, None};
+ghost use Rattle.sf_request.specs.Requests.{request_body};
+ghost use Rattle.sf_client.specs.declared.fault.ClientFault.TheVariants as fault;
+ghost use Rattle.sf_client.specs.Exchanges.{id_after};
+ghost use Rattle.sf_client.specs.Ahead.{Misses, Keeps, SendsOn, TakesOn, most_ahead};
+
+use crate::client::{Client, id_following};
+use crate::due::{Due, refusal};
+use crate::fault::ClientFault;
+use sf_line::Line;
+use sf_reply::Reply;
+use sf_request::WireRequest;
+
+/// How many requests are on their way at most.
+const MOST: u32 = 64;
+
+/// Requests that were sent and whose replies are due, the oldest one first.
+#[derive(Clone, Copy, Debug, PartialEq, Eq)]
+pub(crate) struct Ahead {
+    /// The id of the next request.
+    pub(crate) id: u32,
+    /// How many replies are due.
+    pub(crate) waiting: u32,
+    /// How many of them, the first ones, are dropped when they come.
+    pub(crate) dropped: u32,
+    /// The fault after which nothing more is sent.
+    pub(crate) stopped: Option<ClientFault>,
+}
+
+impl Ahead {
+    /// Nothing is on its way.
+    pub(crate) fn from_id(id: u32) -> Ahead
+        ensures { result ≡ record { id = id; waiting = 0; dropped = 0; stopped = None } }
+    {
+        Ahead {
+            id,
+            waiting: 0,
+            dropped: 0,
+            stopped: None,
+        }
+    }
+
+    /// Whether one more request may be sent.
+    pub(crate) fn has_room(&self) -> bool
+        ensures room { result ≡ true → self.now.waiting < most_ahead }
+        ensures kept { result ≡ true → self.now.dropped ≡ 0 }
+        ensures going { result ≡ true → self.now.stopped ≡ None }
+        ensures none { result ≡ false → self.now.waiting ≡ 0 → self.now.dropped ≡ 0
+            → self.now.stopped ≢ None }
+    {
+        self.waiting < MOST && self.dropped == 0 && self.stopped.is_none()
+    }
+
+    /// Whether one more READ may be sent at this offset: beyond the expected size one at a time.
+    pub(crate) fn has_room_at(&self, offset: u64, expected: u64) -> bool
+        ensures room { result ≡ true → self.now.waiting < most_ahead }
+        ensures kept { result ≡ true → self.now.dropped ≡ 0 }
+        ensures going { result ≡ true → self.now.stopped ≡ None }
+        ensures none { result ≡ false → self.now.waiting ≡ 0 → self.now.dropped ≡ 0
+            → self.now.stopped ≢ None }
+    {
+        self.has_room() && (self.waiting == 0 || offset <= expected)
+    }
+
+    /// Drops the replies that are still due.
+    pub(crate) fn drop_waiting(&mut self)
+        ensures { self.new ≡ record self.old { dropped = self.old.waiting } }
+    {
+        self.dropped = self.waiting;
+    }
+
+    /// Nothing more is sent, and the replies that are still due are dropped.
+    pub(crate) fn stop(&mut self, fault: ClientFault)
+        ensures { self.new ≡ record self.old { dropped = self.old.waiting; stopped = Some fault } }
+    {
+        self.dropped = self.waiting;
+        self.stopped = Some(fault);
+    }
+
+    /// One more request is on its way.
+    fn add(&mut self)
+        requires { self.old.waiting < most_ahead }
+        ensures { self.new
+            ≡ record self.old { id = id_after self.old.id; waiting = self.old.waiting + 1 } }
+    {
+        self.id = id_following(self.id);
+        self.waiting += 1;
+    }
+
+    /// A reply came: nothing where it is dropped, or refuses.
+    fn kept(&mut self, reply: Reply) -> Option<Reply>
+        requires { 0 < self.old.waiting }
+        ensures { Keeps self.old reply result self.new }
+    {
+        self.waiting -= 1;
+        if self.dropped > 0 {
+            self.dropped -= 1;
+            return None;
+        }
+        match refusal(&reply) {
+            None => Some(reply),
+            Some(code) => {
+                self.stop(ClientFault::Status(code));
+                None
+            }
+        }
+    }
+
+    /// A reply came for which there was no memory.
+    fn missed(&mut self)
+        requires { 0 < self.old.waiting }
+        ensures { Misses fault.OutOfMemory self.old self.new }
+    {
+        self.waiting -= 1;
+        if self.dropped > 0 {
+            self.dropped -= 1;
+        } else {
+            self.stop(ClientFault::OutOfMemory);
+        }
+    }
+}
+
+impl<L: Line + Drop> Client<L> {
+    /// Sends a request, and waits for nothing; whether there was memory for it.
+    pub(crate) fn send_on(
+        &mut self,
+        ahead: &mut Ahead,
+        request: &WireRequest,
+    ) -> Result<bool, ClientFault>
+        requires short { length (request_body ahead.old.id request.now) < 2 ^ 32 }
+        requires room { ahead.old.waiting < most_ahead }
+        ensures { SendsOn self.old ahead.old request.now result self.new ahead.new }
+    {
+        match self.send_request(ahead.id, request) {
+            Ok(()) => {
+                ahead.add();
+                Ok(true)
+            }
+            Err(ClientFault::OutOfMemory) => {
+                ahead.stop(ClientFault::OutOfMemory);
+                Ok(false)
+            }
+            Err(fault) => Err(fault),
+        }
+    }
+
+    /// Takes the first of the replies that are due. Nothing where it is dropped, refuses, or finds no
+    /// memory.
+    pub(crate) fn take_on(
+        &mut self,
+        ahead: &mut Ahead,
+        due: Due,
+    ) -> Result<Option<Reply>, ClientFault>
+        requires { 0 < ahead.old.waiting }
+        ensures { TakesOn self.old ahead.old due result self.new ahead.new }
+    {
+        match self.take_reply(due) {
+            Ok(reply) => Ok(ahead.kept(reply)),
+            Err(ClientFault::OutOfMemory) => {
+                ahead.missed();
+                Ok(None)
+            }
+            Err(fault) => Err(fault),
+        }
+    }
+}
