@@ -15,7 +15,16 @@ use std::collections::BTreeMap;
 use std::collections::btree_map::Iter;
 use std::marker::Model;
 
-/// How far a call has walked along the path of its request.
+/// A directory that a call has come to.
+#[derive(Clone, Copy, Debug, PartialEq, Eq)]
+pub struct Reached {
+    /// How many names of a path lead to it from the root.
+    pub walked: usize,
+    /// The directory's number in the store.
+    pub node: usize,
+}
+
+/// How far a call has walked along the paths of its request.
 #[derive(Clone, Copy, Debug, PartialEq, Eq)]
 pub enum Stage {
     /// It holds nothing yet.
@@ -25,6 +34,13 @@ pub enum Stage {
         walked: usize,
         /// The directory's number in the store.
         node: usize,
+    },
+    /// A rename where its paths have parted: it holds the last directory that they have in common, and
+    /// one on the way of each.
+    Ends {
+        common: Reached,
+        old: Reached,
+        new: Reached,
     },
 }
 

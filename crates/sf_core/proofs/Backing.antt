@@ -12,7 +12,7 @@ use Rattle.sf_inode.specs.Stores.{StoreState}
 use Rattle.sf_coupling.specs.Walks.{Spot, Standing, Holds}
 use Rattle.sf_coupling.specs.Walks.Standing.{Fresh}
 use Rattle.sf_coupling.proofs.Laws.{same_or_not}
-use Rattle.sf_walk.specs.Ways.{path_of}
+use Rattle.sf_walk.specs.Ways.{path_of, other_of}
 use Rattle.sf_core.specs.Cores.{call_at}
 use Rattle.sf_core.specs.Progress.{reply_of}
 use Rattle.sf_core.specs.Parts.{PartsView}
@@ -58,6 +58,7 @@ same_parts p history sound = record {
 freed_looks : (g : Stage) (s : StoreState) → (freed g s).look_ups ≡ s.look_ups
 freed_looks stage.Fresh s = refl
 freed_looks (stage.At w node) s = refl
+freed_looks (stage.Ends common old new) s = refl
 
 -- one call is set back
 module _ (p : PartsView) (history : List Record) (sound : Sound p history) (n : ℕ) (c : Call) (at : call_at p.calls n ≡ Some c) (undecided : reply_of c ≡ None) where
@@ -74,7 +75,7 @@ module _ (p : PartsView) (history : List Record) (sound : Sound p history) (n : 
   one_back = record {
     sound = sound_staged p history sound n c at undecided (freed c.stage p.store) stage.Fresh
         (freed_keeps c.stage p.store (replay history) sound.keeps)
-        (reset_keeps p.store n (path_of c.request) c.stage (standings p.calls) sound.walks (ap (option_map standing_of) at)
+        (reset_keeps p.store n (path_of c.request) (other_of c.request) c.stage (standings p.calls) sound.walks (ap (option_map standing_of) at)
         (standings (staged p.calls n stage.Fresh)) (ap (option_map standing_of) here) (λ m ne. ap (option_map standing_of) (other m ne)))
         tt;
     terrain = freed_terrain c.stage p.store;

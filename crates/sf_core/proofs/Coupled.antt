@@ -1,9 +1,8 @@
 -- The facts about walks after a step and after a decision.
-use Rattle.std.specs.Prelude.{◌≡◌, ◌≢◌, ◌<◌, ◌+◌, ℕ, List, [], length, take, option_map, option_and_then, Option, Some, None, refl}
-use Rattle.std.proofs.Common.{sym, ap, subst, ◌∙◌, inl, inr, arith, get_or, add-one}
-use Rattle.std.proofs.Math.Seq.{take-suc}
-use Rattle.std.proofs.lemmas.List.{length-take}
-use Rattle.sf_path.specs.Names.{Path}
+use Rattle.std.specs.Prelude.{◌≡◌, ◌≢◌, ◌⊎◌, ℕ, List, [], ◌∷◌, ◌++◌, length, option_map, option_and_then, Option, Some, None, refl}
+use Rattle.std.proofs.Common.{sym, ap, subst, ◌∙◌, inl, inr, arith}
+use Rattle.std.proofs.lemmas.List.{length-append}
+use Rattle.sf_path.specs.Names.{Name, Path}
 use Rattle.sf_call.specs.declared.record.Record.{Record}
 use Rattle.sf_call.specs.Tree.{label_at}
 use Rattle.sf_call.specs.Histories.{replay, IsLegal}
@@ -18,8 +17,8 @@ use Rattle.sf_coupling.specs.Walks.{Spot, Standing, Holds, LeadsTo, scene, AreWa
 use Rattle.sf_coupling.specs.Walks.Standing.{Fresh, At}
 use Rattle.sf_coupling.proofs.Laws.{same_or_not}
 use Rattle.sf_coupling.proofs.Laws.{step_keeps}
-use Rattle.sf_coupling.specs.Stepping.Takes.{First, Next}
-use Rattle.sf_walk.specs.Steps.{IsOnWay, IsFree}
+use Rattle.sf_coupling.specs.Stepping.{Takes as Goes, EndStep, EndMoves}
+use Rattle.sf_walk.specs.Steps.{IsFree, leaving}
 use Rattle.sf_core.specs.Sound.{terrain}
 use Rattle.sf_core.proofs.Holding.{SameTerrain, leads_same, same_trans, same_nodes, walks_on, same_held, holder_other, holder_here, holder_freed}
 
@@ -35,124 +34,180 @@ led_once s history legal keeps p q l wp wq =
     λ x w. label_found s (replay history) keeps x ∙ ap (λ (o : Option ℕ). option_map (λ (y : Node). y.label) (option_and_then (node_in s.nodes) o)) w ∙ ap (option_map (λ (y : Node). y.label)) node.1 in
     one_path history p q node.0.label legal (label p wp) (label q wq)
 
--- ---- a step
+-- ---- a step to a directory that no other call holds
 module _ (old : StoreState) (history : List Record) (legal : IsLegal history) (keeps : Keeps old (replay history))
     (f : ℕ → Option Standing) (n : ℕ) (walks : AreWalks (scene (terrain old) f (holder_of old.nodes)))
-    (path : Path) (node : ℕ) (free : IsFree old n node) where
-  -- from nowhere to the root
-  module _ (way : IsOnWay old path 0 node) (own : f n ≡ Some Fresh) where
-    new_first : StoreState
-    new_first = edited (with_holder (Some n)) old node
+    (q : Spot) (free : IsFree old n q.node) (led : LeadsTo (terrain old) q) where
+  there : (x : Node) × (node_in old.nodes q.node ≡ Some x)
+  there = reached_node old (replay history) keeps q.path q.node led.names
 
-    spot_first : Spot
-    spot_first = record { path = take 0 path; node = node }
+  -- the store where the call holds the directory as well
+  abbrev holding : StoreState → StoreState
+  holding s = edited (with_holder (Some n)) s q.node
 
-    held_first : HoldsInstead (holder_of old.nodes) (holder_of (edited (with_holder (Some n)) old node).nodes) n (Some (At (record { path = take 0 path; node = node })))
-    held_first =
-        let there = reached_node old (replay history) keeps (take 0 path) node way.leads in
-        let here = holder_here (Some n) old node there.0 there.1 in
-        record {
-          own = λ s h. ap (λ (x : Spot). holder_of (edited (with_holder (Some n)) old node).nodes x.node) h ∙ here;
-          only = λ l at. elim (same_or_not l node) [
-            | inl e ↦ (record { path = take 0 path; node = node }, refl, sym e)
-            | inr ne ↦
-                let w = walks.holds l n (sym (holder_other (Some n) old node l ne) ∙ at) in
-                let g : w.0 ≡ Fresh = let x : Some w.0 ≡ Some Fresh = sym w.2 ∙ own in cc in
-                absurd (subst (λ (x : Standing). Holds x w.1) g w.3)
-          ];
-          others = λ l m other at. elim (same_or_not l node) [
-            | inl e ↦ absurd (other (free m (ap (holder_of old.nodes) (sym e) ∙ at)))
-            | inr ne ↦ holder_other (Some n) old node l ne ∙ at
-          ];
-          no_more = λ l m other at. elim (same_or_not l node) [
-            | inl e ↦ absurd (other (some_is n m (sym here ∙ ap (holder_of (edited (with_holder (Some n)) old node).nodes) (sym e) ∙ at)))
-            | inr ne ↦ sym (holder_other (Some n) old node l ne) ∙ at
-          ];
-        }
+  here : (s : StoreState) → s.nodes ≡ old.nodes → holder_of (edited (with_holder (Some n)) s q.node).nodes q.node ≡ Some n
+  here s e = holder_here (Some n) s q.node there.0 (ap (λ (ns : List (Option Node)). node_in ns q.node) e ∙ there.1)
 
-    pub first_keeps : (f' : ℕ → Option Standing) → f' n ≡ Some (At (record { path = take 0 path; node = node })) → ((m : ℕ) → n ≢ m → f' m ≡ f m)
-        → AreWalks (scene (terrain (edited (with_holder (Some n)) old node)) f' (holder_of (edited (with_holder (Some n)) old node).nodes))
-    first_keeps f' set same =
-        walks_on (terrain old) (terrain (edited (with_holder (Some n)) old node)) f' (holder_of (edited (with_holder (Some n)) old node).nodes)
-        (leads_same old (edited (with_holder (Some n)) old node) (same_held (Some n) old node))
-        (step_keeps (terrain old) f (holder_of old.nodes) n walks (record { path = take 0 path; node = node }) (λ m at. free m at)
-        (record { names = way.leads; directory = way.directory }) f' (holder_of (edited (with_holder (Some n)) old node).nodes) Fresh (At (record { path = take 0 path; node = node })) (First refl) own set same held_first)
+  -- one name further is another directory
+  differ : (p : Spot) (x : Name) → LeadsTo (terrain old) p → q.path ≡ p.path ++ x ∷ [] → q.node ≢ p.node
+  differ p x leads is e =
+      let same = led_once old history legal keeps q.path p.path p.node (led.names ∙ ap Some e) leads.names in
+      let lengths = ap (λ (r : Path). length r) (sym same ∙ is) in
+      absurd (omega (arith, lengths, length-append p.path (x ∷ [])))
 
-  -- from a directory to one below it
-  module _ (walked above : ℕ) (way : IsOnWay old path (walked + 1) node) (own : f n ≡ Some (At (record { path = take walked path; node = above }))) where
-    holding : StoreState
-    holding = edited (with_holder (Some n)) (looked_up old) node
+  -- the facts about walks, where the terrain is the same
+  kept : (new : StoreState) (g g' : Standing) → SameTerrain old new → Goes q g g' → f n ≡ Some g → HoldsInstead (holder_of old.nodes) (holder_of new.nodes) n (Some g')
+      → (f' : ℕ → Option Standing) → f' n ≡ Some g' → ((m : ℕ) → n ≢ m → f' m ≡ f m) → AreWalks (scene (terrain new) f' (holder_of new.nodes))
+  kept new g g' terrain_same goes own instead f' set same =
+      walks_on (terrain old) (terrain new) f' (holder_of new.nodes) (leads_same old new terrain_same)
+      (step_keeps (terrain old) f (holder_of old.nodes) n walks q (λ m at. free m at) led f' (holder_of new.nodes) g g' goes own set same instead)
 
-    there : (x : Node) × (node_in old.nodes node ≡ Some x)
-    there = reached_node old (replay history) keeps (take (walked + 1) path) node way.leads
+  -- what is held that is not the directory itself was held before
+  was_free : (m l : ℕ) → n ≢ m → l ≡ q.node → holder_of old.nodes l ≡ Some m → ⊥
+  was_free m l other e at = other (free m (ap (holder_of old.nodes) (sym e) ∙ at))
 
-    above_leads : LeadsTo (terrain old) (record { path = take walked path; node = above })
-    above_leads = walks.leads n (At (record { path = take walked path; node = above })) (record { path = take walked path; node = above }) own refl
-
-    above_held : holder_of old.nodes above ≡ Some n
-    above_held = walks.held n (At (record { path = take walked path; node = above })) (record { path = take walked path; node = above }) own refl
-
-    differ : node ≢ above
-    differ e =
-        let same = led_once old history legal keeps (take (walked + 1) path) (take walked path) above (way.leads ∙ ap Some e) above_leads.names in
-        let lengths = ap (λ (q : Path). length q) same in
-        let short = way.short in
-        absurd (omega (arith, lengths, length-take (walked + 1) path, length-take walked path, short))
-
-    holder_node : holder_of (edited (with_holder None) (edited (with_holder (Some n)) (looked_up old) node) above).nodes node ≡ Some n
-    holder_node = holder_other None (edited (with_holder (Some n)) (looked_up old) node) above node differ ∙ holder_here (Some n) (looked_up old) node there.0 there.1
-
-    holder_above : holder_of (edited (with_holder None) (edited (with_holder (Some n)) (looked_up old) node) above).nodes above ≡ None
-    holder_above = holder_freed (edited (with_holder (Some n)) (looked_up old) node) above
-
-    holder_rest : (l : ℕ) → l ≢ node → l ≢ above → holder_of (edited (with_holder None) (edited (with_holder (Some n)) (looked_up old) node) above).nodes l ≡ holder_of old.nodes l
-    holder_rest l a b = holder_other None (edited (with_holder (Some n)) (looked_up old) node) above l b ∙ holder_other (Some n) (looked_up old) node l a
-
-    held_next : HoldsInstead (holder_of old.nodes) (holder_of (edited (with_holder None) (edited (with_holder (Some n)) (looked_up old) node) above).nodes) n (Some (At (record { path = take (walked + 1) path; node = node })))
-    held_next = record {
-      own = λ s h. ap (λ (x : Spot). holder_of (edited (with_holder None) (edited (with_holder (Some n)) (looked_up old) node) above).nodes x.node) h ∙ holder_node;
-      only = λ l at. elim (same_or_not l node) [
-        | inl e ↦ (record { path = take (walked + 1) path; node = node }, refl, sym e)
-        | inr a ↦ elim (same_or_not l above) [
-          | inl e ↦ let x : None ≡ Some n = sym holder_above ∙ (ap (holder_of (edited (with_holder None) (edited (with_holder (Some n)) (looked_up old) node) above).nodes) (sym e) ∙ at) in absurd (let z : ⊥ = cc in z)
-          | inr b ↦
-              let w = walks.holds l n (sym (holder_rest l a b) ∙ at) in
-              let g : w.0 ≡ At (record { path = take walked path; node = above }) = let x : Some w.0 ≡ Some (At (record { path = take walked path; node = above })) = sym w.2 ∙ own in cc in
-              let s : w.1 ≡ record { path = take walked path; node = above } = subst (λ (x : Standing). Holds x w.1) g w.3 in
-              absurd (b (sym w.4 ∙ ap (λ (x : Spot). x.node) s))
-        ]
+  -- where it stands afterwards at that directory alone
+  module _ (g' : Standing) (one : (s : Spot) → Holds g' s → s ≡ q) (has : Holds g' q) where
+    held_first : f n ≡ Some Fresh → HoldsInstead (holder_of old.nodes) (holder_of (edited (with_holder (Some n)) old q.node).nodes) n (Some g')
+    held_first own = record {
+      own = λ s h. ap (λ (x : Spot). holder_of (edited (with_holder (Some n)) old q.node).nodes x.node) (one s h) ∙ here old refl;
+      only = λ l at. elim (same_or_not l q.node) [
+        | inl e ↦ (q, has, sym e)
+        | inr ne ↦
+            let w = walks.holds l n (sym (holder_other (Some n) old q.node l ne) ∙ at) in
+            let g : w.0 ≡ Fresh = let x : Some w.0 ≡ Some Fresh = sym w.2 ∙ own in cc in
+            absurd (subst (λ (x : Standing). Holds x w.1) g w.3)
       ];
-      others = λ l m other at. elim (same_or_not l node) [
-        | inl e ↦ absurd (other (free m (ap (holder_of old.nodes) (sym e) ∙ at)))
-        | inr a ↦ elim (same_or_not l above) [
-          | inl e ↦ absurd (other (some_is n m (sym above_held ∙ ap (holder_of old.nodes) (sym e) ∙ at)))
-          | inr b ↦ holder_rest l a b ∙ at
-        ]
+      others = λ l m other at. elim (same_or_not l q.node) [
+        | inl e ↦ absurd (was_free m l other e at)
+        | inr ne ↦ holder_other (Some n) old q.node l ne ∙ at
       ];
-      no_more = λ l m other at. elim (same_or_not l node) [
-        | inl e ↦ absurd (other (some_is n m (sym holder_node ∙ ap (holder_of (edited (with_holder None) (edited (with_holder (Some n)) (looked_up old) node) above).nodes) (sym e) ∙ at)))
-        | inr a ↦ elim (same_or_not l above) [
-          | inl e ↦ let x : None ≡ Some m = sym holder_above ∙ (ap (holder_of (edited (with_holder None) (edited (with_holder (Some n)) (looked_up old) node) above).nodes) (sym e) ∙ at) in absurd (let z : ⊥ = cc in z)
-          | inr b ↦ sym (holder_rest l a b) ∙ at
-        ]
+      no_more = λ l m other at. elim (same_or_not l q.node) [
+        | inl e ↦ absurd (other (some_is n m (sym (here old refl) ∙ ap (holder_of (edited (with_holder (Some n)) old q.node).nodes) (sym e) ∙ at)))
+        | inr ne ↦ sym (holder_other (Some n) old q.node l ne) ∙ at
       ];
     }
 
-    same_next : SameTerrain old (edited (with_holder None) (edited (with_holder (Some n)) (looked_up old) node) above)
-    same_next =
-        same_trans old (edited (with_holder (Some n)) (looked_up old) node) (edited (with_holder None) (edited (with_holder (Some n)) (looked_up old) node) above)
-        (same_trans old (looked_up old) (edited (with_holder (Some n)) (looked_up old) node) (same_nodes old (looked_up old) refl refl) (same_held (Some n) (looked_up old) node))
-        (same_held None (edited (with_holder (Some n)) (looked_up old) node) above)
+    -- from nowhere to the root
+    pub first_keeps : Goes q Fresh g' → f n ≡ Some Fresh → (f' : ℕ → Option Standing) → f' n ≡ Some g' → ((m : ℕ) → n ≢ m → f' m ≡ f m)
+        → AreWalks (scene (terrain (edited (with_holder (Some n)) old q.node)) f' (holder_of (edited (with_holder (Some n)) old q.node).nodes))
+    first_keeps goes own f' set same = kept (edited (with_holder (Some n)) old q.node) Fresh g' (same_held (Some n) old q.node) goes own (held_first own) f' set same
 
-    short : walked < length path
-    short = let s = way.short in omega (arith, s)
+    -- from a directory to one below it
+    module _ (p : Spot) (x : Name) (is : q.path ≡ p.path ++ x ∷ []) (own : f n ≡ Some (At p)) where
+      abbrev next : StoreState
+      next = edited (with_holder None) (edited (with_holder (Some n)) (looked_up old) q.node) p.node
 
-    pub next_keeps : (f' : ℕ → Option Standing) → f' n ≡ Some (At (record { path = take (walked + 1) path; node = node })) → ((m : ℕ) → n ≢ m → f' m ≡ f m)
-        → AreWalks (scene (terrain (edited (with_holder None) (edited (with_holder (Some n)) (looked_up old) node) above)) f' (holder_of (edited (with_holder None) (edited (with_holder (Some n)) (looked_up old) node) above).nodes))
-    next_keeps f' set same =
-        walks_on (terrain old) (terrain (edited (with_holder None) (edited (with_holder (Some n)) (looked_up old) node) above)) f' (holder_of (edited (with_holder None) (edited (with_holder (Some n)) (looked_up old) node) above).nodes)
-        (leads_same old (edited (with_holder None) (edited (with_holder (Some n)) (looked_up old) node) above) same_next)
-        (step_keeps (terrain old) f (holder_of old.nodes) n walks (record { path = take (walked + 1) path; node = node }) (λ m at. free m at)
-        (record { names = way.leads; directory = way.directory }) f' (holder_of (edited (with_holder None) (edited (with_holder (Some n)) (looked_up old) node) above).nodes)
-        (At (record { path = take walked path; node = above })) (At (record { path = take (walked + 1) path; node = node }))
-        (Next (record { path = take walked path; node = above }) (get_or path walked []) (ap (λ j. take j path) (add-one walked) ∙ take-suc path walked [] short)) own set same held_next)
+      above_leads : LeadsTo (terrain old) p
+      above_leads = walks.leads n (At p) p own refl
+
+      above_held : holder_of old.nodes p.node ≡ Some n
+      above_held = walks.held n (At p) p own refl
+
+      apart : q.node ≢ p.node
+      apart = differ p x above_leads is
+
+      holder_node : holder_of (edited (with_holder None) (edited (with_holder (Some n)) (looked_up old) q.node) p.node).nodes q.node ≡ Some n
+      holder_node = holder_other None (edited (with_holder (Some n)) (looked_up old) q.node) p.node q.node apart ∙ here (looked_up old) refl
+
+      holder_above : holder_of (edited (with_holder None) (edited (with_holder (Some n)) (looked_up old) q.node) p.node).nodes p.node ≡ None
+      holder_above = holder_freed (edited (with_holder (Some n)) (looked_up old) q.node) p.node
+
+      holder_rest : (l : ℕ) → l ≢ q.node → l ≢ p.node → holder_of (edited (with_holder None) (edited (with_holder (Some n)) (looked_up old) q.node) p.node).nodes l ≡ holder_of old.nodes l
+      holder_rest l a b = holder_other None (edited (with_holder (Some n)) (looked_up old) q.node) p.node l b ∙ holder_other (Some n) (looked_up old) q.node l a
+
+      none_above : (l m : ℕ) → l ≡ p.node → holder_of (edited (with_holder None) (edited (with_holder (Some n)) (looked_up old) q.node) p.node).nodes l ≡ Some m → ⊥
+      none_above l m e at = let x : None ≡ Some m = sym holder_above ∙ (ap (holder_of next.nodes) (sym e) ∙ at) in let z : ⊥ = cc in z
+
+      held_next : HoldsInstead (holder_of old.nodes) (holder_of (edited (with_holder None) (edited (with_holder (Some n)) (looked_up old) q.node) p.node).nodes) n (Some g')
+      held_next = record {
+        own = λ s h. ap (λ (x : Spot). holder_of next.nodes x.node) (one s h) ∙ holder_node;
+        only = λ l at. elim (same_or_not l q.node) [
+          | inl e ↦ (q, has, sym e)
+          | inr a ↦ elim (same_or_not l p.node) [
+            | inl e ↦ absurd (none_above l n e at)
+            | inr b ↦
+                let w = walks.holds l n (sym (holder_rest l a b) ∙ at) in
+                let g : w.0 ≡ At p = let x : Some w.0 ≡ Some (At p) = sym w.2 ∙ own in cc in
+                let s : w.1 ≡ p = subst (λ (x : Standing). Holds x w.1) g w.3 in
+                absurd (b (sym w.4 ∙ ap (λ (x : Spot). x.node) s))
+          ]
+        ];
+        others = λ l m other at. elim (same_or_not l q.node) [
+          | inl e ↦ absurd (was_free m l other e at)
+          | inr a ↦ elim (same_or_not l p.node) [
+            | inl e ↦ absurd (other (some_is n m (sym above_held ∙ ap (holder_of old.nodes) (sym e) ∙ at)))
+            | inr b ↦ holder_rest l a b ∙ at
+          ]
+        ];
+        no_more = λ l m other at. elim (same_or_not l q.node) [
+          | inl e ↦ absurd (other (some_is n m (sym holder_node ∙ ap (holder_of next.nodes) (sym e) ∙ at)))
+          | inr a ↦ elim (same_or_not l p.node) [
+            | inl e ↦ absurd (none_above l m e at)
+            | inr b ↦ sym (holder_rest l a b) ∙ at
+          ]
+        ];
+      }
+
+      pub next_keeps : Goes q (At p) g' → (f' : ℕ → Option Standing) → f' n ≡ Some g' → ((m : ℕ) → n ≢ m → f' m ≡ f m)
+          → AreWalks (scene (terrain (edited (with_holder None) (edited (with_holder (Some n)) (looked_up old) q.node) p.node)) f' (holder_of (edited (with_holder None) (edited (with_holder (Some n)) (looked_up old) q.node) p.node).nodes))
+      next_keeps goes f' set same = kept next (At p) g' (freed_too (looked_up old) refl refl p.node) goes own held_next f' set same
+        where
+          freed_too : (s : StoreState) → s.nodes ≡ old.nodes → s.root ≡ old.root → (above : ℕ) → SameTerrain old (edited (with_holder None) (edited (with_holder (Some n)) s q.node) above)
+          freed_too s e r above =
+              same_trans old s (edited (with_holder None) (edited (with_holder (Some n)) s q.node) above) (same_nodes old s e r)
+              (same_trans s (edited (with_holder (Some n)) s q.node) (edited (with_holder None) (edited (with_holder (Some n)) s q.node) above)
+              (same_held (Some n) s q.node) (same_held None (edited (with_holder (Some n)) s q.node) above))
+
+  -- an end of a rename goes on, from the directory a; it holds the common one, c, and the other
+  -- end's, b, too
+  module _ (c a b : Spot) (x : Name) (is : q.path ≡ a.path ++ x ∷ []) (leads_a : LeadsTo (terrain old) a)
+      (held : (l : ℕ) → (l ≡ c.node) ⊎ ((l ≡ a.node) ⊎ (l ≡ b.node)) → holder_of old.nodes l ≡ Some n)
+      (nothing_else : (l : ℕ) → holder_of old.nodes l ≡ Some n → (l ≡ c.node) ⊎ ((l ≡ a.node) ⊎ (l ≡ b.node)))
+      (split : a.node ≡ b.node → a.node ≡ c.node) where
+    abbrev end_step : EndStep
+    end_step = record { common = c.node; left = a.node; other = b.node; next = q.node }
+
+    end_apart : q.node ≢ a.node
+    end_apart = differ a x leads_a is
+
+    -- it was at the common directory, which stays held
+    pub leaves_common : a.node ≡ c.node → EndMoves (holder_of old.nodes) (holder_of (edited (with_holder (Some n)) (looked_up old) q.node).nodes) n (record { common = c.node; left = a.node; other = b.node; next = q.node })
+    leaves_common same = record {
+      held = held;
+      nothing_else = nothing_else;
+      is_free = λ m at. free m at;
+      split = split;
+      here = here (looked_up old) refl;
+      gone = λ d e. absurd (e same);
+      rest = λ l d e. holder_other (Some n) (looked_up old) q.node l d;
+    }
+
+    -- it was below it, and what it leaves is freed
+    pub leaves_end : a.node ≢ c.node → EndMoves (holder_of old.nodes) (holder_of (edited (with_holder None) (edited (with_holder (Some n)) (looked_up old) q.node) a.node).nodes) n (record { common = c.node; left = a.node; other = b.node; next = q.node })
+    leaves_end below = record {
+      held = held;
+      nothing_else = nothing_else;
+      is_free = λ m at. free m at;
+      split = split;
+      here = holder_other None (edited (with_holder (Some n)) (looked_up old) q.node) a.node q.node end_apart ∙ here (looked_up old) refl;
+      gone = λ d e. holder_freed (edited (with_holder (Some n)) (looked_up old) q.node) a.node;
+      rest = λ l d e.
+          holder_other None (edited (with_holder (Some n)) (looked_up old) q.node) a.node l (λ same. below (sym same ∙ e same)) ∙ holder_other (Some n) (looked_up old) q.node l d;
+    }
+
+  -- the store after an end has gone on is of the same terrain
+  held_terrain : SameTerrain old (edited (with_holder (Some n)) (looked_up old) q.node)
+  held_terrain = same_trans old (looked_up old) (edited (with_holder (Some n)) (looked_up old) q.node) (same_nodes old (looked_up old) refl refl) (same_held (Some n) (looked_up old) q.node)
+
+  end_terrain : (left : Option ℕ) → SameTerrain old (leaving left (edited (with_holder (Some n)) (looked_up old) q.node))
+  end_terrain None = held_terrain
+  end_terrain (Some node) =
+      same_trans old (edited (with_holder (Some n)) (looked_up old) q.node) (edited (with_holder None) (edited (with_holder (Some n)) (looked_up old) q.node) node)
+      held_terrain (same_held None (edited (with_holder (Some n)) (looked_up old) q.node) node)
+
+  pub end_keeps : (left : Option ℕ) (g g' : Standing) → Goes q g g' → f n ≡ Some g
+      → HoldsInstead (holder_of old.nodes) (holder_of (leaving left (edited (with_holder (Some n)) (looked_up old) q.node)).nodes) n (Some g')
+      → (f' : ℕ → Option Standing) → f' n ≡ Some g' → ((m : ℕ) → n ≢ m → f' m ≡ f m)
+      → AreWalks (scene (terrain (leaving left (edited (with_holder (Some n)) (looked_up old) q.node))) f' (holder_of (leaving left (edited (with_holder (Some n)) (looked_up old) q.node)).nodes))
+  end_keeps left g g' goes own instead f' set same = kept (leaving left (edited (with_holder (Some n)) (looked_up old) q.node)) g g' (end_terrain left) goes own instead f' set same

@@ -17,7 +17,7 @@ use Rattle.sf_keeps.specs.Keeps.{Keeps}
 use Rattle.sf_keeps.proofs.Laws.{reached_node}
 use Rattle.sf_coupling.specs.Walks.{Spot, Standing, Holds, HoldsIn, BetweenIn, IsShapedIn, LeadsTo, scene, AreWalks, HoldsInstead}
 use Rattle.sf_coupling.proofs.Laws.{keeps_walks}
-use Rattle.sf_walk.specs.Ways.{path_of}
+use Rattle.sf_walk.specs.Ways.{path_of, other_of}
 use Rattle.sf_walk.specs.Served.{IsAsBefore, NodesStay, IsRefused, IsCarriedOut}
 use Rattle.sf_core.specs.Sound.{terrain, standing_at}
 use Rattle.sf_core.specs.Stepping.{freed}
@@ -31,12 +31,12 @@ module _ (old mid : StoreState) (history : List Record) (n session moment : ℕ)
     (stays : NodesStay n old mid)
     (labels : (q : Path) (l holder : ℕ) → walk (entry_of old.nodes) old.root q ≡ Some l → holder_of old.nodes l ≡ Some holder → n ≢ holder
     → label_at (after (replay history) (Did n session moment r given)).names q ≡ label_at (replay history).names q)
-    (at : Stage) (f : ℕ → Option Standing) (walks : AreWalks (scene (terrain old) f (holder_of old.nodes))) (own : f n ≡ Some (standing_at (path_of r) at)) where
-  own_held : (g : Stage) (l : ℕ) → f n ≡ Some (standing_at (path_of r) g) → OwnNode g l → holder_of old.nodes l ≡ Some n
-  own_held g l is h = what_is_held old n (path_of r) f walks g l is h
+    (at : Stage) (f : ℕ → Option Standing) (walks : AreWalks (scene (terrain old) f (holder_of old.nodes))) (own : f n ≡ Some (standing_at (path_of r) (other_of r) at)) where
+  own_held : (g : Stage) (l : ℕ) → f n ≡ Some (standing_at (path_of r) (other_of r) g) → OwnNode g l → holder_of old.nodes l ≡ Some n
+  own_held g l is h = what_is_held old n (path_of r) (other_of r) f walks g l is h
 
-  held_own : (g : Stage) (l : ℕ) → f n ≡ Some (standing_at (path_of r) g) → holder_of old.nodes l ≡ Some n → OwnNode g l
-  held_own g l is h = nothing_else old n (path_of r) f walks g l is h
+  held_own : (g : Stage) (l : ℕ) → f n ≡ Some (standing_at (path_of r) (other_of r) g) → holder_of old.nodes l ≡ Some n → OwnNode g l
+  held_own g l is h = nothing_else old n (path_of r) (other_of r) f walks g l is h
 
   not_own : (l m : ℕ) → n ≢ m → holder_of old.nodes l ≡ Some m → OwnNode at l → ⊥
   not_own l m other held h = let x : Some n ≡ Some m = sym (own_held at l own h) ∙ held in let y : n ≡ m = cc in other y

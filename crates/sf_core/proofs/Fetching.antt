@@ -15,7 +15,7 @@ use Rattle.sf_inode.specs.Stores.{StoreState, holder_of}
 use Rattle.sf_coupling.specs.Walks.{Standing, Holds, scene, HoldsInstead}
 use Rattle.sf_coupling.specs.Walks.Standing.{Fresh}
 use Rattle.sf_coupling.proofs.Laws.{same_or_not, keeps_walks}
-use Rattle.sf_walk.specs.Ways.{path_of}
+use Rattle.sf_walk.specs.Ways.{path_of, other_of}
 use Rattle.sf_core.specs.Lanes.{LaneView}
 use Rattle.sf_core.specs.Cores.{call_at, session_at}
 use Rattle.sf_core.specs.Progress.{reply_of, undecided_in}
@@ -34,7 +34,7 @@ module _ (p : PartsView) (h : List Record) (sound : Sound p h) (lane : LaneView)
   own_sound = sound.calls n c at
 
   fresh : standings p.calls n ≡ Some Fresh
-  fresh = ap (option_map standing_of) at ∙ ap (λ (g : Stage). Some (standing_at (path_of c.request) g)) (own_sound.recorded given decided).0
+  fresh = ap (option_map standing_of) at ∙ ap (λ (g : Stage). Some (standing_at (path_of c.request) (other_of c.request) g)) (own_sound.recorded given decided).0
 
   set_is : session_set p.sessions lane.session None ≡ set_value (is_at (nat_cmp lane.session)) p.sessions None
   set_is = ap (session_set_by p.sessions lane.session None) busy

@@ -15,7 +15,8 @@ use Rattle.sf_call.specs.Tree.{Tree, label_at}
 use Rattle.sf_call.specs.Calls.{answer_to}
 use Rattle.sf_call.specs.Histories.{after, replay, IsNewNumber, IsPresent, IsOther, IsNoLeaving, CallMayFollow, IsGiven}
 use Rattle.sf_path.specs.Names.{Path}
-use Rattle.sf_inode.specs.Stores.{StoreState, entry_of, holder_of}
+use Rattle.sf_inode.specs.Nodes.{with_holder}
+use Rattle.sf_inode.specs.Stores.{StoreState, entry_of, holder_of, edited}
 use Rattle.sf_keeps.specs.Steps.{walk}
 use Rattle.sf_call.proofs.Laws.{replay-push, IsLegal-push, no_object, no_handle}
 use Rattle.sf_keeps.specs.Keeps.{Keeps}
@@ -35,6 +36,10 @@ use Rattle.sf_core.proofs.Sounds.{all_push, deeds_push, some_eq, none_some, amon
 pub freed_keeps : (at : Stage) (s : StoreState) (t : Tree) → Keeps s t → Keeps (freed at s) t
 freed_keeps stage.Fresh s t h = h
 freed_keeps (stage.At walked node) s t h = keeps_held None s t node h
+freed_keeps (stage.Ends common old new) s t h =
+    let a = edited (with_holder None) s common.node in
+    let b = edited (with_holder None) a old.node in
+    keeps_held None b t new.node (keeps_held None a t old.node (keeps_held None s t common.node h))
 
 pub new_to : (p : PartsView) (history : List Record) (number : ℕ) (c : Call) → Sound p history → CallSound p history number c → reply_of c ≡ None → IsUnused (replay history) number
 new_to p history number c sound h undecided = record {

@@ -1,5 +1,5 @@
 -- Calls that another one carries out while their sessions wait.
-use Rattle.std.specs.Prelude.{◌≡◌, ◌≢◌, ◌⊎◌, ◌<◌, ◌≤◌, ◌+◌, ◌^◌, ℕ, T, true, List, [], ◌∷◌, ◌++◌, map, option_map, option_and_then, filter_map, Option, Some, None, refl}
+use Rattle.std.specs.Prelude.{◌≡◌, ◌≢◌, ◌⊎◌, ◌<◌, ◌≤◌, ◌+◌, ◌^◌, ◌||◌, ℕ, T, true, false, is_some, List, [], ◌∷◌, ◌++◌, map, option_map, option_and_then, filter_map, Option, Some, None, refl}
 use Rattle.std.proofs.Common.{sym, ap, subst, ◌∙◌, inl, inr, arith, append-nil}
 use Rattle.std.proofs.lemmas.List.{append_assoc}
 use Rattle.std.proofs.lemmas.List.Sums.{sum_by-cons}
@@ -15,11 +15,15 @@ use Rattle.sf_call.specs.declared.call.Call.{Call}
 use Rattle.sf_call.specs.declared.call.Stage.{Stage}
 use Rattle.sf_call.specs.declared.call.Stage.TheVariants as stage
 use Rattle.sf_call.specs.Tree.{Tree, label_at, after_front}
-use Rattle.sf_call.specs.Calls.{answer_to}
-use Rattle.sf_call.specs.Histories.{after, replay, IsNewNumber, IsPresent, IsOther, IsNoLeaving, CallMayFollow, IsAmong}
+use Rattle.sf_call.specs.declared.request.Request.{Request}
+use Rattle.sf_call.specs.Requests.{Target, target_of}
+use Rattle.sf_call.specs.Requests.Target.{ByHandle, OnPath, OnPaths}
+use Rattle.sf_call.specs.Changes.{Change, moved_by, done}
+use Rattle.sf_call.specs.Calls.{answer_to, apply}
+use Rattle.sf_call.specs.Histories.{after, replay, IsLegal, IsNewNumber, IsPresent, IsOther, IsNoLeaving, CallMayFollow, IsAmong}
 use Rattle.sf_call.specs.Unanswered.{with_reply, answered, answered_by}
 use Rattle.sf_call.proofs.Laws.{replay-push, IsLegal-push, after_told, never_wants}
-use Rattle.sf_laws.proofs.Laws.{below_labels}
+use Rattle.sf_laws.proofs.Laws.{below_labels, other_labels, unmoved_tree, moved_old}
 use Rattle.sf_book.specs.Books.{BookView, put}
 use Rattle.sf_inode.specs.declared.node.Node.{Node}
 use Rattle.sf_inode.specs.Stores.{node_in, entry_of, holder_of, is_directory_at}
@@ -29,7 +33,7 @@ use Rattle.sf_keeps.proofs.Laws.{reached_node, label_found}
 use Rattle.sf_coupling.specs.Walks.{Spot, Standing, Holds}
 use Rattle.sf_coupling.specs.Walks.Standing.{Fresh}
 use Rattle.sf_coupling.proofs.Laws.{same_or_not}
-use Rattle.sf_walk.specs.Ways.{path_of}
+use Rattle.sf_walk.specs.Ways.{path_of, other_of, are_nested}
 use Rattle.sf_walk.specs.Served.{IsRefused, IsCarriedOut}
 use Rattle.sf_core.specs.Cores.{call_at}
 use Rattle.sf_walk.specs.Ways.{names_of as path_names}
@@ -42,12 +46,12 @@ use Rattle.sf_core.specs.Stepping.{Helped, HelpsAll}
 use Rattle.sf_core.proofs.Maps.{set_same, set_other, rise_set, passing_set}
 use Rattle.sf_core.proofs.LookUps.{looks_fit, looks_between}
 use Rattle.sf_core.proofs.Coupled.{led_once}
-use Rattle.sf_core.proofs.Spared.{keeps_after, leads_still, directory_still, path_target}
+use Rattle.sf_core.proofs.Spared.{keeps_after, leads_still, directory_still, own_either}
 use Rattle.sf_core.proofs.Decided.{decided_keeps}
 use Rattle.sf_core.proofs.Sounds.{all_push, deeds_push, some_eq, none_some, reply_is, among_more, among_last, is_undecided, undecided_one, decided_none, call_kept}
 use Rattle.sf_core.proofs.Finishing.{new_to}
 use Rattle.sf_core.proofs.Handing.{written_put, few_deeds}
-use Rattle.sf_core.proofs.Overtaken.{AreApart}
+use Rattle.sf_core.proofs.Overtaken.{AreApart, LiesBelow, begins_below}
 
 -- the path leads not strictly below the other
 abbrev pub IsAside : Path → Path → Type 0
@@ -57,7 +61,7 @@ IsAside old path = (name : Name) (rest : Path) → after_front old path ≢ Some
 abbrev pub IsClear : PartsView → Path → Type 0
 IsClear p old = (m : ℕ) (g : Standing) (s : Spot) → standings p.calls m ≡ Some g → Holds g s → after_front old s.path ≡ None
 
--- the call of a number is undecided, stands nowhere, and its path leads strictly below another
+-- the call of a number is undecided, stands nowhere, and lies below a path
 pub record IsReady (p : PartsView) (old : Path) (number : ℕ) : Type 0 where
   pub call : Call
   pub at : call_at p.calls number ≡ Some call
@@ -65,9 +69,7 @@ pub record IsReady (p : PartsView) (old : Path) (number : ℕ) : Type 0 where
   pub fresh : call.stage ≡ stage.Fresh
   pub path : Path
   pub is_path : path_of call.request ≡ Some path
-  pub name : Name
-  pub rest : Path
-  pub below : after_front old path ≡ Some (name ∷ rest)
+  pub below : LiesBelow old (target_of call.request)
 
 -- these records were added by carrying calls out whose paths lead strictly below a path
 pub record AreLed (old : Path) (p q : PartsView) (h helped : List Record) : Type 0 where
@@ -85,12 +87,35 @@ pub record AreLed (old : Path) (p q : PartsView) (h helped : List Record) : Type
   pub more : p.store.look_ups ≤ q.store.look_ups
   pub few : q.store.look_ups ≤ p.store.look_ups + names_of helped
 
+nested_none : (from to : Path) → are_nested from to ≡ true → after_front from to ≡ None → after_front to from ≡ None → ⊥
+nested_none from to nested a b =
+    let x : false ≡ true = (λ i. is_some (sym a i) || is_some (sym b i)) ∙ nested in
+    let z : ⊥ = cc in z
+
+-- a request that lies below a path leaves the labels of paths that don't lead strictly below it
+lies_labels : (h : List Record) (number session moment : ℕ) (r : Request) (old x : Path) → IsLegal h → 0 < number → IsNewNumber number h → IsAside old x
+    → (g : Target) → target_of r ≡ g → LiesBelow old g → label_at (apply (replay h) session number moment r).tree.names x ≡ label_at (replay h).names x
+lies_labels h number session moment r old x legal above fresh aside (ByHandle handle) e below = absurd below
+lies_labels h number session moment r old x legal above fresh aside (OnPath path) e below = below_labels (replay h) session number moment r old path below.0 below.1 x e below.2 aside
+lies_labels h number session moment r old x legal above fresh aside (OnPaths from to) e (inr below) =
+    other_labels (replay h) session number moment r x (λ own. elim (own_either r from to x e own) [
+      | inl is ↦ let b = begins_below old from x below.0 is in aside b.0 b.1 b.2
+      | inr is ↦ let b = begins_below old to x below.1 is in aside b.0 b.1 b.2
+    ])
+lies_labels h number session moment r old x legal above fresh aside (OnPaths from to) e (inl nested) =
+    elim (moved_by (answer_to (replay h) session number moment r).changes) as (λ o. moved_by (answer_to (replay h) session number moment r).changes ≡ o → label_at (apply (replay h) session number moment r).tree.names x ≡ label_at (replay h).names x) [
+      | None ↦ λ none. ap (λ (changes : List Change). label_at (done (replay h) changes).names x) (unmoved_tree (replay h) session number moment r from to e none)
+      | Some p ↦ λ moved.
+          let is = (moved_old h number session moment r from to p legal above fresh e moved).1 in
+          absurd (nested_none from to nested is.not_inside is.not_around)
+    ] refl
+
 reply_with : (given : Reply) (c : Call) → reply_of (with_reply given c) ≡ Some given
 reply_with given c = reply_is (with_reply given c)
 
 -- ---- one call
 module _ (old : Path) (p : PartsView) (history : List Record) (sound : Sound p history) (clear : IsClear p old) (c : Call) (at : call_at p.calls c.number ≡ Some c) (undecided : reply_of c ≡ None) (fresh : c.stage ≡ stage.Fresh)
-    (path : Path) (is_path : path_of c.request ≡ Some path) (name : Name) (rest : Path) (below : after_front old path ≡ Some (name ∷ rest))
+    (below : LiesBelow old (target_of c.request))
     (fits : p.store.look_ups < 2 ^ 64) (q : PartsView) (given : Reply) (helped : Helped p q c c.number given) where
   call : CallSound p history c.number c
   call = sound.calls c.number c at
@@ -116,7 +141,7 @@ module _ (old : Path) (p : PartsView) (history : List Record) (sound : Sound p h
     | inl e ↦ ap (λ (g : Reply). label_at (after (replay history) (did c g)).names x) e.told
     | inr e ↦
         ap (λ (g : Reply). label_at (after (replay history) (did c g)).names x) e.told ∙ ap (λ (u : Tree). label_at u.names x) (after_told (replay history) c.session c.number c.moment c.request)
-        ∙ below_labels (replay history) c.session c.number c.moment c.request old path name rest x (path_target c.request path is_path) below aside
+        ∙ lies_labels history c.number c.session c.moment c.request old x sound.legal call.above new_number aside (target_of c.request) refl below
   ]
 
   aside_none : (x : Path) → after_front old x ≡ None → IsAside old x
@@ -160,11 +185,11 @@ module _ (old : Path) (p : PartsView) (history : List Record) (sound : Sound p h
       let e = decided_none (with_reply given c) given (reply_with given c) in
       omega (arith, a, b, d, e)
 
-  own_standing : standings p.calls c.number ≡ Some (standing_at (path_of c.request) stage.Fresh)
-  own_standing = ap (option_map standing_of) at ∙ ap (λ (g : Stage). Some (standing_at (path_of c.request) g)) fresh
+  own_standing : standings p.calls c.number ≡ Some (standing_at (path_of c.request) (other_of c.request) stage.Fresh)
+  own_standing = ap (option_map standing_of) at ∙ ap (λ (g : Stage). Some (standing_at (path_of c.request) (other_of c.request) g)) fresh
 
   now_standing : standings (answered p.calls c.number given) c.number ≡ Some Fresh
-  now_standing = ap (option_map standing_of) here ∙ ap (λ (g : Stage). Some (standing_at (path_of c.request) g)) fresh
+  now_standing = ap (option_map standing_of) here ∙ ap (λ (g : Stage). Some (standing_at (path_of c.request) (other_of c.request) g)) fresh
 
   sound_now : Sound (record { store = q.store; book = put p.book (did c given); sessions = p.sessions; calls = answered p.calls c.number given; drawn = p.drawn; joins = p.joins }) (history ++ did c given ∷ [])
   sound_now = record {
@@ -281,7 +306,7 @@ module _ (old : Path) (p : PartsView) (history : List Record) (sound : Sound p h
 
 -- ---- one after the other
 ready_on : (old : Path) (p q : PartsView) (m : ℕ) → call_at q.calls m ≡ call_at p.calls m → IsReady p old m → IsReady q old m
-ready_on old p q m same r = record { call = r.call; at = same ∙ r.at; undecided = r.undecided; fresh = r.fresh; path = r.path; is_path = r.is_path; name = r.name; rest = r.rest; below = r.below }
+ready_on old p q m same r = record { call = r.call; at = same ∙ r.at; undecided = r.undecided; fresh = r.fresh; path = r.path; is_path = r.is_path; below = r.below }
 
 all_ready : (old : Path) (p q : PartsView) (n : ℕ) → ((m : ℕ) → m ≢ n → call_at q.calls m ≡ call_at p.calls m) → (ns : List ℕ) → AllByRecursion (λ m. m ≢ n) ns → AllByRecursion (IsReady p old) ns → AllByRecursion (IsReady q old) ns
 all_ready old p q n same [] apart h = tt
@@ -393,11 +418,11 @@ help_all (n ∷ ns) old p q h sound clear fits ready apart helps =
     let mid = helps.0 in
     let given = helps.1 c r.at ((sound.calls n c r.at).copied r.path r.is_path r.undecided) in
     let done : Helped p mid c c.number given.0 = subst (λ k. Helped p mid c k given.0) (sym is) given.1 in
-    let one = one_led old p h sound clear c at r.undecided r.fresh r.path r.is_path r.name r.rest r.below fits mid given.0 done in
-    let waits = waits_now old p h sound clear c at r.undecided r.fresh r.path r.is_path r.name r.rest r.below fits mid given.0 done in
+    let one = one_led old p h sound clear c at r.undecided r.fresh r.below fits mid given.0 done in
+    let waits = waits_now old p h sound clear c at r.undecided r.fresh r.below fits mid given.0 done in
     let same : (m : ℕ) → m ≢ n → call_at mid.calls m ≡ call_at p.calls m =
     λ m ne. ap (λ (cs : List (ℕ × Call)). call_at cs m) done.calls
-    ∙ other old p h sound clear c at r.undecided r.fresh r.path r.is_path r.name r.rest r.below fits mid given.0 done m (λ e. ne (e ∙ is)) in
+    ∙ other old p h sound clear c at r.undecided r.fresh r.below fits mid given.0 done m (λ e. ne (e ∙ is)) in
     let all = help_all ns old mid q (h ++ did c given.0 ∷ []) one.sound (λ m g s t hold. clear m g s (one.stood m g s t hold) hold) one.fits
     (all_ready old p mid n same ns apart.0 ready.1) apart.1 helps.2 in
     record {

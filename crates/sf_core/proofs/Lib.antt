@@ -6,6 +6,7 @@ pub mod Spared
 pub mod Decided
 pub mod LookUps
 pub mod Sounds
+pub mod Going
 pub mod Finishing
 pub mod Backing
 pub mod Overtaken

@@ -1,10 +1,11 @@
 -- A whole step: the core stays sound, and what is told of it.
-use Rattle.std.specs.Prelude.{◌≡◌, ◌≢◌, ◌⊎◌, ◌<◌, ◌≤◌, ◌+◌, ◌^◌, ℕ, zero, suc, not, nat_eq, ◌&&◌, false, T, List, [], ◌∷◌, ◌++◌, length, take, slice_get, option_map, option_and_then, Option, Some, None, is_none, is_some, refl}
+use Rattle.std.specs.Prelude.{◌≡◌, ◌≢◌, ◌⊎◌, ◌<◌, ◌≤◌, ◌+◌, ◌^◌, ℕ, zero, suc, not, nat_eq, nat_le, ◌&&◌, true, false, if◌then◌else◌, T, List, [], ◌∷◌, ◌++◌, length, take, slice_get, option_map, option_and_then, Option, Some, None, is_none, is_some, refl}
 use Rattle.std.specs.Option.{option_map_or}
-use Rattle.std.proofs.Common.{sym, ap, subst, ◌∙◌, inl, inr, arith, add-one, append-nil}
+use Rattle.std.proofs.Common.{sym, ap, subst, ◌∙◌, inl, inr, arith, add-one, get_or, append-nil}
 use Rattle.std.specs.Ordering.{nat_cmp}
 use Rattle.std.specs.FinMap.{is_sorted}
 use Rattle.std.specs.List.{AllByRecursion}
+use Rattle.std.proofs.lemmas.Bool.{leb-true, le-leb}
 use Rattle.std.proofs.lemmas.Option.{get_or_from_slice_get}
 use Rattle.std.proofs.Math.Seq.{take-suc}
 use Rattle.std.proofs.lemmas.List.{length-take, append_assoc}
@@ -16,7 +17,6 @@ use Rattle.sf_call.specs.declared.record.Record.{Record}
 use Rattle.sf_call.specs.declared.call.Stage.{Stage}
 use Rattle.sf_call.specs.declared.call.Stage.TheVariants as stage
 use Rattle.sf_call.specs.declared.metadata.Metadata.{Metadata}
-use Rattle.sf_call.specs.declared.request.Request.{Request}
 use Rattle.sf_call.specs.Requests.{Target, target_of}
 use Rattle.sf_call.specs.Requests.Target.{ByHandle, OnPath, OnPaths}
 use Rattle.sf_call.specs.Attributes.{Object}
@@ -35,60 +35,72 @@ use Rattle.sf_keeps.specs.Steps.{walk}
 use Rattle.sf_keeps.specs.Keeps.{Keeps}
 use Rattle.sf_keeps.proofs.Laws.{object_there, reached_node, label_found, walk_on}
 use Rattle.sf_coupling.specs.Walks.{Spot, Standing, Holds}
-use Rattle.sf_coupling.specs.Walks.Standing.{At}
+use Rattle.sf_coupling.specs.Walks.Standing.{Ends}
+use Rattle.sf_coupling.specs.Fronts.{Begins}
+use Rattle.sf_coupling.proofs.Laws.{begins_snoc}
 use Rattle.sf_walk.specs.declared.finding.Ways.{Ways}
 use Rattle.sf_walk.specs.declared.finding.Located.{Located}
 use Rattle.sf_walk.specs.declared.finding.Located.TheVariants as located
 use Rattle.sf_walk.specs.declared.walking.Walk.{Walk}
 use Rattle.sf_walk.specs.declared.walking.Walk.TheVariants as walked
-use Rattle.sf_walk.specs.Ways.{path_of, names_at, names_of, IsLocated}
+use Rattle.sf_walk.specs.Ways.{path_of, other_of, names_of, IsLocated}
 use Rattle.sf_walk.specs.Served.{LookedUp}
-use Rattle.sf_walk.specs.Steps.{Waits, WaitsAtNew, Decides as Ends_at, LeadsNowhere, MayDecideAt, IsFreeAt, IsFreeThere, AreFree, IsOnWay, next_of, looks_at, looks_of}
+use Rattle.sf_walk.specs.Steps.{Waits, LooksAt, Decides as Ends_at, LeadsNowhere, EndsAt, MayDecideAt, IsFree, IsFreeAt, IsFreeThere, AreFree, IsOnWay, IsShort, Stands}
 use Rattle.sf_core.proofs.LookUps.{looked_nodes, looks_between, looks_fit, looks_of_looked}
 use Rattle.sf_core.specs.Lanes.{LaneView}
 use Rattle.sf_core.specs.Cores.{call_at, session_at, slot_of}
-use Rattle.sf_core.specs.Progress.{reply_of, left_at, depth_at, names_renamed, most_looks, MayDecideBy, did, has_passed, overtaken}
+use Rattle.sf_core.specs.Progress.{reply_of, left_at, depth_at, EndsWalk, MayDecideBy, did, has_passed, overtaken}
 use Rattle.sf_core.specs.Sure.{IsSure, AreSure}
 use Rattle.sf_core.specs.Events.{KeepsRecords, Goes, IsBlocked, AreRecordsOf, IsOfOther, IsHelped, Decides}
 use Rattle.sf_core.specs.Parts.{PartsView, seen}
-use Rattle.sf_core.specs.Sound.{standing_at, standing_of, standings, IsShort, CallSound, Sound, IsWritten}
+use Rattle.sf_core.specs.Sound.{spot_on, standing_at, standing_of, standings, CallSound, Sound, IsWritten}
 use Rattle.sf_core.specs.Stepping.{session_set, freed, Finished, Walked, Overtakes}
 use Rattle.sf_core.proofs.Coupled.{led_once}
-use Rattle.sf_core.proofs.Sounds.{some_eq, none_some, reply_is, with_store, sound_looked, sound_took}
+use Rattle.sf_core.proofs.Sounds.{some_eq, none_some, reply_is, with_store, sound_looked}
+use Rattle.sf_core.proofs.Going.{one_more, sound_took}
 use Rattle.sf_core.proofs.Telling.{slot_kept, slot_busy, slot_idle, left_is, left_one}
-use Rattle.sf_core.proofs.Stepped.{own_session, own, apart, goes, same_book, names_path}
+use Rattle.sf_core.proofs.Stepped.{FitNames, names_fit, not_root, stands, own_session, own, apart, goes, same_book}
 use Rattle.sf_core.proofs.Finishing.{sound_finished, given_now, new_to, session_here, session_other, gone_other, as_many}
 use Rattle.sf_core.proofs.Handing.{written_put, few_deeds}
 use Rattle.sf_core.proofs.Overtaken.{all_found}
 use Rattle.sf_core.proofs.Preparing.{three_true, same_test, Prepared, prepared}
 
 -- ---- what look-ups leave
+free_node_on : (old new : StoreState) → new.nodes ≡ old.nodes → (n node : ℕ) → IsFree old n node → IsFree new n node
+free_node_on old new e n node f = λ h at. f h (sym (ap (λ (ns : List (Option Node)). holder_of ns node) e) ∙ at)
+
 free_on : (old new : StoreState) → new.nodes ≡ old.nodes → (n : ℕ) (g : Stage) (l : Located) → IsFreeAt old n g l → IsFreeAt new n g l
 free_on old new e n g located.NoWay f = tt
 free_on old new e n g (located.Missing parent) f = tt
 free_on old new e n stage.Fresh (located.At parent node) f = tt
-free_on old new e n (stage.At w above) (located.At parent node) f = λ h at. f h (sym (ap (λ (ns : List (Option Node)). holder_of ns node) e) ∙ at)
+free_on old new e n (stage.At w above) (located.At parent node) f = free_node_on old new e n node f
+free_on old new e n (stage.Ends cm a b) (located.At parent node) f = tt
 
-there_on : (old new : StoreState) → new.nodes ≡ old.nodes → (n : ℕ) (path : Path) (l : Located) → IsFreeThere old n path l → IsFreeThere new n path l
-there_on old new e n [] l f = tt
-there_on old new e n (x ∷ path) located.NoWay f = tt
-there_on old new e n (x ∷ path) (located.Missing parent) f = tt
-there_on old new e n (x ∷ path) (located.At parent node) f = λ h at. f h (sym (ap (λ (ns : List (Option Node)). holder_of ns node) e) ∙ at)
+there_on : (old new : StoreState) → new.nodes ≡ old.nodes → (n : ℕ) (l : Located) → IsFreeThere old n l → IsFreeThere new n l
+there_on old new e n located.NoWay f = tt
+there_on old new e n (located.Missing parent) f = tt
+there_on old new e n (located.At parent node) f = free_node_on old new e n node f
 
 all_free_on : (old new : StoreState) → new.nodes ≡ old.nodes → (n : ℕ) (g : Stage) (target : Target) (ways : Ways) → AreFree old n g target ways → AreFree new n g target ways
 all_free_on old new e n g (ByHandle handle) ways f = tt
 all_free_on old new e n g (OnPath path) ways f = free_on old new e n g ways.path f
-all_free_on old new e n g (OnPaths from to) ways f = there_on old new e n to ways.new f
+all_free_on old new e n g (OnPaths from to) ways f = (free_on old new e n g ways.path f.0, there_on old new e n ways.new f.1)
 
 nowhere_on : (old new : StoreState) → new.nodes ≡ old.nodes → (node : ℕ) (o : Option Name) → LeadsNowhere old node o → LeadsNowhere new node o
 nowhere_on old new e node None h = tt
 nowhere_on old new e node (Some name) h = λ child at. ap (λ (ns : List (Option Node)). is_directory_at ns child) e ∙ h child (sym (ap (λ (ns : List (Option Node)). entry_of ns node name) e) ∙ at)
 
-may_on : (old new : StoreState) → new.nodes ≡ old.nodes → (o : Option Path) (g : Stage) → MayDecideAt old o g → MayDecideAt new o g
-may_on old new e None g h = h
-may_on old new e (Some path) stage.Fresh h = h
-may_on old new e (Some path) (stage.At w node) (inl h) = inl h
-may_on old new e (Some path) (stage.At w node) (inr h) = inr (h.0, nowhere_on old new e node (slice_get path w) h.1)
+ends_on : (old new : StoreState) → new.nodes ≡ old.nodes → (path : Path) (w node : ℕ) → EndsAt old path w node → EndsAt new path w node
+ends_on old new e path w node (inl h) = inl h
+ends_on old new e path w node (inr h) = inr (h.0, nowhere_on old new e node (slice_get path w) h.1)
+
+may_on : (old new : StoreState) → new.nodes ≡ old.nodes → (o u : Option Path) (g : Stage) → MayDecideAt old o u g → MayDecideAt new o u g
+may_on old new e None u g h = h
+may_on old new e (Some path) u stage.Fresh h = h
+may_on old new e (Some path) u (stage.At w node) h = ends_on old new e path w node h
+may_on old new e (Some path) None (stage.Ends cm a b) h = absurd h
+may_on old new e (Some path) (Some other) (stage.Ends cm a b) (inl h) = inl (h.0, nowhere_on old new e a.node (slice_get path a.walked) h.1)
+may_on old new e (Some path) (Some other) (stage.Ends cm a b) (inr h) = inr (h.0, ends_on old new e other b.walked b.node h.1)
 
 -- ---- where a call may decide, in the tree
 no_label : (t : Tree) (q : Path) → label_at t.names q ≡ None → is_directory t q ≡ false
@@ -133,39 +145,82 @@ module _ (s : StoreState) (t : Tree) (keeps : Keeps s t) (path : Path) (w node :
             no_directory t (take (w + 1) path) it.0.label (object_in it.0.metadata it.0.content) label (object_there s t keeps child it.0 it.1) (no_metadata it.0.metadata it.0.content file)
       ] refl
 
-may_by : (s : StoreState) (t : Tree) → Keeps s t → (o : Option Path) (g : Stage) → ((path : Path) (w node : ℕ) → o ≡ Some path → g ≡ stage.At w node → IsOnWay s path w node) → MayDecideAt s o g → MayDecideBy t o g
-may_by s t keeps None g on h = h
-may_by s t keeps (Some path) stage.Fresh on h = h
-may_by s t keeps (Some path) (stage.At w node) on (inl h) = inl h
-may_by s t keeps (Some path) (stage.At w node) on (inr h) = inr (h.0, nothing_next s t keeps path w node (on path w node refl refl) (slice_get path w) refl h.0 h.1)
+ends_by : (s : StoreState) (t : Tree) → Keeps s t → (path : Path) (w node : ℕ) → IsOnWay s path w node → EndsAt s path w node → EndsWalk t path w
+ends_by s t keeps path w node way (inl h) = inl h
+ends_by s t keeps path w node way (inr h) = inr (h.0, nothing_next s t keeps path w node way (slice_get path w) refl h.0 h.1)
+
+may_by : (s : StoreState) (t : Tree) → Keeps s t → (o u : Option Path) (g : Stage) → ((path other : Path) → o ≡ Some path → u ≡ Some other → path ≡ [] → ⊥) → Stands s o u g → MayDecideAt s o u g → MayDecideBy t o u g
+may_by s t keeps None u g named at h = h
+may_by s t keeps (Some path) None stage.Fresh named at h = h
+may_by s t keeps (Some path) (Some other) stage.Fresh named at h = named path other refl refl h
+may_by s t keeps (Some path) None (stage.At w node) named at h = ends_by s t keeps path w node at.1 h
+may_by s t keeps (Some path) (Some other) (stage.At w node) named at (inl h) = let part = at.0.1.1 in let more = at.0.1.2 in let short = part.short in absurd (omega (arith, h, more, short))
+may_by s t keeps (Some path) (Some other) (stage.At w node) named at (inr h) = (h.0, nothing_next s t keeps path w node at.1 (slice_get path w) refl h.0 h.1)
+may_by s t keeps (Some path) None (stage.Ends cm a b) named at h = absurd h
+may_by s t keeps (Some path) (Some other) (stage.Ends cm a b) named at (inl h) =
+    (at.0.part, inl (h.0, at.0.in_turn h.0, nothing_next s t keeps path a.walked a.node at.1.0 (slice_get path a.walked) refl h.0 h.1))
+may_by s t keeps (Some path) (Some other) (stage.Ends cm a b) named at (inr h) = (at.0.part, inr (h.0, at.0.new_below, ends_by s t keeps other b.walked b.node at.1.1 h.1))
 
 freed_looks : (g : Stage) (s : StoreState) → (freed g s).look_ups ≡ s.look_ups
 freed_looks stage.Fresh s = refl
 freed_looks (stage.At w node) s = refl
+freed_looks (stage.Ends common old new) s = refl
 
-next_is_depth : (g : Stage) → depth_at g ≡ next_of g
-next_is_depth stage.Fresh = refl
-next_is_depth (stage.At w node) = refl
+-- ---- how far down a call looks
+end_depth : (len old new : ℕ) → ℕ
+end_depth len old new = if nat_le len (old + 1) then new + 1 else old + 1
 
-next_within : (o : Option Path) (g : Stage) (path : Path) → o ≡ Some path → IsShort o g → next_of g ≤ length path
-next_within o stage.Fresh path e h = omega arith
-next_within None (stage.At w node) path e h = absurd h
-next_within (Some p) (stage.At w node) path e h = let same = ap (λ (q : Path). length q) (some_eq p path e) in omega (arith, h, same)
+goes_first : (len old new : ℕ) → old + 1 < len → (if nat_le len (old + 1) then new + 1 else old + 1) ≡ old + 1
+goes_first len old new less = elim (nat_le len (old + 1)) as (λ b. nat_le len (old + 1) ≡ b → (if b then new + 1 else old + 1) ≡ old + 1) [
+  | true ↦ λ e. let h = leb-true len (old + 1) e in absurd (omega (arith, h, less))
+  | false ↦ λ e. refl
+] refl
 
--- ---- look-ups
-few_by : (g : Target) → looks_at g ≤ 2 + names_renamed g
-few_by (ByHandle handle) = omega arith
-few_by (OnPath path) = omega arith
-few_by (OnPaths old new) = omega arith
+goes_last : (len old new : ℕ) → old + 1 ≡ len → (if nat_le len (old + 1) then new + 1 else old + 1) ≡ new + 1
+goes_last len old new same = ap (λ b. if b then new + 1 else old + 1) (le-leb len (old + 1) (omega (arith, same)))
 
-few_looks_of : (r : Request) → looks_of r ≤ most_looks r
-few_looks_of r = few_by (target_of r)
+-- no further than the names that it looks at
+looks_deep : (o u : Option Path) (g : Stage) (to : Path) → IsShort o u g → LooksAt o u g to → depth_at o g ≤ length to
+looks_deep None u g to short is = absurd is
+looks_deep (Some path) u stage.Fresh to short is = omega arith
+looks_deep (Some path) u (stage.At w node) to short is =
+    let less = short.0 in
+    let e = ap (λ (x : Path). length x) is in
+    omega (arith, e, length-take (w + 1) path, less)
+looks_deep (Some path) None (stage.Ends cm a b) to short is = absurd is
+looks_deep (Some path) (Some other) (stage.Ends cm a b) to short (inl is) =
+    let less = is.0 in
+    let e = ap (λ (x : Path). length x) is.1 in
+    omega (arith, e, length-take (a.walked + 1) path, less, goes_first (length path) a.walked b.walked less)
+looks_deep (Some path) (Some other) (stage.Ends cm a b) to short (inr is) =
+    let less = short.short_new in
+    let same = is.0 in
+    let e = ap (λ (x : Path). length x) is.1 in
+    omega (arith, e, length-take (b.walked + 1) other, less, goes_last (length path) a.walked b.walked same)
+
+-- they are the root, or one name past a directory that the call holds
+abbrev pub IsBelow : Standing → Path → Type 0
+IsBelow mine to = (to ≡ []) ⊎ ((v : Spot) × (x : Name) × Holds mine v × (to ≡ v.path ++ x ∷ []))
+
+looks_below : (o u : Option Path) (g : Stage) (to : Path) → IsShort o u g → LooksAt o u g to → IsBelow (standing_at o u g) to
+looks_below None u g to short is = absurd is
+looks_below (Some path) u stage.Fresh to short is = inl is
+looks_below (Some path) u (stage.At w node) to short is = inr (spot_on (Some path) w node, get_or path w [], refl, is ∙ one_more path w short.0)
+looks_below (Some path) None (stage.Ends cm a b) to short is = absurd is
+looks_below (Some path) (Some other) (stage.Ends cm a b) to short (inl is) =
+    inr (spot_on (Some path) a.walked a.node, get_or path a.walked [], inr (inl refl), is.1 ∙ one_more path a.walked short.short)
+looks_below (Some path) (Some other) (stage.Ends cm a b) to short (inr is) =
+    inr (spot_on (Some other) b.walked b.node, get_or other b.walked [], inr (inr refl), is.1 ∙ one_more other b.walked short.short_new)
 
 -- ---- what is left of a call that is carried out
-some_left : (o : Option Path) (g : Stage) (names : ℕ) → IsShort o g → ((path : Path) → o ≡ Some path → names ≡ length path) → 1 ≤ left_at names g
-some_left o stage.Fresh names h k = omega arith
-some_left None (stage.At w node) names h k = absurd h
-some_left (Some path) (stage.At w node) names h k = let e = k path refl in omega (arith, h, e)
+some_left : (o u : Option Path) (g : Stage) (names : ℕ) → IsShort o u g → FitNames o u names → 1 ≤ left_at names g
+some_left o u stage.Fresh names h k = omega arith
+some_left None u (stage.At w node) names h k = absurd h
+some_left (Some path) None (stage.At w node) names h k = let a = h.0 in omega (arith, a, k)
+some_left (Some path) (Some other) (stage.At w node) names h k = let a = h.0 in omega (arith, a, k)
+some_left None u (stage.Ends cm a b) names h k = absurd h
+some_left (Some path) None (stage.Ends cm a b) names h k = absurd h
+some_left (Some path) (Some other) (stage.Ends cm a b) names h k = let x = h.short in let y = h.short_new in omega (arith, x, y, k)
 
 -- the calls that one overtakes are others
 not_own : (n : ℕ) (calls : List (ℕ × Call)) → T (is_sorted nat_cmp calls) → (o : Option Path) → AllByRecursion (λ k. k ≢ n) (overtaken calls n o)
@@ -210,12 +265,7 @@ module _ (p : PartsView) (history : List Record) (sound : Sound p history) (lane
   looked_sound most looked a c d e f = subst (λ (x : PartsView). Sound x history) (same_parts a c d e f) (sound_looked p history q.store most sound looked)
 
   pub blocked_sound : (holder : ℕ) → ((c : Call) → call_at p.calls n ≡ Some c → Walked p q c n (walked.Blocked holder)) → Sound q history
-  blocked_sound holder w =
-      let h = w it at_it in
-      elim h.advances [
-        | inl a ↦ looked_sound 1 a.looked h.book h.sessions h.calls h.drawn h.joins
-        | inr a ↦ looked_sound (names_of it.request) a.looked h.book h.sessions h.calls h.drawn h.joins
-      ]
+  blocked_sound holder w = let h = w it at_it in looked_sound 1 h.advances.looked h.book h.sessions h.calls h.drawn h.joins
 
   -- the call that holds what is wanted
   holder_call : (node holder : ℕ) → holder_of p.store.nodes node ≡ Some holder → (d : Call) × (call_at p.calls holder ≡ Some d) × ((s : Spot) × Holds (standing_of d) s × (s.node ≡ node))
@@ -226,21 +276,66 @@ module _ (p : PartsView) (history : List Record) (sound : Sound p history) (lane
         | Some d ↦ λ e f. (d, e, (w.1, subst (λ (g : Standing). Holds g w.1) (sym (some_eq (standing_of d) w.0 f)) w.3, w.4))
       ] refl w.2
 
-  deeper_by : (holder : ℕ) (d : Call) (o : Option Path) (g : Stage) → standings p.calls holder ≡ Some (standing_at o g) → IsShort o g → (s : Spot) → Holds (standing_at o g) s → (wanted : Path)
-      → walk (entry_of p.store.nodes) p.store.root wanted ≡ Some s.node → length wanted < depth_at g
-  deeper_by holder d o stage.Fresh is short s hold wanted leads = absurd hold
-  deeper_by holder d None (stage.At w node) is short s hold wanted leads = absurd short
-  deeper_by holder d (Some path) (stage.At w node) is short s hold wanted leads =
-      let there = sound.walks.leads holder (standing_at (Some path) (stage.At w node)) s is hold in
+  -- Where another call goes to both ends of a path, what a call holds above an end of its own is no
+  -- end, so what is wanted is the common directory.
+  module _ (holder : ℕ) (o u : Option Path) (g : Stage) (is : standings p.calls holder ≡ Some (standing_at o u g)) (other : n ≢ holder) (mine : Standing) (own_is : standings p.calls n ≡ Some mine) where
+    at_common : (cm e1 e2 s : Spot) → standing_at o u g ≡ Ends cm e1 e2 → Holds (Ends cm e1 e2) s → (wanted : Path) → s.path ≡ wanted → IsBelow mine wanted → length wanted ≤ length cm.path
+    at_common cm e1 e2 s same hold wanted at (inl root) = let e = ap (λ (x : Path). length x) root in omega (arith, e)
+    at_common cm e1 e2 s same hold wanted at (inr below) =
+        let v = below.0 in
+        let x = below.1 in
+        let f : standings p.calls holder ≡ Some (Ends cm e1 e2) = is ∙ ap Some same in
+        let shaped = sound.walks.shaped holder (Ends cm e1 e2) f in
+        let never = sound.walks.apart holder n (Ends cm e1 e2) mine v (λ e. other (sym e)) f own_is below.2 in
+        let len = ap (λ (y : Path). length y) in
+        elim hold [
+          | inl e ↦ let l = len (sym at ∙ ap (λ (y : Spot). y.path) e) in omega (arith, l)
+          | inr (inl e) ↦
+              let end_is : e1.path ≡ v.path ++ x ∷ [] = sym (ap (λ (y : Spot). y.path) e) ∙ at ∙ below.3 in
+              elim (begins_snoc cm.path v.path x (subst (Begins cm.path) end_is shaped.0)) [
+                | inl b ↦ absurd (never (b, inl (record { rest = x ∷ []; is = end_is })))
+                | inr b ↦ let l = len (below.3 ∙ sym b) in omega (arith, l)
+              ]
+          | inr (inr e) ↦
+              let end_is : e2.path ≡ v.path ++ x ∷ [] = sym (ap (λ (y : Spot). y.path) e) ∙ at ∙ below.3 in
+              elim (begins_snoc cm.path v.path x (subst (Begins cm.path) end_is shaped.1)) [
+                | inl b ↦ absurd (never (b, inr (record { rest = x ∷ []; is = end_is })))
+                | inr b ↦ let l = len (below.3 ∙ sym b) in omega (arith, l)
+              ]
+        ]
+
+  deeper_by : (holder : ℕ) (o u : Option Path) (g : Stage) → standings p.calls holder ≡ Some (standing_at o u g) → IsShort o u g → (s : Spot) → Holds (standing_at o u g) s → n ≢ holder
+      → (mine : Standing) → standings p.calls n ≡ Some mine → (wanted : Path) → IsBelow mine wanted → walk (entry_of p.store.nodes) p.store.root wanted ≡ Some s.node → length wanted < depth_at o g
+  deeper_by holder o u stage.Fresh is short s hold other mine own_is wanted below leads = absurd hold
+  deeper_by holder None u (stage.At w node) is short s hold other mine own_is wanted below leads = absurd short
+  deeper_by holder (Some path) u (stage.At w node) is short s hold other mine own_is wanted below leads =
+      let there = sound.walks.leads holder (standing_at (Some path) u (stage.At w node)) s is hold in
       let same : take w path ≡ wanted = sym (ap (λ (x : Spot). x.path) hold) ∙ led_once p.store history sound.legal sound.keeps s.path wanted s.node there.names leads in
       let e = ap (λ (x : Path). length x) same in
-      omega (arith, e, length-take w path, short)
+      let less = short.0 in
+      omega (arith, e, length-take w path, less)
+  deeper_by holder None u (stage.Ends cm a b) is short s hold other mine own_is wanted below leads = absurd short
+  deeper_by holder (Some path) None (stage.Ends cm a b) is short s hold other mine own_is wanted below leads = absurd short
+  deeper_by holder (Some path) (Some to) (stage.Ends cm a b) is short s hold other mine own_is wanted below leads =
+      let g = stage.Ends cm a b in
+      let there = sound.walks.leads holder (standing_at (Some path) (Some to) g) s is hold in
+      let same : s.path ≡ wanted = led_once p.store history sound.legal sound.keeps s.path wanted s.node there.names leads in
+      let few = at_common holder (Some path) (Some to) g is other mine own_is (spot_on (Some path) cm.walked cm.node) (spot_on (Some path) a.walked a.node) (spot_on (Some to) b.walked b.node) s refl hold wanted same below in
+      let common = length-take cm.walked path in
+      let x = short.old_below in
+      let y = short.new_below in
+      elim (nat_le (length path) (a.walked + 1)) as (λ c. length wanted < (if c then b.walked + 1 else a.walked + 1)) [
+        | true ↦ omega (arith, few, common, x, y)
+        | false ↦ omega (arith, few, common, x, y)
+      ]
 
   -- another session's call holds the node that names lead to
-  module _ (holder node most : ℕ) (wanted : Path) (held : holder_of p.store.nodes node ≡ Some holder) (other : it.number ≢ holder) (leads : walk (entry_of p.store.nodes) p.store.root wanted ≡ Some node)
-      (deep : depth_at it.stage ≤ length wanted) (looked : LookedUp p.store q.store most) (few_looks : most ≤ most_looks it.request) (h : Walked p q it n (walked.Blocked holder)) where
-    d : (d : Call) × (call_at p.calls holder ≡ Some d) × ((s : Spot) × Holds (standing_of d) s × (s.node ≡ node))
-    d = holder_call node holder held
+  module _ (holder : ℕ) (h : Walked p q it n (walked.Blocked holder)) where
+    waits : Waits p.store q.store it holder
+    waits = h.advances
+
+    d : (d : Call) × (call_at p.calls holder ≡ Some d) × ((s : Spot) × Holds (standing_of d) s × (s.node ≡ waits.node))
+    d = holder_call waits.node holder waits.held
 
     ds : CallSound p history holder d.0
     ds = sound.calls holder d.0 d.1
@@ -249,15 +344,18 @@ module _ (p : PartsView) (history : List Record) (sound : Sound p history) (lane
     not_decided : reply_of d.0 ≡ None
     not_decided = elim (reply_of d.0) as (λ o. reply_of d.0 ≡ o → o ≡ None) [
       | None ↦ λ e. refl
-      | Some given ↦ λ e. absurd (subst (λ (g : Stage). Holds (standing_at (path_of d.0.request) g) d.2.0) (ds.recorded given e).0 d.2.1)
+      | Some given ↦ λ e. absurd (subst (λ (g : Stage). Holds (standing_at (path_of d.0.request) (other_of d.0.request) g) d.2.0) (ds.recorded given e).0 d.2.1)
     ] refl
 
     is_blocked : IsBlocked (seen p) (seen q) lane it holder
     is_blocked =
-        let there : walk (entry_of p.store.nodes) p.store.root wanted ≡ Some d.2.0.node = leads ∙ ap Some (sym d.2.2) in
-        let below = deeper_by holder d.0 (path_of d.0.request) d.0.stage (ap (option_map standing_of) d.1) ds.short d.2.0 d.2.1 wanted there in
-        let looks = looks_between p.store q.store most fits (looks_of_looked p.store q.store most looked) in
-        let not_own : holder ≢ n = λ e. other (number_is ∙ sym e) in
+        let there : walk (entry_of p.store.nodes) p.store.root waits.to ≡ Some d.2.0.node = waits.leads ∙ ap Some (sym d.2.2) in
+        let not_own : holder ≢ n = λ e. waits.other (number_is ∙ sym e) in
+        let short = (sound.calls n it at_it).short in
+        let deep = looks_deep (path_of it.request) (other_of it.request) it.stage waits.to short waits.looks in
+        let below = deeper_by holder (path_of d.0.request) (other_of d.0.request) d.0.stage (ap (option_map standing_of) d.1) ds.short d.2.0 d.2.1 (λ e. not_own (sym e))
+        (standing_of it) (ap (option_map standing_of) at_it) waits.to (looks_below (path_of it.request) (other_of it.request) it.stage waits.to short waits.looks) there in
+        let looks = looks_between p.store q.store 1 fits (looks_of_looked p.store q.store 1 waits.looked) in
         record {
           own = own p history sound lane n it at_it busy call fits;
           undecided = undecided;
@@ -277,28 +375,12 @@ module _ (p : PartsView) (history : List Record) (sound : Sound p history) (lane
             slots = λ s. slot_kept (seen p) (seen q) s (session_at p.sessions s) refl (ap (λ ss. session_at ss s) h.sessions) (λ m f. ap (λ cs. call_at cs m) h.calls);
             joined = ap (λ (ss : List (ℕ × Option ℕ)). length ss) h.sessions;
             more = looks.0;
-            few = let b = looks.1 in omega (arith, b, few_looks);
+            few = let b = looks.1 in omega (arith, b);
           };
         }
 
-  blocked_on_way : (holder : ℕ) → Walked p q it n (walked.Blocked holder) → Waits p.store q.store it holder → IsBlocked (seen p) (seen q) lane it holder
-  blocked_on_way holder h a =
-      let wanted = take (next_of it.stage) a.path in
-      let within = next_within (path_of it.request) it.stage a.path a.is_path (sound.calls n it at_it).short in
-      let len : length wanted ≡ next_of it.stage = let l = length-take (next_of it.stage) a.path in omega (arith, l, within) in
-      let e = next_is_depth it.stage in
-      is_blocked holder a.node 1 wanted a.held a.other a.leads (omega (arith, len, e)) a.looked (omega arith) h
-
-  blocked_at_new : (holder : ℕ) → Walked p q it n (walked.Blocked holder) → WaitsAtNew p.store q.store it holder → IsBlocked (seen p) (seen q) lane it holder
-  blocked_at_new holder h a =
-      let shallow : depth_at it.stage ≡ 0 = ap depth_at a.fresh in
-      let looks : most_looks it.request ≡ 2 + names_of it.request = ap (λ g. 2 + names_renamed g) a.are_paths ∙ ap (λ g. 2 + names_at g) (sym a.are_paths) in
-      is_blocked holder a.node (names_of it.request) a.to a.held a.other a.leads (omega (arith, shallow)) a.looked (omega (arith, looks)) h
-
   pub blocked_told : (holder : ℕ) → ((c : Call) → call_at p.calls n ≡ Some c → Walked p q c n (walked.Blocked holder)) → (c : Call) × IsBlocked (seen p) (seen q) lane c holder
-  blocked_told holder w =
-      let h = w it at_it in
-      (it, elim h.advances [ inl a ↦ blocked_on_way holder h a | inr a ↦ blocked_at_new holder h a ])
+  blocked_told holder w = (it, is_blocked holder (w it at_it))
 
   -- ---- it decides
   module _ (ways : Ways) (w : (c : Call) → call_at p.calls n ≡ Some c → Walked p q c n (walked.Ready ways)) where
@@ -309,10 +391,10 @@ module _ (p : PartsView) (history : List Record) (sound : Sound p history) (lane
     at_end = ready.advances
 
     nodes_same : q.store.nodes ≡ p.store.nodes
-    nodes_same = looked_nodes p.store q.store (looks_of it.request) at_end.looked
+    nodes_same = looked_nodes p.store q.store 2 at_end.looked
 
     pub ready_sound : Sound q history
-    ready_sound = looked_sound (looks_of it.request) at_end.looked ready.book ready.sessions ready.calls ready.drawn ready.joins
+    ready_sound = looked_sound 2 at_end.looked ready.book ready.sessions ready.calls ready.drawn ready.joins
 
     at_q : call_at q.calls it.number ≡ Some it
     at_q = ap (λ (cs : List (ℕ × Call)). call_at cs it.number) ready.calls ∙ ap (call_at p.calls) number_is ∙ at_it
@@ -327,13 +409,13 @@ module _ (p : PartsView) (history : List Record) (sound : Sound p history) (lane
     ready_located = at_end.located
 
     looks_fit_q : q.store.look_ups < 2 ^ 64
-    looks_fit_q = looks_fit p.store q.store (looks_of it.request) (looks_of_looked p.store q.store (looks_of it.request) at_end.looked) fits
+    looks_fit_q = looks_fit p.store q.store 2 (looks_of_looked p.store q.store 2 at_end.looked) fits
 
     module _ (m : PartsView) (over : (c : Call) → call_at q.calls n ≡ Some c → c.number ≡ n → Overtakes q m c) where
       pub made : Prepared q m history it ways
       made = prepared q history ready_sound looks_fit_q it at_q undecided ways at_end.located
           (all_free_on p.store q.store nodes_same it.number it.stage (target_of it.request) ways at_end.free)
-          (may_on p.store q.store nodes_same (path_of it.request) it.stage at_end.may) m (over it ready_at number_is)
+          (may_on p.store q.store nodes_same (path_of it.request) (other_of it.request) it.stage at_end.may) at_end.holds m (over it ready_at number_is)
 
       pub made_at : call_at m.calls n ≡ Some it
       made_at = ap (call_at m.calls) (sym number_is) ∙ made.at
@@ -366,17 +448,6 @@ module _ (p : PartsView) (history : List Record) (sound : Sound p history) (lane
         decided_given =
             subst (λ k. IsGiven k lane.session given) number_is (subst (λ s. IsGiven it.number s given) of_lane
             (given_now m (history ++ made.helped) made.sound it made.at undecided r given done labels))
-
-        way_of : (path : Path) (k node : ℕ) (o : Option Path) (g : Stage) → standings p.calls n ≡ Some (standing_at o g) → IsShort o g → o ≡ Some path → g ≡ stage.At k node → IsOnWay p.store path k node
-        way_of path k node o stage.Fresh is short e f = absurd (let z : ⊥ = cc in z)
-        way_of path k node None (stage.At a b) is short e f = absurd short
-        way_of path k node (Some x) (stage.At a b) is short e f =
-            let spot : Spot = record { path = take a x; node = b } in
-            let there = sound.walks.leads n (At spot) spot is refl in
-            let way : IsOnWay p.store x a b = record { short = short; leads = there.names; directory = there.directory } in
-            let ea : a ≡ k = cc in
-            let eb : b ≡ node = cc in
-            subst (λ (y : Path). IsOnWay p.store y k node) (some_eq x path e) (subst (λ y. IsOnWay p.store x k y) eb (subst (λ y. IsOnWay p.store x y b) ea way))
 
         sure_last : IsSure (history ++ made.helped) (did it given)
         sure_last plain is =
@@ -423,7 +494,7 @@ module _ (p : PartsView) (history : List Record) (sound : Sound p history) (lane
                         now = slot_busy (seen r) s k e_is (same ∙ e) (in_r ∙ was.1);
                         same = record { number = refl; session = refl; moment = refl; request = refl };
                         decided = reply_is e_is;
-                        less = let some = some_left (path_of d.request) d.stage (names_of d.request) short (λ path f. names_path d.request path f) in omega (arith, one, many, some);
+                        less = let some = some_left (path_of d.request) (other_of d.request) d.stage (names_of d.request) short (names_fit d.request) in omega (arith, one, many, some);
                         recorded = was.3;
                       })
                 ]
@@ -443,7 +514,7 @@ module _ (p : PartsView) (history : List Record) (sound : Sound p history) (lane
 
         pub decided_told : (lane' : LaneView) → Decides (record { core = seen p; history = history; lane = lane }) (record { core = seen r; added = made.helped ++ did it given ∷ []; lane = lane' }) it given
         decided_told lane' =
-            let looks = looks_between p.store q.store (looks_of it.request) fits (looks_of_looked p.store q.store (looks_of it.request) at_end.looked) in
+            let looks = looks_between p.store q.store 2 fits (looks_of_looked p.store q.store 2 at_end.looked) in
             let e : r.store.look_ups ≡ m.store.look_ups = ap (λ (x : StoreState). x.look_ups) done.store ∙ freed_looks it.stage done.mid ∙ done.look_ups in
             let more = made.more in
             let few = made.few in
@@ -451,7 +522,7 @@ module _ (p : PartsView) (history : List Record) (sound : Sound p history) (lane
               own = own p history sound lane n it at_it busy call fits;
               undecided = undecided;
               new_number = subst (λ k. IsNewNumber k history) (sym number_is) ((sound.calls n it at_it).new_number undecided);
-              way = may_by p.store (replay history) sound.keeps (path_of it.request) it.stage (λ path k node a b. way_of path k node (path_of it.request) it.stage (ap (option_map standing_of) at_it) (sound.calls n it at_it).short a b) at_end.may;
+              way = may_by p.store (replay history) sound.keeps (path_of it.request) (other_of it.request) it.stage (not_root it.request) (stands p history sound n it at_it) at_end.may;
               helped = made.helped;
               order = record {
                 records = subst (λ (cs : List (ℕ × Call)). AreRecordsOf cs (overtaken cs it.number (moved_by (answer_to (replay history) it.session it.number it.moment it.request).changes)) made.helped) ready.calls made.records;
@@ -468,5 +539,5 @@ module _ (p : PartsView) (history : List Record) (sound : Sound p history) (lane
               drawn = done.drawn ∙ made.drawn ∙ ready.drawn;
               joins = done.joins ∙ made.joins ∙ ready.joins;
               more = let a = looks.0 in omega (arith, a, e, more);
-              few = let b = looks.1 in let l = few_looks_of it.request in omega (arith, b, e, few, l);
+              few = let b = looks.1 in omega (arith, b, e, few);
             }

@@ -1,5 +1,5 @@
 -- A core right before a call is decided: what it moves past was carried out.
-use Rattle.std.specs.Prelude.{◌≡◌, ◌≢◌, ◌⊎◌, ◌<◌, ◌≤◌, ◌+◌, ◌^◌, ℕ, not, nat_eq, Bool, true, false, cond, ◌&&◌, List, [], ◌∷◌, ◌++◌, length, map, filter, filter_map, option_map, option_and_then, Option, Some, None, is_none, IsSome, refl}
+use Rattle.std.specs.Prelude.{◌≡◌, ◌≢◌, ◌⊎◌, ◌<◌, ◌≤◌, ◌+◌, ◌^◌, ℕ, not, nat_eq, nat_le, Bool, true, false, cond, if◌then◌else◌, ◌&&◌, ◌||◌, List, [], ◌∷◌, ◌++◌, length, take, drop, map, filter, filter_map, option_map, option_and_then, Option, Some, None, is_none, is_some, IsSome, refl}
 use Rattle.std.specs.Option.{option_map_or}
 use Rattle.std.proofs.Common.{sym, ap, subst, ◌∙◌, inl, inr, arith, append-nil, eqb-true, eq-eqb}
 use Rattle.std.specs.List.{AllByRecursion}
@@ -9,8 +9,10 @@ use Rattle.sf_path.specs.Names.{Path}
 use Rattle.sf_reply.specs.declared.reply.Reply.{Reply}
 use Rattle.sf_call.specs.declared.record.Record.{Record}
 use Rattle.sf_call.specs.declared.call.Call.{Call}
+use Rattle.sf_call.specs.declared.call.Reached.{Reached}
 use Rattle.sf_call.specs.declared.call.Stage.{Stage}
 use Rattle.sf_call.specs.declared.call.Stage.TheVariants as stage
+use Rattle.sf_call.specs.declared.request.Request.{Request}
 use Rattle.sf_call.specs.Requests.{Target, target_of}
 use Rattle.sf_call.specs.Requests.Target.{ByHandle, OnPath, OnPaths}
 use Rattle.sf_call.specs.Tree.{Tree, label_at, after_front}
@@ -22,10 +24,10 @@ use Rattle.sf_call.specs.Unanswered.{at_stage, with_reply}
 use Rattle.sf_call.specs.Tree.{place_of, place_at}
 use Rattle.sf_call.specs.declared.place.Place.TheVariants as place
 use Rattle.sf_call.proofs.Laws.{after_front-append, append-after_front}
-use Rattle.sf_laws.proofs.Laws.{unmoved_tree, moved_old, never_moved, spared_labels}
+use Rattle.sf_laws.proofs.Laws.{unmoved_tree, moved_changes, moved_old, never_moved, spared_labels}
 use Rattle.sf_walk.proofs.Laws.{no_way}
 use Rattle.sf_book.specs.Books.{BookView}
-use Rattle.std.proofs.lemmas.List.{append_assoc, length-append}
+use Rattle.std.proofs.lemmas.List.{append_assoc, length-append, length-take, take-append-drop}
 use Rattle.sf_inode.specs.declared.node.Node.{Node}
 use Rattle.sf_inode.specs.Stores.{StoreState, node_in, entry_of, holder_of, is_directory_at}
 use Rattle.sf_keeps.specs.Steps.{walk}
@@ -33,25 +35,27 @@ use Rattle.sf_keeps.specs.Keeps.{Keeps}
 use Rattle.sf_keeps.proofs.Laws.{reached_node, label_found, walk_on}
 use Rattle.sf_coupling.specs.Walks.{Spot, Standing, Holds}
 use Rattle.sf_coupling.specs.Walks.Standing.{Fresh}
+use Rattle.sf_coupling.specs.Fronts.{Begins}
+use Rattle.sf_coupling.proofs.Laws.{begins_trans, same_or_not}
 use Rattle.sf_walk.specs.declared.finding.Ways.{Ways}
 use Rattle.sf_walk.specs.declared.finding.Located.{Located}
 use Rattle.sf_walk.specs.declared.finding.Located.TheVariants as located
-use Rattle.sf_walk.specs.Ways.{way_from, missing, path_at, path_of, AreWays, IsLocated}
+use Rattle.sf_walk.specs.Ways.{way_from, missing, are_nested, is_rooted, path_at, path_of, other_at, other_of, IsThere, AreWays, IsLocated}
 use Rattle.sf_walk.specs.Served.{NodesStay, IsRefused, IsCarriedOut}
-use Rattle.sf_walk.specs.Steps.{IsFree, IsFreeThere, AreFree, MayDecideAt}
+use Rattle.sf_walk.specs.Steps.{IsBefore, AreEnds, IsShort, IsFree, IsFreeThere, AreFree, MayDecideAt, IsAtParent, HoldsParent}
 use Rattle.sf_core.specs.Cores.{call_at}
-use Rattle.sf_core.specs.Progress.{reply_of, did, has_passed, has_passed_by, overtaken, undecided_in, names_of, number_at}
+use Rattle.sf_core.specs.Progress.{reply_of, did, is_past, has_passed, has_passed_by, old_at, overtaken, undecided_in, names_of, number_at}
 use Rattle.sf_core.specs.Sure.{AreSure}
 use Rattle.sf_core.specs.Events.{AreRecordsOf}
 use Rattle.sf_core.specs.Parts.{PartsView}
-use Rattle.sf_core.specs.Sound.{standing_at, standing_of, standings, IsShort, Sound, IsWritten}
+use Rattle.sf_core.specs.Sound.{spot_on, standing_at, standing_of, standings, Sound, IsWritten}
 use Rattle.sf_core.specs.Stepping.{all_set_back, HelpsAll, Overtakes}
 use Rattle.sf_core.proofs.Holding.{walk_same}
 use Rattle.sf_core.proofs.Coupled.{led_once}
 use Rattle.sf_core.proofs.Sounds.{some_eq, none_some, reply_staged}
 use Rattle.sf_core.proofs.Spared.{located_at, label_after, label_by_handle, label_still}
 use Rattle.sf_core.proofs.Backing.{IsBack, AreBack, all_back, stood, left_back}
-use Rattle.sf_core.proofs.Overtaken.{all_found, one_found, numbers_rise, numbers_few, rising_apart, stands_aside, passed_below}
+use Rattle.sf_core.proofs.Overtaken.{all_found, one_found, numbers_rise, numbers_few, rising_apart, stands_aside, past_on, past_back, never_past, past_front, front_past, begins_more, longer_front, IsBelow, passed_below, LiesBelow}
 use Rattle.sf_core.proofs.Helping.{IsAside, IsClear, IsReady, WasHelped, HelpedAll, help_all}
 
 -- where another call stands, a record of the call leaves the label
@@ -97,7 +101,7 @@ nobody calls n None e = tt
 nobody calls n (Some old) e = absurd (none_some old (sym e))
 
 module _ (p : PartsView) (h : List Record) (sound : Sound p h) (c : Call) (at : call_at p.calls c.number ≡ Some c) (undecided : reply_of c ≡ None) (ways : Ways) (are_located : IsLocated p.store c.request ways)
-    (free : AreFree p.store c.number c.stage (target_of c.request) ways) (may : MayDecideAt p.store (path_of c.request) c.stage) where
+    (free : AreFree p.store c.number c.stage (target_of c.request) ways) (may : MayDecideAt p.store (path_of c.request) (other_of c.request) c.stage) where
   t : Tree
   t = replay h
 
@@ -109,11 +113,11 @@ module _ (p : PartsView) (h : List Record) (sound : Sound p h) (c : Call) (at : 
 
   -- ---- a call that moves nothing
   module _ (unmoved : moved_by (answer_to (replay h) c.session c.number c.moment c.request).changes ≡ None) where
-    labels_by : (g : Target) → target_of c.request ≡ g → AreWays p.store g ways → AreFree p.store c.number c.stage g ways → MayDecideAt p.store (path_at g) c.stage → LeavesLabels p h c
+    labels_by : (g : Target) → target_of c.request ≡ g → AreWays p.store g ways → AreFree p.store c.number c.stage g ways → MayDecideAt p.store (path_at g) (other_at g) c.stage → LeavesLabels p h c
     labels_by (ByHandle handle) e w f m given mid served stays path l holder leads held other =
         label_by_handle p.store mid h c.number c.session c.moment c.request given sound.legal above fresh sound.keeps served stays handle e path
     labels_by (OnPath x) e w f m given mid served stays path l holder leads held other =
-        label_still p.store mid h c.number c.session c.moment c.request given sound.legal above fresh sound.keeps served stays x (ap path_at e) c.stage ways.path w f m path l holder leads held other
+        label_still p.store mid h c.number c.session c.moment c.request given sound.legal above fresh sound.keeps served stays x e c.stage ways.path w f m path l holder leads held other
     labels_by (OnPaths old new) e w f m given mid served stays path l holder leads held other =
         let none = unmoved_tree (replay h) c.session c.number c.moment c.request old new e unmoved in
         label_after p.store mid h c.number c.session c.moment c.request given sound.legal above fresh sound.keeps served stays path
@@ -167,6 +171,20 @@ apart_test k n ne = elim (nat_eq k n) as (λ b. nat_eq k n ≡ b → not b ≡ t
 pub same_test : (k n : ℕ) → not (nat_eq k n) ≡ true → k ≢ n
 same_test k n e same = let x : nat_eq k n ≡ true = eq-eqb k n same in let y : not (nat_eq k n) ≡ false = ap not x in let z : ⊥ = cc in z
 
+-- what moves is the old path of a rename
+pub moved_is : (t : Tree) (session number moment : ℕ) (r : Request) (old : Path) → old_at (target_of r) ≡ Some old → is_some (moved_by (answer_to t session number moment r).changes) ≡ true
+    → moved_by (answer_to t session number moment r).changes ≡ Some old
+moved_is t session number moment r old is moved = by_target (target_of r) refl is
+  where
+    by_target : (g : Target) → target_of r ≡ g → old_at g ≡ Some old → moved_by (answer_to t session number moment r).changes ≡ Some old
+    by_target (ByHandle handle) e f = absurd (none_some old f)
+    by_target (OnPath path) e f = absurd (none_some old f)
+    by_target (OnPaths a b) e f =
+        elim (moved_by (answer_to t session number moment r).changes) as (λ o. moved_by (answer_to t session number moment r).changes ≡ o → is_some o ≡ true → o ≡ Some old) [
+          | None ↦ λ g h. absurd (let z : ⊥ = cc in z)
+          | Some p ↦ λ g h. ap Some ((moved_changes t session number moment r a b e p g).0 ∙ some_eq a old f)
+        ] refl moved
+
 -- those that are overtaken are no more than are undecided
 pub few_overtaken : (calls : List (ℕ × Call)) (n : ℕ) (old : Path) → length (overtaken calls n (Some old)) ≤ undecided_in calls
 few_overtaken calls n old =
@@ -206,12 +224,21 @@ module _ (s s' : StoreState) (t t' : Tree) (keeps : Keeps s t) (keeps' : Keeps s
       let root : s'.root ≡ s.root = let e : Some s'.root ≡ Some s.root = same [] path refl in cc in
       ap (λ x. way_from s'.nodes x x path) root ∙ way_on path [] s.root s.root refl (ap Some root) same dirs way
 
+-- the paths that a rename walks are its own
+first_by : (a z path : Path) (b : Bool) → (if b then None else Some a) ≡ Some path → a ≡ path
+first_by a z path true e = absurd (none_some path e)
+first_by a z path false e = some_eq a path e
+
+second_by : (a z to : Path) (b : Bool) → (if b then None else Some z) ≡ Some to → z ≡ to
+second_by a z to true e = absurd (none_some to e)
+second_by a z to false e = some_eq z to e
+
 no_place : (o : Option ℕ) → place_of o ≡ place.NoWay → ⊥
 no_place None e = cc
 no_place (Some label) e = cc
 
 module _ (p : PartsView) (h : List Record) (sound : Sound p h) (fits : p.store.look_ups < 2 ^ 64) (c : Call) (at : call_at p.calls c.number ≡ Some c) (undecided : reply_of c ≡ None) (ways : Ways) (are_located : IsLocated p.store c.request ways)
-    (free : AreFree p.store c.number c.stage (target_of c.request) ways) (may : MayDecideAt p.store (path_of c.request) c.stage)
+    (free : AreFree p.store c.number c.stage (target_of c.request) ways) (holds : HoldsParent (target_of c.request) c.stage ways)
     (old new : Path) (paths : target_of c.request ≡ OnPaths old new) (moved : moved_by (answer_to (replay h) c.session c.number c.moment c.request).changes ≡ Some old) (is_move : IsMove (replay h) old new)
     (m : PartsView) (helps : HelpsAll (all_set_back p (overtaken p.calls c.number (Some old))) (overtaken p.calls c.number (Some old)) m) where
   abbrev test : ℕ × Call → Bool
@@ -223,14 +250,85 @@ module _ (p : PartsView) (h : List Record) (sound : Sound p h) (fits : p.store.l
   abbrev b : PartsView
   b = all_set_back p (overtaken p.calls c.number (Some old))
 
-  stage_fresh : c.stage ≡ stage.Fresh
-  stage_fresh = subst (λ (g : Target). MayDecideAt p.store (path_at g) c.stage) paths may
+  free_new : IsFreeThere p.store c.number ways.new
+  free_new = (subst (λ (g : Target). AreFree p.store c.number c.stage g ways) paths free).1
 
-  free_new : IsFreeThere p.store c.number new ways.new
-  free_new = subst (λ (g : Target). AreFree p.store c.number c.stage g ways) paths free
+  ways_by : (is_rooted old new ≡ false → ways.path ≡ way_from p.store.nodes p.store.root p.store.root old) × (are_nested old new ≡ false → IsThere ways.path → ways.new ≡ way_from p.store.nodes p.store.root p.store.root new)
+  ways_by = subst (λ (g : Target). AreWays p.store g ways) paths are_located
 
-  ways_are : (ways.path ≡ way_from p.store.nodes p.store.root p.store.root old) × (ways.new ≡ way_from p.store.nodes p.store.root p.store.root new)
-  ways_are = subst (λ (g : Target). AreWays p.store g ways) paths are_located
+  not_nested : are_nested old new ≡ false
+  not_nested i = is_some (is_move.not_inside i) || is_some (is_move.not_around i)
+
+  not_rooted : is_rooted old new ≡ false
+  not_rooted = by_root old new is_move.not_inside is_move.not_around
+    where
+      by_root : (x y : Path) → after_front x y ≡ None → after_front y x ≡ None → is_rooted x y ≡ false
+      by_root [] y a b = absurd (none_some y (sym a))
+      by_root (n ∷ x) [] a b = absurd (none_some (n ∷ x) (sym b))
+      by_root (n ∷ x) (m ∷ y) a b = refl
+
+  old_is : ways.path ≡ way_from p.store.nodes p.store.root p.store.root old
+  old_is = ways_by.0 not_rooted
+
+  -- the old path leads to a node
+  old_node : (l : ℕ) × (walk (entry_of p.store.nodes) p.store.root old ≡ Some l)
+  old_node = elim (walk (entry_of p.store.nodes) p.store.root old) as (λ o. walk (entry_of p.store.nodes) p.store.root old ≡ o → (l : ℕ) × (o ≡ Some l)) [
+    | None ↦ λ e.
+        let a = label_found p.store (replay h) sound.keeps old ∙ ap (λ (o : Option ℕ). option_map (λ (y : Node). y.label) (option_and_then (node_in p.store.nodes) o)) e in
+        absurd (none_some is_move.label (sym a ∙ is_move.named))
+    | Some l ↦ λ e. (l, refl)
+  ] refl
+
+  old_way : (parent : ℕ) × (way_from p.store.nodes p.store.root p.store.root old ≡ located.At parent old_node.0)
+  old_way = located_at p.store.nodes old p.store.root p.store.root old_node.0 old_node.1
+
+  old_there : IsThere ways.path
+  old_there = subst IsThere (sym (old_is ∙ old_way.1)) tt
+
+  new_is : ways.new ≡ way_from p.store.nodes p.store.root p.store.root new
+  new_is = ways_by.1 not_nested old_there
+
+  -- it holds the old path's parent, with an end
+  at_parent : IsAtParent old c.stage
+  at_parent = subst (λ (g : Target). HoldsParent g c.stage ways) paths holds not_nested old_there
+
+  own_paths : (path_of c.request ≡ Some old) × (other_of c.request ≡ Some new)
+  own_paths = (
+    ap path_at paths ∙ ap (λ b. if b then None else Some old) not_rooted,
+    ap other_at paths ∙ ap (λ b. if b then None else Some new) not_nested,
+  )
+
+  own_short : IsShort (Some old) (Some new) c.stage
+  own_short =
+      subst (λ (o : Option Path). IsShort o (Some new) c.stage) own_paths.0 (subst (λ (o : Option Path). IsShort (path_of c.request) o c.stage) own_paths.1 (sound.calls c.number c at).short)
+
+  own_standing : standings p.calls c.number ≡ Some (standing_at (Some old) (Some new) c.stage)
+  own_standing = ap (option_map standing_of) at ∙ (λ i. Some (standing_at (own_paths.0 i) (own_paths.1 i) c.stage))
+
+  -- where it stands with its old end: all names of the old path but the last
+  above_old : (s : Spot) × Holds (standing_at (Some old) (Some new) c.stage) s × ((count : ℕ) × (s.path ≡ take count old) × (count + 1 ≡ length old))
+  above_old = by_stage c.stage at_parent
+    where
+      by_stage : (g : Stage) → IsAtParent old g → (s : Spot) × Holds (standing_at (Some old) (Some new) g) s × ((count : ℕ) × (s.path ≡ take count old) × (count + 1 ≡ length old))
+      by_stage stage.Fresh a = absurd a
+      by_stage (stage.At w node) a = absurd a
+      by_stage (stage.Ends cm e1 e2) a = (spot_on (Some old) e1.walked e1.node, inr (inl refl), (e1.walked, refl, a))
+
+  -- it has not passed its own old path
+  own_behind : has_passed c old ≡ false
+  own_behind = (λ i. has_passed_by (own_paths.0 i) (own_paths.1 i) c.stage old) ∙ by_stage c.stage own_short
+    where
+      new_never : (w : ℕ) → is_past (Some new) w old ≡ false
+      new_never w = ap (λ (o : Option Path). nat_le (length old) w && is_some o) is_move.not_inside ∙ never (nat_le (length old) w)
+        where
+          never : (b : Bool) → (b && false) ≡ false
+          never true = refl
+          never false = refl
+
+      by_stage : (g : Stage) → IsShort (Some old) (Some new) g → has_passed_by (Some old) (Some new) g old ≡ false
+      by_stage stage.Fresh short = refl
+      by_stage (stage.At w node) short = never_past old old w short.0
+      by_stage (stage.Ends cm e1 e2) short = (λ i. never_past old old e1.walked short.short i || new_never e2.walked i)
 
   these_undecided : AllByRecursion (λ k. (d : Call) → call_at p.calls k ≡ Some d → reply_of d ≡ None) numbers
   these_undecided = all_found test (λ k. (d : Call) → call_at p.calls k ≡ Some d → reply_of d ≡ None) p.calls sound.calls_rise
@@ -242,44 +340,144 @@ module _ (p : PartsView) (h : List Record) (sound : Sound p h) (fits : p.store.l
   is_back : (k : ℕ) (d : Call) → call_at p.calls k ≡ Some d → test (k, d) ≡ true → call_at b.calls k ≡ Some (at_stage stage.Fresh d)
   is_back k d is e = one_found test (λ j. (x : Call) → call_at p.calls j ≡ Some x → call_at b.calls j ≡ Some (at_stage stage.Fresh x)) p.calls k d back.these is e d is
 
-  ready_by : (k : ℕ) (d : Call) → call_at p.calls k ≡ Some d → test (k, d) ≡ true → (o : Option Path) → path_of d.request ≡ o → (g : Stage) → d.stage ≡ g → has_passed_by o g old ≡ true → IsReady b old k
-  ready_by k d is e None f g same passed = absurd (let z : ⊥ = cc in z)
-  ready_by k d is e (Some path) f stage.Fresh same passed = absurd (let z : ⊥ = cc in z)
-  ready_by k d is e (Some path) f (stage.At w node) same passed =
-      let short : w < length path = subst (λ (o : Option Path). IsShort o (stage.At w node)) f (subst (λ (g : Stage). IsShort (path_of d.request) g) same (sound.calls k d is).short) in
-      let below = passed_below old path w node passed short in
-      record {
-        call = at_stage stage.Fresh d;
-        at = is_back k d is e;
-        undecided = reply_staged stage.Fresh d ∙ none_of (reply_of d) (three_true (not (nat_eq k c.number)) (is_none (reply_of d)) (has_passed d old) e).1;
-        fresh = refl;
-        path = path;
-        is_path = f;
-        name = below.0;
-        rest = below.1;
-        below = below.2;
-      }
+  -- Where another call has passed the old path with an end, so has its common directory: it lies on
+  -- the way of that end, and this call holds the directory above the old path.
+  module _ (k : ℕ) (from to : Path) (cm e1 e2 : Reached) (other : k ≢ c.number) (is : standings p.calls k ≡ Some (standing_at (Some from) (Some to) (stage.Ends cm e1 e2))) (ends : AreEnds from to cm e1 e2) where
+    abbrev its : Standing
+    its = standing_at (Some from) (Some to) (stage.Ends cm e1 e2)
+
+    -- an end that is past the old path
+    common_past : (path : Path) (w : ℕ) → w < length path → Begins (take cm.walked from) (take w path) → is_past (Some path) w old ≡ true
+        → (Begins above_old.0.path (take w path) → Begins above_old.0.path (take e1.walked from) ⊎ Begins above_old.0.path (take e2.walked to)) → length old ≤ cm.walked
+    common_past path w less common past at_end =
+        let front = past_front old path w past (omega (arith, less)) in
+        let above = above_old.2 in
+        let up : Begins above_old.0.path old = record { rest = drop above.0 old; is = sym (take-append-drop above.0 old) ∙ ap (λ (x : Path). x ++ drop above.0 old) (sym above.1) } in
+        let below = begins_trans above_old.0.path old (take w path) up (record { rest = front.0; is = front.1 }) in
+        let longer = longer_front (take cm.walked from) above_old.0.path (take w path) common below
+        (λ b. sound.walks.apart k c.number its (standing_at (Some old) (Some new) c.stage) above_old.0 other is own_standing above_old.1 (b, at_end below)) in
+        let len = ap (λ (x : Path). length x) above.1 in
+        let last = above.2 in
+        let short = ends.part.short in
+        omega (arith, longer, len, last, length-take above.0 old, length-take cm.walked from, short)
+
+    both_below : is_past (Some from) cm.walked old ≡ true → IsBelow old from × IsBelow old to
+    both_below past =
+        let short = ends.part.short in
+        let front = past_front old from cm.walked past (omega (arith, short)) in
+        (passed_below old from cm.walked past short, passed_below old to cm.walked (front_past old to cm.walked front.0 (sym ends.part.alike ∙ front.1)) ends.part.short_new)
+
+    end_below : (x y : Bool) → is_past (Some from) e1.walked old ≡ x → is_past (Some to) e2.walked old ≡ y → (x || y) ≡ true → IsBelow old from × IsBelow old to
+    end_below true y ex ey t =
+        let many = common_past from e1.walked ends.short (begins_more from cm.walked e1.walked ends.old_below) ex (λ b. inl b) in
+        both_below (past_back old from cm.walked e1.walked many ex)
+    end_below false true ex ey t =
+        let common = subst (λ (x : Path). Begins x (take e2.walked to)) (sym ends.part.alike) (begins_more to cm.walked e2.walked ends.new_below) in
+        let many = common_past to e2.walked ends.short_new common ey (λ b. inr b) in
+        let past = past_back old to cm.walked e2.walked many ey in
+        let short = ends.part.short_new in
+        let front = past_front old to cm.walked past (omega (arith, short)) in
+        both_below (front_past old from cm.walked front.0 (ends.part.alike ∙ front.1))
+    end_below false false ex ey t = absurd (let z : ⊥ = cc in z)
+
+  -- before its paths part both begin alike
+  at_below : (from to : Path) (w : ℕ) → w < length from → IsBefore from (Some to) w → is_past (Some from) w old ≡ true → IsBelow old from × IsBelow old to
+  at_below from to w less before past =
+      let count = before.0 in
+      let part = before.1 in
+      let more = before.2 in
+      let past_count = past_on old from w count (omega (arith, more)) past in
+      let short = part.short in
+      let front = past_front old from count past_count (omega (arith, short)) in
+      (passed_below old from w past less, passed_below old to count (front_past old to count front.0 (sym part.alike ∙ front.1)) part.short_new)
+
+  -- what has passed the old path lies below it
+  module _ (k : ℕ) (d : Call) (is : call_at p.calls k ≡ Some d) (e : test (k, d) ≡ true) where
+    not_here : k ≢ c.number
+    not_here = same_test k c.number (three_true (not (nat_eq k c.number)) (is_none (reply_of d)) (has_passed d old) e).0
+
+    lies_by : (g : Target) (o u : Option Path) (st : Stage) → path_at g ≡ o → other_at g ≡ u → IsShort o u st → standings p.calls k ≡ Some (standing_at o u st) → has_passed_by o u st old ≡ true
+        → ((path : Path) × (o ≡ Some path)) × LiesBelow old g
+    lies_by g o u stage.Fresh eo eu short stands passed = absurd (let z : ⊥ = cc in z)
+    lies_by g None u (stage.At w node) eo eu short stands passed = absurd short
+    lies_by g None u (stage.Ends cm e1 e2) eo eu short stands passed = absurd short
+    lies_by g (Some path) None (stage.Ends cm e1 e2) eo eu short stands passed = absurd short
+    lies_by (ByHandle handle) (Some path) u st eo eu short stands passed = absurd (none_some path eo)
+    lies_by (OnPath x) (Some path) u (stage.At w node) eo eu short stands passed =
+        ((path, refl), subst (IsBelow old) (sym (some_eq x path eo)) (passed_below old path w passed short.0))
+    lies_by (OnPath x) (Some path) (Some to) (stage.Ends cm e1 e2) eo eu short stands passed = absurd (none_some to eu)
+    lies_by (OnPaths a z) (Some path) None (stage.At w node) eo eu short stands passed = ((path, refl), inl (nested_by (are_nested a z) refl eu))
+      where
+        nested_by : (b : Bool) → are_nested a z ≡ b → (if b then None else Some z) ≡ None → are_nested a z ≡ true
+        nested_by true i f = i
+        nested_by false i f = absurd (none_some z (sym f))
+    lies_by (OnPaths a z) (Some path) (Some to) (stage.At w node) eo eu short stands passed =
+        let below = at_below path to w short.0 short.1 passed in
+        let first = first_by a z path (is_rooted a z) eo in
+        let second = second_by a z to (are_nested a z) eu in
+        ((path, refl), inr (subst (IsBelow old) (sym first) below.0, subst (IsBelow old) (sym second) below.1))
+    lies_by (OnPaths a z) (Some path) (Some to) (stage.Ends cm e1 e2) eo eu short stands passed =
+        let below = end_below k path to cm e1 e2 not_here stands short (is_past (Some path) e1.walked old) (is_past (Some to) e2.walked old) refl refl passed in
+        let first = first_by a z path (is_rooted a z) eo in
+        let second = second_by a z to (are_nested a z) eu in
+        ((path, refl), inr (subst (IsBelow old) (sym first) below.0, subst (IsBelow old) (sym second) below.1))
+
+    lies : ((path : Path) × (path_of d.request ≡ Some path)) × LiesBelow old (target_of d.request)
+    lies =
+        lies_by (target_of d.request) (path_of d.request) (other_of d.request) d.stage refl refl (sound.calls k d is).short (ap (option_map standing_of) is)
+        (three_true (not (nat_eq k c.number)) (is_none (reply_of d)) (has_passed d old) e).2
+
+    ready_call : IsReady b old k
+    ready_call = record {
+      call = at_stage stage.Fresh d;
+      at = is_back k d is e;
+      undecided = reply_staged stage.Fresh d ∙ none_of (reply_of d) (three_true (not (nat_eq k c.number)) (is_none (reply_of d)) (has_passed d old) e).1;
+      fresh = refl;
+      path = lies.0.0;
+      is_path = lies.0.1;
+      below = lies.1;
+    }
 
   ready : AllByRecursion (IsReady b old) numbers
-  ready = all_found test (IsReady b old) p.calls sound.calls_rise
-      (λ k d is e. ready_by k d is e (path_of d.request) refl d.stage refl (three_true (not (nat_eq k c.number)) (is_none (reply_of d)) (has_passed d old) e).2)
+  ready = all_found test (IsReady b old) p.calls sound.calls_rise (λ k d is e. ready_call k d is e)
 
-  clear_by : (k : ℕ) (d : Call) → call_at p.calls k ≡ Some d → test (k, d) ≡ false → (o : Option Path) → path_of d.request ≡ o → (st : Stage) → d.stage ≡ st → (s : Spot) → Holds (standing_at o st) s → after_front old s.path ≡ None
-  clear_by k d is e o f stage.Fresh same s hold = absurd hold
-  clear_by k d is e None f (stage.At w node) same s hold =
-      absurd (subst (λ (x : Option Path). IsShort x (stage.At w node)) f (subst (λ (g : Stage). IsShort (path_of d.request) g) same (sound.calls k d is).short))
-  clear_by k d is e (Some path) f (stage.At w node) same s hold =
-      let not_here : k ≢ c.number = λ x.
-      let d_is : d ≡ c = some_eq d c (sym is ∙ ap (call_at p.calls) x ∙ at) in
-      let y : stage.At w node ≡ stage.Fresh = sym same ∙ ap (λ (z : Call). z.stage) d_is ∙ stage_fresh in let z : ⊥ = cc in z in
-      let waits : is_none (reply_of d) ≡ true =
-      elim (reply_of d) as (λ x. reply_of d ≡ x → is_none x ≡ true) [
-        | None ↦ λ r. refl
-        | Some given ↦ λ r. let y : stage.At w node ≡ stage.Fresh = sym same ∙ ((sound.calls k d is).recorded given r).0 in absurd (let z : ⊥ = cc in z)
-      ] refl in
-      let passed : has_passed d old ≡ false = three_false (not (nat_eq k c.number)) (is_none (reply_of d)) (has_passed d old) e (apart_test k c.number not_here) waits in
-      let by : has_passed_by (Some path) (stage.At w node) old ≡ false = ap (λ (x : Option Path). has_passed_by x (stage.At w node) old) (sym f) ∙ ap (λ (g : Stage). has_passed_by (path_of d.request) g old) (sym same) ∙ passed in
-      ap (λ (x : Spot). after_front old x.path) hold ∙ stands_aside old path w node by
+  -- ---- nobody is left at the old path or below it
+  clear_by : (o u : Option Path) (st : Stage) (s : Spot) → IsShort o u st → has_passed_by o u st old ≡ false → Holds (standing_at o u st) s → after_front old s.path ≡ None
+  clear_by o u stage.Fresh s short behind hold = absurd hold
+  clear_by None u (stage.At w node) s short behind hold = absurd short
+  clear_by (Some path) u (stage.At w node) s short behind hold = ap (λ (x : Spot). after_front old x.path) hold ∙ stands_aside old path w behind
+  clear_by None u (stage.Ends cm e1 e2) s short behind hold = absurd short
+  clear_by (Some path) None (stage.Ends cm e1 e2) s short behind hold = absurd short
+  clear_by (Some path) (Some to) (stage.Ends cm e1 e2) s short behind hold =
+      let both = or_false (is_past (Some path) e1.walked old) (is_past (Some to) e2.walked old) behind in
+      elim hold [
+        | inl e ↦ ap (λ (x : Spot). after_front old x.path) e ∙ stands_aside old path cm.walked (fewer_behind path cm.walked e1.walked short.old_below both.0)
+        | inr (inl e) ↦ ap (λ (x : Spot). after_front old x.path) e ∙ stands_aside old path e1.walked both.0
+        | inr (inr e) ↦ ap (λ (x : Spot). after_front old x.path) e ∙ stands_aside old to e2.walked both.1
+      ]
+    where
+      or_false : (x y : Bool) → (x || y) ≡ false → (x ≡ false) × (y ≡ false)
+      or_false true y e = absurd (let z : ⊥ = cc in z)
+      or_false false y e = (refl, e)
+
+      fewer_behind : (x : Path) (v w : ℕ) → v ≤ w → is_past (Some x) w old ≡ false → is_past (Some x) v old ≡ false
+      fewer_behind x v w few never = elim (is_past (Some x) v old) as (λ t. is_past (Some x) v old ≡ t → t ≡ false) [
+        | true ↦ λ e. let z : false ≡ true = sym never ∙ past_on old x v w few e in absurd (let y : ⊥ = cc in y)
+        | false ↦ λ e. refl
+      ] refl
+
+  -- a call that holds a directory, and is not overtaken, has not passed the old path
+  behind_by : (k : ℕ) (d : Call) → call_at p.calls k ≡ Some d → test (k, d) ≡ false → (s : Spot) → Holds (standing_of d) s → has_passed d old ≡ false
+  behind_by k d is e s hold = elim (same_or_not k c.number) [
+    | inl same ↦ ap (λ (x : Call). has_passed x old) (some_eq d c (sym is ∙ ap (call_at p.calls) same ∙ at)) ∙ own_behind
+    | inr ne ↦
+        let waits : is_none (reply_of d) ≡ true =
+        elim (reply_of d) as (λ x. reply_of d ≡ x → is_none x ≡ true) [
+          | None ↦ λ r. refl
+          | Some given ↦ λ r. absurd (subst (λ (g : Stage). Holds (standing_at (path_of d.request) (other_of d.request) g) s) ((sound.calls k d is).recorded given r).0 hold)
+        ] refl in
+        three_false (not (nat_eq k c.number)) (is_none (reply_of d)) (has_passed d old) e (apart_test k c.number ne) waits
+  ]
 
   clear : IsClear b old
   clear k g s is hold =
@@ -290,7 +488,9 @@ module _ (p : PartsView) (h : List Record) (sound : Sound p h) (fits : p.store.l
           | true ↦ λ y.
               let fresh : g ≡ Fresh = some_eq g Fresh (sym is ∙ ap (option_map standing_of) (is_back k d e y)) in
               absurd (subst (λ (x : Standing). Holds x s) fresh hold)
-          | false ↦ λ y. clear_by k d e y (path_of d.request) refl d.stage refl s (subst (λ (x : Standing). Holds x s) (sym (some_eq (standing_of d) g f)) hold)
+          | false ↦ λ y.
+              let held = subst (λ (x : Standing). Holds x s) (sym (some_eq (standing_of d) g f)) hold in
+              clear_by (path_of d.request) (other_of d.request) d.stage s (sound.calls k d e).short (behind_by k d e y s held) held
         ] refl
       ] refl was
 
@@ -339,14 +539,11 @@ module _ (p : PartsView) (h : List Record) (sound : Sound p h) (fits : p.store.l
     in_p : standings p.calls holder ≡ Some the.0
     in_p = stood p b h numbers back holder the.0 the.1 in_b the.3
 
-    not_by : (x : Path) → new ≡ x → IsFreeThere p.store c.number x ways.new → path ≡ new → ⊥
-    not_by [] e f same =
-        let a : after_front new old ≡ None = is_move.not_around in
-        none_some old (sym a ∙ ap (λ y. after_front y old) e)
-    not_by (n ∷ x) e f same =
+    not_new : path ≡ new → ⊥
+    not_new same =
         let there = (sound.walks.leads holder the.0 the.1 in_p the.3).names in
         let way = located_at p.store.nodes new p.store.root p.store.root the.1.node (ap (walk (entry_of p.store.nodes) p.store.root) (sym (same_path ∙ same)) ∙ there) in
-        let free_at : IsFree p.store c.number the.1.node = subst (λ (f : Located). IsFreeThere p.store c.number (n ∷ x) f) (ways_are.1 ∙ way.1) f in
+        let free_at : IsFree p.store c.number the.1.node = subst (λ (f : Located). IsFreeThere p.store c.number f) (new_is ∙ way.1) free_new in
         other (free_at holder (sound.walks.held holder the.0 the.1 in_p the.3))
 
     label_some : IsSome (label_at (replay (h ++ all.helped)).names path)
@@ -359,7 +556,7 @@ module _ (p : PartsView) (h : List Record) (sound : Sound p h) (fits : p.store.l
     label_there =
         let own = now.calls c.number c at_m in
         label_after m.store mid (h ++ all.helped) c.number c.session c.moment c.request given now.legal own.above (own.new_number undecided) now.keeps served stays path
-        (spared_labels (h ++ all.helped) c.number c.session c.moment c.request old new path now.legal own.above (own.new_number undecided) paths label_some front (not_by new refl free_new))
+        (spared_labels (h ++ all.helped) c.number c.session c.moment c.request old new path now.legal own.above (own.new_number undecided) paths label_some front not_new)
 
   -- ---- both paths lead where they led
   aside_old : (q r : Path) → q ++ r ≡ old → IsAside old q
@@ -380,14 +577,8 @@ module _ (p : PartsView) (h : List Record) (sound : Sound p h) (fits : p.store.l
   directories_same : (q : Path) (l : ℕ) → IsAside old q → walk (entry_of p.store.nodes) p.store.root q ≡ Some l → is_directory_at p.store.nodes l ≡ true → is_directory_at m.store.nodes l ≡ true
   directories_same q l aside w d = all.led.directory q l aside (walk_same p.store b.store back.terrain q ∙ w) (back.terrain.directory l ∙ d)
 
-  old_there : way_from p.store.nodes p.store.root p.store.root old ≢ located.NoWay
-  old_there none =
-      elim (walk (entry_of p.store.nodes) p.store.root old) as (λ o. walk (entry_of p.store.nodes) p.store.root old ≡ o → ⊥) [
-        | None ↦ λ e.
-            let a = label_found p.store (replay h) sound.keeps old ∙ ap (λ (o : Option ℕ). option_map (λ (y : Node). y.label) (option_and_then (node_in p.store.nodes) o)) e in
-            none_some is_move.label (sym a ∙ is_move.named)
-        | Some l ↦ λ e. let w = located_at p.store.nodes old p.store.root p.store.root l e in let x : located.NoWay ≡ located.At w.0 l = sym none ∙ w.1 in let z : ⊥ = cc in z
-      ] refl
+  old_some : way_from p.store.nodes p.store.root p.store.root old ≢ located.NoWay
+  old_some none = let x : located.NoWay ≡ located.At old_way.0 old_node.0 = sym none ∙ old_way.1 in let z : ⊥ = cc in z
 
   new_there : way_from p.store.nodes p.store.root p.store.root new ≢ located.NoWay
   new_there none =
@@ -397,8 +588,8 @@ module _ (p : PartsView) (h : List Record) (sound : Sound p h) (fits : p.store.l
 
   located_m : IsLocated m.store c.request ways
   located_m = subst (λ (g : Target). AreWays m.store g ways) (sym paths) (
-    ways_are.0 ∙ sym (way_kept p.store m.store (replay h) (replay (h ++ all.helped)) sound.keeps all.led.sound.keeps old (λ q r e. walks_same q (aside_old q r e)) (λ q r l e. directories_same q l (aside_old q r e)) old_there),
-    ways_are.1 ∙ sym (way_kept p.store m.store (replay h) (replay (h ++ all.helped)) sound.keeps all.led.sound.keeps new (λ q r e. walks_same q (aside_new q r e)) (λ q r l e. directories_same q l (aside_new q r e)) new_there),
+    λ _. old_is ∙ sym (way_kept p.store m.store (replay h) (replay (h ++ all.helped)) sound.keeps all.led.sound.keeps old (λ q r e. walks_same q (aside_old q r e)) (λ q r l e. directories_same q l (aside_old q r e)) old_some),
+    λ _ _. new_is ∙ sym (way_kept p.store m.store (replay h) (replay (h ++ all.helped)) sound.keeps all.led.sound.keeps new (λ q r e. walks_same q (aside_new q r e)) (λ q r l e. directories_same q l (aside_new q r e)) new_there),
   )
 
   -- ---- the records are those of the calls that were there
@@ -457,8 +648,8 @@ module _ (p : PartsView) (h : List Record) (sound : Sound p h) (fits : p.store.l
 
 -- ---- both
 pub prepared : (p : PartsView) (h : List Record) → Sound p h → p.store.look_ups < 2 ^ 64 → (c : Call) → call_at p.calls c.number ≡ Some c → reply_of c ≡ None → (ways : Ways) → IsLocated p.store c.request ways
-    → AreFree p.store c.number c.stage (target_of c.request) ways → MayDecideAt p.store (path_of c.request) c.stage → (m : PartsView) → Overtakes p m c → Prepared p m h c ways
-prepared p h sound fits c at undecided ways are_located free may m overtakes =
+    → AreFree p.store c.number c.stage (target_of c.request) ways → MayDecideAt p.store (path_of c.request) (other_of c.request) c.stage → HoldsParent (target_of c.request) c.stage ways → (m : PartsView) → Overtakes p m c → Prepared p m h c ways
+prepared p h sound fits c at undecided ways are_located free may holds m overtakes =
     let o = overtakes (replay h) sound.keeps in
     elim (moved_by (answer_to (replay h) c.session c.number c.moment c.request).changes) as (λ x. moved_by (answer_to (replay h) c.session c.number c.moment c.request).changes ≡ x → Prepared p m h c ways) [
       | None ↦ λ e.
@@ -476,4 +667,4 @@ prepared p h sound fits c at undecided ways are_located free may m overtakes =
         let is = moved_old h c.number c.session c.moment c.request old new x sound.legal own.above (own.new_number undecided) f e in
         let moved : moved_by (answer_to (replay h) c.session c.number c.moment c.request).changes ≡ Some old = e ∙ ap Some is.0 in
         let these : o.0 ≡ overtaken p.calls c.number (Some old) = o.1 ∙ ap (overtaken p.calls c.number) moved in
-        prepared_moved p h sound fits c at undecided ways are_located free may old new f moved is.1 m (subst (λ (ns : List ℕ). HelpsAll (all_set_back p ns) ns m) these o.2)
+        prepared_moved p h sound fits c at undecided ways are_located free holds old new f moved is.1 m (subst (λ (ns : List ℕ). HelpsAll (all_set_back p ns) ns m) these o.2)

@@ -1,39 +1,33 @@
 -- Each event keeps a core sound.
-use Rattle.std.specs.Prelude.{◌≡◌, ◌≢◌, ◌<◌, ◌≤◌, ◌+◌, ℕ, Bool, true, false, cond, T, List, [], ◌∷◌, ◌++◌, length, take, filter, option_map, Option, Some, None, is_none, refl}
+use Rattle.std.specs.Prelude.{◌≡◌, ◌≢◌, ◌<◌, ◌≤◌, ◌+◌, ℕ, Bool, true, false, cond, T, List, [], ◌∷◌, ◌++◌, length, filter, Option, Some, None, is_none, refl}
 use Rattle.std.proofs.Common.{sym, ap, subst, ◌∙◌, inl, inr, arith}
 use Rattle.std.specs.List.{AllByRecursion, count_by}
 use Rattle.std.specs.Ordering.{nat_cmp}
 use Rattle.std.specs.Map.{set_value}
 use Rattle.std.specs.BTreeMap.{is_at}
 use Rattle.std.specs.FinMap.{is_sorted}
-use Rattle.sf_path.specs.Names.{Path}
 use Rattle.sf_reply.specs.declared.reply.Reply.{Reply}
 use Rattle.sf_call.specs.declared.record.Record.{Record}
 use Rattle.sf_call.specs.declared.call.Call.{Call}
 use Rattle.sf_call.specs.declared.call.Stage.{Stage}
-use Rattle.sf_call.specs.declared.call.Stage.TheVariants as stage
 use Rattle.sf_call.specs.Histories.{after, replay, IsNewNumber, IsAmong}
 use Rattle.sf_book.specs.Books.{is_deed}
 use Rattle.sf_book.proofs.Laws.{deeds-append}
 use Rattle.sf_call.specs.Unanswered.{at_stage, staged_by, staged}
-use Rattle.sf_inode.specs.Nodes.{with_holder}
-use Rattle.sf_inode.specs.Stores.{StoreState, holder_of, looked_up, edited}
+use Rattle.sf_inode.specs.Stores.{StoreState, holder_of}
 use Rattle.sf_keeps.specs.Keeps.{Keeps}
-use Rattle.sf_keeps.proofs.Laws.{keeps_looked, keeps_held}
 use Rattle.sf_coupling.specs.Walks.{scene, AreWalks}
-use Rattle.sf_coupling.specs.Walks.Standing.{At}
 use Rattle.sf_coupling.proofs.Laws.{same_or_not}
-use Rattle.sf_walk.specs.Ways.{path_of}
+use Rattle.sf_walk.specs.Ways.{path_of, other_of}
 use Rattle.sf_walk.specs.Served.{LookedUp}
-use Rattle.sf_walk.specs.Steps.{IsOnWay, IsFree, Takes, stepped, next_of}
+use Rattle.sf_walk.specs.Steps.{IsShort}
 use Rattle.sf_core.proofs.LookUps.{looked_nodes, looked_root, keeps_counted}
 use Rattle.sf_core.specs.Cores.{call_at, session_at}
 use Rattle.sf_core.specs.Progress.{reply_of, did, undecided_in}
 use Rattle.sf_core.specs.Parts.{PartsView}
-use Rattle.sf_core.specs.Sound.{terrain, standing_at, standing_of, standings, IsShort, CallSound, Sound}
+use Rattle.sf_core.specs.Sound.{terrain, standings, CallSound, Sound}
 use Rattle.sf_core.proofs.Maps.{set_same, set_other, rise_set, one_if, passing_removed, passing_set}
 use Rattle.sf_core.proofs.Holding.{same_nodes, leads_same, walks_on, walks_alike}
-use Rattle.sf_core.proofs.Coupled.{first_keeps, next_keeps}
 
 pub all_push : {A : Type 0} (P : A → Type 0) (xs : List A) (x : A) → AllByRecursion P xs → P x → AllByRecursion P (xs ++ x ∷ [])
 all_push P [] x h p = (p, tt)
@@ -160,7 +154,7 @@ module _ (p : PartsView) (history : List Record) (sound : Sound p history) (n : 
       let e = undecided_one (at_stage after c) (reply_staged after c ∙ undecided) in
       omega (arith, a, b, d, e)
 
-  module _ (keeps : Keeps s (replay history)) (walks : AreWalks (scene (terrain s) (standings (staged p.calls n after)) (holder_of s.nodes))) (short : IsShort (path_of c.request) after) where
+  module _ (keeps : Keeps s (replay history)) (walks : AreWalks (scene (terrain s) (standings (staged p.calls n after)) (holder_of s.nodes))) (short : IsShort (path_of c.request) (other_of c.request) after) where
     here : CallSound after_stage history n (at_stage after c)
     here = record {
       is_number = call.is_number;
@@ -207,45 +201,3 @@ module _ (p : PartsView) (history : List Record) (sound : Sound p history) (n : 
       calls_rise = subst (λ cs. T (is_sorted nat_cmp cs)) (sym (staged_is p.calls n after c at)) (rise_set (is_at (nat_cmp n)) (at_stage after c) p.calls sound.calls_rise);
       sessions_rise = sound.sessions_rise;
     }
-
-module _ (p : PartsView) (history : List Record) (sound : Sound p history) (n : ℕ) (c : Call) (at : call_at p.calls n ≡ Some c) (undecided : reply_of c ≡ None) (s : StoreState) (after : Stage) (takes : Takes p.store s c after) where
-  own_standing : (g : Stage) → c.stage ≡ g → standings p.calls n ≡ Some (standing_at (Some takes.path) g)
-  own_standing g e = ap (option_map standing_of) at ∙ ap (λ x. Some (standing_at (path_of c.request) x)) e ∙ ap (λ o. Some (standing_at o g)) takes.is_path
-
-  new_standing : (g : Stage) → c.stage ≡ g → standings (staged p.calls n after) n ≡ Some (At (record { path = take (next_of g) takes.path; node = takes.node }))
-  new_standing g e =
-      ap (option_map standing_of) (after_here p history sound n c at undecided s after) ∙ ap (λ o. Some (standing_at o after)) takes.is_path
-      ∙ ap (λ x. Some (standing_at (Some takes.path) x)) (takes.after_is ∙ ap (λ x. stage.At (next_of x) takes.node) e)
-
-  other_standing : (m : ℕ) → n ≢ m → standings (staged p.calls n after) m ≡ standings p.calls m
-  other_standing m ne = ap (option_map standing_of) (after_other p history sound n c at undecided s after m ne)
-
-  number_is : c.number ≡ n
-  number_is = (sound.calls n c at).is_number
-
-  free : IsFree p.store n takes.node
-  free m h = sym number_is ∙ takes.free m h
-
-  state : s ≡ stepped p.store n c.stage takes.node
-  state = takes.state ∙ ap (λ k. stepped p.store k c.stage takes.node) number_is
-
-  walks_by : (g : Stage) → c.stage ≡ g → IsOnWay p.store takes.path (next_of g) takes.node
-      → AreWalks (scene (terrain (stepped p.store n g takes.node)) (standings (staged p.calls n after)) (holder_of (stepped p.store n g takes.node).nodes))
-  walks_by stage.Fresh e way =
-      first_keeps p.store history sound.legal sound.keeps (standings p.calls) n sound.walks takes.path takes.node free way (own_standing stage.Fresh e)
-      (standings (staged p.calls n after)) (new_standing stage.Fresh e) other_standing
-  walks_by (stage.At walked above) e way =
-      next_keeps p.store history sound.legal sound.keeps (standings p.calls) n sound.walks takes.path takes.node free walked above way (own_standing (stage.At walked above) e)
-      (standings (staged p.calls n after)) (new_standing (stage.At walked above) e) other_standing
-
-  keeps_by : (g : Stage) → Keeps (stepped p.store n g takes.node) (replay history)
-  keeps_by stage.Fresh = keeps_held (Some n) p.store (replay history) takes.node sound.keeps
-  keeps_by (stage.At walked above) =
-      keeps_held None (edited (with_holder (Some n)) (looked_up p.store) takes.node) (replay history) above
-      (keeps_held (Some n) (looked_up p.store) (replay history) takes.node (keeps_looked p.store (replay history) sound.keeps))
-
-  pub sound_took : Sound (record { store = s; book = p.book; sessions = p.sessions; calls = staged p.calls n after; drawn = p.drawn; joins = p.joins }) history
-  sound_took = sound_staged p history sound n c at undecided s after
-      (subst (λ (x : StoreState). Keeps x (replay history)) (sym state) (keeps_by c.stage))
-      (subst (λ (x : StoreState). AreWalks (scene (terrain x) (standings (staged p.calls n after)) (holder_of x.nodes))) (sym state) (walks_by c.stage refl takes.on_way))
-      (subst (λ (o : Option Path). IsShort o after) (sym takes.is_path) (subst (λ (g : Stage). IsShort (Some takes.path) g) (sym takes.after_is) takes.on_way.short))

@@ -1,5 +1,5 @@
 -- A decision leaves the ways of all other calls as they were: no node that another call holds goes, and none takes its place.
-use Rattle.std.specs.Prelude.{◌≡◌, ◌≢◌, ◌⊎◌, ◌<◌, ℕ, true, false, cond, List, [], ◌∷◌, option_map, option_and_then, Option, Some, None, refl}
+use Rattle.std.specs.Prelude.{◌≡◌, ◌≢◌, ◌⊎◌, ◌<◌, ℕ, true, false, cond, List, [], ◌∷◌, option_map, option_and_then, Option, Some, None, IsSome, refl}
 use Rattle.std.specs.Option.{option_map_or}
 use Rattle.std.proofs.Common.{sym, ap, subst, ◌∙◌, inl, inr}
 use Rattle.sf_path.specs.Names.{Name, Path}
@@ -12,7 +12,7 @@ use Rattle.sf_call.specs.declared.call.Stage.{Stage}
 use Rattle.sf_call.specs.declared.call.Stage.TheVariants as stage
 use Rattle.sf_call.specs.declared.metadata.Metadata.{Metadata}
 use Rattle.sf_call.specs.declared.metadata.FileType.TheVariants as file_type
-use Rattle.sf_call.specs.Tree.{Tree, label_at, object_of}
+use Rattle.sf_call.specs.Tree.{Tree, label_at, object_of, after_front}
 use Rattle.sf_call.specs.Calls.{answer_to, apply}
 use Rattle.sf_laws.specs.Own.{IsOwnPath}
 use Rattle.sf_laws.proofs.Laws.{other_labels, kinds_stay}
@@ -32,9 +32,9 @@ use Rattle.sf_keeps.specs.Keeps.{Keeps}
 use Rattle.sf_keeps.proofs.Laws.{object_there, one_node, reached_node, label_found}
 use Rattle.sf_walk.specs.declared.finding.Located.{Located}
 use Rattle.sf_walk.specs.declared.finding.Located.TheVariants as located
-use Rattle.sf_call.specs.Requests.{Target, target_of}
+use Rattle.sf_call.specs.Requests.{target_of}
 use Rattle.sf_call.specs.Requests.Target.{ByHandle, OnPath, OnPaths}
-use Rattle.sf_walk.specs.Ways.{way_from, missing, path_at, path_of}
+use Rattle.sf_walk.specs.Ways.{way_from, missing}
 use Rattle.sf_walk.specs.Served.{IsAsBefore, NodesStay, IsRefused, IsCarriedOut}
 use Rattle.sf_walk.specs.Steps.{IsFreeAt, MayDecideAt}
 
@@ -44,17 +44,32 @@ on_path p h e = cc
 on_paths : (old new : Path) (h : ℕ) → OnPaths old new ≡ ByHandle h → ⊥
 on_paths old new h e = cc
 
-target_by : (g : Target) (path : Path) → path_at g ≡ Some path → g ≡ OnPath path
-target_by (ByHandle handle) path e = absurd (let z : None ≡ Some path = e in let k : ⊥ = cc in k)
-target_by (OnPath p) path e = let same : p ≡ path = cc in ap OnPath same
-target_by (OnPaths old new) path e = absurd (let z : None ≡ Some path = e in let k : ⊥ = cc in k)
+handle_paths : (h : ℕ) (old new : Path) → ByHandle h ≡ OnPaths old new → ⊥
+handle_paths h old new e = cc
 
--- what walks a path is aimed at it
-pub path_target : (r : Request) (path : Path) → path_of r ≡ Some path → target_of r ≡ OnPath path
-path_target r path e = target_by (target_of r) path e
+path_paths : (p old new : Path) → OnPath p ≡ OnPaths old new → ⊥
+path_paths p old new e = cc
 
--- a request's own path is the one that it walks, if it walks one
-by_path : (r : Request) (q path : Path) → path_of r ≡ Some path → IsOwnPath r q → q ≡ path
+-- what a rename changes begins with one of its paths
+pub own_either : (r : Request) (old new q : Path) → target_of r ≡ OnPaths old new → IsOwnPath r q → IsSome (after_front old q) ⊎ IsSome (after_front new q)
+own_either (request.Stat p) old new q e own = absurd own
+own_either (request.SetStat p attrs) old new q e own = absurd own
+own_either (request.Mkdir p attrs) old new q e own = absurd (path_paths p old new e)
+own_either (request.Rmdir p) old new q e own = absurd (path_paths p old new e)
+own_either (request.Remove p) old new q e own = absurd (path_paths p old new e)
+own_either (request.OpenDir p) old new q e own = absurd own
+own_either (request.Open p flags attrs) old new q e own = absurd (path_paths p old new e)
+own_either (request.Close handle) old new q e own = absurd own
+own_either (request.FStat handle) old new q e own = absurd own
+own_either (request.FSetStat handle attrs) old new q e own = absurd own
+own_either (request.Read handle offset len) old new q e own = absurd own
+own_either (request.Write handle offset bytes) old new q e own = absurd own
+own_either (request.ReadDir handle) old new q e own = absurd own
+own_either (request.Rename a b) old new q e own = let f : a ≡ old = cc in let g : b ≡ new = cc in subst (λ (x : Path). IsSome (after_front x q) ⊎ IsSome (after_front new q)) f (subst (λ (x : Path). IsSome (after_front a q) ⊎ IsSome (after_front x q)) g own)
+own_either (request.PosixRename a b) old new q e own = let f : a ≡ old = cc in let g : b ≡ new = cc in subst (λ (x : Path). IsSome (after_front x q) ⊎ IsSome (after_front new q)) f (subst (λ (x : Path). IsSome (after_front a q) ⊎ IsSome (after_front x q)) g own)
+
+-- the own path of a request with one path is that one
+by_path : (r : Request) (q path : Path) → target_of r ≡ OnPath path → IsOwnPath r q → q ≡ path
 by_path (request.Stat p) q path e own = absurd own
 by_path (request.SetStat p attrs) q path e own = absurd own
 by_path (request.Mkdir p attrs) q path e own = let same : p ≡ path = cc in own ∙ same
@@ -68,13 +83,13 @@ by_path (request.FSetStat handle attrs) q path e own = absurd own
 by_path (request.Read handle offset len) q path e own = absurd own
 by_path (request.Write handle offset bytes) q path e own = absurd own
 by_path (request.ReadDir handle) q path e own = absurd own
-by_path (request.Rename old new) q path e own = let z : None ≡ Some path = e in absurd (let k : ⊥ = cc in k)
-by_path (request.PosixRename old new) q path e own = let z : None ≡ Some path = e in absurd (let k : ⊥ = cc in k)
+by_path (request.Rename old new) q path e own = absurd (path_paths path old new (sym e))
+by_path (request.PosixRename old new) q path e own = absurd (path_paths path old new (sym e))
 
-pub own_is : (r : Request) (q path : Path) → path_of r ≡ Some path → IsOwnPath r q → q ≡ path
+own_is : (r : Request) (q path : Path) → target_of r ≡ OnPath path → IsOwnPath r q → q ≡ path
 own_is r q path e own = by_path r q path e own
 
-some_root : (x : Name) (p : Path) → Some (x ∷ p) ≡ Some [] → ⊥
+some_root : (x : Name) (p : Path) → OnPath (x ∷ p) ≡ OnPath [] → ⊥
 some_root x p e = cc
 
 -- a call by handle has no path of its own
@@ -96,7 +111,7 @@ by_handle (request.Rename old new) h q e own = on_paths old new h e
 by_handle (request.PosixRename old new) h q e own = on_paths old new h e
 
 -- no call on the root's path changes the root's label
-root_by : (t : Tree) (session number moment : ℕ) (r : Request) → path_of r ≡ Some [] → label_at (apply t session number moment r).tree.names [] ≡ label_at t.names []
+root_by : (t : Tree) (session number moment : ℕ) (r : Request) → target_of r ≡ OnPath [] → label_at (apply t session number moment r).tree.names [] ≡ label_at t.names []
 root_by t session number moment (request.Stat path) e = other_labels t session number moment (request.Stat path) [] (λ o. o)
 root_by t session number moment (request.SetStat path attrs) e = other_labels t session number moment (request.SetStat path attrs) [] (λ o. o)
 root_by t session number moment (request.Mkdir [] attrs) e = refl
@@ -114,8 +129,8 @@ root_by t session number moment (request.FSetStat handle attrs) e = other_labels
 root_by t session number moment (request.Read handle offset len) e = other_labels t session number moment (request.Read handle offset len) [] (λ o. o)
 root_by t session number moment (request.Write handle offset bytes) e = other_labels t session number moment (request.Write handle offset bytes) [] (λ o. o)
 root_by t session number moment (request.ReadDir handle) e = other_labels t session number moment (request.ReadDir handle) [] (λ o. o)
-root_by t session number moment (request.Rename old new) e = absurd (let z : None ≡ Some [] = e in let k : ⊥ = cc in k)
-root_by t session number moment (request.PosixRename old new) e = absurd (let z : None ≡ Some [] = e in let k : ⊥ = cc in k)
+root_by t session number moment (request.Rename old new) e = absurd (path_paths [] old new (sym e))
+root_by t session number moment (request.PosixRename old new) e = absurd (path_paths [] old new (sym e))
 
 content_has : (c : Content) (n : Name) (y : ℕ) → entry_in c n ≡ Some y → is_directory_content c ≡ true
 content_has (content.Directory es) n y e = refl
@@ -229,15 +244,16 @@ module _ (old mid : StoreState) (history : List Record) (n session moment : ℕ)
   label_by_handle handle e q = label_after q (other_labels (replay history) session n moment r q (λ own. by_handle r handle q e own))
 
   -- the path that another call stands at is not the call's own, or nothing happens there
-  module _ (path : Path) (is_path : path_of r ≡ Some path) (at : Stage) (found : Located) (way : found ≡ way_from old.nodes old.root old.root path) (free : IsFreeAt old n at found) (may : MayDecideAt old (Some path) at) where
+  module _ (path : Path) (is_path : target_of r ≡ OnPath path) (at : Stage) (found : Located) (way : found ≡ way_from old.nodes old.root old.root path) (free : IsFreeAt old n at found) (may : MayDecideAt old (Some path) None at) where
     apart : (l holder : ℕ) → walk (entry_of old.nodes) old.root path ≡ Some l → holder_of old.nodes l ≡ Some holder → n ≢ holder → path ≡ []
     apart l holder w held other =
         let there = located_at old.nodes path old.root old.root l w in
         by_stage at may (subst (λ (f : Located). IsFreeAt old n at f) (way ∙ there.1) free)
       where
-        by_stage : (g : Stage) → MayDecideAt old (Some path) g → IsFreeAt old n g (located.At (located_at old.nodes path old.root old.root l w).0 l) → path ≡ []
+        by_stage : (g : Stage) → MayDecideAt old (Some path) None g → IsFreeAt old n g (located.At (located_at old.nodes path old.root old.root l w).0 l) → path ≡ []
         by_stage stage.Fresh e f = e
         by_stage (stage.At walked node) e f = absurd (other (f holder held))
+        by_stage (stage.Ends cm a b) e f = absurd e
 
     own_or_not : (q : Path) → (q ≡ path) ⊎ (IsOwnPath r q → ⊥)
     own_or_not q = elim (same_path q path) as (λ b. same_path q path ≡ b → (q ≡ path) ⊎ (IsOwnPath r q → ⊥)) [
@@ -250,6 +266,6 @@ module _ (old mid : StoreState) (history : List Record) (n session moment : ℕ)
     label_still q l holder w held other = label_after q (elim (own_or_not q) [
       | inl e ↦
           let root : path ≡ [] = apart l holder (ap (walk (entry_of old.nodes) old.root) (sym e) ∙ w) held other in
-          ap (label_at (apply (replay history) session n moment r).tree.names) (e ∙ root) ∙ root_by (replay history) session n moment r (is_path ∙ ap Some root) ∙ ap (label_at (replay history).names) (sym (e ∙ root))
+          ap (label_at (apply (replay history) session n moment r).tree.names) (e ∙ root) ∙ root_by (replay history) session n moment r (is_path ∙ ap OnPath root) ∙ ap (label_at (replay history).names) (sym (e ∙ root))
       | inr ne ↦ other_labels (replay history) session n moment r q ne
     ])

@@ -20,7 +20,7 @@ use Rattle.sf_core.specs.declared.step.Step.TheVariants.{Moved, Blocked, Answere
 use Rattle.sf_core.specs.Lanes.{LaneView, at_rest}
 use Rattle.sf_core.specs.Cores.{CoreView, Slot, call_at, slot_of, joined, last_number, most_sessions}
 use Rattle.sf_core.specs.Cores.Slot.{Gone, Idle, Busy}
-use Rattle.sf_core.specs.Progress.{reply_of, left_of, bound_of, depth_of, WalksOn, MayDecide, did, new_call, SameCall, overtaken, most_looks, names_of, number_at}
+use Rattle.sf_core.specs.Progress.{reply_of, left_of, bound_of, depth_of, WalksOn, MayDecide, did, new_call, SameCall, overtaken, names_of, number_at}
 
 -- the lane's call, if the lane is this core's
 pub record OwnCall (v : CoreView) (lane : LaneView) (c : Call) : Type 0 where
@@ -79,7 +79,7 @@ pub record IsBlocked (v w : CoreView) (lane : LaneView) (c : Call) (holder : ℕ
   pub holds : reply_of call ≡ None
   pub number : call.number ≡ holder
   pub deeper : depth_of c < depth_of call
-  pub looks : LooksOnly v w (most_looks c.request)
+  pub looks : LooksOnly v w 2
 
 -- a core with its history, and a lane, before a step; and after it, with the records that were added
 pub record Before : Type 0 where
@@ -152,7 +152,7 @@ pub record Decides (b : Before) (a : After) (c : Call) (given : Reply) : Type 0 
   pub drawn : a.core.drawn ≡ b.core.drawn
   pub joins : a.core.joins ≡ b.core.joins
   pub more : b.core.look_ups ≤ a.core.look_ups
-  pub few : a.core.look_ups ≤ b.core.look_ups + (most_looks c.request + names_of helped)
+  pub few : a.core.look_ups ≤ b.core.look_ups + (2 + names_of helped)
 
 -- no record was added, and the lane is as it was
 pub record AddsNothing (b : Before) (a : After) : Type 0 where

@@ -15,9 +15,10 @@ use Rattle.sf_book.specs.Books.{BookView, is_deed, kept_of, gone_of}
 use Rattle.sf_inode.specs.Stores.{StoreState, entry_of, holder_of, is_directory_at}
 use Rattle.sf_keeps.specs.Steps.{walk}
 use Rattle.sf_keeps.specs.Keeps.{Keeps}
-use Rattle.sf_coupling.specs.Walks.{Terrain, Standing, scene, AreWalks}
-use Rattle.sf_coupling.specs.Walks.Standing.{Fresh, At}
-use Rattle.sf_walk.specs.Ways.{path_of}
+use Rattle.sf_coupling.specs.Walks.{Terrain, Spot, Standing, scene, AreWalks}
+use Rattle.sf_coupling.specs.Walks.Standing.{Fresh, At, Ends}
+use Rattle.sf_walk.specs.Ways.{path_of, other_of}
+use Rattle.sf_walk.specs.Steps.{IsShort}
 use Rattle.sf_core.specs.Cores.{call_at, session_at, last_number, most_sessions}
 use Rattle.sf_core.specs.Progress.{reply_of, did, undecided_in}
 use Rattle.sf_core.specs.Parts.{PartsView}
@@ -26,23 +27,23 @@ use Rattle.sf_core.specs.Parts.{PartsView}
 abbrev pub terrain : StoreState → Terrain
 terrain s = record { leads = λ path. walk (entry_of s.nodes) s.root path; is_directory = is_directory_at s.nodes }
 
--- where a call stands: its walked names are the first of its own path
-abbrev pub standing_at : Option Path → Stage → Standing
-standing_at path stage.Fresh = Fresh
-standing_at None (stage.At walked node) = At (record { path = []; node = node })
-standing_at (Some path) (stage.At walked node) = At (record { path = take walked path; node = node })
+-- so many names of a path lead to the node
+abbrev pub spot_on : Option Path → ℕ → ℕ → Spot
+spot_on None walked node = record { path = []; node = node }
+spot_on (Some path) walked node = record { path = take walked path; node = node }
+
+-- where a call stands: its walked names are the first of its own paths
+abbrev pub standing_at : Option Path → Option Path → Stage → Standing
+standing_at path other stage.Fresh = Fresh
+standing_at path other (stage.At walked node) = At (spot_on path walked node)
+standing_at path other (stage.Ends common old new) =
+    Ends (spot_on path common.walked common.node) (spot_on path old.walked old.node) (spot_on other new.walked new.node)
 
 abbrev pub standing_of : Call → Standing
-standing_of c = standing_at (path_of c.request) c.stage
+standing_of c = standing_at (path_of c.request) (other_of c.request) c.stage
 
 abbrev pub standings : List (ℕ × Call) → ℕ → Option Standing
 standings calls number = option_map standing_of (call_at calls number)
-
--- a call's walked names are fewer than its path's; without a path it walks nothing
-abbrev pub IsShort : Option Path → Stage → Type 0
-IsShort path stage.Fresh = Unit {0}
-IsShort None (stage.At walked node) = ⊥
-IsShort (Some path) (stage.At walked node) = walked < length path
 
 pub record CallSound (p : PartsView) (h : List Record) (number : ℕ) (c : Call) : Type 0 where
   pub is_number : c.number ≡ number
@@ -53,7 +54,7 @@ pub record CallSound (p : PartsView) (h : List Record) (number : ℕ) (c : Call)
   pub recorded : (given : Reply) → reply_of c ≡ Some given → (c.stage ≡ stage.Fresh) × IsAmong (did c given) h
   pub is_call : IsCall number c.session c.moment c.request
   pub session : session_at p.sessions c.session ≡ Some (Some number)
-  pub short : IsShort (path_of c.request) c.stage
+  pub short : IsShort (path_of c.request) (other_of c.request) c.stage
 
 pub record SessionSound (p : PartsView) (h : List Record) (session : ℕ) (number : Option ℕ) : Type 0 where
   pub above : 0 < session

@@ -95,6 +95,7 @@ pub record Walked (p q : PartsView) (c : Call) (number : ℕ) (step : Walk) : Ty
 abbrev pub freed : Stage → StoreState → StoreState
 freed stage.Fresh s = s
 freed (stage.At walked node) s = edited (with_holder None) s node
+freed (stage.Ends common old new) s = edited (with_holder None) (edited (with_holder None) (edited (with_holder None) s common.node) old.node) new.node
 
 -- a call was answered on the store
 pub record Serves (old new : StoreState) (c : Call) (given : Reply) : Type 0 where

@@ -7,10 +7,10 @@ ghost use Rattle.std.specs.Vec.{vec_capacity};
 ghost use Rattle.sf_call.specs.declared.call.Call.{Call};
 ghost use Rattle.sf_call.specs.Tree.{after_front};
 ghost use Rattle.sf_inode.specs.Stores.{is_directory_at};
-ghost use Rattle.sf_walk.specs.Ways.{path_of, IsLocated};
+ghost use Rattle.sf_walk.specs.Ways.{path_of, other_of, IsLocated};
 ghost use Rattle.sf_walk.specs.Steps.{Stands};
 ghost use Rattle.sf_core.specs.Cores.{call_at, session_at};
-ghost use Rattle.sf_core.specs.Progress.{reply_of, has_passed, overtaken, undecided_in, copy_of, old_at};
+ghost use Rattle.sf_core.specs.Progress.{reply_of, has_passed, is_past, overtaken, undecided_in, copy_of, old_at};
 ghost use Rattle.sf_core.specs.Stepping.{IsNewParts, SameButRoom, Joined, Begun, Walked, Finished, Fetched, Overtakes, Helps, HelpsAll, Parted, freed, set_back, all_set_back};
 
 use crate::sessions::Sessions;
@@ -19,7 +19,7 @@ use sf_call::{Call, Calls, Record, Request, Stage};
 use sf_inode::Store;
 use sf_path::Path;
 use sf_reply::Reply;
-use sf_walk::{Walk, Ways, advance, decide, from_root_twice, is_move, path_of};
+use sf_walk::{Walk, Ways, advance, decide, from_root_twice, is_move, other_of, path_of};
 use std::alloc::{AllocError, Global};
 use std::marker::Model;
 
@@ -185,7 +185,7 @@ impl Parts {
         requires there { IsSome (call_at self.old.calls number) }
         requires root { is_directory_at self.old.store.nodes self.old.store.root ≡ true }
         requires stands { (c : Call) → call_at self.old.calls number ≡ Some c
-            → Stands self.old.store (path_of c.request) c.stage }
+            → Stands self.old.store (path_of c.request) (other_of c.request) c.stage }
         ensures { (c : Call) → call_at self.old.calls number ≡ Some c
             → Walked self.old self.new c number result }
     {
@@ -318,8 +318,14 @@ impl Parts {
     fn free(&mut self, stage: Stage)
         ensures { self.new ≡ record self.old { store = freed stage self.old.store } }
     {
-        if let Stage::At { walked: _, node } = stage {
-            self.store.free(node);
+        match stage {
+            Stage::Fresh => {}
+            Stage::At { walked: _, node } => self.store.free(node),
+            Stage::Ends { common, old, new } => {
+                self.store.free(common.node);
+                self.store.free(old.node);
+                self.store.free(new.node);
+            }
         }
     }
 
@@ -378,16 +384,31 @@ fn is_overtaken(call: &Call, other: u64, number: u64, old: &Path) -> bool
     other != number && call.reply.is_none() && has_passed(call, old)
 }
 
-/// Whether the names that a call has walked begin with a path.
-fn has_passed(call: &Call, old: &Path) -> bool
-    ensures { result ≡ has_passed call.now old.now }
+/// Whether the names that a call has walked begin with a path; of a rename's, those of either end.
+fn has_passed(call: &Call, front: &Path) -> bool
+    ensures { result ≡ has_passed call.now front.now }
 {
-    let Some(path) = path_of(&call.request) else {
-        return false;
-    };
     match call.stage {
         Stage::Fresh => false,
-        Stage::At { walked, node: _ } => old.len() <= walked && begins(path, old),
+        Stage::At { walked, node: _ } => is_past(path_of(&call.request), walked, front),
+        Stage::Ends {
+            common: _,
+            old,
+            new,
+        } => {
+            is_past(path_of(&call.request), old.walked, front)
+                || is_past(other_of(&call.request), new.walked, front)
+        }
+    }
+}
+
+/// Whether so many names of a path begin with another.
+fn is_past(path: Option<&Path>, walked: usize, front: &Path) -> bool
+    ensures { result ≡ is_past (option_copied path.entry) walked front.now }
+{
+    match path {
+        None => false,
+        Some(path) => front.len() <= walked && begins(path, front),
     }
 }
 

@@ -1,4 +1,5 @@
-//! Cases for the core: rows of steps that wait for each other, the history that is kept, and random events.
+//! Cases for the core: rows of steps that wait for each other, the history that is kept, and random
+//! events.
 #![tactic(auto)]
 
 #[cfg(test)]

@@ -9,7 +9,7 @@ use Rattle.sf_call.specs.declared.record.Record.{Record}
 use Rattle.sf_call.specs.declared.record.Record.TheVariants.{Did, Left}
 use Rattle.sf_call.specs.Answers.{Answered as Answer}
 use Rattle.sf_call.specs.Histories.{replay, IsAmong}
-use Rattle.sf_walk.specs.Ways.{path_of}
+use Rattle.sf_walk.specs.Ways.{path_of, other_of}
 use Rattle.sf_session.specs.Sessions.{SessionView}
 use Rattle.sf_core.specs.Cores.Slot.{Gone as nobody, Idle, Busy}
 use Rattle.sf_core.specs.Lanes.{LaneView, at_rest}
@@ -94,7 +94,7 @@ has_stopped : (w : World) (v : CoreView) (s : ℕ) (x : SessionView) (id n m : �
 has_stopped w v s x id n m q moves p c given at here is way undecided =
     let own : at.call ≡ c = let z : Busy at.call ≡ Busy c = sym at.slot ∙ here in cc in
     let moved : HasMoved c.stage moves = subst (λ (y : Call). HasMoved y.stage moves) own (at.walked (ap reply_of own ∙ undecided)) in
-    subst (λ (r : Record). HasStopped (replay w.records) moves r) is (stops (replay w.records) (path_of c.request) c.stage moves moved way)
+    subst (λ (r : Record). HasStopped (replay w.records) moves r) is (stops (replay w.records) (path_of c.request) (other_of c.request) c.stage moves moved way)
 
 -- the session's call was decided, and its answer waits
 decided_now : (w : World) (v v' : CoreView) (s : ℕ) (t : Told) (c : Bool) (x : SessionView) (p q : Place) (id n m : ℕ) (request : Request) (moves : ℕ)

@@ -9,16 +9,16 @@ use Rattle.sf_call.specs.declared.record.Record.{Record}
 use Rattle.sf_call.specs.declared.record.Record.TheVariants.{Did, Left}
 use Rattle.sf_session.specs.Sessions.{SessionView}
 use Rattle.sf_core.specs.Lanes.{LaneView}
-use Rattle.sf_core.specs.Cores.{CoreView, slot_of}
-use Rattle.sf_core.specs.Progress.{most_looks, did, names_of}
-use Rattle.sf_core.specs.Events.{Before, After, OwnCall, Decides, IsOfOther}
+use Rattle.sf_core.specs.Cores.{CoreView}
+use Rattle.sf_core.specs.Progress.{did, names_of}
+use Rattle.sf_core.specs.Events.{Before, After, Decides, IsOfOther}
 use Rattle.sf_engine.specs.declared.seat.Place.{Place}
 use Rattle.sf_engine.specs.declared.seat.Place.TheVariants as place
 use Rattle.sf_engine.specs.declared.event.Event.TheVariants as event
 use Rattle.sf_engine.specs.declared.event.Happened.{Happened}
 use Rattle.sf_engine.specs.declared.event.Happened.TheVariants as happened
 use Rattle.sf_engine.specs.Worlds.{Phase, Resting, UnderWay, Decided as IsDecided, Gone}
-use Rattle.sf_engine.specs.Works.{Passage, is_of_other, names_helped, looks_in, IsWork, IsStep}
+use Rattle.sf_engine.specs.Works.{Passage, is_of_other, names_helped, IsWork, IsStep}
 use Rattle.sf_engine.specs.Turns.{Part, NewPart, Seated, Reads, Settles, GoesOn, PlaceGives, CloseGives, before, after, seated}
 use Rattle.sf_engine.specs.Fits.{IsResting, IsGoing, IsAnswered, PlaceAgrees}
 
@@ -55,18 +55,14 @@ few_helped b a c given s e d =
 pub same_work : (s m : ℕ) (p : Passage) → p.new.look_ups ≡ p.old.look_ups → IsWork (event.Turn s m) p
 same_work s m p e = (omega (arith, e), omega (arith, e))
 
--- the slot of the session whose call it is
-looks_busy : (v : CoreView) (lane : LaneView) (s : ℕ) (c : Call) → lane.session ≡ s → OwnCall v lane c → looks_in (slot_of v s) ≡ most_looks c.request
-looks_busy v lane s c e own = ap (λ k. looks_in (slot_of v k)) (sym e) ∙ ap looks_in own.slot
-
 step_works : (v : CoreView) (h : List Record) (s m : ℕ) (lane lane' : LaneView) (r : Happened) (a : NewPart) → lane.session ≡ s → GoesOn (before v h lane) r (after a.core a.added lane') a.place → Works s m r (passing v h a.added a.core)
 step_works v h s m lane lane' happened.Moved a e g = record {
   step = (lane, lane', e, g.0);
-  work = (g.0.2.more, omega (arith, g.0.2.few, looks_busy v lane s g.0.0 e g.0.2.own));
+  work = (g.0.2.more, omega (arith, g.0.2.few));
 }
 step_works v h s m lane lane' (happened.Blocked holder) a e g = record {
   step = (lane, lane', e, g.0);
-  work = (g.0.1.looks.more, omega (arith, g.0.1.looks.few, looks_busy v lane s g.0.0 e g.0.1.own));
+  work = (g.0.1.looks.more, omega (arith, g.0.1.looks.few));
 }
 step_works v h s m lane lane' happened.Decided a e g =
     let c = g.1.0 in
@@ -77,7 +73,7 @@ step_works v h s m lane lane' happened.Decided a e g =
       step = (lane, lane', e, (c, given, g.1.1));
       work = elim g.1.1 [
         | inl f ↦ same_work s m (passing v h a.added a.core) f.look_ups
-        | inr d ↦ (d.more, omega (arith, d.few, few_helped b n c given s e d, looks_busy v lane s c e d.own))
+        | inr d ↦ (d.more, omega (arith, d.few, few_helped b n c given s e d))
       ];
     }
 step_works v h s m lane lane' (happened.Opened k) a e g = absurd g

@@ -35,10 +35,12 @@ pub record IsResting (v : CoreView) (s : ℕ) (x : SessionView) (p : Place) : Ty
   pub waiting : x.waiting ≡ None
   pub ended : x.ended ≡ None
 
--- the moves of an undecided call: the first took the root, and each further one walked a name
+-- the moves of an undecided call: the first took the root, and each further one walked a name,
+-- those up to a rename's common directory for both its paths
 abbrev pub HasMoved : Stage → ℕ → Type 0
 HasMoved stage.Fresh moves = moves ≡ 0
 HasMoved (stage.At walked node) moves = moves ≡ walked + 1
+HasMoved (stage.Ends common old new) moves = moves + common.walked ≡ old.walked + new.walked + 1
 
 -- A session whose call is under way: the core has the call, and so many steps are left to it at most.
 pub record IsGoing (v : CoreView) (s : ℕ) (x : SessionView) (id number moment : ℕ) (request : Request) (moves : ℕ) (p : Place) : Type 0 where

@@ -5,9 +5,8 @@ use Rattle.sf_call.specs.declared.call.Call.{Call}
 use Rattle.sf_call.specs.declared.record.Record.{Record}
 use Rattle.sf_call.specs.declared.record.Record.TheVariants.{Did, Left}
 use Rattle.sf_core.specs.Lanes.{LaneView}
-use Rattle.sf_core.specs.Cores.{CoreView, Slot, slot_of}
-use Rattle.sf_core.specs.Cores.Slot.{Gone, Idle, Busy}
-use Rattle.sf_core.specs.Progress.{most_looks, names_of}
+use Rattle.sf_core.specs.Cores.{CoreView}
+use Rattle.sf_core.specs.Progress.{names_of}
 use Rattle.sf_core.specs.Events.{Before, After, Goes, IsBlocked, Fetches, Decides}
 use Rattle.sf_engine.specs.declared.event.Event.{Event}
 use Rattle.sf_engine.specs.declared.event.Event.TheVariants as event
@@ -30,16 +29,10 @@ is_of_other s (Left session) = false
 abbrev pub names_helped : ℕ → List Record → ℕ
 names_helped s added = names_of (filter (is_of_other s) added)
 
--- how many look-ups the step of a session's call makes at most: two, and a rename looks up the names of its paths
-abbrev pub looks_in : Slot → ℕ
-looks_in Gone = 2
-looks_in Idle = 2
-looks_in (Busy call) = most_looks call.request
-
--- By how much look-ups rise: by those of one step at most for a turn, and by the names of the paths of other sessions' calls that it
--- carried out. No other event makes any.
+-- By how much look-ups rise: by two at most for a turn's step, and by the names of the paths of
+-- other sessions' calls that it carried out. No other event makes any.
 abbrev pub IsWork : Event → Passage → Type 0
-IsWork (event.Turn s m) p = (p.old.look_ups ≤ p.new.look_ups) × (p.new.look_ups ≤ p.old.look_ups + (looks_in (slot_of p.old s) + names_helped s p.added))
+IsWork (event.Turn s m) p = (p.old.look_ups ≤ p.new.look_ups) × (p.new.look_ups ≤ p.old.look_ups + (2 + names_helped s p.added))
 IsWork _ p = p.new.look_ups ≡ p.old.look_ups
 
 -- A step of a lane's call: it walks one name; or another call that looks further down holds what it wants; or its record was there; or

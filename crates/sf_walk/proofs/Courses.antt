@@ -1,13 +1,14 @@
 -- What a rename comes to, in the store and in the tree that it keeps.
 use Rattle.std.specs.Prelude.{◌≡◌, ℕ, Bool, true, false, cond, not, ◌&&◌, ◌||◌, List, [], ◌∷◌, ◌++◌, is_some, Option, Some, None, refl}
 use Rattle.std.specs.Option.{option_map_or}
-use Rattle.std.proofs.Common.{sym, ap, ◌∙◌, inl, inr}
+use Rattle.std.proofs.Common.{sym, ap, subst, ◌∙◌, inl, inr}
 use Rattle.sf_path.specs.Names.{Name, Path}
 use Rattle.sf_path.specs.Order.{same_path}
 use Rattle.sf_reply.specs.declared.reply.StatusCode.TheVariants.{NoSuchFile, Failure}
 use Rattle.sf_call.specs.declared.metadata.Metadata.{Metadata}
 use Rattle.sf_call.specs.declared.place.Place.{Place}
 use Rattle.sf_call.specs.declared.place.Place.TheVariants as place
+use Rattle.sf_call.specs.Requests.Target.{OnPaths}
 use Rattle.sf_call.specs.Tree.{Tree, Found, after_front, place_at, found_at, is_directory, is_empty}
 use Rattle.sf_call.specs.Calls.{Answer, refuses, succeeds, moves, unless_nested, unless_root, rename_to, rename, replace_by, posix_rename}
 use Rattle.sf_inode.specs.declared.node.Node.{Node}
@@ -18,8 +19,10 @@ use Rattle.sf_inode.specs.Stores.{StoreState, node_in, entry_of, is_directory_at
 use Rattle.sf_keeps.specs.Steps.{walk}
 use Rattle.sf_keeps.specs.Keeps.{Keeps}
 use Rattle.sf_keeps.proofs.Laws.{bare_found}
+use Rattle.sf_walk.specs.declared.finding.Ways.{Ways}
+use Rattle.sf_walk.specs.declared.finding.Located.{Located}
 use Rattle.sf_walk.specs.declared.finding.Located.TheVariants as located
-use Rattle.sf_walk.specs.Ways.{way_from, found_content, found_node}
+use Rattle.sf_walk.specs.Ways.{is_rooted, are_nested, way_from, found_content, found_node, IsThere, AreWays}
 use Rattle.sf_walk.specs.Renames.{may_replace, MayMove}
 use Rattle.sf_walk.proofs.Fits.{Known, no_way, name_missing, node_at, directory_says}
 use Rattle.sf_walk.proofs.Parents.{entry_owns}
@@ -28,8 +31,17 @@ use Rattle.sf_walk.proofs.PathCalls.{file_bare, found_no_way, found_missing}
 abbrev AreNoRoots : Path → Path → Type 0
 AreNoRoots old new = (old ≡ [] → ⊥) × (new ≡ [] → ⊥)
 
-abbrev Nested : Path → Path → Bool
-Nested old new = is_some (after_front old new) || is_some (after_front new old)
+not_rooted : (p q : Path) → AreNoRoots p q → is_rooted p q ≡ false
+not_rooted [] q ne = absurd (ne.0 refl)
+not_rooted (n ∷ p) [] ne = absurd (ne.1 refl)
+not_rooted (n ∷ p) (m ∷ q) ne = refl
+
+module _ (s : StoreState) (old new : Path) (ways : Ways) (are : AreWays s (OnPaths old new) ways) where
+  pub old_found : AreNoRoots old new → (found : Located) → ways.path ≡ found → way_from s.nodes s.root s.root old ≡ found
+  old_found ne found e = sym (are.0 (not_rooted old new ne)) ∙ e
+
+  pub new_found : are_nested old new ≡ false → (from node : ℕ) → ways.path ≡ located.At from node → (found : Located) → ways.new ≡ found → way_from s.nodes s.root s.root new ≡ found
+  new_found apart from node there found e = sym (are.1 apart (subst IsThere (sym there) tt)) ∙ e
 
 no_root : (p : Path) (a : Answer) → (p ≡ [] → ⊥) → unless_root p a ≡ a
 no_root [] a ne = absurd (ne refl)
@@ -64,7 +76,7 @@ module _ (s : StoreState) (t : Tree) (k : Keeps s t) (moment : ℕ) (old new : P
     there : (f : Place → Answer) → unless_root old (unless_root new (f (place_at t old))) ≡ f (place.At (node_at s t k old from node at).2.0.label)
     there f = past_roots (f (place_at t old)) ∙ ap f (node_at s t k old from node at).2.2
 
-    pub rename_nested : Nested old new ≡ true → unless_root old (unless_root new (rename t moment old new (place_at t old))) ≡ refuses Failure
+    pub rename_nested : are_nested old new ≡ true → unless_root old (unless_root new (rename t moment old new (place_at t old))) ≡ refuses Failure
     rename_nested nested = there (rename t moment old new) ∙ ap (λ b. cond {A = Answer} b (refuses Failure) (rename_to t moment old new (place_at t new))) nested
 
     pub posix_same : same_path old new ≡ true → unless_root old (unless_root new (posix_rename t moment old new (place_at t old))) ≡ succeeds []
@@ -73,10 +85,10 @@ module _ (s : StoreState) (t : Tree) (k : Keeps s t) (moment : ℕ) (old new : P
     posix_other : same_path old new ≡ false → unless_root old (unless_root new (posix_rename t moment old new (place_at t old))) ≡ unless_nested old new (replace_by t moment old new (found_at t new))
     posix_other other = there (posix_rename t moment old new) ∙ ap (λ b. cond {A = Answer} b (succeeds []) (unless_nested old new (replace_by t moment old new (found_at t new)))) other
 
-    pub posix_nested : same_path old new ≡ false → Nested old new ≡ true → unless_root old (unless_root new (posix_rename t moment old new (place_at t old))) ≡ refuses Failure
+    pub posix_nested : same_path old new ≡ false → are_nested old new ≡ true → unless_root old (unless_root new (posix_rename t moment old new (place_at t old))) ≡ refuses Failure
     posix_nested other nested = posix_other other ∙ ap (λ b. cond {A = Answer} b (refuses Failure) (replace_by t moment old new (found_at t new))) nested
 
-    module _ (apart : Nested old new ≡ false) where
+    module _ (apart : are_nested old new ≡ false) where
       rename_is : (place : Place) → place_at t new ≡ place → unless_root old (unless_root new (rename t moment old new (place_at t old))) ≡ rename_to t moment old new place
       rename_is place e =
           there (rename t moment old new) ∙ ap (λ b. cond {A = Answer} b (refuses Failure) (rename_to t moment old new (place_at t new))) apart ∙ ap (rename_to t moment old new) e

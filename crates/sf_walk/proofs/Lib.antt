@@ -19,11 +19,12 @@ pub mod Dispatch
 pub mod Refused
 pub mod Trimmed
 pub mod Rooted
+pub mod Parting
 pub mod Targets
 pub mod Onward
-pub mod AtOnce
+pub mod Advancing
+pub mod Standing
 pub mod NoMoves
 pub mod Begins
 pub mod Courses
 pub mod MovedEntries
-pub mod Ends

@@ -1,7 +1,7 @@
 -- An entry was moved, and both directories modified.
-use Rattle.std.specs.Prelude.{◌≡◌, ◌≢◌, ℕ, nat_eq, Bool, true, false, List, [], ◌∷◌, ◌++◌, option_map, option_and_then, Option, Some, None, refl}
+use Rattle.std.specs.Prelude.{◌≡◌, ◌≢◌, ℕ, nat_eq, true, false, List, [], ◌∷◌, ◌++◌, option_map, option_and_then, Option, Some, None, refl}
 use Rattle.std.proofs.Common.{sym, ap, subst, ◌∙◌, eqb-true}
-use Rattle.sf_path.specs.Names.{Name, Path}
+use Rattle.sf_path.specs.Names.{Path}
 use Rattle.sf_path.specs.Order.{parent}
 use Rattle.sf_reply.specs.declared.reply.Reply.TheVariants as reply
 use Rattle.sf_reply.specs.declared.reply.StatusCode.TheVariants.{Success}
@@ -11,13 +11,12 @@ use Rattle.sf_call.specs.Attributes.Object.{Directory}
 use Rattle.sf_call.specs.Tree.{Tree, after_front, directory_at, directory_metadata}
 use Rattle.sf_call.specs.Changes.{Change, changed, done, touch, touched}
 use Rattle.sf_call.specs.Changes.Change.{Move}
-use Rattle.sf_call.specs.Calls.{Answer, moves}
+use Rattle.sf_call.specs.Calls.{moves}
 use Rattle.sf_inode.specs.declared.node.Node.{Node}
 use Rattle.sf_inode.specs.declared.node.Content.{Content}
 use Rattle.sf_inode.specs.declared.node.Content.TheVariants as content
 use Rattle.sf_inode.specs.Nodes.{object_in, with_metadata}
-use Rattle.sf_inode.specs.Stores.{StoreState, node_in, entry_of, is_directory_at, is_bare_at, shown_of, shown_node, edited, relinked}
-use Rattle.sf_keeps.specs.Steps.{walk}
+use Rattle.sf_inode.specs.Stores.{StoreState, node_in, entry_of, is_directory_at, shown_of, shown_node, edited, relinked}
 use Rattle.sf_keeps.specs.Keeps.{Keeps}
 use Rattle.sf_keeps.proofs.Laws.{directory_found, keeps_directory, keeps_moved, keeps_replaced, relinked_alike, edited_apart, edited_itself}
 use Rattle.sf_walk.specs.Ways.{last_of}

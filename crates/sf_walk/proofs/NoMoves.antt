@@ -1,6 +1,6 @@
 -- Requests other than renames move nothing.
 use Rattle.std.specs.Prelude.{◌≡◌, ℕ, Bool, true, false, cond, not, nat_eq, nat_lt, nat_le, ◌+◌, ◌&&◌, List, [], ◌∷◌, length, is_some, Option, Some, None, refl}
-use Rattle.std.proofs.Common.{ap, sym, ◌∙◌}
+use Rattle.std.proofs.Common.{ap, sym}
 use Rattle.sf_path.specs.Names.{Path}
 use Rattle.sf_path.specs.Order.{parent}
 use Rattle.sf_field.specs.declared.attrs.Attrs.{Attrs}
@@ -21,7 +21,7 @@ use Rattle.sf_call.specs.Handles.{Opened, handle_in, opened}
 use Rattle.sf_call.specs.Handles.Opened.{NotOpen, OpenDirectory, OpenFile}
 use Rattle.sf_call.specs.Listings.{path_of, listing_of}
 use Rattle.sf_call.specs.Changes.{touch, moved_by}
-use Rattle.sf_call.specs.Calls.{Answer, answer_to, stat, set_stat, sets, refuses_size, make_directory, remove_directory, remove_file, goes, open_directory, open_present, open_file, has_all_handles, close, stat_opened, set_opened, read, write, start_of, read_directory, lists, unless_root}
+use Rattle.sf_call.specs.Calls.{Answer, answer_to, stat, set_stat, sets, refuses_size, make_directory, remove_directory, remove_file, open_directory, open_present, open_file, has_all_handles, close, stat_opened, set_opened, read, write, start_of, read_directory, lists, unless_root}
 use Rattle.sf_inode.specs.Stores.{StoreState}
 use Rattle.sf_walk.specs.declared.renames.Course.{Course}
 use Rattle.sf_walk.specs.declared.renames.Course.TheVariants.{Told, Moves}

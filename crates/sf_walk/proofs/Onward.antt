@@ -1,29 +1,21 @@
--- One step of a call on its way.
-use Rattle.std.specs.Prelude.{◌≡◌, ◌≢◌, ◌⊎◌, ◌<◌, ◌≤◌, ◌+◌, ℕ, suc, true, false, cond, List, [], ◌∷◌, ◌++◌, length, take, drop, slice_get, Option, Some, None, option_and_then, refl}
+-- One name further on the way of a path.
+use Rattle.std.specs.Prelude.{◌≡◌, ◌≢◌, ◌<◌, ◌+◌, ℕ, suc, true, false, cond, List, [], ◌∷◌, ◌++◌, length, take, drop, slice_get, Option, Some, None, option_and_then, refl}
 use Rattle.std.specs.Option.{option_map_or}
-use Rattle.std.proofs.Common.{sym, ap, subst, ◌∙◌, inl, inr, arith, get_or, add-one}
-use Rattle.std.proofs.lemmas.Option.{get_or_from_slice_get}
-use Rattle.std.proofs.lemmas.List.{take-append-drop}
+use Rattle.std.proofs.Common.{sym, ap, subst, ◌∙◌, arith, get_or, add-one}
+use Rattle.std.proofs.lemmas.Option.{get_or_from_slice_get, slice_get-get_or}
+use Rattle.std.proofs.lemmas.List.{take-append-drop, take_all}
 use Rattle.std.proofs.Math.Seq.{drop-cons, take-suc}
 use Rattle.sf_path.specs.Names.{Name, Path}
-use Rattle.sf_call.specs.declared.call.Call.{Call}
-use Rattle.sf_call.specs.declared.call.Stage.{Stage}
-use Rattle.sf_call.specs.declared.call.Stage.TheVariants as stage
-use Rattle.sf_call.specs.Requests.{Target, target_of}
 use Rattle.sf_inode.specs.declared.node.Node.{Node}
 use Rattle.sf_inode.specs.declared.node.Content.{Content}
 use Rattle.sf_inode.specs.declared.node.Content.TheVariants as content
 use Rattle.sf_inode.specs.Nodes.{entry_in, is_directory_content}
 use Rattle.sf_inode.specs.Stores.{StoreState, node_in, entry_of, holder_of, is_directory_at, looked_up}
 use Rattle.sf_keeps.specs.Steps.{Steps, walk}
-use Rattle.sf_walk.specs.declared.finding.Ways.{Ways}
-use Rattle.sf_walk.specs.declared.finding.Located.{Located}
 use Rattle.sf_walk.specs.declared.finding.Located.TheVariants as located
-use Rattle.sf_walk.specs.Ways.{way_from, missing, path_of, along, AreWays}
-use Rattle.sf_walk.specs.Served.{LookedUp}
-use Rattle.sf_walk.specs.Steps.{IsOnWay, next_of, IsFree, stepped, Takes, Waits, LeadsNowhere, MayDecideAt, IsFreeAt, AreFree, Decides, looks_at}
-use Rattle.sf_walk.proofs.Targets.{on_path}
-use Rattle.sf_walk.proofs.LookUps.{looked_none, looked_more, looked_itself}
+use Rattle.sf_walk.specs.Ways.{way_from, missing}
+use Rattle.sf_walk.specs.Steps.{IsOnWay, IsFree, LeadsNowhere, reached}
+use Rattle.sf_walk.specs.Further.{IsHeldOnWay, IsNextFree}
 use Rattle.sf_walk.proofs.WaySteps.{way_stops, way_lacks, way_goes, missing_last, missing_on, way_ends}
 
 content_has : (c : Content) (n : Name) (y : ℕ) → entry_in c n ≡ Some y → is_directory_content c ≡ true
@@ -69,121 +61,71 @@ pub walk_next : (step : Steps) (x : ℕ) (p : Path) (i : ℕ) (n : Name) (y : �
 walk_next step x p i n y h g w =
     ap (walk step x) (take_next p i n h g) ∙ walk_append step x (take i p) (n ∷ []) ∙ ap (option_and_then (λ z. walk step z (n ∷ []))) w ∙ one_name (step y n)
 
-module _ (old : StoreState) (path : Path) (walked node : ℕ) (way : IsOnWay old path walked node) where
-  on_way : way_from old.nodes old.root old.root path ≡ way_from old.nodes node node (drop walked path)
+-- a look-up changes no way
+pub on_way_looked : (s : StoreState) (path : Path) (walked node : ℕ) → IsOnWay s path walked node → IsOnWay (looked_up s) path walked node
+on_way_looked s path walked node way = record { short = way.short; leads = way.leads; directory = way.directory }
+
+module _ (s : StoreState) (path : Path) (walked node : ℕ) (way : IsOnWay s path walked node) where
+  on_way : way_from s.nodes s.root s.root path ≡ way_from s.nodes node node (drop walked path)
   on_way =
-      ap (way_from old.nodes old.root old.root) (sym (take-append-drop walked path) ∙ ap (λ (q : Path). take walked path ++ q) (drop-cons path walked [] way.short))
-      ∙ walked_way old.nodes (take walked path) (get_or path walked []) (drop (suc walked) path) old.root node old.root node way.leads
-      ∙ ap (way_from old.nodes node node) (sym (drop-cons path walked [] way.short))
+      ap (way_from s.nodes s.root s.root) (sym (take-append-drop walked path) ∙ ap (λ (q : Path). take walked path ++ q) (drop-cons path walked [] way.short))
+      ∙ walked_way s.nodes (take walked path) (get_or path walked []) (drop (suc walked) path) s.root node s.root node way.leads
+      ∙ ap (way_from s.nodes node node) (sym (drop-cons path walked [] way.short))
 
   module _ (n : Name) (at : slice_get path walked ≡ Some n) where
-    is_missing : entry_of old.nodes node n ≡ None → length path ≤ walked + 1 → located.Missing node ≡ way_from old.nodes old.root old.root path
-    is_missing none last = sym (on_way ∙ way_lacks old.nodes node node path walked n way.short at way.directory none ∙ missing_last node path (walked + 1) last)
+    is_missing : entry_of s.nodes node n ≡ None → way_from s.nodes s.root s.root path ≡ missing node (drop (walked + 1) path)
+    is_missing none = on_way ∙ way_lacks s.nodes node node path walked n way.short at way.directory none
 
-    is_cut : entry_of old.nodes node n ≡ None → walked + 1 < length path → located.NoWay ≡ way_from old.nodes old.root old.root path
-    is_cut none more = sym (on_way ∙ way_lacks old.nodes node node path walked n way.short at way.directory none ∙ missing_on node path (walked + 1) more)
+    goes_on : (y : ℕ) → entry_of s.nodes node n ≡ Some y → way_from s.nodes s.root s.root path ≡ way_from s.nodes node y (drop (walked + 1) path)
+    goes_on y some = on_way ∙ sym (way_goes s.nodes node node y path walked n way.short at way.directory some)
 
-    is_file : (y : ℕ) → entry_of old.nodes node n ≡ Some y → walked + 1 < length path → is_directory_at old.nodes y ≡ false → located.NoWay ≡ way_from old.nodes old.root old.root path
-    is_file y some more file = sym (on_way ∙ sym (way_goes old.nodes node node y path walked n way.short at way.directory some) ∙ way_stops old.nodes node y path (walked + 1) more file)
+    pub last_missing : entry_of s.nodes node n ≡ None → walked + 1 ≡ length path → located.Missing node ≡ way_from s.nodes s.root s.root path
+    last_missing none last = sym (is_missing none ∙ missing_last node path (walked + 1) (omega (arith, last)))
 
-    is_there : (y : ℕ) → entry_of old.nodes node n ≡ Some y → length path ≤ walked + 1 → located.At node y ≡ way_from old.nodes old.root old.root path
-    is_there y some last = sym (on_way ∙ sym (way_goes old.nodes node node y path walked n way.short at way.directory some) ∙ way_ends old.nodes node y path (walked + 1) last)
+    pub last_there : (y : ℕ) → entry_of s.nodes node n ≡ Some y → walked + 1 ≡ length path → located.At node y ≡ way_from s.nodes s.root s.root path
+    last_there y some last = sym (goes_on y some ∙ way_ends s.nodes node y path (walked + 1) (omega (arith, last)))
 
-    leads_next : (y : ℕ) → entry_of old.nodes node n ≡ Some y → walk (entry_of old.nodes) old.root (take (walked + 1) path) ≡ Some y
-    leads_next y some = walk_next (entry_of old.nodes) old.root path walked n node way.short at way.leads ∙ some
+    leads_next : (y : ℕ) → entry_of s.nodes node n ≡ Some y → walk (entry_of s.nodes) s.root (take (walked + 1) path) ≡ Some y
+    leads_next y some = walk_next (entry_of s.nodes) s.root path walked n node way.short at way.leads ∙ some
 
-    module _ (call : Call) (is_path : path_of call.request ≡ Some path) (is_stage : call.stage ≡ stage.At walked node) (new : StoreState) where
-      looked : new ≡ looked_up old → LookedUp old new 1
-      looked e = looked_more old old new 0 (looked_none old) e
+    pub held_next : (number y holder : ℕ) → entry_of s.nodes node n ≡ Some y → holder_of s.nodes y ≡ Some holder → number ≢ holder → IsHeldOnWay s number path (walked + 1) holder
+    held_next number y holder some held other = record { node = y; leads = leads_next y some; held = held; other = other }
 
-      decides : (found : Located) → found ≡ way_from old.nodes old.root old.root path → (walked + 1 ≡ length path) ⊎ ((walked + 1 < length path) × LeadsNowhere old node (slice_get path walked))
-          → IsFreeAt old call.number (stage.At walked node) found → new ≡ looked_up old → Decides old new call (along found)
-      decides found is may free e =
-          let on = sym (on_path (target_of call.request) path is_path) in
-          record {
-            may = subst (λ (o : Option Path). MayDecideAt old o call.stage) (sym is_path) (subst (λ (g : Stage). MayDecideAt old (Some path) g) (sym is_stage) may);
-            located = subst (λ (g : Target). AreWays new g (along found)) on (subst (λ (s : StoreState). found ≡ way_from s.nodes s.root s.root path) (sym e) is);
-            free = subst (λ (g : Target). AreFree old call.number call.stage g (along found)) on (subst (λ (g : Stage). IsFreeAt old call.number g found) (sym is_stage) free);
-            looked = subst (λ (g : Target). LookedUp old new (looks_at g)) on (looked e);
-          }
+    pub free_next : (number y : ℕ) → entry_of s.nodes node n ≡ Some y → walked + 1 < length path → is_directory_at s.nodes y ≡ true → IsFree s number y
+        → IsNextFree s number path (reached walked node) (reached (walked + 1) y)
+    free_next number y some more dir free = record { walked = refl; on_way = record { short = more; leads = leads_next y some; directory = dir }; free = free }
 
-      nowhere_none : entry_of old.nodes node n ≡ None → LeadsNowhere old node (slice_get path walked)
-      nowhere_none none = subst (LeadsNowhere old node) (sym at) (λ child some. let h : None ≡ Some child = sym none ∙ some in absurd (let x : ⊥ = cc in x))
+    cut : walked + 1 < length path → ((y : ℕ) → entry_of s.nodes node n ≡ Some y → is_directory_at s.nodes y ≡ false) → located.NoWay ≡ way_from s.nodes s.root s.root path
+    cut more file =
+        elim (entry_of s.nodes node n) as (λ o. entry_of s.nodes node n ≡ o → located.NoWay ≡ way_from s.nodes s.root s.root path) [
+          | None ↦ λ none. sym (is_missing none ∙ missing_on node path (walked + 1) more)
+          | Some y ↦ λ some. sym (goes_on y some ∙ way_stops s.nodes node y path (walked + 1) more (file y some))
+        ] refl
 
-      nowhere_file : (y : ℕ) → entry_of old.nodes node n ≡ Some y → is_directory_at old.nodes y ≡ false → LeadsNowhere old node (slice_get path walked)
-      nowhere_file y is file = subst (LeadsNowhere old node) (sym at) (λ child some. let h : Some child ≡ Some y = sym some ∙ is in let same : child ≡ y = cc in ap (is_directory_at old.nodes) same ∙ file)
+  -- a way that ends before the last name
+  pub no_way_on : walked + 1 < length path → LeadsNowhere s node (slice_get path walked) → located.NoWay ≡ way_from s.nodes s.root s.root path
+  no_way_on more h =
+      let n = get_or path walked [] in
+      let at = slice_get-get_or path walked [] way.short in
+      cut n at more (subst (LeadsNowhere s node) at h)
 
-      pub ready_missing : entry_of old.nodes node n ≡ None → length path ≡ walked + 1 → new ≡ looked_up old → Decides old new call (along (located.Missing node))
-      ready_missing none last e = decides (located.Missing node) (is_missing none (omega (arith, last))) (inl (sym last)) tt e
+-- where a way ends, a walk ends
+no_end : (x : ℕ) (q : Path) (a y : ℕ) → missing x q ≡ located.At a y → None ≡ Some y
+no_end x [] a y g = cc
+no_end x (m ∷ q) a y g = cc
 
-      pub ready_cut : entry_of old.nodes node n ≡ None → walked + 1 < length path → new ≡ looked_up old → Decides old new call (along located.NoWay)
-      ready_cut none more e = decides located.NoWay (is_cut none more) (inr (more, nowhere_none none)) tt e
+way_walks : (nodes : List (Option Node)) (above x : ℕ) (p : Path) (a y : ℕ) → way_from nodes above x p ≡ located.At a y → walk (entry_of nodes) x p ≡ Some y
+way_walks nodes above x [] a y e = let same : x ≡ y = cc in ap Some same
+way_walks nodes above x (n ∷ p) a y e =
+    elim (is_directory_at nodes x) as (λ b. cond b (option_map_or (λ z. way_from nodes x z p) (entry_of nodes x n) (missing x p)) located.NoWay ≡ located.At a y → walk (entry_of nodes) x (n ∷ p) ≡ Some y) [
+      | false ↦ λ f. cc
+      | true ↦ λ f.
+          elim (entry_of nodes x n) as (λ o. option_map_or (λ z. way_from nodes x z p) o (missing x p) ≡ located.At a y → option_and_then (λ z. walk (entry_of nodes) z p) o ≡ Some y) [
+            | None ↦ λ g. no_end x p a y g
+            | Some z ↦ λ g. way_walks nodes x z p a y g
+          ] f
+    ] e
 
-      pub ready_file : (y : ℕ) → entry_of old.nodes node n ≡ Some y → walked + 1 < length path → is_directory_at old.nodes y ≡ false → new ≡ looked_up old → Decides old new call (along located.NoWay)
-      ready_file y some more file e = decides located.NoWay (is_file y some more file) (inr (more, nowhere_file y some file)) tt e
-
-      pub ready_there : (y : ℕ) → entry_of old.nodes node n ≡ Some y → length path ≡ walked + 1 → IsFree old call.number y → new ≡ looked_up old → Decides old new call (along (located.At node y))
-      ready_there y some last free e = decides (located.At node y) (is_there y some (omega (arith, last))) (inl (sym last)) free e
-
-      pub waits : (y holder : ℕ) → entry_of old.nodes node n ≡ Some y → holder_of old.nodes y ≡ Some holder → call.number ≢ holder → new ≡ looked_up old → Waits old new call holder
-      waits y holder some held other e = record {
-        path = path;
-        node = y;
-        is_path = is_path;
-        leads = subst (λ (g : Stage). walk (entry_of old.nodes) old.root (take (next_of g) path) ≡ Some y) (sym is_stage) (leads_next y some);
-        held = held;
-        other = other;
-        looked = looked e;
-      }
-
-      pub takes : (y : ℕ) → entry_of old.nodes node n ≡ Some y → walked + 1 < length path → is_directory_at old.nodes y ≡ true → IsFree old call.number y → new ≡ stepped old call.number (stage.At walked node) y
-          → Takes old new call (stage.At (walked + 1) y)
-      takes y some more dir free e = record {
-        path = path;
-        node = y;
-        is_path = is_path;
-        after_is = ap (λ (g : Stage). stage.At (next_of g) y) (sym is_stage);
-        on_way = subst (λ (g : Stage). IsOnWay old path (next_of g) y) (sym is_stage) (record { short = more; leads = leads_next y some; directory = dir });
-        free = free;
-        state = e ∙ ap (λ (g : Stage). stepped old call.number g y) (sym is_stage);
-      }
-
--- ---- from the root
-module _ (old : StoreState) (path : Path) (call : Call) (is_path : path_of call.request ≡ Some path) (is_stage : call.stage ≡ stage.Fresh) where
-  pub first_ready : path ≡ [] → Decides old old call (along (located.At old.root old.root))
-  first_ready root =
-      let on = sym (on_path (target_of call.request) path is_path) in
-      let found = along (located.At old.root old.root) in
-      record {
-        may = subst (λ (o : Option Path). MayDecideAt old o call.stage) (sym is_path) (subst (λ (g : Stage). MayDecideAt old (Some path) g) (sym is_stage) root);
-        located = subst (λ (g : Target). AreWays old g found) on (sym (ap (way_from old.nodes old.root old.root) root));
-        free = subst (λ (g : Target). AreFree old call.number call.stage g found) on (subst (λ (g : Stage). IsFreeAt old call.number g (located.At old.root old.root)) (sym is_stage) tt);
-        looked = subst (λ (g : Target). LookedUp old old (looks_at g)) on (looked_itself old 1);
-      }
-
-  pub first_waits : (holder : ℕ) → holder_of old.nodes old.root ≡ Some holder → call.number ≢ holder → Waits old old call holder
-  first_waits holder held other = record {
-    path = path;
-    node = old.root;
-    is_path = is_path;
-    leads = ap (λ (g : Stage). walk (entry_of old.nodes) old.root (take (next_of g) path)) is_stage;
-    held = held;
-    other = other;
-    looked = looked_itself old 1;
-  }
-
-  not_nothing : (p : Path) → (p ≡ [] → ⊥) → 0 < length p
-  not_nothing [] ne = absurd (ne refl)
-  not_nothing (n ∷ p) ne = omega arith
-
-  pub first_takes : (new : StoreState) → (path ≡ [] → ⊥) → is_directory_at old.nodes old.root ≡ true → IsFree old call.number old.root → new ≡ stepped old call.number stage.Fresh old.root
-      → Takes old new call (stage.At 0 old.root)
-  first_takes new ne dir free e = record {
-    path = path;
-    node = old.root;
-    is_path = is_path;
-    after_is = ap (λ (g : Stage). stage.At (next_of g) old.root) (sym is_stage);
-    on_way = subst (λ (g : Stage). IsOnWay old path (next_of g) old.root) (sym is_stage) (record { short = not_nothing path ne; leads = refl; directory = dir });
-    free = free;
-    state = e ∙ ap (λ (g : Stage). stepped old call.number g old.root) (sym is_stage);
-  }
+-- what a path's last name leads to, all its names lead to
+pub last_leads : (s : StoreState) (path : Path) (walked a y : ℕ) → way_from s.nodes s.root s.root path ≡ located.At a y → walked + 1 ≡ length path → walk (entry_of s.nodes) s.root (take (walked + 1) path) ≡ Some y
+last_leads s path walked a y e last = ap (walk (entry_of s.nodes) s.root) (take_all (walked + 1) path (omega (arith, last))) ∙ way_walks s.nodes s.root s.root path a y e

@@ -20,7 +20,7 @@ use Rattle.sf_walk.proofs.Holders.{alike_looked}
 pub located_after : (old mid : StoreState) (most : ℕ) (g : Target) (w : Ways) → LookedUp old mid most → AreWays old g w → AreWays mid g w
 located_after old mid most (ByHandle handle) w looked h = tt
 located_after old mid most (OnPath p) w looked h = sym (way_looked old mid p most w.path looked h)
-located_after old mid most (OnPaths p q) w looked h = (sym (way_looked old mid p most w.path looked h.0), sym (way_looked old mid q most w.new looked h.1))
+located_after old mid most (OnPaths p q) w looked h = (λ rooted. sym (way_looked old mid p most w.path looked (h.0 rooted)), λ apart there. sym (way_looked old mid q most w.new looked (h.1 apart there)))
 
 -- what is located now is what was located before
 pub way_before : (old mid : StoreState) (most : ℕ) (o : Option Path) (l : Located) → LookedUp old mid most → IsWay mid o l → IsWay old o l

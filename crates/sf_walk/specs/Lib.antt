@@ -2,4 +2,5 @@ pub mod Ways
 pub mod Opening
 pub mod Served
 pub mod Steps
+pub mod Further
 pub mod Renames

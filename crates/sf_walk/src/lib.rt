@@ -9,15 +9,17 @@
 #![tactic(auto)]
 
 mod calls;
+mod ends;
 mod finding;
 mod handle_calls;
 mod listing;
+mod looking;
 mod opening;
 mod path_calls;
 mod renames;
 mod walking;
 
-pub use calls::{decide, from_root, from_root_twice, path_of};
+pub use calls::{decide, from_root, from_root_twice, other_of, path_of};
 pub use finding::{Located, Ways, locate};
 pub use renames::is_move;
 pub use walking::{Walk, advance};

@@ -1,14 +1,15 @@
 //! Both renames.
 
-ghost use Rattle.std.specs.Prelude.{◌≡◌, ◌≢◌, ◌⊎◌, ◌||◌, ◌<◌, ℕ, true, false, [], length, is_some, OnOk, OnErr, IsOk, IfOk};
+ghost use Rattle.std.specs.Prelude.{◌≡◌, ◌≢◌, ◌⊎◌, ◌<◌, ℕ, true, false, [], length, is_some, OnOk, OnErr, IsOk, IfOk};
 ghost use Rattle.sf_path.specs.Order.{same_path};
 ghost use Rattle.sf_reply.specs.Replies.{IsPlain};
-ghost use Rattle.sf_call.specs.Tree.{Tree, after_front, place_at};
+ghost use Rattle.sf_call.specs.Requests.Target.{OnPaths};
+ghost use Rattle.sf_call.specs.Tree.{Tree, place_at};
 ghost use Rattle.sf_call.specs.Changes.{moved_by};
 ghost use Rattle.sf_call.specs.Calls.{Answer, answer_to, rename, posix_rename, unless_root};
 ghost use Rattle.sf_inode.specs.Stores.{StoreState, relinked};
 ghost use Rattle.sf_keeps.specs.Keeps.{Keeps};
-ghost use Rattle.sf_walk.specs.Ways.{last_of, way_from, IsLocated};
+ghost use Rattle.sf_walk.specs.Ways.{are_nested, last_of, AreWays, IsLocated};
 ghost use Rattle.sf_walk.specs.Served.{Gives, IsAlike, HoldersStay};
 ghost use Rattle.sf_walk.specs.Renames.{does_move, may_replace, IsCourse, AreNamed, IsTold};
 
@@ -58,8 +59,7 @@ pub(crate) fn rename(
     new: &Path,
     ways: Ways,
 ) -> Result<Reply, AllocError>
-    requires old { ways.path ≡ way_from store.old.nodes store.old.root store.old.root old.now }
-    requires new { ways.new ≡ way_from store.old.nodes store.old.root store.old.root new.now }
+    requires { AreWays store.old (OnPaths old.now new.now) ways }
     ensures served { (t : Tree) → Keeps store.old t
         → Gives store.new t (unless_root old.now (unless_root new.now (rename t moment old.now new.now (place_at t old.now)))) result }
     ensures err { OnErr result (IsAlike store.old store.new) }
@@ -79,8 +79,7 @@ pub(crate) fn posix_rename(
     new: &Path,
     ways: Ways,
 ) -> Result<Reply, AllocError>
-    requires old { ways.path ≡ way_from store.old.nodes store.old.root store.old.root old.now }
-    requires new { ways.new ≡ way_from store.old.nodes store.old.root store.old.root new.now }
+    requires { AreWays store.old (OnPaths old.now new.now) ways }
     ensures served { (t : Tree) → Keeps store.old t
         → Gives store.new t (unless_root old.now (unless_root new.now (posix_rename t moment old.now new.now (place_at t old.now)))) result }
     ensures sure { same_path old.now new.now ≡ true → IsOk result }
@@ -96,8 +95,7 @@ pub(crate) fn posix_rename(
 /// RENAME moves to a path where nothing stands.
 fn rename_course(old: &Path, new: &Path, ways: Ways) -> Course
     ensures course { (s : StoreState) (t : Tree) (moment : ℕ) → Keeps s t
-        → ways.path ≡ way_from s.nodes s.root s.root old.now
-        → ways.new ≡ way_from s.nodes s.root s.root new.now
+        → AreWays s (OnPaths old.now new.now) ways
         → IsCourse s t moment old.now new.now (unless_root old.now (unless_root new.now (rename t moment old.now new.now (place_at t old.now)))) result }
     ensures named { AreNamed old.now new.now result }
 {
@@ -122,8 +120,7 @@ fn rename_course(old: &Path, new: &Path, ways: Ways) -> Course
 
 /// The extension posix-rename also moves to where something stands that may be replaced.
 fn posix_course(store: &Store, old: &Path, new: &Path, ways: Ways) -> Course
-    requires old { ways.path ≡ way_from store.now.nodes store.now.root store.now.root old.now }
-    requires new { ways.new ≡ way_from store.now.nodes store.now.root store.now.root new.now }
+    requires { AreWays store.now (OnPaths old.now new.now) ways }
     ensures course { (t : Tree) (moment : ℕ) → Keeps store.now t
         → IsCourse store.now t moment old.now new.now (unless_root old.now (unless_root new.now (posix_rename t moment old.now new.now (place_at t old.now)))) result }
     ensures named { AreNamed old.now new.now result }
@@ -161,7 +158,7 @@ fn posix_course(store: &Store, old: &Path, new: &Path, ways: Ways) -> Course
 }
 
 /// Whether one of the paths is the root.
-fn has_root(old: &Path, new: &Path) -> bool
+pub(crate) fn has_root(old: &Path, new: &Path) -> bool
     ensures yes { result ≡ true → (old.now ≡ []) ⊎ (new.now ≡ []) }
     ensures no { result ≡ false → (old.now ≢ []) × (new.now ≢ []) }
 {
@@ -169,8 +166,8 @@ fn has_root(old: &Path, new: &Path) -> bool
 }
 
 /// Whether one path begins with the other.
-fn are_nested(old: &Path, new: &Path) -> bool
-    ensures { result ≡ (is_some (after_front old.now new.now) || is_some (after_front new.now old.now)) }
+pub(crate) fn are_nested(old: &Path, new: &Path) -> bool
+    ensures { result ≡ are_nested old.now new.now }
 {
     new.begins_with(old) || old.begins_with(new)
 }

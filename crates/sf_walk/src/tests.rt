@@ -10,6 +10,8 @@ use std::alloc::Global;
 use std::process::Abort;
 use std::test::*;
 
+mod steps;
+
 /// A session on a store of its own, whose calls are numbered from 1 on.
 #[derive(Drop)]
 struct Client {
@@ -181,21 +183,24 @@ fn a_directory_moves_with_what_is_below(rt: HostRuntime) -> Result<(), Fail> {
 }
 
 #[test]
-fn a_missing_path_does_not_move(rt: HostRuntime) -> Result<(), Fail> {
+fn the_root_does_not_move(rt: HostRuntime) -> Result<(), Fail> {
     let alloc = rt.alloc();
     let mut store = Store::new(alloc)?;
     let call = Call {
         number: 1,
         session: 1,
         moment: 100,
-        request: Request::PosixRename(path(alloc, b"/a")?, path(alloc, b"/b")?),
+        request: Request::PosixRename(path(alloc, b"/")?, path(alloc, b"/b")?),
         stage: Stage::Fresh,
         copy: None,
         reply: None,
     };
+    assert!(rt; path_of(&call.request).is_none());
+    assert!(rt; other_of(&call.request).is_none());
     let Walk::Ready(ways) = advance(&mut store, &call) else {
         panic!(rt; "not ready");
     };
     assert!(rt; !is_move(&store, &call, ways));
+    assert_eq!(rt; store.look_ups(), 0);
     Ok(())
 }

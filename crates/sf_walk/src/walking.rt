@@ -1,17 +1,19 @@
 //! Steps of a call on its way.
 
-ghost use Rattle.std.specs.Prelude.{◌≡◌, ◌≢◌, true, Some, None, IfSome, IfNone};
-ghost use Rattle.sf_path.specs.Names.{Path};
-ghost use Rattle.sf_call.specs.declared.call.Call.{Call};
+ghost use Rattle.std.specs.Prelude.{◌≡◌, ◌+◌, true, Some, None, length};
+ghost use Rattle.std.specs.Option.{option_copied};
 ghost use Rattle.sf_call.specs.declared.call.Stage.TheVariants as stage;
-ghost use Rattle.sf_inode.specs.Stores.{holder_of, is_directory_at};
-ghost use Rattle.sf_walk.specs.Ways.{path_of};
-ghost use Rattle.sf_walk.specs.Steps.{Stands, IsOnWay, IsFree, IsFreeThere, IsHeldThere, Advances};
+ghost use Rattle.sf_inode.specs.Stores.{is_directory_at};
+ghost use Rattle.sf_walk.specs.Ways.{path_of, other_of};
+ghost use Rattle.sf_walk.specs.Steps.{Stands, IsOnWay, IsBefore, Arrives, Advances};
+ghost use Rattle.sf_walk.specs.Further.{Walks, PartLater};
 
-use crate::calls::path_of;
-use crate::finding::{Located, Ways, locate_all, paths_of};
-use sf_call::{Call, Stage};
-use sf_inode::{NodeId, Store};
+use crate::calls::{other_of, path_of};
+use crate::ends::{Ends, at_ends};
+use crate::finding::{Located, Ways};
+use crate::looking::{Further, find_last, holder_there, look, other_holder};
+use sf_call::{Call, Reached, Stage};
+use sf_inode::Store;
 use sf_path::Path;
 
 /// What a step of a call came to.
@@ -25,64 +27,41 @@ pub enum Walk {
     Ready(Ways),
 }
 
-/// Takes a call one step on: it takes the root, or looks up the next name of its path in the directory
-/// that it holds, holds the directory that it finds, and then frees the one above it. A call without a
-/// path, and one whose path is the root, decides at once and takes nothing; one on its way decides at
-/// the parent of its last name, or where a name is missing or leads to a file. A rename looks up all
-/// names of both its paths, and decides unless another call holds what its new path leads to.
+/// Takes a call one step on: it takes the root, or looks up the next name of its path in the
+/// directory that it holds, holds the directory that it finds, and then frees the one above it. A
+/// call without a path, and one whose path is the root, decides at once and takes nothing; one on its
+/// way decides at the parent of its last name, or where a name is missing or leads to a file.
+///
+/// A rename walks its old path. Where its paths part it keeps the directory that they have in
+/// common, walks on to the old path's parent, and then from the common directory to the new one's.
+/// It decides with both parents held, once no other call holds what the new path leads to; it
+/// doesn't wait for what the old one leads to. Where one path begins with the other it is a call on
+/// its old path alone, and with the root among them it decides at once.
 pub fn advance(store: &mut Store, call: &Call) -> Walk
     requires root { is_directory_at store.old.nodes store.old.root ≡ true }
-    requires stands { Stands store.old (path_of call.now.request) call.now.stage }
+    requires stands { Stands store.old (path_of call.now.request) (other_of call.now.request)
+        call.now.stage }
     ensures { Advances store.old store.new call.now result }
 {
     let Some(path) = path_of(&call.request) else {
-        return at_once(store, call);
+        return Walk::Ready(Ways::along(Located::NoWay));
     };
+    let other = other_of(&call.request);
     match call.stage {
-        Stage::Fresh => first(store, call.number, path),
-        Stage::At { walked, node } => onward(store, call.number, path, walked, node),
-    }
-}
-
-/// A call that walks no path: one by handle, or a rename.
-fn at_once(store: &mut Store, call: &Call) -> Walk
-    requires path { path_of call.now.request ≡ None }
-    requires fresh { call.now.stage ≡ stage.Fresh }
-    ensures { Advances store.old store.new call.now result }
-{
-    let ways = locate_all(store, &call.request);
-    let (_, new) = paths_of(&call.request);
-    let Some(new) = new else {
-        return Walk::Ready(ways);
-    };
-    match holder_there(store, call.number, new, ways.new) {
-        Some(holder) => Walk::Blocked(holder),
-        None => Walk::Ready(ways),
-    }
-}
-
-/// The call that holds the node that a path leads to, if it is another one; the root counts as free.
-fn holder_there(store: &Store, number: u64, path: &Path, found: Located) -> Option<u64>
-    ensures some { IfSome result (λ holder. IsHeldThere store.now number found holder) }
-    ensures none { IfNone result (IsFreeThere store.now number path.now found) }
-{
-    match found {
-        Located::At { parent: _, node } => {
-            if path.is_root() {
-                return None;
-            }
-            other_holder(store, number, node)
-        }
-        Located::NoWay => None,
-        Located::Missing { parent: _ } => None,
+        Stage::Fresh => first(store, call, path, other),
+        Stage::At { walked, node } => onward(store, call, path, other, Reached { walked, node }),
+        Stage::Ends { common, old, new } => match other {
+            Some(other) => at_ends(store, call, path, other, Ends { common, old, new }),
+            None => unreachable!(),
+        },
     }
 }
 
 /// Takes the root.
-fn first(store: &mut Store, number: u64, path: &Path) -> Walk
-    requires { is_directory_at store.old.nodes store.old.root ≡ true }
-    ensures { (call : Call) → path_of call.request ≡ Some path.now → call.stage ≡ stage.Fresh
-        → call.number ≡ number → Advances store.old store.new call result }
+fn first(store: &mut Store, call: &Call, path: &Path, other: Option<&Path>) -> Walk
+    requires root { is_directory_at store.old.nodes store.old.root ≡ true }
+    requires walks { Walks call.now path.now (option_copied other) stage.Fresh }
+    ensures { Advances store.old store.new call.now result }
 {
     let root = store.root();
     if path.is_root() {
@@ -91,61 +70,67 @@ fn first(store: &mut Store, number: u64, path: &Path) -> Walk
             node: root,
         }));
     }
-    if let Some(holder) = other_holder(store, number, root) {
+    if let Some(holder) = other_holder(store, call.number, root) {
         return Walk::Blocked(holder);
     }
-    store.hold(root, number);
-    Walk::Moved(Stage::At {
+    store.hold(root, call.number);
+    let to = Reached {
         walked: 0,
         node: root,
-    })
+    };
+    Walk::Moved(arrived(path, other, to))
 }
 
 /// Goes one name further from a directory.
-fn onward(store: &mut Store, number: u64, path: &Path, walked: usize, node: NodeId) -> Walk
-    requires { IsOnWay store.old path.now walked node }
-    ensures { (call : Call) → path_of call.request ≡ Some path.now
-        → call.stage ≡ stage.At walked node → call.number ≡ number
-        → Advances store.old store.new call result }
+fn onward(store: &mut Store, call: &Call, path: &Path, other: Option<&Path>, at: Reached) -> Walk
+    requires walks { Walks call.now path.now (option_copied other) (stage.At at.walked at.node) }
+    requires on_way { IsOnWay store.old path.now at.walked at.node }
+    requires before { IsBefore path.now (option_copied other) at.walked }
+    ensures { Advances store.old store.new call.now result }
 {
-    let is_last = walked == path.len() - 1;
-    let Some(child) = store.find(node, path.name(walked)) else {
-        if is_last {
-            return Walk::Ready(Ways::along(Located::Missing { parent: node }));
+    match look(store, call.number, path, at) {
+        Further::AtParent => at_parent(store, call, path, at),
+        Further::NoDirectory => Walk::Ready(Ways::along(Located::NoWay)),
+        Further::Held(holder) => Walk::Blocked(holder),
+        Further::Free(to) => {
+            store.hold(to.node, call.number);
+            store.free(at.node);
+            Walk::Moved(arrived(path, other, to))
         }
-        return Walk::Ready(Ways::along(Located::NoWay));
-    };
-    if is_last {
-        return match other_holder(store, number, child) {
-            Some(holder) => Walk::Blocked(holder),
-            None => Walk::Ready(Ways::along(Located::At {
-                parent: node,
-                node: child,
-            })),
-        };
     }
-    if !store.is_directory(child) {
-        return Walk::Ready(Ways::along(Located::NoWay));
-    }
-    if let Some(holder) = other_holder(store, number, child) {
-        return Walk::Blocked(holder);
-    }
-    store.hold(child, number);
-    store.free(node);
-    Walk::Moved(Stage::At {
-        walked: walked + 1,
-        node: child,
-    })
 }
 
-/// The call that holds a node, if it is another one.
-fn other_holder(store: &Store, number: u64, node: NodeId) -> Option<u64>
-    ensures some { IfSome result (λ holder. (holder_of store.now.nodes node ≡ Some holder)
-        × (number ≢ holder)) }
-    ensures none { IfNone result (IsFree store.now number node) }
+/// Decides at the parent of a path's last name, unless another call holds what it leads to.
+fn at_parent(store: &mut Store, call: &Call, path: &Path, at: Reached) -> Walk
+    requires walks { Walks call.now path.now None (stage.At at.walked at.node) }
+    requires on_way { IsOnWay store.old path.now at.walked at.node }
+    requires last { at.walked + 1 ≡ length path.now }
+    ensures { Advances store.old store.new call.now result }
 {
-    match store.holder(node) {
-        Some(holder) => { if holder == number { None } else { Some(holder) } }
-        None => None,
+    let found = find_last(store, path, at);
+    match holder_there(store, call.number, found) {
+        Some(holder) => Walk::Blocked(holder),
+        None => Walk::Ready(Ways::along(found)),
+    }
+}
+
+/// The stage of a call that has come to a directory: where a rename's paths part, it stands there
+/// with both its ends.
+fn arrived(path: &Path, other: Option<&Path>, to: Reached) -> Stage
+    requires { PartLater path.now (option_copied other) to.walked }
+    ensures { Arrives path.now (option_copied other.entry) to.walked to.node result }
+{
+    if let Some(other) = other {
+        if path.common(other) == to.walked {
+            return Stage::Ends {
+                common: to,
+                old: to,
+                new: to,
+            };
+        }
+    }
+    Stage::At {
+        walked: to.walked,
+        node: to.node,
     }
 }

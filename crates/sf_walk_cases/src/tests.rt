@@ -4,13 +4,16 @@ use sf_call::{Call, Request, Stage};
 use sf_inode::Store;
 use sf_plain::PlainTree;
 use sf_reply::{Reply, StatusCode};
-use sf_walk::from_root;
+use sf_walk::{Walk, advance, decide, from_root};
 use std::alloc::Global;
 use std::process::Abort;
 use std::test::*;
 
 mod drawn;
 mod lists;
+
+/// A call makes fewer steps than this.
+const MANY_STEPS: usize = 32;
 
 /// What a reply is, without its contents.
 #[derive(Clone, Copy, Debug, PartialEq, Eq)]
@@ -45,6 +48,13 @@ fn is_same(reply: &Reply, other: &Reply) -> bool {
     }
 }
 
+/// How the calls on a store are made.
+#[derive(Clone, Copy)]
+enum Manner {
+    FromRoot,
+    BySteps,
+}
+
 /// The slow tree and a store that get the same calls, numbered from 1 on. The moment of each is its
 /// number.
 #[derive(Drop)]
@@ -52,16 +62,23 @@ struct Pair {
     plain: PlainTree,
     store: Store,
     number: u32,
+    manner: Manner,
 }
 
 impl Pair {
+    /// Whose calls on the store are made from the root.
     fn new(alloc: Global) -> Result<Pair, Fail> {
+        Pair::in_manner(alloc, Manner::FromRoot)
+    }
+
+    fn in_manner(alloc: Global, manner: Manner) -> Result<Pair, Fail> {
         let plain = PlainTree::new(alloc)?;
         let store = Store::new(alloc)?;
         Ok(Pair {
             plain,
             store,
             number: 0,
+            manner,
         })
     }
 
@@ -73,8 +90,8 @@ impl Pair {
         }
     }
 
-    fn of_store(&mut self, session: u64, request: Request) -> Reply {
-        let call = Call {
+    fn of_store(&mut self, rt: &impl Abort, session: u64, request: Request) -> Reply {
+        let mut call = Call {
             number: u64::from(self.number),
             session,
             moment: self.number,
@@ -83,7 +100,10 @@ impl Pair {
             copy: None,
             reply: None,
         };
-        from_root(&mut self.store, &call)
+        match self.manner {
+            Manner::FromRoot => from_root(&mut self.store, &call),
+            Manner::BySteps => by_steps(rt, &mut self.store, &mut call),
+        }
     }
 
     /// The reply of both.
@@ -93,7 +113,7 @@ impl Pair {
         };
         self.number = self.number.wrapping_add(1);
         let plain = self.of_plain(rt, session, &request);
-        let reply = self.of_store(session, request);
+        let reply = self.of_store(rt, session, request);
         assert!(rt;
             is_same(&plain, &reply),
             "call {}: {plain:?} of the slow tree, {reply:?} of the store",
@@ -116,5 +136,36 @@ impl Pair {
 
     fn status(&mut self, rt: &impl Abort, request: Result<Request, Fail>, want: StatusCode) {
         self.gives(rt, request, Kind::Status(want));
+    }
+}
+
+/// Answers a call by its steps. No other call holds a node.
+fn by_steps(rt: &impl Abort, store: &mut Store, call: &mut Call) -> Reply {
+    call.stage = Stage::Fresh;
+    assert!(rt; store.is_directory(store.root()));
+    for _ in 0..MANY_STEPS {
+        match advance(store, call) {
+            Walk::Moved(stage) => call.stage = stage,
+            Walk::Blocked(holder) => panic!(rt; "call {holder} still holds a node"),
+            Walk::Ready(ways) => {
+                let (reply, _) = decide(store, call, ways);
+                free(store, call.stage);
+                return reply;
+            }
+        }
+    }
+    panic!(rt; "call {} does not end", call.number)
+}
+
+/// Frees what a call holds at a stage.
+fn free(store: &mut Store, stage: Stage) {
+    match stage {
+        Stage::Fresh => {}
+        Stage::At { walked: _, node } => store.free(node),
+        Stage::Ends { common, old, new } => {
+            store.free(common.node);
+            store.free(old.node);
+            store.free(new.node);
+        }
     }
 }

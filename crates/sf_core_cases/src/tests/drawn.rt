@@ -1,5 +1,5 @@
-//! Random events of eight sessions on one core. The slow tree then gives each record's reply, and both trees
-//! tell the same of every path.
+//! Random events of eight sessions on one core, with renames above and below calls that are under
+//! way. The slow tree then gives each record's reply, and both trees tell the same of every path.
 
 use super::*;
 use sf_call::Answer;
@@ -8,16 +8,23 @@ use sf_cases::sized;
 use sf_field::{ByteString, NO_ATTRS};
 use sf_path::Path;
 use sf_plain::PlainTree;
+use std::collections::BTreeSet;
 
-const EVENTS: u32 = 20_000;
+const EVENTS: u32 = 120_000;
 
 const SESSIONS: usize = 8;
 
-/// Numbers by a linear congruence modulo 2^64, with Knuth's factor for MMIX; and the latest handles.
+/// The names in the root.
+const NAMES: &[u8] = b"abcde";
+
+/// Numbers by a linear congruence modulo 2^64, with Knuth's factor for MMIX; the latest handles;
+/// and the name in the root below which most calls go: renames move it, and calls that begin later
+/// follow it.
 #[derive(Clone, Copy)]
 pub(super) struct Draws {
     state: u64,
     handles: [u64; 16],
+    home: u8,
 }
 
 impl Draws {
@@ -25,6 +32,7 @@ impl Draws {
         Draws {
             state: seed,
             handles: [0; 16],
+            home: b'a',
         }
     }
 
@@ -67,24 +75,77 @@ impl Draws {
         }
     }
 
+    /// Follows the home where the latest record is of a rename that moved it within the root.
+    fn follow(&mut self, latest: Option<&Record>) {
+        let Some(
+            Record::Did {
+                request: Request::Rename(old, new) | Request::PosixRename(old, new),
+                reply: Reply::Status(StatusCode::Success),
+                ..
+            },
+        ) = latest
+        else {
+            return;
+        };
+        if let (Some(name), Some(newer)) = (only_byte(old), only_byte(new)) {
+            if name == self.home {
+                self.home = newer;
+            }
+        }
+    }
+
+    /// A name in the root: mostly the home.
+    fn first(&mut self) -> u8 {
+        if self.once_in(12) {
+            self.one_of(NAMES)
+        } else {
+            self.home
+        }
+    }
+
+    fn one_of(&mut self, names: &[u8]) -> u8 {
+        let place = self.place(names.len());
+        match names.get(place) {
+            Some(name) => *name,
+            None => b'a',
+        }
+    }
+
     fn path(&mut self, alloc: Global) -> Result<Path, Fail> {
-        numbered_path(alloc, self.below(32))
+        let first = self.first();
+        let text = numbered_text(alloc, first, self.below(32))?;
+        path(alloc, &text)
     }
 }
 
-/// The paths of up to four of the names `a` and `b`: the binary digits of a number below 32, after its first, spell
-/// the names.
-fn numbered_path(alloc: Global, number: u64) -> Result<Path, Fail> {
-    let mut text = Vec::new(alloc);
-    text.push(b'/')?;
+/// The byte of a path of one name that has one byte.
+fn only_byte(path: &Path) -> Option<u8> {
+    if path.len() != 1 {
+        return None;
+    }
+    match path.name(0).as_slice() {
+        [byte] => Some(*byte),
+        _ => None,
+    }
+}
+
+/// The paths of up to four names, of which all but the first are `a` or `b`: the binary digits of a
+/// number below 32, after its first two, spell them.
+fn numbered_text(alloc: Global, first: u8, number: u64) -> Result<Vec<u8>, Fail> {
+    let mut text = vec![in alloc; b'/']?;
     for place in [8_u64, 4, 2, 1] {
         let digits = number / place.max(1);
         if digits > 1 {
-            text.push(if digits % 2 == 0 { b'a' } else { b'b' })?;
+            let name = match digits {
+                2 | 3 => first,
+                _ if digits % 2 == 0 => b'a',
+                _ => b'b',
+            };
+            text.push(name)?;
             text.push(b'/')?;
         }
     }
-    path(alloc, &text)
+    Ok(text)
 }
 
 fn by_handle(alloc: Global, draws: &mut Draws) -> Result<Request, Fail> {
@@ -109,35 +170,81 @@ fn by_handle(alloc: Global, draws: &mut Draws) -> Result<Request, Fail> {
 }
 
 pub(super) fn drawn_request(alloc: Global, draws: &mut Draws) -> Result<Request, Fail> {
-    if draws.once_in(3) {
-        return by_handle(alloc, draws);
+    match draws.below(24) {
+        0 | 1 => by_handle(alloc, draws),
+        2 => removal(alloc, draws),
+        3..=12 => drawn_rename(alloc, draws),
+        _ => on_path(alloc, draws),
     }
+}
+
+/// A request on a path. Few make a name in the root, and none a file, so that renames find one
+/// free.
+fn on_path(alloc: Global, draws: &mut Draws) -> Result<Request, Fail> {
     let path = draws.path(alloc)?;
-    Ok(match draws.below(32) {
+    if path.len() == 1 {
+        return Ok(if draws.once_in(4) {
+            Request::Mkdir(path, NO_ATTRS)
+        } else {
+            Request::Stat(path)
+        });
+    }
+    Ok(match draws.below(18) {
         0..=2 => Request::Stat(path),
-        3..=8 => Request::Mkdir(path, NO_ATTRS),
-        9 => Request::Rmdir(path),
-        10 => Request::Remove(path),
-        11..=13 => Request::Open(path, flags(b"rwc"), NO_ATTRS),
-        14 => Request::OpenDir(path),
-        15 => Request::SetStat(path, sized(draws.below(40))),
-        16 => Request::Rename(path, draws.path(alloc)?),
-        17 => Request::PosixRename(path, draws.path(alloc)?),
-        18..=20 => Request::Rename(near_root(alloc, draws)?, near_root(alloc, draws)?),
-        _ => Request::PosixRename(near_root(alloc, draws)?, near_root(alloc, draws)?),
+        3..=10 => Request::Mkdir(path, NO_ATTRS),
+        11..=12 => Request::Rmdir(path),
+        13 => Request::Remove(path),
+        14..=15 => Request::Open(path, flags(b"rwc"), NO_ATTRS),
+        16 => Request::OpenDir(path),
+        _ => Request::SetStat(path, sized(draws.below(40))),
     })
 }
 
-/// A path near the root: calls often stand below it.
-fn near_root(alloc: Global, draws: &mut Draws) -> Result<Path, Fail> {
-    let text: &[u8] = match draws.below(8) {
-        0 | 1 => b"/a",
-        2 | 3 => b"/b",
-        4 | 5 => b"/c",
-        6 => b"/a/c",
-        _ => b"/b/a",
+/// A rename of any paths; of a name in the root into the home; within a directory of the root; or
+/// within the root, mostly of the home, in which calls often stand.
+fn drawn_rename(alloc: Global, draws: &mut Draws) -> Result<Request, Fail> {
+    let (old, new) = match draws.below(13) {
+        0 => (draws.path(alloc)?, draws.path(alloc)?),
+        1 => (
+            path(alloc, &[b'/', draws.one_of(NAMES)])?,
+            within(alloc, draws.home, draws)?,
+        ),
+        2..=4 => {
+            let directory = draws.first();
+            (
+                within(alloc, directory, draws)?,
+                within(alloc, directory, draws)?,
+            )
+        }
+        _ => (
+            path(alloc, &[b'/', draws.first()])?,
+            path(alloc, &[b'/', draws.one_of(NAMES)])?,
+        ),
     };
-    path(alloc, text)
+    Ok(if draws.once_in(4) {
+        Request::PosixRename(old, new)
+    } else {
+        Request::Rename(old, new)
+    })
+}
+
+/// One of two names in a directory of the root.
+fn within(alloc: Global, directory: u8, draws: &mut Draws) -> Result<Path, Fail> {
+    path(alloc, &[b'/', directory, b'/', draws.one_of(b"ab")])
+}
+
+/// A removal in the root or in the home.
+fn removal(alloc: Global, draws: &mut Draws) -> Result<Request, Fail> {
+    let path = if draws.once_in(2) {
+        path(alloc, &[b'/', draws.one_of(NAMES)])?
+    } else {
+        within(alloc, draws.home, draws)?
+    };
+    Ok(if draws.once_in(2) {
+        Request::Rmdir(path)
+    } else {
+        Request::Remove(path)
+    })
 }
 
 /// A session's place, if it has joined.
@@ -161,8 +268,8 @@ impl Seat {
     }
 }
 
-/// An event of a session, and what it came to where it is a step: the session joins, its call begins or makes a
-/// step, or it leaves.
+/// An event of a session, and what it came to where it is a step: the session joins, its call
+/// begins or makes a step, or it leaves.
 fn event(
     rt: &impl Abort,
     alloc: Global,
@@ -242,10 +349,10 @@ fn tell_alike(
     alloc: Global,
     core: &mut Core,
     plain: &mut PlainTree,
-    number: u64,
+    text: &[u8],
 ) -> Result<(), Fail> {
-    let asked = Request::Stat(numbered_path(alloc, number)?);
-    let request = Request::Stat(numbered_path(alloc, number)?);
+    let asked = Request::Stat(path(alloc, text)?);
+    let request = Request::Stat(path(alloc, text)?);
     let mut lane = join(rt, core);
     begin(rt, core, &mut lane, Ok(asked));
     let given = answer(rt, core, &mut lane);
@@ -254,43 +361,128 @@ fn tell_alike(
     let reply = given.reply();
     assert!(rt;
         is_same(reply, &want),
-        "path {number}: {reply:?}, not {want:?}"
+        "path {text:?}: {reply:?}, not {want:?}"
     );
     Ok(())
+}
+
+/// What came of the events.
+#[derive(Clone, Copy, Debug)]
+struct Tally {
+    /// Steps of calls.
+    steps: usize,
+    /// Those that had to wait for another session's call.
+    blocked: usize,
+    /// Calls that a rename carried out, and how many of them were renames.
+    helped: usize,
+    helped_renames: usize,
+}
+
+impl Tally {
+    /// A step that decides adds its own record, behind those of the calls that it helps.
+    fn count(&mut self, came_to: Told, added: &[Record]) {
+        self.steps = self.steps.saturating_add(1);
+        if let Told::Blocked(_) = came_to {
+            self.blocked = self.blocked.saturating_add(1);
+        }
+        let Some((_, helped)) = added.split_last() else {
+            return;
+        };
+        self.helped = self.helped.saturating_add(helped.len());
+        let renames = helped.iter().filter(|record| is_rename(*record)).count();
+        self.helped_renames = self.helped_renames.saturating_add(renames);
+    }
+}
+
+fn is_rename(record: &Record) -> bool {
+    match record {
+        Record::Did { request, .. } => {
+            matches!(request, Request::Rename(_, _) | Request::PosixRename(_, _))
+        }
+        Record::Left { session: _ } => false,
+    }
+}
+
+/// No two records are of one call, and none is of a session that has left.
+fn is_legal(rt: &impl Abort, alloc: Global, core: &Core) -> Result<(), Fail> {
+    let mut numbers = BTreeSet::new(alloc);
+    let mut gone = BTreeSet::new(alloc);
+    for record in core.history() {
+        match record {
+            Record::Did {
+                number,
+                session,
+                ..
+            } => {
+                assert!(rt; *number > 0);
+                assert!(rt; numbers.insert(*number)?, "call {number} twice");
+                assert!(rt; !gone.contains(session), "call {number} comes late");
+            }
+            Record::Left { session } => assert!(rt; gone.insert(*session)?),
+        }
+    }
+    Ok(())
+}
+
+/// Drawn events: three or more of one session in a row, unless its call has to wait.
+fn drawn_events(rt: &impl Abort, alloc: Global, core: &mut Core, seats: &mut Vec<Seat>) -> Tally {
+    let mut draws = Draws::new(1);
+    let mut tally = Tally {
+        steps: 0,
+        blocked: 0,
+        helped: 0,
+        helped_renames: 0,
+    };
+    let mut place = 0;
+    let mut in_row = 0_u32;
+    for moment in 0..EVENTS {
+        if in_row == 0 && draws.once_in(2) {
+            place = draws.place(SESSIONS);
+            in_row = 3;
+        }
+        in_row = in_row.saturating_sub(1);
+        let before = core.history().len();
+        let came_to = match seats.get_mut(place) {
+            Some(seat) => event(rt, alloc, core, seat, &mut draws, moment),
+            None => None,
+        };
+        if let Some(came_to) = came_to {
+            draws.remember(came_to);
+            draws.follow(core.history().last());
+            tally.count(came_to, core.history().get(before..).unwrap_or(&[]));
+        }
+        if let Some(Told::Blocked(_)) = came_to {
+            place = draws.place(SESSIONS);
+            in_row = 3;
+        }
+    }
+    tally
 }
 
 #[test]
 fn random_events(rt: HostRuntime) -> Result<(), Fail> {
     let alloc = rt.alloc();
     let mut core = Core::new(alloc)?;
-    let mut draws = Draws::new(1);
     let mut seats = Vec::new(alloc);
     for _ in 0..SESSIONS {
         seats.push(Seat { lane: None })?;
     }
-    let mut blocked = 0_u32;
-    let mut helped = 0_usize;
-    for moment in 0..EVENTS {
-        let place = draws.place(SESSIONS);
-        // A step that decides adds its own record, behind those of the calls that it helps.
-        let own = core.history().len().saturating_add(1);
-        if let Some(seat) = seats.get_mut(place) {
-            match event(&rt, alloc, &mut core, seat, &mut draws, moment) {
-                Some(Told::Blocked(_)) => blocked = blocked.saturating_add(1),
-                Some(came_to) => draws.remember(came_to),
-                None => {}
-            }
-        }
-        helped = helped.saturating_add(core.history().len().saturating_sub(own));
-    }
-    assert!(&rt; blocked > 1000, "{blocked}");
-    assert!(&rt; helped > 20, "{helped}");
+    let tally = drawn_events(&rt, alloc, &mut core, &mut seats);
+    println!(&rt; "{tally:?}")?;
     for _ in 0..100 {
         step_all(&rt, &mut core, &mut seats);
     }
+    is_legal(&rt, alloc, &core)?;
     let mut plain = replayed(&rt, alloc, &core)?;
-    for number in 0..32 {
-        tell_alike(&rt, alloc, &mut core, &mut plain, number)?;
+    for first in NAMES {
+        for number in 0..32 {
+            let text = numbered_text(alloc, *first, number)?;
+            tell_alike(&rt, alloc, &mut core, &mut plain, &text)?;
+        }
     }
+    assert!(&rt; tally.steps >= 90_000, "{tally:?}");
+    assert!(&rt; tally.blocked >= 10_000, "{tally:?}");
+    assert!(&rt; tally.helped >= 750, "{tally:?}");
+    assert!(&rt; tally.helped_renames >= 70, "{tally:?}");
     Ok(())
 }

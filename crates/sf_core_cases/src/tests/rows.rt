@@ -99,6 +99,121 @@ fn renames(rt: HostRuntime) -> Result<(), Fail> {
     Ok(())
 }
 
+/// A call makes so many moves.
+fn moves(rt: &impl Abort, core: &mut Core, lane: &mut Lane, count: u32) {
+    for _ in 0..count {
+        assert_eq!(rt; step(rt, core, lane), Told::Moved);
+    }
+}
+
+/// A call begins, moves with a look-up each but for the first, and decides with so many.
+fn walks(
+    rt: &impl Abort,
+    core: &mut Core,
+    lane: &mut Lane,
+    request: Result<Request, Fail>,
+    count: u64,
+    look_ups: u64,
+    want: Told,
+) {
+    begin(rt, core, lane, request);
+    let before = core.look_ups();
+    for made in 0..count {
+        assert_eq!(rt; step(rt, core, lane), Told::Moved);
+        assert_eq!(rt; core.look_ups(), before.saturating_add(made));
+    }
+    let last = core.look_ups();
+    assert_eq!(rt; step(rt, core, lane), want);
+    assert_eq!(rt; core.look_ups(), last.saturating_add(look_ups));
+}
+
+/// Beside `/a` there are `/a/x`, `/b` and `/b/y`.
+#[test]
+fn renames_walk(rt: HostRuntime) -> Result<(), Fail> {
+    let alloc = rt.alloc();
+    let (mut core, mut a) = with_a(&rt, alloc)?;
+    let success = Told::Status(StatusCode::Success);
+    let failure = Told::Status(StatusCode::Failure);
+    let absent = Told::Status(StatusCode::NoSuchFile);
+    for text in ["/a/x", "/b", "/b/y"] {
+        let make = mkdir(alloc, text.as_bytes());
+        comes_to(&rt, &mut core, &mut a, make, success);
+    }
+    let nowhere = rename(alloc, b"/none/x", b"/b/x");
+    walks(&rt, &mut core, &mut a, nowhere, 1, 1, absent);
+    let to_nowhere = rename(alloc, b"/a/x", b"/none/x");
+    walks(&rt, &mut core, &mut a, to_nowhere, 2, 2, absent);
+    let nested = rename(alloc, b"/a/x", b"/a/x/y");
+    walks(&rt, &mut core, &mut a, nested, 2, 1, failure);
+    let rooted = rename(alloc, b"/a/x", b"/");
+    walks(&rt, &mut core, &mut a, rooted, 0, 0, failure);
+    let far = rename(alloc, b"/a/x", b"/b/y/x");
+    walks(&rt, &mut core, &mut a, far, 4, 2, success);
+    comes_to(&rt, &mut core, &mut a, stat(alloc, b"/b/y/x"), Told::Attrs);
+    comes_to(&rt, &mut core, &mut a, stat(alloc, b"/a/x"), absent);
+    a.abandon();
+    Ok(())
+}
+
+/// Call 3, STAT of `/b/f`, stands in `/b`, which the extension is to replace by `/a`.
+#[test]
+fn rename_waits_at_new_path(rt: HostRuntime) -> Result<(), Fail> {
+    let alloc = rt.alloc();
+    let (mut core, mut a) = with_a(&rt, alloc)?;
+    let success = Told::Status(StatusCode::Success);
+    let absent = Told::Status(StatusCode::NoSuchFile);
+    let mut b = join(&rt, &mut core);
+    comes_to(&rt, &mut core, &mut a, mkdir(alloc, b"/b"), success);
+    begin(&rt, &mut core, &mut a, stat(alloc, b"/b/f"));
+    moves(&rt, &mut core, &mut a, 2);
+    let replacing = posix_rename(alloc, b"/a", b"/b");
+    begin(&rt, &mut core, &mut b, replacing);
+    moves(&rt, &mut core, &mut b, 1);
+    assert_eq!(&rt; step(&rt, &mut core, &mut b), Told::Blocked(3));
+    assert_eq!(&rt; step(&rt, &mut core, &mut a), absent);
+    assert_eq!(&rt; step(&rt, &mut core, &mut b), success);
+    records_are(&rt, &core, &[1, 2, 3, 4]);
+    a.abandon();
+    b.abandon();
+    Ok(())
+}
+
+/// Calls 2 and 5, STAT of `/a/f`, stand in `/a`. A rename of `/a` to a path below it waits for the
+/// one; a rename to `/z` carries the other out.
+#[test]
+fn rename_at_old_path(rt: HostRuntime) -> Result<(), Fail> {
+    let alloc = rt.alloc();
+    let (mut core, mut a) = with_a(&rt, alloc)?;
+    let mut b = join(&rt, &mut core);
+    let mut c = join(&rt, &mut core);
+    begin(&rt, &mut core, &mut a, stat(alloc, b"/a/f"));
+    moves(&rt, &mut core, &mut a, 2);
+    begin(&rt, &mut core, &mut b, rename(alloc, b"/a", b"/a/b"));
+    moves(&rt, &mut core, &mut b, 1);
+    assert_eq!(&rt; step(&rt, &mut core, &mut b), Told::Blocked(2));
+    begin(&rt, &mut core, &mut c, rename(alloc, b"/a", b"/z"));
+    assert_eq!(&rt; step(&rt, &mut core, &mut c), Told::Blocked(3));
+    records_are(&rt, &core, &[1]);
+    let absent = Told::Status(StatusCode::NoSuchFile);
+    assert_eq!(&rt; step(&rt, &mut core, &mut a), absent);
+    let failure = Told::Status(StatusCode::Failure);
+    assert_eq!(&rt; step(&rt, &mut core, &mut b), failure);
+    begin(&rt, &mut core, &mut a, stat(alloc, b"/a/f"));
+    moves(&rt, &mut core, &mut a, 2);
+    moves(&rt, &mut core, &mut c, 1);
+    let before = core.look_ups();
+    let success = Told::Status(StatusCode::Success);
+    assert_eq!(&rt; step(&rt, &mut core, &mut c), success);
+    assert!(&rt; core.look_ups().saturating_sub(before) <= 4);
+    records_are(&rt, &core, &[1, 2, 3, 5, 4]);
+    assert_eq!(&rt; step(&rt, &mut core, &mut a), absent);
+    records_are(&rt, &core, &[1, 2, 3, 5, 4]);
+    a.abandon();
+    b.abandon();
+    c.abandon();
+    Ok(())
+}
+
 #[test]
 fn sessions_are_limited(rt: HostRuntime) -> Result<(), Fail> {
     let alloc = rt.alloc();

@@ -1,5 +1,6 @@
-//! Drawn events of eight sessions, whose streams are cut at drawn places. The slow tree is given each session's
-//! own requests, in the order of the history, and its replies are those that the session was sent.
+//! Drawn events of eight sessions, whose streams are cut at drawn places, with renames above and
+//! below calls that are under way. The slow tree is given each session's own requests, in the order
+//! of the history, and its replies are those that the session was sent.
 
 use super::*;
 use sf_call::Request;
@@ -9,12 +10,13 @@ use sf_cases::requests::{
 use sf_plain::PlainTree;
 use sf_reply::{Reply, read_reply};
 use sf_wire::{Cut, cut};
+use std::collections::BTreeSet;
 
 mod client;
 
 use client::{Client, Draws};
 
-const EVENTS: u32 = 10_000;
+const EVENTS: u32 = 70_000;
 
 const SESSIONS: usize = 8;
 
@@ -39,26 +41,85 @@ fn latest_handle(engine: &Engine) -> Option<u64> {
     }
 }
 
-/// A turn of a client's session. Whether it had to wait for another session's call is told.
+/// What came of the turns.
+#[derive(Clone, Copy, Debug)]
+struct Tally {
+    /// Turns that made a step of a call.
+    steps: usize,
+    /// Those that had to wait for another session's call.
+    blocked: usize,
+    /// Calls that a rename carried out, and how many of them were renames.
+    helped: usize,
+    helped_renames: usize,
+}
+
+impl Tally {
+    fn new() -> Tally {
+        Tally {
+            steps: 0,
+            blocked: 0,
+            helped: 0,
+            helped_renames: 0,
+        }
+    }
+
+    /// A turn that decides adds the call's own record, behind those of the calls that it helps.
+    fn count(&mut self, happened: Happened, added: &[Record]) {
+        let is_step = match happened {
+            Happened::Moved | Happened::Blocked(_) | Happened::Decided => true,
+            _ => false,
+        };
+        if !is_step {
+            return;
+        }
+        self.steps = self.steps.saturating_add(1);
+        if let Happened::Blocked(_) = happened {
+            self.blocked = self.blocked.saturating_add(1);
+        }
+        let Some((_, helped)) = added.split_last() else {
+            return;
+        };
+        self.helped = self.helped.saturating_add(helped.len());
+        let renames = helped.iter().filter(|record| is_rename(*record)).count();
+        self.helped_renames = self.helped_renames.saturating_add(renames);
+    }
+}
+
+fn is_rename(record: &Record) -> bool {
+    match record {
+        Record::Did { request, .. } => {
+            matches!(request, Request::Rename(_, _) | Request::PosixRename(_, _))
+        }
+        Record::Left { session: _ } => false,
+    }
+}
+
+/// A turn of a client's session. What came of it is told.
 fn take_turn(
     rt: &impl Abort,
     engine: &mut Engine,
     draws: &mut Draws,
+    tally: &mut Tally,
     session: u64,
     moment: u32,
-) -> Option<Happened> {
+) -> Happened {
+    let before = engine.core().history().len();
     match engine.apply(&Event::Turn(session, moment)) {
         Ok(happened) => {
             if happened == Happened::Decided {
                 draws.remember(latest_handle(engine));
+                draws.follow(engine.core().history().last());
             }
-            Some(happened)
+            let history = engine.core().history();
+            tally.count(happened, history.get(before..).unwrap_or(&[]));
+            happened
         }
         Err(fault) => panic!(rt; "no turn: {fault}"),
     }
 }
 
-/// A piece of what a client sends, of a drawn length. A client that has nothing more to send asks anew.
+/// A piece of what a client sends, of a drawn length. A client that has nothing more to send asks
+/// anew.
 fn feed_piece(
     rt: &impl Abort,
     alloc: Global,
@@ -75,7 +136,16 @@ fn feed_piece(
     Ok(())
 }
 
-/// All clients' sessions have turns until none of them has any more to do: all that was sent is fed first.
+/// Whether a turn found nothing more to do.
+fn is_done(happened: Happened) -> bool {
+    match happened {
+        Happened::Idle | Happened::Ended(_) => true,
+        _ => false,
+    }
+}
+
+/// All clients' sessions have turns until none of them has any more to do: all that was sent is fed
+/// first.
 fn settle(
     rt: &impl Abort,
     alloc: Global,
@@ -89,11 +159,18 @@ fn settle(
         }
     }
     for _ in 0..1000 {
+        let mut done = true;
         for client in clients.iter() {
-            assert!(rt; engine.apply(&Event::Turn(client.session(), 0)).is_ok());
+            match engine.apply(&Event::Turn(client.session(), 0)) {
+                Ok(happened) => done = done && is_done(happened),
+                Err(fault) => panic!(rt; "no turn: {fault}"),
+            }
+        }
+        if done {
+            return Ok(());
         }
     }
-    Ok(())
+    panic!(rt; "no rest")
 }
 
 fn is_same(reply: &Reply, other: &Reply) -> bool {
@@ -107,7 +184,8 @@ fn is_same(reply: &Reply, other: &Reply) -> bool {
     }
 }
 
-/// A client takes the next reply of its session's output: it is of its next request, and is what the slow tree gives.
+/// A client takes the next reply of its session's output: it is of its next request, and is what
+/// the slow tree gives.
 fn takes_reply(
     rt: &impl Abort,
     alloc: Global,
@@ -172,54 +250,131 @@ fn compare(
     Ok(())
 }
 
+/// No two records are of one call, and none is of a session that has left.
+fn is_legal(rt: &impl Abort, alloc: Global, engine: &Engine) -> Result<(), Fail> {
+    let mut numbers = BTreeSet::new(alloc);
+    let mut gone = BTreeSet::new(alloc);
+    for record in engine.core().history() {
+        match record {
+            Record::Did {
+                number,
+                session,
+                ..
+            } => {
+                assert!(rt; *number > 0);
+                assert!(rt; numbers.insert(*number)?, "call {number} twice");
+                assert!(rt; !gone.contains(session), "call {number} comes late");
+            }
+            Record::Left { session } => assert!(rt; gone.insert(*session)?),
+        }
+    }
+    Ok(())
+}
+
+/// A drawn event of a client: its session closes, is fed, or has a turn, and is fed where it has
+/// nothing to do. What came of a turn is told.
+fn event(
+    rt: &impl Abort,
+    alloc: Global,
+    engine: &mut Engine,
+    draws: &mut Draws,
+    tally: &mut Tally,
+    client: &mut Client,
+    moment: u32,
+) -> Result<Option<Happened>, Fail> {
+    let session = client.session();
+    match draws.below(600) {
+        0 => {
+            client.close();
+            comes_to(rt, engine, Event::Close(session), Ok(Happened::Closed));
+            Ok(None)
+        }
+        1..=20 if !client.has_closed() => {
+            feed_piece(rt, alloc, engine, draws, client)?;
+            Ok(None)
+        }
+        _ => {
+            let happened = take_turn(rt, engine, draws, tally, session, moment);
+            if happened == Happened::Idle {
+                feed_piece(rt, alloc, engine, draws, client)?;
+            }
+            Ok(Some(happened))
+        }
+    }
+}
+
+/// A session opens for one more client. The client's place among all is told.
+fn add_client(
+    rt: &impl Abort,
+    alloc: Global,
+    engine: &mut Engine,
+    clients: &mut Vec<Client>,
+) -> Result<usize, Fail> {
+    let place = clients.len();
+    let session = u64::try_from(place)?.saturating_add(1);
+    join(rt, alloc, engine, session)?;
+    clients.push(Client::new(alloc, session))?;
+    Ok(place)
+}
+
+/// Drawn events: three or more of one session in a row, unless its call has to wait; and a call
+/// that begins has two further ones, which may take it past the root. Where a session has left,
+/// another one opens.
+fn draw_events(
+    rt: &impl Abort,
+    alloc: Global,
+    engine: &mut Engine,
+    clients: &mut Vec<Client>,
+) -> Result<Tally, Fail> {
+    let mut draws = Draws::new(1);
+    let mut tally = Tally::new();
+    let mut places = [0; SESSIONS];
+    for place in places.iter_mut() {
+        *place = add_client(rt, alloc, engine, clients)?;
+    }
+    let mut seat = 0;
+    let mut in_row = 0_u32;
+    for moment in 0..EVENTS {
+        if in_row == 0 && draws.below(2) == 0 {
+            seat = draws.place(SESSIONS);
+            in_row = 3;
+        }
+        in_row = in_row.saturating_sub(1);
+        let Some(place) = places.get_mut(seat) else {
+            panic!(rt; "no seat");
+        };
+        let Some(client) = clients.get_mut(*place) else {
+            panic!(rt; "no client");
+        };
+        let came_to = event(rt, alloc, engine, &mut draws, &mut tally, client, moment)?;
+        if let Some(Happened::Ended(_)) = came_to {
+            *place = add_client(rt, alloc, engine, clients)?;
+        }
+        match came_to {
+            Some(Happened::Blocked(_)) => {
+                seat = draws.place(SESSIONS);
+                in_row = 3;
+            }
+            Some(Happened::Begun) => in_row = 2,
+            _ => {}
+        }
+    }
+    Ok(tally)
+}
+
 #[test]
 fn drawn_events(rt: HostRuntime) -> Result<(), Fail> {
     let alloc = rt.alloc();
     let mut engine = Engine::new(alloc)?;
-    let mut draws = Draws::new(1);
     let mut clients = Vec::new(alloc);
-    for session in 1..9 {
-        join(&rt, alloc, &mut engine, session)?;
-        clients.push(Client::new(alloc, session))?;
-    }
-    let mut blocked = 0_u32;
-    for moment in 0..EVENTS {
-        let first = clients.len().saturating_sub(SESSIONS);
-        let place = first.saturating_add(draws.place(SESSIONS));
-        let Some(client) = clients.get_mut(place) else {
-            panic!(&rt; "no client");
-        };
-        match draws.below(300) {
-            0 => {
-                let session = client.close();
-                comes_to(
-                    &rt,
-                    &mut engine,
-                    Event::Close(session),
-                    Ok(Happened::Closed),
-                );
-            }
-            1..=99 if !client.has_closed() => feed_piece(
-                &rt,
-                alloc,
-                &mut engine,
-                &mut draws,
-                client,
-            )?,
-            _ => {
-                if let Some(Happened::Blocked(_)) = take_turn(
-                    &rt,
-                    &mut engine,
-                    &mut draws,
-                    client.session(),
-                    moment,
-                ) {
-                    blocked = blocked.saturating_add(1);
-                }
-            }
-        }
-    }
-    assert!(&rt; blocked > 300, "{blocked}");
+    let tally = draw_events(&rt, alloc, &mut engine, &mut clients)?;
+    println!(&rt; "{tally:?}")?;
     settle(&rt, alloc, &mut engine, &mut clients)?;
-    compare(&rt, alloc, &engine, &mut clients)
+    is_legal(&rt, alloc, &engine)?;
+    compare(&rt, alloc, &engine, &mut clients)?;
+    assert!(&rt; tally.steps >= 33_000, "{tally:?}");
+    assert!(&rt; tally.blocked >= 5_000, "{tally:?}");
+    assert!(&rt; tally.helped >= 250, "{tally:?}");
+    assert!(&rt; tally.helped_renames >= 25, "{tally:?}");
+    Ok(())
 }

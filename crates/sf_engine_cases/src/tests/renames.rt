@@ -13,13 +13,25 @@ const OK_1: &str = "00000018 65 00000001 00000000 00000007 53756363657373 000000
 
 const OK_2: &str = "00000018 65 00000002 00000000 00000007 53756363657373 00000000";
 
+const OK_3: &str = "00000018 65 00000003 00000000 00000007 53756363657373 00000000";
+
+const OK_4: &str = "00000018 65 00000004 00000000 00000007 53756363657373 00000000";
+
+const OK_9: &str = "00000018 65 00000009 00000000 00000007 53756363657373 00000000";
+
+/// NO_SUCH_FILE under the ids 7 and 9.
+const ABSENT_7: &str = "0000001d 65 00000007 00000002 0000000c 4e6f20737563682066696c65 00000000";
+
+const ABSENT_9: &str = "0000001d 65 00000009 00000002 0000000c 4e6f20737563682066696c65 00000000";
+
 /// RENAME of `/a` to `/z`, under the id 7.
 const RENAME: &str = "00000011 12 00000007 00000002 2f61 00000002 2f7a";
 
-/// Three sessions on an engine of their own, each with its VERSION. The third one's calls are these, with their moves.
-fn three_sessions(rt: &impl Abort, alloc: Global, calls: &[(&str, u32)]) -> Result<Engine, Fail> {
+/// Four sessions on an engine of their own, each with its VERSION. The third one's calls are these,
+/// with their moves.
+fn four_sessions(rt: &impl Abort, alloc: Global, calls: &[(&str, u32)]) -> Result<Engine, Fail> {
     let mut engine = Engine::new(alloc)?;
-    for session in 1..4 {
+    for session in 1..5 {
         opens(rt, &mut engine, session);
         feeds(rt, alloc, &mut engine, session, &[INIT])?;
         turns(rt, &mut engine, session, Happened::Wrote);
@@ -42,10 +54,15 @@ fn starts(
 ) -> Result<(), Fail> {
     feeds(rt, alloc, engine, session, &[text])?;
     turns(rt, engine, session, Happened::Begun);
+    goes_on(rt, engine, session, moves);
+    Ok(())
+}
+
+/// A session's call makes so many moves.
+fn goes_on(rt: &impl Abort, engine: &mut Engine, session: u64, moves: u32) {
     for _ in 0..moves {
         turns(rt, engine, session, Happened::Moved);
     }
-    Ok(())
 }
 
 /// Sessions' calls are decided and their replies written, in this order.
@@ -70,12 +87,74 @@ fn was_sent(
     Ok(())
 }
 
-/// `/a/f` has 3 bytes, and 2 more are written behind them after `/a` went to `/z`. STAT of `/a/f`, which stood in `/a`
-/// before, tells of the 3.
+/// `/a` and `/a/b` are directories, `/f` and `/g` files. With the root as one of its paths a rename
+/// makes no move; where one path begins with the other, those to the old one's parent; else those
+/// to both parents, or to where one is missing.
+#[test]
+fn rename_cases(rt: HostRuntime) -> Result<(), Fail> {
+    is_served(
+        &rt,
+        rt.alloc(),
+        &[
+            MAKE_A,
+            MAKE_A_B,
+            "00000013 03 00000003 00000002 2f66 0000000a 00000000",
+            "00000013 03 00000004 00000002 2f67 0000000a 00000000",
+            "0000002d c8 00000005 00000018 706f7369782d72656e616d65406f70656e7373682e636f6d 00000002 2f61 00000002 2f61",
+            "0000002f c8 00000006 00000018 706f7369782d72656e616d65406f70656e7373682e636f6d 00000002 2f61 00000004 2f612f62",
+            "0000002f c8 00000007 00000018 706f7369782d72656e616d65406f70656e7373682e636f6d 00000004 2f612f62 00000002 2f61",
+            "00000011 12 00000008 00000002 2f66 00000002 2f67",
+            "0000002d c8 00000009 00000018 706f7369782d72656e616d65406f70656e7373682e636f6d 00000002 2f66 00000002 2f67",
+            "0000000b 11 0000000a 00000002 2f66",
+            "00000017 12 0000000b 00000005 2f6e6f6e65 00000005 2f6e6f6e65",
+            "00000010 12 0000000c 00000001 2f 00000002 2f7a",
+            "0000002c c8 0000000d 00000018 706f7369782d72656e616d65406f70656e7373682e636f6d 00000002 2f61 00000001 2f",
+            "00000015 12 0000000e 00000004 2f612f62 00000004 2f672f78",
+            "00000013 12 0000000f 00000004 2f612f62 00000002 2f7a",
+        ],
+        &[
+            Steps::Call(1),
+            Steps::Call(2),
+            Steps::Call(1),
+            Steps::Call(1),
+            Steps::Call(1),
+            Steps::Call(1),
+            Steps::Call(2),
+            Steps::Call(1),
+            Steps::Call(1),
+            Steps::Call(1),
+            Steps::Call(1),
+            Steps::Call(0),
+            Steps::Call(0),
+            Steps::Call(2),
+            Steps::Call(2),
+        ],
+        &[
+            OK_1,
+            OK_2,
+            "00000011 66 00000003 00000008 0000000000000003",
+            "00000011 66 00000004 00000008 0000000000000004",
+            "00000018 65 00000005 00000000 00000007 53756363657373 00000000",
+            "00000018 65 00000006 00000004 00000007 4661696c757265 00000000",
+            "00000018 65 00000007 00000004 00000007 4661696c757265 00000000",
+            "00000018 65 00000008 00000004 00000007 4661696c757265 00000000",
+            OK_9,
+            "0000001d 65 0000000a 00000002 0000000c 4e6f20737563682066696c65 00000000",
+            "0000001d 65 0000000b 00000002 0000000c 4e6f20737563682066696c65 00000000",
+            "00000018 65 0000000c 00000004 00000007 4661696c757265 00000000",
+            "00000018 65 0000000d 00000004 00000007 4661696c757265 00000000",
+            "0000001d 65 0000000e 00000002 0000000c 4e6f20737563682066696c65 00000000",
+            "00000018 65 0000000f 00000000 00000007 53756363657373 00000000",
+        ],
+    )
+}
+
+/// `/a/f` has 3 bytes, and 2 more are written behind them after `/a` went to `/z`. STAT of `/a/f`,
+/// which stood in `/a` before, tells of the 3.
 #[test]
 fn write_during_rename(rt: HostRuntime) -> Result<(), Fail> {
     let alloc = rt.alloc();
-    let mut engine = three_sessions(
+    let mut engine = four_sessions(
         &rt,
         alloc,
         &[
@@ -94,7 +173,7 @@ fn write_during_rename(rt: HostRuntime) -> Result<(), Fail> {
     starts(&rt, alloc, &mut engine, 1, stat, 2)?;
     let rename =
         "0000002d c8 00000007 00000018 706f7369782d72656e616d65406f70656e7373682e636f6d 00000002 2f61 00000002 2f7a";
-    starts(&rt, alloc, &mut engine, 2, rename, 0)?;
+    starts(&rt, alloc, &mut engine, 2, rename, 1)?;
     let before = engine.core().look_ups();
     turns(&rt, &mut engine, 2, Happened::Decided);
     assert!(&rt; engine.core().look_ups().saturating_sub(before) <= 4);
@@ -120,16 +199,15 @@ fn write_during_rename(rt: HostRuntime) -> Result<(), Fail> {
 #[test]
 fn mkdir_below_rename(rt: HostRuntime) -> Result<(), Fail> {
     let alloc = rt.alloc();
-    let mut engine = three_sessions(&rt, alloc, &[(MAKE_A, 1), (MAKE_A_B, 2)])?;
+    let mut engine = four_sessions(&rt, alloc, &[(MAKE_A, 1), (MAKE_A_B, 2)])?;
     let make = "00000013 0e 00000009 00000006 2f612f622f63 00000000";
     starts(&rt, alloc, &mut engine, 1, make, 3)?;
-    starts(&rt, alloc, &mut engine, 2, RENAME, 0)?;
+    starts(&rt, alloc, &mut engine, 2, RENAME, 1)?;
     ends(&rt, &mut engine, &[2]);
     let stat = "0000000f 11 00000008 00000006 2f7a2f622f63";
     starts(&rt, alloc, &mut engine, 3, stat, 3)?;
     ends(&rt, &mut engine, &[3, 1]);
-    let made = "00000018 65 00000009 00000000 00000007 53756363657373 00000000";
-    was_sent(&rt, alloc, &engine, 1, &[made])?;
+    was_sent(&rt, alloc, &engine, 1, &[OK_9])?;
     was_sent(&rt, alloc, &engine, 2, &[OK_7])?;
     was_sent(&rt, alloc, &engine, 3, &[OK_1, OK_2, ATTRS_A])?;
     records_are(&rt, &engine, &[1, 2, 3, 4, 5]);
@@ -140,14 +218,151 @@ fn mkdir_below_rename(rt: HostRuntime) -> Result<(), Fail> {
 #[test]
 fn stat_outside_rename(rt: HostRuntime) -> Result<(), Fail> {
     let alloc = rt.alloc();
-    let mut engine = three_sessions(&rt, alloc, &[(MAKE_A, 1), (MAKE_B, 1)])?;
+    let mut engine = four_sessions(&rt, alloc, &[(MAKE_A, 1), (MAKE_B, 1)])?;
     let stat = "0000000d 11 00000006 00000004 2f622f66";
     starts(&rt, alloc, &mut engine, 1, stat, 2)?;
-    starts(&rt, alloc, &mut engine, 2, RENAME, 0)?;
+    starts(&rt, alloc, &mut engine, 2, RENAME, 1)?;
     ends(&rt, &mut engine, &[2, 1]);
     let absent = "0000001d 65 00000006 00000002 0000000c 4e6f20737563682066696c65 00000000";
     was_sent(&rt, alloc, &engine, 1, &[absent])?;
     was_sent(&rt, alloc, &engine, 2, &[OK_7])?;
     records_are(&rt, &engine, &[1, 2, 4, 3]);
     Ok(())
+}
+
+/// `/a`, `/a/b` and `/a/b/d` are calls 1 to 3. Session 1 has RENAME of `/a/b` to `/a/e` and session
+/// 4 RMDIR of `/a/b/d`; they begin in this order, and stand in `/a` and in `/a/b` while session 2
+/// moves `/a` to `/z` by call 6.
+fn overtaken_rename(
+    rt: &impl Abort,
+    alloc: Global,
+    in_order: &[u64],
+    renamed: &str,
+    removed: &str,
+) -> Result<Engine, Fail> {
+    let make = "00000013 0e 00000003 00000006 2f612f622f64 00000000";
+    let made = [(MAKE_A, 1), (MAKE_A_B, 2), (make, 3)];
+    let mut engine = four_sessions(rt, alloc, &made)?;
+    for session in in_order {
+        let text = match *session {
+            1 => "00000015 12 00000007 00000004 2f612f62 00000004 2f612f65",
+            _ => "0000000f 0f 00000009 00000006 2f612f622f64",
+        };
+        starts(rt, alloc, &mut engine, *session, text, 0)?;
+    }
+    goes_on(rt, &mut engine, 4, 3);
+    goes_on(rt, &mut engine, 1, 2);
+    starts(rt, alloc, &mut engine, 2, RENAME, 1)?;
+    ends(rt, &mut engine, &[2]);
+    records_are(rt, &engine, &[1, 2, 3, 4, 5, 6]);
+    ends(rt, &mut engine, &[1, 4]);
+    was_sent(rt, alloc, &engine, 1, &[renamed])?;
+    was_sent(rt, alloc, &engine, 4, &[removed])?;
+    was_sent(rt, alloc, &engine, 2, &[OK_7])?;
+    records_are(rt, &engine, &[1, 2, 3, 4, 5, 6]);
+    Ok(engine)
+}
+
+/// STAT of `/z/e` under the id 8 and of `/z/e/d` under the id 9, by session 3.
+fn asks_for_both(rt: &impl Abort, alloc: Global, engine: &mut Engine) -> Result<(), Fail> {
+    starts(
+        rt,
+        alloc,
+        engine,
+        3,
+        "0000000d 11 00000008 00000004 2f7a2f65",
+        2,
+    )?;
+    ends(rt, engine, &[3]);
+    starts(
+        rt,
+        alloc,
+        engine,
+        3,
+        "0000000f 11 00000009 00000006 2f7a2f652f64",
+        3,
+    )?;
+    ends(rt, engine, &[3]);
+    Ok(())
+}
+
+/// The inner rename is carried out first: then the RMDIR, which had passed what it moves, finds
+/// nothing.
+#[test]
+fn helped_rename(rt: HostRuntime) -> Result<(), Fail> {
+    let alloc = rt.alloc();
+    let mut engine = overtaken_rename(&rt, alloc, &[1, 4], OK_7, ABSENT_9)?;
+    asks_for_both(&rt, alloc, &mut engine)?;
+    let there =
+        "00000025 69 00000009 0000000f 0000000000000000 00000000 00000000 000041ed 00000064 00000064";
+    was_sent(&rt, alloc, &engine, 3, &[OK_1, OK_2, OK_3, ATTRS_A, there])
+}
+
+/// The RMDIR is carried out first, and then the inner rename.
+#[test]
+fn helped_rename_comes_last(rt: HostRuntime) -> Result<(), Fail> {
+    let alloc = rt.alloc();
+    let mut engine = overtaken_rename(&rt, alloc, &[4, 1], OK_7, OK_9)?;
+    asks_for_both(&rt, alloc, &mut engine)?;
+    was_sent(
+        &rt,
+        alloc,
+        &engine,
+        3,
+        &[OK_1, OK_2, OK_3, ATTRS_A, ABSENT_9],
+    )
+}
+
+/// `/a`, `/a/x`, `/b` and `/b/y` are calls 1 to 4. Session 1 has RENAME of `/a/x` to `/b/y/x` (call
+/// 5), session 2 RENAME of `/b/y` to `/a/x/y` (call 6). They take turns, one each, until the call
+/// of that session which is first has decided; the other one waits for the root as long.
+fn cross(rt: &impl Abort, alloc: Global, first: u64, call: u64) -> Result<Engine, Fail> {
+    let mut engine = four_sessions(
+        rt,
+        alloc,
+        &[
+            (MAKE_A, 1),
+            ("00000011 0e 00000002 00000004 2f612f78 00000000", 2),
+            ("0000000f 0e 00000003 00000002 2f62 00000000", 1),
+            ("00000011 0e 00000004 00000004 2f622f79 00000000", 2),
+        ],
+    )?;
+    let to_b = "00000017 12 00000007 00000004 2f612f78 00000006 2f622f792f78";
+    starts(rt, alloc, &mut engine, 1, to_b, 0)?;
+    let to_a = "00000017 12 00000007 00000004 2f622f79 00000006 2f612f782f79";
+    starts(rt, alloc, &mut engine, 2, to_a, 0)?;
+    let second = 3_u64.saturating_sub(first);
+    for _ in 0..4 {
+        turns(rt, &mut engine, first, Happened::Moved);
+        turns(rt, &mut engine, second, Happened::Blocked(call));
+    }
+    turns(rt, &mut engine, first, Happened::Decided);
+    goes_on(rt, &mut engine, second, 3);
+    ends(rt, &mut engine, &[second]);
+    turns(rt, &mut engine, first, Happened::Wrote);
+    was_sent(rt, alloc, &engine, first, &[OK_7])?;
+    was_sent(rt, alloc, &engine, second, &[ABSENT_7])?;
+    Ok(engine)
+}
+
+#[test]
+fn crossing_renames(rt: HostRuntime) -> Result<(), Fail> {
+    let alloc = rt.alloc();
+    let mut engine = cross(&rt, alloc, 1, 5)?;
+    records_are(&rt, &engine, &[1, 2, 3, 4, 5, 6]);
+    let stat = "0000000f 11 00000008 00000006 2f622f792f78";
+    starts(&rt, alloc, &mut engine, 3, stat, 3)?;
+    ends(&rt, &mut engine, &[3]);
+    was_sent(&rt, alloc, &engine, 3, &[OK_1, OK_2, OK_3, OK_4, ATTRS_A])
+}
+
+#[test]
+fn crossing_renames_the_other_way(rt: HostRuntime) -> Result<(), Fail> {
+    let alloc = rt.alloc();
+    let mut engine = cross(&rt, alloc, 2, 6)?;
+    records_are(&rt, &engine, &[1, 2, 3, 4, 6, 5]);
+    let stat = "0000000f 11 00000008 00000006 2f612f782f79";
+    starts(&rt, alloc, &mut engine, 3, stat, 3)?;
+    ends(&rt, &mut engine, &[3]);
+    was_sent(&rt, alloc, &engine, 3, &[OK_1, OK_2, OK_3, OK_4, ATTRS_A])
 }

@@ -292,19 +292,28 @@ fn call(
     kind_of(&reply)
 }
 
-#[test]
-fn drawn_calls(rt: HostRuntime) -> Result<(), Fail> {
-    let alloc = rt.alloc();
-    let mut pair = Pair::new(alloc)?;
+/// Draws calls, and makes them from the root, or by their steps.
+fn draw(rt: &impl Abort, alloc: Global, manner: Manner) -> Result<(), Fail> {
+    let mut pair = Pair::in_manner(alloc, manner)?;
     let mut draws = Draws { state: 1 };
     let mut handles = Handles { numbers: [0; 32] };
     let mut kinds = Vec::new(alloc);
     for _ in 0..CALLS {
-        let kind = call(&rt, alloc, &mut pair, &mut draws, &mut handles);
+        let kind = call(rt, alloc, &mut pair, &mut draws, &mut handles);
         kinds.push(kind)?;
     }
     for kind in KINDS {
         assert!(rt; kinds.contains(&kind), "no {kind:?}");
     }
     Ok(())
+}
+
+#[test]
+fn drawn_calls(rt: HostRuntime) -> Result<(), Fail> {
+    draw(&rt, rt.alloc(), Manner::FromRoot)
+}
+
+#[test]
+fn drawn_calls_by_steps(rt: HostRuntime) -> Result<(), Fail> {
+    draw(&rt, rt.alloc(), Manner::BySteps)
 }

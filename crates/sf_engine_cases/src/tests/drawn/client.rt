@@ -3,12 +3,20 @@
 use super::*;
 use sf_cases::requests::set_stat;
 use sf_cases::sized;
+use sf_path::Path;
+use sf_reply::StatusCode;
 
-/// Numbers by a linear congruence modulo 2^64, with Knuth's factor for MMIX; and the latest handles.
+/// The names in the root.
+const NAMES: &[u8] = b"abcde";
+
+/// Numbers by a linear congruence modulo 2^64, with Knuth's factor for MMIX; the latest handles;
+/// and the name in the root below which most calls go: renames move it, and requests that are asked
+/// later follow it.
 #[derive(Clone, Copy)]
 pub(super) struct Draws {
     state: u64,
     handles: [u64; 16],
+    home: u8,
 }
 
 impl Draws {
@@ -16,6 +24,7 @@ impl Draws {
         Draws {
             state: seed,
             handles: [0; 16],
+            home: b'a',
         }
     }
 
@@ -51,20 +60,111 @@ impl Draws {
         }
     }
 
-    /// A path of up to four of the names `a` and `b`: the binary digits of a number below 32, after its first, spell the
-    /// names.
+    /// Follows the home where the latest record is of a rename that moved it within the root.
+    pub(super) fn follow(&mut self, latest: Option<&Record>) {
+        let Some(
+            Record::Did {
+                request: Request::Rename(old, new) | Request::PosixRename(old, new),
+                reply: Reply::Status(StatusCode::Success),
+                ..
+            },
+        ) = latest
+        else {
+            return;
+        };
+        if let (Some(name), Some(newer)) = (only_byte(old), only_byte(new)) {
+            if name == self.home {
+                self.home = newer;
+            }
+        }
+    }
+
+    /// A name in the root: mostly the home.
+    fn first(&mut self) -> u8 {
+        if self.below(12) == 0 {
+            self.one_of(NAMES)
+        } else {
+            self.home
+        }
+    }
+
+    fn one_of(&mut self, names: &[u8]) -> u8 {
+        let place = self.place(names.len());
+        match names.get(place) {
+            Some(name) => *name,
+            None => b'a',
+        }
+    }
+
+    /// A path of up to four names, of which all but the first are `a` or `b`: the binary digits of
+    /// a number below 32, after its first two, spell them.
     fn path(&mut self, alloc: Global) -> Result<Vec<u8>, Fail> {
+        let first = self.first();
         let number = self.below(32);
-        let mut text = Vec::new(alloc);
-        text.push(b'/')?;
+        let mut text = vec![in alloc; b'/']?;
         for place in [8_u64, 4, 2, 1] {
             let digits = number / place.max(1);
             if digits > 1 {
-                text.push(if digits % 2 == 0 { b'a' } else { b'b' })?;
+                let name = match digits {
+                    2 | 3 => first,
+                    _ if digits % 2 == 0 => b'a',
+                    _ => b'b',
+                };
+                text.push(name)?;
                 text.push(b'/')?;
             }
         }
         Ok(text)
+    }
+
+    /// A name in the root, or one in the home.
+    fn near_root(&mut self, alloc: Global) -> Result<Vec<u8>, Fail> {
+        if self.below(2) == 0 {
+            self.in_root(alloc)
+        } else {
+            self.within(alloc, self.home)
+        }
+    }
+
+    fn in_root(&mut self, alloc: Global) -> Result<Vec<u8>, Fail> {
+        Ok(vec![in alloc; b'/', self.one_of(NAMES)]?)
+    }
+
+    /// One of two names in a directory of the root.
+    fn within(&mut self, alloc: Global, directory: u8) -> Result<Vec<u8>, Fail> {
+        Ok(vec![in alloc; b'/', directory, b'/', self.one_of(b"ab")]?)
+    }
+
+    /// The old and the new path of a rename: any; a name in the root and one in the home; two
+    /// within a directory of the root; or two in the root, the old one mostly the home, in which
+    /// calls often stand.
+    fn old_and_new(&mut self, alloc: Global) -> Result<(Vec<u8>, Vec<u8>), Fail> {
+        match self.below(13) {
+            0 => Ok((self.path(alloc)?, self.path(alloc)?)),
+            1 => Ok((self.in_root(alloc)?, self.within(alloc, self.home)?)),
+            2..=4 => {
+                let directory = self.first();
+                Ok((
+                    self.within(alloc, directory)?,
+                    self.within(alloc, directory)?,
+                ))
+            }
+            _ => {
+                let old = vec![in alloc; b'/', self.first()]?;
+                Ok((old, self.in_root(alloc)?))
+            }
+        }
+    }
+}
+
+/// The byte of a path of one name that has one byte.
+fn only_byte(path: &Path) -> Option<u8> {
+    if path.len() != 1 {
+        return None;
+    }
+    match path.name(0).as_slice() {
+        [byte] => Some(*byte),
+        _ => None,
     }
 }
 
@@ -99,7 +199,8 @@ impl Fields {
     }
 }
 
-/// A client of a session: what it has asked, what of that isn't fed yet, and how far it has read its replies.
+/// A client of a session: what it has asked, what of that isn't fed yet, and how far it has read
+/// its replies.
 #[derive(Drop)]
 pub(super) struct Client {
     session: u64,
@@ -132,9 +233,8 @@ impl Client {
     }
 
     /// Its session is closed.
-    pub(super) fn close(&mut self) -> u64 {
+    pub(super) fn close(&mut self) {
         self.closed = true;
-        self.session
     }
 
     /// Whether all that it asked was fed.
@@ -183,8 +283,10 @@ impl Client {
 
     /// Asks a drawn request.
     pub(super) fn ask(&mut self, alloc: Global, draws: &mut Draws) -> Result<(), Fail> {
-        match draws.below(3) {
-            0 => self.ask_by_handle(alloc, draws),
+        match draws.below(24) {
+            0 | 1 => self.ask_by_handle(alloc, draws),
+            2 => self.ask_removal(alloc, draws),
+            3..=12 => self.ask_rename(alloc, draws),
             _ => self.ask_on_path(alloc, draws),
         }
     }
@@ -207,34 +309,52 @@ impl Client {
         }
     }
 
+    fn ask_removal(&mut self, alloc: Global, draws: &mut Draws) -> Result<(), Fail> {
+        let path = draws.near_root(alloc)?;
+        let fields = Fields::new(alloc).string(&path)?;
+        match draws.below(2) {
+            0 => self.send(rmdir(alloc, &path)?, 15, &fields),
+            _ => self.send(remove(alloc, &path)?, 13, &fields),
+        }
+    }
+
+    /// A request on a path. Few make a name in the root, and none a file, so that renames find one
+    /// free.
     fn ask_on_path(&mut self, alloc: Global, draws: &mut Draws) -> Result<(), Fail> {
         let path = draws.path(alloc)?;
         let fields = Fields::new(alloc).string(&path)?;
+        if path.len() == 3 {
+            return match draws.below(4) {
+                0 => self.send(mkdir(alloc, &path)?, 14, &fields.number(0)?),
+                _ => self.send(stat(alloc, &path)?, 17, &fields),
+            };
+        }
         match draws.below(18) {
             0..=2 => self.send(stat(alloc, &path)?, 17, &fields),
-            3..=8 => self.send(mkdir(alloc, &path)?, 14, &fields.number(0)?),
-            9 => self.send(rmdir(alloc, &path)?, 15, &fields),
-            10 => self.send(remove(alloc, &path)?, 13, &fields),
-            11..=13 => {
+            3..=10 => self.send(mkdir(alloc, &path)?, 14, &fields.number(0)?),
+            11 | 12 => self.send(rmdir(alloc, &path)?, 15, &fields),
+            13 => self.send(remove(alloc, &path)?, 13, &fields),
+            14 | 15 => {
                 let fields = fields.number(0xb)?.number(0)?;
                 self.send(open(alloc, &path, b"rwc")?, 3, &fields)
             }
-            14 => {
+            16 => {
                 let size = draws.below(40);
                 let fields = fields.number(1)?.long_number(size)?;
                 self.send(set_stat(alloc, &path, sized(size))?, 9, &fields)
             }
-            15 => self.send(open_dir(alloc, &path)?, 11, &fields),
-            16 => {
-                let new = draws.path(alloc)?;
-                self.send(rename(alloc, &path, &new)?, 18, &fields.string(&new)?)
-            }
-            _ => {
-                let new = draws.path(alloc)?;
-                let name = Fields::new(alloc).string(b"posix-rename@openssh.com")?;
-                let fields = name.string(&path)?.string(&new)?;
-                self.send(posix_rename(alloc, &path, &new)?, 200, &fields)
-            }
+            _ => self.send(open_dir(alloc, &path)?, 11, &fields),
         }
+    }
+
+    fn ask_rename(&mut self, alloc: Global, draws: &mut Draws) -> Result<(), Fail> {
+        let (old, new) = draws.old_and_new(alloc)?;
+        if draws.below(4) == 0 {
+            let name = Fields::new(alloc).string(b"posix-rename@openssh.com")?;
+            let fields = name.string(&old)?.string(&new)?;
+            return self.send(posix_rename(alloc, &old, &new)?, 200, &fields);
+        }
+        let fields = Fields::new(alloc).string(&old)?.string(&new)?;
+        self.send(rename(alloc, &old, &new)?, 18, &fields)
     }
 }

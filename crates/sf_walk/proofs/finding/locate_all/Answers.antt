@@ -1,4 +1,4 @@
-use Rattle.std.proofs.Common.{Option, ap, subst, sym, ◌∙◌}
+use Rattle.std.proofs.Common.{Option, subst}
 use Rattle.sf_path.specs.Names.{Path}
 use Rattle.sf_call.specs.Requests.{target_of}
 use Rattle.sf_walk.specs.Served.{LookedUp}

@@ -1,4 +1,4 @@
-use Rattle.std.proofs.Common.{sym, ap, ◌∙◌, true, false, ◌||◌, is_some}
+use Rattle.std.proofs.Common.{sym, ap, ◌∙◌, ◌||◌, is_some}
 use Rattle.sf_call.specs.Tree.{after_front}
 use Rattle.sf_walk.proofs.Begins.{begins_is}
 use Rattle.sf_walk.proofs.renames.are_nested.Goals as goal

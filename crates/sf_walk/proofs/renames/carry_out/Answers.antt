@@ -1,11 +1,10 @@
 use Rattle.std.proofs.Common.{refl, sym, ap, subst, ◌∙◌}
-use Rattle.sf_path.specs.Names.{Path}
 use Rattle.sf_reply.specs.declared.reply.Reply.TheVariants as reply
 use Rattle.sf_reply.specs.declared.reply.StatusCode.TheVariants.{Success}
 use Rattle.sf_call.specs.Attributes.{modified_at}
 use Rattle.sf_call.specs.Calls.{Answer}
 use Rattle.sf_inode.specs.Nodes.{with_metadata}
-use Rattle.sf_inode.specs.Stores.{StoreState, edited, relinked}
+use Rattle.sf_inode.specs.Stores.{StoreState, edited}
 use Rattle.sf_walk.specs.declared.renames.Course.{Course}
 use Rattle.sf_walk.specs.Ways.{last_of}
 use Rattle.sf_walk.specs.Served.{IsCarriedOut, HoldersStay}

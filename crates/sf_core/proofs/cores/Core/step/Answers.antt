@@ -3,7 +3,7 @@ use Rattle.std.specs.Vec.{vec_capacity}
 use Rattle.sf_call.specs.declared.call.Call.{Call}
 use Rattle.sf_walk.specs.declared.walking.Walk.{Walk}
 use Rattle.sf_walk.specs.declared.walking.Walk.TheVariants as walked
-use Rattle.sf_walk.specs.Ways.{path_of}
+use Rattle.sf_walk.specs.Ways.{path_of, other_of}
 use Rattle.sf_walk.specs.Steps.{Stands}
 use Rattle.sf_core.specs.Lanes.{LaneView}
 use Rattle.sf_core.specs.Cores.{call_at}
@@ -45,7 +45,7 @@ returns-in-Some-fetch c =
 
 pub walk-requires-clause-stands : goal.walk-requires-clause-stands
 walk-requires-clause-stands c =
-    subst (λ (x : PartsView). (d : Call) → call_at x.calls c.in-Some.number ≡ Some d → Stands x.store (path_of d.request) d.stage) (sym c.in_default-fetch.ensures.none)
+    subst (λ (x : PartsView). (d : Call) → call_at x.calls c.in-Some.number ≡ Some d → Stands x.store (path_of d.request) (other_of d.request) d.stage) (sym c.in_default-fetch.ensures.none)
     (stands c.self.inside.parts c.self.invariant.0.history c.self.invariant.0.sound c.in-Some.number)
 
 pub invariant_of-self-in-Moved : goal.invariant_of-self-in-Moved

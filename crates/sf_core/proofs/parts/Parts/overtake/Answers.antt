@@ -1,9 +1,17 @@
-use Rattle.std.proofs.Common.{◌≤◌, ◌∙◌, ap, sym, subst, List, ℕ, length, arith}
+use Rattle.std.proofs.Common.{◌≡◌, ◌≤◌, ◌∙◌, ap, sym, subst, Some, List, ℕ, length, arith}
+use Rattle.sf_call.specs.declared.call.Call.{Call}
+use Rattle.sf_call.specs.Calls.{answer_to}
+use Rattle.sf_call.specs.Changes.{moved_by}
+use Rattle.sf_inode.specs.Stores.{StoreState}
+use Rattle.sf_keeps.specs.Keeps.{Keeps}
+use Rattle.sf_core.specs.Cores.{call_at}
 use Rattle.sf_book.specs.Books.{BookView}
 use Rattle.sf_core.specs.Parts.{PartsView}
-use Rattle.sf_core.specs.Progress.{undecided_in}
+use Rattle.sf_core.specs.Progress.{overtaken, undecided_in}
+use Rattle.sf_core.specs.Stepping.{all_set_back, HelpsAll}
+use Rattle.sf_core.proofs.Sounds.{some_eq}
 use Rattle.sf_core.proofs.Backing.{book_back}
-use Rattle.sf_core.proofs.Preparing.{few_overtaken}
+use Rattle.sf_core.proofs.Preparing.{moved_is, few_overtaken}
 use Rattle.sf_core.proofs.parts.Parts.overtake.Goals as goal
 
 pub help_all-requires : goal.help_all-requires
@@ -13,3 +21,21 @@ help_all-requires c =
     let room = ap (λ (b : BookView). b.room) (ap (λ (q : PartsView). q.book) c.set_back_all.ensures ∙ book_back c.deref.result.now c.args.self.now) in
     let enough : undecided_in c.self.inside.calls ≤ c.args.self.now.book.room = subst (λ (v : PartsView). undecided_in v.calls ≤ c.args.self.now.book.room) (sym c.self.view_is) c.requires.room in
     omega (arith, few, many, room, enough)
+
+pub returns-clause-helped : goal.returns-clause-helped
+returns-clause-helped c = λ d at same t keeps.
+    let k = c.in-Some.call.now in
+    let old = c.in-Some-old_path.old.now in
+    let numbers = c.overtaken.new.numbers.items in
+    let calls : c.args.self.now.calls ≡ c.self.inside.calls = ap (λ (v : PartsView). v.calls) (sym c.self.view_is) in
+    let store : c.args.self.now.store ≡ c.self.inside.store = ap (λ (v : PartsView). v.store) (sym c.self.view_is) in
+    let is : d ≡ k = some_eq d k (sym at ∙ ap (λ (cs : List (ℕ × Call)). call_at cs c.args.number) calls ∙ sym c.in-Some.ensures) in
+    let moved : moved_by (answer_to t k.session k.number k.moment k.request).changes ≡ Some old =
+    moved_is t k.session k.number k.moment k.request old (sym c.in-Some-old_path.ensures) (sym (c.is_move.ensures t (subst (λ (s : StoreState). Keeps s t) store keeps)) ∙ c.if-not-is_move.false) in
+    let moved_here : moved_by (answer_to t d.session d.number d.moment d.request).changes ≡ Some old =
+    ap (λ (x : Call). moved_by (answer_to t x.session x.number x.moment x.request).changes) is ∙ moved in
+    let back : c.set_back_all.new.self ≡ all_set_back c.args.self.now numbers = c.set_back_all.ensures ∙ ap (all_set_back c.args.self.now) c.deref.ensures.value in (
+      numbers,
+      c.overtaken.ensures.numbers ∙ (λ i. overtaken (sym calls i) (sym same i) (sym moved_here i)),
+      subst (λ (x : PartsView). HelpsAll x numbers c.help_all.new.self) back (subst (λ (ns : List ℕ). HelpsAll c.set_back_all.new.self ns c.help_all.new.self) c.deref-2.ensures.value c.help_all.ensures),
+    )

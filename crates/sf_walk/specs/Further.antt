@@ -1,0 +1,61 @@
+-- What the parts of a step do.
+use Rattle.std.specs.Prelude.{◌≡◌, ◌≢◌, ◌<◌, ◌≤◌, ◌+◌, ℕ, length, take, slice_get, Option, Some, None}
+use Rattle.sf_path.specs.Names.{Path}
+use Rattle.sf_call.specs.declared.call.Call.{Call}
+use Rattle.sf_call.specs.declared.call.Reached.{Reached}
+use Rattle.sf_call.specs.declared.call.Stage.{Stage}
+use Rattle.sf_inode.specs.Stores.{StoreState, entry_of, holder_of, looked_up}
+use Rattle.sf_keeps.specs.Steps.{walk}
+use Rattle.sf_walk.specs.declared.finding.Located.{Located}
+use Rattle.sf_walk.specs.declared.finding.Located.TheVariants as located
+use Rattle.sf_walk.specs.declared.looking.Further.{Further}
+use Rattle.sf_walk.specs.declared.looking.Further.TheVariants as further
+use Rattle.sf_walk.specs.Ways.{path_of, other_of, PartAt}
+use Rattle.sf_walk.specs.Steps.{IsOnWay, IsFree, LeadsNowhere}
+
+-- the call walks these paths, and stands at this stage
+pub record Walks (call : Call) (path : Path) (other : Option Path) (at : Stage) : Type 0 where
+  pub is_path : path_of call.request ≡ Some path
+  pub is_other : other_of call.request ≡ other
+  pub is_stage : call.stage ≡ at
+
+-- the paths of a rename part after so many names, or later
+abbrev pub PartLater : Path → Option Path → ℕ → Type 0
+PartLater path None walked = Unit {0}
+PartLater path (Some other) walked = (count : ℕ) × PartAt path other count × (walked ≤ count)
+
+-- another call holds the node that was found
+pub record IsHeldThere (s : StoreState) (number : ℕ) (found : Located) (holder : ℕ) : Type 0 where
+  pub parent : ℕ
+  pub node : ℕ
+  pub there : found ≡ located.At parent node
+  pub held : holder_of s.nodes node ≡ Some holder
+  pub other : number ≢ holder
+
+-- another call holds the directory that so many names of the path lead to
+pub record IsHeldOnWay (s : StoreState) (number : ℕ) (path : Path) (walked holder : ℕ) : Type 0 where
+  pub node : ℕ
+  pub leads : walk (entry_of s.nodes) s.root (take walked path) ≡ Some node
+  pub held : holder_of s.nodes node ≡ Some holder
+  pub other : number ≢ holder
+
+-- the directory is on the way after one name more, and no other call holds it
+pub record IsNextFree (s : StoreState) (number : ℕ) (path : Path) (at to : Reached) : Type 0 where
+  pub walked : to.walked ≡ at.walked + 1
+  pub on_way : IsOnWay s path (at.walked + 1) to.node
+  pub free : IsFree s number to.node
+
+-- what the next name of the path leads to
+abbrev pub IsFound : StoreState → ℕ → Path → Reached → Further → Type 0
+IsFound s number path at further.AtParent = Unit {0}
+IsFound s number path at further.NoDirectory = LeadsNowhere s at.node (slice_get path at.walked)
+IsFound s number path at (further.Held holder) = IsHeldOnWay s number path (at.walked + 1) holder
+IsFound s number path at (further.Free to) = IsNextFree s number path at to
+
+-- nothing is looked up where the last name alone is left
+abbrev pub Looks : StoreState → StoreState → Path → Reached → Further → Type 0
+Looks old new path at further.AtParent = (new ≡ old) × (at.walked + 1 ≡ length path)
+Looks old new path at found = (new ≡ looked_up old) × (at.walked + 1 < length path)
+
+abbrev pub LeadsTo : StoreState → StoreState → ℕ → Path → Reached → Further → Type 0
+LeadsTo old new number path at found = Looks old new path at found × IsFound old number path at found
