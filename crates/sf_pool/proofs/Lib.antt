@@ -1,0 +1,5 @@
+pub mod Exact
+pub mod Deeds
+pub mod Faults
+pub mod Counted
+pub mod Noted

@@ -1,0 +1,72 @@
+-- An answer that is noted is the last.
+use Rattle.std.proofs.Common.{◌≡◌, ◌++◌, ℕ, nat_eq, Bool, true, false, List, [], ◌∷◌, map, Option, Some, None, if◌then◌else◌, refl, sym, ◌∙◌, ap, subst}
+use Rattle.sf_reply.specs.declared.reply.Reply.{Reply}
+use Rattle.sf_call.specs.declared.request.Request.{Request}
+use Rattle.sf_core.specs.Lanes.{LaneView, at_rest}
+use Rattle.sf_pool.specs.declared.transcript.Exchange.{Exchange}
+use Rattle.sf_pool.specs.declared.desk.Told.{Told}
+use Rattle.sf_pool.specs.declared.desk.Told.TheVariants.{Answered}
+use Rattle.sf_pool.specs.Audits.{Deed, told}
+use Rattle.sf_pool.specs.Desks.{Place, New, Resting, UnderWay, Gone, IsAnswered, IsLast, DeskView, Answers, Steps, last_of, call_place, lane_place, kept_calls}
+
+abbrev pub deed : ℕ → Request → Reply → Deed
+deed number request reply = record { number = number; request = request; reply = reply }
+
+pub last_push : (xs : List Deed) (d : Deed) → last_of (xs ++ d ∷ []) ≡ Some d
+last_push [] d = refl
+last_push (x ∷ []) d = refl
+last_push (x ∷ y ∷ more) d = last_push (y ∷ more) d
+
+last_told : (es : List Exchange) (e : Exchange) → last_of (map told (es ++ e ∷ [])) ≡ Some (told e)
+last_told [] e = refl
+last_told (x ∷ []) e = refl
+last_told (x ∷ y ∷ more) e = last_told (y ∷ more) e
+
+now_noted : (number : ℕ) (request : Request) (reply : Reply) (keeps : Bool) (calls calls' : List Exchange)
+    → map told calls' ≡ map told (if keeps then calls else []) ++ deed number request reply ∷ []
+    → Answers (UnderWay number request) (kept_calls keeps calls) (record { place = Resting (last_of (map told calls')); calls = kept_calls keeps calls' })
+now_noted number request reply true calls calls' e = (reply, ap Resting (ap last_of e ∙ last_push (map told calls) (deed number request reply)), e)
+now_noted number request reply false calls calls' e = (reply, ap Resting (ap last_of e ∙ last_push [] (deed number request reply)), tt)
+
+-- the step of a call that is answered
+pub noted : (v : DeskView) (place : Option LaneView) (session session' : ℕ) (asked asked' : Option Request) (calls calls' : List Exchange) (keeps : Bool)
+    (lane lane' : LaneView) (number : ℕ) (request : Request) (reply : Reply) (t : Told)
+    → v ≡ record { place = lane_place place session asked (map told calls); calls = kept_calls keeps calls }
+    → place ≡ Some lane → asked ≡ Some request → lane.call ≡ Some number → lane' ≡ at_rest lane → asked' ≡ None
+    → map told calls' ≡ map told (if keeps then calls else []) ++ deed number request reply ∷ [] → t ≡ Answered
+    → Steps v t (record { place = lane_place (Some lane') session' asked' (map told calls'); calls = kept_calls keeps calls' })
+noted v place session session' asked asked' calls calls' keeps lane lane' number request reply t view here had busy rests none e is =
+    let after : LaneView → DeskView = λ l. record { place = lane_place (Some l) session' asked' (map told calls'); calls = kept_calls keeps calls' } in
+    let before : Option LaneView → Option Request → DeskView = λ p q. record { place = lane_place p session q (map told calls); calls = kept_calls keeps calls } in
+    let at_call : Option ℕ → Type 0 = λ call. Answers (call_place call (Some request) (map told calls)) (kept_calls keeps calls) (after (at_rest lane)) in
+    let by_lane : LaneView → Type 0 = λ l. Steps (before (Some lane) (Some request)) Answered (after l) in
+    let by_asked : Option Request → Type 0 = λ q. Steps (before (Some lane) q) Answered (after lane') in
+    let by_place : Option LaneView → Type 0 = λ p. Steps (before p asked) Answered (after lane') in
+    let by_view : DeskView → Type 0 = λ u. Steps u Answered (after lane') in
+    let by_told : Told → Type 0 = λ s. Steps v s (after lane') in
+    subst by_told (sym is) (subst by_view (sym view) (subst by_place (sym here) (subst by_asked (sym had) (subst by_lane (sym rests)
+    (subst at_call (sym busy) (now_noted number request reply keeps calls calls' e))))))
+
+answer_by : (asked : Option Request) (call : Option ℕ) (es : List Exchange) (e : Exchange) → IsAnswered (call_place call asked (map told (es ++ e ∷ []))) → IsLast (call_place call asked (map told (es ++ e ∷ []))) e.answer.number e.answer.reply
+answer_by asked None es e is = let P : Option Deed → Type 0 = λ last. IsLast (Resting last) e.answer.number e.answer.reply in subst P (sym (last_told es e)) (refl, refl)
+answer_by None (Some number) es e is = absurd is
+answer_by (Some request) (Some number) es e is = absurd is
+
+answer_new : (b : Bool) (number : ℕ) (reply : Reply) → IsAnswered (if b then New else Gone) → ⊥
+answer_new true number reply is = is
+answer_new false number reply is = is
+
+answer_in : (place : Option LaneView) (session : ℕ) (asked : Option Request) (es : List Exchange) (e : Exchange)
+    → IsAnswered (lane_place place session asked (map told (es ++ e ∷ []))) → IsLast (lane_place place session asked (map told (es ++ e ∷ []))) e.answer.number e.answer.reply
+answer_in None session asked es e is = absurd (answer_new (nat_eq session 0) e.answer.number e.answer.reply is)
+answer_in (Some lane) session asked es e is = answer_by asked lane.call es e is
+
+-- the last answer is the last that was noted
+pub is_last : (v : DeskView) (place : Option LaneView) (session : ℕ) (asked : Option Request) (keeps : Bool) (calls es : List Exchange) (e : Exchange)
+    → v ≡ record { place = lane_place place session asked (map told calls); calls = kept_calls keeps calls } → calls ≡ es ++ e ∷ []
+    → IsAnswered v.place → IsLast v.place e.answer.number e.answer.reply
+is_last v place session asked keeps calls es e view whole is =
+    let at : v.place ≡ lane_place place session asked (map told (es ++ e ∷ [])) = ap (λ u. u.place) view ∙ ap (λ xs. lane_place place session asked (map told xs)) whole in
+    let Q : Place → Type 0 = λ p. IsLast p e.answer.number e.answer.reply in
+    let A : Place → Type 0 = λ p. IsAnswered p in
+    subst Q (sym at) (answer_in place session asked es e (subst A at is))

@@ -1,0 +1,90 @@
+//! The workers' shares, compared with the count of the calls.
+
+ghost use Rattle.std.specs.Prelude.{◌≡◌, ◌≢◌, ◌+◌, ◌↔◌, ◌≤◌, ℕ, sum, List, IsTrue, IsOk, IfOk};
+ghost use Rattle.std.specs.List.{count_by, sum_by};
+ghost use Rattle.sf_call.specs.declared.record.Record.{Record};
+ghost use Rattle.sf_book.specs.Books.{is_deed};
+ghost use Rattle.sf_core.specs.Histories.{IsHistory};
+
+use sf_call::Record;
+use sf_core::{Core, Share};
+use thiserror::Error;
+
+/// How many calls a core has.
+#[derive(Clone, Copy, Debug, PartialEq, Eq)]
+pub struct Totals {
+    /// Those that have a record, whether or not it is kept.
+    pub recorded: u64,
+    /// Those that have none yet.
+    pub under_way: u64,
+}
+
+/// Why shares don't agree with a core.
+#[derive(Clone, Copy, Debug, PartialEq, Eq, Error)]
+pub enum GatherFault {
+    /// The shares are not all of the core's calls, or are more.
+    #[error("the shares are not all of the calls")]
+    NotAll = 1,
+}
+
+/// Whether the shares are together just so many calls.
+fn are_all(calls: u64, shares: &[Share]) -> bool
+    ensures { IsTrue result ↔ (sum shares.now ≡ calls) }
+{
+    let mut left = calls;
+    for share in shares {
+        if share.calls() > left {
+            return false;
+        }
+        left -= share.calls();
+    }
+    left == 0
+}
+
+/// Whether the record is of a call.
+fn is_deed(entry: &Record) -> bool
+    ensures { result ≡ is_deed entry.now }
+{
+    matches!(entry, Record::Did { .. })
+}
+
+/// How many of the records are of calls.
+fn deeds(records: &[Record]) -> usize
+    ensures { result ≡ count_by is_deed records.now }
+{
+    let mut count = 0;
+    for entry in records {
+        if is_deed(entry) {
+            count += 1;
+        }
+    }
+    count
+}
+
+/// How many calls of a core have records, whether or not these are kept.
+fn recorded(core: &Core, calls: u64) -> u64
+    requires { calls ≡ core.now.drawn }
+    ensures all { (h : List Record) → IsHistory core.now h → result ≡ count_by is_deed h }
+    ensures most { result ≤ calls }
+{
+    let kept = deeds(core.history());
+    core.folded() + kept as u64
+}
+
+/// The calls of a core, if the shares are all of them.
+pub fn gather(core: Core, shares: Vec<Share>) -> Result<Totals, GatherFault>
+    ensures ok { IsOk result ↔ (sum shares.items ≡ core.drawn) }
+    ensures recorded { IfOk result (λ totals. (h : List Record) → IsHistory core h
+        → totals.recorded ≡ count_by is_deed h) }
+    ensures total { IfOk result (λ totals. totals.recorded + totals.under_way ≡ core.drawn) }
+{
+    let calls = core.calls();
+    if !are_all(calls, shares.as_slice()) {
+        return Err(GatherFault::NotAll);
+    }
+    let recorded = recorded(&core, calls);
+    Ok(Totals {
+        recorded,
+        under_way: calls - recorded,
+    })
+}

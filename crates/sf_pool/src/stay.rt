@@ -1,0 +1,235 @@
+//! A session's stay on a core.
+
+ghost use Rattle.std.specs.Prelude.{◌≡◌, ◌<◌, ◌+◌, ◌++◌, ◌∷◌, List, [], map, vec_len, if◌then◌else◌, OnOk, OnErr, IfOk, IfSome};
+ghost use Rattle.std.specs.Vec.{vec_capacity};
+ghost use Rattle.sf_pool.specs.Audits.{told};
+ghost use Rattle.sf_pool.specs.Desks.{Place, New, Resting, UnderWay, Gone, IsResting, IsUnderWay, IsAnswered, IsLast, Counts, Steps, kept_calls};
+
+use crate::desk::Told;
+use crate::transcript::{Exchange, Transcript};
+use sf_call::{Answer, CoreFault, Request};
+use sf_core::{Core, Lane, Share, Step};
+use std::alloc::Global;
+use std::marker::Model;
+
+/// A session's place in a core, the call that it has under way, and what it was told.
+#[derive(Debug)]
+pub struct Stay {
+    alloc: Global,
+    lane: Option<Lane>,
+    // The request of the call under way.
+    asked: Option<Request>,
+    // All calls that were answered, or the last one.
+    transcript: Transcript,
+    keeps: bool,
+}
+
+impl Model for Stay {
+    ghost use Rattle.std.specs.Prelude.{◌<◌, ◌≡◌, vec_len};
+    ghost use Rattle.std.specs.Vec.{vec_capacity};
+    ghost use Rattle.sf_pool.specs.Desks.{DeskView, lane_place, kept_calls};
+    ghost use Rattle.sf_pool.specs.Audits.{told};
+    ghost use Rattle.std.specs.Prelude.{map};
+
+    ghost Value = { DeskView };
+
+    ghost view = { λ s. record { place = lane_place s.lane s.transcript.session s.asked (map told s.transcript.calls.items); calls = kept_calls s.keeps s.transcript.calls.items } };
+
+    ghost use Rattle.sf_pool.specs.Stays.{IsStay};
+
+    ghost invariant = { λ s. IsStay s.lane s.transcript s.keeps };
+}
+
+/// What a step of a stay came to.
+#[derive(Clone, Copy, Debug, PartialEq, Eq)]
+pub struct Stepped {
+    pub told: Told,
+    /// Another call held what the call wanted.
+    pub blocked: bool,
+}
+
+impl Stepped {
+    fn going(blocked: bool) -> Stepped
+        ensures { result.told ≡ Told.Going }
+    {
+        Stepped {
+            told: Told::Going,
+            blocked,
+        }
+    }
+
+    fn ended(told: Told) -> Stepped
+        ensures { result.told ≡ told }
+    {
+        Stepped {
+            told,
+            blocked: false,
+        }
+    }
+}
+
+impl Drop for Stay {
+    fn drop(self) {
+        let Stay {
+            alloc: _,
+            lane,
+            asked: _asked,
+            transcript: _transcript,
+            keeps: _,
+        } = self;
+        if let Some(lane) = lane {
+            lane.abandon();
+        }
+    }
+}
+
+impl Stay {
+    /// A session that hasn't joined. Its calls are kept, or the last one alone.
+    pub fn new(alloc: Global, keeps: bool) -> Stay
+        ensures place { result.place ≡ New }
+        ensures calls { result.calls ≡ kept_calls keeps [] }
+    {
+        Stay {
+            alloc,
+            lane: None,
+            asked: None,
+            transcript: Transcript {
+                session: 0,
+                calls: Vec::new(alloc),
+            },
+            keeps,
+        }
+    }
+
+    /// The session joins the core.
+    pub fn join(&mut self, core: &mut Core) -> Result<u64, CoreFault>
+        requires { self.old.place ≡ New }
+        ensures number { IfOk result (λ session. 0 < session) }
+        ensures ok { OnOk result (IsResting self.new.place) }
+        ensures err { OnErr result (self.new ≡ self.old) }
+        ensures calls { self.new.calls ≡ self.old.calls }
+    {
+        let lane = core.join()?;
+        let session = lane.session();
+        self.transcript.session = session;
+        if let Some(old) = self.lane.replace(lane) {
+            old.abandon();
+        }
+        Ok(session)
+    }
+
+    /// A call begins. Room to note its answer is made first.
+    pub fn begin(
+        &mut self,
+        core: &mut Core,
+        request: Request,
+        moment: u32,
+    ) -> Result<u64, CoreFault>
+        requires { IsResting self.old.place }
+        ensures ok { IfOk result (λ number. self.new.place ≡ UnderWay number request) }
+        ensures err { OnErr result (self.new ≡ self.old) }
+        ensures calls { self.new.calls ≡ self.old.calls }
+    {
+        self.transcript.calls.reserve(1)?;
+        let asked = request.try_copy(self.alloc)?;
+        let Some(lane) = &mut self.lane else {
+            return Err(CoreFault::Stranger);
+        };
+        core.begin(lane, request, moment)?;
+        self.asked = Some(asked);
+        Ok(core.calls())
+    }
+
+    /// One step of the call.
+    pub fn step(&mut self, core: &mut Core) -> Stepped
+        requires { IsUnderWay self.old.place }
+        ensures { Steps self.old result.told self.new }
+    {
+        let _history = core.history();
+        let Some(lane) = &mut self.lane else {
+            unreachable!();
+        };
+        match core.step(lane) {
+            Step::Moved => Stepped::going(false),
+            Step::Blocked(_) => Stepped::going(true),
+            Step::Answered(answer) => {
+                let Some(request) = self.asked.take() else {
+                    unreachable!();
+                };
+                note(&mut self.transcript, self.keeps, request, answer);
+                Stepped::ended(Told::Answered)
+            }
+            Step::Stranger => {
+                if let Some(lane) = self.lane.take() {
+                    lane.abandon();
+                }
+                Stepped::ended(Told::Stranger)
+            }
+        }
+    }
+
+    /// The answer to the last call.
+    pub fn answer(&self) -> &Answer
+        requires { IsAnswered self.now.place }
+        ensures { IsLast self.now.place result.now.number result.now.reply }
+    {
+        match self.transcript.calls.as_slice().split_last() {
+            Some((exchange, _earlier)) => &exchange.answer,
+            None => unreachable!(),
+        }
+    }
+
+    /// The session leaves. Where the core doesn't know it, its place is given up.
+    pub fn leave(&mut self, core: &mut Core) -> Option<Share>
+        requires { IsResting self.old.place }
+        ensures place { self.new.place ≡ Gone }
+        ensures calls { self.new.calls ≡ self.old.calls }
+        ensures share { IfSome result (λ share. Counts self.old.calls share) }
+    {
+        let lane = self.lane.take()?;
+        match core.leave(lane) {
+            Ok(share) => Some(share),
+            Err(lane) => {
+                lane.abandon();
+                None
+            }
+        }
+    }
+
+    /// What the session was told, or its last call alone.
+    pub fn transcript(&self) -> &Transcript
+        ensures { IfSome self.now.calls (λ calls. map told result.now.calls.items ≡ calls) }
+    {
+        &self.transcript
+    }
+
+    /// What the session was told, or its last call alone. A session that hasn't left is given up.
+    pub fn into_transcript(self) -> Transcript
+        ensures { IfSome self.calls (λ calls. map told result.calls.items ≡ calls) }
+    {
+        let Stay {
+            alloc: _,
+            lane,
+            asked: _asked,
+            transcript,
+            keeps: _,
+        } = self;
+        if let Some(lane) = lane {
+            lane.abandon();
+        }
+        transcript
+    }
+}
+
+/// An answer is noted behind those before it, or in their place.
+fn note(transcript: &mut Transcript, keeps: bool, request: Request, answer: Answer)
+    requires { vec_len transcript.old.calls < vec_capacity transcript.old.calls }
+    ensures session { transcript.new.session ≡ transcript.old.session }
+    ensures calls { map told transcript.new.calls.items ≡ map told (if keeps then transcript.old.calls.items else [])
+        ++ record { number = answer.number; request = request; reply = answer.reply } ∷ [] }
+{
+    if !keeps {
+        transcript.calls.clear();
+    }
+    transcript.calls.push_reserved(Exchange { request, answer });
+}

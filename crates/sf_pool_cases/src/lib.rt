@@ -1,0 +1,5 @@
+//! Cases for workers: what sessions were told, compared with the history.
+#![tactic(auto)]
+
+#[cfg(test)]
+mod tests;
