@@ -8,6 +8,7 @@ use Rattle.sf_field.specs.declared.attrs.Attrs.{Attrs}
 use Rattle.sf_field.specs.declared.open_flags.OpenFlags.{OpenFlags}
 use Rattle.sf_reply.specs.declared.reply.Reply.{Reply}
 use Rattle.sf_reply.specs.declared.reply.Reply.TheVariants as reply
+use Rattle.sf_reply.specs.declared.reply.StatusCode.{StatusCode}
 use Rattle.sf_reply.specs.declared.reply.StatusCode.TheVariants.{NoSuchFile, Failure}
 use Rattle.sf_call.specs.declared.metadata.Metadata.{Metadata}
 use Rattle.sf_call.specs.declared.metadata.FileType.TheVariants as file_type
@@ -31,6 +32,7 @@ use Rattle.sf_inode.specs.Stores.{StoreState, node_in, entry_of, is_directory_at
 use Rattle.sf_keeps.specs.Keeps.{Keeps}
 use Rattle.sf_keeps.proofs.Laws.{keeps_opened, keeps_inserted, keeps_contents, keeps_file, object_again, inserted_alike}
 use Rattle.sf_walk.specs.Ways.{missing, way_from, last_of, found_content, found_node}
+use Rattle.sf_walk.specs.declared.finding.Located.{Located}
 use Rattle.sf_walk.specs.declared.finding.Located.TheVariants as located
 use Rattle.sf_walk.specs.Opening.{marks_of, OpenedNew}
 use Rattle.sf_walk.specs.Served.{IsCarriedOut, Gives, IsAlike, LookedUp, Stays, IsUnused, is_success}
@@ -235,11 +237,13 @@ module _ (old mid : StoreState) (t : Tree) (p : Path) (most : ℕ) (looked : Loo
     abbrev answer : Place → Answer
     answer place = open_file t session number moment p flags attrs place
 
-    pub open_no_way : (p ≡ [] → ⊥) → located.NoWay ≡ way_from old.nodes old.root old.root p → IsCarriedOut mid t (unless_root p (answer (place_at t p))) (reply.Status NoSuchFile)
-    open_no_way ne e =
+    pub open_no_way : (l : Located) (code : StatusCode) → (p ≡ [] → ⊥) → (code ≡ NoSuchFile) × (l ≡ located.NoWay) → l ≡ way_from old.nodes old.root old.root p
+        → IsCarriedOut mid t (unless_root p (answer (place_at t p))) (reply.Status code)
+    open_no_way l code ne not e =
         let k = keeps_looked old mid t most looked h in
-        past_root mid t p (answer (place_at t p)) (reply.Status NoSuchFile) ne
-        (tells_served mid t (answer (place_at t p)) (reply.Status NoSuchFile) (ap answer (no_way mid t k p (way_looked old mid p most located.NoWay looked e))) k)
+        past_root mid t p (answer (place_at t p)) (reply.Status code) ne
+        (tells_served mid t (answer (place_at t p)) (reply.Status code)
+        (ap answer (no_way mid t k p (way_looked old mid p most located.NoWay looked (sym not.1 ∙ e))) ∙ ap refuses (sym not.0)) k)
 
     pub open_missing : (new : StoreState) (d : ℕ) → {E : Type 0} → (r : Result Reply E) → (p ≡ [] → ⊥) → located.Missing d ≡ way_from old.nodes old.root old.root p
         → ((front : Path) → p ≡ front ++ last_of p ∷ [] → walk (entry_of mid.nodes) mid.root front ≡ Some d → Gives new t (answer Absent) r)

@@ -1,5 +1,5 @@
 -- What calls on paths answer, case by case.
-use Rattle.std.specs.Prelude.{◌≡◌, ℕ, true, false, cond, if◌then◌else◌, List, [], option_map, Option, Some, None, refl}
+use Rattle.std.specs.Prelude.{◌≡◌, ℕ, Bool, true, false, cond, ◌&&◌, if◌then◌else◌, List, [], option_map, Option, Some, None, refl}
 use Rattle.std.specs.Option.{option_map_or}
 use Rattle.std.specs.declared.result.Result.{Result}
 use Rattle.std.proofs.Common.{sym, ap, subst, ◌∙◌}
@@ -7,6 +7,7 @@ use Rattle.sf_path.specs.Names.{Name, Path}
 use Rattle.sf_field.specs.declared.attrs.Attrs.{Attrs}
 use Rattle.sf_reply.specs.declared.reply.Reply.{Reply}
 use Rattle.sf_reply.specs.declared.reply.Reply.TheVariants as reply
+use Rattle.sf_reply.specs.declared.reply.StatusCode.{StatusCode}
 use Rattle.sf_reply.specs.declared.reply.StatusCode.TheVariants.{Success, NoSuchFile, Failure}
 use Rattle.sf_call.specs.declared.metadata.Metadata.{Metadata}
 use Rattle.sf_call.specs.Attributes.{modified_at, attrs_of}
@@ -21,8 +22,9 @@ use Rattle.sf_keeps.specs.Steps.{walk}
 use Rattle.sf_inode.specs.Stores.{StoreState, node_in, entry_of, is_directory_at, is_bare_at, edited, unlinked}
 use Rattle.sf_keeps.specs.Keeps.{Keeps}
 use Rattle.sf_keeps.proofs.Laws.{bare_found}
+use Rattle.sf_walk.specs.declared.finding.Located.{Located}
 use Rattle.sf_walk.specs.declared.finding.Located.TheVariants as located
-use Rattle.sf_walk.specs.Ways.{way_from, found_content, found_node}
+use Rattle.sf_walk.specs.Ways.{way_from, found_content, found_node, IsThere}
 use Rattle.sf_walk.specs.Served.{LookedUp, IsCarriedOut, Gives, Stays, is_success}
 use Rattle.sf_walk.proofs.Holders.{stays_looked, stays_edited, stays_unlinked}
 use Rattle.sf_walk.proofs.Fits.{no_way, name_missing, node_at}
@@ -56,12 +58,15 @@ module _ (old mid : StoreState) (t : Tree) (p : Path) (most : ℕ) (looked : Loo
   mid_keeps : Keeps mid t
   mid_keeps = keeps_looked old mid t most looked h
 
-  -- no way, and a missing name, for any call that looks at what is found
-  pub no_way_served : (f : Found → Answer) → f Nowhere ≡ refuses NoSuchFile → located.NoWay ≡ way_from old.nodes old.root old.root p → IsCarriedOut mid t (f (found_at t p)) (reply.Status NoSuchFile)
-  no_way_served f at e = tells_served mid t (f (found_at t p)) (reply.Status NoSuchFile) (ap f (found_no_way mid t p mid_keeps (way_looked old mid p most located.NoWay looked e)) ∙ at) mid_keeps
+  -- a path that leads nowhere, for any call that looks at what is found
+  nothing_told : (f : Found → Answer) (code : StatusCode) → f (found_at t p) ≡ refuses NoSuchFile → code ≡ NoSuchFile → IsCarriedOut mid t (f (found_at t p)) (reply.Status code)
+  nothing_told f code e is = tells_served mid t (f (found_at t p)) (reply.Status code) (e ∙ ap refuses (sym is)) mid_keeps
 
-  pub missing_served : (f : Found → Answer) → f Nothing ≡ refuses NoSuchFile → (d : ℕ) → located.Missing d ≡ way_from old.nodes old.root old.root p → IsCarriedOut mid t (f (found_at t p)) (reply.Status NoSuchFile)
-  missing_served f at d e = tells_served mid t (f (found_at t p)) (reply.Status NoSuchFile) (ap f (found_missing mid t p mid_keeps d (way_looked old mid p most (located.Missing d) looked e)) ∙ at) mid_keeps
+  pub nowhere_served : (f : Found → Answer) → f Nowhere ≡ refuses NoSuchFile → f Nothing ≡ refuses NoSuchFile → (l : Located) (code : StatusCode)
+      → (code ≡ NoSuchFile) × (IsThere l → ⊥) → l ≡ way_from old.nodes old.root old.root p → IsCarriedOut mid t (f (found_at t p)) (reply.Status code)
+  nowhere_served f none nothing located.NoWay code not e = nothing_told f code (ap f (found_no_way mid t p mid_keeps (way_looked old mid p most located.NoWay looked e)) ∙ none) not.0
+  nowhere_served f none nothing (located.Missing d) code not e = nothing_told f code (ap f (found_missing mid t p mid_keeps d (way_looked old mid p most (located.Missing d) looked e)) ∙ nothing) not.0
+  nowhere_served f none nothing (located.At above y) code not e = absurd (not.1 tt)
 
   -- the node that was located
   pub node_located : (above y : ℕ) → located.At above y ≡ way_from old.nodes old.root old.root p → (node : Node) × ((node_in mid.nodes y ≡ Some node) × (found_at t p ≡ found_node node))
@@ -84,7 +89,7 @@ module _ (old mid : StoreState) (t : Tree) (p : Path) (most : ℕ) (looked : Loo
       tells_served mid t (stat (found_at t p)) (reply.Attrs attrs) (ap stat w.1.1 ∙ stat_content w.0.label w.0.metadata w.0.content ∙ ap (λ a. tells (reply.Attrs a)) same) mid_keeps
 
   pub stat_gone : (above y : ℕ) → located.At above y ≡ way_from old.nodes old.root old.root p
-      → None ≡ option_map (λ (it : Node). attrs_of (object_in it.metadata it.content)) (node_in mid.nodes y) → IsCarriedOut mid t (stat (found_at t p)) (reply.Status NoSuchFile)
+      → None ≡ option_map (λ (it : Node). attrs_of (object_in it.metadata it.content)) (node_in mid.nodes y) → IsCarriedOut mid t (stat (found_at t p)) (reply.Status Failure)
   stat_gone above y e sent =
       let w = node_located above y e in
       let are : None ≡ Some (attrs_of (object_in w.0.metadata w.0.content)) = sent ∙ ap (option_map (λ (it : Node). attrs_of (object_in it.metadata it.content))) w.1.0 in
@@ -112,10 +117,11 @@ module _ (old mid : StoreState) (t : Tree) (p : Path) (most : ℕ) (looked : Loo
       past_root_wants p (make_directory t number moment p attrs (place_at t p)) ne
       (ap (λ place. is_success (make_directory t number moment p attrs place).reply) (name_missing mid t mid_keeps p d (way_looked old mid p most (located.Missing d) looked e)).0)
 
-  pub make_no_way : (number moment : ℕ) (attrs : Attrs) → located.NoWay ≡ way_from old.nodes old.root old.root p → IsCarriedOut mid t (make_directory t number moment p attrs (place_at t p)) (reply.Status NoSuchFile)
-  make_no_way number moment attrs e =
-      tells_served mid t (make_directory t number moment p attrs (place_at t p)) (reply.Status NoSuchFile)
-      (ap (make_directory t number moment p attrs) (no_way mid t mid_keeps p (way_looked old mid p most located.NoWay looked e))) mid_keeps
+  pub make_no_way : (number moment : ℕ) (attrs : Attrs) (l : Located) (code : StatusCode) → (code ≡ NoSuchFile) × (l ≡ located.NoWay) → l ≡ way_from old.nodes old.root old.root p
+      → IsCarriedOut mid t (make_directory t number moment p attrs (place_at t p)) (reply.Status code)
+  make_no_way number moment attrs l code not e =
+      tells_served mid t (make_directory t number moment p attrs (place_at t p)) (reply.Status code)
+      (ap (make_directory t number moment p attrs) (no_way mid t mid_keeps p (way_looked old mid p most located.NoWay looked (sym not.1 ∙ e))) ∙ ap refuses (sym not.0)) mid_keeps
 
   pub make_present : (number moment : ℕ) (attrs : Attrs) (above y : ℕ) → located.At above y ≡ way_from old.nodes old.root old.root p
       → IsCarriedOut mid t (make_directory t number moment p attrs (place_at t p)) (reply.Status Failure)
@@ -159,26 +165,29 @@ module _ (old mid : StoreState) (t : Tree) (p : Path) (most : ℕ) (looked : Loo
       ap (remove_directory t moment p) w.1.1 ∙ remove_directory_content moment w.0.label w.0.metadata w.0.content
       ∙ ap (λ (o : Option Node). cond {A = Answer} (option_map_or (λ (node : Node). is_directory_content node.content) o false) (if is_empty t.names p then goes t moment p else refuses Failure) (refuses Failure)) (sym w.1.0)
 
-  pub remove_directory_file : (moment above y : ℕ) → located.At above y ≡ way_from old.nodes old.root old.root p → false ≡ is_directory_at mid.nodes y
+  both : (moment : ℕ) (d b : Bool) → cond {A = Answer} d (if b then goes t moment p else refuses Failure) (refuses Failure) ≡ cond {A = Answer} (d && b) (goes t moment p) (refuses Failure)
+  both moment true b = refl
+  both moment false b = refl
+
+  remove_directory_is : (moment above y : ℕ) → located.At above y ≡ way_from old.nodes old.root old.root p
+      → remove_directory t moment p (found_at t p) ≡ cond {A = Answer} (is_directory_at mid.nodes y && is_bare_at mid.nodes y) (goes t moment p) (refuses Failure)
+  remove_directory_is moment above y e =
+      remove_directory_located moment above y e
+      ∙ ap (λ b. cond {A = Answer} (is_directory_at mid.nodes y) (if b then goes t moment p else refuses Failure) (refuses Failure)) (bare_found mid t mid_keeps p y (walk_located above y e))
+      ∙ both moment (is_directory_at mid.nodes y) (is_bare_at mid.nodes y)
+
+  pub remove_directory_refused : (moment above y : ℕ) → located.At above y ≡ way_from old.nodes old.root old.root p → false ≡ (is_directory_at mid.nodes y && is_bare_at mid.nodes y)
       → IsCarriedOut mid t (remove_directory t moment p (found_at t p)) (reply.Status Failure)
-  remove_directory_file moment above y e d =
-      tells_served mid t (remove_directory t moment p (found_at t p)) (reply.Status Failure)
-      (remove_directory_located moment above y e ∙ ap (λ b. cond {A = Answer} b (if is_empty t.names p then goes t moment p else refuses Failure) (refuses Failure)) (sym d)) mid_keeps
+  remove_directory_refused moment above y e d =
+      tells_served mid t (remove_directory t moment p (found_at t p)) (reply.Status Failure) (remove_directory_is moment above y e ∙ ap (λ b. cond {A = Answer} b (goes t moment p) (refuses Failure)) (sym d)) mid_keeps
 
-  remove_directory_is : (moment above y : ℕ) → located.At above y ≡ way_from old.nodes old.root old.root p → true ≡ is_directory_at mid.nodes y
-      → remove_directory t moment p (found_at t p) ≡ (if is_bare_at mid.nodes y then goes t moment p else refuses Failure)
-  remove_directory_is moment above y e d =
-      remove_directory_located moment above y e ∙ ap (λ b. cond {A = Answer} b (if is_empty t.names p then goes t moment p else refuses Failure) (refuses Failure)) (sym d)
-      ∙ ap (λ b. if b then goes t moment p else refuses Failure) (bare_found mid t mid_keeps p y (walk_located above y e))
+  both_bare : (d b : Bool) → true ≡ (d && b) → b ≡ true
+  both_bare true b e = sym e
+  both_bare false b e = absurd (let x : ⊥ = cc in x)
 
-  pub remove_directory_full : (moment above y : ℕ) → located.At above y ≡ way_from old.nodes old.root old.root p → true ≡ is_directory_at mid.nodes y → false ≡ is_bare_at mid.nodes y
-      → IsCarriedOut mid t (remove_directory t moment p (found_at t p)) (reply.Status Failure)
-  remove_directory_full moment above y e d full =
-      tells_served mid t (remove_directory t moment p (found_at t p)) (reply.Status Failure) (remove_directory_is moment above y e d ∙ ap (λ b. if b then goes t moment p else refuses Failure) (sym full)) mid_keeps
-
-  pub remove_directory_served : (new : StoreState) (moment above y : ℕ) → located.At above y ≡ way_from old.nodes old.root old.root p → true ≡ is_directory_at mid.nodes y → true ≡ is_bare_at mid.nodes y
+  pub remove_directory_served : (new : StoreState) (moment above y : ℕ) → located.At above y ≡ way_from old.nodes old.root old.root p → true ≡ (is_directory_at mid.nodes y && is_bare_at mid.nodes y)
       → ((u : Tree) (node : ℕ) → Keeps mid u → way_from mid.nodes mid.root mid.root p ≡ located.At above node → is_bare_at mid.nodes node ≡ true → IsCarriedOut new u (goes u moment p) (reply.Status Success))
       → IsCarriedOut new t (remove_directory t moment p (found_at t p)) (reply.Status Success)
-  remove_directory_served new moment above y e d bare served =
-      subst (λ (a : Answer). IsCarriedOut new t a (reply.Status Success)) (sym (remove_directory_is moment above y e d ∙ ap (λ b. if b then goes t moment p else refuses Failure) (sym bare)))
-      (served t y mid_keeps (way_looked old mid p most (located.At above y) looked e) (sym bare))
+  remove_directory_served new moment above y e d served =
+      subst (λ (a : Answer). IsCarriedOut new t a (reply.Status Success)) (sym (remove_directory_is moment above y e ∙ ap (λ b. cond {A = Answer} b (goes t moment p) (refuses Failure)) (sym d)))
+      (served t y mid_keeps (way_looked old mid p most (located.At above y) looked e) (both_bare (is_directory_at mid.nodes y) (is_bare_at mid.nodes y) d))

@@ -1,4 +1,5 @@
 pub mod Ways
+pub mod Slots
 pub mod Opening
 pub mod Served
 pub mod Steps

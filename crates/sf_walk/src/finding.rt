@@ -1,13 +1,17 @@
 //! Where a path leads in the store.
 
-ghost use Rattle.std.specs.Prelude.{◌≡◌, ◌≤◌, length};
+ghost use Rattle.std.specs.Prelude.{◌≡◌, ◌≤◌, length, IfOk, IfErr};
 ghost use Rattle.std.specs.Option.{option_copied};
-ghost use Rattle.sf_walk.specs.Ways.{IsLocated, IsWay, along, names_in, names_of, paths_of, way_from};
+ghost use Rattle.sf_reply.specs.declared.reply.StatusCode.TheVariants.{NoSuchFile};
+ghost use Rattle.sf_walk.specs.declared.finding.Located.TheVariants.{NoWay, At};
+ghost use Rattle.sf_walk.specs.Ways.{IsLocated, IsThere, IsWay, along, names_in, names_of, paths_of, way_from};
+ghost use Rattle.sf_walk.specs.Slots.{IsSlot};
 ghost use Rattle.sf_walk.specs.Served.{LookedUp};
 
 use sf_call::Request;
 use sf_inode::{NodeId, Store};
 use sf_path::Path;
+use sf_reply::StatusCode;
 
 /// Where a path leads: no way; a missing name of a directory; or a node, with the directory that has
 /// its entry. The root stands above itself.
@@ -16,6 +20,46 @@ pub enum Located {
     NoWay,
     Missing { parent: NodeId },
     At { parent: NodeId, node: NodeId },
+}
+
+/// A node that a path leads to, and the directory that has its entry.
+#[derive(Clone, Copy)]
+pub(crate) struct Found {
+    pub(crate) parent: NodeId,
+    pub(crate) node: NodeId,
+}
+
+/// A path's last name, where its way is there: its directory lacks it, or it is a node's.
+#[derive(Clone, Copy)]
+pub(crate) enum Slot {
+    Missing { parent: NodeId },
+    Taken { node: NodeId },
+}
+
+impl Located {
+    /// The node, or what a request of a node is answered where the path leads to none.
+    pub(crate) fn found(self) -> Result<Found, StatusCode>
+        ensures at { IfOk result (λ found. self ≡ At found.parent found.node) }
+        ensures nowhere { IfErr result (λ code. (code ≡ NoSuchFile) × (IsThere self → ⊥)) }
+    {
+        match self {
+            Located::At { parent, node } => Ok(Found { parent, node }),
+            Located::NoWay => Err(StatusCode::NoSuchFile),
+            Located::Missing { parent: _ } => Err(StatusCode::NoSuchFile),
+        }
+    }
+
+    /// The last name, or what a request that may make it is answered where there is no way.
+    pub(crate) fn slot(self) -> Result<Slot, StatusCode>
+        ensures on_way { IfOk result (IsSlot self) }
+        ensures nowhere { IfErr result (λ code. (code ≡ NoSuchFile) × (self ≡ NoWay)) }
+    {
+        match self {
+            Located::Missing { parent } => Ok(Slot::Missing { parent }),
+            Located::At { parent: _, node } => Ok(Slot::Taken { node }),
+            Located::NoWay => Err(StatusCode::NoSuchFile),
+        }
+    }
 }
 
 /// Where the paths of a call lead: its path, or a rename's old one; and a rename's new one.

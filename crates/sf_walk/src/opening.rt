@@ -21,7 +21,7 @@ ghost use Rattle.sf_walk.specs.Ways.{last_of, found_node, way_from};
 ghost use Rattle.sf_walk.specs.Opening.{marks_of, OpenedNew};
 ghost use Rattle.sf_walk.specs.Served.{Gives, IsAlike, HoldersStay, NodesStay, IsUnused};
 
-use crate::finding::Located;
+use crate::finding::{Located, Slot};
 use crate::path_calls::insert_last;
 use sf_call::{FileType, MAX_HANDLES, Metadata};
 use sf_field::{Attrs, OpenFlags};
@@ -69,10 +69,9 @@ pub(crate) fn open_directory(
     ensures look_ups { store.new.look_ups ≡ store.old.look_ups }
     ensures holders { HoldersStay store.old store.new }
 {
-    match located {
-        Located::NoWay => Ok(Reply::Status(StatusCode::NoSuchFile)),
-        Located::Missing { parent: _ } => Ok(Reply::Status(StatusCode::NoSuchFile)),
-        Located::At { parent: _, node } => open_listing(store, session, number, node),
+    match located.found() {
+        Ok(found) => open_listing(store, session, number, found.node),
+        Err(code) => Ok(Reply::Status(code)),
     }
 }
 
@@ -123,12 +122,12 @@ pub(crate) fn open(
     if path.is_root() {
         return Ok(Reply::Status(StatusCode::Failure));
     }
-    match located {
-        Located::NoWay => Ok(Reply::Status(StatusCode::NoSuchFile)),
-        Located::Missing { parent } => {
+    match located.slot() {
+        Err(code) => Ok(Reply::Status(code)),
+        Ok(Slot::Missing { parent }) => {
             open_absent(store, session, number, moment, parent, path, flags, attrs)
         }
-        Located::At { parent: _, node } => {
+        Ok(Slot::Taken { node }) => {
             if flags.create && flags.exclusive {
                 return Ok(Reply::Status(StatusCode::Failure));
             }

@@ -1,6 +1,6 @@
 //! Calls on paths, but those that open.
 
-ghost use Rattle.std.specs.Prelude.{◌≡◌, ◌<◌, ℕ, true, false, is_some, length, Some, IsOk, IfOk, OnErr};
+ghost use Rattle.std.specs.Prelude.{◌≡◌, ◌<◌, ◌&&◌, ℕ, true, false, is_some, length, Some, IsOk, IfOk, OnErr};
 ghost use Rattle.sf_path.specs.Names.{Path};
 ghost use Rattle.sf_reply.specs.Replies.{IsPlain};
 ghost use Rattle.sf_call.specs.Attributes.{modified_at};
@@ -10,13 +10,13 @@ ghost use Rattle.sf_reply.specs.declared.reply.Reply.TheVariants.{Status};
 ghost use Rattle.sf_reply.specs.declared.reply.StatusCode.TheVariants.{Success};
 ghost use Rattle.sf_inode.specs.declared.node.Node.{Node};
 ghost use Rattle.sf_inode.specs.Nodes.{new_node, object_in, with_metadata};
-ghost use Rattle.sf_inode.specs.Stores.{Inserted, node_in, is_bare_at, edited, unlinked};
+ghost use Rattle.sf_inode.specs.Stores.{Inserted, node_in, is_bare_at, is_directory_at, edited, unlinked};
 ghost use Rattle.sf_keeps.specs.Keeps.{Keeps};
 ghost use Rattle.sf_walk.specs.declared.finding.Located.TheVariants.{At};
 ghost use Rattle.sf_walk.specs.Ways.{last_of, way_from};
 ghost use Rattle.sf_walk.specs.Served.{IsCarriedOut, Gives, IsAlike, HoldersStay, NodesStay, IsUnused};
 
-use crate::finding::Located;
+use crate::finding::{Located, Slot};
 use sf_call::{FileType, MAX_FILE_SIZE, Metadata};
 use sf_field::Attrs;
 use sf_inode::{NewNode, NodeId, Store};
@@ -31,13 +31,12 @@ pub(crate) fn stat(store: &Store, located: Located) -> Reply
         → IsCarriedOut store.now t (stat (found_at t path)) result }
     ensures plain { IsPlain result }
 {
-    match located {
-        Located::NoWay => Reply::Status(StatusCode::NoSuchFile),
-        Located::Missing { parent: _ } => Reply::Status(StatusCode::NoSuchFile),
-        Located::At { parent: _, node } => match store.attrs(node) {
+    match located.found() {
+        Ok(found) => match store.attrs(found.node) {
             Some(attrs) => Reply::Attrs(attrs),
-            None => Reply::Status(StatusCode::NoSuchFile),
+            None => Reply::Status(StatusCode::Failure),
         },
+        Err(code) => Reply::Status(code),
     }
 }
 
@@ -61,10 +60,9 @@ pub(crate) fn set_stat(
     if path.is_root() {
         return Ok(Reply::Status(StatusCode::Failure));
     }
-    match located {
-        Located::NoWay => Ok(Reply::Status(StatusCode::NoSuchFile)),
-        Located::Missing { parent: _ } => Ok(Reply::Status(StatusCode::NoSuchFile)),
-        Located::At { parent: _, node } => set_node(store, moment, node, attrs),
+    match located.found() {
+        Ok(found) => set_node(store, moment, found.node, attrs),
+        Err(code) => Ok(Reply::Status(code)),
     }
 }
 
@@ -122,10 +120,10 @@ pub(crate) fn mkdir(
     if path.is_root() {
         return Ok(Reply::Status(StatusCode::Failure));
     }
-    match located {
-        Located::NoWay => Ok(Reply::Status(StatusCode::NoSuchFile)),
-        Located::At { parent: _, node: _ } => Ok(Reply::Status(StatusCode::Failure)),
-        Located::Missing { parent } => {
+    match located.slot() {
+        Err(code) => Ok(Reply::Status(code)),
+        Ok(Slot::Taken { node: _ }) => Ok(Reply::Status(StatusCode::Failure)),
+        Ok(Slot::Missing { parent }) => {
             let made = NewNode {
                 label: number,
                 file_type: FileType::Directory,
@@ -165,20 +163,23 @@ pub(crate) fn rmdir(store: &mut Store, moment: u32, path: &Path, located: Locate
     if path.is_root() {
         return Reply::Status(StatusCode::Failure);
     }
-    match located {
-        Located::NoWay => Reply::Status(StatusCode::NoSuchFile),
-        Located::Missing { parent: _ } => Reply::Status(StatusCode::NoSuchFile),
-        Located::At { parent, node } => {
-            if !store.is_directory(node) {
+    match located.found() {
+        Err(code) => Reply::Status(code),
+        Ok(found) => {
+            if !is_empty_directory(store, found.node) {
                 return Reply::Status(StatusCode::Failure);
             }
-            if !store.is_empty(node) {
-                return Reply::Status(StatusCode::Failure);
-            }
-            remove_last(store, moment, parent, path);
+            remove_last(store, moment, found.parent, path);
             Reply::Status(StatusCode::Success)
         }
     }
+}
+
+fn is_empty_directory(store: &Store, node: NodeId) -> bool
+    ensures { result
+        ≡ (is_directory_at store.now.nodes node && is_bare_at store.now.nodes node) }
+{
+    store.is_directory(node) && store.is_empty(node)
 }
 
 /// REMOVE.
@@ -193,14 +194,13 @@ pub(crate) fn remove(store: &mut Store, moment: u32, path: &Path, located: Locat
     if path.is_root() {
         return Reply::Status(StatusCode::Failure);
     }
-    match located {
-        Located::NoWay => Reply::Status(StatusCode::NoSuchFile),
-        Located::Missing { parent: _ } => Reply::Status(StatusCode::NoSuchFile),
-        Located::At { parent, node } => {
-            if store.is_directory(node) {
+    match located.found() {
+        Err(code) => Reply::Status(code),
+        Ok(found) => {
+            if store.is_directory(found.node) {
                 return Reply::Status(StatusCode::Failure);
             }
-            remove_last(store, moment, parent, path);
+            remove_last(store, moment, found.parent, path);
             Reply::Status(StatusCode::Success)
         }
     }
