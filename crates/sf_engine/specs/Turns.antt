@@ -117,6 +117,25 @@ is_busy (place.UnderWay lane) = true
 is_busy (place.Answered lane given) = true
 is_busy (place.Left cause) = false
 
+abbrev pub is_resting : Place → Bool
+is_resting (place.Resting lane) = true
+is_resting (place.UnderWay lane) = false
+is_resting (place.Answered lane given) = false
+is_resting (place.Left cause) = false
+
+-- whether it has a lane, and which
+abbrev pub has_lane : Place → Bool
+has_lane (place.Resting lane) = true
+has_lane (place.UnderWay lane) = true
+has_lane (place.Answered lane given) = true
+has_lane (place.Left cause) = false
+
+abbrev pub IsLaneOf : Place → LaneView → Type 0
+IsLaneOf (place.Resting own) lane = lane ≡ own
+IsLaneOf (place.UnderWay own) lane = lane ≡ own
+IsLaneOf (place.Answered own given) lane = lane ≡ own
+IsLaneOf (place.Left cause) lane = ⊥
+
 -- what a turn gives, by the place before it
 abbrev pub PlaceGives : Part → Place → ℕ → Happened → NewPart → Type 0
 PlaceGives b (place.Resting lane) m r a = Reads (seated b.core b.session lane) m r a

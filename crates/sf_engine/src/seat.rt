@@ -3,13 +3,11 @@
 ghost use Rattle.std.specs.Prelude.{◌≡◌, ◌≢◌, ◌++◌, ◌∷◌, ◌||◌, ◌↔◌, IsTrue, All, ℕ, Bool, List, [], true, false, Some, None, IfOk, IfErr, OnErr, OnOk, Ok};
 ghost use Rattle.sf_call.specs.declared.record.Record.{Record};
 ghost use Rattle.sf_call.specs.declared.record.Record.TheVariants.{Left};
-ghost use Rattle.sf_call.specs.declared.call.Call.{Call};
 ghost use Rattle.sf_core.specs.Cores.Slot.{Idle};
 ghost use Rattle.sf_core.specs.Cores.{slot_of};
-ghost use Rattle.sf_core.specs.Lanes.{LaneView};
-ghost use Rattle.sf_core.specs.Events.{OwnCall, Leaves};
+ghost use Rattle.sf_core.specs.Events.{Leaves};
 ghost use Rattle.sf_core.specs.Histories.{IsHistory};
-ghost use Rattle.sf_engine.specs.Turns.{Gives, GoesOn, before, after, seated, part, new_part, Reads, Settles, PlaceGives, CloseGives, FeedGives, FeedFault, SentGives, SentFault, IsPlaced, is_busy, OpenGives, OpenFault, MayRefuseTurn};
+ghost use Rattle.sf_engine.specs.Turns.{Gives, seated, part, new_part, Settles, has_lane, is_resting, IsLaneOf, PlaceGives, CloseGives, FeedGives, FeedFault, SentGives, SentFault, IsPlaced, is_busy, OpenGives, OpenFault, MayRefuseTurn};
 
 use crate::event::{EngineFault, Happened};
 use sf_call::{Answer, CoreFault};
@@ -49,21 +47,6 @@ pub(crate) struct Seat {
     pub closed: bool,
 }
 
-/// One step of the lane's call.
-fn go_on(core: &mut Core, lane: Lane) -> (Place, Happened)
-    requires { (h : List Record) × (c : Call) × IsHistory core.old h × OwnCall core.old lane c }
-    ensures { Gives core.old core.new (λ h added. (lane' : LaneView)
-        × GoesOn (before core.old h lane) result.1 (after core.new added lane') result.0) }
-{
-    let mut lane = lane;
-    match core.step(&mut lane) {
-        Step::Moved => (Place::UnderWay(lane), Happened::Moved),
-        Step::Blocked(holder) => (Place::UnderWay(lane), Happened::Blocked(holder)),
-        Step::Answered(answer) => (Place::Answered(lane, answer), Happened::Decided),
-        Step::Stranger => unreachable!(),
-    }
-}
-
 /// The lane's session leaves.
 fn leave(core: &mut Core, lane: Lane)
     requires idle { lane.call ≡ None }
@@ -76,39 +59,6 @@ fn leave(core: &mut Core, lane: Lane)
         Err(lane) => {
             lane.abandon();
             unreachable!();
-        }
-    }
-}
-
-/// Takes the next packet of a resting session.
-fn read(
-    core: &mut Core,
-    session: &mut Session,
-    lane: Lane,
-    moment: u32,
-) -> Result<(Place, Happened), Lane>
-    requires idle { lane.call ≡ None }
-    requires slot { slot_of core.old lane.session ≡ Idle }
-    requires waiting { session.old.waiting ≡ None }
-    ensures ok { IfOk result (λ r. Gives core.old core.new (λ h added.
-        Reads (seated core.old session.old lane) moment r.1 (new_part core.new added session.new r.0))) }
-    ensures err { IfErr result (λ back. (back ≡ lane) × (core.new ≡ core.old) × (session.new ≡ session.old)) }
-{
-    let mut lane = lane;
-    match session.next() {
-        Err(_) => Err(lane),
-        Ok(Next::More) => Ok((Place::Resting(lane), Happened::Idle)),
-        Ok(Next::Local) => Ok((Place::Resting(lane), Happened::Wrote)),
-        Ok(Next::Call(request)) => match core.begin(&mut lane, request, moment) {
-            Ok(()) => Ok((Place::UnderWay(lane), Happened::Begun)),
-            Err(fault) => {
-                session.refuse(fault);
-                Ok((Place::Resting(lane), Happened::Wrote))
-            }
-        },
-        Ok(Next::Ended(cause)) => {
-            leave(core, lane);
-            Ok((Place::Left(cause), Happened::Ended(cause)))
         }
     }
 }
@@ -140,33 +90,99 @@ impl Place {
         }
     }
 
-    /// One turn. Where memory is wanting the place comes back.
+    /// Its lane.
+    fn into_lane(self) -> Lane
+        requires { has_lane self ≡ true }
+        ensures { IsLaneOf self result }
+    {
+        match self {
+            Place::Resting(lane) => lane,
+            Place::UnderWay(lane) => lane,
+            Place::Answered(lane, _answer) => lane,
+            Place::Left(_cause) => unreachable!(),
+        }
+    }
+
+    /// Its lane, taken out. Another place is to be put here then.
+    fn take_lane(&mut self) -> Lane
+        requires { has_lane self.old ≡ true }
+        ensures { IsLaneOf self.old result }
+    {
+        mem::replace(self, Place::Left(Cause::Closed)).into_lane()
+    }
+
+    /// Takes the next packet of a resting session.
+    fn read(
+        &mut self,
+        core: &mut Core,
+        session: &mut Session,
+        moment: u32,
+    ) -> Result<Happened, EngineFault>
+        requires resting { is_resting self.old ≡ true }
+        requires placed { IsPlaced core.old session.old self.old }
+        ensures ok { IfOk result (λ r. Gives core.old core.new (λ h added.
+            PlaceGives (part core.old h session.old false) self.old moment r (new_part core.new added session.new self.new))) }
+        ensures err { OnErr result ((self.new ≡ self.old) × (core.new ≡ core.old) × (session.new ≡ session.old)) }
+        ensures fault { IfErr result (λ fault. fault ≡ EngineFault.OutOfMemory) }
+    {
+        let Place::Resting(lane) = self else {
+            unreachable!();
+        };
+        match session.next() {
+            Err(_) => Err(EngineFault::OutOfMemory),
+            Ok(Next::More) => Ok(Happened::Idle),
+            Ok(Next::Local) => Ok(Happened::Wrote),
+            Ok(Next::Call(request)) => match core.begin(lane, request, moment) {
+                Ok(()) => {
+                    *self = Place::UnderWay(self.take_lane());
+                    Ok(Happened::Begun)
+                }
+                Err(fault) => {
+                    session.refuse(fault);
+                    Ok(Happened::Wrote)
+                }
+            },
+            Ok(Next::Ended(cause)) => {
+                leave(core, self.take_lane());
+                *self = Place::Left(cause);
+                Ok(Happened::Ended(cause))
+            }
+        }
+    }
+
+    /// One turn. Where memory is wanting nothing changes.
     fn turn(
-        self,
+        &mut self,
         core: &mut Core,
         session: &mut Session,
         closed: bool,
         moment: u32,
-    ) -> Result<(Place, Happened), Place>
-        requires { IsPlaced core.old session.old self }
+    ) -> Result<Happened, EngineFault>
+        requires { IsPlaced core.old session.old self.old }
         ensures ok { IfOk result (λ r. Gives core.old core.new (λ h added.
-            PlaceGives (part core.old h session.old closed) self moment r.1 (new_part core.new added session.new r.0))) }
-        ensures err { IfErr result (λ back. (back ≡ self) × (core.new ≡ core.old) × (session.new ≡ session.old)
-            × MayRefuseTurn self) }
+            PlaceGives (part core.old h session.old closed) self.old moment r (new_part core.new added session.new self.new))) }
+        ensures err { OnErr result ((self.new ≡ self.old) × (core.new ≡ core.old) × (session.new ≡ session.old)) }
+        ensures fault { IfErr result (λ fault. (fault ≡ EngineFault.OutOfMemory) × MayRefuseTurn self.old) }
     {
         match self {
-            Place::Resting(lane) => match read(core, session, lane, moment) {
-                Ok(turned) => Ok(turned),
-                Err(lane) => Err(Place::Resting(lane)),
-            },
-            Place::UnderWay(lane) => Ok(go_on(core, lane)),
-            Place::Answered(lane, answer) => {
-                if session.answer(&answer).is_err() {
-                    return Err(Place::Answered(lane, answer));
+            Place::Resting(_) => self.read(core, session, moment),
+            Place::UnderWay(lane) => match core.step(lane) {
+                Step::Moved => Ok(Happened::Moved),
+                Step::Blocked(holder) => Ok(Happened::Blocked(holder)),
+                Step::Answered(answer) => {
+                    *self = Place::Answered(self.take_lane(), answer);
+                    Ok(Happened::Decided)
                 }
-                Ok((settle(core, session, lane, closed), Happened::Wrote))
+                Step::Stranger => unreachable!(),
+            },
+            Place::Answered(_, answer) => {
+                if session.answer(answer).is_err() {
+                    return Err(EngineFault::OutOfMemory);
+                }
+                *self = settle(core, session, self.take_lane(), closed);
+                Ok(Happened::Wrote)
             }
-            Place::Left(cause) => Ok((Place::Left(cause), Happened::Ended(cause))),
+            Place::Left(cause) => Ok(Happened::Ended(*cause)),
         }
     }
 
@@ -199,17 +215,8 @@ pub(crate) fn turn_seat(
     ensures err { OnErr result ((core.new ≡ core.old) × (seat.new ≡ seat.old)) }
     ensures fault { IfErr result (λ fault. (fault ≡ EngineFault.OutOfMemory) × MayRefuseTurn seat.old.place) }
 {
-    let place = mem::replace(&mut seat.place, Place::Left(Cause::Closed));
-    match place.turn(core, &mut seat.session, seat.closed, moment) {
-        Ok((place, happened)) => {
-            seat.place = place;
-            Ok(happened)
-        }
-        Err(place) => {
-            seat.place = place;
-            Err(EngineFault::OutOfMemory)
-        }
-    }
+    seat.place
+        .turn(core, &mut seat.session, seat.closed, moment)
 }
 
 /// Whether no session's call goes on.

@@ -78,6 +78,8 @@ read_serves law start incoming incoming' outgoing outgoing' calls calls' told e 
         wrote = subst (λ (o : Option (List ℕ)). Appends start.outgoing o p.written) (sym same) S.wrote;
         begun = S.begun;
         moments = S.moments;
+        timed = S.timed;
+        clock = S.clock;
         log = S.log ++ Read n ∷ [];
         logged = logs_more start.calls calls calls' S.log (Read n ∷ []) S.logged logs;
         gave = sum ∙ ap (λ (b : List ℕ). length b) all;
@@ -112,6 +114,8 @@ still_serves start incoming incoming' outgoing outgoing' calls calls' told e P s
         wrote = subst (λ (o : Option (List ℕ)). Appends start.outgoing o h.0.written) (sym same) S.wrote;
         begun = S.begun;
         moments = S.moments;
+        timed = S.timed;
+        clock = S.clock;
         log = S.log;
         logged = subst (λ (l : List LineCall). Logs start.calls calls' l) (append-nil S.log) (logs_more start.calls calls calls' S.log [] S.logged logs);
         gave = S.gave;
@@ -168,7 +172,7 @@ fed_serves start incoming outgoing calls told e e' s bytes serves feeds trace fi
     let read = h.2 in
     let ev = event.Feed p.session feeds.0 in
     let mine : GoesOnTrace e ev (Ok feeds.2) e' = subst (λ (k : ℕ). GoesOnTrace e (event.Feed k feeds.0) (Ok feeds.2) e') (sym read.in_step.0) feeds.3 in
-    let g = go_on start (scene incoming outgoing calls told e) told e' trace fits p ev (Ok feeds.2) (λ t' unfed'. (t' ≡ fed p.told feeds.0.items) × (unfed' ≡ [])) h.1 mine refl (Appends-nil told) (λ w is. tt)
+    let g = go_on start (scene incoming outgoing calls told e) told e' trace fits p ev (Ok feeds.2) (λ t' unfed'. (t' ≡ fed p.told feeds.0.items) × (unfed' ≡ [])) [] h.1 mine refl (Appends-nil told) (λ w w' added is leads. inl refl) (λ w is. tt)
     (fed_leads p.session p.told p.unfed feeds.0 feeds.2 (read.unfed ∙ sym feeds.1)) in
     let now : g.0 ≡ fed p.told feeds.0.items = g.3.0 in
     let sent : g.0.sent ≡ p.told.sent = ap (λ (z : Told). z.sent) now in
@@ -241,8 +245,8 @@ pub close_serves : (start : Scene) (incoming outgoing : Option (List ℕ)) (call
     → (t' : Told) × (unfed' : List ℕ) × Served start (scene incoming outgoing calls told e') trace fits (progress p.session t' unfed' p.written) × ((t' ≡ closed_now p.told p.told.phase) × (unfed' ≡ p.unfed))
 close_serves start incoming outgoing calls told e e' s trace fits p number S applies =
     let mine : GoesOnTrace e (event.Close p.session) applies.0 e' = subst (λ (k : ℕ). GoesOnTrace e (event.Close k) applies.0 e') (sym number) applies.1 in
-    go_on start (scene incoming outgoing calls told e) told e' trace fits p (event.Close p.session) applies.0 (λ t' unfed'. (t' ≡ closed_now p.told p.told.phase) × (unfed' ≡ p.unfed)) S mine refl (Appends-nil told)
-    (λ w is. tt) (close_leads p.session p.told p.unfed applies.0)
+    go_on start (scene incoming outgoing calls told e) told e' trace fits p (event.Close p.session) applies.0 (λ t' unfed'. (t' ≡ closed_now p.told p.told.phase) × (unfed' ≡ p.unfed)) [] S mine refl (Appends-nil told)
+    (λ w w' added is leads. inl refl) (λ w is. tt) (close_leads p.session p.told p.unfed applies.0)
 
 -- closing, at the end of the input
 pub ended_serves : Law → (start : Scene) (incoming outgoing : Option (List ℕ)) (calls : Option (List LineCall)) (told : Option (List ℕ)) (e e' : EngineView) (s : ℕ)

@@ -3,7 +3,6 @@ use Rattle.std.proofs.Common.{◌≡◌, ℕ, List, [], ◌∷◌, ◌++◌, Opt
 use Rattle.std.specs.List.{AllByRecursion}
 use Rattle.std.specs.Io.KnownBytes.{Appends, Consumes}
 use Rattle.std.proofs.KnownBytes.{Appends-trans}
-use Rattle.std.proofs.lemmas.List.{flat_map_more}
 use Rattle.std.proofs.lemmas.List.Concat.{flat_map-append}
 use Rattle.sf_call.specs.declared.record.Record.{Record}
 use Rattle.sf_call.specs.Histories.{IsLegal}
@@ -15,7 +14,7 @@ use Rattle.sf_engine.specs.Worlds.{Entry, Answered, packet_for, transcript, Told
 use Rattle.sf_engine.specs.Traces.{LeadsBy, Leads, Tells, order, IsSession}
 use Rattle.sf_engine.specs.Views.{EngineView}
 use Rattle.sf_engine.specs.Fits.{Fits, GoesOnTrace, entry_of}
-use Rattle.sf_serving.specs.Serving.{Scene, scene, IsOf, IsEntryOf, moment_of, moments_of, IsLowAt, RunsLow, IsFront, Progress, progress, IsPrompt, Served}
+use Rattle.sf_serving.specs.Serving.{Scene, scene, IsOf, IsEntryOf, IsTimed, AreTimed, IsLowAt, RunsLow, IsFront, Progress, progress, IsPrompt, Served}
 
 pub all_push : {A : Type 0} (P : A → Type 0) (xs : List A) (x : A) → AllByRecursion P xs → P x → AllByRecursion P (xs ++ x ∷ [])
 all_push P [] x h p = (p, tt)
@@ -87,16 +86,26 @@ begun_more : (written : List ℕ) (answers answers' : List Answered) → IsFront
 begun_more written answers answers' begun more =
     front_more written (transcript answers) (transcript more.0) (transcript answers') begun (ap transcript more.1 ∙ transcript_append answers more.0)
 
+-- what the clock told for an event
+abbrev pub Timing : ℕ → Told → Event → Result Happened EngineFault → List ℕ → Type 0
+Timing session t ev r moments = (w w' : World) (added : List Record) → IsSession w session t → LeadsBy w ev r added w' → IsTimed ev r moments
+
+pub timed_push : (entries : List Entry) (moments : List ℕ) (e : Entry) (now : List ℕ) → AreTimed entries moments → IsTimed e.event e.result now → AreTimed (entries ++ e ∷ []) (moments ++ now)
+unfolding AreTimed
+timed_push [] moments e now h timed = (now, [], ap (λ (m : List ℕ). m ++ now) h ∙ sym (append-nil now), timed, refl)
+timed_push (x ∷ entries) moments e now h timed =
+    (h.0, h.1 ++ now, ap (λ (m : List ℕ). m ++ now) h.2 ∙ append_assoc h.0 h.1 now, h.3, timed_push entries h.1 e now h.4 timed)
+
 -- an event leads from what was told of the session, and what is not fed, to this
 abbrev pub Leading : ℕ → Told → List ℕ → Event → Result Happened EngineFault → (Told → List ℕ → Type 0) → Type 0
 Leading session t unfed ev r Q = (w w' : World) (added : List Record) → IsSession w session t → LeadsBy w ev r added w'
     → (t' : Told) × (unfed' : List ℕ) × IsSession w' session t' × Follows t t' unfed unfed' × Q t' unfed'
 
 pub go_on : (start now : Scene) (told' : Option (List ℕ)) (e' : EngineView) (trace : List Entry) (fits : Fits start.engine trace) (p : Progress) (ev : Event) (r : Result Happened EngineFault)
-    (Q : Told → List ℕ → Type 0) → Served start now trace fits p → GoesOnTrace now.engine ev r e' → IsOf p.session ev r → Appends now.told told' (moment_of ev)
-    → ((w : World) → IsSession w p.session p.told → IsLowAt w p.session ev) → Leading p.session p.told p.unfed ev r Q
+    (Q : Told → List ℕ → Type 0) (moments : List ℕ) → Served start now trace fits p → GoesOnTrace now.engine ev r e' → IsOf p.session ev r → Appends now.told told' moments
+    → Timing p.session p.told ev r moments → ((w : World) → IsSession w p.session p.told → IsLowAt w p.session ev) → Leading p.session p.told p.unfed ev r Q
     → (t' : Told) × (unfed' : List ℕ) × Served start (scene now.incoming now.outgoing now.calls told' e') trace fits (progress p.session t' unfed' p.written) × Q t' unfed'
-go_on start now told' e' trace fits p ev r Q S goes is_of appends low step =
+go_on start now told' e' trace fits p ev r Q moments S goes is_of appends timing low step =
     let g = goes (trace ++ S.entries) S.fit in
     let en = entry_of ev r g.0 in
     let n = step S.fit.world g.1.world g.0 S.is_session g.2 in
@@ -112,8 +121,9 @@ go_on start now told' e' trace fits p ev r Q S goes is_of appends low step =
         read = subst (λ (b : List ℕ). Consumes start.incoming now.incoming b) (sym follows.read) S.read;
         wrote = S.wrote;
         begun = begun_more p.written p.told.answers n.0.answers S.begun follows.answers;
-        moments = subst (λ (b : List ℕ). Appends start.told told' b) (flat_map_more (λ (x : Entry). moment_of x.event) [] S.entries en)
-            (Appends-trans start.told now.told told' (moments_of S.entries) (moment_of ev) S.moments appends);
+        moments = S.moments ++ moments;
+        timed = timed_push S.entries S.moments en moments S.timed (timing S.fit.world g.1.world g.0 S.is_session g.2);
+        clock = Appends-trans start.told now.told told' S.moments moments S.clock appends;
         log = S.log;
         logged = S.logged;
         gave = S.gave ∙ ap (λ (b : List ℕ). length b) (sym follows.read);

@@ -16,7 +16,7 @@ use Rattle.sf_engine.specs.Worlds.{Entry, transcript, Told, new_told, World}
 use Rattle.sf_engine.specs.Traces.{IsSession, TakesNone, Leads, closed_now}
 use Rattle.sf_engine.specs.Views.{EngineView}
 use Rattle.sf_engine.specs.Fits.{GoesOnTrace, entry_of}
-use Rattle.sf_serving.specs.Serving.{Scene, scene, IsLowAt, RunsLow, Progress, progress, IsPrompt, Serves, IsRounded, Rests, Stops, HasSentFor, HasStopped, Applies, SendsAll, SendsSome, ServesLine, StopsEarly, IsUnchanged, refusal_of, IsOpenFault, IsRoundFault, IsServeFault}
+use Rattle.sf_serving.specs.Serving.{Scene, scene, moment_of, AreTimed, IsLowAt, RunsLow, Progress, progress, IsPrompt, Serves, IsRounded, Rests, Stops, HasSentFor, HasStopped, Applies, SendsAll, SendsSome, ServesLine, StopsEarly, IsUnchanged, refusal_of, IsOpenFault, IsRoundFault, IsServeFault}
 use Rattle.sf_serving.proofs.Acting.{close_serves, takes_none, closed_answers, closed_sent}
 use Rattle.sf_serving.proofs.Ending.{nothing_after}
 use Rattle.sf_serving.proofs.Rounds.{serves_more}
@@ -32,6 +32,10 @@ none_written = refl
 opens_low : (session : ℕ) (w : World) (e : Entry) (w' : World) → IsLowAt w session e.event → Leads w e w' → RunsLow session w (e ∷ []) w'
 unfolding RunsLow
 opens_low session w e w' low leads = (w', low, leads, refl)
+
+opens_timed : (e : Entry) → moment_of e.event ≡ [] → AreTimed (e ∷ []) []
+unfolding AreTimed
+opens_timed e none = ([], [], refl, inl (sym none), refl)
 
 nothing_prompt : (p : Progress) → IsPrompt p []
 nothing_prompt p before later n e = absurd (nothing_after before (Read n) later e)
@@ -58,7 +62,9 @@ opened_serves start e' s goes trace fits =
         read = Consumes-nil start.incoming;
         wrote = Appends-nil start.outgoing;
         begun = ([], none_written);
-        moments = Appends-nil start.told;
+        moments = [];
+        timed = opens_timed en refl;
+        clock = Appends-nil start.told;
         log = [];
         logged = logs_none start.calls;
         gave = refl;

@@ -1,5 +1,5 @@
 -- From one turn to a round, and from a round to the whole.
-use Rattle.std.proofs.Common.{◌≡◌, ◌≤◌, ℕ, List, [], Option, Some, None, Ok, Err, take, refl, subst, inl, inr, arith}
+use Rattle.std.proofs.Common.{◌≡◌, ◌≤◌, ℕ, List, [], Bool, true, Option, Some, None, Ok, Err, take, refl, subst, inl, inr, arith}
 use Rattle.std.proofs.lemmas.Bool.{cases_lt}
 use Rattle.std.specs.Io.KnownBytes.{IsAtEnd}
 use Rattle.sf_line.specs.Lines.{Rose}
@@ -11,7 +11,7 @@ use Rattle.sf_engine.specs.declared.event.Happened.{Happened}
 use Rattle.sf_engine.specs.declared.event.Happened.TheVariants as happened
 use Rattle.sf_engine.specs.declared.event.EngineFault.{EngineFault}
 use Rattle.sf_engine.specs.Worlds.{Told, transcript}
-use Rattle.sf_serving.specs.Serving.{Scene, Progress, progress, Serves, IsInStep, GoesOn, HasTurn, HasLeft, IsDrained, IsRounded, HasSentAll, Rests, Stops, IsRoundFault, all_sent, SendsAll, SendsSome}
+use Rattle.sf_serving.specs.Serving.{Scene, Progress, progress, may_begin_after, Serves, IsInStep, GoesOn, GoesOnBy, HasTurn, HasTurnBy, HasLeft, IsDrained, IsRounded, HasSentAll, Rests, Stops, IsRoundFault, all_sent, SendsAll, SendsSome}
 use Rattle.sf_serving.specs.Ends.{IsWhole}
 use Rattle.sf_serving.proofs.Turning.{TurnedTo}
 use Rattle.sf_serving.proofs.Acting.{HasRead}
@@ -30,8 +30,8 @@ ended_drained law start now s cause serves trace fits =
     (h.0, h.1, ((h.2.0, h.2.1, whole_left h.0.told cause read h.2.2 h.2.3), h.2.3))
 
 -- a session that neither waits for bytes nor has left goes on
-pub still_goes : (s : ℕ) (r : Happened) (p : Progress) → (r ≡ happened.Idle → ⊥) → ((cause : Cause) → r ≡ happened.Ended cause → ⊥) → TurnedTo s (Ok r) p → GoesOn s p
-still_goes s happened.Idle p idle ended h = h.0
+pub still_goes : (s : ℕ) (r : Happened) (p : Progress) → (r ≡ happened.Idle → ⊥) → ((cause : Cause) → r ≡ happened.Ended cause → ⊥) → TurnedTo s (Ok r) p → GoesOnBy s (may_begin_after r) p
+still_goes s happened.Idle p idle ended h = absurd (idle refl)
 still_goes s (happened.Ended cause) p idle ended h = absurd (ended cause refl)
 still_goes s (happened.Opened n) p idle ended h = h
 still_goes s happened.Fed p idle ended h = h
@@ -47,8 +47,15 @@ still_goes s happened.Sent p idle ended h = h
 pub goes_stops : (start now : Scene) (s : ℕ) (f : ServeFault) → Serves start now (GoesOn s) → Serves start now (Stops s f)
 goes_stops start now s f serves = serves_more start now (GoesOn s) (Stops s f) (λ p h. (h.in_step.0, λ no. h.in_step.1)) serves
 
-pub turn_stops : (start now : Scene) (s : ℕ) (f : ServeFault) → Serves start now (HasTurn s) → Serves start now (Stops s f)
-turn_stops start now s f serves = serves_more start now (HasTurn s) (Stops s f) (λ p h. (h.0.in_step.0, λ no. h.0.in_step.1)) serves
+-- where the clock is asked
+pub may_turn : (start now : Scene) (s : ℕ) → Serves start now (HasTurn s) → Serves start now (HasTurnBy s true)
+may_turn start now s serves = serves_more start now (HasTurn s) (HasTurnBy s true) (λ p h. (h, tt)) serves
+
+pub goes_by : (start now : Scene) (s : ℕ) (begin : Bool) → Serves start now (GoesOnBy s begin) → Serves start now (GoesOn s)
+goes_by start now s begin serves = serves_more start now (GoesOnBy s begin) (GoesOn s) (λ p h. h.0) serves
+
+pub turn_stops : (start now : Scene) (s : ℕ) (begin : Bool) (f : ServeFault) → Serves start now (HasTurnBy s begin) → Serves start now (Stops s f)
+turn_stops start now s begin f serves = serves_more start now (HasTurnBy s begin) (Stops s f) (λ p h. (h.0.0.in_step.0, λ no. h.0.0.in_step.1)) serves
 
 pub rests_stops : (start now : Scene) (s : ℕ) (f : ServeFault) → Serves start now (Rests s) → Serves start now (Stops s f)
 rests_stops start now s f serves = serves_more start now (Rests s) (Stops s f) (λ p h. (h.0.0.in_step.0, λ no. h.0.0.in_step.1)) serves

@@ -1,5 +1,5 @@
 -- What is written, and told as sent.
-use Rattle.std.proofs.Common.{◌≡◌, ℕ, ◌+◌, ◌<◌, ◌≤◌, List, [], ◌++◌, Option, Result, Ok, Err, length, take, drop, refl, ap, sym, ◌∙◌, subst, append-nil, append_assoc, length-append, arith}
+use Rattle.std.proofs.Common.{◌≡◌, ℕ, ◌+◌, ◌<◌, ◌≤◌, List, [], ◌++◌, Bool, Option, Result, Ok, Err, length, take, drop, refl, ap, sym, ◌∙◌, subst, inl, append-nil, append_assoc, length-append, arith}
 use Rattle.std.specs.Io.KnownBytes.{Appends, Consumes}
 use Rattle.std.proofs.KnownBytes.{Appends-nil, Appends-trans}
 use Rattle.std.proofs.lemmas.List.{take_all}
@@ -15,7 +15,7 @@ use Rattle.sf_engine.specs.Worlds.{Entry, transcript, Told, World, output_of, wi
 use Rattle.sf_engine.specs.Traces.{IsSession, MayRefuse, sent_more}
 use Rattle.sf_engine.specs.Views.{EngineView}
 use Rattle.sf_engine.specs.Fits.{Fits, GoesOnTrace, IsSentBy, IsUnknown}
-use Rattle.sf_serving.specs.Serving.{Scene, scene, Progress, progress, Served, Serves, IsInStep, GoesOn, HasTurn, Stops, Applies, Waits, all_sent, SendsAll, SendsSome}
+use Rattle.sf_serving.specs.Serving.{Scene, scene, Progress, progress, Served, Serves, IsInStep, GoesOn, GoesOnBy, HasTurnBy, Stops, Applies, Waits, all_sent, SendsAll, SendsSome}
 use Rattle.sf_serving.proofs.Following.{front_all, Leading, prompt_further, go_on, same_told}
 use Rattle.sf_serving.proofs.Turning.{told_now}
 use Rattle.sf_serving.proofs.Ending.{prompt_writes}
@@ -61,6 +61,8 @@ wrote_serves start incoming incoming' outgoing outgoing' calls calls' told e s o
       wrote = Appends-trans start.outgoing outgoing outgoing' p.written front.sent S.wrote front.appended;
       begun = (front.rest, whole);
       moments = S.moments;
+      timed = S.timed;
+      clock = S.clock;
       log = S.log ++ writes.0;
       logged = logs_more start.calls calls calls' S.log writes.0 S.logged writes.1;
       gave = gave;
@@ -121,8 +123,8 @@ sends_all incoming incoming' outgoing outgoing' calls calls' told e e' s n outpu
     let now : transcript p.told.answers ≡ p.told.sent ++ output = waits_here start (scene incoming outgoing calls told e) trace fits p s output step.0 S waits in
     let p' = progress p.session p.told p.unfed (p.written ++ output) in
     let mine : GoesOnTrace e (event.Sent p.session n) applies.0 e' = subst (λ (k : ℕ). GoesOnTrace e (event.Sent k n) applies.0 e') (sym step.0) applies.1 in
-    let g = go_on start (scene incoming' outgoing' calls' told e) told e' trace fits p' (event.Sent p.session n) applies.0 (λ t' unfed'. (t' ≡ with_sent p.told (transcript p.told.answers)) × (unfed' ≡ p.unfed)) S' mine refl
-    (Appends-nil told) (λ w is. tt) (sent_leads p.session n p.told p.unfed output applies.0 now count) in
+    let g = go_on start (scene incoming' outgoing' calls' told e) told e' trace fits p' (event.Sent p.session n) applies.0 (λ t' unfed'. (t' ≡ with_sent p.told (transcript p.told.answers)) × (unfed' ≡ p.unfed)) [] S' mine refl
+    (Appends-nil told) (λ w w' added is leads. inl refl) (λ w is. tt) (sent_leads p.session n p.told p.unfed output applies.0 now count) in
     let all : p.written ++ output ≡ transcript p.told.answers = ap (λ (b : List ℕ). b ++ output) step.1 ∙ sym now in
     let P : Told → List ℕ → List ℕ → Type 0 = λ t u b. Served start (scene incoming' outgoing' calls' told e') trace fits (progress p.session t u b) in
     subst (λ (b : List ℕ). P (with_sent p.told (transcript p.told.answers)) p.unfed b) all
@@ -136,23 +138,23 @@ sends_some incoming incoming' outgoing outgoing' calls calls' told e s output wa
 
 -- little waits
 pub low_serves : (start : Scene) (incoming outgoing : Option (List ℕ)) (calls : Option (List LineCall)) (told : Option (List ℕ)) (e : EngineView) (s : ℕ) (output : List ℕ)
-    → Waits e s output → length output < 65536 → Serves start (scene incoming outgoing calls told e) (GoesOn s) → Serves start (scene incoming outgoing calls told e) (HasTurn s)
-low_serves start incoming outgoing calls told e s output waits few serves trace fits =
+    → Waits e s output → length output < 65536 → (begin : Bool) → Serves start (scene incoming outgoing calls told e) (GoesOnBy s begin) → Serves start (scene incoming outgoing calls told e) (HasTurnBy s begin)
+low_serves start incoming outgoing calls told e s output waits few begin serves trace fits =
     let h = serves trace fits in
     let p = h.0 in
-    let now : transcript p.told.answers ≡ p.told.sent ++ output = waits_here start (scene incoming outgoing calls told e) trace fits p s output h.2.in_step.0 h.1 waits in
+    let now : transcript p.told.answers ≡ p.told.sent ++ output = waits_here start (scene incoming outgoing calls told e) trace fits p s output h.2.0.in_step.0 h.1 waits in
     let out : output_of p.told ≡ output = ap (λ (b : List ℕ). drop (length p.told.sent) b) now ∙ drop_front p.told.sent output in
     let count : length (output_of p.told) ≡ length output = ap (λ (b : List ℕ). length b) out in
-    (p, h.1, (h.2, omega (arith, count, few)))
+    (p, h.1, ((h.2.0, omega (arith, count, few)), h.2.1))
 
 -- all that waited was sent
-pub batch_serves : (start old new : Scene) (s : ℕ) → SendsAll s old new → Serves start old (GoesOn s) → Serves start new (HasTurn s)
-batch_serves start old new s sends serves trace fits =
+pub batch_serves : (start old new : Scene) (s : ℕ) → SendsAll s old new → (begin : Bool) → Serves start old (GoesOnBy s begin) → Serves start new (HasTurnBy s begin)
+batch_serves start old new s sends begin serves trace fits =
     let h = serves trace fits in
     let p = h.0 in (
       all_sent p,
-      sends start trace fits p h.2.in_step h.1,
-      (record { in_step = (h.2.in_step.0, refl); fed = h.2.fed; takes = h.2.takes }, low_sent (all_sent p).told refl),
+      sends start trace fits p h.2.0.in_step h.1,
+      ((record { in_step = (h.2.0.in_step.0, refl); fed = h.2.0.fed; takes = h.2.0.takes }, low_sent (all_sent p).told refl), h.2.1),
     )
 
 pub stops_serves : (start old new : Scene) (s : ℕ) → SendsSome s old new → Serves start old (GoesOn s) → Serves start new (Stops s serve.Line)

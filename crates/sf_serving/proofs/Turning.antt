@@ -1,6 +1,5 @@
 -- Turns of a session that is served.
-use Rattle.std.proofs.Common.{◌≡◌, ◌≢◌, ℕ, ◌-◌, List, [], ◌∷◌, ◌++◌, Option, Some, Bool, true, false, Result, Ok, Err, slice_get, slice_set, zero, suc, refl, ap, sym, ◌∙◌, subst, append-nil}
-use Rattle.std.specs.Io.KnownBytes.{Appends}
+use Rattle.std.proofs.Common.{◌≡◌, ◌≢◌, ◌⊎◌, ℕ, ◌-◌, List, [], ◌∷◌, ◌++◌, Option, Some, Bool, true, false, Result, Ok, Err, slice_get, slice_set, zero, suc, refl, ap, sym, ◌∙◌, subst, inl, inr, append-nil}
 use Rattle.sf_wire.specs.declared.cutting.Cut.TheVariants as cut
 use Rattle.sf_wire.specs.Packets.{IsCut}
 use Rattle.sf_reply.specs.declared.reply.Reply.{Reply}
@@ -13,13 +12,13 @@ use Rattle.sf_engine.specs.declared.event.Happened.{Happened}
 use Rattle.sf_engine.specs.declared.event.Happened.TheVariants as happened
 use Rattle.sf_engine.specs.declared.event.EngineFault.{EngineFault}
 use Rattle.sf_engine.specs.Worlds.{ByCall, Phase, Resting, UnderWay, Decided, Gone, Told, World, with_told, is_here, is_here_in}
-use Rattle.sf_engine.specs.Traces.{has_begun, IsSession, TakesBytes, TurnLeads, RestLeads, StepLeads, with_answer, left_if_closed, calls_begun}
+use Rattle.sf_engine.specs.Traces.{has_begun, IsSession, TakesBytes, LeadsBy, TurnLeads, RestLeads, StepLeads, with_answer, left_if_closed, calls_begun}
 use Rattle.sf_engine.specs.Views.{EngineView}
 use Rattle.sf_engine.specs.Fits.{GoesOnTrace}
 use Rattle.sf_line.specs.declared.line_call.LineCall.{LineCall}
-use Rattle.sf_serving.specs.Serving.{Scene, scene, IsFront, IsLow, IsLowAt, Progress, progress, Serves, IsInStep, GoesOn, HasTurn, IsIdle}
+use Rattle.sf_serving.specs.Serving.{Scene, scene, MayBegin, may_begin_after, IsFront, IsLow, IsLowAt, Progress, progress, Serves, IsInStep, GoesOn, GoesOnBy, HasTurnBy, IsIdle, Turns}
 use Rattle.sf_serving.proofs.Causes.{not_closed}
-use Rattle.sf_serving.proofs.Following.{Follows, Leading, go_on, same_told}
+use Rattle.sf_serving.proofs.Following.{Follows, Leading, Timing, go_on, same_told}
 
 -- what a turn may do to what is told of a session that takes bytes
 pub record Turned (t t' : Told) : Type 0 where
@@ -32,7 +31,7 @@ pub record Turned (t t' : Told) : Type 0 where
 abbrev pub ComesTo : Happened → Told → Told → Type 0
 ComesTo happened.Idle t t' = (t' ≡ t) × (t'.phase ≡ Resting) × IsCut t'.unread cut.More
 ComesTo (happened.Ended cause) t t' = (t'.phase ≡ Gone cause) × EndsBy (has_begun t.bodies) t.unread cause
-ComesTo _ t t' = TakesBytes t'
+ComesTo r t t' = TakesBytes t' × MayBegin (may_begin_after r) t'.phase
 
 same_front : {A : Type 0} (a b : List A) → b ≡ a → IsFront a b
 same_front a b e = ([], e ∙ sym (append-nil a))
@@ -48,6 +47,10 @@ turned_same t t' e = record {
 takes_same : (t t' : Told) → t' ≡ t → TakesBytes t → TakesBytes t'
 takes_same t t' e takes = subst (λ (z : Told). TakesBytes z) (sym e) takes
 
+-- a session that doesn't rest
+busy_now : (t' u : Told) → t' ≡ u → MayBegin false u.phase → MayBegin false t'.phase
+busy_now t' u e busy = subst (λ (z : Told). MayBegin false z.phase) (sym e) busy
+
 rest_turned : (w : World) (s m : ℕ) (t : Told) (r : Happened) (added : List Record) (t' : Told) → t.phase ≡ Resting → TakesBytes t → RestLeads w s m t r added t' → Turned t t' × ComesTo r t t'
 rest_turned w s m t happened.Idle added t' rests takes g =
     (turned_same t t' g.2, (g.2, ap (λ (z : Told). z.phase) g.2 ∙ rests, subst (λ (z : Told). IsCut z.unread cut.More) (sym g.2) g.0))
@@ -58,7 +61,7 @@ rest_turned w s m t happened.Wrote added t' rests takes g = (
     bodies = (g.0.body ∷ [], ap (λ (z : Told). z.bodies) g.0.now);
     answers = (g.0.answer ∷ [], ap (λ (z : Told). z.answers) g.0.now);
   },
-  (ap (λ (z : Told). z.closed) g.0.now ∙ takes.0, ap (λ (z : Told). is_here z) g.0.now),
+  ((ap (λ (z : Told). z.closed) g.0.now ∙ takes.0, ap (λ (z : Told). is_here z) g.0.now), tt),
 )
 rest_turned w s m t happened.Begun added t' rests takes g = (
   record {
@@ -67,7 +70,7 @@ rest_turned w s m t happened.Begun added t' rests takes g = (
     bodies = (g.0.body ∷ [], ap (λ (z : Told). z.bodies) g.0.now);
     answers = same_front t.answers t'.answers (ap (λ (z : Told). z.answers) g.0.now);
   },
-  (ap (λ (z : Told). z.closed) g.0.now ∙ takes.0, ap (λ (z : Told). is_here z) g.0.now),
+  ((ap (λ (z : Told). z.closed) g.0.now ∙ takes.0, ap (λ (z : Told). is_here z) g.0.now), busy_now t' _ g.0.now tt),
 )
 rest_turned w s m t (happened.Ended cause) added t' rests takes g = (
   record {
@@ -86,42 +89,42 @@ rest_turned w s m t happened.Decided added t' rests takes g = absurd g
 rest_turned w s m t happened.Closed added t' rests takes g = absurd g
 rest_turned w s m t happened.Sent added t' rests takes g = absurd g
 
-step_turned : (w : World) (s : ℕ) (t : Told) (id n k : ℕ) (q : Request) (moves : ℕ) (r : Happened) (added : List Record) (t' : Told) → TakesBytes t → StepLeads w s t id n k q moves r added t'
+step_turned : (w : World) (s : ℕ) (t : Told) (id n k : ℕ) (q : Request) (moves : ℕ) (r : Happened) (added : List Record) (t' : Told) → TakesBytes t → MayBegin false t.phase → StepLeads w s t id n k q moves r added t'
     → Turned t t' × ComesTo r t t'
-step_turned w s t id n k q moves happened.Moved added t' takes g = (
+step_turned w s t id n k q moves happened.Moved added t' takes busy g = (
   record {
     stream = ap (λ (z : Told). z.stream) g.2;
     sent = ap (λ (z : Told). z.sent) g.2;
     bodies = same_front t.bodies t'.bodies (ap (λ (z : Told). z.bodies) g.2);
     answers = same_front t.answers t'.answers (ap (λ (z : Told). z.answers) g.2);
   },
-  (ap (λ (z : Told). z.closed) g.2 ∙ takes.0, ap (λ (z : Told). is_here z) g.2),
+  ((ap (λ (z : Told). z.closed) g.2 ∙ takes.0, ap (λ (z : Told). is_here z) g.2), busy_now t' _ g.2 tt),
 )
-step_turned w s t id n k q moves (happened.Blocked holder) added t' takes g = (turned_same t t' g.2, takes_same t t' g.2 takes)
-step_turned w s t id n k q moves happened.Decided added t' takes g = (
+step_turned w s t id n k q moves (happened.Blocked holder) added t' takes busy g = (turned_same t t' g.2, (takes_same t t' g.2 takes, busy_now t' t g.2 busy))
+step_turned w s t id n k q moves happened.Decided added t' takes busy g = (
   record {
     stream = ap (λ (z : Told). z.stream) g.2;
     sent = ap (λ (z : Told). z.sent) g.2;
     bodies = same_front t.bodies t'.bodies (ap (λ (z : Told). z.bodies) g.2);
     answers = same_front t.answers t'.answers (ap (λ (z : Told). z.answers) g.2);
   },
-  (ap (λ (z : Told). z.closed) g.2 ∙ takes.0, ap (λ (z : Told). is_here z) g.2),
+  ((ap (λ (z : Told). z.closed) g.2 ∙ takes.0, ap (λ (z : Told). is_here z) g.2), busy_now t' _ g.2 tt),
 )
-step_turned w s t id n k q moves (happened.Opened z) added t' takes g = absurd g
-step_turned w s t id n k q moves happened.Fed added t' takes g = absurd g
-step_turned w s t id n k q moves happened.Wrote added t' takes g = absurd g
-step_turned w s t id n k q moves happened.Begun added t' takes g = absurd g
-step_turned w s t id n k q moves happened.Idle added t' takes g = absurd g
-step_turned w s t id n k q moves (happened.Ended z) added t' takes g = absurd g
-step_turned w s t id n k q moves happened.Closed added t' takes g = absurd g
-step_turned w s t id n k q moves happened.Sent added t' takes g = absurd g
+step_turned w s t id n k q moves (happened.Opened z) added t' takes busy g = absurd g
+step_turned w s t id n k q moves happened.Fed added t' takes busy g = absurd g
+step_turned w s t id n k q moves happened.Wrote added t' takes busy g = absurd g
+step_turned w s t id n k q moves happened.Begun added t' takes busy g = absurd g
+step_turned w s t id n k q moves happened.Idle added t' takes busy g = absurd g
+step_turned w s t id n k q moves (happened.Ended z) added t' takes busy g = absurd g
+step_turned w s t id n k q moves happened.Closed added t' takes busy g = absurd g
+step_turned w s t id n k q moves happened.Sent added t' takes busy g = absurd g
 
 -- a reply was written
 wrote_turned : (t : Told) (id n : ℕ) (q : Request) (given : Reply) (r : Happened) (t' : Told) → TakesBytes t → r ≡ happened.Wrote → t' ≡ left_if_closed t.closed (with_answer t (ByCall id n q given))
     → Turned t t' × ComesTo r t t'
 wrote_turned t id n q given r t' takes is now =
     let e : t' ≡ with_answer t (ByCall id n q given) = now ∙ ap (λ (c : Bool). left_if_closed c (with_answer t (ByCall id n q given))) takes.0 in
-    let came : ComesTo happened.Wrote t t' = (ap (λ (z : Told). z.closed) e ∙ takes.0, ap (λ (z : Told). is_here z) e) in (
+    let came : ComesTo happened.Wrote t t' = ((ap (λ (z : Told). z.closed) e ∙ takes.0, ap (λ (z : Told). is_here z) e), tt) in (
       record {
         stream = ap (λ (z : Told). z.stream) e;
         sent = ap (λ (z : Told). z.sent) e;
@@ -134,7 +137,8 @@ wrote_turned t id n q given r t' takes is now =
 turned_by : (w : World) (s m : ℕ) (t : Told) (f : Phase) (r : Happened) (added : List Record) (t' : Told) → t.phase ≡ f → TakesBytes t → TurnLeads w s m t f r added t'
     → Turned t t' × ComesTo r t t'
 turned_by w s m t Resting r added t' at takes g = rest_turned w s m t r added t' at takes g
-turned_by w s m t (UnderWay id n k q moves) r added t' at takes g = step_turned w s t id n k q moves r added t' takes g
+turned_by w s m t (UnderWay id n k q moves) r added t' at takes g =
+    step_turned w s t id n k q moves r added t' takes (subst (λ (f : Phase). MayBegin false f) (sym at) tt) g
 turned_by w s m t (Decided id n q given) r added t' at takes g = wrote_turned t id n q given r t' takes g.0 g.2
 turned_by w s m t (Gone cause) r added t' at takes g =
     let here : is_here_in (Gone cause) ≡ true = subst (λ (f : Phase). is_here_in f ≡ true) at takes.1 in absurd (let no : false ≡ true = here in cc)
@@ -189,35 +193,58 @@ turn_leads s m t unfed (Err f) takes w w' added session leads =
 abbrev pub TurnedTo : ℕ → Result Happened EngineFault → Progress → Type 0
 TurnedTo s (Ok happened.Idle) p = IsIdle s p
 TurnedTo s (Ok (happened.Ended cause)) p = IsInStep s p × (p.unfed ≡ []) × (p.told.phase ≡ Gone cause) × (cause ≢ Closed)
-TurnedTo s r p = GoesOn s p
+TurnedTo s (Ok r) p = GoesOnBy s (may_begin_after r) p
+TurnedTo s (Err f) p = GoesOn s p
 
 turned_to : (s : ℕ) (r : Result Happened EngineFault) (p p' : Progress) → GoesOn s p → IsInStep s p' → p'.unfed ≡ [] → TurnComesTo r p.told p'.told → TurnedTo s r p'
 turned_to s (Err f) p p' on step fed to = record { in_step = step; fed = fed; takes = takes_same p.told p'.told to on.takes }
 turned_to s (Ok happened.Idle) p p' on step fed to = (record { in_step = step; fed = fed; takes = takes_same p.told p'.told to.0 on.takes }, to.1, to.2)
 turned_to s (Ok (happened.Ended cause)) p p' on step fed to = (step, fed, to.0, λ e. not_closed (has_begun p.told.bodies) p.told.unread cause e to.1)
-turned_to s (Ok (happened.Opened n)) p p' on step fed to = record { in_step = step; fed = fed; takes = to }
-turned_to s (Ok happened.Fed) p p' on step fed to = record { in_step = step; fed = fed; takes = to }
-turned_to s (Ok happened.Moved) p p' on step fed to = record { in_step = step; fed = fed; takes = to }
-turned_to s (Ok (happened.Blocked n)) p p' on step fed to = record { in_step = step; fed = fed; takes = to }
-turned_to s (Ok happened.Decided) p p' on step fed to = record { in_step = step; fed = fed; takes = to }
-turned_to s (Ok happened.Wrote) p p' on step fed to = record { in_step = step; fed = fed; takes = to }
-turned_to s (Ok happened.Begun) p p' on step fed to = record { in_step = step; fed = fed; takes = to }
-turned_to s (Ok happened.Closed) p p' on step fed to = record { in_step = step; fed = fed; takes = to }
-turned_to s (Ok happened.Sent) p p' on step fed to = record { in_step = step; fed = fed; takes = to }
+turned_to s (Ok (happened.Opened n)) p p' on step fed to = (record { in_step = step; fed = fed; takes = to.0 }, to.1)
+turned_to s (Ok happened.Fed) p p' on step fed to = (record { in_step = step; fed = fed; takes = to.0 }, to.1)
+turned_to s (Ok happened.Moved) p p' on step fed to = (record { in_step = step; fed = fed; takes = to.0 }, to.1)
+turned_to s (Ok (happened.Blocked n)) p p' on step fed to = (record { in_step = step; fed = fed; takes = to.0 }, to.1)
+turned_to s (Ok happened.Decided) p p' on step fed to = (record { in_step = step; fed = fed; takes = to.0 }, to.1)
+turned_to s (Ok happened.Wrote) p p' on step fed to = (record { in_step = step; fed = fed; takes = to.0 }, to.1)
+turned_to s (Ok happened.Begun) p p' on step fed to = (record { in_step = step; fed = fed; takes = to.0 }, to.1)
+turned_to s (Ok happened.Closed) p p' on step fed to = (record { in_step = step; fed = fed; takes = to.0 }, to.1)
+turned_to s (Ok happened.Sent) p p' on step fed to = (record { in_step = step; fed = fed; takes = to.0 }, to.1)
+
+-- a session that doesn't rest begins no call
+begins_none : (w : World) (s m : ℕ) (t : Told) (f : Phase) (r : Happened) (added : List Record) (t' : Told) → MayBegin false f → TurnLeads w s m t f r added t' → r ≢ happened.Begun
+begins_none w s m t Resting r added t' busy g e = busy
+begins_none w s m t (UnderWay id n k q moves) r added t' busy g e = subst (λ (x : Happened). StepLeads w s t id n k q moves x added t') e g
+begins_none w s m t (Decided id n q given) r added t' busy g e = let no : happened.Wrote ≡ happened.Begun = sym g.0 ∙ e in cc
+begins_none w s m t (Gone cause) r added t' busy g e = let no : happened.Ended cause ≡ happened.Begun = sym g.0 ∙ e in cc
+
+turn_begins_none : (s m : ℕ) (t : Told) (r : Result Happened EngineFault) (w w' : World) (added : List Record) → MayBegin false t.phase → IsSession w s t → LeadsBy w (event.Turn s m) r added w' → r ≢ Ok happened.Begun
+turn_begins_none s m t (Ok r) w w' added busy session leads e =
+    let same : leads.0 ≡ t = same_told w s leads.0 t leads.2 session in
+    let L : Told → Type 0 = λ z. TurnLeads w s m z z.phase r added leads.1 in
+    let begun : r ≡ happened.Begun = cc in
+    begins_none w s m t t.phase r added leads.1 busy (subst L same leads.3) begun
+turn_begins_none s m t (Err f) w w' added busy session leads e = cc
+
+-- a turn at a moment that the clock told, or where no call begins
+turn_timed : (s m : ℕ) (t : Told) (r : Result Happened EngineFault) (begin : Bool) (moments : List ℕ) → MayBegin begin t.phase → (moments ≡ m ∷ []) ⊎ ((moments ≡ []) × (begin ≡ false)) → Timing s t (event.Turn s m) r moments
+turn_timed s m t r begin moments may (inl told) w w' added session leads = inl told
+turn_timed s m t r begin moments may (inr none) w w' added session leads =
+    inr (none.0, turn_begins_none s m t r w w' added (subst (λ (b : Bool). MayBegin b t.phase) none.1 may) session leads)
 
 -- one turn
-pub turned_serves : (start : Scene) (incoming outgoing : Option (List ℕ)) (calls : Option (List LineCall)) (told told' : Option (List ℕ)) (e e' : EngineView) (s m : ℕ) (r : Result Happened EngineFault)
-    → Serves start (scene incoming outgoing calls told e) (HasTurn s) → GoesOnTrace e (event.Turn s m) r e' → Appends told told' (m ∷ [])
+pub turned_serves : (start : Scene) (incoming outgoing : Option (List ℕ)) (calls : Option (List LineCall)) (told told' : Option (List ℕ)) (e e' : EngineView) (s : ℕ) (begin : Bool) (r : Result Happened EngineFault)
+    → Serves start (scene incoming outgoing calls told e) (HasTurnBy s begin) → Turns e s begin r e' told told'
     → Serves start (scene incoming outgoing calls told' e') (TurnedTo s r)
-turned_serves start incoming outgoing calls told told' e e' s m r serves goes appends trace fits =
+turned_serves start incoming outgoing calls told told' e e' s begin r serves turns trace fits =
     let h = serves trace fits in
     let p = h.0 in
-    let on = h.2.0 in
-    let mine : GoesOnTrace e (event.Turn p.session m) r e' = subst (λ (k : ℕ). GoesOnTrace e (event.Turn k m) r e') (sym on.in_step.0) goes in
+    let on = h.2.0.0 in
+    let m = turns.0 in
+    let mine : GoesOnTrace e (event.Turn p.session m) r e' = subst (λ (k : ℕ). GoesOnTrace e (event.Turn k m) r e') (sym on.in_step.0) turns.2 in
     let low : (w : World) → IsSession w p.session p.told → IsLowAt w p.session (event.Turn p.session m) =
-    λ w is t other. subst (λ (z : Told). IsLow z) (same_told w p.session p.told t is other) h.2.1 in
-    let g = go_on start (scene incoming outgoing calls told e) told' e' trace fits p (event.Turn p.session m) r (λ t' unfed'. After r p.told p.unfed t' unfed') h.1 mine refl appends low
-    (turn_leads p.session m p.told p.unfed r on.takes) in
+    λ w is t other. subst (λ (z : Told). IsLow z) (same_told w p.session p.told t is other) h.2.0.1 in
+    let g = go_on start (scene incoming outgoing calls told e) told' e' trace fits p (event.Turn p.session m) r (λ t' unfed'. After r p.told p.unfed t' unfed') turns.1 h.1 mine refl turns.3
+    (turn_timed p.session m p.told r begin turns.1 h.2.1 turns.4) low (turn_leads p.session m p.told p.unfed r on.takes) in
     let after = g.3 in (
       progress p.session g.0 g.1 p.written,
       g.2,

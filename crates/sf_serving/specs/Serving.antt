@@ -1,7 +1,7 @@
 -- How far one session on a line was served.
-use Rattle.std.specs.Prelude.{◌≡◌, ◌≢◌, ◌<◌, ◌≤◌, ◌⊎◌, ℕ, List, [], ◌∷◌, ◌++◌, length, Option, Some, None, Result, Ok}
+use Rattle.std.specs.Prelude.{◌≡◌, ◌≢◌, ◌<◌, ◌≤◌, ◌⊎◌, ℕ, List, [], ◌∷◌, ◌++◌, length, Bool, true, false, Option, Some, None, Result, Ok}
 use Rattle.std.specs.Global.{Vec}
-use Rattle.std.specs.List.{flat_map, AllByRecursion}
+use Rattle.std.specs.List.{AllByRecursion}
 use Rattle.std.specs.Io.KnownBytes.{Appends, Consumes, IsAtEnd}
 use Rattle.sf_wire.specs.declared.cutting.Cut.TheVariants as cut
 use Rattle.sf_wire.specs.Packets.{IsCut, More, Cuts}
@@ -19,7 +19,7 @@ use Rattle.sf_engine.specs.declared.event.Happened.{Happened}
 use Rattle.sf_engine.specs.declared.event.Happened.TheVariants as happened
 use Rattle.sf_engine.specs.declared.event.EngineFault.{EngineFault}
 use Rattle.sf_engine.specs.declared.event.EngineFault.TheVariants as refused
-use Rattle.sf_engine.specs.Worlds.{Entry, Answered, Resting, Told, World, transcript, output_of, here}
+use Rattle.sf_engine.specs.Worlds.{Entry, Answered, Phase, Resting, UnderWay, Decided, Gone, Told, World, transcript, output_of, here}
 use Rattle.sf_engine.specs.Traces.{IsSession, Leads, TakesBytes, TakesNone}
 use Rattle.sf_engine.specs.Views.{EngineView}
 use Rattle.sf_engine.specs.Fits.{Fits, GoesOnTrace}
@@ -56,8 +56,30 @@ moment_of (event.Turn s moment) = moment ∷ []
 moment_of (event.Close s) = []
 moment_of (event.Sent s n) = []
 
-abbrev pub moments_of : List Entry → List ℕ
-moments_of entries = flat_map (λ e. moment_of e.event) entries
+-- for an event that came to this, the clock told its moment; or it told none, and no call began
+abbrev pub IsTimed : Event → Result Happened EngineFault → List ℕ → Type 0
+IsTimed ev result moments = (moments ≡ moment_of ev) ⊎ ((moments ≡ []) × (result ≢ Ok happened.Begun))
+
+-- The clock told these moments for the entries, in their order: so a call that began has a moment of its own.
+unfoldable pub AreTimed : List Entry → List ℕ → Type 0
+AreTimed [] moments = moments ≡ []
+AreTimed (e ∷ entries) moments = (now : List ℕ) × (later : List ℕ) × (moments ≡ now ++ later) × IsTimed e.event e.result now × AreTimed entries later
+
+-- A session's next turn may begin a call, or it may not: then the session doesn't rest.
+abbrev pub MayBegin : Bool → Phase → Type 0
+MayBegin true f = Unit {0}
+MayBegin false Resting = ⊥
+MayBegin false (UnderWay id number moment request moves) = Unit {0}
+MayBegin false (Decided id number request reply) = Unit {0}
+MayBegin false (Gone cause) = Unit {0}
+
+-- so it is after a turn that came to this
+abbrev pub may_begin_after : Happened → Bool
+may_begin_after happened.Begun = false
+may_begin_after happened.Moved = false
+may_begin_after (happened.Blocked holder) = false
+may_begin_after happened.Decided = false
+may_begin_after _ = true
 
 -- less than 64 KiB wait to be sent
 abbrev pub IsLow : Told → Type 0
@@ -107,7 +129,7 @@ abbrev pub IsPrompt : Progress → List LineCall → Type 0
 IsPrompt p calls = (before later : List LineCall) (n : ℕ) → calls ≡ before ++ Read n ∷ later → IsPromptAt p before
 
 -- Since the engine fitted this trace, a session was served so. Each entry since then is the session's, and before its turns
--- less than 64 KiB waited; it was fed what was read since the start, but what is not fed yet; its turns were at the moments
+-- less than 64 KiB waited; it was fed what was read since the start, but what is not fed yet; its calls began at the moments
 -- that were told; and what was written since then is the beginning of its transcript, and was written promptly.
 pub record Served (start now : Scene) (trace : List Entry) (fits : Fits start.engine trace) (p : Progress) : Type 0 where
   pub entries : List Entry
@@ -118,7 +140,9 @@ pub record Served (start now : Scene) (trace : List Entry) (fits : Fits start.en
   pub read : Consumes start.incoming now.incoming (p.told.stream ++ p.unfed)
   pub wrote : Appends start.outgoing now.outgoing p.written
   pub begun : IsFront p.written (transcript p.told.answers)
-  pub moments : Appends start.told now.told (moments_of entries)
+  pub moments : List ℕ
+  pub timed : AreTimed entries moments
+  pub clock : Appends start.told now.told moments
   pub log : List LineCall
   pub logged : Logs start.calls now.calls log
   pub gave : given log ≡ length (p.told.stream ++ p.unfed)
@@ -139,8 +163,14 @@ pub record GoesOn (session : ℕ) (p : Progress) : Type 0 where
   pub fed : p.unfed ≡ []
   pub takes : TakesBytes p.told
 
+abbrev pub GoesOnBy : ℕ → Bool → Progress → Type 0
+GoesOnBy session may_begin p = GoesOn session p × MayBegin may_begin p.told.phase
+
 abbrev pub HasTurn : ℕ → Progress → Type 0
 HasTurn session p = GoesOn session p × IsLow p.told
+
+abbrev pub HasTurnBy : ℕ → Bool → Progress → Type 0
+HasTurnBy session may_begin p = HasTurn session p × MayBegin may_begin p.told.phase
 
 -- no whole packet is unread
 abbrev pub IsIdle : ℕ → Progress → Type 0
@@ -182,6 +212,11 @@ HasStopped f p = (f ≢ fault.Line → HasSentAll p × (p.written ≡ p.told.sen
 -- the session was fed these bytes
 abbrev pub Feeds : EngineView → ℕ → List ℕ → EngineView → Type 0
 Feeds e session bytes e' = (fed : Vec ℕ) × (fed.items ≡ bytes) × (r : Happened) × GoesOnTrace e (event.Feed session fed) (Ok r) e'
+
+-- The session had a turn, at a moment that the clock told, or at any where no call may begin.
+abbrev pub Turns : EngineView → ℕ → Bool → Result Happened EngineFault → EngineView → (told told' : Option (List ℕ)) → Type 0
+Turns e session may_begin result e' told told' = (moment : ℕ) × (moments : List ℕ) × GoesOnTrace e (event.Turn session moment) result e'
+    × Appends told told' moments × ((moments ≡ moment ∷ []) ⊎ ((moments ≡ []) × (may_begin ≡ false)))
 
 -- the event was applied, or refused
 abbrev pub Applies : EngineView → Event → EngineView → Type 0

@@ -1,12 +1,12 @@
 //! Serving one session on a line.
 
-ghost use Rattle.std.specs.Prelude.{◌≡◌, ◌<◌, ◌≤◌, ◌∷◌, ℕ, List, [], length, Option, Result, Ok, IfOk, IfErr, OnOk, OnErr, vec_len};
+ghost use Rattle.std.specs.Prelude.{◌≡◌, ◌<◌, ◌≤◌, ◌∷◌, ℕ, List, [], length, Bool, Option, Result, Ok, IfOk, IfErr, OnOk, OnErr, vec_len};
 ghost use Rattle.std.specs.Io.KnownBytes.{Appends};
 ghost use Rattle.sf_line.specs.Lines.{Rose};
 ghost use Rattle.sf_engine.specs.declared.event.Event.TheVariants.{Open};
 ghost use Rattle.sf_engine.specs.declared.event.Happened.TheVariants.{Opened};
 ghost use Rattle.sf_engine.specs.Fits.{GoesOnTrace};
-ghost use Rattle.sf_serving.specs.Serving.{Scene, scene, Serves, GoesOn, HasTurn, Rests, IsDrained, IsRounded, Stops, HasSentFor, HasStopped, Waits, Feeds, Applies, SendsAll, SendsSome, ServesLine, StopsEarly, IsUnchanged, refusal_of, IsOpenFault, IsRoundFault, IsServeFault};
+ghost use Rattle.sf_serving.specs.Serving.{Scene, scene, may_begin_after, Serves, GoesOn, GoesOnBy, HasTurn, HasTurnBy, Turns, Rests, IsDrained, IsRounded, Stops, HasSentFor, HasStopped, Waits, Feeds, Applies, SendsAll, SendsSome, ServesLine, StopsEarly, IsUnchanged, refusal_of, IsOpenFault, IsRoundFault, IsServeFault};
 
 use sf_engine::{Engine, EngineFault, Event, Happened};
 use sf_line::{Line, LineFault, write_all};
@@ -59,13 +59,30 @@ fn feed(alloc: Global, engine: &mut Engine, session: u64, bytes: &[u8]) -> Resul
     Ok(())
 }
 
-/// One turn of the session, at the clock's next moment.
-fn turn<C: Clock>(engine: &mut Engine, clock: &mut C, session: u64) -> Result<Happened, EngineFault>
-    ensures { (moment : ℕ) × GoesOnTrace engine.old (Event.Turn session moment) result engine.new
-        × Appends (C.told clock.old) (C.told clock.new) (moment ∷ []) }
+/// One turn of the session. Where no call may begin, its moment has no effect, and the clock isn't asked.
+fn turn<C: Clock>(
+    engine: &mut Engine,
+    clock: &mut C,
+    session: u64,
+    may_begin: bool,
+) -> Result<Happened, EngineFault>
+    ensures { Turns engine.old session may_begin result engine.new (C.told clock.old) (C.told clock.new) }
 {
+    if !may_begin {
+        return engine.apply(&Event::Turn(session, 0));
+    }
     let moment = clock.now();
     engine.apply(&Event::Turn(session, moment))
+}
+
+/// Whether the session's next turn may begin a call.
+fn may_begin_after(happened: Happened) -> bool
+    ensures { result ≡ may_begin_after happened }
+{
+    match happened {
+        Happened::Begun | Happened::Moved | Happened::Blocked(_) | Happened::Decided => false,
+        _ => true,
+    }
 }
 
 /// The session is closed.
@@ -112,9 +129,9 @@ fn send<L: Line>(engine: &mut Engine, line: &mut L, session: u64) -> Result<(), 
 
 /// Sends what waits, once it is much.
 fn send_batch<L: Line>(engine: &mut Engine, line: &mut L, session: u64) -> Result<(), LineFault>
-    ensures low { OnOk result ((start : Scene) (told : Option (List ℕ))
-        → Serves start (scene (L.incoming line.old) (L.outgoing line.old) (L.calls line.old) told engine.old) (GoesOn session)
-        → Serves start (scene (L.incoming line.new) (L.outgoing line.new) (L.calls line.new) told engine.new) (HasTurn session)) }
+    ensures low { OnOk result ((start : Scene) (told : Option (List ℕ)) (may_begin : Bool)
+        → Serves start (scene (L.incoming line.old) (L.outgoing line.old) (L.calls line.old) told engine.old) (GoesOnBy session may_begin)
+        → Serves start (scene (L.incoming line.new) (L.outgoing line.new) (L.calls line.new) told engine.new) (HasTurnBy session may_begin)) }
     ensures stops { OnErr result ((start : Scene) (told : Option (List ℕ))
         → Serves start (scene (L.incoming line.old) (L.outgoing line.old) (L.calls line.old) told engine.old) (GoesOn session)
         → Serves start (scene (L.incoming line.new) (L.outgoing line.new) (L.calls line.new) told engine.new) (Stops session ServeFault.Line)) }
@@ -143,8 +160,9 @@ fn drain<L: Line, C: Clock>(
     ensures failures { L.failed line.old ≤ L.failed line.new }
     ensures fault { IfErr result (λ fault. IsRoundFault fault (L.failed line.old) (L.failed line.new)) }
 {
+    let mut may_begin = true;
     for _ in 0..u64::MAX {
-        let happened = match turn(engine, clock, session) {
+        let happened = match turn(engine, clock, session, may_begin) {
             Ok(happened) => happened,
             Err(_) => return Err(ServeFault::OutOfMemory),
         };
@@ -153,6 +171,7 @@ fn drain<L: Line, C: Clock>(
             Happened::Ended(cause) => return Ok(Some(cause)),
             _ => send_batch(engine, line, session)?,
         }
+        may_begin = may_begin_after(happened);
     }
     Err(ServeFault::NumbersSpent)
 }

@@ -1,18 +1,24 @@
-use Rattle.std.proofs.Common.{Ok, Result, ◌∙◌, ap, subst, arith}
+use Rattle.std.proofs.Common.{Ok, Result, Bool, ◌∙◌, ap, sym, subst, arith}
 use Rattle.sf_session.specs.declared.fault.ServeFault.TheVariants.{Line}
 use Rattle.sf_engine.proofs.Laws.{told_sessions}
 use Rattle.sf_engine.specs.declared.event.Happened.{Happened}
 use Rattle.sf_engine.specs.declared.event.EngineFault.{EngineFault}
-use Rattle.sf_serving.specs.Serving.{scene, Serves, GoesOn}
+use Rattle.sf_serving.specs.Serving.{scene, may_begin_after, Serves, GoesOnBy}
 use Rattle.sf_serving.proofs.Outcomes.{if_err_at, if_ok_none}
 use Rattle.sf_serving.proofs.Turning.{turned_serves, TurnedTo}
-use Rattle.sf_serving.proofs.Rounds.{idle_drained, ended_drained, serves_more, still_goes, refused_goes, goes_stops, turn_stops, rose_since}
+use Rattle.sf_serving.proofs.Rounds.{idle_drained, ended_drained, serves_more, still_goes, refused_goes, goes_stops, may_turn, goes_by, turn_stops, rose_since}
 use Rattle.sf_serving.proofs.serving.drain.Goals as goal
+
+pub loop-init : goal.loop-init
+loop-init g c = record {
+  serves = λ start serves. may_turn start _ c.args.session serves;
+  failures = omega arith;
+}
 
 pub returns-in-Idle-clause-drained : goal.returns-in-Idle-clause-drained
 returns-in-Idle-clause-drained g c = λ start serves.
     let turned = turned_serves start (g.L.Line.incoming c.loop.line) (g.L.Line.outgoing c.loop.line) (g.L.Line.calls c.loop.line) (g.C.Clock.told c.loop.clock) (g.C.Clock.told c.turn.new.clock)
-    c.loop.engine c.turn.new.engine c.args.session c.turn.ensures.0 c.turn.result (c.loop.invariant.serves start serves) c.turn.ensures.1 c.turn.ensures.2 in
+    c.loop.engine c.turn.new.engine c.args.session c.loop.may_begin c.turn.result (c.loop.invariant.serves start serves) c.turn.ensures in
     let now = scene (g.L.Line.incoming c.loop.line) (g.L.Line.outgoing c.loop.line) (g.L.Line.calls c.loop.line) (g.C.Clock.told c.turn.new.clock) c.turn.new.engine in
     let P : Result Happened EngineFault → Type 0 = λ r. Serves start now (TurnedTo c.args.session r) in
     idle_drained start now c.args.session (subst P (c.in-Ok.is ∙ ap (λ (h : Happened). Ok h) c.in-Idle.is) turned)
@@ -20,7 +26,7 @@ returns-in-Idle-clause-drained g c = λ start serves.
 pub returns-in-Ended-clause-drained : goal.returns-in-Ended-clause-drained
 returns-in-Ended-clause-drained g c = λ start serves.
     let turned = turned_serves start (g.L.Line.incoming c.loop.line) (g.L.Line.outgoing c.loop.line) (g.L.Line.calls c.loop.line) (g.C.Clock.told c.loop.clock) (g.C.Clock.told c.turn.new.clock)
-    c.loop.engine c.turn.new.engine c.args.session c.turn.ensures.0 c.turn.result (c.loop.invariant.serves start serves) c.turn.ensures.1 c.turn.ensures.2 in
+    c.loop.engine c.turn.new.engine c.args.session c.loop.may_begin c.turn.result (c.loop.invariant.serves start serves) c.turn.ensures in
     let now = scene (g.L.Line.incoming c.loop.line) (g.L.Line.outgoing c.loop.line) (g.L.Line.calls c.loop.line) (g.C.Clock.told c.turn.new.clock) c.turn.new.engine in
     let P : Result Happened EngineFault → Type 0 = λ r. Serves start now (TurnedTo c.args.session r) in
     ended_drained told_sessions start now c.args.session c.in-Ended.cause (subst P (c.in-Ok.is ∙ ap (λ (h : Happened). Ok h) c.in-Ended.is) turned)
@@ -28,7 +34,7 @@ returns-in-Ended-clause-drained g c = λ start serves.
 pub returns-in-Err-clause-stops : goal.returns-in-Err-clause-stops
 returns-in-Err-clause-stops g c = λ start serves.
     let turned = turned_serves start (g.L.Line.incoming c.loop.line) (g.L.Line.outgoing c.loop.line) (g.L.Line.calls c.loop.line) (g.C.Clock.told c.loop.clock) (g.C.Clock.told c.turn.new.clock)
-    c.loop.engine c.turn.new.engine c.args.session c.turn.ensures.0 c.turn.result (c.loop.invariant.serves start serves) c.turn.ensures.1 c.turn.ensures.2 in
+    c.loop.engine c.turn.new.engine c.args.session c.loop.may_begin c.turn.result (c.loop.invariant.serves start serves) c.turn.ensures in
     let now = scene (g.L.Line.incoming c.loop.line) (g.L.Line.outgoing c.loop.line) (g.L.Line.calls c.loop.line) (g.C.Clock.told c.turn.new.clock) c.turn.new.engine in
     let P : Result Happened EngineFault → Type 0 = λ r. Serves start now (TurnedTo c.args.session r) in
     goes_stops start now c.args.session _ (refused_goes start now c.args.session c.in-Err.field-0 (subst P c.in-Err.is turned))
@@ -41,12 +47,12 @@ returns-in_err-send_batch-in_default g c =
       stops = if_err_at c.from_residual.result Line _ c.from_residual.ensures.1
           (λ start serves.
           let turned = turned_serves start (g.L.Line.incoming c.loop.line) (g.L.Line.outgoing c.loop.line) (g.L.Line.calls c.loop.line) (g.C.Clock.told c.loop.clock) (g.C.Clock.told c.turn.new.clock)
-          c.loop.engine c.turn.new.engine c.args.session c.turn.ensures.0 c.turn.result (c.loop.invariant.serves start serves) c.turn.ensures.1 c.turn.ensures.2 in
+          c.loop.engine c.turn.new.engine c.args.session c.loop.may_begin c.turn.result (c.loop.invariant.serves start serves) c.turn.ensures in
           let now = scene (g.L.Line.incoming c.loop.line) (g.L.Line.outgoing c.loop.line) (g.L.Line.calls c.loop.line) (g.C.Clock.told c.turn.new.clock) c.turn.new.engine in
           let P : Result Happened EngineFault → Type 0 = λ r. Serves start now (TurnedTo c.args.session r) in
-          let goes = serves_more start now (TurnedTo c.args.session (Ok c.in-Ok.happened)) (GoesOn c.args.session)
+          let goes = serves_more start now (TurnedTo c.args.session (Ok c.in-Ok.happened)) (GoesOnBy c.args.session (may_begin_after c.in-Ok.happened))
           (λ p h. still_goes c.args.session c.in-Ok.happened p c.in_default.not-Idle c.in_default.not-Ended h) (subst P c.in-Ok.is turned) in
-          sent.stops start (g.C.Clock.told c.turn.new.clock) goes);
+          sent.stops start (g.C.Clock.told c.turn.new.clock) (goes_by start now c.args.session _ goes));
       failures = omega (arith, c.loop.invariant.failures, sent.failures);
       fault = if_err_at c.from_residual.result Line _ c.from_residual.ensures.1 (rose_since _ _ _ c.loop.invariant.failures sent.failures sent.fault);
     }
@@ -55,14 +61,15 @@ pub loop-preserved : goal.loop-preserved
 loop-preserved g c = record {
   serves = λ start serves.
       let turned = turned_serves start (g.L.Line.incoming c.loop.line) (g.L.Line.outgoing c.loop.line) (g.L.Line.calls c.loop.line) (g.C.Clock.told c.loop.clock) (g.C.Clock.told c.turn.new.clock)
-      c.loop.engine c.turn.new.engine c.args.session c.turn.ensures.0 c.turn.result (c.loop.invariant.serves start serves) c.turn.ensures.1 c.turn.ensures.2 in
+      c.loop.engine c.turn.new.engine c.args.session c.loop.may_begin c.turn.result (c.loop.invariant.serves start serves) c.turn.ensures in
       let now = scene (g.L.Line.incoming c.loop.line) (g.L.Line.outgoing c.loop.line) (g.L.Line.calls c.loop.line) (g.C.Clock.told c.turn.new.clock) c.turn.new.engine in
       let P : Result Happened EngineFault → Type 0 = λ r. Serves start now (TurnedTo c.args.session r) in
-      let goes = serves_more start now (TurnedTo c.args.session (Ok c.in-Ok.happened)) (GoesOn c.args.session)
+      let goes = serves_more start now (TurnedTo c.args.session (Ok c.in-Ok.happened)) (GoesOnBy c.args.session (may_begin_after c.in-Ok.happened))
       (λ p h. still_goes c.args.session c.in-Ok.happened p c.in_default.not-Idle c.in_default.not-Ended h) (subst P c.in-Ok.is turned) in
-      c.in_ok-send_batch-in_default.ensures.low start (g.C.Clock.told c.turn.new.clock) goes;
+      let G : Bool → Type 0 = λ b. Serves start now (GoesOnBy c.args.session b) in
+      c.in_ok-send_batch-in_default.ensures.low start (g.C.Clock.told c.turn.new.clock) c.may_begin_after-may_begin.result (subst G (sym c.may_begin_after-may_begin.ensures) goes);
   failures = omega (arith, c.loop.invariant.failures, c.in_ok-send_batch-in_default.ensures.failures);
 }
 
 pub returns-clause-stops : goal.returns-clause-stops
-returns-clause-stops g c = λ start serves. turn_stops start _ c.args.session _ (c.loop.invariant.serves start serves)
+returns-clause-stops g c = λ start serves. turn_stops start _ c.args.session _ _ (c.loop.invariant.serves start serves)
