@@ -35,8 +35,8 @@ pub enum Stage {
         /// The directory's number in the store.
         node: usize,
     },
-    /// A rename where its paths have parted: it holds the last directory that they have in common, and
-    /// one on the way of each.
+    /// A rename where its paths have parted: it holds the last directory that they have in common,
+    /// and one on the way of each.
     Ends {
         common: Reached,
         old: Reached,
