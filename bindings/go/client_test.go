@@ -1,0 +1,229 @@
+package lucernetick
+
+import (
+	"bytes"
+	"errors"
+	"io"
+	"os"
+	"reflect"
+	"sort"
+	"sync"
+	"testing"
+	"time"
+
+	"github.com/pkg/sftp"
+)
+
+// connect gives a client on the engine, which ends with the test.
+func connect(t *testing.T, engine *Engine, clock Clock) *sftp.Client {
+	t.Helper()
+	conn, err := engine.Connect(clock)
+	must(t, err)
+	client, err := sftp.NewClientPipe(conn, conn)
+	must(t, err)
+	t.Cleanup(func() { client.Close() })
+	return client
+}
+
+func newEngine(t *testing.T) *Engine {
+	t.Helper()
+	engine, err := New(1)
+	must(t, err)
+	t.Cleanup(engine.Close)
+	return engine
+}
+
+func must(t *testing.T, err error) {
+	t.Helper()
+	if err != nil {
+		t.Fatal(err)
+	}
+}
+
+func same(t *testing.T, got, wanted interface{}) {
+	t.Helper()
+	if !reflect.DeepEqual(got, wanted) {
+		t.Fatalf("wanted %v, got %v", wanted, got)
+	}
+}
+
+func write(t *testing.T, client *sftp.Client, path string, contents []byte) {
+	t.Helper()
+	file, err := client.Create(path)
+	must(t, err)
+	_, err = file.Write(contents)
+	must(t, err)
+	must(t, file.Close())
+}
+
+func read(t *testing.T, client *sftp.Client, path string) []byte {
+	t.Helper()
+	file, err := client.Open(path)
+	must(t, err)
+	defer file.Close()
+	contents, err := io.ReadAll(file)
+	must(t, err)
+	return contents
+}
+
+func TestWriteAndRead(t *testing.T) {
+	engine := newEngine(t)
+	client := connect(t, engine, WallClock)
+	contents := bytes.Repeat([]byte("0123456789abcdef"), 100000)
+	write(t, client, "/f", contents)
+	same(t, bytes.Equal(read(t, client, "/f"), contents), true)
+	found, err := engine.Snapshot()
+	must(t, err)
+	same(t, bytes.Equal(found["/f"].Contents, contents), true)
+}
+
+func TestList(t *testing.T) {
+	client := connect(t, newEngine(t), WallClock)
+	must(t, client.Mkdir("/d"))
+	wanted := map[string]int64{}
+	for count := 0; count < 40; count++ {
+		name := string(rune('A' + count))
+		write(t, client, "/d/"+name, make([]byte, count))
+		wanted[name] = int64(count)
+	}
+	entries, err := client.ReadDir("/d")
+	must(t, err)
+	found := map[string]int64{}
+	for _, entry := range entries {
+		found[entry.Name()] = entry.Size()
+	}
+	same(t, found, wanted)
+}
+
+func TestRename(t *testing.T) {
+	client := connect(t, newEngine(t), WallClock)
+	must(t, client.Mkdir("/d"))
+	write(t, client, "/f", []byte("1"))
+	must(t, client.Rename("/f", "/d/g"))
+	must(t, client.PosixRename("/d", "/e"))
+	_, err := client.Stat("/f")
+	same(t, errors.Is(err, os.ErrNotExist), true)
+	same(t, read(t, client, "/e/g"), []byte("1"))
+}
+
+func TestTwoSessionsOnOneTree(t *testing.T) {
+	engine := newEngine(t)
+	first, second := connect(t, engine, WallClock), connect(t, engine, WallClock)
+	write(t, first, "/f", []byte("from the first"))
+	same(t, read(t, second, "/f"), []byte("from the first"))
+	must(t, second.Remove("/f"))
+	_, err := first.Stat("/f")
+	same(t, errors.Is(err, os.ErrNotExist), true)
+}
+
+func TestTimesAreVirtual(t *testing.T) {
+	engine := newEngine(t)
+	clock := &VirtualTime{}
+	client := connect(t, engine, clock.Now)
+	clock.Set(1700000000)
+	must(t, client.Mkdir("/d"))
+	info, err := client.Stat("/d")
+	must(t, err)
+	same(t, info.ModTime().Unix(), int64(1700000000))
+	clock.Set(7)
+	write(t, client, "/d/f", []byte("1"))
+	info, err = client.Stat("/d/f")
+	must(t, err)
+	same(t, info.ModTime().Unix(), int64(7))
+	found, err := engine.Snapshot()
+	must(t, err)
+	same(t, []uint32{found["/"].Mtime, found["/d"].Mtime, found["/d"].Atime}, []uint32{1700000000, 7, 1700000000})
+}
+
+func TestAConnWaitsForACallThatIsHeld(t *testing.T) {
+	engine := newEngine(t)
+	held := open(t, engine, makes)
+	for _, wanted := range []Turn{Wrote, Begun, Moved} {
+		turn, err := held.Turn(100)
+		must(t, err)
+		same(t, turn, wanted)
+	}
+	_, err := engine.Snapshot()
+	same(t, errors.Is(err, ErrBlocked), true)
+	client := connect(t, engine, WallClock)
+	told := make(chan error, 1)
+	go func() {
+		_, err := client.Stat("/a")
+		told <- err
+	}()
+	select {
+	case err := <-told:
+		t.Fatalf("answered %v before the other call", err)
+	case <-time.After(200 * time.Millisecond):
+	}
+	_, err = held.Settle(100, 1000)
+	must(t, err)
+	must(t, <-told)
+}
+
+func TestManyClientsAtOnce(t *testing.T) {
+	engine := newEngine(t)
+	var group sync.WaitGroup
+	for _, name := range []string{"/a", "/b", "/c", "/d", "/e", "/f"} {
+		client := connect(t, engine, WallClock)
+		group.Add(1)
+		go func(name string) {
+			defer group.Done()
+			if err := client.Mkdir(name); err != nil {
+				t.Error(err)
+			}
+			for count := 0; count < 20; count++ {
+				file, err := client.Create(name + "/" + string(rune('a'+count)))
+				if err != nil {
+					t.Error(err)
+					return
+				}
+				file.Close()
+			}
+		}(name)
+	}
+	group.Wait()
+	found, err := engine.Snapshot()
+	must(t, err)
+	same(t, len(found), 1+6+120)
+}
+
+func TestAClosedConn(t *testing.T) {
+	conn, err := newEngine(t).Connect(WallClock)
+	must(t, err)
+	must(t, conn.Close())
+	must(t, conn.Close())
+	_, err = conn.Write([]byte("x"))
+	same(t, err, io.ErrClosedPipe)
+	_, err = conn.Read(make([]byte, 1))
+	same(t, err, io.EOF)
+}
+
+func TestFilesAtTheStart(t *testing.T) {
+	long := bytes.Repeat([]byte("x"), 300000)
+	engine, err := FromFiles(map[string][]byte{"/a/b": []byte("one"), "c": {}, "/a/deep/er": long, "/e": nil}, 77)
+	must(t, err)
+	defer engine.Close()
+	client := connect(t, engine, WallClock)
+	same(t, read(t, client, "/a/b"), []byte("one"))
+	found, err := engine.Snapshot()
+	must(t, err)
+	paths := []string{}
+	for path, entry := range found {
+		paths = append(paths, path)
+		same(t, entry.Mtime, uint32(77))
+	}
+	sort.Strings(paths)
+	same(t, paths, []string{"/", "/a", "/a/b", "/a/deep", "/a/deep/er", "/c", "/e"})
+	same(t, found["/a/deep/er"].Contents, long)
+	same(t, found["/c"].Contents, []byte{})
+	same(t, []bool{found["/e"].IsDir(), found["/c"].IsDir()}, []bool{true, false})
+	same(t, []uint32{found["/e"].Mode, found["/c"].Mode}, []uint32{0o40755, 0o100644})
+}
+
+func TestAPathThatIsRefused(t *testing.T) {
+	err := newEngine(t).WriteFiles(map[string][]byte{"a\x00b": {}}, 0)
+	var status *Status
+	same(t, errors.As(err, &status), true)
+	same(t, []interface{}{status.Code, status.Message}, []interface{}{uint32(4), "Failure"})
+}

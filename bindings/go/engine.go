@@ -1,0 +1,250 @@
+// Package lucernetick is a whole SFTP server, version 3, inside a test: its tree is in memory, and its
+// clock is the test's.
+//
+// An Engine asks no clock and starts no goroutine: sessions are fed bytes, are given turns, and have the
+// bytes that their clients are to be sent. The same calls give the same bytes each time. A Conn is a
+// session for a client, as sftp.NewClientPipe of github.com/pkg/sftp takes it.
+package lucernetick
+
+/*
+#cgo CFLAGS: -I${SRCDIR}/../../include
+#cgo LDFLAGS: ${SRCDIR}/../../out/liblucernetick.a
+#include "lucernetick.h"
+*/
+import "C"
+
+import (
+	"fmt"
+	"sync"
+	"unsafe"
+)
+
+// A Refusal is why a call was refused. A refused call has changed nothing, and may be made again.
+type Refusal int64
+
+// The refusals.
+const (
+	OutOfMemory   Refusal = C.LT_OUT_OF_MEMORY
+	NoSuchSession Refusal = C.LT_NO_SUCH_SESSION
+	TooMany       Refusal = C.LT_SESSIONS // 256 sessions are open
+	HasEnded      Refusal = C.LT_HAS_ENDED
+	NumbersSpent  Refusal = C.LT_NUMBERS_SPENT
+	NotSent       Refusal = C.LT_NOT_SENT    // fewer bytes wait to be sent
+	EngineClosed  Refusal = C.LT_BAD_POINTER // the engine was closed
+)
+
+func (refusal Refusal) Error() string {
+	switch refusal {
+	case OutOfMemory:
+		return "lucernetick: out of memory"
+	case NoSuchSession:
+		return "lucernetick: no session of this number was ever opened"
+	case TooMany:
+		return "lucernetick: 256 sessions are open"
+	case HasEnded:
+		return "lucernetick: the session has ended, and takes no more bytes"
+	case NumbersSpent:
+		return "lucernetick: all session numbers are spent"
+	case NotSent:
+		return "lucernetick: fewer bytes wait to be sent"
+	case EngineClosed:
+		return "lucernetick: the engine was closed"
+	}
+	return fmt.Sprintf("lucernetick: refused by %d", int64(refusal))
+}
+
+// A Turn is what a turn did, or why the session has ended.
+type Turn int64
+
+// What turns do. Those from NotInit on are endings.
+const (
+	Idle       Turn = C.LT_IDLE    // nothing: no whole packet is unread
+	Wrote      Turn = C.LT_WROTE   // it wrote a reply, which the output has
+	Begun      Turn = C.LT_BEGUN   // it read a request, whose call begins at this turn's moment
+	Moved      Turn = C.LT_MOVED   // the call made a step on its way
+	Blocked    Turn = C.LT_BLOCKED // the call of another session has to go on first
+	Decided    Turn = C.LT_DECIDED // the call is decided: the next turn writes its reply
+	Spent      Turn = C.LT_SPENT   // by Settle alone: all its turns were made, and the session goes on
+	NotInit    Turn = C.LT_ENDED + C.LT_NOT_INIT
+	OldVersion Turn = C.LT_ENDED + C.LT_OLD_VERSION
+	SecondInit Turn = C.LT_ENDED + C.LT_SECOND_INIT
+	ZeroLength Turn = C.LT_ENDED + C.LT_ZERO_LENGTH
+	TooLong    Turn = C.LT_ENDED + C.LT_TOO_LONG
+	NoID       Turn = C.LT_ENDED + C.LT_NO_ID
+	Closed     Turn = C.LT_ENDED + C.LT_CLOSED
+)
+
+// HasEnded tells whether the session has ended.
+func (turn Turn) HasEnded() bool { return turn > C.LT_ENDED }
+
+// An Engine is one tree of files, and any sessions on it. Goroutines may share it: one call is made at a
+// time.
+type Engine struct {
+	lock    sync.Mutex
+	moved   *sync.Cond // told when a session did something, was fed, or was closed
+	pointer *C.lt_engine
+}
+
+// New makes an engine whose tree is the root alone. It keeps the records of its last keep calls, or of all
+// of them where keep is 0: this takes memory, and changes no answer. Close frees it.
+func New(keep uint64) (*Engine, error) {
+	pointer := C.lt_new(C.uint64_t(keep))
+	if pointer == nil {
+		return nil, OutOfMemory
+	}
+	engine := &Engine{pointer: pointer}
+	engine.moved = sync.NewCond(&engine.lock)
+	return engine, nil
+}
+
+// Close frees the engine. Further calls on it and its sessions are refused.
+func (engine *Engine) Close() {
+	engine.lock.Lock()
+	defer engine.lock.Unlock()
+	C.lt_free(engine.pointer)
+	engine.pointer = nil
+	engine.moved.Broadcast()
+}
+
+// Open opens a session. At most 256 are open at a time.
+func (engine *Engine) Open() (*Session, error) {
+	engine.lock.Lock()
+	defer engine.lock.Unlock()
+	number, err := checked(C.lt_open(engine.pointer))
+	if err != nil {
+		return nil, err
+	}
+	return &Session{engine, C.uint64_t(number)}, nil
+}
+
+// A Session is one client's session with an engine.
+type Session struct {
+	engine *Engine
+	number C.uint64_t
+}
+
+// Number is 1 for an engine's first session, then 2, 3 and so on.
+func (session *Session) Number() uint64 { return uint64(session.number) }
+
+// Feed appends bytes that the client sent to those that the session hasn't read. They may be cut anywhere.
+func (session *Session) Feed(data []byte) error {
+	session.engine.lock.Lock()
+	defer session.engine.lock.Unlock()
+	return session.feed(data)
+}
+
+// Turn does one thing: it writes an answer, makes one step of the session's call, or reads a packet. A
+// call that begins has moment as its time, in seconds since 1970.
+func (session *Session) Turn(moment uint32) (Turn, error) {
+	session.engine.lock.Lock()
+	defer session.engine.lock.Unlock()
+	engine := session.engine
+	return engine.told(C.lt_turn(engine.pointer, session.number, C.uint32_t(moment)))
+}
+
+// Settle turns until the session is idle or blocked or has ended, most turns at most.
+func (session *Session) Settle(moment uint32, most uint64) (Turn, error) {
+	session.engine.lock.Lock()
+	defer session.engine.lock.Unlock()
+	return session.settle(moment, most)
+}
+
+// Output copies the bytes that wait to be sent to the client.
+func (session *Session) Output() ([]byte, error) {
+	session.engine.lock.Lock()
+	defer session.engine.lock.Unlock()
+	waiting, err := session.waiting()
+	if err != nil {
+		return nil, err
+	}
+	data := make([]byte, waiting)
+	_, err = session.look(data)
+	return data, err
+}
+
+// Sent tells that the first count bytes that waited were sent: they are dropped.
+func (session *Session) Sent(count int) error {
+	session.engine.lock.Lock()
+	defer session.engine.lock.Unlock()
+	return session.sent(count)
+}
+
+// Close ends the session's input. A call that is under way goes on to its reply by further turns.
+func (session *Session) Close() error {
+	session.engine.lock.Lock()
+	defer session.engine.lock.Unlock()
+	return session.close()
+}
+
+// What follows is called with the engine's lock held.
+
+func (session *Session) feed(data []byte) error {
+	_, err := checked(C.lt_feed(session.engine.pointer, session.number, start(data), C.size_t(len(data))))
+	return err
+}
+
+// settle makes the first turn apart, since a session that does nothing mustn't wake those that wait.
+func (session *Session) settle(moment uint32, most uint64) (Turn, error) {
+	first := most
+	if first > 1 {
+		first = 1
+	}
+	turn, err := session.settled(moment, first)
+	if err != nil || turn != Spent || most <= 1 {
+		return turn, err
+	}
+	return session.settled(moment, most-1)
+}
+
+func (session *Session) settled(moment uint32, most uint64) (Turn, error) {
+	engine := session.engine
+	answer := C.lt_settle(engine.pointer, session.number, C.uint32_t(moment), C.uint64_t(most))
+	return engine.told(answer)
+}
+
+func (session *Session) waiting() (int, error) { return session.look(nil) }
+
+// look copies the first bytes that wait, and tells how many wait.
+func (session *Session) look(room []byte) (int, error) {
+	answer := C.lt_output(session.engine.pointer, session.number, start(room), C.size_t(len(room)))
+	waiting, err := checked(answer)
+	return int(waiting), err
+}
+
+func (session *Session) sent(count int) error {
+	if count < 0 {
+		return NotSent
+	}
+	_, err := checked(C.lt_sent(session.engine.pointer, session.number, C.size_t(count)))
+	return err
+}
+
+func (session *Session) close() error {
+	_, err := checked(C.lt_close(session.engine.pointer, session.number))
+	session.engine.moved.Broadcast()
+	return err
+}
+
+// told is a turn by the library's answer. Where something was done, sessions that were blocked are told.
+func (engine *Engine) told(answer C.int64_t) (Turn, error) {
+	number, err := checked(answer)
+	turn := Turn(number)
+	if err == nil && turn != Idle && turn != Blocked {
+		engine.moved.Broadcast()
+	}
+	return turn, err
+}
+
+func checked(answer C.int64_t) (int64, error) {
+	if answer < 0 {
+		return 0, Refusal(answer)
+	}
+	return int64(answer), nil
+}
+
+func start(data []byte) *C.uint8_t {
+	if len(data) == 0 {
+		return nil
+	}
+	return (*C.uint8_t)(unsafe.Pointer(&data[0]))
+}

@@ -1,0 +1,3 @@
+module lucernetick
+
+go 1.19

@@ -1,0 +1,219 @@
+"""An engine and its sessions: bytes and moments in, bytes out."""
+
+from __future__ import annotations
+
+import ctypes
+import enum
+import threading
+from typing import Optional
+
+from ._faults import Refusal, Refused
+from ._library import library
+from ._tree import Entry, Files, read_tree, write_tree
+
+ROOM = 65536
+
+
+class Turn(enum.IntEnum):
+    """What a turn did, or why the session has ended."""
+
+    IDLE = 0
+    """Nothing: no whole packet is unread."""
+    WROTE = 1
+    """It wrote a reply, which the output has."""
+    BEGUN = 2
+    """It read a request, whose call begins at this turn's moment."""
+    MOVED = 3
+    """The call made a step on its way."""
+    BLOCKED = 4
+    """The call of another session holds what the call wants: that one has to go on first."""
+    DECIDED = 5
+    """The call is decided: the next turn writes its reply."""
+    SPENT = 6
+    """By `settle` alone: all its turns were made, and the session goes on."""
+    NOT_INIT = 17
+    """Ended: its first packet isn't INIT."""
+    OLD_VERSION = 18
+    """Ended: its client has a version below 3."""
+    SECOND_INIT = 19
+    """Ended: a later packet is INIT."""
+    ZERO_LENGTH = 20
+    """Ended: a packet of length 0."""
+    TOO_LONG = 21
+    """Ended: a packet of a length above 262144."""
+    NO_ID = 22
+    """Ended: a packet that ends before its id."""
+    CLOSED = 23
+    """Ended: it was closed."""
+
+    @property
+    def has_ended(self) -> bool:
+        return self > Turn.SPENT
+
+
+def checked(answer: int) -> int:
+    """An answer of the library; a refusal is raised."""
+    if answer < 0:
+        raise Refused(Refusal(answer))
+    return answer
+
+
+class Engine:
+    """One tree of files, and any sessions on it. It asks no clock and starts no thread.
+
+    The same calls give the same bytes each time. Threads may share an engine: one call is made at a time.
+    """
+
+    def __init__(self, keep: int = 1) -> None:
+        """An engine whose tree is the root alone. It keeps the records of its last `keep` calls, or of all
+        of them where `keep` is 0: this takes memory, and changes no answer."""
+        self.lock = threading.RLock()
+        self.moved = threading.Condition(self.lock)
+        """Told when a session did something, so that one that was blocked may try again."""
+        self._engine: Optional[int] = library.lt_new(unsigned(keep))
+        if not self._engine:
+            raise Refused(Refusal.OUT_OF_MEMORY)
+        self._room = ctypes.create_string_buffer(ROOM)
+
+    @classmethod
+    def from_files(cls, files: Files, *, moment: int = 0, keep: int = 1) -> Engine:
+        """An engine whose tree has these files, as by `write_files`."""
+        engine = cls(keep)
+        try:
+            engine.write_files(files, moment=moment)
+        except BaseException:
+            engine.close()
+            raise
+        return engine
+
+    def write_files(self, files: Files, *, moment: int = 0) -> None:
+        """Makes or replaces these files, by requests of a session of its own at this moment.
+
+        Keys are paths, values contents, or None for a directory. Directories on the way are made where
+        they are missing. Text is encoded as UTF-8.
+        """
+        write_tree(self, files, moment)
+
+    def snapshot(self) -> dict[str, Entry]:
+        """The whole tree by paths, `/` first, in the order of their bytes, read by requests of a session of
+        its own. Names that aren't UTF-8 are decoded as `os.fsdecode` does. Raises `Blocked` where a call of
+        another session is under way and holds a directory."""
+        return read_tree(self)
+
+    def open(self) -> Session:
+        """Opens a session. At most 256 are open at a time."""
+        with self.lock:
+            return Session(self, checked(library.lt_open(self._engine)))
+
+    def close(self) -> None:
+        """Frees the engine. Further calls on it and its sessions are refused."""
+        with self.moved:
+            engine, self._engine = self._engine, None
+            library.lt_free(engine)
+            self.moved.notify_all()
+
+    def __enter__(self) -> Engine:
+        return self
+
+    def __exit__(self, *_fault: object) -> None:
+        self.close()
+
+    def __del__(self) -> None:
+        if getattr(self, "_engine", None):
+            self.close()
+
+    def _feed(self, session: int, data: bytes) -> None:
+        with self.lock:
+            checked(library.lt_feed(self._engine, session, data, len(data)))
+
+    def _turn(self, session: int, moment: int) -> Turn:
+        with self.moved:
+            return self._told(library.lt_turn(self._engine, session, moment))
+
+    def _settle(self, session: int, moment: int, most: int) -> Turn:
+        """The first turn apart, since a session that does nothing mustn't wake those that wait."""
+        with self.moved:
+            turn = self._told(library.lt_settle(self._engine, session, moment, min(most, 1)))
+            if turn == Turn.SPENT and most > 1:
+                turn = self._told(library.lt_settle(self._engine, session, moment, most - 1))
+            return turn
+
+    def _told(self, answer: int) -> Turn:
+        """A turn by the library's answer. Where something was done, sessions that were blocked are told."""
+        turn = Turn(checked(answer))
+        if turn not in (Turn.IDLE, Turn.BLOCKED):
+            self.moved.notify_all()
+        return turn
+
+    def _close(self, session: int) -> None:
+        with self.moved:
+            checked(library.lt_close(self._engine, session))
+            self.moved.notify_all()
+
+    def _output(self, session: int) -> bytes:
+        with self.lock:
+            waiting = checked(library.lt_output(self._engine, session, self._room, len(self._room)))
+            if waiting > len(self._room):
+                self._room = ctypes.create_string_buffer(waiting)
+                library.lt_output(self._engine, session, self._room, waiting)
+            return ctypes.string_at(self._room, waiting)
+
+    def _sent(self, session: int, count: int) -> None:
+        with self.lock:
+            checked(library.lt_sent(self._engine, session, count))
+
+
+class Session:
+    """One client's session with an engine."""
+
+    def __init__(self, engine: Engine, number: int) -> None:
+        self.engine = engine
+        self.number = number
+
+    def __repr__(self) -> str:
+        return f"<lucernetick session {self.number}>"
+
+    def feed(self, data: bytes) -> None:
+        """Appends bytes that its client sent to those that it hasn't read. They may be cut anywhere."""
+        self.engine._feed(self.number, bytes(data))
+
+    def turn(self, moment: int) -> Turn:
+        """Does one thing: writes an answer, makes one step of its call, or reads a packet. A call that
+        begins has `moment` as its time, in seconds since 1970."""
+        return self.engine._turn(self.number, seconds(moment))
+
+    def settle(self, moment: int, most: int = 1_000_000) -> Turn:
+        """Turns until one is idle or blocked or the session has ended, `most` at most."""
+        return self.engine._settle(self.number, seconds(moment), unsigned(most))
+
+    def output(self) -> bytes:
+        """The bytes that wait to be sent to its client."""
+        return self.engine._output(self.number)
+
+    def sent(self, count: int) -> None:
+        """The first `count` bytes that waited were sent: they are dropped."""
+        self.engine._sent(self.number, unsigned(count))
+
+    def take(self) -> bytes:
+        """The bytes that wait to be sent, which are dropped at once."""
+        with self.engine.lock:
+            waiting = self.output()
+            self.sent(len(waiting))
+            return waiting
+
+    def close(self) -> None:
+        """Its input ends. A call that is under way goes on to its reply by further turns."""
+        self.engine._close(self.number)
+
+
+def seconds(moment: int) -> int:
+    """A time as the protocol has it. ctypes would cut another one to its lowest bits."""
+    if not 0 <= moment < 2**32:
+        raise ValueError(f"{moment} is no time of this protocol: 0 to {2**32 - 1}")
+    return moment
+
+
+def unsigned(count: int) -> int:
+    if not 0 <= count < 2**63:
+        raise ValueError(f"{count} is no count")
+    return count

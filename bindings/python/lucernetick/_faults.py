@@ -1,0 +1,56 @@
+"""What can go wrong, by the words of the library."""
+
+import enum
+
+
+class Fault(Exception):
+    """Whatever this package raises of its own."""
+
+
+class Refusal(enum.IntEnum):
+    """Why a call was refused. A refused call has changed nothing, and may be made again."""
+
+    OUT_OF_MEMORY = -1
+    NO_SUCH_SESSION = -2
+    SESSIONS = -3
+    HAS_ENDED = -4
+    NUMBERS_SPENT = -5
+    NOT_SENT = -6
+    BAD_POINTER = -7
+
+
+WORDS = {
+    Refusal.OUT_OF_MEMORY: "out of memory",
+    Refusal.NO_SUCH_SESSION: "no session of this number was ever opened",
+    Refusal.SESSIONS: "256 sessions are open",
+    Refusal.HAS_ENDED: "the session has ended, and takes no more bytes",
+    Refusal.NUMBERS_SPENT: "all session numbers are spent",
+    Refusal.NOT_SENT: "fewer bytes wait to be sent",
+    Refusal.BAD_POINTER: "the engine was closed",
+}
+
+
+class Refused(Fault):
+    """The engine refused a call."""
+
+    def __init__(self, refusal: Refusal) -> None:
+        super().__init__(WORDS[refusal])
+        self.refusal = refusal
+
+
+class Status(Fault):
+    """A request of `write_files` or `snapshot` was answered by a status other than OK."""
+
+    def __init__(self, code: int, message: str, request: str) -> None:
+        super().__init__(f"{request}: {message}")
+        self.code = code
+        self.message = message
+
+
+class Blocked(Fault):
+    """The call of another session, which has yet to take its turns, holds what a request wants. The request
+    stays as it is, in a session that gets no further turn."""
+
+
+class Ended(Fault):
+    """A session ended where a reply was due."""

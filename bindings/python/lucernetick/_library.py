@@ -1,0 +1,57 @@
+"""The shared library, and its functions as include/lucernetick.h declares them."""
+
+import ctypes
+import os
+import pathlib
+from typing import Iterator
+
+NAME = "liblucernetick.so"
+VARIABLE = "LUCERNETICK_LIBRARY"
+
+
+def places() -> Iterator[pathlib.Path]:
+    """Where the library may be: the file that the variable names, in this package, or where `./library`
+    leaves it in the repository that this file belongs to."""
+    named = os.environ.get(VARIABLE)
+    if named:
+        yield pathlib.Path(named)
+        return
+    package = pathlib.Path(__file__).resolve().parent
+    yield package / NAME
+    if len(package.parents) > 2:
+        yield package.parents[2] / "out" / NAME
+
+
+def find() -> pathlib.Path:
+    tried = list(places())
+    for place in tried:
+        if place.is_file():
+            return place
+    told = ", ".join(map(str, tried))
+    raise ImportError(
+        f"{NAME} isn't there (looked for {told}); build it by ./library, or name it by {VARIABLE}"
+    )
+
+
+def load(path: pathlib.Path) -> ctypes.CDLL:
+    library = ctypes.CDLL(str(path))
+    engine, number, size, count = ctypes.c_void_p, ctypes.c_uint64, ctypes.c_size_t, ctypes.c_int64
+    moment, data = ctypes.c_uint32, ctypes.c_char_p
+    for name, answer, words in (
+        ("lt_new", engine, [number]),
+        ("lt_free", None, [engine]),
+        ("lt_open", count, [engine]),
+        ("lt_feed", count, [engine, number, data, size]),
+        ("lt_turn", count, [engine, number, moment]),
+        ("lt_settle", count, [engine, number, moment, number]),
+        ("lt_close", count, [engine, number]),
+        ("lt_output", count, [engine, number, data, size]),
+        ("lt_sent", count, [engine, number, size]),
+    ):
+        function = getattr(library, name)
+        function.restype = answer
+        function.argtypes = words
+    return library
+
+
+library = load(find())

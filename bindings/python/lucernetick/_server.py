@@ -1,0 +1,131 @@
+"""An engine behind connected sockets."""
+
+from __future__ import annotations
+
+import contextlib
+import select
+import socket
+import threading
+from typing import Optional
+
+from ._clock import Clock, wall_clock
+from ._engine import Engine, Session, Turn
+from ._faults import Refused, Refusal
+from ._tree import Entry
+
+PIECE = 65536
+TURNS = 256
+"""How many turns are made before the output goes out."""
+PATIENCE = 5.0
+"""Seconds that a server which is left waits for each of its threads."""
+
+
+class Connection(socket.socket):
+    """The client's end of a connection. It has what `paramiko.SFTPClient` wants of a channel."""
+
+    def get_name(self) -> str:
+        return "lucernetick"
+
+    def recv_ready(self) -> bool:
+        return bool(select.select([self], [], [], 0)[0])
+
+
+class Server:
+    """Serves sessions on one tree, each over a connected socket whose other end a thread has.
+
+        with lucernetick.Server() as server:
+            client = paramiko.SFTPClient(server.connect())
+            client.mkdir("/a")
+
+    Where it is left, its connections are closed, and so is an engine that it made itself.
+    """
+
+    def __init__(self, engine: Optional[Engine] = None, clock: Clock = wall_clock) -> None:
+        """Serves this engine, or a new one. `clock` tells the moment at which each call begins."""
+        self.engine = engine if engine is not None else Engine()
+        self.clock = clock
+        self._owned = engine is None
+        self._connections: list[Connection] = []
+        self._lines: list[socket.socket] = []
+        self._threads: list[threading.Thread] = []
+        self._left = False
+
+    def connect(self) -> Connection:
+        """Opens a session, and gives its client's end. Closing that ends the session; what isn't closed is
+        when the server is left."""
+        session = self.engine.open()
+        ours, theirs = socket.socketpair()
+        thread = threading.Thread(
+            target=self._serve, args=(session, theirs), name=repr(session), daemon=True
+        )
+        connection = Connection(fileno=ours.detach())
+        self._connections.append(connection)
+        self._lines.append(theirs)
+        self._threads.append(thread)
+        thread.start()
+        return connection
+
+    def snapshot(self) -> dict[str, Entry]:
+        """The whole tree now, as `Engine.snapshot`."""
+        return self.engine.snapshot()
+
+    def close(self) -> None:
+        """Ends all connections at both ends, and waits until their threads are done."""
+        with self.engine.moved:
+            self._left = True
+            self.engine.moved.notify_all()
+        for line in self._lines:
+            with contextlib.suppress(OSError):
+                line.shutdown(socket.SHUT_RDWR)
+        for thread in self._threads:
+            thread.join(PATIENCE)
+        for connection in self._connections:
+            connection.close()
+        if self._owned:
+            self.engine.close()
+
+    def __enter__(self) -> Server:
+        return self
+
+    def __exit__(self, *_fault: object) -> None:
+        self.close()
+
+    def _serve(self, session: Session, line: socket.socket) -> None:
+        """Serves a session until its client, it or the engine ends."""
+        try:
+            with line, contextlib.suppress(OSError):
+                self._pump(session, line)
+            self._leave(session)
+        except Refused as refused:
+            if refused.refusal != Refusal.BAD_POINTER:
+                raise
+
+    def _pump(self, session: Session, line: socket.socket) -> None:
+        """Passes bytes on, both ways, until the client or the session ends."""
+        while data := line.recv(PIECE):
+            session.feed(data)
+            if self._settle(session, line).has_ended:
+                return
+
+    def _settle(self, session: Session, line: socket.socket) -> Turn:
+        """Takes the session's turns until it waits for bytes or has ended, and sends what it wrote."""
+        while True:
+            turn = self._turns(session)
+            if output := session.take():
+                line.sendall(output)
+            if turn not in (Turn.SPENT, Turn.BLOCKED) or self._left:
+                return turn
+
+    def _turns(self, session: Session) -> Turn:
+        """Some turns; where the call of another session is in its way, waits until one has moved."""
+        with self.engine.moved:
+            turn = session.settle(self.clock(), TURNS)
+            if turn == Turn.BLOCKED and not session.output() and not self._left:
+                self.engine.moved.wait()
+            return turn
+
+    def _leave(self, session: Session) -> None:
+        """Ends a session whose client has gone; a call of its that is under way is carried out."""
+        session.close()
+        while self._turns(session) in (Turn.SPENT, Turn.BLOCKED) and not self._left:
+            session.take()

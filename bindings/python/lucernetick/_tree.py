@@ -1,0 +1,254 @@
+"""Whole trees, written and read by a session's requests (docs/PROTOCOL.md has the packets)."""
+
+from __future__ import annotations
+
+import stat
+import struct
+from dataclasses import dataclass
+from types import TracebackType
+from typing import TYPE_CHECKING, Iterator, Mapping, Optional, Union
+
+from ._faults import Blocked, Ended, Status
+
+if TYPE_CHECKING:
+    from ._engine import Engine
+
+INIT, OPEN, CLOSE, READ, WRITE = 1, 3, 4, 5, 6
+OPENDIR, READDIR, MKDIR, STAT = 11, 12, 14, 17
+STATUS, HANDLE, DATA, NAME, ATTRS = 101, 102, 103, 104, 105
+TO_READ, TO_WRITE_ANEW = 0x01, 0x02 | 0x08 | 0x10
+OK, EOF, NO_SUCH_FILE = 0, 1, 2
+
+NO_ATTRIBUTES = struct.pack(">I", 0)
+ALL_ATTRIBUTES = struct.Struct(">IQIIIII")
+PIECE = 131072
+
+Files = Union[
+    Mapping[str, Optional[bytes]],
+    Mapping[bytes, Optional[bytes]],
+    Mapping[Union[str, bytes], Optional[bytes]],
+]
+"""Contents by paths; None for a directory."""
+
+
+@dataclass(frozen=True)
+class Entry:
+    """A file or directory of a snapshot."""
+
+    mode: int
+    """The bits of its kind and its permissions, as in `os.stat_result.st_mode`."""
+    uid: int
+    gid: int
+    atime: int
+    """Seconds since 1970, as `mtime`."""
+    mtime: int
+    contents: Optional[bytes]
+    """A file's bytes; None for a directory."""
+
+    @property
+    def is_directory(self) -> bool:
+        return stat.S_ISDIR(self.mode)
+
+    @property
+    def permissions(self) -> int:
+        return stat.S_IMODE(self.mode)
+
+
+@dataclass(frozen=True)
+class Attributes:
+    """What a reply tells of an object."""
+
+    size: int
+    uid: int
+    gid: int
+    mode: int
+    atime: int
+    mtime: int
+
+    @classmethod
+    def read(cls, fields: Fields) -> Attributes:
+        _flags, *values = fields.take(ALL_ATTRIBUTES)
+        return cls(*values)
+
+    def entry(self, contents: Optional[bytes]) -> Entry:
+        return Entry(self.mode, self.uid, self.gid, self.atime, self.mtime, contents)
+
+
+class Fields:
+    """A reply's fields, read one after another."""
+
+    def __init__(self, data: bytes) -> None:
+        self.data = data
+        self.at = 0
+
+    def take(self, form: struct.Struct) -> tuple[int, ...]:
+        values = form.unpack_from(self.data, self.at)
+        self.at += form.size
+        return values
+
+    def number(self) -> int:
+        return self.take(struct.Struct(">I"))[0]
+
+    def string(self) -> bytes:
+        count = self.number()
+        self.at += count
+        return self.data[self.at - count : self.at]
+
+
+def string(data: bytes) -> bytes:
+    return struct.pack(">I", len(data)) + data
+
+
+def packet(kind: int, *fields: bytes) -> bytes:
+    body = bytes([kind]) + b"".join(fields)
+    return string(body)
+
+
+def path_bytes(path: Union[str, bytes]) -> bytes:
+    return path.encode("utf-8", "surrogateescape") if isinstance(path, str) else path
+
+
+def path_text(path: bytes) -> str:
+    return path.decode("utf-8", "surrogateescape")
+
+
+class Requests:
+    """A session of its own, by which requests are made one after another at one moment."""
+
+    def __init__(self, engine: Engine, moment: int) -> None:
+        self.session = engine.open()
+        self.moment = moment
+        self.reply(packet(INIT, struct.pack(">I", 3)), "INIT")
+
+    def __enter__(self) -> Requests:
+        return self
+
+    def __exit__(
+        self,
+        _kind: Optional[type[BaseException]],
+        _fault: Optional[BaseException],
+        _trace: Optional[TracebackType],
+    ) -> None:
+        self.session.close()
+
+    def reply(self, request: bytes, told: str) -> bytes:
+        """The body of the reply to a packet."""
+        self.session.feed(request)
+        turn = self.session.settle(self.moment)
+        reply = self.session.take()
+        if not reply:
+            raise (Ended if turn.has_ended else Blocked)(f"{told}: no reply ({turn.name})")
+        return reply[4:]
+
+    def ask(self, due: int, told: str, kind: int, *fields: bytes) -> Fields:
+        """What follows the id in a reply, which must be of the type that is due."""
+        reply = self.reply(packet(kind, struct.pack(">I", 1), *fields), told)
+        found = Fields(reply[5:])
+        if reply[0] == due:
+            return found
+        code, message = found.number(), found.string()
+        raise Status(code, message.decode(), told)
+
+    def succeed(self, told: str, kind: int, *fields: bytes) -> None:
+        found = self.ask(STATUS, told, kind, *fields)
+        code, message = found.number(), found.string()
+        if code != OK:
+            raise Status(code, message.decode(), told)
+
+    def handle(self, told: str, kind: int, *fields: bytes) -> bytes:
+        """The handle of OPEN or OPENDIR, as a field."""
+        return string(self.ask(HANDLE, told, kind, *fields).string())
+
+    def attributes(self, path: bytes) -> Attributes:
+        told = f"STAT {path_text(path)}"
+        return Attributes.read(self.ask(ATTRS, told, STAT, string(path)))
+
+    def make_directories(self, path: bytes) -> None:
+        """Makes the directory of this path, and those on its way, where they are missing."""
+        parts = [part for part in path.split(b"/") if part]
+        for count in range(1, len(parts) + 1):
+            front = b"/" + b"/".join(parts[:count])
+            if not self.is_directory(front):
+                self.succeed(f"MKDIR {path_text(front)}", MKDIR, string(front), NO_ATTRIBUTES)
+
+    def is_directory(self, path: bytes) -> bool:
+        try:
+            return stat.S_ISDIR(self.attributes(path).mode)
+        except Status as status:
+            if status.code != NO_SUCH_FILE:
+                raise
+            return False
+
+    def write_file(self, path: bytes, contents: bytes) -> None:
+        """Makes a file, or replaces its contents."""
+        name = path_text(path)
+        pflags = struct.pack(">I", TO_WRITE_ANEW)
+        handle = self.handle(f"OPEN {name}", OPEN, string(path), pflags, NO_ATTRIBUTES)
+        for offset in range(0, len(contents), PIECE):
+            piece = string(contents[offset : offset + PIECE])
+            self.succeed(f"WRITE {name}", WRITE, handle, struct.pack(">Q", offset), piece)
+        self.succeed(f"CLOSE {name}", CLOSE, handle)
+
+    def read_file(self, path: bytes, size: int) -> bytes:
+        """A file's contents, of this size."""
+        name = path_text(path)
+        pflags = struct.pack(">I", TO_READ)
+        handle = self.handle(f"OPEN {name}", OPEN, string(path), pflags, NO_ATTRIBUTES)
+        contents = bytearray()
+        while len(contents) < size:
+            place = struct.pack(">QI", len(contents), PIECE)
+            contents += self.ask(DATA, f"READ {name}", READ, handle, place).string()
+        self.succeed(f"CLOSE {name}", CLOSE, handle)
+        return bytes(contents)
+
+    def list_directory(self, path: bytes) -> list[tuple[bytes, Attributes]]:
+        """The names of a directory with what they have, in the order of their bytes."""
+        name = path_text(path)
+        handle = self.handle(f"OPENDIR {name}", OPENDIR, string(path))
+        found: list[tuple[bytes, Attributes]] = []
+        while piece := self.listed(name, handle):
+            found += piece
+        self.succeed(f"CLOSE {name}", CLOSE, handle)
+        return found
+
+    def listed(self, name: str, handle: bytes) -> list[tuple[bytes, Attributes]]:
+        """The next names of a listing; none at its end."""
+        try:
+            fields = self.ask(NAME, f"READDIR {name}", READDIR, handle)
+        except Status as status:
+            if status.code != EOF:
+                raise
+            return []
+        return [self.one_name(fields) for _ in range(fields.number())]
+
+    @staticmethod
+    def one_name(fields: Fields) -> tuple[bytes, Attributes]:
+        filename, _longname = fields.string(), fields.string()
+        return filename, Attributes.read(fields)
+
+    def walk(self, path: bytes, found: Attributes) -> Iterator[tuple[bytes, Entry]]:
+        """The object at a path, and all that is below it."""
+        if not stat.S_ISDIR(found.mode):
+            yield path, found.entry(self.read_file(path, found.size))
+            return
+        yield path, found.entry(None)
+        for name, below in self.list_directory(path):
+            yield from self.walk(path.rstrip(b"/") + b"/" + name, below)
+
+
+def write_tree(engine: Engine, files: Files, moment: int) -> None:
+    with Requests(engine, moment) as requests:
+        for name, contents in files.items():
+            path = path_bytes(name)
+            if contents is None:
+                requests.make_directories(path)
+            else:
+                requests.make_directories(path.rpartition(b"/")[0])
+                requests.write_file(path, contents)
+
+
+def read_tree(engine: Engine) -> dict[str, Entry]:
+    with Requests(engine, 0) as requests:
+        root = requests.attributes(b"/")
+        found = sorted(requests.walk(b"/", root))
+    return {path_text(path): entry for path, entry in found}

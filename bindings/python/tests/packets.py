@@ -1,0 +1,33 @@
+"""The packets of these tests, made and cut (docs/PROTOCOL.md, "Packets")."""
+
+INIT, MKDIR, STAT, STATUS, ATTRS = 1, 14, 17, 101, 105
+OK = 0
+
+
+def u32(value: int) -> bytes:
+    return value.to_bytes(4, "big")
+
+
+def string(data: bytes) -> bytes:
+    return u32(len(data)) + data
+
+
+def packet(kind: int, *fields: bytes) -> bytes:
+    return string(bytes([kind]) + b"".join(fields))
+
+
+def replies(data: bytes) -> list[bytes]:
+    """The bodies of the packets that these bytes are."""
+    found = []
+    while data:
+        count = int.from_bytes(data[:4], "big")
+        assert len(data) >= 4 + count > 4
+        found.append(data[4 : 4 + count])
+        data = data[4 + count :]
+    return found
+
+
+# INIT, and MKDIR of /a under the id 7.
+MAKES = packet(INIT, u32(3)) + packet(MKDIR, u32(7), string(b"/a"), u32(0))
+# INIT, and STAT of /a under the id 8.
+LOOKS = packet(INIT, u32(3)) + packet(STAT, u32(8), string(b"/a"))

@@ -1,0 +1,180 @@
+"""The engine by its own calls: bytes and moments in, bytes out."""
+
+import threading
+
+import pytest
+
+from lucernetick import Blocked, Engine, Refusal, Refused, Session, Turn
+from packets import ATTRS, INIT, LOOKS, MAKES, OK, STAT, STATUS, packet, replies, string, u32
+
+# Whose turns it is. The second session looks at /a before the first one has made it.
+TURNS = (1, 2, 2, 1, 1, 2, 1, 2, 2, 2, 1)
+DID = (
+    Turn.WROTE,
+    Turn.WROTE,
+    Turn.BEGUN,
+    Turn.BEGUN,
+    Turn.MOVED,
+    Turn.BLOCKED,
+    Turn.DECIDED,
+    Turn.MOVED,
+    Turn.DECIDED,
+    Turn.WROTE,
+    Turn.WROTE,
+)
+
+
+def replay() -> tuple[list[Turn], bytes, bytes]:
+    """What the schedule's turns did, and what its two sessions were sent."""
+    with Engine() as engine:
+        first, second = engine.open(), engine.open()
+        first.feed(MAKES)
+        second.feed(LOOKS)
+        did = [(first if number == 1 else second).turn(100) for number in TURNS]
+        return did, first.output(), second.output()
+
+
+def test_a_schedule_gives_the_same_bytes_each_time() -> None:
+    runs = [replay() for _ in range(3)]
+    assert runs[0] == runs[1] == runs[2]
+    did, made, looked = runs[0]
+    assert tuple(did) == DID
+    assert replies(made)[1] == bytes([STATUS]) + u32(7) + u32(OK) + string(b"Success") + string(b"")
+    # The look began before /a was made, and is told of it: size 0, nobody's, 0o755, of the moment 100.
+    directory = u32(15) + bytes(8) + u32(0) + u32(0) + u32(0o40755) + u32(100) + u32(100)
+    assert replies(looked)[1] == bytes([ATTRS]) + u32(8) + directory
+
+
+def test_bytes_may_be_cut_anywhere() -> None:
+    with Engine() as engine:
+        whole, cut = engine.open(), engine.open()
+        whole.feed(MAKES)
+        whole.settle(100)
+        for at in range(len(LOOKS)):
+            cut.feed(LOOKS[at : at + 1])
+            assert cut.settle(100) == Turn.IDLE
+        assert [reply[0] for reply in replies(cut.take())][1:] == [ATTRS]
+
+
+def test_output_waits_until_it_was_sent() -> None:
+    with Engine() as engine:
+        session = engine.open()
+        session.feed(packet(INIT, u32(3)))
+        session.settle(0)
+        waiting = session.output()
+        assert session.output() == waiting != b""
+        session.sent(4)
+        assert session.output() == waiting[4:]
+        with pytest.raises(Refused) as refused:
+            session.sent(len(waiting))
+        assert refused.value.refusal == Refusal.NOT_SENT
+        assert session.take() == waiting[4:]
+        assert session.output() == b""
+
+
+def test_output_above_the_first_room() -> None:
+    contents = bytes(range(256)) * 1000
+    with Engine.from_files({"f": contents}) as engine:
+        assert engine.snapshot()["/f"].contents == contents
+        session = engine.open()
+        session.feed(packet(INIT, u32(3)) + packet(STAT, u32(1), string(b"/f")) * 3000)
+        session.settle(0)
+        assert len(replies(session.take())) == 3001
+
+
+@pytest.mark.parametrize(
+    ("data", "end"),
+    [
+        (packet(STAT, u32(1), string(b"/")), Turn.NOT_INIT),
+        (packet(INIT, u32(2)), Turn.OLD_VERSION),
+        (packet(INIT, u32(3)) * 2, Turn.SECOND_INIT),
+        (u32(0), Turn.ZERO_LENGTH),
+        (u32(262145), Turn.TOO_LONG),
+        (packet(INIT), Turn.NO_ID),
+    ],
+)
+def test_how_sessions_end(data: bytes, end: Turn) -> None:
+    with Engine() as engine:
+        session = engine.open()
+        session.feed(data)
+        assert session.settle(0) == end
+        assert end.has_ended
+        with pytest.raises(Refused) as refused:
+            session.feed(b"more")
+        assert refused.value.refusal == Refusal.HAS_ENDED
+
+
+def test_a_session_that_is_closed_takes_no_more() -> None:
+    with Engine() as engine:
+        session = engine.open()
+        session.close()
+        with pytest.raises(Refused) as refused:
+            session.feed(b"more")
+        assert refused.value.refusal == Refusal.HAS_ENDED
+
+
+def test_the_257th_session_is_refused() -> None:
+    with Engine() as engine:
+        sessions = [engine.open() for _ in range(256)]
+        assert [session.number for session in sessions] == list(range(1, 257))
+        with pytest.raises(Refused) as refused:
+            engine.open()
+        assert refused.value.refusal == Refusal.SESSIONS
+        sessions[0].close()
+        assert engine.open().number == 257
+
+
+def test_a_session_that_never_was() -> None:
+    with Engine() as engine:
+        for action in (lambda s: s.feed(b"x"), lambda s: s.turn(0), Session.output, Session.close):
+            with pytest.raises(Refused) as refused:
+                action(Session(engine, 1))
+            assert refused.value.refusal == Refusal.NO_SUCH_SESSION
+
+
+def test_a_closed_engine_refuses() -> None:
+    engine = Engine()
+    session = engine.open()
+    engine.close()
+    engine.close()
+    for action in (engine.open, session.output, engine.snapshot):
+        with pytest.raises(Refused) as refused:
+            action()
+        assert refused.value.refusal == Refusal.BAD_POINTER
+
+
+def test_numbers_that_the_protocol_does_not_have() -> None:
+    with Engine() as engine:
+        session = engine.open()
+        for moment in (-1, 2**32):
+            with pytest.raises(ValueError):
+                session.turn(moment)
+            with pytest.raises(ValueError):
+                session.settle(moment)
+        with pytest.raises(ValueError):
+            session.sent(-1)
+
+
+def test_a_snapshot_does_not_wait_for_a_call_under_way() -> None:
+    with Engine() as engine:
+        session = engine.open()
+        session.feed(MAKES)
+        did = [session.turn(100) for _ in range(3)]
+        assert did == [Turn.WROTE, Turn.BEGUN, Turn.MOVED]
+        with pytest.raises(Blocked):
+            engine.snapshot()
+        assert session.settle(100) == Turn.IDLE
+        assert list(engine.snapshot()) == ["/", "/a"]
+
+
+def test_threads_share_an_engine() -> None:
+    with Engine() as engine:
+        threads = [
+            threading.Thread(target=engine.write_files, args=({f"/{name}/{k}": b"" for k in range(50)},))
+            for name in "abcd"
+        ]
+        for thread in threads:
+            thread.start()
+        for thread in threads:
+            thread.join()
+        assert len(engine.snapshot()) == 1 + 4 + 200

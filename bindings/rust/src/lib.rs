@@ -1,0 +1,136 @@
+//! A whole SFTP server, version 3, inside a test: its tree is in memory, and its clock is the
+//! test's.
+//!
+//! An [`Engine`] asks no clock and starts no thread: sessions are fed bytes, are given turns, and
+//! have the bytes that their clients are to be sent. The same calls give the same bytes each time.
+//!
+//! ```no_run
+//! use lucernetick::Engine;
+//!
+//! let mut engine = Engine::from_files([("/a/b", "contents")], 100)?;
+//! let session = engine.open()?;
+//! engine.feed(session, b"\0\0\0\x05\x01\0\0\0\x03")?;
+//! engine.settle(session, 100, 1000)?;
+//! assert_eq!(engine.take(session)?.len(), 42);
+//! assert_eq!(engine.snapshot()?["/a/b".as_bytes()].contents.as_deref(), Some(&b"contents"[..]));
+//! # Ok::<(), lucernetick::Fault>(())
+//! ```
+
+mod fault;
+mod packets;
+mod sys;
+mod tree;
+mod turn;
+
+pub use fault::{Fault, Refusal};
+pub use tree::{Entry, Snapshot};
+pub use turn::{Ending, Turn};
+
+use std::ptr::NonNull;
+
+/// One tree of files, and any sessions on it.
+pub struct Engine {
+    pointer: NonNull<sys::Engine>,
+}
+
+// SAFETY: the library takes calls on an engine by any thread that it was handed to, one at a time,
+// which `&mut self` sees to.
+unsafe impl Send for Engine {}
+
+/// The number of a session of an engine: 1 for its first one, then 2, 3 and so on.
+#[derive(Clone, Copy, Debug, PartialEq, Eq, PartialOrd, Ord, Hash)]
+pub struct Session(pub u64);
+
+impl Engine {
+    /// An engine whose tree is the root alone. It keeps the records of its last `keep` calls, or of
+    /// all of them where `keep` is 0: this takes memory, and changes no answer.
+    pub fn new(keep: u64) -> Result<Self, Refusal> {
+        // SAFETY: a number is all that it takes.
+        let pointer = unsafe { sys::lt_new(keep) };
+        match NonNull::new(pointer) {
+            Some(pointer) => Ok(Self { pointer }),
+            None => Err(Refusal::OutOfMemory),
+        }
+    }
+
+    /// Opens a session. At most 256 are open at a time.
+    pub fn open(&mut self) -> Result<Session, Refusal> {
+        // SAFETY: the pointer is an engine's, which `drop` alone frees.
+        let answer = unsafe { sys::lt_open(self.pointer.as_ptr()) };
+        checked(answer).map(Session)
+    }
+
+    /// Appends bytes that its client sent to those that the session hasn't read. They may be cut
+    /// anywhere.
+    pub fn feed(&mut self, session: Session, bytes: &[u8]) -> Result<(), Refusal> {
+        // SAFETY: as above, and a slice has as many bytes as its length says.
+        let answer =
+            unsafe { sys::lt_feed(self.pointer.as_ptr(), session.0, bytes.as_ptr(), bytes.len()) };
+        checked(answer).map(drop)
+    }
+
+    /// Does one thing: writes an answer, makes one step of the session's call, or reads a packet. A
+    /// call that begins has `moment` as its time, in seconds since 1970.
+    pub fn turn(&mut self, session: Session, moment: u32) -> Result<Turn, Refusal> {
+        // SAFETY: the pointer is an engine's, which `drop` alone frees.
+        let answer = unsafe { sys::lt_turn(self.pointer.as_ptr(), session.0, moment) };
+        checked(answer).map(Turn::of_number)
+    }
+
+    /// Turns until the session is idle or blocked or has ended, `most` turns at most.
+    pub fn settle(&mut self, session: Session, moment: u32, most: u64) -> Result<Turn, Refusal> {
+        // SAFETY: the pointer is an engine's, which `drop` alone frees.
+        let answer = unsafe { sys::lt_settle(self.pointer.as_ptr(), session.0, moment, most) };
+        checked(answer).map(Turn::of_number)
+    }
+
+    /// Ends the session's input. A call that is under way goes on to its reply by further turns.
+    pub fn close(&mut self, session: Session) -> Result<(), Refusal> {
+        // SAFETY: the pointer is an engine's, which `drop` alone frees.
+        let answer = unsafe { sys::lt_close(self.pointer.as_ptr(), session.0) };
+        checked(answer).map(drop)
+    }
+
+    /// The bytes that wait to be sent to the session's client.
+    pub fn output(&mut self, session: Session) -> Result<Vec<u8>, Refusal> {
+        let mut room = vec![0; self.look(session, &mut [])?];
+        self.look(session, &mut room)?;
+        Ok(room)
+    }
+
+    /// Copies the first bytes that wait to be sent, as many as there is room for. Answers how many
+    /// wait.
+    pub fn look(&mut self, session: Session, room: &mut [u8]) -> Result<usize, Refusal> {
+        // SAFETY: as above, and a slice has as many bytes as its length says.
+        let answer = unsafe {
+            sys::lt_output(self.pointer.as_ptr(), session.0, room.as_mut_ptr(), room.len())
+        };
+        checked(answer).map(|waiting| waiting as usize)
+    }
+
+    /// The first `count` bytes that waited were sent: they are dropped.
+    pub fn sent(&mut self, session: Session, count: usize) -> Result<(), Refusal> {
+        // SAFETY: the pointer is an engine's, which `drop` alone frees.
+        let answer = unsafe { sys::lt_sent(self.pointer.as_ptr(), session.0, count) };
+        checked(answer).map(drop)
+    }
+
+    /// The bytes that wait to be sent, which are dropped at once.
+    pub fn take(&mut self, session: Session) -> Result<Vec<u8>, Refusal> {
+        let waiting = self.output(session)?;
+        self.sent(session, waiting.len())?;
+        Ok(waiting)
+    }
+}
+
+impl Drop for Engine {
+    fn drop(&mut self) {
+        // SAFETY: the pointer came from `lt_new`, and isn't used again.
+        unsafe { sys::lt_free(self.pointer.as_ptr()) }
+    }
+}
+
+/// An answer of the library as a number or a refusal.
+fn checked(answer: i64) -> Result<u64, Refusal> {
+    u64::try_from(answer).map_err(|_| Refusal::of_number(answer))
+}

@@ -1,0 +1,112 @@
+/* Lucernetick: a whole SFTP server, version 3, as a library.
+ *
+ * An engine is one tree of files and any sessions on it, without threads, sockets or a clock: a session
+ * is fed the bytes that its client sends, is given turns, and has the bytes that its client is to be
+ * sent. Nothing happens between two calls, so the same calls give the same bytes each time.
+ *
+ *     lt_engine *engine = lt_new(0);
+ *     int64_t session = lt_open(engine);
+ *     lt_feed(engine, session, request, request_length);
+ *     lt_settle(engine, session, moment, 1000);
+ *     int64_t waiting = lt_output(engine, session, room, room_length);
+ *     lt_sent(engine, session, waiting);
+ *     lt_free(engine);
+ *
+ * What a caller owes, which nothing checks:
+ * - A pointer to an engine is NULL, or one that lt_new gave and lt_free wasn't given.
+ * - A pointer to bytes is NULL, or has as many bytes behind it as its length says, to be read by
+ *   lt_feed, and to be written by lt_output. They aren't the engine's, and nobody changes them meanwhile.
+ * - One call at a time for each engine, by one thread: the one that made it, or one that it was handed to.
+ *   Different engines may be called by different threads at the same time.
+ * - No call is made by a signal handler, or by the child of a fork of a process with threads.
+ * - malloc, realloc and free are of one allocator, and malloc aligns as C asks.
+ */
+#ifndef LUCERNETICK_H
+#define LUCERNETICK_H
+
+#include <stddef.h>
+#include <stdint.h>
+
+#ifdef __cplusplus
+extern "C" {
+#endif
+
+typedef struct lt_engine lt_engine;
+
+/* Refusals. A refused call has changed nothing, and may be made again. */
+enum {
+    LT_OUT_OF_MEMORY = -1,
+    LT_NO_SUCH_SESSION = -2, /* no session of this number was ever opened */
+    LT_SESSIONS = -3,        /* 256 sessions are open */
+    LT_HAS_ENDED = -4,       /* the session has ended or was closed, and takes no more bytes */
+    LT_NUMBERS_SPENT = -5,   /* 2^63 - 1 sessions were opened */
+    LT_NOT_SENT = -6,        /* fewer bytes wait to be sent */
+    LT_BAD_POINTER = -7      /* NULL for an engine, NULL for bytes where the length isn't 0, or a length
+                                above PTRDIFF_MAX */
+};
+
+/* What a turn did. */
+enum {
+    LT_IDLE = 0,    /* nothing: no whole packet is unread */
+    LT_WROTE = 1,   /* it wrote a reply, which lt_output has */
+    LT_BEGUN = 2,   /* it read a request, whose call begins at this turn's moment */
+    LT_MOVED = 3,   /* the call made a step on its way */
+    LT_BLOCKED = 4, /* the call of another session holds what the call wants: that one has to go on first */
+    LT_DECIDED = 5, /* the call is decided: the next turn writes its reply */
+    LT_SPENT = 6,   /* by lt_settle alone: all its turns were made, and the session goes on */
+    LT_ENDED = 16   /* the session has ended: the answer is LT_ENDED + one of the causes below */
+};
+
+/* Why a session ended: an answer of LT_ENDED + LT_NOT_INIT, and so on. */
+enum {
+    LT_NOT_INIT = 1,    /* its first packet isn't INIT */
+    LT_OLD_VERSION = 2, /* its client has a version below 3 */
+    LT_SECOND_INIT = 3,
+    LT_ZERO_LENGTH = 4, /* a packet of length 0 */
+    LT_TOO_LONG = 5,    /* a packet of a length above 262144 */
+    LT_NO_ID = 6,       /* a packet that ends before its id, or INIT before its version */
+    LT_CLOSED = 7       /* by lt_close */
+};
+
+/* An engine with no session, whose tree is the root alone. It keeps the records of its last `keep`
+ * calls, or of all of them where `keep` is 0; what sessions are answered is the same. NULL: out of
+ * memory. */
+lt_engine *lt_new(uint64_t keep);
+
+/* Frees an engine with its sessions and its tree. NULL: does nothing. */
+void lt_free(lt_engine *engine);
+
+/* Opens a session, and answers its number: 1, 2, 3 and so on. */
+int64_t lt_open(lt_engine *engine);
+
+/* Appends bytes to those that the session hasn't read; answers 0. They are copied. Where `length` is 0,
+ * `bytes` may be NULL. */
+int64_t lt_feed(lt_engine *engine, uint64_t session, const uint8_t *bytes, size_t length);
+
+/* The session does one thing: it writes an answer, makes one step of its call, or reads a packet. A call
+ * that begins has `moment`, in seconds since 1970, as its time. Answers what it did: LT_IDLE to
+ * LT_DECIDED, or LT_ENDED + a cause. */
+int64_t lt_turn(lt_engine *engine, uint64_t session, uint32_t moment);
+
+/* Turns, `most` at most, until one answers LT_IDLE, LT_BLOCKED, LT_ENDED + a cause, or a refusal, and
+ * answers the same; or LT_SPENT where none of so many does. The turns before a refusal were made. Where
+ * `most` is 0, the session isn't looked at, and the answer is LT_SPENT. */
+int64_t lt_settle(lt_engine *engine, uint64_t session, uint32_t moment, uint64_t most);
+
+/* The session's input ends; answers 0. A call that is under way goes on to its reply by further turns, and
+ * no further packet is read. */
+int64_t lt_close(lt_engine *engine, uint64_t session);
+
+/* Copies the first bytes that wait to be sent to the session's client into `room`, as many as wait but `length`
+ * at most. Answers how many wait, which may be more. They go on waiting until lt_sent. Where `length` is 0,
+ * `room` may be NULL. It serves sessions that have ended too. */
+int64_t lt_output(lt_engine *engine, uint64_t session, uint8_t *room, size_t length);
+
+/* The first `count` bytes that waited were sent: they are dropped; answers 0. */
+int64_t lt_sent(lt_engine *engine, uint64_t session, size_t count);
+
+#ifdef __cplusplus
+}
+#endif
+
+#endif
