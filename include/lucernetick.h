@@ -16,8 +16,9 @@
  * - A pointer to an engine is NULL, or one that lt_new gave and lt_free wasn't given.
  * - A pointer to bytes is NULL, or has as many bytes behind it as its length says, to be read by
  *   lt_feed, and to be written by lt_output. They aren't the engine's, and nobody changes them meanwhile.
- * - One call at a time for each engine, by one thread: the one that made it, or one that it was handed to.
- *   Different engines may be called by different threads at the same time.
+ * - One call at a time for each engine, by one thread: the one that made it, or one that it was handed to
+ *   by a lock, or by a thread's start or its join. Different engines may be called by different threads at
+ *   the same time.
  * - No call is made by a signal handler, or by the child of a fork of a process with threads.
  * - malloc, realloc and free are of one allocator, and malloc aligns as C asks.
  */

@@ -1,0 +1,5 @@
+use Rattle.ffi.specs.Numbers.{HasTurned}
+use Rattle.ffi.proofs.turns.last_turn.Given as goal
+
+abbrev pub invariant-loop : goal.invariant-loop
+invariant-loop l = HasTurned l.session l.moment l.counter l.fn.engine l.engine

@@ -1,0 +1,158 @@
+/* Calls each function of lucernetick.h as a program may, and as it shouldn't, and compares the numbers.
+ * Ends with how many were the same, and how many not. */
+#include "lucernetick.h"
+
+#include <stdio.h>
+#include <string.h>
+
+enum { MOMENT = 100, MANY_ENGINES = 1000 };
+
+static int passed, failed;
+
+static void same(const char *name, int64_t got, int64_t wanted)
+{
+    if (got == wanted) {
+        passed++;
+        return;
+    }
+    failed++;
+    printf("library: %s: FAILED: wanted %lld, got %lld\n", name, (long long)wanted, (long long)got);
+}
+
+/* INIT for version 3; MKDIR of /a under the id 7; STAT of /a under the id 8. */
+static const uint8_t INIT[] = {0, 0, 0, 5, 1, 0, 0, 0, 3};
+static const uint8_t MKDIR[] = {0, 0, 0, 15, 14, 0, 0, 0, 7, 0, 0, 0, 2, '/', 'a', 0, 0, 0, 0};
+static const uint8_t STAT[] = {0, 0, 0, 11, 17, 0, 0, 0, 8, 0, 0, 0, 2, '/', 'a'};
+
+static void null_pointers(void)
+{
+    lt_engine *engine = lt_new(0);
+    uint8_t byte = 0;
+    int64_t session = lt_open(engine);
+    lt_free(NULL);
+    same("open without an engine", lt_open(NULL), LT_BAD_POINTER);
+    same("feed without an engine", lt_feed(NULL, 1, &byte, 1), LT_BAD_POINTER);
+    same("turn without an engine", lt_turn(NULL, 1, MOMENT), LT_BAD_POINTER);
+    same("settle without an engine", lt_settle(NULL, 1, MOMENT, 1), LT_BAD_POINTER);
+    same("close without an engine", lt_close(NULL, 1), LT_BAD_POINTER);
+    same("output without an engine", lt_output(NULL, 1, &byte, 1), LT_BAD_POINTER);
+    same("sent without an engine", lt_sent(NULL, 1, 0), LT_BAD_POINTER);
+    same("feed without bytes", lt_feed(engine, (uint64_t)session, NULL, 1), LT_BAD_POINTER);
+    same("feed of too many", lt_feed(engine, (uint64_t)session, &byte, SIZE_MAX), LT_BAD_POINTER);
+    same("output without room", lt_output(engine, (uint64_t)session, NULL, 1), LT_BAD_POINTER);
+    lt_free(engine);
+}
+
+static void unknown_sessions(void)
+{
+    const uint64_t numbers[] = {0, 2, UINT64_MAX};
+    lt_engine *engine = lt_new(3);
+    uint8_t byte = 0;
+    same("the first session", lt_open(engine), 1);
+    for (size_t i = 0; i < 3; i++) {
+        same("feed nobody", lt_feed(engine, numbers[i], &byte, 1), LT_NO_SUCH_SESSION);
+        same("turn of nobody", lt_turn(engine, numbers[i], MOMENT), LT_NO_SUCH_SESSION);
+        same("settle nobody", lt_settle(engine, numbers[i], MOMENT, 1), LT_NO_SUCH_SESSION);
+        same("close nobody", lt_close(engine, numbers[i]), LT_NO_SUCH_SESSION);
+        same("output of nobody", lt_output(engine, numbers[i], &byte, 1), LT_NO_SUCH_SESSION);
+        same("sent of nobody", lt_sent(engine, numbers[i], 0), LT_NO_SUCH_SESSION);
+    }
+    lt_free(engine);
+}
+
+static void lengths_of_zero(void)
+{
+    lt_engine *engine = lt_new(0);
+    lt_open(engine);
+    same("feed nothing", lt_feed(engine, 1, NULL, 0), 0);
+    same("a turn with nothing to do", lt_turn(engine, 1, MOMENT), LT_IDLE);
+    same("no turns", lt_settle(engine, 1, MOMENT, 0), LT_SPENT);
+    same("nothing waits", lt_output(engine, 1, NULL, 0), 0);
+    same("nothing was sent", lt_sent(engine, 1, 0), 0);
+    same("more was sent than waits", lt_sent(engine, 1, 1), LT_NOT_SENT);
+    lt_free(engine);
+}
+
+static void one_session(void)
+{
+    lt_engine *engine = lt_new(0);
+    uint8_t room[128];
+    lt_open(engine);
+    lt_feed(engine, 1, INIT, sizeof INIT);
+    lt_feed(engine, 1, MKDIR, sizeof MKDIR);
+    same("VERSION", lt_turn(engine, 1, MOMENT), LT_WROTE);
+    same("its length", lt_output(engine, 1, NULL, 0), 42);
+    same("VERSION was sent", lt_sent(engine, 1, 42), 0);
+    same("MKDIR begins", lt_turn(engine, 1, MOMENT), LT_BEGUN);
+    same("it takes the root", lt_turn(engine, 1, MOMENT), LT_MOVED);
+    same("it is decided", lt_turn(engine, 1, MOMENT), LT_DECIDED);
+    same("its turns run out", lt_settle(engine, 1, MOMENT, 1), LT_SPENT);
+    lt_feed(engine, 1, STAT, sizeof STAT);
+    same("STAT", lt_settle(engine, 1, MOMENT, 100), LT_IDLE);
+    same("both replies", lt_output(engine, 1, room, sizeof room), 28 + 41);
+    same("OK's id", room[8], 7);
+    same("ATTRS' moment", room[28 + 40], MOMENT);
+    memset(room, 9, sizeof room);
+    same("as much as there is room", lt_output(engine, 1, room, 5), 28 + 41);
+    same("the last byte in the room", room[4], 101);
+    same("the first one behind it", room[5], 9);
+    lt_free(engine);
+}
+
+static void after_the_end(void)
+{
+    lt_engine *engine = lt_new(0);
+    uint8_t room[8];
+    lt_open(engine);
+    lt_feed(engine, 1, MKDIR, sizeof MKDIR);
+    same("not INIT", lt_turn(engine, 1, MOMENT), LT_ENDED + LT_NOT_INIT);
+    same("a feed after the end", lt_feed(engine, 1, INIT, sizeof INIT), LT_HAS_ENDED);
+    same("a turn after the end", lt_turn(engine, 1, MOMENT), LT_ENDED + LT_NOT_INIT);
+    same("settle after the end", lt_settle(engine, 1, MOMENT, 9), LT_ENDED + LT_NOT_INIT);
+    same("output after the end", lt_output(engine, 1, room, sizeof room), 0);
+    same("the second session", lt_open(engine), 2);
+    same("close", lt_close(engine, 2), 0);
+    same("a feed after close", lt_feed(engine, 2, INIT, sizeof INIT), LT_HAS_ENDED);
+    same("a turn after close", lt_turn(engine, 2, MOMENT), LT_ENDED + LT_CLOSED);
+    lt_free(engine);
+}
+
+static void blocked(void)
+{
+    lt_engine *engine = lt_new(0);
+    lt_open(engine);
+    lt_open(engine);
+    lt_feed(engine, 1, INIT, sizeof INIT);
+    lt_feed(engine, 1, MKDIR, sizeof MKDIR);
+    lt_feed(engine, 2, INIT, sizeof INIT);
+    lt_feed(engine, 2, STAT, sizeof STAT);
+    for (int i = 0; i < 3; i++)
+        lt_turn(engine, 1, MOMENT);
+    same("the other one holds the root", lt_settle(engine, 2, MOMENT, 100), LT_BLOCKED);
+    same("which goes on", lt_settle(engine, 1, MOMENT, 100), LT_IDLE);
+    same("and lets it by", lt_settle(engine, 2, MOMENT, 100), LT_IDLE);
+    lt_free(engine);
+}
+
+static void many_sessions(void)
+{
+    lt_engine *engine = lt_new(0);
+    for (int64_t i = 1; i <= 256; i++)
+        same("one of 256", lt_open(engine), i);
+    same("one more than 256", lt_open(engine), LT_SESSIONS);
+    lt_free(engine);
+}
+
+int main(void)
+{
+    null_pointers();
+    unknown_sessions();
+    lengths_of_zero();
+    after_the_end();
+    blocked();
+    many_sessions();
+    for (int i = 0; i < MANY_ENGINES; i++)
+        one_session();
+    printf("library: %d numbers as wanted, %d others\n", passed, failed);
+    return failed == 0 ? 0 : 1;
+}
