@@ -3,3 +3,9 @@ pub mod Deeds
 pub mod Faults
 pub mod Counted
 pub mod Noted
+pub mod Talking
+pub mod Calls
+pub mod Rounds
+pub mod Stops
+pub mod Talks
+pub mod Turns

@@ -1,3 +1,5 @@
 pub mod Audits
 pub mod Desks
+pub mod Scenes
+pub mod Serving
 pub mod Stays

@@ -7,16 +7,21 @@
 #![tactic(auto)]
 
 mod audits;
+mod calling;
 mod desk;
+mod gate;
 mod gathering;
 mod lock_desk;
 mod same;
+mod serving;
 mod stay;
 mod transcript;
 
 pub use audits::{AuditFault, audit};
 pub use desk::{Desk, Told};
+pub use gate::{Gate, NoGate};
 pub use gathering::{GatherFault, Totals, gather};
 pub use lock_desk::LockDesk;
+pub use serving::serve;
 pub use stay::{Stay, Stepped};
 pub use transcript::{Exchange, Transcript};

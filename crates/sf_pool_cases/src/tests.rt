@@ -10,6 +10,8 @@ use std::process::Abort;
 use std::sync::{Condvar, Mutex, Wait};
 use std::test::*;
 
+mod serving;
+
 fn join(rt: &impl Abort, core: &mut Core) -> Lane {
     match core.join() {
         Ok(lane) => lane,

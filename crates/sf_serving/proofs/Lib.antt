@@ -2,6 +2,7 @@ pub mod Acting
 pub mod Causes
 pub mod Ending
 pub mod Following
+pub mod Laws
 pub mod Opening
 pub mod Outcomes
 pub mod Rounds

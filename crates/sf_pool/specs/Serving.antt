@@ -1,0 +1,112 @@
+-- What the parts of serving do.
+use Rattle.std.specs.Prelude.{◌≡◌, ℕ, List, [], ◌∷◌, ◌++◌, length, Bool, true, false, Option, None, IfSome}
+use Rattle.sf_wire.specs.declared.cutting.Cut.TheVariants as cut
+use Rattle.sf_wire.specs.Packets.{IsCut}
+use Rattle.std.specs.Io.KnownBytes.{Appends}
+use Rattle.sf_line.specs.declared.line_call.LineCall.{LineCall}
+use Rattle.sf_line.specs.Lines.{Rose, LogsWrites}
+use Rattle.sf_call.specs.declared.request.Request.{Request}
+use Rattle.sf_call.specs.declared.fault.CoreFault.{CoreFault}
+use Rattle.sf_call.specs.declared.fault.CoreFault.TheVariants as refused
+use Rattle.sf_reply.specs.declared.reply.Reply.{Reply}
+use Rattle.sf_session.specs.declared.asking.Ask.TheVariants as ask
+use Rattle.sf_session.specs.declared.fault.ServeFault.{ServeFault}
+use Rattle.sf_session.specs.declared.fault.ServeFault.TheVariants as fault
+use Rattle.sf_session.specs.Sessions.{SessionView}
+use Rattle.sf_engine.specs.Worlds.{Answered, asked_by, packet_for, transcript, Resting as AtRest, Told}
+use Rattle.sf_engine.specs.Traces.{has_begun}
+use Rattle.sf_pool.specs.declared.calling.Stop.{Stop}
+use Rattle.sf_pool.specs.declared.calling.Stop.TheVariants as stop
+use Rattle.sf_pool.specs.Desks.{Place, Gone, IsResting, IsUnderWay, DeskView, Notes}
+use Rattle.sf_pool.specs.Scenes.{answer_deeds, HasSentAll, IsServed}
+
+-- no reply is unwritten, and no call is under way
+pub record IsReady (v : SessionView) (place : Place) : Type 0 where
+  pub waiting : v.waiting ≡ None
+  pub written : v.output ≡ []
+  pub resting : IsResting place
+
+-- the session goes on, and its output is what its transcript has behind what was sent
+pub record Goes (v : SessionView) (t : Told) : Type 0 where
+  pub resting : t.phase ≡ AtRest
+  pub unread : v.unread ≡ t.unread
+  pub begun : v.begun ≡ has_begun t.bodies
+  pub ended : v.ended ≡ None
+  pub waits : transcript t.answers ≡ t.sent ++ v.output
+
+-- and waits for bytes
+abbrev pub Rests : SessionView → Told → Type 0
+Rests v t = Goes v t × IsCut t.unread cut.More × HasSentAll t
+
+-- after the packets that were unread
+abbrev pub IsDrained : Bool → Option (List ℕ) → SessionView → Told → Type 0
+IsDrained true incoming v t = IsServed incoming t
+IsDrained false incoming v t = Rests v t
+
+-- after a read
+abbrev pub HasRead : Bool → Option (List ℕ) → SessionView → Told → Type 0
+HasRead true incoming v t = IsServed incoming t
+HasRead false incoming v t = Goes v t
+
+-- The session's call was made, or refused: its reply is appended to the output.
+abbrev pub MakesCall : Request → DeskView → DeskView → SessionView → SessionView → Type 0
+MakesCall request d d' v w = IfSome v.waiting (λ id. (a : Answered) × (asked_by a ≡ ask.Call id request)
+    × (w ≡ record v { output = v.output ++ packet_for a; waiting = None })
+    × IsResting d'.place × Notes d.calls d'.calls (answer_deeds a))
+
+-- The steps stop with no answer.
+abbrev pub FailsSteps : Stop → DeskView → DeskView → Type 0
+FailsSteps stop.Stranger d d' = (d'.place ≡ Gone) × (d'.calls ≡ d.calls)
+FailsSteps stop.UnderWay d d' = d' ≡ d
+FailsSteps _ d d' = ⊥
+
+-- The session's call was made and its reply found no room; or it has no answer.
+abbrev pub FailsCall : Request → Stop → DeskView → DeskView → Type 0
+FailsCall request stop.OutOfMemory d d' = (number : ℕ) × (reply : Reply) × IsResting d'.place
+    × Notes d.calls d'.calls (record { number = number; request = request; reply = reply } ∷ [])
+FailsCall request stop.Stranger d d' = (d'.place ≡ Gone) × (d'.calls ≡ d.calls)
+FailsCall request stop.UnderWay d d' = IsUnderWay d'.place × (d'.calls ≡ d.calls)
+FailsCall request _ d d' = ⊥
+
+-- The line took the front of the output, by writes alone, and that was taken off.
+pub record SendsPart (outgoing outgoing' : Option (List ℕ)) (calls calls' : Option (List LineCall)) (v w : SessionView) : Type 0 where
+  pub sent : List ℕ
+  pub whole : v.output ≡ sent ++ w.output
+  pub now : w ≡ record v { output = w.output }
+  pub appended : Appends outgoing outgoing' sent
+  pub logged : LogsWrites calls calls' (length sent)
+
+-- where a session is whose serving stops
+abbrev pub StopsAt : Stop → Place → Type 0
+StopsAt stop.Stranger place = place ≡ Gone
+StopsAt stop.UnderWay place = IsUnderWay place
+StopsAt _ place = IsResting place
+
+-- unless the line failed, all that it was answered was written
+abbrev pub HasSentFor : Stop → Told → Type 0
+HasSentFor stop.Line t = Unit {0}
+HasSentFor _ t = HasSentAll t
+
+abbrev pub IsStop : Stop → ℕ → ℕ → Type 0
+IsStop stop.Line failed failed' = Rose failed failed'
+IsStop _ failed failed' = Unit {0}
+
+-- a read stops serving where the line fails, and for want of memory
+abbrev pub IsReadStop : Stop → ℕ → ℕ → Type 0
+IsReadStop stop.Line failed failed' = Rose failed failed'
+IsReadStop stop.OutOfMemory failed failed' = Unit {0}
+IsReadStop _ failed failed' = ⊥
+
+abbrev pub fault_of : Stop → ServeFault
+fault_of stop.Line = fault.Line
+fault_of stop.OutOfMemory = fault.OutOfMemory
+fault_of stop.NumbersSpent = fault.NumbersSpent
+fault_of stop.Stranger = fault.Stranger
+fault_of stop.UnderWay = fault.NumbersSpent
+
+-- why a session doesn't join
+abbrev pub refusal_of : CoreFault → ServeFault
+refusal_of refused.OutOfMemory = fault.OutOfMemory
+refusal_of refused.Sessions = fault.Sessions
+refusal_of refused.NumbersSpent = fault.NumbersSpent
+refusal_of refused.Stranger = fault.Stranger

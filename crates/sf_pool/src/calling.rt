@@ -1,0 +1,74 @@
+//! One call of a session, made at its desk.
+
+ghost use Rattle.std.specs.Prelude.{◌≡◌, IsSome, OnOk, OnErr, IfOk, IfErr, ◌∷◌, []};
+ghost use Rattle.std.specs.Io.KnownBytes.{Appends};
+ghost use Rattle.std.specs.Prelude.{ℕ};
+ghost use Rattle.sf_pool.specs.Desks.{IsResting, IsUnderWay, Answers};
+ghost use Rattle.sf_pool.specs.Serving.{MakesCall, FailsSteps, FailsCall};
+
+use crate::desk::{Desk, Told};
+use crate::gate::Gate;
+use sf_call::Request;
+use sf_session::{Clock, Session};
+
+/// Why serving stops.
+#[derive(Clone, Copy, Debug, PartialEq, Eq)]
+pub(crate) enum Stop {
+    Line,
+    OutOfMemory,
+    /// So much was read that no number is left to count it.
+    NumbersSpent,
+    /// The core doesn't know the session.
+    Stranger,
+    /// So many steps were made that no number is left to count them, and the call has no answer yet.
+    UnderWay,
+}
+
+/// Makes steps until the call is answered.
+fn finish<D: Desk, G: Gate>(desk: &mut D, gate: &G, session: u64, number: u64) -> Result<(), Stop>
+    requires { IsUnderWay (D.at desk.old).place }
+    ensures answered { OnOk result (Answers (D.at desk.old).place (D.at desk.old).calls (D.at desk.new)) }
+    ensures fails { IfErr result (λ stop. FailsSteps stop (D.at desk.old) (D.at desk.new)) }
+{
+    for steps in 0..u64::MAX {
+        gate.between(session, number, steps);
+        match desk.step() {
+            Told::Going => {}
+            Told::Answered => return Ok(()),
+            Told::Stranger => return Err(Stop::Stranger),
+        }
+    }
+    Err(Stop::UnderWay)
+}
+
+/// Makes the call that a packet asked for, at the clock's next moment. Its reply, or that of its refusal,
+/// is appended to the session's output.
+pub(crate) fn make_call<D: Desk, C: Clock, G: Gate>(
+    desk: &mut D,
+    clock: &mut C,
+    gate: &G,
+    number: u64,
+    session: &mut Session,
+    request: Request,
+) -> Result<(), Stop>
+    requires waiting { IsSome session.old.waiting }
+    requires resting { IsResting (D.at desk.old).place }
+    ensures made { OnOk result (MakesCall request (D.at desk.old) (D.at desk.new) session.old session.new) }
+    ensures fails { IfErr result (λ stop. FailsCall request stop (D.at desk.old) (D.at desk.new)) }
+    ensures moment { (moment : ℕ) × Appends (C.told clock.old) (C.told clock.new) (moment ∷ []) }
+{
+    let moment = clock.now();
+    let call = match desk.begin(request, moment) {
+        Ok(call) => call,
+        Err(fault) => {
+            session.refuse(fault);
+            return Ok(());
+        }
+    };
+    finish(desk, gate, number, call)?;
+    gate.answered(number, call);
+    if session.answer(desk.answer()).is_err() {
+        return Err(Stop::OutOfMemory);
+    }
+    Ok(())
+}
