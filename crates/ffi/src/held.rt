@@ -53,6 +53,9 @@ impl Model for Held {
     ghost also_owns = { λ h. engine_owned h.alloc h.at h.engine };
 }
 
+// C may hand an engine to another thread. The proof is in `proofs/held/Held/TheSendSync`.
+unsafe impl Send for Held {}
+
 impl Held {
     fn of(loose: Loose<Engine, Global>) -> Held
         ensures { result.engine ≡ Some loose.value }

@@ -1,8 +1,9 @@
 //! The engine as a library for C.
 //!
-//! Start with `lucernetick_turn`. Each function takes an engine as a `Held` (`held.rt`), makes one event of what it is given,
-//! and answers the engine again and a number: `specs/Numbers.antt` says which, for what the engine answered.
-//! `bindings/c/lucernetick.c` has the functions of `include/lucernetick.h`, which call these.
+//! Start with `lucernetick_turn`. Each function takes an engine as a `Held` (`held.rt`), makes one event
+//! of what it is given, and answers the engine again and a number: `specs/Numbers.antt` says which, for
+//! what the engine answered. `bindings/c/lucernetick.c` has the functions of `include/lucernetick.h`,
+//! which call these.
 #![tactic(auto)]
 
 ghost use Rattle.std.specs.Prelude.{◌≡◌, None, IsSome, IfOk, IfSome};
@@ -162,7 +163,7 @@ pub extern "C" fn lucernetick_output(
 ) -> i64
     requires { IsSome held.old.engine }
     ensures same { held.new.engine ≡ held.old.engine }
-    ensures copied { IfSome held.old.engine (λ engine. Outputs engine session room.old result room.new) }
+    ensures copied { IfSome held.old.engine (λ e. Outputs e session room.old result room.new) }
 {
     let engine = held.take(alloc);
     let number = copy_output(&engine, session, room);
