@@ -137,6 +137,7 @@ func TestTimesAreVirtual(t *testing.T) {
 
 func TestAConnWaitsForACallThatIsHeld(t *testing.T) {
 	engine := newEngine(t)
+	must(t, engine.WriteFiles(map[string][]byte{"/f": []byte("1")}, 0))
 	held := open(t, engine, makes)
 	for _, wanted := range []Turn{Wrote, Begun, Moved} {
 		turn, err := held.Turn(100)

@@ -156,7 +156,7 @@ def test_numbers_that_the_protocol_does_not_have() -> None:
 
 
 def test_a_snapshot_does_not_wait_for_a_call_under_way() -> None:
-    with Engine() as engine:
+    with Engine.from_files({"/f": b"1"}) as engine:
         session = engine.open()
         session.feed(MAKES)
         did = [session.turn(100) for _ in range(3)]
@@ -164,7 +164,7 @@ def test_a_snapshot_does_not_wait_for_a_call_under_way() -> None:
         with pytest.raises(Blocked):
             engine.snapshot()
         assert session.settle(100) == Turn.IDLE
-        assert list(engine.snapshot()) == ["/", "/a"]
+        assert list(engine.snapshot()) == ["/", "/a", "/f"]
 
 
 def test_threads_share_an_engine() -> None:
