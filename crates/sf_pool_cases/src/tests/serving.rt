@@ -1,6 +1,6 @@
 //! Sessions served over lines in memory, at a desk on a core that is lent to it.
 
-ghost use Rattle.std.specs.Prelude.{◌≡◌, [], map, IfSome};
+ghost use Rattle.std.specs.Prelude.{◌≡◌, [], true, map, IfSome};
 ghost use Rattle.sf_pool.specs.Audits.{told};
 ghost use Rattle.sf_pool.specs.Desks.{New, kept_calls};
 
