@@ -4,13 +4,18 @@
  * is fed the bytes that its client sends, is given turns, and has the bytes that its client is to be
  * sent. Nothing happens between two calls, so the same calls give the same bytes each time.
  *
- *     lt_engine *engine = lt_new(0);
+ *     lt_engine *engine = lt_new(1);
  *     int64_t session = lt_open(engine);
  *     lt_feed(engine, session, request, request_length);
  *     lt_settle(engine, session, moment, 1000);
  *     int64_t waiting = lt_output(engine, session, room, room_length);
- *     lt_sent(engine, session, waiting);
+ *     size_t count = (size_t)waiting < room_length ? (size_t)waiting : room_length;
+ *     fwrite(room, 1, count, client);
+ *     lt_sent(engine, session, count);
  *     lt_free(engine);
+ *
+ * `./library` builds it, and `cc -Iinclude program.c out/liblucernetick.a` a program with it. The whole of one
+ * is interop/c/serve.c, a server for many clients. Functions answer numbers: those below 0 are refusals.
  *
  * What a caller owes, which nothing checks:
  * - A pointer to an engine is NULL, or one that lt_new gave and lt_free wasn't given.
@@ -70,8 +75,8 @@ enum {
 };
 
 /* An engine with no session, whose tree is the root alone. It keeps the records of its last `keep`
- * calls, or of all of them where `keep` is 0; what sessions are answered is the same. NULL: out of
- * memory. */
+ * calls, or of all of them where `keep` is 0. They take memory, change no answer, and no function here
+ * shows them: 1 will do. NULL: out of memory. */
 lt_engine *lt_new(uint64_t keep);
 
 /* Frees an engine with its sessions and its tree. NULL: does nothing. */

@@ -7,6 +7,8 @@
 
 enum { MOMENT = 100, MANY_ENGINES = 1000 };
 
+static const size_t TOO_MANY = (size_t)PTRDIFF_MAX + 1;
+
 static int passed, failed;
 
 static void same(const char *name, int64_t got, int64_t wanted)
@@ -39,7 +41,9 @@ static void null_pointers(void)
     same("sent without an engine", lt_sent(NULL, 1, 0), LT_BAD_POINTER);
     same("feed without bytes", lt_feed(engine, (uint64_t)session, NULL, 1), LT_BAD_POINTER);
     same("feed of too many", lt_feed(engine, (uint64_t)session, &byte, SIZE_MAX), LT_BAD_POINTER);
+    same("feed of one too many", lt_feed(engine, (uint64_t)session, &byte, TOO_MANY), LT_BAD_POINTER);
     same("output without room", lt_output(engine, (uint64_t)session, NULL, 1), LT_BAD_POINTER);
+    same("output of too many", lt_output(engine, (uint64_t)session, &byte, TOO_MANY), LT_BAD_POINTER);
     lt_free(engine);
 }
 
@@ -63,11 +67,16 @@ static void unknown_sessions(void)
 static void lengths_of_zero(void)
 {
     lt_engine *engine = lt_new(0);
+    uint8_t byte = 9;
     lt_open(engine);
     same("feed nothing", lt_feed(engine, 1, NULL, 0), 0);
+    same("feed no byte", lt_feed(engine, 1, &byte, 0), 0);
     same("a turn with nothing to do", lt_turn(engine, 1, MOMENT), LT_IDLE);
     same("no turns", lt_settle(engine, 1, MOMENT, 0), LT_SPENT);
+    same("no turns of nobody", lt_settle(engine, 2, MOMENT, 0), LT_SPENT);
     same("nothing waits", lt_output(engine, 1, NULL, 0), 0);
+    same("nothing waits for no room", lt_output(engine, 1, &byte, 0), 0);
+    same("no byte was written", byte, 9);
     same("nothing was sent", lt_sent(engine, 1, 0), 0);
     same("more was sent than waits", lt_sent(engine, 1, 1), LT_NOT_SENT);
     lt_free(engine);
@@ -110,10 +119,14 @@ static void after_the_end(void)
     same("a turn after the end", lt_turn(engine, 1, MOMENT), LT_ENDED + LT_NOT_INIT);
     same("settle after the end", lt_settle(engine, 1, MOMENT, 9), LT_ENDED + LT_NOT_INIT);
     same("output after the end", lt_output(engine, 1, room, sizeof room), 0);
+    same("sent after the end", lt_sent(engine, 1, 1), LT_NOT_SENT);
+    same("close after the end", lt_close(engine, 1), 0);
+    same("which it had before", lt_turn(engine, 1, MOMENT), LT_ENDED + LT_NOT_INIT);
     same("the second session", lt_open(engine), 2);
     same("close", lt_close(engine, 2), 0);
     same("a feed after close", lt_feed(engine, 2, INIT, sizeof INIT), LT_HAS_ENDED);
     same("a turn after close", lt_turn(engine, 2, MOMENT), LT_ENDED + LT_CLOSED);
+    same("close again", lt_close(engine, 2), 0);
     lt_free(engine);
 }
 
@@ -134,6 +147,42 @@ static void blocked(void)
     lt_free(engine);
 }
 
+/* The reply of the schedule's second session, after VERSION: the attributes of /a, size 0, nobody's, 0o755,
+ * of the moment 100. */
+static const uint8_t LOOKED[] = {0, 0, 0, 37, 105, 0, 0, 0, 8, 0, 0, 0, 15, 0, 0, 0, 0, 0, 0, 0, 0,
+                                 0, 0, 0, 0, 0, 0, 0, 0, 0, 0, 65, 237, 0, 0, 0, 100, 0, 0, 0, 100};
+
+/* A schedule of two sessions, of which the second one looks at /a before the first one has made it. It
+ * compares what the turns did, and leaves what was sent. */
+static void schedule(uint8_t first[128], uint8_t second[128])
+{
+    const uint64_t sessions[] = {1, 2, 2, 1, 1, 2, 1, 2, 2, 2, 1};
+    const int64_t did[] = {LT_WROTE, LT_WROTE, LT_BEGUN, LT_BEGUN, LT_MOVED, LT_BLOCKED,
+                           LT_DECIDED, LT_MOVED, LT_DECIDED, LT_WROTE, LT_WROTE};
+    lt_engine *engine = lt_new(0);
+    lt_open(engine);
+    lt_open(engine);
+    lt_feed(engine, 1, INIT, sizeof INIT);
+    lt_feed(engine, 1, MKDIR, sizeof MKDIR);
+    lt_feed(engine, 2, INIT, sizeof INIT);
+    lt_feed(engine, 2, STAT, sizeof STAT);
+    for (size_t i = 0; i < sizeof sessions / sizeof *sessions; i++)
+        same("a turn of the schedule", lt_turn(engine, sessions[i], MOMENT), did[i]);
+    same("what the first one is sent", lt_output(engine, 1, first, 128), 42 + 28);
+    same("what the second one is sent", lt_output(engine, 2, second, 128), 42 + 41);
+    lt_free(engine);
+}
+
+static void replayed(void)
+{
+    uint8_t first[2][128] = {{0}}, second[2][128] = {{0}};
+    schedule(first[0], second[0]);
+    schedule(first[1], second[1]);
+    same("the first one's bytes again", memcmp(first[0], first[1], 128), 0);
+    same("the second one's bytes again", memcmp(second[0], second[1], 128), 0);
+    same("the second one's reply", memcmp(second[0] + 42, LOOKED, sizeof LOOKED), 0);
+}
+
 static void many_sessions(void)
 {
     lt_engine *engine = lt_new(0);
@@ -150,6 +199,7 @@ int main(void)
     lengths_of_zero();
     after_the_end();
     blocked();
+    replayed();
     many_sessions();
     for (int i = 0; i < MANY_ENGINES; i++)
         one_session();

@@ -15,7 +15,9 @@ from ._tree import Entry
 
 PIECE = 65536
 TURNS = 256
-"""How many turns are made before the output goes out."""
+"""How many turns are made before the output goes out, but for those of the call that is under way then."""
+UNDER_WAY = (Turn.SPENT, Turn.BEGUN, Turn.MOVED, Turn.DECIDED)
+"""After these a call may be under way."""
 PATIENCE = 5.0
 """Seconds that a server which is left waits for each of its threads."""
 
@@ -113,13 +115,16 @@ class Server:
             turn = self._turns(session)
             if output := session.take():
                 line.sendall(output)
-            if turn not in (Turn.SPENT, Turn.BLOCKED) or self._left:
+            if turn not in (Turn.WROTE, Turn.BLOCKED) or self._left:
                 return turn
 
     def _turns(self, session: Session) -> Turn:
-        """Some turns; where the call of another session is in its way, waits until one has moved."""
+        """Some turns; where the call of another session is in its way, waits until one has moved. No call
+        stands half way while its client is slow to read, so none keeps other clients waiting."""
         with self.engine.moved:
             turn = session.settle(self.clock(), TURNS)
+            while turn in UNDER_WAY:
+                turn = session.turn(self.clock())
             if turn == Turn.BLOCKED and not session.output() and not self._left:
                 self.engine.moved.wait()
             return turn
@@ -127,5 +132,5 @@ class Server:
     def _leave(self, session: Session) -> None:
         """Ends a session whose client has gone; a call of its that is under way is carried out."""
         session.close()
-        while self._turns(session) in (Turn.SPENT, Turn.BLOCKED) and not self._left:
+        while self._turns(session) in (Turn.WROTE, Turn.BLOCKED) and not self._left:
             session.take()

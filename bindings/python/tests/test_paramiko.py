@@ -10,7 +10,8 @@ import pytest
 
 import lucernetick
 from lucernetick import Engine, Server, VirtualTime
-from packets import MAKES
+from packets import INIT, LOOKS, MAKES, STAT, packet, string, u32
+
 
 @pytest.fixture
 def client(sftp_tree: Server) -> Iterator[paramiko.SFTPClient]:
@@ -143,6 +144,24 @@ def test_a_session_that_ends_closes_its_connection(sftp_tree: Server) -> None:
     line.sendall(bytes(4))
     line.settimeout(10)
     assert line.recv(1) == b""
+
+
+@pytest.mark.parametrize("depth", range(1, 9))
+def test_a_client_that_reads_nothing_keeps_nobody_waiting(sftp_tree: Server, depth: int) -> None:
+    """Wherever on its way a call is where the line is full, it isn't left there."""
+    path = b"/a" * depth
+    sftp_tree.engine.write_files({path: None})
+    lazy = sftp_tree.connect()
+    lazy.settimeout(0.3)
+    lazy.sendall(packet(INIT, u32(3)))
+    with pytest.raises(socket.timeout):
+        while True:
+            lazy.sendall(packet(STAT, u32(1), string(path)) * 100)
+    client = sftp_tree.connect()
+    client.settimeout(10)
+    client.sendall(LOOKS)
+    client.recv(42, socket.MSG_WAITALL)
+    assert len(client.recv(41, socket.MSG_WAITALL)) == 41
 
 
 def test_many_clients_at_once(sftp_tree: Server) -> None:

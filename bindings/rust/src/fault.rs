@@ -2,6 +2,7 @@
 
 use std::error::Error;
 use std::fmt;
+use std::io;
 
 /// Why the engine refused a call. A refused call has changed nothing, and may be made again.
 #[derive(Clone, Copy, Debug, PartialEq, Eq)]
@@ -47,6 +48,12 @@ impl fmt::Display for Refusal {
 }
 
 impl Error for Refusal {}
+
+impl From<Refusal> for io::Error {
+    fn from(refusal: Refusal) -> Self {
+        io::Error::new(io::ErrorKind::Other, refusal)
+    }
+}
 
 /// Why a tree wasn't written or read.
 #[derive(Clone, Debug, PartialEq, Eq)]

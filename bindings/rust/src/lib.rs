@@ -4,7 +4,7 @@
 //! An [`Engine`] asks no clock and starts no thread: sessions are fed bytes, are given turns, and
 //! have the bytes that their clients are to be sent. The same calls give the same bytes each time.
 //!
-//! ```no_run
+//! ```
 //! use lucernetick::Engine;
 //!
 //! let mut engine = Engine::from_files([("/a/b", "contents")], 100)?;
@@ -15,14 +15,20 @@
 //! assert_eq!(engine.snapshot()?["/a/b".as_bytes()].contents.as_deref(), Some(&b"contents"[..]));
 //! # Ok::<(), lucernetick::Fault>(())
 //! ```
+//!
+//! A [`Server`] has an engine behind connected sockets, for clients that want one.
 
+mod clock;
 mod fault;
 mod packets;
+mod server;
 mod sys;
 mod tree;
 mod turn;
 
+pub use clock::{wall_clock, VirtualTime};
 pub use fault::{Fault, Refusal};
+pub use server::Server;
 pub use tree::{Entry, Snapshot};
 pub use turn::{Ending, Turn};
 

@@ -1,0 +1,41 @@
+//! What tells the moment at which a call begins.
+
+use std::sync::atomic::{AtomicU32, Ordering};
+use std::sync::Arc;
+use std::time::{SystemTime, UNIX_EPOCH};
+
+/// The system's clock, in seconds since 1970.
+pub fn wall_clock() -> u32 {
+    match SystemTime::now().duration_since(UNIX_EPOCH) {
+        Ok(since) => u32::try_from(since.as_secs()).unwrap_or(u32::MAX),
+        Err(_) => 0,
+    }
+}
+
+/// A clock that stands still until the test moves it. Its clones are the same clock.
+#[derive(Clone, Debug, Default)]
+pub struct VirtualTime {
+    moment: Arc<AtomicU32>,
+}
+
+impl VirtualTime {
+    /// It is `moment`, in seconds since 1970.
+    pub fn new(moment: u32) -> Self {
+        Self { moment: Arc::new(AtomicU32::new(moment)) }
+    }
+
+    pub fn now(&self) -> u32 {
+        self.moment.load(Ordering::SeqCst)
+    }
+
+    /// From now on it is `moment`: earlier or later than before.
+    pub fn set(&self, moment: u32) {
+        self.moment.store(moment, Ordering::SeqCst);
+    }
+
+    /// What `Server::new` takes.
+    pub fn clock(&self) -> impl Fn() -> u32 + Send + Sync + 'static {
+        let clock = self.clone();
+        move || clock.now()
+    }
+}

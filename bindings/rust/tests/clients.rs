@@ -1,0 +1,413 @@
+//! OpenSSH's `sftp` on a server. `socat` joins it to the server's socket.
+
+use lucernetick::{Engine, Server, Session, Turn, VirtualTime};
+use std::fs::{self, Permissions};
+use std::io::{BufRead, BufReader, ErrorKind, Read, Write};
+use std::os::unix::fs::PermissionsExt;
+use std::os::unix::net::UnixStream;
+use std::path::PathBuf;
+use std::process::{self, Child, ChildStdin, ChildStdout, Command, Stdio};
+use std::thread;
+use std::time::{Duration, UNIX_EPOCH};
+
+const INIT: &[u8] = b"\0\0\0\x05\x01\0\0\0\x03";
+/// INIT, and MKDIR of `/a` under the id 7.
+const MAKES: &[u8] = b"\0\0\0\x05\x01\0\0\0\x03\0\0\0\x0f\x0e\0\0\0\x07\0\0\0\x02/a\0\0\0\0";
+/// INIT, and STAT of `/a` under the id 8.
+const LOOKS: &[u8] = b"\0\0\0\x05\x01\0\0\0\x03\0\0\0\x0b\x11\0\0\0\x08\0\0\0\x02/a";
+/// STAT of `/a/f` under the id 8.
+const LOOKS_BELOW: &[u8] = b"\0\0\0\x0d\x11\0\0\0\x08\0\0\0\x04/a/f";
+/// The length of VERSION's packet.
+const VERSION: usize = 42;
+
+/// A server that listens in a folder of its own.
+struct Listening {
+    server: Server,
+    time: VirtualTime,
+    folder: PathBuf,
+}
+
+impl Listening {
+    /// The test's name, which no other one has, names its folder.
+    fn new(test: &str, engine: Engine) -> Self {
+        let folder = std::env::temp_dir().join(format!("lucernetick-{}-{}", process::id(), test));
+        fs::create_dir(&folder).unwrap();
+        let time = VirtualTime::new(1_000_000_000);
+        let mut server = Server::new(engine, time.clock());
+        server.listen(folder.join("socket")).unwrap();
+        Self { server, time, folder }
+    }
+
+    fn empty(test: &str) -> Self {
+        Self::new(test, Engine::new(1).unwrap())
+    }
+
+    fn client(&self) -> Client {
+        Client::new(self)
+    }
+
+    /// Makes a local file with the permissions 0o640, which `put` asks for.
+    fn write(&self, name: &str, contents: &[u8]) {
+        let path = self.folder.join(name);
+        fs::write(&path, contents).unwrap();
+        fs::set_permissions(&path, Permissions::from_mode(0o640)).unwrap();
+    }
+
+    /// The contents of a local file.
+    fn read(&self, name: &str) -> Vec<u8> {
+        fs::read(self.folder.join(name)).unwrap()
+    }
+
+    /// The contents of a file of the tree.
+    fn contents(&self, path: &str) -> Vec<u8> {
+        self.server.snapshot().unwrap()[path.as_bytes()].contents.clone().unwrap()
+    }
+
+    fn paths(&self) -> Vec<String> {
+        let found = self.server.snapshot().unwrap();
+        found.into_keys().map(|path| String::from_utf8(path).unwrap()).collect()
+    }
+}
+
+impl Drop for Listening {
+    fn drop(&mut self) {
+        fs::remove_dir_all(&self.folder).unwrap();
+    }
+}
+
+/// A running `sftp`, whose local folder is its server's.
+struct Client {
+    child: Child,
+    commands: ChildStdin,
+    printed: BufReader<ChildStdout>,
+}
+
+impl Client {
+    fn new(server: &Listening) -> Self {
+        let bridge = format!("socat - UNIX-CONNECT:{}", server.folder.join("socket").display());
+        let mut child = Command::new("timeout")
+            .args(["60", "sftp", "-q", "-b", "-", "-D", &bridge])
+            .current_dir(&server.folder)
+            .envs([("TZ", "UTC"), ("LC_ALL", "C")])
+            .stdin(Stdio::piped())
+            .stdout(Stdio::piped())
+            .spawn()
+            .unwrap();
+        let commands = child.stdin.take().unwrap();
+        let printed = BufReader::new(child.stdout.take().unwrap());
+        Self { child, commands, printed }
+    }
+
+    /// What the client prints for a command, which must succeed: all lines up to those for `pwd`,
+    /// without the echoed commands.
+    fn run(&mut self, command: &str) -> Vec<String> {
+        writeln!(self.commands, "{}\npwd", command).unwrap();
+        let mut lines = Vec::new();
+        loop {
+            let mut line = String::new();
+            assert_ne!(self.printed.read_line(&mut line).unwrap(), 0, "{} failed", command);
+            match line.trim_end() {
+                "Remote working directory: /" => return lines,
+                echo if echo.starts_with("sftp> ") => {}
+                told => lines.push(told.to_string()),
+            }
+        }
+    }
+
+    /// Ends the client's input; it must end well.
+    fn end(mut self) {
+        drop(self.commands);
+        assert!(self.child.wait().unwrap().success());
+    }
+}
+
+#[test]
+fn write_and_read() {
+    let server = Listening::empty("write_and_read");
+    let contents: Vec<u8> = (0..1_000_000_u32).map(|k| (k % 251) as u8).collect();
+    server.write("sent", &contents);
+    let mut client = server.client();
+    client.run("put sent /kept");
+    assert!(server.contents("/kept") == contents);
+    client.run("get /kept got");
+    client.end();
+    assert!(server.read("got") == contents);
+}
+
+#[test]
+fn list() {
+    let server = Listening::empty("list");
+    server.write("five", b"12345");
+    server.write("none", b"");
+    let mut client = server.client();
+    client.run("mkdir /d");
+    client.run("mkdir /d/b");
+    server.time.set(1_700_000_000);
+    client.run("put five /d/a");
+    client.run("put none /d/c");
+    client.run("chmod 600 /d/c");
+    assert_eq!(client.run("ls -1 /d"), ["/d/a", "/d/b", "/d/c"]);
+    // The client's `mkdir` asks for 0o777.
+    let wanted = [
+        "-rw-r-----   1 0        0               5   1700000000 a",
+        "drwxrwxrwx   1 0        0               0   1000000000 b",
+        "-rw-------   1 0        0               0   1700000000 c",
+    ];
+    assert_eq!(client.run("ls -l /d"), wanted);
+    client.end();
+}
+
+#[test]
+fn rename() {
+    let files = [("/f", "1"), ("/g", "2"), ("/d/h", "3")];
+    let server = Listening::new("rename", Engine::from_files(files, 0).unwrap());
+    let mut client = server.client();
+    client.run("rename -l /f /d/f");
+    assert_eq!(server.paths(), ["/", "/d", "/d/f", "/d/h", "/g"]);
+    client.run("rename /d /e");
+    client.run("rename /g /e/h");
+    assert_eq!(client.run("ls -1 /e"), ["/e/f", "/e/h"]);
+    client.end();
+    assert_eq!(server.paths(), ["/", "/e", "/e/f", "/e/h"]);
+    assert_eq!((server.contents("/e/f"), server.contents("/e/h")), (b"1".to_vec(), b"2".to_vec()));
+}
+
+#[test]
+fn two_sessions_on_one_tree() {
+    let server = Listening::empty("two_sessions");
+    server.write("sent", b"from the first");
+    let (mut first, mut second) = (server.client(), server.client());
+    assert!(second.run("ls -1 /").is_empty());
+    first.run("put sent /f");
+    second.run("get /f got");
+    assert_eq!(server.read("got"), b"from the first");
+    second.run("rename /f /g");
+    assert_eq!(first.run("ls -1 /"), ["/g"]);
+    first.run("rm /g");
+    assert!(second.run("ls -1 /").is_empty());
+    first.end();
+    second.end();
+}
+
+#[test]
+fn times_are_virtual() {
+    let server = Listening::empty("times");
+    server.write("sent", b"123456");
+    let mut client = server.client();
+    server.time.set(1_700_000_000);
+    client.run("put sent /f");
+    server.time.set(7);
+    client.run("mkdir /d");
+    // By names and their own lines: 14 November 2023, 22:13:20; and the seventh second of 1970.
+    let listed = client.run("ls -ln /");
+    let words: Vec<Vec<&str>> =
+        listed.iter().map(|line| line.split_whitespace().collect()).collect();
+    let directory = ["drwxrwxrwx", "?", "0", "0", "0", "Jan", "1", "1970", "/d"];
+    let file = ["-rw-r-----", "?", "0", "0", "6", "Nov", "14", "2023", "/f"];
+    assert_eq!(words, [directory, file]);
+    // By STAT: `get -p` gives the local file the times that it tells.
+    client.run("get -p /f got");
+    client.end();
+    let found = fs::metadata(server.folder.join("got")).unwrap();
+    let moment = UNIX_EPOCH + Duration::from_secs(1_700_000_000);
+    assert_eq!((found.accessed().unwrap(), found.modified().unwrap()), (moment, moment));
+    assert_eq!(server.server.snapshot().unwrap()["/d".as_bytes()].mtime, 7);
+}
+
+#[test]
+fn a_tree_that_was_there() {
+    let engine = Engine::from_files([("/a/b", "1234")], 3).unwrap();
+    let server = Listening::new("tree", engine);
+    let mut client = server.client();
+    let wanted = ["-rw-r--r--   1 0        0               4            3 b"];
+    assert_eq!(client.run("ls -l /a"), wanted);
+    client.run("get /a/b got");
+    client.end();
+    assert_eq!(server.read("got"), b"1234");
+}
+
+#[test]
+fn many_clients_at_once() {
+    let server = Listening::empty("many");
+    server.write("sent", b"contents");
+    thread::scope(|scope| {
+        for name in ["/a", "/b", "/c", "/d", "/e", "/f"] {
+            let mut client = server.client();
+            scope.spawn(move || {
+                client.run(&format!("mkdir {}", name));
+                for number in 0..20 {
+                    client.run(&format!("put sent {}/{}", name, number));
+                }
+                client.end();
+            });
+        }
+    });
+    let found = server.server.snapshot().unwrap();
+    assert_eq!(found.len(), 1 + 6 + 120);
+    let files = found.values().filter(|entry| !entry.is_directory());
+    assert_eq!(files.filter(|file| file.contents.as_deref() == Some(b"contents")).count(), 120);
+}
+
+/// A session that is moved by hand, and is fed these bytes.
+fn fed(server: &Server, bytes: &[u8]) -> Session {
+    server.with_engine(|engine| {
+        let session = engine.open().unwrap();
+        engine.feed(session, bytes).unwrap();
+        session
+    })
+}
+
+/// Turns by hand, at the moment 100.
+fn settle(server: &Server, session: Session, most: u64) -> Turn {
+    server.with_engine(|engine| engine.settle(session, 100, most).unwrap())
+}
+
+/// Reads so many bytes, which come soon.
+fn take(line: &mut UnixStream, count: usize) -> Vec<u8> {
+    line.set_read_timeout(Some(Duration::from_secs(10))).unwrap();
+    let mut bytes = vec![0; count];
+    line.read_exact(&mut bytes).unwrap();
+    bytes
+}
+
+#[test]
+fn a_connection_waits_for_a_call_that_is_held() {
+    let server = Server::new(Engine::new(1).unwrap(), || 0);
+    let held = fed(&server, MAKES);
+    // VERSION, the call's beginning, and the root taken.
+    assert_eq!(settle(&server, held, 3), Turn::Spent);
+
+    let mut line = server.connect().unwrap();
+    line.write_all(LOOKS).unwrap();
+    take(&mut line, VERSION);
+    line.set_read_timeout(Some(Duration::from_millis(300))).unwrap();
+    let nothing = line.read(&mut [0]).unwrap_err();
+    assert_eq!(nothing.kind(), ErrorKind::WouldBlock);
+
+    assert_eq!(settle(&server, held, 1000), Turn::Idle);
+    let reply = take(&mut line, 41);
+    assert_eq!((reply[4], &reply[37..]), (105, &[0, 0, 0, 100][..]));
+}
+
+/// Whether the root is held by a call: the probe looks there for what isn't there.
+fn root_is_held(server: &Server, probe: Session) -> bool {
+    let looks = b"\0\0\0\x0b\x11\0\0\0\x08\0\0\0\x02/z";
+    server.with_engine(|engine| engine.feed(probe, looks).unwrap());
+    settle(server, probe, 1000) == Turn::Blocked
+}
+
+/// A call that is held in `/a` stops one that is on its way there, which stops all others in the root.
+/// When the first one goes on, so do they, in whatever order their threads wake.
+#[test]
+fn blocked_connections_go_on_one_after_the_other() {
+    for _ in 0..20 {
+        let server = Server::new(Engine::from_files([("/a/f", "1")], 0).unwrap(), || 0);
+        let probe = fed(&server, INIT);
+        let held = fed(&server, &[INIT, LOOKS_BELOW].concat());
+        assert_eq!(settle(&server, held, 4), Turn::Spent);
+        assert!(!root_is_held(&server, probe));
+        let mut lines = vec![server.connect().unwrap()];
+        lines[0].write_all(&[INIT, LOOKS_BELOW].concat()).unwrap();
+        while !root_is_held(&server, probe) {
+            thread::sleep(Duration::from_millis(1));
+        }
+        lines.extend((0..6).map(|_| server.connect().unwrap()));
+        for line in &mut lines[1..] {
+            line.write_all(LOOKS).unwrap();
+            take(line, VERSION);
+        }
+        thread::sleep(Duration::from_millis(5));
+        assert_eq!(settle(&server, held, 1000), Turn::Idle);
+        take(&mut lines[0], VERSION);
+        assert!(lines.iter_mut().all(|line| take(line, 41)[4] == 105));
+    }
+}
+
+#[test]
+fn a_call_is_carried_out_though_its_client_has_gone() {
+    let server = Server::new(Engine::new(1).unwrap(), || 5);
+    let held = fed(&server, LOOKS);
+    assert_eq!(settle(&server, held, 3), Turn::Spent);
+
+    let mut line = server.connect().unwrap();
+    line.write_all(MAKES).unwrap();
+    take(&mut line, VERSION);
+    drop(line);
+    assert_eq!(settle(&server, held, 1000), Turn::Idle);
+    let made = (0..1000).any(|_| {
+        thread::sleep(Duration::from_millis(10));
+        server.snapshot().map_or(false, |found| found.contains_key("/a".as_bytes()))
+    });
+    assert!(made);
+}
+
+#[test]
+fn clients_that_go_free_their_sessions() {
+    let server = Server::new(Engine::new(1).unwrap(), || 0);
+    for number in 1..=600 {
+        let mut line = server.connect().unwrap();
+        line.write_all(INIT).unwrap();
+        assert_eq!(take(&mut line, VERSION)[4], 2, "session {}", number);
+        line.shutdown(std::net::Shutdown::Write).unwrap();
+        assert_eq!(line.read(&mut [0]).unwrap(), 0);
+    }
+}
+
+#[test]
+fn a_session_that_ends_closes_its_connection() {
+    let server = Server::new(Engine::new(1).unwrap(), || 0);
+    let mut line = server.connect().unwrap();
+    line.write_all(&[0; 4]).unwrap();
+    line.set_read_timeout(Some(Duration::from_secs(10))).unwrap();
+    assert_eq!(line.read(&mut [0]).unwrap(), 0);
+}
+
+#[test]
+fn a_clock_that_panics_ends_the_connection_that_asked_it() {
+    let time = VirtualTime::new(13);
+    let clock = time.clock();
+    let told = move || if clock() == 13 { panic!("an unlucky time") } else { clock() };
+    let server = Server::new(Engine::new(1).unwrap(), told);
+    let mut other = server.connect().unwrap();
+    let mut unlucky = server.connect().unwrap();
+    unlucky.write_all(INIT).unwrap();
+    assert_eq!(unlucky.read(&mut [0]).unwrap(), 0);
+    time.set(14);
+    other.write_all(INIT).unwrap();
+    assert_eq!(take(&mut other, VERSION)[4], 2);
+}
+
+#[test]
+fn a_257th_client_is_refused() {
+    let server = Server::new(Engine::new(1).unwrap(), || 0);
+    let lines: Vec<UnixStream> = (0..256).map(|_| server.connect().unwrap()).collect();
+    let refused = server.connect().unwrap_err();
+    assert_eq!(refused.to_string(), "256 sessions are open");
+    assert_eq!(server.with_engine(|engine| engine.output(Session(256))), Ok(vec![]));
+    assert_eq!(lines.len(), 256);
+}
+
+/// The clients are one that waits for replies, one whose call is blocked, and one that reads none of
+/// the many bytes that it is sent.
+#[test]
+fn a_server_that_is_dropped_ends_its_connections() {
+    let mut server = Server::new(Engine::from_files([("/f", "1")], 0).unwrap(), || 0);
+    let socket = std::env::temp_dir().join(format!("lucernetick-{}-dropped", process::id()));
+    server.listen(&socket).unwrap();
+    let mut waits = UnixStream::connect(&socket).unwrap();
+    waits.write_all(INIT).unwrap();
+    take(&mut waits, VERSION);
+    let mut reads_none = server.connect().unwrap();
+    reads_none.set_write_timeout(Some(Duration::from_millis(300))).unwrap();
+    reads_none.write_all(INIT).unwrap();
+    while reads_none.write_all(&LOOKS[INIT.len()..]).is_ok() {}
+    let held = fed(&server, MAKES);
+    assert_eq!(settle(&server, held, 3), Turn::Spent);
+    let mut blocked = server.connect().unwrap();
+    blocked.write_all(LOOKS).unwrap();
+    take(&mut blocked, VERSION);
+    drop(server);
+    assert!(UnixStream::connect(&socket).is_err() && !socket.exists());
+    assert_eq!(waits.read(&mut [0]).unwrap(), 0);
+    assert_eq!(blocked.read(&mut [0]).unwrap(), 0);
+}
