@@ -34,6 +34,8 @@ paths_len (command.PosixRename old new) = length old.now + length new.now
 -- one record is kept at least, or the paths of the command have together fewer than 2^31 bytes
 abbrev pub CanBeDone : Action → Type 0
 CanBeDone (action.Stdio keep) = 0 < keep
+CanBeDone (action.Serve serving) = 0 < serving.keep
+CanBeDone (action.Connect socket) = Unit {0}
 CanBeDone (action.Client socket command) = paths_len command < 2 ^ 31
 
 -- the number, or 0 where the part wasn't sent

@@ -3,20 +3,26 @@
 //! Start with `program.rt`: what the words of a command line ask for, and the one place where the
 //! system's streams and clock are taken. `stdio.rt` serves one session on standard input and output; its
 //! contract says when the exit status is 0, and `specs/Statuses.antt` which status each end has.
-//! `clock.rt` tells the moment of a call. All else is in the crates below; the promise is `serve_one`'s,
-//! of `sf_serving`.
+//! `server.rt` serves many sessions at a Unix socket (`listening.rt`), and `totals.rt` tells what they came
+//! to; `connection.rt` carries standard streams to such a socket, and `client.rt` runs one command on it.
+//! `clock.rt` tells the moment of a call. All else is in the crates below; the promises are those of
+//! `serve_one` of `sf_serving` and of `serve` of `sf_pool`.
 #![tactic(auto)]
 
 pub mod client;
 mod clock;
 pub mod command;
+mod connection;
+mod listening;
 mod program;
+mod server;
 pub mod stdio;
+mod totals;
 
 use std::process::ExitCode;
 
 fn main(rt: HostRuntime) -> ExitCode {
-    ExitCode::from(program::run(&rt))
+    ExitCode::from(program::run(&rt, &rt))
 }
 
 #[cfg(test)]

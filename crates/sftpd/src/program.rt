@@ -6,6 +6,8 @@ ghost use Rattle.sftpd.specs.Commands.{paths_len, CanBeDone};
 use crate::client::run_client;
 use crate::clock::SystemClock;
 use crate::command::ClientCommand;
+use crate::connection::connect;
+use crate::server::{Serving, serve};
 use crate::stdio::run_stdio;
 use clap::builder::ValueParser;
 use clap::{Arg, ArgAction, ArgMatches, Command, Error, error};
@@ -14,12 +16,18 @@ use std::alloc::{AllocError, Global};
 use std::env;
 use std::io::{self, ErrorKind, Input, Read};
 use std::os::unix::net::UnixStream;
+use std::sync::Wait;
+use std::thread::Threads;
 
 /// What the program is to do.
 #[derive(Clone, Copy, Debug, PartialEq, Eq)]
 pub(crate) enum Action<'a> {
     /// One session on standard input and output, whose engine keeps so many records.
     Stdio(usize),
+    /// Sessions at a Unix socket.
+    Serve(Serving<'a>),
+    /// Standard input and output, carried to and from the Unix socket of this path.
+    Connect(&'a str),
     /// One command on the server behind the Unix socket of this path.
     Client(&'a str, ClientCommand<'a>),
 }
@@ -62,13 +70,55 @@ fn stdio_words<'a>(alloc: Global) -> Result<Command<'a>, AllocError> {
         .arg(keep)
 }
 
-/// The words of `sftpd client`.
-fn client_words<'a>(alloc: Global) -> Result<Command<'a>, AllocError> {
-    let socket = Arg::new(alloc, "socket")
+/// How many workers serve sessions where the words don't say, and at most.
+const WORKERS: usize = 16;
+
+const MOST_WORKERS: u64 = 64;
+
+const MOST_SESSIONS: u64 = 1_000_000;
+
+fn socket_word<'a>(alloc: Global) -> Arg<'a> {
+    Arg::new(alloc, "socket")
         .long("socket")
         .value_name("PATH")
         .required(true)
-        .help("The Unix socket of the server");
+        .help("The Unix socket of the server")
+}
+
+/// The words of `sftpd serve`.
+fn serve_words<'a>(alloc: Global) -> Result<Command<'a>, AllocError> {
+    let workers = Arg::new(alloc, "workers")
+        .long("workers")
+        .value_name("N")
+        .value_parser(ValueParser::unsigned(1, MOST_WORKERS))
+        .help("How many sessions are served at once: 1 to 64, by default 16");
+    let sessions = Arg::new(alloc, "sessions")
+        .long("sessions")
+        .value_name("K")
+        .value_parser(ValueParser::unsigned(1, MOST_SESSIONS))
+        .help("Ends after so many sessions, and compares what they were told: 1 to 1000000");
+    let keep = Arg::new(alloc, "keep")
+        .long("keep")
+        .value_name("N")
+        .value_parser(ValueParser::unsigned(1, MOST_KEPT))
+        .help("How many records of calls are kept: 1 to 1000000, by default 256");
+    Command::new(alloc, "serve")
+        .about("Serves sessions at a Unix socket, many at once, on one tree")
+        .arg(socket_word(alloc))?
+        .arg(workers)?
+        .arg(sessions)?
+        .arg(keep)
+}
+
+/// The words of `sftpd connect`.
+fn connect_words<'a>(alloc: Global) -> Result<Command<'a>, AllocError> {
+    Command::new(alloc, "connect")
+        .about("Carries standard input and output to and from a server's Unix socket")
+        .arg(socket_word(alloc))
+}
+
+/// The words of `sftpd client`.
+fn client_words<'a>(alloc: Global) -> Result<Command<'a>, AllocError> {
     let command = Arg::new(alloc, "command")
         .value_name("COMMAND")
         .required(true)
@@ -82,7 +132,7 @@ fn client_words<'a>(alloc: Global) -> Result<Command<'a>, AllocError> {
         .help("The paths on the server");
     Command::new(alloc, "client")
         .about("Runs one command on the server behind a Unix socket")
-        .arg(socket)?
+        .arg(socket_word(alloc))?
         .arg(command)?
         .arg(paths)
 }
@@ -95,16 +145,36 @@ pub(crate) fn read_words<'a>(alloc: Global, words: &'a [String]) -> Result<Actio
         .about("An SFTP server, version 3, with its tree in memory")
         .subcommand_required(true)
         .subcommand(stdio_words(alloc)?)?
+        .subcommand(serve_words(alloc)?)?
+        .subcommand(connect_words(alloc)?)?
         .subcommand(client_words(alloc)?)?;
     let matches = program.try_get_matches_from(words)?;
     if let Some(found) = matches.subcommand_matches("client") {
         return client_action(found);
+    }
+    if let Some(found) = matches.subcommand_matches("serve") {
+        return Ok(Action::Serve(serving(found)));
+    }
+    if let Some(found) = matches.subcommand_matches("connect") {
+        return Ok(Action::Connect(found.get_str("socket").unwrap_or("")));
     }
     let keep = matches
         .subcommand_matches("stdio")
         .and_then(|found| found.get_one::<usize>("keep"))
         .unwrap_or(KEEP);
     Ok(Action::Stdio(keep.max(1)))
+}
+
+/// What the words after `serve` ask for.
+fn serving<'a>(matches: &ArgMatches<'a>) -> Serving<'a>
+    ensures { 0 < result.keep }
+{
+    Serving {
+        socket: matches.get_str("socket").unwrap_or(""),
+        workers: matches.get_one::<usize>("workers").unwrap_or(WORKERS),
+        sessions: matches.get_one::<u64>("sessions"),
+        keep: matches.get_one::<usize>("keep").unwrap_or(KEEP).max(1),
+    }
 }
 
 /// What the words after `client` ask for.
@@ -121,7 +191,7 @@ fn client_action<'a>(matches: &ArgMatches<'a>) -> Result<Action<'a>, Refused>
 }
 
 /// Does what the words of the command line ask for, and answers the exit status.
-pub(crate) fn run(rt: &HostRuntime) -> u8 {
+pub(crate) fn run<T: Threads + Wait + Sync>(rt: &HostRuntime, threads: &T) -> u8 {
     let alloc = rt.alloc();
     let words = match env::args(rt) {
         Ok(words) => words,
@@ -132,6 +202,8 @@ pub(crate) fn run(rt: &HostRuntime) -> u8 {
     };
     match read_words(alloc, &words) {
         Ok(Action::Stdio(keep)) => stdio(rt, keep),
+        Ok(Action::Serve(serving)) => serve_sessions(rt, threads, serving),
+        Ok(Action::Connect(socket)) => carry(rt, threads, socket),
         Ok(Action::Client(socket, command)) => client(rt, socket, command),
         Err(Refused::Words(error)) => refuse(rt, &error),
         Err(Refused::Usage) => usage(rt),
@@ -146,6 +218,35 @@ fn stdio(rt: &HostRuntime, keep: usize) -> u8
     let mut errors = StreamLine::new(io::empty(), rt.stderr());
     let mut clock = SystemClock::new(rt);
     run_stdio(rt.alloc(), keep, &mut line, &mut clock, &mut errors)
+}
+
+/// Serves sessions at a socket.
+fn serve_sessions<T: Threads + Wait + Sync>(
+    rt: &HostRuntime,
+    threads: &T,
+    serving: Serving<'_>,
+) -> u8
+    requires { 0 < serving.keep }
+{
+    match serve(rt, threads, serving) {
+        Ok(()) => 0,
+        Err(fault) => {
+            let _ = rt.eprintln(fault.line());
+            1
+        }
+    }
+}
+
+/// Carries standard input and output to and from a socket.
+fn carry<T: Threads + Wait>(rt: &HostRuntime, threads: &T, socket: &str) -> u8 {
+    let Ok(stream) = UnixStream::connect(rt, socket) else {
+        let _ = rt.eprintln("sftpd: cannot connect");
+        return 1;
+    };
+    match connect(rt, threads, &stream) {
+        Ok(()) => 0,
+        Err(error) => fail(rt, error.kind()),
+    }
 }
 
 /// Does a command on the server behind a socket. All of standard input is read first where it is to

@@ -3,6 +3,7 @@
 use crate::clock::moment;
 use crate::command::ClientCommand;
 use crate::program::{Action, Refused, read_words};
+use crate::server::Serving;
 use crate::stdio::run_stdio;
 use sf_cases::{StillClock, hex_bytes};
 use sf_line::{MemoryLine, Pieces};
@@ -11,7 +12,9 @@ use std::process::Abort;
 use std::test::*;
 use std::time::Duration;
 
+mod carrying;
 mod commands;
+mod serving;
 
 /// `run_stdio` on this input answers this status and writes this line.
 fn is_told(rt: &impl Abort, alloc: Global, input: &[u8], status: u8, told: &[u8]) {
@@ -113,8 +116,76 @@ fn words(rt: HostRuntime) -> Result<(), Fail> {
     is_refused(&rt, alloc, &["sftpd", "stdio", "--keep"], true)?;
     is_refused(&rt, alloc, &["sftpd", "--help"], false)?;
     is_refused(&rt, alloc, &["sftpd"], true)?;
-    is_refused(&rt, alloc, &["sftpd", "serve"], true)?;
     is_refused(&rt, alloc, &["sftpd", "stdio", "more"], true)
+}
+
+/// `sftpd serve --socket /s`, and these words, ask for so many workers, sessions and records.
+fn is_serve(
+    rt: &impl Abort,
+    alloc: Global,
+    words: &[&str],
+    workers: usize,
+    sessions: Option<u64>,
+    keep: usize,
+) -> Result<(), Fail> {
+    let mut all = texts(alloc, &["sftpd", "serve", "--socket", "/s"])?;
+    all.append(&mut texts(alloc, words)?)?;
+    let serving = Serving {
+        socket: "/s",
+        workers,
+        sessions,
+        keep,
+    };
+    match read_words(alloc, &all) {
+        Ok(action) => assert_eq!(rt; action, Action::Serve(serving)),
+        Err(_) => panic!(rt; "the words were refused"),
+    }
+    Ok(())
+}
+
+#[test]
+fn serve_words(rt: HostRuntime) -> Result<(), Fail> {
+    let alloc = rt.alloc();
+    is_serve(&rt, alloc, &[], 16, None, 256)?;
+    is_serve(&rt, alloc, &["--workers", "1"], 1, None, 256)?;
+    let most = [
+        "--sessions",
+        "1000000",
+        "--keep",
+        "1000000",
+        "--workers",
+        "64",
+    ];
+    is_serve(&rt, alloc, &most, 64, Some(1000000), 1000000)?;
+    for (name, wrong) in [
+        ("--workers", "0"),
+        ("--workers", "65"),
+        ("--sessions", "0"),
+        ("--sessions", "1000001"),
+        ("--keep", "0"),
+        ("--keep", "1000001"),
+    ] {
+        let words = ["sftpd", "serve", "--socket", "/s", name, wrong];
+        is_refused(&rt, alloc, &words, true)?;
+    }
+    is_refused(&rt, alloc, &["sftpd", "serve"], true)
+}
+
+#[test]
+fn connect_words(rt: HostRuntime) -> Result<(), Fail> {
+    let alloc = rt.alloc();
+    let words = texts(alloc, &["sftpd", "connect", "--socket", "/s"])?;
+    match read_words(alloc, &words) {
+        Ok(action) => assert_eq!(rt; action, Action::Connect("/s")),
+        Err(_) => panic!(rt; "the words were refused"),
+    }
+    is_refused(&rt, alloc, &["sftpd", "connect"], true)?;
+    is_refused(
+        &rt,
+        alloc,
+        &["sftpd", "connect", "--socket", "/s", "/a"],
+        true,
+    )
 }
 
 /// `sftpd client --socket /s`, and these words, ask for this command.

@@ -1,0 +1,206 @@
+//! `sftpd serve`: sessions at a socket, both ends in one process, and what the server tells at its end.
+
+ghost use Rattle.std.specs.Prelude.{◌<◌};
+
+use super::*;
+use crate::listening::listen;
+use crate::server::{ServerFault, Serving, serve_on};
+use crate::totals::tell;
+use crossbeam_channel::bounded;
+use sf_core::Core;
+use sf_pool::NoGate;
+use sf_workers::{Served, serve_all};
+use std::fs;
+use std::io::{self, Read, Write};
+use std::net::Shutdown;
+use std::os::unix::net::{UnixListener, UnixStream};
+use std::sync::{Condvar, Mutex, Wait};
+use std::thread::{self, Threads};
+
+const INIT: &str = "00000005 01 00000003";
+
+const MKDIR_A: &str = "0000000f 0e 00000007 00000002 2f61 00000000";
+
+const MKDIR_B: &str = "0000000f 0e 00000007 00000002 2f62 00000000";
+
+const STAT_A: &str = "0000000b 11 00000008 00000002 2f61";
+
+const VERSION: &str =
+    "00000026 02 00000003 00000018 706f7369782d72656e616d65406f70656e7373682e636f6d 00000001 31";
+
+/// STATUS OK, under the id 7.
+const OK: &str = "00000018 65 00000007 00000000 00000007 53756363657373 00000000";
+
+/// The attributes of a directory of the server, under the id 8, up to its times.
+const DIRECTORY: &str = "00000025 69 00000008 0000000f 0000000000000000 00000000 00000000 000041ed";
+
+fn packets(alloc: Global, texts: &[&str]) -> Result<Vec<u8>, Fail> {
+    let mut bytes = Vec::new(alloc);
+    for text in texts {
+        bytes.extend_from_slice(&hex_bytes(alloc, text)?)?;
+    }
+    Ok(bytes)
+}
+
+/// All replies of a session that sends these bytes, and then ends its input.
+fn session(rt: &HostRuntime, path: &str, input: &[u8]) -> io::Result<Vec<u8>> {
+    let stream = UnixStream::connect(rt, path)?;
+    (&stream).write_all(input)?;
+    stream.shutdown(Shutdown::Write)?;
+    let mut replies = Vec::new(rt.alloc());
+    (&stream).read_to_end(&mut replies)?;
+    Ok(replies)
+}
+
+/// The replies of sessions, one after the other.
+fn sessions(rt: &HostRuntime, path: &str, inputs: &[Vec<u8>]) -> io::Result<Vec<Vec<u8>>> {
+    let mut all = Vec::new(rt.alloc());
+    for input in inputs {
+        all.push(session(rt, path, input)?)?;
+    }
+    Ok(all)
+}
+
+/// A server of two workers, which keeps so many records, serves these sessions: their replies, and what the
+/// server tells.
+fn served<T: Threads + Wait + Abort + Sync>(
+    rt: &HostRuntime,
+    threads: &T,
+    path: &str,
+    keep: usize,
+    inputs: &[Vec<u8>],
+) -> Result<(Vec<Vec<u8>>, Vec<u8>), Fail>
+    requires { 0 < keep }
+{
+    let listener = listen(rt, path)?;
+    let serving = Serving {
+        socket: path,
+        workers: 2,
+        sessions: Some(inputs.len() as u64),
+        keep,
+    };
+    let mut told = Vec::new(rt.alloc());
+    let (replies, ended) = thread::join(
+        threads,
+        || sessions(rt, path, inputs),
+        || -> Result<(), ServerFault>
+            requires { 0 < serving.keep }
+        { serve_on(rt, threads, &listener, serving, &mut told) },
+    );
+    fs::remove_file(rt, path)?;
+    assert_eq!(threads; ended, Ok(()));
+    Ok((replies?, told))
+}
+
+/// The second session finds what the first one made.
+#[test]
+fn socket_two_sessions(rt: HostRuntime) -> Result<(), Fail> {
+    let alloc = rt.alloc();
+    let mut inputs = Vec::new(alloc);
+    inputs.push(packets(alloc, &[INIT, MKDIR_A])?)?;
+    inputs.push(packets(alloc, &[INIT, STAT_A])?)?;
+    let (replies, told) = served(&rt, &rt, "two_sessions.socket", 256, &inputs)?;
+    assert_eq!(rt;
+        told.as_slice(),
+        b"sessions 2 calls 2\naudit ok\n".as_slice()
+    );
+    let made = packets(alloc, &[VERSION, OK])?;
+    assert!(rt; replies.first().is_some_and(|reply| *reply == made));
+    let found = packets(alloc, &[VERSION, DIRECTORY])?;
+    let Some(reply) = replies.last() else {
+        panic!(rt; "no reply");
+    };
+    assert!(rt; reply.starts_with(&found));
+    // behind it are the two times
+    assert_eq!(rt; reply.len(), found.len() + 8);
+    Ok(())
+}
+
+/// Of four calls and the leaving of their session, the last records are kept.
+#[test]
+fn folded_calls_are_told(rt: HostRuntime) -> Result<(), Fail> {
+    let alloc = rt.alloc();
+    let mut inputs = Vec::new(alloc);
+    inputs.push(packets(alloc, &[INIT, MKDIR_A, MKDIR_B, STAT_A, STAT_A])?)?;
+    let (_, told) = served(&rt, &rt, "folded.socket", 3, &inputs)?;
+    assert_eq!(rt;
+        told.as_slice(),
+        b"sessions 1 calls 4\naudit ok, folded 2\n".as_slice()
+    );
+    let (_, told) = served(&rt, &rt, "folded.socket", 2, &inputs)?;
+    assert_eq!(rt;
+        told.as_slice(),
+        b"sessions 1 calls 4\naudit ok, folded 3\n".as_slice()
+    );
+    Ok(())
+}
+
+/// The file of a listener that is gone is replaced. Another file, or that of one that listens, is not.
+#[test]
+fn left_file_is_replaced(rt: HostRuntime) -> Result<(), Fail> {
+    let path = "left.socket";
+    drop(UnixListener::bind(&rt, path)?);
+    let listener = listen(&rt, path)?;
+    assert!(rt; listen(&rt, path).is_err());
+    drop(listener);
+    fs::remove_file(&rt, path)?;
+    fs::write(&rt, path, b"text")?;
+    assert!(rt; listen(&rt, path).is_err());
+    let mut text = Vec::new(rt.alloc());
+    fs::File::open(&rt, path)?.read_to_end(&mut text)?;
+    assert_eq!(rt; text.as_slice(), b"text".as_slice());
+    fs::remove_file(&rt, path)?;
+    Ok(())
+}
+
+/// A core that served a session of this input, and what its worker tells.
+fn served_in_memory<R: Threads + Wait + Abort + Sync>(
+    rt: &R,
+    alloc: Global,
+    input: &[u8],
+) -> Result<(Core, Vec<Served>), Fail> {
+    let whole = Pieces::new(usize::MAX, usize::MAX);
+    let core = Mutex::new(Core::new(alloc)?);
+    let happened = Condvar::new();
+    let (sender, lines) = bounded(alloc, 1)?;
+    let line = MemoryLine::new(alloc, input, whole, whole);
+    assert!(rt; sender.send(rt, line).is_ok());
+    drop(sender);
+    let mut clocks = Vec::new(alloc);
+    clocks.push(StillClock)?;
+    let all = serve_all(rt, alloc, &core, &happened, &lines, clocks, &NoGate, true)?;
+    Ok((core.into_inner(), all))
+}
+
+/// What was told is not the core's history, or is not all of it; or it can't be written.
+#[test]
+fn faults_of_totals(rt: HostRuntime) -> Result<(), Fail> {
+    let alloc = rt.alloc();
+    let input = packets(alloc, &[INIT, MKDIR_A])?;
+    let mut told = Vec::new(alloc);
+    let (core, all) = served_in_memory(&rt, alloc, &input)?;
+    let none = Vec::new(alloc);
+    assert_eq!(rt;
+        tell(alloc, core, none, 1, &mut told),
+        Err(ServerFault::Audit)
+    );
+    let another = Core::new(alloc)?;
+    assert_eq!(rt;
+        tell(alloc, another, all, 1, &mut told),
+        Err(ServerFault::Audit)
+    );
+    assert_eq!(rt; told.len(), 0);
+    let (core, all) = served_in_memory(&rt, alloc, &input)?;
+    let mut full: &mut [u8] = &mut [];
+    assert_eq!(rt;
+        tell(alloc, core, all, 1, &mut full),
+        Err(ServerFault::Stream)
+    );
+    let (core, all) = served_in_memory(&rt, alloc, &input)?;
+    assert_eq!(rt; tell(alloc, core, all, 1, &mut told), Ok(()));
+    assert_eq!(rt;
+        told.as_slice(),
+        b"sessions 1 calls 1\naudit ok\n".as_slice()
+    );
+    Ok(())
+}
