@@ -9,8 +9,15 @@
 //! Ratios are those of the first server to each other one. A server with `:` at the end of its
 //! name keeps no tree: of its attributes and names only the form is checked.
 //! The first wrong reply ends the run with status 1.
+//!
+//!   load shared ..
+//!   load carry ..
+//!
+//! measure many sessions on one tree, and what carries bytes to and from a socket: see these modules.
 
+mod carry;
 mod session;
+mod shared;
 mod wire;
 mod workloads;
 
@@ -89,7 +96,8 @@ impl Lane {
         let (files, names) = (options.files, options.names);
         let begun = Instant::now();
         let mut session = Session::start(&server.command)?;
-        let mut workload = (row.make)(Setting { files, names, is_constant: server.is_constant });
+        let mut workload =
+            (row.make)(Setting { files, names, is_constant: server.is_constant, number: 0 });
         workload.prepare(&mut session).map_err(|error| format!("{name}: {error}"))?;
         let processor_before = session.processor_seconds()?;
         eprintln!("{name}: prepared in {:.2} s", begun.elapsed().as_secs_f64());
@@ -182,8 +190,8 @@ fn print_figures(
     }
 }
 
-fn run() -> Outcome<()> {
-    let options = read_options(std::env::args().skip(1))?;
+fn run(words: impl Iterator<Item = String>) -> Outcome<()> {
+    let options = read_options(words)?;
     let wanted: Vec<&Row> = ROWS.iter().filter(|row| row.title.contains(&options.only)).collect();
     let mut rows = vec![];
     for together in wanted.chunk_by(|_, next| next.is_beside) {
@@ -201,7 +209,13 @@ fn run() -> Outcome<()> {
 }
 
 fn main() -> ExitCode {
-    match run() {
+    let mut words = std::env::args().skip(1).peekable();
+    let outcome = match words.peek().map(String::as_str) {
+        Some("shared") => shared::run(words.skip(1)),
+        Some("carry") => carry::run(words.skip(1)),
+        _ => run(words),
+    };
+    match outcome {
         Ok(()) => ExitCode::SUCCESS,
         Err(error) => {
             eprintln!("load: {error}");

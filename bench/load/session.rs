@@ -1,9 +1,11 @@
-//! One session with a server on its standard streams.
+//! One session with a server, on its standard streams or on a socket.
 
 use crate::wire::{Fields, Outcome, Reply, Request, INIT, LONGEST_PACKET, OK, VERSION};
 use std::io::{Read, Write};
 use std::ops::Range;
-use std::process::{Child, ChildStdin, ChildStdout, Command, Stdio};
+use std::os::fd::OwnedFd;
+use std::os::unix::net::UnixStream;
+use std::process::{Child, Command, Stdio};
 
 /// Requests are written once so many bytes of them wait.
 const BATCH: usize = 120_000;
@@ -13,9 +15,10 @@ const BATCH: usize = 120_000;
 pub type Step<'a> = dyn FnMut(usize, Option<Reply>, Request) -> Outcome<bool> + 'a;
 
 pub struct Session {
-    child: Child,
-    to_server: ChildStdin,
-    from_server: ChildStdout,
+    /// The process that serves this session alone.
+    child: Option<Child>,
+    to_server: Box<dyn Write + Send>,
+    from_server: Box<dyn Read + Send>,
     output: Vec<u8>,
     input: Vec<u8>,
     unread: Range<usize>,
@@ -23,7 +26,7 @@ pub struct Session {
 }
 
 impl Session {
-    /// Starts the server, a command for the shell, and opens the session.
+    /// Starts the server, a command for the shell, and opens the session over pipes.
     pub fn start(command: &str) -> Outcome<Session> {
         let mut child = Command::new("sh")
             .args(["-c", &format!("exec {command}")])
@@ -31,10 +34,45 @@ impl Session {
             .stdout(Stdio::piped())
             .spawn()
             .map_err(|error| format!("{command}: {error}"))?;
+        let to_server = Box::new(child.stdin.take().unwrap());
+        let from_server = Box::new(child.stdout.take().unwrap());
+        Session::open(Some(child), to_server, from_server)
+    }
+
+    /// Starts the server, a program and its words, and opens the session over a pair of sockets.
+    pub fn spawn(words: &[&str]) -> Outcome<Session> {
+        let fault = |error| format!("{words:?}: {error}");
+        let (ours, theirs) = UnixStream::pair().map_err(fault)?;
+        let output: OwnedFd = theirs.try_clone().map_err(fault)?.into();
+        let child = Command::new(words[0])
+            .args(&words[1..])
+            .stdin(OwnedFd::from(theirs))
+            .stdout(output)
+            .spawn()
+            .map_err(fault)?;
+        Session::over(Some(child), ours)
+    }
+
+    /// Opens a session with the server that listens at the path.
+    pub fn connect(path: &str) -> Outcome<Session> {
+        let stream = UnixStream::connect(path).map_err(|error| format!("{path}: {error}"))?;
+        Session::over(None, stream)
+    }
+
+    fn over(child: Option<Child>, stream: UnixStream) -> Outcome<Session> {
+        let other = stream.try_clone().map_err(|error| format!("a socket: {error}"))?;
+        Session::open(child, Box::new(stream), Box::new(other))
+    }
+
+    fn open(
+        child: Option<Child>,
+        to_server: Box<dyn Write + Send>,
+        from_server: Box<dyn Read + Send>,
+    ) -> Outcome<Session> {
         let mut session = Session {
-            to_server: child.stdin.take().unwrap(),
-            from_server: child.stdout.take().unwrap(),
             child,
+            to_server,
+            from_server,
             output: vec![0, 0, 0, 5, INIT, 0, 0, 0, 3],
             input: vec![0; 4 * LONGEST_PACKET],
             unread: 0..0,
@@ -43,7 +81,7 @@ impl Session {
         session.flush()?;
         let packet = session.packet()?;
         if !session.input[packet].starts_with(&[VERSION, 0, 0, 0, 3]) {
-            return Err(format!("{command}: no VERSION 3"));
+            return Err("no VERSION 3".into());
         }
         Ok(session)
     }
@@ -167,22 +205,30 @@ impl Session {
         self.ask(send, &|reply| reply.status(OK))
     }
 
-    /// The processor time of the server so far, in seconds. The system counts hundredths.
+    /// The processor time of the session's own process so far, in seconds.
     pub fn processor_seconds(&self) -> Outcome<f64> {
-        let path = format!("/proc/{}/stat", self.child.id());
-        let text = std::fs::read_to_string(&path).map_err(|error| format!("{path}: {error}"))?;
-        let fields: Vec<&str> = text.rsplit(')').next().unwrap_or("").split_whitespace().collect();
-        let ticks = |at: usize| fields.get(at).and_then(|field| field.parse::<u64>().ok());
-        match (ticks(11), ticks(12)) {
-            (Some(user), Some(system)) => Ok((user + system) as f64 / 100.0),
-            _ => Err(format!("{path} has no times")),
-        }
+        self.child.as_ref().map_or(Ok(0.0), |child| processor_seconds(child.id()))
     }
 
-    /// Ends the input, and waits for the server to end.
+    /// Ends the input, and waits for the session's own process to end.
     pub fn end(self) -> Outcome<()> {
-        let Session { mut child, to_server, from_server, .. } = self;
+        let Session { child, to_server, from_server, .. } = self;
         drop((to_server, from_server));
-        child.wait().map(drop).map_err(|error| format!("wait: {error}"))
+        match child {
+            None => Ok(()),
+            Some(mut child) => child.wait().map(drop).map_err(|error| format!("wait: {error}")),
+        }
+    }
+}
+
+/// The processor time of a process so far, in seconds, without its children. The system counts hundredths.
+pub fn processor_seconds(process: u32) -> Outcome<f64> {
+    let path = format!("/proc/{process}/stat");
+    let text = std::fs::read_to_string(&path).map_err(|error| format!("{path}: {error}"))?;
+    let fields: Vec<&str> = text.rsplit(')').next().unwrap_or("").split_whitespace().collect();
+    let ticks = |at: usize| fields.get(at).and_then(|field| field.parse::<u64>().ok());
+    match (ticks(11), ticks(12)) {
+        (Some(user), Some(system)) => Ok((user + system) as f64 / 100.0),
+        _ => Err(format!("{path} has no times")),
     }
 }

@@ -25,6 +25,7 @@ pub const EXTENDED: u8 = 200;
 
 pub const OK: u32 = 0;
 pub const EOF: u32 = 1;
+pub const NO_SUCH_FILE: u32 = 2;
 
 /// Flags of OPEN.
 pub const FOR_READING: u32 = 0x1;

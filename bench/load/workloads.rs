@@ -3,8 +3,8 @@
 use crate::session::Session;
 use crate::wire::{
     Field, Outcome, Reply, Request, CLOSE, CREATE, EOF, EXCLUSIVE, EXTENDED, FOR_READING,
-    FOR_WRITING, MKDIR, NO_ATTRIBUTES, OK, OPEN, OPENDIR, READ, READDIR, REMOVE, RENAME, RMDIR,
-    STAT, STATUS, TRUNCATE, WRITE,
+    FOR_WRITING, MKDIR, NO_ATTRIBUTES, NO_SUCH_FILE, OK, OPEN, OPENDIR, READ, READDIR, REMOVE,
+    RENAME, RMDIR, STAT, STATUS, TRUNCATE, WRITE,
 };
 use std::time::Instant;
 
@@ -23,9 +23,11 @@ pub struct Setting {
     pub names: usize,
     /// The server keeps no tree: of attributes and names only the form is checked.
     pub is_constant: bool,
+    /// Which of the sessions on one tree it is. Each chooses files of its own.
+    pub number: u64,
 }
 
-pub trait Workload {
+pub trait Workload: Send {
     /// Makes what the rounds need.
     fn prepare(&mut self, session: &mut Session) -> Outcome<()>;
     /// Works at least until then; answers the units done.
@@ -198,15 +200,27 @@ impl Chance {
 }
 
 /// STAT of files of the tree, chosen as if by chance.
-struct Stat {
+pub struct Stat {
     setting: Setting,
     ahead: usize,
     chance: Chance,
 }
 
 impl Stat {
-    fn new(setting: Setting, ahead: usize) -> Box<dyn Workload> {
-        Box::new(Stat { setting, ahead, chance: Chance(1) })
+    pub fn new(setting: Setting, ahead: usize) -> Box<dyn Workload> {
+        Box::new(Stat { setting, ahead, chance: Chance(1 + setting.number) })
+    }
+
+    /// So many STATs, one at a time.
+    pub fn few(setting: Setting, session: &mut Session, count: usize) -> Outcome<()> {
+        let mut stat = Stat { setting, ahead: 1, chance: Chance(1 + setting.number) };
+        for _ in 0..count {
+            let file = stat.chance.below(setting.files);
+            let path = path_of(file);
+            let send = |request: Request| request.send(STAT, &[Field::Bytes(&path)]);
+            session.ask(&send, &|reply| stat.check(reply, file))?;
+        }
+        Ok(())
     }
 
     fn check(&self, reply: Reply, file: usize) -> Outcome<()> {
@@ -621,7 +635,7 @@ impl Workload for List {
 
 /// Which of the two renames.
 #[derive(Clone, Copy)]
-enum Rename {
+pub enum Rename {
     Plain,
     Posix,
 }
@@ -644,7 +658,7 @@ const BELOW: &str = "u/v/d";
 
 /// Moves a directory down and up again, over and over. Requests sent ahead rely on the order in
 /// which they were sent: each but the first finds the directory only where the one before put it.
-struct MoveDirectory {
+pub struct MoveDirectory {
     setting: Setting,
     rename: Rename,
     ahead: usize,
@@ -652,7 +666,7 @@ struct MoveDirectory {
 }
 
 impl MoveDirectory {
-    fn new(setting: Setting, rename: Rename, ahead: usize) -> Box<dyn Workload> {
+    pub fn new(setting: Setting, rename: Rename, ahead: usize) -> Box<dyn Workload> {
         Box::new(MoveDirectory { setting, rename, ahead, is_below: false })
     }
 
@@ -696,5 +710,43 @@ impl Workload for MoveDirectory {
         })?;
         self.look(session)?;
         Ok(calls)
+    }
+}
+
+/// STAT of files of the directory that another session moves: each is asked for at one of its two
+/// places, as if by chance, and is there or not.
+pub struct StatMoving {
+    setting: Setting,
+    chance: Chance,
+}
+
+impl StatMoving {
+    pub fn new(setting: Setting) -> Box<dyn Workload> {
+        Box::new(StatMoving { setting, chance: Chance(1 + setting.number) })
+    }
+}
+
+impl Workload for StatMoving {
+    fn prepare(&mut self, _session: &mut Session) -> Outcome<()> {
+        Ok(())
+    }
+
+    fn round(&mut self, session: &mut Session, until: Instant) -> Outcome<u64> {
+        session.pump(64, &mut |_, reply, request| {
+            if let Some(reply) = reply {
+                if reply.kind == STATUS {
+                    reply.status(NO_SUCH_FILE)?;
+                } else if reply.file_size()? != 0 {
+                    return Err("STAT of an empty file: a size".into());
+                }
+                if Instant::now() >= until {
+                    return Ok(false);
+                }
+            }
+            let directory = if self.chance.below(2) == 0 { ABOVE } else { BELOW };
+            let path = name_in(directory, self.chance.below(self.setting.names));
+            request.send(STAT, &[Field::Bytes(&path)]);
+            Ok(true)
+        })
     }
 }
