@@ -2,6 +2,7 @@
 use Rattle.std.proofs.Common.{false, Result, Ok, Err, ◌≡◌, ℕ, List, [], ◌∷◌, ◌++◌, Option, Some, None, refl, ap, sym, ◌∙◌, subst}
 use Rattle.std.specs.Prelude.{IfSome, OnOk}
 use Rattle.std.specs.Result.{is_err}
+use Rattle.std.specs.Io.KnownBytes.{Appends}
 use Rattle.sf_field.specs.Fields.{packet}
 use Rattle.sf_reply.specs.declared.reply.Reply.{Reply}
 use Rattle.sf_reply.specs.Replies.{reply_body}
@@ -12,10 +13,11 @@ use Rattle.sf_session.specs.Sessions.{SessionView, refusal_of}
 use Rattle.sf_engine.specs.Worlds.{Answered, ByCall, Refused, asked_by, packet_for}
 use Rattle.sf_pool.specs.declared.calling.Stop.{Stop}
 use Rattle.sf_pool.specs.declared.calling.Stop.TheVariants as stop
+use Rattle.sf_pool.specs.declared.desk.Begin.{Begin}
 use Rattle.sf_pool.specs.Audits.{Deed}
 use Rattle.sf_pool.specs.Desks.{Place, Resting, UnderWay, IsResting, IsUnderWay, IsAnswered, IsLast, Answers, DeskView, Notes}
-use Rattle.sf_pool.specs.Scenes.{answer_deeds}
-use Rattle.sf_pool.specs.Serving.{MakesCall, FailsSteps, FailsCall}
+use Rattle.sf_pool.specs.Scenes.{answer_deeds, Attempt, attempt, answer_attempts, Begins}
+use Rattle.sf_pool.specs.Serving.{MakesCall, FailsSteps, LacksReply}
 use Rattle.sf_pool.proofs.Talking.{notes_none}
 
 abbrev deed : ℕ → Request → Reply → Deed
@@ -35,14 +37,14 @@ last_at : (request : Request) (number n : ℕ) (reply given : Reply) (d2 : DeskV
 last_at request number n reply given d2 placed last =
     let h : (n ≡ number) × (reply ≡ given) = subst (λ (p : Place). IsLast p n reply) placed last in h.1
 
-made_at : (request : Request) (d d1 d2 : DeskView) (number n : ℕ) (reply : Reply) (v w : SessionView) (waiting : Option ℕ) → d1.place ≡ UnderWay number request → d1.calls ≡ d.calls
+made_at : (request : Request) (Asked : List Attempt → Type 0) (d d1 d2 : DeskView) (number n : ℕ) (reply : Reply) (v w : SessionView) (waiting : Option ℕ) → d1.place ≡ UnderWay number request → d1.calls ≡ d.calls
     → Answers d1.place d1.calls d2 → IsLast d2.place n reply
-    → IfSome waiting (λ id. w ≡ record v { output = v.output ++ packet (reply_body id reply); waiting = None })
+    → IfSome waiting (λ id. w ≡ record v { output = v.output ++ packet (reply_body id reply); waiting = None }) → Asked (attempt request (Ok number) ∷ [])
     → IfSome waiting (λ id. (a : Answered) × (asked_by a ≡ ask.Call id request)
     × (w ≡ record v { output = v.output ++ packet_for a; waiting = None })
-    × IsResting d2.place × Notes d.calls d2.calls (answer_deeds a))
-made_at request d d1 d2 number n reply v w None at calls answers last written = tt
-made_at request d d1 d2 number n reply v w (Some id) at calls answers last written =
+    × IsResting d2.place × Notes d.calls d2.calls (answer_deeds a) × Asked (answer_attempts a))
+made_at request Asked d d1 d2 number n reply v w None at calls answers last written asked = tt
+made_at request Asked d d1 d2 number n reply v w (Some id) at calls answers last written asked =
     let h = answers_at request number d1 d2 at answers in
     let same : reply ≡ h.0 = last_at request number n reply h.0 d2 h.1 last in (
       ByCall id number request h.0,
@@ -50,32 +52,34 @@ made_at request d d1 d2 number n reply v w (Some id) at calls answers last writt
       written ∙ ap (λ (r : Reply). record v { output = v.output ++ packet (reply_body id r); waiting = None }) same,
       subst (λ (p : Place). IsResting p) (sym h.1) tt,
       subst (λ (c : Option (List Deed)). Notes c d2.calls (deed number request h.0 ∷ [])) calls h.2,
+      asked,
     )
 
-pub call_made : (request : Request) (d d1 d2 : DeskView) (number n : ℕ) (reply : Reply) (v w : SessionView) → d1.place ≡ UnderWay number request → d1.calls ≡ d.calls
+pub call_made : (request : Request) (Asked : List Attempt → Type 0) (d d1 d2 : DeskView) (number n : ℕ) (reply : Reply) (v w : SessionView) → d1.place ≡ UnderWay number request → d1.calls ≡ d.calls
     → Answers d1.place d1.calls d2 → IsLast d2.place n reply
-    → IfSome v.waiting (λ id. w ≡ record v { output = v.output ++ packet (reply_body id reply); waiting = None }) → MakesCall request d d2 v w
-call_made request d d1 d2 number n reply v w at calls answers last written = made_at request d d1 d2 number n reply v w v.waiting at calls answers last written
+    → IfSome v.waiting (λ id. w ≡ record v { output = v.output ++ packet (reply_body id reply); waiting = None }) → Asked (attempt request (Ok number) ∷ []) → MakesCall request Asked d d2 v w
+call_made request Asked d d1 d2 number n reply v w at calls answers last written asked = made_at request Asked d d1 d2 number n reply v w v.waiting at calls answers last written asked
 
-refused_at : (request : Request) (d d1 : DeskView) (fault : CoreFault) (v w : SessionView) (waiting : Option ℕ) → IsResting d.place → d1 ≡ d
-    → IfSome waiting (λ id. w ≡ record v { output = v.output ++ packet (reply_body id (refusal_of fault)); waiting = None })
+refused_at : (request : Request) (Asked : List Attempt → Type 0) (d d1 : DeskView) (fault : CoreFault) (v w : SessionView) (waiting : Option ℕ) → IsResting d.place → d1 ≡ d
+    → IfSome waiting (λ id. w ≡ record v { output = v.output ++ packet (reply_body id (refusal_of fault)); waiting = None }) → Asked (attempt request (Err fault) ∷ [])
     → IfSome waiting (λ id. (a : Answered) × (asked_by a ≡ ask.Call id request)
     × (w ≡ record v { output = v.output ++ packet_for a; waiting = None })
-    × IsResting d1.place × Notes d.calls d1.calls (answer_deeds a))
-refused_at request d d1 fault v w None rests same written = tt
-refused_at request d d1 fault v w (Some id) rests same written = (
+    × IsResting d1.place × Notes d.calls d1.calls (answer_deeds a) × Asked (answer_attempts a))
+refused_at request Asked d d1 fault v w None rests same written asked = tt
+refused_at request Asked d d1 fault v w (Some id) rests same written asked = (
   Refused id request fault,
   refl,
   written,
   subst (λ (x : DeskView). IsResting x.place) (sym same) rests,
   subst (λ (x : DeskView). Notes d.calls x.calls []) (sym same) (notes_none d.calls),
+  asked,
 )
 
-pub call_refused : (request : Request) (d d1 : DeskView) (fault : CoreFault) (v w : SessionView) → IsResting d.place → d1 ≡ d
-    → IfSome v.waiting (λ id. w ≡ record v { output = v.output ++ packet (reply_body id (refusal_of fault)); waiting = None }) → MakesCall request d d1 v w
-call_refused request d d1 fault v w rests same written = refused_at request d d1 fault v w v.waiting rests same written
+pub call_refused : (request : Request) (Asked : List Attempt → Type 0) (d d1 : DeskView) (fault : CoreFault) (v w : SessionView) → IsResting d.place → d1 ≡ d
+    → IfSome v.waiting (λ id. w ≡ record v { output = v.output ++ packet (reply_body id (refusal_of fault)); waiting = None }) → Asked (attempt request (Err fault) ∷ []) → MakesCall request Asked d d1 v w
+call_refused request Asked d d1 fault v w rests same written asked = refused_at request Asked d d1 fault v w v.waiting rests same written asked
 
-pub steps_failed : (request : Request) (number : ℕ) (why : Stop) (d d1 d2 : DeskView) → d1.place ≡ UnderWay number request → d1.calls ≡ d.calls → FailsSteps why d1 d2 → FailsCall request why d d2
+pub steps_failed : (request : Request) (number : ℕ) (why : Stop) (d d1 d2 : DeskView) → d1.place ≡ UnderWay number request → d1.calls ≡ d.calls → FailsSteps why d1 d2 → LacksReply request number why d d2
 steps_failed request number stop.Stranger d d1 d2 at calls h = (h.0, h.1 ∙ calls)
 steps_failed request number stop.UnderWay d d1 d2 at calls h =
     (subst (λ (x : DeskView). IsUnderWay x.place) (sym h) (subst (λ (p : Place). IsUnderWay p) (sym at) tt), ap (λ (x : DeskView). x.calls) h ∙ calls)
@@ -83,14 +87,20 @@ steps_failed request number stop.Line d d1 d2 at calls h = absurd h
 steps_failed request number stop.OutOfMemory d d1 d2 at calls h = absurd h
 steps_failed request number stop.NumbersSpent d d1 d2 at calls h = absurd h
 
-pub answer_failed : (request : Request) (number : ℕ) (d d1 d2 : DeskView) → d1.place ≡ UnderWay number request → d1.calls ≡ d.calls → Answers d1.place d1.calls d2 → FailsCall request stop.OutOfMemory d d2
+pub answer_failed : (request : Request) (number : ℕ) (d d1 d2 : DeskView) → d1.place ≡ UnderWay number request → d1.calls ≡ d.calls → Answers d1.place d1.calls d2 → LacksReply request number stop.OutOfMemory d d2
 answer_failed request number d d1 d2 at calls answers =
     let h = answers_at request number d1 d2 at answers in (
-      number,
       h.0,
       subst (λ (p : Place). IsResting p) (sym h.1) tt,
       subst (λ (c : Option (List Deed)). Notes c d2.calls (deed number request h.0 ∷ [])) calls h.2,
     )
+
+-- a desk was asked to begin a call at the moment that was told for it, and no other since
+pub one_begin : (tl tl' : Option (List ℕ)) (b b1 b2 : Option (List Begin)) (request : Request) (moment : ℕ) (outcome : Result ℕ CoreFault)
+    → Appends tl tl' (moment ∷ []) → Notes b b1 (record { request = request; moment = moment; outcome = outcome } ∷ []) → b2 ≡ b1 → Begins tl tl' b b2 (attempt request outcome ∷ [])
+one_begin tl tl' b b1 b2 request moment outcome told noted same =
+    let one : List Begin = record { request = request; moment = moment; outcome = outcome } ∷ [] in
+    (one, subst (λ (x : Option (List Begin)). Notes b x one) (sym same) noted, told, refl)
 
 -- what holds of an answer that is no fault
 pub on_ok_at : {T E : Type 0} (r : Result T E) (P : Type 0) → is_err r ≡ false → OnOk r P → P

@@ -9,9 +9,10 @@ use Rattle.sf_session.specs.Sessions.{SessionView, new_session}
 use Rattle.sf_engine.specs.Worlds.{transcript, Told, new_told}
 use Rattle.sf_pool.specs.declared.calling.Stop.{Stop}
 use Rattle.sf_pool.specs.declared.calling.Stop.TheVariants as stop
+use Rattle.sf_pool.specs.declared.desk.Begin.{Begin}
 use Rattle.sf_pool.specs.Audits.{Deed}
 use Rattle.sf_pool.specs.Desks.{DeskView, Notes}
-use Rattle.sf_pool.specs.Scenes.{Scene, scene, deeds_told, Serves, HasSentAll, IsServed, StopsEarly}
+use Rattle.sf_pool.specs.Scenes.{Scene, scene, deeds_told, attempts_told, Begins, Serves, HasSentAll, IsServed, StopsEarly}
 use Rattle.sf_pool.specs.Serving.{Rests, HasSentFor, IsStop, fault_of}
 use Rattle.sf_pool.proofs.Talking.{joined_serves}
 
@@ -27,15 +28,15 @@ new_rests : Rests new_session new_told
 new_rests = (record { resting = refl; unread = refl; begun = refl; ended = refl; waits = none_waits }, inl (omega arith), none_sent)
 
 -- a session that has joined rests
-pub joined_rests : (i o : Option (List ℕ)) (c : Option (List LineCall)) (tl : Option (List ℕ)) (d d' : DeskView) (v : SessionView) → d'.calls ≡ d.calls → v ≡ new_session
-    → Serves (scene i o c tl d) (scene i o c tl d') (Rests v)
-joined_rests i o c tl d d' v same new =
-    (new_told, joined_serves (scene i o c tl d) d' same, subst (λ (x : SessionView). Rests x new_told) (sym new) new_rests)
+pub joined_rests : (i o : Option (List ℕ)) (c : Option (List LineCall)) (tl : Option (List ℕ)) (b b' : Option (List Begin)) (d d' : DeskView) (v : SessionView) → b' ≡ b → d'.calls ≡ d.calls → v ≡ new_session
+    → Serves (scene i o c tl b d) (scene i o c tl b' d') (Rests v)
+joined_rests i o c tl b b' d d' v none same new =
+    (new_told, joined_serves (scene i o c tl b d) b' d' none same, subst (λ (x : SessionView). Rests x new_told) (sym new) new_rests)
 
 -- a desk that answers no call leaves what was served
-pub left_serves : (start : Scene) (i o : Option (List ℕ)) (c : Option (List LineCall)) (tl : Option (List ℕ)) (d d' : DeskView) (P : Told → Type 0) → d'.calls ≡ d.calls
-    → Serves start (scene i o c tl d) P → Serves start (scene i o c tl d') P
-left_serves start i o c tl d d' P same serves =
+pub left_serves : (start : Scene) (i o : Option (List ℕ)) (c : Option (List LineCall)) (tl : Option (List ℕ)) (b b' : Option (List Begin)) (d d' : DeskView) (P : Told → Type 0) → b' ≡ b → d'.calls ≡ d.calls
+    → Serves start (scene i o c tl b d) P → Serves start (scene i o c tl b' d') P
+left_serves start i o c tl b b' d d' P none same serves =
     let S = serves.1 in (
       serves.0,
       record {
@@ -44,7 +45,7 @@ left_serves start i o c tl d d' P same serves =
         wrote = S.wrote;
         begun = S.begun;
         noted = subst (λ (x : Option (List Deed)). Notes start.desk.calls x (deeds_told serves.0)) (sym same) S.noted;
-        clocked = S.clocked;
+        asked = subst (λ (x : Option (List Begin)). Begins start.told tl start.begins x (attempts_told serves.0)) (sym none) S.asked;
         log = S.log;
         logged = S.logged;
         gave = S.gave;

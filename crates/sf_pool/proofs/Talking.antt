@@ -1,11 +1,10 @@
 -- What happens to a session that is served: it reads, is answered, writes, and ends.
 use Rattle.std.proofs.Common.{◌≡◌, ℕ, ◌+◌, List, [], ◌∷◌, ◌++◌, Bool, true, false, Option, Some, None, map, length, refl, ap, sym, ◌∙◌, subst, inl, inr, append-nil, append_assoc, length-append, arith}
-use Rattle.std.specs.List.{flat_map, count_by}
+use Rattle.std.specs.List.{flat_map}
 use Rattle.std.specs.Io.KnownBytes.{Appends, Consumes, Keeps}
 use Rattle.std.proofs.KnownBytes.{Appends-nil, Appends-trans, Consumes-nil, Consumes-trans, Consumes-kept}
-use Rattle.std.proofs.lemmas.List.{length-map}
+use Rattle.std.proofs.lemmas.List.{length-map, map-append}
 use Rattle.std.proofs.lemmas.List.Concat.{flat_map-append}
-use Rattle.std.proofs.lemmas.Grind.{common_steps}
 use Rattle.sf_field.specs.Fields.{packet}
 use Rattle.sf_wire.specs.declared.cutting.Cut.TheVariants as cut
 use Rattle.sf_wire.specs.Packets.{IsBody, IsCut, More, Cuts}
@@ -24,35 +23,36 @@ use Rattle.sf_engine.specs.Laws.{pending, asks_of, AreAsked, IsRest, IsRead}
 use Rattle.sf_serving.specs.Ends.{IsEnd, IsWhole}
 use Rattle.sf_serving.specs.Serving.{progress, IsPromptAt}
 use Rattle.sf_serving.proofs.Laws.{all_push, transcript_append, front_more, front_all, prompt_further, nothing_after, prompt_push, prompt_writes, given_more, taken_more, writes_give_none}
+use Rattle.sf_pool.specs.declared.desk.Begin.{Begin}
 use Rattle.sf_pool.specs.Audits.{Deed}
 use Rattle.sf_pool.specs.Desks.{DeskView, Notes}
-use Rattle.sf_pool.specs.Scenes.{Scene, scene, answer_deeds, phase_deeds, deeds_told, is_call, Clocks, Served, HasSentAll}
+use Rattle.sf_pool.specs.Scenes.{Scene, scene, answer_deeds, phase_deeds, deeds_told, Attempt, attempt_of, answer_attempts, phase_attempts, attempts_told, Begins, Served, HasSentAll}
 use Rattle.sf_pool.specs.Serving.{Goes, SendsPart}
 
 -- ---- lists
 
-pub notes_none : (a : Option (List Deed)) → Notes a a []
+pub notes_none : {T : Type 0} (a : Option (List T)) → Notes a a []
 notes_none None = tt
 notes_none (Some x) = sym (append-nil x)
 
-pub notes_more : (a b c : Option (List Deed)) (xs ys : List Deed) → Notes a b xs → Notes b c ys → Notes a c (xs ++ ys)
+pub notes_more : {T : Type 0} (a b c : Option (List T)) (xs ys : List T) → Notes a b xs → Notes b c ys → Notes a c (xs ++ ys)
 notes_more None b c xs ys p q = tt
 notes_more (Some x) None c xs ys p q = absurd p
 notes_more (Some x) (Some y) None xs ys p q = absurd q
-notes_more (Some x) (Some y) (Some z) xs ys p q = q ∙ ap (λ (l : List Deed). l ++ ys) p ∙ append_assoc x xs ys
+notes_more (Some x) (Some y) (Some z) xs ys p q = q ∙ ap (λ l. l ++ ys) p ∙ append_assoc x xs ys
 
-counts_more : (xs ys : List Ask) → count_by is_call (xs ++ ys) ≡ count_by is_call xs + count_by is_call ys
-counts_more xs ys = grind (arith, common_steps)
+pub begins_none : (tl : Option (List ℕ)) (b : Option (List Begin)) → Begins tl tl b b []
+begins_none tl b = ([], notes_none b, Appends-nil tl, refl)
 
-pub clocks_none : (a : Option (List ℕ)) → Clocks a a []
-clocks_none a = ([], Appends-nil a, refl)
-
-pub clocks_more : (a b c : Option (List ℕ)) (xs ys : List Ask) → Clocks a b xs → Clocks b c ys → Clocks a c (xs ++ ys)
-clocks_more a b c xs ys p q = (
-  p.0 ++ q.0,
-  Appends-trans a b c p.0 q.0 p.1 q.1,
-  omega (arith, length-append p.0 q.0, counts_more xs ys, p.2, q.2),
-)
+pub begins_more : (tl tl1 tl2 : Option (List ℕ)) (b b1 b2 : Option (List Begin)) (xs ys : List Attempt) → Begins tl tl1 b b1 xs → Begins tl1 tl2 b1 b2 ys → Begins tl tl2 b b2 (xs ++ ys)
+begins_more tl tl1 tl2 b b1 b2 xs ys p q =
+    let moment_of : Begin → ℕ = λ x. x.moment in
+    let moments = map-append moment_of p.0 q.0 in (
+      p.0 ++ q.0,
+      notes_more b b1 b2 p.0 q.0 p.1 q.1,
+      subst (λ (l : List ℕ). Appends tl tl2 l) (sym moments) (Appends-trans tl tl1 tl2 (map moment_of p.0) (map moment_of q.0) p.2 q.2),
+      map-append attempt_of p.0 q.0 ∙ ap (λ (l : List Attempt). l ++ map attempt_of q.0) p.3 ∙ ap (λ (l : List Attempt). xs ++ l) q.3,
+    )
 
 map_push : (answers : List Answered) (a : Answered) → map asked_by (answers ++ a ∷ []) ≡ map asked_by answers ++ asked_by a ∷ []
 map_push [] a = refl
@@ -105,6 +105,9 @@ at_rest_asks t at = ap (λ (f : Phase). map asked_by t.answers ++ pending f) at 
 at_rest_deeds : (t : Told) → t.phase ≡ AtRest → deeds_told t ≡ flat_map answer_deeds t.answers
 at_rest_deeds t at = ap (λ (f : Phase). flat_map answer_deeds t.answers ++ phase_deeds f) at ∙ append-nil (flat_map answer_deeds t.answers)
 
+at_rest_attempts : (t : Told) → t.phase ≡ AtRest → attempts_told t ≡ flat_map answer_attempts t.answers
+at_rest_attempts t at = ap (λ (f : Phase). flat_map answer_attempts t.answers ++ phase_attempts f) at ∙ append-nil (flat_map answer_attempts t.answers)
+
 at_rest_asked : (t : Told) → t.phase ≡ AtRest → IsRead t → AreAsked false t.bodies (map asked_by t.answers)
 at_rest_asked t at read = subst (λ (asks : List Ask). AreAsked false t.bodies asks) (at_rest_asks t at) read.asked
 
@@ -116,15 +119,15 @@ at_rest_stream t at read = read.stream ∙ ap (λ (b : List ℕ). flat_map packe
 
 -- ---- it joins
 
-pub joined_serves : (start : Scene) (desk : DeskView) → desk.calls ≡ start.desk.calls
-    → Served start (scene start.incoming start.outgoing start.calls start.told desk) new_told
-joined_serves start desk same = record {
+pub joined_serves : (start : Scene) (begins' : Option (List Begin)) (desk : DeskView) → begins' ≡ start.begins → desk.calls ≡ start.desk.calls
+    → Served start (scene start.incoming start.outgoing start.calls start.told begins' desk) new_told
+joined_serves start begins' desk told_none same = record {
   bodies = record { rest = []; are_bodies = tt; stream = refl; left = refl; asked = none_asked };
   read = Consumes-nil start.incoming;
   wrote = Appends-nil start.outgoing;
   begun = ([], none_written);
   noted = subst (λ (c : Option (List Deed)). Notes start.desk.calls c []) (sym same) (notes_none start.desk.calls);
-  clocked = clocks_none start.told;
+  asked = subst (λ (b : Option (List Begin)). Begins start.told start.told start.begins b []) (sym told_none) (begins_none start.told start.begins);
   log = [];
   logged = logs_none start.calls;
   gave = refl;
@@ -161,7 +164,7 @@ fed t bytes = record t { stream = t.stream ++ bytes; unread = t.unread ++ bytes 
 
 pub read_serves : (start now : Scene) (incoming' outgoing' : Option (List ℕ)) (calls' : Option (List LineCall)) (t : Told) (n : ℕ) (bytes : List ℕ)
     → Served start now t → t.phase ≡ AtRest → IsCut t.unread cut.More → HasSentAll t → Consumes now.incoming incoming' bytes → length bytes ≡ n → outgoing' ≡ now.outgoing → Logs now.calls calls' (Read n ∷ [])
-    → Served start (scene incoming' outgoing' calls' now.told now.desk) (fed t bytes)
+    → Served start (scene incoming' outgoing' calls' now.told now.begins now.desk) (fed t bytes)
 read_serves start now incoming' outgoing' calls' t n bytes S at no_more sent consumes count same logs =
     let read = S.bodies in
     let left : t.unread ≡ read.rest = at_rest_left t at read in
@@ -182,7 +185,7 @@ read_serves start now incoming' outgoing' calls' t n bytes S at no_more sent con
       wrote = subst (λ (o : Option (List ℕ)). Appends start.outgoing o t.sent) (sym same) S.wrote;
       begun = S.begun;
       noted = S.noted;
-      clocked = S.clocked;
+      asked = S.asked;
       log = S.log ++ Read n ∷ [];
       logged = logs_more start.calls now.calls calls' S.log (Read n ∷ []) S.logged logs;
       gave = omega (arith, more, one, longer, S.gave, count);
@@ -194,14 +197,14 @@ read_serves start now incoming' outgoing' calls' t n bytes S at no_more sent con
 
 -- a line that moved no byte and told no call
 pub still_serves : (start now : Scene) (incoming' outgoing' : Option (List ℕ)) (calls' : Option (List LineCall)) (t : Told)
-    → Served start now t → Keeps now.incoming incoming' → outgoing' ≡ now.outgoing → Logs now.calls calls' [] → Served start (scene incoming' outgoing' calls' now.told now.desk) t
+    → Served start now t → Keeps now.incoming incoming' → outgoing' ≡ now.outgoing → Logs now.calls calls' [] → Served start (scene incoming' outgoing' calls' now.told now.begins now.desk) t
 still_serves start now incoming' outgoing' calls' t S kept same logs = record {
   bodies = S.bodies;
   read = Consumes-kept start.incoming now.incoming incoming' t.stream S.read kept;
   wrote = subst (λ (o : Option (List ℕ)). Appends start.outgoing o t.sent) (sym same) S.wrote;
   begun = S.begun;
   noted = S.noted;
-  clocked = S.clocked;
+  asked = S.asked;
   log = S.log;
   logged = subst (λ (l : List LineCall). Logs start.calls calls' l) (append-nil S.log) (logs_more start.calls now.calls calls' S.log [] S.logged logs);
   gave = S.gave;
@@ -221,11 +224,11 @@ abbrev pub answered : Told → List ℕ → List ℕ → Answered → Told
 answered t body rest a = record t { unread = rest; bodies = t.bodies ++ body ∷ []; answers = t.answers ++ a ∷ [] }
 
 -- a body asked for this, and was answered so
-pub answer_serves : (start now : Scene) (told' : Option (List ℕ)) (desk' : DeskView) (t : Told) (body rest : List ℕ) (a : Answered)
+pub answer_serves : (start now : Scene) (told' : Option (List ℕ)) (begins' : Option (List Begin)) (desk' : DeskView) (t : Told) (body rest : List ℕ) (a : Answered)
     → Served start now t → t.phase ≡ AtRest → t.unread ≡ packet body ++ rest → IsBody body → AsksFor (has_begun t.bodies) body (asked_by a)
-    → Clocks now.told told' (asked_by a ∷ []) → Notes now.desk.calls desk'.calls (answer_deeds a)
-    → Served start (scene now.incoming now.outgoing now.calls told' desk') (answered t body rest a)
-answer_serves start now told' desk' t body rest a S at whole is_body asks clocks notes =
+    → Begins now.told told' now.begins begins' (answer_attempts a) → Notes now.desk.calls desk'.calls (answer_deeds a)
+    → Served start (scene now.incoming now.outgoing now.calls told' begins' desk') (answered t body rest a)
+answer_serves start now told' begins' desk' t body rest a S at whole is_body asks begins notes =
     let read = S.bodies in
     let t' = answered t body rest a in
     let P : Phase → Type 0 = λ f. IsRest (has_begun t'.bodies) f rest rest in
@@ -234,8 +237,11 @@ answer_serves start now told' desk' t body rest a S at whole is_body asks clocks
     let same_asks : map asked_by t.answers ++ asked_by a ∷ [] ≡ asks_of t'.answers t'.phase = sym (map_push t.answers a) ∙ sym (at_rest_asks t' at) in
     let calls : flat_map answer_deeds t.answers ++ answer_deeds a ≡ deeds_told t' =
     ap (λ (l : List Deed). flat_map answer_deeds t.answers ++ l) (sym (append-nil (answer_deeds a))) ∙ sym (flat_map-append answer_deeds t.answers (a ∷ [])) ∙ sym (at_rest_deeds t' at) in
+    let attempts : flat_map answer_attempts t.answers ++ answer_attempts a ≡ attempts_told t' =
+    ap (λ (l : List Attempt). flat_map answer_attempts t.answers ++ l) (sym (append-nil (answer_attempts a))) ∙ sym (flat_map-append answer_attempts t.answers (a ∷ [])) ∙ sym (at_rest_attempts t' at) in
     let noted : Notes start.desk.calls now.desk.calls (flat_map answer_deeds t.answers) = subst (λ (l : List Deed). Notes start.desk.calls now.desk.calls l) (at_rest_deeds t at) S.noted in
-    let clocked : Clocks start.told now.told (map asked_by t.answers) = subst (λ (l : List Ask). Clocks start.told now.told l) (at_rest_asks t at) S.clocked in
+    let begun : Begins start.told now.told start.begins now.begins (flat_map answer_attempts t.answers) =
+    subst (λ (l : List Attempt). Begins start.told now.told start.begins now.begins l) (at_rest_attempts t at) S.asked in
     record {
       bodies = record {
         rest = rest;
@@ -248,7 +254,8 @@ answer_serves start now told' desk' t body rest a S at whole is_body asks clocks
       wrote = S.wrote;
       begun = front_more t.sent (transcript t.answers) (transcript (a ∷ [])) (transcript t'.answers) S.begun (transcript_append t.answers (a ∷ []));
       noted = subst (λ (l : List Deed). Notes start.desk.calls desk'.calls l) calls (notes_more start.desk.calls now.desk.calls desk'.calls (flat_map answer_deeds t.answers) (answer_deeds a) noted notes);
-      clocked = subst (λ (l : List Ask). Clocks start.told told' l) same_asks (clocks_more start.told now.told told' (map asked_by t.answers) (asked_by a ∷ []) clocked clocks);
+      asked = subst (λ (l : List Attempt). Begins start.told told' start.begins begins' l) attempts
+          (begins_more start.told now.told told' start.begins now.begins begins' (flat_map answer_attempts t.answers) (answer_attempts a) begun begins);
       log = S.log;
       logged = S.logged;
       gave = S.gave;
@@ -279,18 +286,19 @@ abbrev pub pended : Told → List ℕ → List ℕ → Phase → Told
 pended t body rest f = record t { unread = rest; bodies = t.bodies ++ body ∷ []; phase = f }
 
 -- a body asked for a call that has no reply yet
-pub pend_serves : (start now : Scene) (told' : Option (List ℕ)) (desk' : DeskView) (t : Told) (body rest : List ℕ) (f : Phase) (a : Ask)
+pub pend_serves : (start now : Scene) (told' : Option (List ℕ)) (begins' : Option (List Begin)) (desk' : DeskView) (t : Told) (body rest : List ℕ) (f : Phase) (a : Ask)
     → Served start now t → t.phase ≡ AtRest → t.unread ≡ packet body ++ rest → IsBody body → AsksFor (has_begun t.bodies) body a → pending f ≡ a ∷ [] → IsRest (has_begun (t.bodies ++ body ∷ [])) f rest rest
-    → Clocks now.told told' (a ∷ []) → Notes now.desk.calls desk'.calls (phase_deeds f)
-    → Served start (scene now.incoming now.outgoing now.calls told' desk') (pended t body rest f)
-pend_serves start now told' desk' t body rest f a S at whole is_body asks pend left clocks notes =
+    → Begins now.told told' now.begins begins' (phase_attempts f) → Notes now.desk.calls desk'.calls (phase_deeds f)
+    → Served start (scene now.incoming now.outgoing now.calls told' begins' desk') (pended t body rest f)
+pend_serves start now told' begins' desk' t body rest f a S at whole is_body asks pend left begins notes =
     let read = S.bodies in
     let t' = pended t body rest f in
     let asked : AreAsked false t'.bodies (map asked_by t.answers ++ a ∷ []) =
     asked_push false t.bodies (map asked_by t.answers) body a (at_rest_asked t at read) (subst (λ (g : Bool). AsksFor g body a) (begun_is t.bodies) asks) in
     let same_asks : map asked_by t.answers ++ a ∷ [] ≡ asks_of t'.answers t'.phase = ap (λ (l : List Ask). map asked_by t.answers ++ l) (sym pend) in
     let noted : Notes start.desk.calls now.desk.calls (flat_map answer_deeds t.answers) = subst (λ (l : List Deed). Notes start.desk.calls now.desk.calls l) (at_rest_deeds t at) S.noted in
-    let clocked : Clocks start.told now.told (map asked_by t.answers) = subst (λ (l : List Ask). Clocks start.told now.told l) (at_rest_asks t at) S.clocked in
+    let begun : Begins start.told now.told start.begins now.begins (flat_map answer_attempts t.answers) =
+    subst (λ (l : List Attempt). Begins start.told now.told start.begins now.begins l) (at_rest_attempts t at) S.asked in
     record {
       bodies = record {
         rest = rest;
@@ -303,7 +311,7 @@ pend_serves start now told' desk' t body rest f a S at whole is_body asks pend l
       wrote = S.wrote;
       begun = S.begun;
       noted = notes_more start.desk.calls now.desk.calls desk'.calls (flat_map answer_deeds t.answers) (phase_deeds f) noted notes;
-      clocked = subst (λ (l : List Ask). Clocks start.told told' l) same_asks (clocks_more start.told now.told told' (map asked_by t.answers) (a ∷ []) clocked clocks);
+      asked = begins_more start.told now.told told' start.begins now.begins begins' (flat_map answer_attempts t.answers) (phase_attempts f) begun begins;
       log = S.log;
       logged = S.logged;
       gave = S.gave;
@@ -319,7 +327,7 @@ sent_more t bytes = record t { sent = t.sent ++ bytes }
 
 pub write_serves : (start now : Scene) (incoming' outgoing' : Option (List ℕ)) (calls' : Option (List LineCall)) (v w : SessionView) (t : Told)
     → Served start now t → Goes v t → incoming' ≡ now.incoming → (part : SendsPart now.outgoing outgoing' now.calls calls' v w)
-    → Served start (scene incoming' outgoing' calls' now.told now.desk) (sent_more t part.sent) × Goes w (sent_more t part.sent)
+    → Served start (scene incoming' outgoing' calls' now.told now.begins now.desk) (sent_more t part.sent) × Goes w (sent_more t part.sent)
 write_serves start now incoming' outgoing' calls' v w t S goes same part =
     let writes = part.logged in
     let t' = sent_more t part.sent in
@@ -332,7 +340,7 @@ write_serves start now incoming' outgoing' calls' v w t S goes same part =
         wrote = Appends-trans start.outgoing now.outgoing outgoing' t.sent part.sent S.wrote part.appended;
         begun = (w.output, waits);
         noted = S.noted;
-        clocked = S.clocked;
+        asked = S.asked;
         log = S.log ++ writes.0;
         logged = logs_more start.calls now.calls calls' S.log writes.0 S.logged writes.1;
         gave = omega (arith, given_more S.log writes.0, none, S.gave);
@@ -378,7 +386,7 @@ end_serves start now t cause S at end =
         wrote = S.wrote;
         begun = S.begun;
         noted = subst (λ (f : Phase). Notes start.desk.calls now.desk.calls (flat_map answer_deeds t.answers ++ phase_deeds f)) at S.noted;
-        clocked = subst (λ (f : Phase). Clocks start.told now.told (asks_of t.answers f)) at S.clocked;
+        asked = subst (λ (f : Phase). Begins start.told now.told start.begins now.begins (flat_map answer_attempts t.answers ++ phase_attempts f)) at S.asked;
         log = S.log;
         logged = S.logged;
         gave = S.gave;

@@ -1,7 +1,6 @@
 -- A session at a desk, from one packet to the next.
 use Rattle.std.proofs.Common.{◌≡◌, ◌+◌, ◌≤◌, ℕ, List, [], ◌∷◌, ◌++◌, Bool, Option, Some, None, length, take, refl, ap, sym, ◌∙◌, subst, inl, inr, append-nil, append_assoc, length-append, length-take, arith}
-use Rattle.std.specs.List.{count_by}
-use Rattle.std.specs.Io.KnownBytes.{Appends, Consumes, Keeps, IsAtEnd}
+use Rattle.std.specs.Io.KnownBytes.{Consumes, Keeps, IsAtEnd}
 use Rattle.std.proofs.KnownBytes.{Appends-nil, Appends-trans}
 use Rattle.sf_field.specs.Fields.{packet}
 use Rattle.sf_wire.specs.declared.cutting.Cut.TheVariants as cut
@@ -23,23 +22,24 @@ use Rattle.sf_engine.specs.Traces.{has_begun}
 use Rattle.sf_serving.proofs.Laws.{not_closed}
 use Rattle.sf_pool.specs.declared.calling.Stop.{Stop}
 use Rattle.sf_pool.specs.declared.calling.Stop.TheVariants as stop
+use Rattle.sf_pool.specs.declared.desk.Begin.{Begin}
 use Rattle.sf_pool.specs.Audits.{Deed}
 use Rattle.sf_pool.specs.Desks.{IsResting, DeskView, Notes}
-use Rattle.sf_pool.specs.Scenes.{Scene, scene, answer_deeds, is_call, Clocks, Serves, HasSentAll, IsServed}
+use Rattle.sf_pool.specs.Scenes.{Scene, scene, answer_deeds, Attempt, answer_attempts, Begins, Serves, HasSentAll, IsServed}
 use Rattle.sf_pool.specs.Serving.{Goes, Rests, SendsPart, MakesCall, FailsCall, StopsAt, HasSentFor}
-use Rattle.sf_pool.proofs.Talking.{notes_none, fed, read_serves, still_serves, answer_serves, answer_goes, answered, pend_serves, pended, write_serves, sent_more, all_sent, end_serves, ended_by}
+use Rattle.sf_pool.proofs.Talking.{notes_none, begins_none, fed, read_serves, still_serves, answer_serves, answer_goes, answered, pend_serves, pended, write_serves, sent_more, all_sent, end_serves, ended_by}
 
 -- what answers a body with no call
 local_at : (asked : Ask) (text : List ℕ) → LocalPacket asked text
-    → (a : Answered) × (asked_by a ≡ asked) × (packet_for a ≡ text) × (count_by is_call (asked_by a ∷ []) ≡ 0) × (answer_deeds a ≡ [])
+    → (a : Answered) × (asked_by a ≡ asked) × (packet_for a ≡ text) × (answer_attempts a ≡ []) × (answer_deeds a ≡ [])
 local_at ask.Version text h = (Version, refl, sym h, refl, refl)
 local_at (ask.Local id reply) text h = (Locally id reply, refl, sym h, refl, refl)
 local_at (ask.Call id request) text h = absurd h
 local_at (ask.End cause) text h = absurd h
 
-pub local_serves : (start : Scene) (i o : Option (List ℕ)) (c : Option (List LineCall)) (tl : Option (List ℕ)) (d : DeskView) (v w : SessionView)
-    → NextGives v next.Local w → Serves start (scene i o c tl d) (Goes v) → Serves start (scene i o c tl d) (Goes w)
-local_serves start i o c tl d v w gives serves =
+pub local_serves : (start : Scene) (i o : Option (List ℕ)) (c : Option (List LineCall)) (tl : Option (List ℕ)) (b : Option (List Begin)) (d : DeskView) (v w : SessionView)
+    → NextGives v next.Local w → Serves start (scene i o c tl b d) (Goes v) → Serves start (scene i o c tl b d) (Goes w)
+local_serves start i o c tl b d v w gives serves =
     let t = serves.0 in
     let goes = serves.2 in
     let h = gives.1 in
@@ -47,91 +47,89 @@ local_serves start i o c tl d v w gives serves =
     let whole : t.unread ≡ packet h.body ++ h.rest = sym goes.unread ∙ h.begins.whole in
     let asks : AsksFor (has_begun t.bodies) h.body (asked_by a.0) =
     subst (λ (g : Bool). AsksFor g h.body (asked_by a.0)) goes.begun (subst (λ (x : Ask). AsksFor v.begun h.body x) (sym a.1) h.asks) in
-    let clocks : Clocks tl tl (asked_by a.0 ∷ []) = ([], Appends-nil tl, sym a.3) in
+    let begins : Begins tl tl b b (answer_attempts a.0) = subst (λ (l : List Attempt). Begins tl tl b b l) (sym a.3) (begins_none tl b) in
     let notes : Notes d.calls d.calls (answer_deeds a.0) = subst (λ (l : List Deed). Notes d.calls d.calls l) (sym a.4) (notes_none d.calls) in
     let output : w.output ≡ v.output ++ packet_for a.0 = ap (λ (x : SessionView). x.output) h.now ∙ ap (λ (b : List ℕ). v.output ++ b) (sym a.2) in (
       answered t h.body h.rest a.0,
-      answer_serves start (scene i o c tl d) tl d t h.body h.rest a.0 serves.1 goes.resting whole h.begins.is_body asks clocks notes,
+      answer_serves start (scene i o c tl b d) tl b d t h.body h.rest a.0 serves.1 goes.resting whole h.begins.is_body asks begins notes,
       answer_goes v w t h.body h.rest a.0 goes (ap (λ (x : SessionView). x.unread) h.now) (ap (λ (x : SessionView). x.begun) h.now) (ap (λ (x : SessionView). x.ended) h.now) output,
     )
 
 -- a packet's call was made, or refused
-pub call_serves : (start : Scene) (i o : Option (List ℕ)) (c : Option (List LineCall)) (tl tl' : Option (List ℕ)) (d d' : DeskView) (v m w : SessionView) (request : Request) (moment : ℕ)
-    → NextGives v (next.Call request) m → MakesCall request d d' m w → Appends tl tl' (moment ∷ []) → Serves start (scene i o c tl d) (Goes v) → Serves start (scene i o c tl' d') (Goes w)
-call_serves start i o c tl tl' d d' v m w request moment gives made appends serves =
+pub call_serves : (start : Scene) (i o : Option (List ℕ)) (c : Option (List LineCall)) (tl tl' : Option (List ℕ)) (b b' : Option (List Begin)) (d d' : DeskView) (v m w : SessionView) (request : Request)
+    → NextGives v (next.Call request) m → MakesCall request (Begins tl tl' b b') d d' m w → Serves start (scene i o c tl b d) (Goes v) → Serves start (scene i o c tl' b' d') (Goes w)
+call_serves start i o c tl tl' b b' d d' v m w request gives made serves =
     let t = serves.0 in
     let goes = serves.2 in
     let h = gives.1 in
-    let a = subst (λ (x : SessionView). MakesCall request d d' x w) h.now made in
+    let a = subst (λ (x : SessionView). MakesCall request (Begins tl tl' b b') d d' x w) h.now made in
     let whole : t.unread ≡ packet h.body ++ h.rest = sym goes.unread ∙ h.begins.whole in
     let asks : AsksFor (has_begun t.bodies) h.body (asked_by a.0) =
-    subst (λ (g : Bool). AsksFor g h.body (asked_by a.0)) goes.begun (subst (λ (x : Ask). AsksFor v.begun h.body x) (sym a.1) h.asks) in
-    let one : 1 ≡ count_by is_call (asked_by a.0 ∷ []) = ap (λ (x : Ask). count_by is_call (x ∷ [])) (sym a.1) in
-    let clocks : Clocks tl tl' (asked_by a.0 ∷ []) = (moment ∷ [], appends, one) in (
+    subst (λ (g : Bool). AsksFor g h.body (asked_by a.0)) goes.begun (subst (λ (x : Ask). AsksFor v.begun h.body x) (sym a.1) h.asks) in (
       answered t h.body h.rest a.0,
-      answer_serves start (scene i o c tl d) tl' d' t h.body h.rest a.0 serves.1 goes.resting whole h.begins.is_body asks clocks a.4,
+      answer_serves start (scene i o c tl b d) tl' b' d' t h.body h.rest a.0 serves.1 goes.resting whole h.begins.is_body asks a.5 a.4,
       answer_goes v w t h.body h.rest a.0 goes (ap (λ (x : SessionView). x.unread) a.2) (ap (λ (x : SessionView). x.begun) a.2) (ap (λ (x : SessionView). x.ended) a.2) (ap (λ (x : SessionView). x.output) a.2),
     )
 
-pub call_ready : (d d' : DeskView) (v m w : SessionView) (request : Request) → NextGives v (next.Call request) m → MakesCall request d d' m w → (w.waiting ≡ None) × IsResting d'.place
-call_ready d d' v m w request gives made =
+pub call_ready : (Asked : List Attempt → Type 0) (d d' : DeskView) (v m w : SessionView) (request : Request) → NextGives v (next.Call request) m → MakesCall request Asked d d' m w → (w.waiting ≡ None) × IsResting d'.place
+call_ready Asked d d' v m w request gives made =
     let h = gives.1 in
-    let a = subst (λ (x : SessionView). MakesCall request d d' x w) h.now made in
+    let a = subst (λ (x : SessionView). MakesCall request Asked d d' x w) h.now made in
     (ap (λ (x : SessionView). x.waiting) a.2, a.3)
 
--- a packet's call has no reply
-pub call_stops : (start : Scene) (i o : Option (List ℕ)) (c : Option (List LineCall)) (tl tl' : Option (List ℕ)) (d d' : DeskView) (v m : SessionView) (request : Request) (moment : ℕ) (why : Stop)
-    → v.output ≡ [] → NextGives v (next.Call request) m → FailsCall request why d d' → Appends tl tl' (moment ∷ []) → Serves start (scene i o c tl d) (Goes v) → Serves start (scene i o c tl' d') (HasSentFor why)
-call_stops start i o c tl tl' d d' v m request moment stop.OutOfMemory none gives fails appends serves =
+-- a packet's call has no reply (what its phase tells of its moment and its moves is of no account)
+pub call_stops : (start : Scene) (i o : Option (List ℕ)) (c : Option (List LineCall)) (tl tl' : Option (List ℕ)) (b b' : Option (List Begin)) (d d' : DeskView) (v m : SessionView) (request : Request) (why : Stop)
+    → v.output ≡ [] → NextGives v (next.Call request) m → FailsCall request why (Begins tl tl' b b') d d' → Serves start (scene i o c tl b d) (Goes v) → Serves start (scene i o c tl' b' d') (HasSentFor why)
+call_stops start i o c tl tl' b b' d d' v m request stop.OutOfMemory none gives fails serves =
     let t = serves.0 in
     let goes = serves.2 in
     let h = gives.1 in
-    let f = Decided h.id fails.0 request fails.1 in
+    let f = Decided h.id fails.0 request fails.1.0 in
     let whole : t.unread ≡ packet h.body ++ h.rest = sym goes.unread ∙ h.begins.whole in
     let asks : AsksFor (has_begun t.bodies) h.body (ask.Call h.id request) = subst (λ (g : Bool). AsksFor g h.body (ask.Call h.id request)) goes.begun h.asks in (
       pended t h.body h.rest f,
-      pend_serves start (scene i o c tl d) tl' d' t h.body h.rest f (ask.Call h.id request) serves.1 goes.resting whole h.begins.is_body asks refl refl (moment ∷ [], appends, refl) fails.3,
+      pend_serves start (scene i o c tl b d) tl' b' d' t h.body h.rest f (ask.Call h.id request) serves.1 goes.resting whole h.begins.is_body asks refl refl fails.2 fails.1.2,
       all_sent v t goes none,
     )
-call_stops start i o c tl tl' d d' v m request moment stop.Stranger none gives fails appends serves =
+call_stops start i o c tl tl' b b' d d' v m request stop.Stranger none gives fails serves =
     let t = serves.0 in
     let goes = serves.2 in
     let h = gives.1 in
-    let f = InCall h.id 0 moment request 0 in
+    let f = InCall h.id fails.0 0 request 0 in
     let whole : t.unread ≡ packet h.body ++ h.rest = sym goes.unread ∙ h.begins.whole in
     let asks : AsksFor (has_begun t.bodies) h.body (ask.Call h.id request) = subst (λ (g : Bool). AsksFor g h.body (ask.Call h.id request)) goes.begun h.asks in
-    let notes : Notes d.calls d'.calls [] = subst (λ (x : Option (List Deed)). Notes d.calls x []) (sym fails.1) (notes_none d.calls) in (
+    let notes : Notes d.calls d'.calls [] = subst (λ (x : Option (List Deed)). Notes d.calls x []) (sym fails.1.1) (notes_none d.calls) in (
       pended t h.body h.rest f,
-      pend_serves start (scene i o c tl d) tl' d' t h.body h.rest f (ask.Call h.id request) serves.1 goes.resting whole h.begins.is_body asks refl refl (moment ∷ [], appends, refl) notes,
+      pend_serves start (scene i o c tl b d) tl' b' d' t h.body h.rest f (ask.Call h.id request) serves.1 goes.resting whole h.begins.is_body asks refl refl fails.2 notes,
       all_sent v t goes none,
     )
-call_stops start i o c tl tl' d d' v m request moment stop.UnderWay none gives fails appends serves =
+call_stops start i o c tl tl' b b' d d' v m request stop.UnderWay none gives fails serves =
     let t = serves.0 in
     let goes = serves.2 in
     let h = gives.1 in
-    let f = InCall h.id 0 moment request 0 in
+    let f = InCall h.id fails.0 0 request 0 in
     let whole : t.unread ≡ packet h.body ++ h.rest = sym goes.unread ∙ h.begins.whole in
     let asks : AsksFor (has_begun t.bodies) h.body (ask.Call h.id request) = subst (λ (g : Bool). AsksFor g h.body (ask.Call h.id request)) goes.begun h.asks in
-    let notes : Notes d.calls d'.calls [] = subst (λ (x : Option (List Deed)). Notes d.calls x []) (sym fails.1) (notes_none d.calls) in (
+    let notes : Notes d.calls d'.calls [] = subst (λ (x : Option (List Deed)). Notes d.calls x []) (sym fails.1.1) (notes_none d.calls) in (
       pended t h.body h.rest f,
-      pend_serves start (scene i o c tl d) tl' d' t h.body h.rest f (ask.Call h.id request) serves.1 goes.resting whole h.begins.is_body asks refl refl (moment ∷ [], appends, refl) notes,
+      pend_serves start (scene i o c tl b d) tl' b' d' t h.body h.rest f (ask.Call h.id request) serves.1 goes.resting whole h.begins.is_body asks refl refl fails.2 notes,
       all_sent v t goes none,
     )
-call_stops start i o c tl tl' d d' v m request moment stop.Line none gives fails appends serves = absurd fails
-call_stops start i o c tl tl' d d' v m request moment stop.NumbersSpent none gives fails appends serves = absurd fails
+call_stops start i o c tl tl' b b' d d' v m request stop.Line none gives fails serves = absurd fails.1
+call_stops start i o c tl tl' b b' d d' v m request stop.NumbersSpent none gives fails serves = absurd fails.1
 
-pub call_stops_at : (request : Request) (d d' : DeskView) (why : Stop) → FailsCall request why d d' → StopsAt why d'.place
-call_stops_at request d d' stop.OutOfMemory fails = fails.2
-call_stops_at request d d' stop.Stranger fails = fails.0
-call_stops_at request d d' stop.UnderWay fails = fails.0
-call_stops_at request d d' stop.Line fails = absurd fails
-call_stops_at request d d' stop.NumbersSpent fails = absurd fails
+pub call_stops_at : (request : Request) (Asked : List Attempt → Type 0) (d d' : DeskView) (why : Stop) → FailsCall request why Asked d d' → StopsAt why d'.place
+call_stops_at request Asked d d' stop.OutOfMemory fails = fails.1.1
+call_stops_at request Asked d d' stop.Stranger fails = fails.1.0
+call_stops_at request Asked d d' stop.UnderWay fails = fails.1.0
+call_stops_at request Asked d d' stop.Line fails = absurd fails.1
+call_stops_at request Asked d d' stop.NumbersSpent fails = absurd fails.1
 
 -- what waited was written, or some of it
-pub wrote_serves : (start : Scene) (i i' o o' : Option (List ℕ)) (c c' : Option (List LineCall)) (tl : Option (List ℕ)) (d : DeskView) (v w : SessionView)
-    → i' ≡ i → SendsPart o o' c c' v w → Serves start (scene i o c tl d) (Goes v) → Serves start (scene i' o' c' tl d) (Goes w)
-wrote_serves start i i' o o' c c' tl d v w same part serves =
-    let h = write_serves start (scene i o c tl d) i' o' c' v w serves.0 serves.1 serves.2 same part in
+pub wrote_serves : (start : Scene) (i i' o o' : Option (List ℕ)) (c c' : Option (List LineCall)) (tl : Option (List ℕ)) (b : Option (List Begin)) (d : DeskView) (v w : SessionView)
+    → i' ≡ i → SendsPart o o' c c' v w → Serves start (scene i o c tl b d) (Goes v) → Serves start (scene i' o' c' tl b d) (Goes w)
+wrote_serves start i i' o o' c c' tl b d v w same part serves =
+    let h = write_serves start (scene i o c tl b d) i' o' c' v w serves.0 serves.1 serves.2 same part in
     (sent_more serves.0 part.sent, h.0, h.1)
 
 pub serves_more : (start now : Scene) (P Q : Told → Type 0) → ((t : Told) → P t → Q t) → Serves start now P → Serves start now Q
@@ -149,14 +147,14 @@ ends_by v w cause none (inl h) = let e : None ≡ Some cause = sym none ∙ h.0 
 ends_by v w cause none (inr h) = h.1
 
 -- what was read ends by a cause
-pub ended_serves : (start : Scene) (i o : Option (List ℕ)) (c : Option (List LineCall)) (tl : Option (List ℕ)) (d : DeskView) (v w : SessionView) (cause : Cause)
-    → v.output ≡ [] → NextGives v (next.Ended cause) w → Serves start (scene i o c tl d) (Goes v) → Serves start (scene i o c tl d) (IsServed i)
-ended_serves start i o c tl d v w cause none gives serves =
+pub ended_serves : (start : Scene) (i o : Option (List ℕ)) (c : Option (List LineCall)) (tl : Option (List ℕ)) (b : Option (List Begin)) (d : DeskView) (v w : SessionView) (cause : Cause)
+    → v.output ≡ [] → NextGives v (next.Ended cause) w → Serves start (scene i o c tl b d) (Goes v) → Serves start (scene i o c tl b d) (IsServed i)
+ended_serves start i o c tl b d v w cause none gives serves =
     let t = serves.0 in
     let goes = serves.2 in
     let ends : EndsBy (has_begun t.bodies) t.unread cause =
     subst (λ (g : Bool). EndsBy g t.unread cause) goes.begun (subst (λ (b : List ℕ). EndsBy v.begun b cause) goes.unread (ends_by v w cause goes.ended gives)) in
-    let h = end_serves start (scene i o c tl d) t cause serves.1 goes.resting (inr ends) in
+    let h = end_serves start (scene i o c tl b d) t cause serves.1 goes.resting (inr ends) in
     (ended_by t cause, h.0, (cause, h.1, all_sent v t goes none, λ closed. absurd (not_closed (has_begun t.bodies) t.unread cause closed ends)))
 
 -- nothing was written; and some more was
@@ -175,16 +173,16 @@ part_more o o1 o2 c c1 c2 u v w p q =
     }
 
 -- bytes were read, and fed
-pub reads_serves : (start : Scene) (i i' o o' : Option (List ℕ)) (c c' : Option (List LineCall)) (tl : Option (List ℕ)) (d : DeskView) (v w : SessionView) (n : ℕ) (piece : List ℕ)
+pub reads_serves : (start : Scene) (i i' o o' : Option (List ℕ)) (c c' : Option (List LineCall)) (tl : Option (List ℕ)) (b : Option (List Begin)) (d : DeskView) (v w : SessionView) (n : ℕ) (piece : List ℕ)
     → n ≤ length piece → Consumes i i' (take n piece) → o' ≡ o → Logs c c' (Read n ∷ []) → w ≡ record v { unread = v.unread ++ take n piece }
-    → Serves start (scene i o c tl d) (Rests v) → Serves start (scene i' o' c' tl d) (Goes w)
-reads_serves start i i' o o' c c' tl d v w n piece within consumes same logs now serves =
+    → Serves start (scene i o c tl b d) (Rests v) → Serves start (scene i' o' c' tl b d) (Goes w)
+reads_serves start i i' o o' c c' tl b d v w n piece within consumes same logs now serves =
     let t = serves.0 in
     let goes = serves.2.0 in
     let bytes = take n piece in
     let count : length bytes ≡ n = omega (arith, length-take n piece, within) in (
       fed t bytes,
-      read_serves start (scene i o c tl d) i' o' c' t n bytes serves.1 goes.resting serves.2.1 serves.2.2 consumes count same logs,
+      read_serves start (scene i o c tl b d) i' o' c' t n bytes serves.1 goes.resting serves.2.1 serves.2.2 consumes count same logs,
       record {
         resting = goes.resting;
         unread = ap (λ (x : SessionView). x.unread) now ∙ ap (λ (b : List ℕ). b ++ bytes) goes.unread;
@@ -195,29 +193,29 @@ reads_serves start i i' o o' c c' tl d v w n piece within consumes same logs now
     )
 
 -- bytes were read, and found no room
-pub unfed_serves : (start : Scene) (i i' o o' : Option (List ℕ)) (c c' : Option (List LineCall)) (tl : Option (List ℕ)) (d : DeskView) (v : SessionView) (n : ℕ) (piece : List ℕ)
-    → n ≤ length piece → Consumes i i' (take n piece) → o' ≡ o → Logs c c' (Read n ∷ []) → Serves start (scene i o c tl d) (Rests v) → Serves start (scene i' o' c' tl d) HasSentAll
-unfed_serves start i i' o o' c c' tl d v n piece within consumes same logs serves =
+pub unfed_serves : (start : Scene) (i i' o o' : Option (List ℕ)) (c c' : Option (List LineCall)) (tl : Option (List ℕ)) (b : Option (List Begin)) (d : DeskView) (v : SessionView) (n : ℕ) (piece : List ℕ)
+    → n ≤ length piece → Consumes i i' (take n piece) → o' ≡ o → Logs c c' (Read n ∷ []) → Serves start (scene i o c tl b d) (Rests v) → Serves start (scene i' o' c' tl b d) HasSentAll
+unfed_serves start i i' o o' c c' tl b d v n piece within consumes same logs serves =
     let t = serves.0 in
     let bytes = take n piece in
     let count : length bytes ≡ n = omega (arith, length-take n piece, within) in
-    (fed t bytes, read_serves start (scene i o c tl d) i' o' c' t n bytes serves.1 serves.2.0.resting serves.2.1 serves.2.2 consumes count same logs, serves.2.2)
+    (fed t bytes, read_serves start (scene i o c tl b d) i' o' c' t n bytes serves.1 serves.2.0.resting serves.2.1 serves.2.2 consumes count same logs, serves.2.2)
 
 -- a read failed
-pub unread_serves : (start : Scene) (i i' o o' : Option (List ℕ)) (c c' : Option (List LineCall)) (tl : Option (List ℕ)) (d : DeskView) (v : SessionView)
-    → Keeps i i' → o' ≡ o → Logs c c' [] → Serves start (scene i o c tl d) (Rests v) → Serves start (scene i' o' c' tl d) HasSentAll
-unread_serves start i i' o o' c c' tl d v kept same logs serves = (serves.0, still_serves start (scene i o c tl d) i' o' c' serves.0 serves.1 kept same logs, serves.2.2)
+pub unread_serves : (start : Scene) (i i' o o' : Option (List ℕ)) (c c' : Option (List LineCall)) (tl : Option (List ℕ)) (b : Option (List Begin)) (d : DeskView) (v : SessionView)
+    → Keeps i i' → o' ≡ o → Logs c c' [] → Serves start (scene i o c tl b d) (Rests v) → Serves start (scene i' o' c' tl b d) HasSentAll
+unread_serves start i i' o o' c c' tl b d v kept same logs serves = (serves.0, still_serves start (scene i o c tl b d) i' o' c' serves.0 serves.1 kept same logs, serves.2.2)
 
 -- the input is at its end
-pub closed_serves : (start : Scene) (i i' o o' : Option (List ℕ)) (c c' : Option (List LineCall)) (tl : Option (List ℕ)) (d : DeskView) (v : SessionView) (n : ℕ) (piece : List ℕ)
-    → n ≡ 0 → Consumes i i' (take n piece) → o' ≡ o → Logs c c' (Read n ∷ []) → IsAtEnd i' → Serves start (scene i o c tl d) (Rests v) → Serves start (scene i' o' c' tl d) (IsServed i')
-closed_serves start i i' o o' c c' tl d v n piece none consumes same logs ended serves =
+pub closed_serves : (start : Scene) (i i' o o' : Option (List ℕ)) (c c' : Option (List LineCall)) (tl : Option (List ℕ)) (b : Option (List Begin)) (d : DeskView) (v : SessionView) (n : ℕ) (piece : List ℕ)
+    → n ≡ 0 → Consumes i i' (take n piece) → o' ≡ o → Logs c c' (Read n ∷ []) → IsAtEnd i' → Serves start (scene i o c tl b d) (Rests v) → Serves start (scene i' o' c' tl b d) (IsServed i')
+closed_serves start i i' o o' c c' tl b d v n piece none consumes same logs ended serves =
     let t = serves.0 in
     let within : n ≤ length piece = omega (arith, none) in
     let count : length (take n piece) ≡ n = omega (arith, length-take n piece, within) in
     let empty : take n piece ≡ [] = ap (λ (k : ℕ). take k piece) none in
-    let S = read_serves start (scene i o c tl d) i' o' c' t n (take n piece) serves.1 serves.2.0.resting serves.2.1 serves.2.2 consumes count same logs in
+    let S = read_serves start (scene i o c tl b d) i' o' c' t n (take n piece) serves.1 serves.2.0.resting serves.2.1 serves.2.2 consumes count same logs in
     let no_more : IsCut (t.unread ++ take n piece) cut.More =
     subst (λ (b : List ℕ). IsCut b cut.More) (sym (ap (λ (b : List ℕ). t.unread ++ b) empty ∙ append-nil t.unread)) serves.2.1 in
-    let h = end_serves start (scene i' o' c' tl d) (fed t (take n piece)) Closed S serves.2.0.resting (inl (refl, no_more)) in
+    let h = end_serves start (scene i' o' c' tl b d) (fed t (take n piece)) Closed S serves.2.0.resting (inl (refl, no_more)) in
     (ended_by (fed t (take n piece)) Closed, h.0, (Closed, h.1, serves.2.2, λ closed. ended))

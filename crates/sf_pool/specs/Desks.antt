@@ -33,8 +33,8 @@ abbrev pub IsLast : Place → ℕ → Reply → Type 0
 IsLast (Resting (Some last)) number reply = (number ≡ last.number) × (reply ≡ last.reply)
 IsLast _ number reply = ⊥
 
--- the calls that were answered go on by these, where they are kept
-abbrev pub Notes : Option (List Deed) → Option (List Deed) → List Deed → Type 0
+-- what is kept in order goes on by these, where it is kept
+abbrev pub Notes : {T : Type 0} → Option (List T) → Option (List T) → List T → Type 0
 Notes None new more = Unit {0}
 Notes (Some old) None more = ⊥
 Notes (Some old) (Some new) more = new ≡ old ++ more
@@ -44,8 +44,9 @@ abbrev pub Counts : Option (List Deed) → ℕ → Type 0
 Counts None n = Unit {0}
 Counts (Some calls) n = n ≡ length calls
 
--- the session at a desk, and the calls that it was answered, where they are kept
+-- the number of the session at a desk, 0 until it joins; how far it is; and the calls that it was answered, where they are kept
 pub record DeskView : Type 0 where
+  pub session : ℕ
   pub place : Place
   pub calls : Option (List Deed)
 

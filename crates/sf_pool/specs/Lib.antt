@@ -3,3 +3,4 @@ pub mod Desks
 pub mod Scenes
 pub mod Serving
 pub mod Stays
+pub mod OnCores

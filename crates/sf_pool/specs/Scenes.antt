@@ -1,33 +1,35 @@
 -- How far a session was served at a desk.
-use Rattle.std.specs.Prelude.{◌≡◌, ◌≢◌, ◌+◌, ◌-◌, ◌^◌, ◌⊎◌, ℕ, min, List, [], ◌∷◌, ◌++◌, length, Bool, true, false, Option}
-use Rattle.std.specs.List.{flat_map, count_by}
+use Rattle.std.specs.Prelude.{◌≡◌, ◌≢◌, ◌+◌, ◌-◌, ◌^◌, ◌⊎◌, ℕ, min, List, [], ◌∷◌, ◌++◌, length, map, Option, Result, Ok, Err}
+use Rattle.std.specs.List.{flat_map}
 use Rattle.std.specs.Io.KnownBytes.{Appends, Consumes, IsAtEnd}
 use Rattle.sf_line.specs.declared.line_call.LineCall.{LineCall}
 use Rattle.sf_line.specs.Lines.{Rose, Logs, given, taken}
-use Rattle.sf_session.specs.declared.asking.Ask.{Ask}
-use Rattle.sf_session.specs.declared.asking.Ask.TheVariants as ask
+use Rattle.sf_call.specs.declared.request.Request.{Request}
+use Rattle.sf_call.specs.declared.fault.CoreFault.{CoreFault}
 use Rattle.sf_session.specs.declared.cause.Cause.{Cause}
 use Rattle.sf_session.specs.declared.cause.Cause.TheVariants.{Closed}
 use Rattle.sf_session.specs.declared.fault.ServeFault.{ServeFault}
 use Rattle.sf_session.specs.declared.fault.ServeFault.TheVariants as fault
 use Rattle.sf_engine.specs.Worlds.{Answered, Version, Locally, ByCall, Refused, transcript, Phase, Resting as AtRest, UnderWay as InCall, Decided, Gone as Left, Told}
-use Rattle.sf_engine.specs.Laws.{asks_of, IsRead}
+use Rattle.sf_engine.specs.Laws.{IsRead}
 use Rattle.sf_serving.specs.Ends.{IsWhole}
 use Rattle.sf_serving.specs.Serving.{IsFront, progress, IsPrompt}
+use Rattle.sf_pool.specs.declared.desk.Begin.{Begin}
 use Rattle.sf_pool.specs.Audits.{Deed}
 use Rattle.sf_pool.specs.Desks.{Gone, IsUnderWay, DeskView, Notes, Counts}
 
--- What a line still has to give, what it has taken, its calls, and the moments that a clock told, where they tell it; and a
--- session at a desk.
+-- What a line still has to give, what it has taken, its calls, the moments that a clock told, and the calls that began at a desk
+-- or were refused there, where they tell it; and a session at the desk.
 pub record Scene : Type 0 where
   pub incoming : Option (List ℕ)
   pub outgoing : Option (List ℕ)
   pub calls : Option (List LineCall)
   pub told : Option (List ℕ)
+  pub begins : Option (List Begin)
   pub desk : DeskView
 
-abbrev pub scene : Option (List ℕ) → Option (List ℕ) → Option (List LineCall) → Option (List ℕ) → DeskView → Scene
-scene incoming outgoing calls told desk = record { incoming = incoming; outgoing = outgoing; calls = calls; told = told; desk = desk }
+abbrev pub scene : Option (List ℕ) → Option (List ℕ) → Option (List LineCall) → Option (List ℕ) → Option (List Begin) → DeskView → Scene
+scene incoming outgoing calls told begins desk = record { incoming = incoming; outgoing = outgoing; calls = calls; told = told; begins = begins; desk = desk }
 
 -- the call that was answered so, unless it was refused
 abbrev pub answer_deeds : Answered → List Deed
@@ -47,27 +49,50 @@ phase_deeds (Left cause) = []
 abbrev pub deeds_told : Told → List Deed
 deeds_told t = flat_map answer_deeds t.answers ++ phase_deeds t.phase
 
--- whether a call was asked for
-abbrev pub is_call : Ask → Bool
-is_call ask.Version = false
-is_call (ask.Local id reply) = false
-is_call (ask.Call id request) = true
-is_call (ask.End cause) = false
+-- A call that a desk was asked to begin: its request, and its number or why it was refused.
+pub record Attempt : Type 0 where
+  pub request : Request
+  pub outcome : Result ℕ CoreFault
 
--- a moment was told for each call that was asked for
-abbrev pub Clocks : Option (List ℕ) → Option (List ℕ) → List Ask → Type 0
-Clocks old new asks = (moments : List ℕ) × Appends old new moments × (length moments ≡ count_by is_call asks)
+abbrev pub attempt : Request → Result ℕ CoreFault → Attempt
+attempt request outcome = record { request = request; outcome = outcome }
+
+abbrev pub attempt_of : Begin → Attempt
+attempt_of b = attempt b.request b.outcome
+
+-- the call that was answered so began, or was refused
+abbrev pub answer_attempts : Answered → List Attempt
+answer_attempts Version = []
+answer_attempts (Locally id reply) = []
+answer_attempts (ByCall id number request reply) = attempt request (Ok number) ∷ []
+answer_attempts (Refused id request refusal) = attempt request (Err refusal) ∷ []
+
+-- the call that goes on, or whose answer waits, began
+abbrev pub phase_attempts : Phase → List Attempt
+phase_attempts AtRest = []
+phase_attempts (InCall id number moment request moves) = attempt request (Ok number) ∷ []
+phase_attempts (Decided id number request reply) = attempt request (Ok number) ∷ []
+phase_attempts (Left cause) = []
+
+-- the calls that a session asked for
+abbrev pub attempts_told : Told → List Attempt
+attempts_told t = flat_map answer_attempts t.answers ++ phase_attempts t.phase
+
+-- The desk was asked to begin these calls, and no others, each at the moment that the clock told for it.
+abbrev pub Begins : Option (List ℕ) → Option (List ℕ) → Option (List Begin) → Option (List Begin) → List Attempt → Type 0
+Begins told told' begins begins' attempts =
+    (more : List Begin) × Notes begins begins' more × Appends told told' (map (λ b. b.moment) more) × (map attempt_of more ≡ attempts)
 
 -- Since the start a session was served so: its stream is what was read, and each body that was read asks for its answer. What was
 -- written is the beginning of its transcript, and was written promptly. The desk noted the calls that it was answered, and no
--- others.
+-- others; and it was asked to begin those that the session asked for, and no others, each at the moment that was told for it.
 pub record Served (start now : Scene) (t : Told) : Type 0 where
   pub bodies : IsRead t
   pub read : Consumes start.incoming now.incoming t.stream
   pub wrote : Appends start.outgoing now.outgoing t.sent
   pub begun : IsFront t.sent (transcript t.answers)
   pub noted : Notes start.desk.calls now.desk.calls (deeds_told t)
-  pub clocked : Clocks start.told now.told (asks_of t.answers t.phase)
+  pub asked : Begins start.told now.told start.begins now.begins (attempts_told t)
   pub log : List LineCall
   pub logged : Logs start.calls now.calls log
   pub gave : given log ≡ length t.stream

@@ -1,5 +1,5 @@
 -- What the parts of serving do.
-use Rattle.std.specs.Prelude.{◌≡◌, ℕ, List, [], ◌∷◌, ◌++◌, length, Bool, true, false, Option, None, IfSome}
+use Rattle.std.specs.Prelude.{◌≡◌, ℕ, List, [], ◌∷◌, ◌++◌, length, Bool, true, false, Option, None, Ok, IfSome}
 use Rattle.sf_wire.specs.declared.cutting.Cut.TheVariants as cut
 use Rattle.sf_wire.specs.Packets.{IsCut}
 use Rattle.std.specs.Io.KnownBytes.{Appends}
@@ -18,7 +18,7 @@ use Rattle.sf_engine.specs.Traces.{has_begun}
 use Rattle.sf_pool.specs.declared.calling.Stop.{Stop}
 use Rattle.sf_pool.specs.declared.calling.Stop.TheVariants as stop
 use Rattle.sf_pool.specs.Desks.{Place, Gone, IsResting, IsUnderWay, DeskView, Notes}
-use Rattle.sf_pool.specs.Scenes.{answer_deeds, HasSentAll, IsServed}
+use Rattle.sf_pool.specs.Scenes.{answer_deeds, Attempt, attempt, answer_attempts, HasSentAll, IsServed}
 
 -- no reply is unwritten, and no call is under way
 pub record IsReady (v : SessionView) (place : Place) : Type 0 where
@@ -48,11 +48,11 @@ abbrev pub HasRead : Bool → Option (List ℕ) → SessionView → Told → Typ
 HasRead true incoming v t = IsServed incoming t
 HasRead false incoming v t = Goes v t
 
--- The session's call was made, or refused: its reply is appended to the output.
-abbrev pub MakesCall : Request → DeskView → DeskView → SessionView → SessionView → Type 0
-MakesCall request d d' v w = IfSome v.waiting (λ id. (a : Answered) × (asked_by a ≡ ask.Call id request)
+-- The session's call was made, or refused by the desk: its reply is appended to the output. The desk was asked for it alone.
+abbrev pub MakesCall : Request → (List Attempt → Type 0) → DeskView → DeskView → SessionView → SessionView → Type 0
+MakesCall request Asked d d' v w = IfSome v.waiting (λ id. (a : Answered) × (asked_by a ≡ ask.Call id request)
     × (w ≡ record v { output = v.output ++ packet_for a; waiting = None })
-    × IsResting d'.place × Notes d.calls d'.calls (answer_deeds a))
+    × IsResting d'.place × Notes d.calls d'.calls (answer_deeds a) × Asked (answer_attempts a))
 
 -- The steps stop with no answer.
 abbrev pub FailsSteps : Stop → DeskView → DeskView → Type 0
@@ -60,13 +60,17 @@ FailsSteps stop.Stranger d d' = (d'.place ≡ Gone) × (d'.calls ≡ d.calls)
 FailsSteps stop.UnderWay d d' = d' ≡ d
 FailsSteps _ d d' = ⊥
 
--- The session's call was made and its reply found no room; or it has no answer.
-abbrev pub FailsCall : Request → Stop → DeskView → DeskView → Type 0
-FailsCall request stop.OutOfMemory d d' = (number : ℕ) × (reply : Reply) × IsResting d'.place
+-- The session's call of this number was made and its reply found no room; or it has no answer.
+abbrev pub LacksReply : Request → ℕ → Stop → DeskView → DeskView → Type 0
+LacksReply request number stop.OutOfMemory d d' = (reply : Reply) × IsResting d'.place
     × Notes d.calls d'.calls (record { number = number; request = request; reply = reply } ∷ [])
-FailsCall request stop.Stranger d d' = (d'.place ≡ Gone) × (d'.calls ≡ d.calls)
-FailsCall request stop.UnderWay d d' = IsUnderWay d'.place × (d'.calls ≡ d.calls)
-FailsCall request _ d d' = ⊥
+LacksReply request number stop.Stranger d d' = (d'.place ≡ Gone) × (d'.calls ≡ d.calls)
+LacksReply request number stop.UnderWay d d' = IsUnderWay d'.place × (d'.calls ≡ d.calls)
+LacksReply request number _ d d' = ⊥
+
+-- The session's call began, and has no reply. The desk was asked for it alone.
+abbrev pub FailsCall : Request → Stop → (List Attempt → Type 0) → DeskView → DeskView → Type 0
+FailsCall request stop Asked d d' = (number : ℕ) × LacksReply request number stop d d' × Asked (attempt request (Ok number) ∷ [])
 
 -- The line took the front of the output, by writes alone, and that was taken off.
 pub record SendsPart (outgoing outgoing' : Option (List ℕ)) (calls calls' : Option (List LineCall)) (v w : SessionView) : Type 0 where

@@ -1,9 +1,8 @@
 //! One call of a session, made at its desk.
 
-ghost use Rattle.std.specs.Prelude.{◌≡◌, IsSome, OnOk, OnErr, IfOk, IfErr, ◌∷◌, []};
-ghost use Rattle.std.specs.Io.KnownBytes.{Appends};
-ghost use Rattle.std.specs.Prelude.{ℕ};
+ghost use Rattle.std.specs.Prelude.{◌≡◌, IsSome, OnOk, OnErr, IfOk, IfErr};
 ghost use Rattle.sf_pool.specs.Desks.{IsResting, IsUnderWay, Answers};
+ghost use Rattle.sf_pool.specs.Scenes.{Begins};
 ghost use Rattle.sf_pool.specs.Serving.{MakesCall, FailsSteps, FailsCall};
 
 use crate::desk::{Desk, Told};
@@ -29,6 +28,7 @@ fn finish<D: Desk, G: Gate>(desk: &mut D, gate: &G, session: u64, number: u64) -
     requires { IsUnderWay (D.at desk.old).place }
     ensures answered { OnOk result (Answers (D.at desk.old).place (D.at desk.old).calls (D.at desk.new)) }
     ensures fails { IfErr result (λ stop. FailsSteps stop (D.at desk.old) (D.at desk.new)) }
+    ensures begins { D.begins desk.new ≡ D.begins desk.old }
 {
     for steps in 0..u64::MAX {
         gate.between(session, number, steps);
@@ -53,9 +53,8 @@ pub(crate) fn make_call<D: Desk, C: Clock, G: Gate>(
 ) -> Result<(), Stop>
     requires waiting { IsSome session.old.waiting }
     requires resting { IsResting (D.at desk.old).place }
-    ensures made { OnOk result (MakesCall request (D.at desk.old) (D.at desk.new) session.old session.new) }
-    ensures fails { IfErr result (λ stop. FailsCall request stop (D.at desk.old) (D.at desk.new)) }
-    ensures moment { (moment : ℕ) × Appends (C.told clock.old) (C.told clock.new) (moment ∷ []) }
+    ensures made { OnOk result (MakesCall request (Begins (C.told clock.old) (C.told clock.new) (D.begins desk.old) (D.begins desk.new)) (D.at desk.old) (D.at desk.new) session.old session.new) }
+    ensures fails { IfErr result (λ stop. FailsCall request stop (Begins (C.told clock.old) (C.told clock.new) (D.begins desk.old) (D.begins desk.new)) (D.at desk.old) (D.at desk.new)) }
 {
     let moment = clock.now();
     let call = match desk.begin(request, moment) {

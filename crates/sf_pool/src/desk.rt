@@ -1,8 +1,9 @@
 //! One session's calls on a core that others use too.
 
-ghost use Rattle.std.specs.Prelude.{◌≡◌, ◌≢◌, ◌<◌, List, Option, map, OnOk, OnErr, IfOk, IfSome};
+ghost use Rattle.std.specs.Prelude.{◌≡◌, ◌≢◌, ◌<◌, List, [], ◌∷◌, Option, None, map, OnOk, OnErr, IfOk, IfSome};
+ghost use Rattle.sf_pool.specs.declared.desk.Begin.{Begin};
 ghost use Rattle.sf_pool.specs.Audits.{Deed, told};
-ghost use Rattle.sf_pool.specs.Desks.{Place, New, Resting, UnderWay, Gone, IsResting, IsUnderWay, IsAnswered, IsLast, Counts, DeskView, Steps};
+ghost use Rattle.sf_pool.specs.Desks.{Place, New, Resting, UnderWay, Gone, IsResting, IsUnderWay, IsAnswered, IsLast, Notes, Counts, DeskView, Steps};
 
 use crate::transcript::Transcript;
 use sf_call::{Answer, CoreFault, Request};
@@ -19,32 +20,52 @@ pub enum Told {
     Stranger,
 }
 
+/// A call that a desk was asked to begin.
+#[derive(Debug, PartialEq, Eq, Drop)]
+pub struct Begin {
+    pub request: Request,
+    /// In seconds since 1970.
+    pub moment: u32,
+    /// The call's number, or why it was refused.
+    pub outcome: Result<u64, CoreFault>,
+}
+
 /// One session's calls on a core: it joins, makes one call after the other, and leaves.
 pub trait Desk {
-    /// How far the session is, and the calls that it was answered, in order, where the desk keeps them. A desk
-    /// that keeps them goes on keeping them.
+    /// The session's number, how far it is, and the calls that it was answered, in order, where the desk keeps
+    /// them. A desk that keeps them goes on keeping them.
     ghost at: { Self → DeskView };
+
+    /// The calls that it was asked to begin, in order, where it tells them. A desk that tells them goes on
+    /// telling them.
+    ghost begins: { Self → Option (List Begin) } = { λ _. None };
 
     /// The session joins. Its number is told.
     fn join(&mut self) -> Result<u64, CoreFault>
         requires { (at self.old).place ≡ New }
         ensures number { IfOk result (λ session. 0 < session) }
+        ensures session { IfOk result (λ session. (at self.new).session ≡ session) }
         ensures ok { OnOk result (IsResting (at self.new).place) }
         ensures err { OnErr result (at self.new ≡ at self.old) }
-        ensures calls { (at self.new).calls ≡ (at self.old).calls };
+        ensures calls { (at self.new).calls ≡ (at self.old).calls }
+        ensures begins { begins self.new ≡ begins self.old };
 
     /// A call begins at a moment, in seconds since 1970. Its number is told. Room to note its answer is made
     /// first.
     fn begin(&mut self, request: Request, moment: u32) -> Result<u64, CoreFault>
         requires { IsResting (at self.old).place }
         ensures ok { IfOk result (λ number. (at self.new).place ≡ UnderWay number request) }
+        ensures session { (at self.new).session ≡ (at self.old).session }
         ensures err { OnErr result (at self.new ≡ at self.old) }
-        ensures calls { (at self.new).calls ≡ (at self.old).calls };
+        ensures calls { (at self.new).calls ≡ (at self.old).calls }
+        ensures asked { Notes (begins self.old) (begins self.new) (record { request = request; moment = moment; outcome = result } ∷ []) };
 
     /// One step of the call. Where it is answered the answer is noted.
     fn step(&mut self) -> Told
         requires { IsUnderWay (at self.old).place }
-        ensures { Steps (at self.old) result (at self.new) };
+        ensures steps { Steps (at self.old) result (at self.new) }
+        ensures session { (at self.new).session ≡ (at self.old).session }
+        ensures begins { begins self.new ≡ begins self.old };
 
     /// The answer to the last call.
     fn answer(&self) -> &Answer
@@ -56,10 +77,13 @@ pub trait Desk {
     fn leave(&mut self) -> Option<Share>
         requires { IsResting (at self.old).place }
         ensures place { (at self.new).place ≡ Gone }
+        ensures session { (at self.new).session ≡ (at self.old).session }
         ensures calls { (at self.new).calls ≡ (at self.old).calls }
-        ensures share { IfSome result (λ share. Counts (at self.old).calls share) };
+        ensures share { IfSome result (λ share. Counts (at self.old).calls share) }
+        ensures begins { begins self.new ≡ begins self.old };
 
     /// What the session was told.
     fn transcript(&self) -> &Transcript
-        ensures { IfSome (at self.now).calls (λ calls. map told result.now.calls.items ≡ calls) };
+        ensures session { result.now.session ≡ (at self.now).session }
+        ensures calls { IfSome (at self.now).calls (λ calls. map told result.now.calls.items ≡ calls) };
 }

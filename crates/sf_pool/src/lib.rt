@@ -18,7 +18,7 @@ mod stay;
 mod transcript;
 
 pub use audits::{AuditFault, audit};
-pub use desk::{Desk, Told};
+pub use desk::{Begin, Desk, Told};
 pub use gate::{Gate, NoGate};
 pub use gathering::{GatherFault, Totals, gather};
 pub use lock_desk::LockDesk;

@@ -42,6 +42,7 @@ impl<'a, R: Wait> LockDesk<'a, R> {
         happened: &'a Condvar,
         keeps: bool,
     ) -> LockDesk<'a, R>
+        ensures session { result.stay.session ≡ 0 }
         ensures place { result.stay.place ≡ New }
         ensures calls { result.stay.calls ≡ kept_calls keeps [] }
     {
@@ -55,7 +56,8 @@ impl<'a, R: Wait> LockDesk<'a, R> {
 
     /// What the session was told. A session that hasn't left is given up.
     pub fn into_transcript(self) -> Transcript
-        ensures { IfSome self.entry.stay.calls (λ calls. map told result.calls.items ≡ calls) }
+        ensures session { result.session ≡ self.entry.stay.session }
+        ensures calls { IfSome self.entry.stay.calls (λ calls. map told result.calls.items ≡ calls) }
     {
         let LockDesk {
             rt: _,

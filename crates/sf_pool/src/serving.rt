@@ -2,6 +2,7 @@
 
 ghost use Rattle.std.specs.Prelude.{◌≡◌, ◌<◌, ◌≤◌, ◌⊎◌, ℕ, List, [], length, Option, OnOk, OnErr, IfOk, IfErr, vec_len};
 ghost use Rattle.sf_line.specs.Lines.{Rose};
+ghost use Rattle.sf_pool.specs.declared.desk.Begin.{Begin};
 ghost use Rattle.sf_pool.specs.Desks.{New, Gone, IsResting, DeskView};
 ghost use Rattle.sf_pool.specs.Scenes.{Scene, scene, Serves, IsServed, IsShared, HasSentAll, StopsEarly, LeavesDesk, IsFault};
 ghost use Rattle.sf_pool.specs.Serving.{IsReady, Goes, Rests, IsDrained, HasRead, SendsPart, IsReadStop, StopsAt, HasSentFor, IsStop, fault_of, refusal_of};
@@ -85,12 +86,12 @@ fn drain<D: Desk, L: Line, C: Clock, G: Gate>(
 ) -> Result<bool, Stop>
     requires { IsReady session.old (D.at desk.old).place }
     ensures drained { IfOk result (λ ended. (start : Scene)
-        → Serves start (scene (L.incoming line.old) (L.outgoing line.old) (L.calls line.old) (C.told clock.old) (D.at desk.old)) (Goes session.old)
-        → Serves start (scene (L.incoming line.new) (L.outgoing line.new) (L.calls line.new) (C.told clock.new) (D.at desk.new)) (IsDrained ended (L.incoming line.new) session.new)) }
+        → Serves start (scene (L.incoming line.old) (L.outgoing line.old) (L.calls line.old) (C.told clock.old) (D.begins desk.old) (D.at desk.old)) (Goes session.old)
+        → Serves start (scene (L.incoming line.new) (L.outgoing line.new) (L.calls line.new) (C.told clock.new) (D.begins desk.new) (D.at desk.new)) (IsDrained ended (L.incoming line.new) session.new)) }
     ensures ready { OnOk result (IsReady session.new (D.at desk.new).place) }
     ensures stops { IfErr result (λ stop. (start : Scene)
-        → Serves start (scene (L.incoming line.old) (L.outgoing line.old) (L.calls line.old) (C.told clock.old) (D.at desk.old)) (Goes session.old)
-        → Serves start (scene (L.incoming line.new) (L.outgoing line.new) (L.calls line.new) (C.told clock.new) (D.at desk.new)) (HasSentFor stop)) }
+        → Serves start (scene (L.incoming line.old) (L.outgoing line.old) (L.calls line.old) (C.told clock.old) (D.begins desk.old) (D.at desk.old)) (Goes session.old)
+        → Serves start (scene (L.incoming line.new) (L.outgoing line.new) (L.calls line.new) (C.told clock.new) (D.begins desk.new) (D.at desk.new)) (HasSentFor stop)) }
     ensures place { IfErr result (λ stop. StopsAt stop (D.at desk.new).place) }
     ensures failures { L.failed line.old ≤ L.failed line.new }
     ensures fault { IfErr result (λ stop. IsStop stop (L.failed line.old) (L.failed line.new)) }
@@ -113,12 +114,12 @@ fn drain<D: Desk, L: Line, C: Clock, G: Gate>(
 /// Reads a piece to the session. Tells whether the input is at its end.
 fn read_piece<L: Line>(line: &mut L, session: &mut Session, piece: &mut [u8]) -> Result<bool, Stop>
     requires { 0 < length piece.old }
-    ensures read { IfOk result (λ ended. (start : Scene) (told : Option (List ℕ)) (desk : DeskView)
-        → Serves start (scene (L.incoming line.old) (L.outgoing line.old) (L.calls line.old) told desk) (Rests session.old)
-        → Serves start (scene (L.incoming line.new) (L.outgoing line.new) (L.calls line.new) told desk) (HasRead ended (L.incoming line.new) session.new)) }
-    ensures stops { OnErr result ((start : Scene) (told : Option (List ℕ)) (desk : DeskView)
-        → Serves start (scene (L.incoming line.old) (L.outgoing line.old) (L.calls line.old) told desk) (Rests session.old)
-        → Serves start (scene (L.incoming line.new) (L.outgoing line.new) (L.calls line.new) told desk) HasSentAll) }
+    ensures read { IfOk result (λ ended. (start : Scene) (told : Option (List ℕ)) (begins : Option (List Begin)) (desk : DeskView)
+        → Serves start (scene (L.incoming line.old) (L.outgoing line.old) (L.calls line.old) told begins desk) (Rests session.old)
+        → Serves start (scene (L.incoming line.new) (L.outgoing line.new) (L.calls line.new) told begins desk) (HasRead ended (L.incoming line.new) session.new)) }
+    ensures stops { OnErr result ((start : Scene) (told : Option (List ℕ)) (begins : Option (List Begin)) (desk : DeskView)
+        → Serves start (scene (L.incoming line.old) (L.outgoing line.old) (L.calls line.old) told begins desk) (Rests session.old)
+        → Serves start (scene (L.incoming line.new) (L.outgoing line.new) (L.calls line.new) told begins desk) HasSentAll) }
     ensures waiting { session.new.waiting ≡ session.old.waiting }
     ensures output { session.new.output ≡ session.old.output }
     ensures room { length piece.new ≡ length piece.old }
@@ -150,12 +151,12 @@ fn rounds<D: Desk, L: Line, C: Clock, G: Gate>(
     requires room { 0 < length piece.old }
     requires ready { IsReady session.old (D.at desk.old).place }
     ensures served { OnOk result ((start : Scene)
-        → Serves start (scene (L.incoming line.old) (L.outgoing line.old) (L.calls line.old) (C.told clock.old) (D.at desk.old)) (Rests session.old)
-        → Serves start (scene (L.incoming line.new) (L.outgoing line.new) (L.calls line.new) (C.told clock.new) (D.at desk.new)) (IsServed (L.incoming line.new))) }
+        → Serves start (scene (L.incoming line.old) (L.outgoing line.old) (L.calls line.old) (C.told clock.old) (D.begins desk.old) (D.at desk.old)) (Rests session.old)
+        → Serves start (scene (L.incoming line.new) (L.outgoing line.new) (L.calls line.new) (C.told clock.new) (D.begins desk.new) (D.at desk.new)) (IsServed (L.incoming line.new))) }
     ensures resting { OnOk result (IsResting (D.at desk.new).place) }
     ensures stops { IfErr result (λ stop. (start : Scene)
-        → Serves start (scene (L.incoming line.old) (L.outgoing line.old) (L.calls line.old) (C.told clock.old) (D.at desk.old)) (Rests session.old)
-        → Serves start (scene (L.incoming line.new) (L.outgoing line.new) (L.calls line.new) (C.told clock.new) (D.at desk.new)) (HasSentFor stop)) }
+        → Serves start (scene (L.incoming line.old) (L.outgoing line.old) (L.calls line.old) (C.told clock.old) (D.begins desk.old) (D.at desk.old)) (Rests session.old)
+        → Serves start (scene (L.incoming line.new) (L.outgoing line.new) (L.calls line.new) (C.told clock.new) (D.begins desk.new) (D.at desk.new)) (HasSentFor stop)) }
     ensures place { IfErr result (λ stop. StopsAt stop (D.at desk.new).place) }
     ensures failures { L.failed line.old ≤ L.failed line.new }
     ensures fault { IfErr result (λ stop. IsStop stop (L.failed line.old) (L.failed line.new)) }
@@ -178,6 +179,7 @@ fn leave<D: Desk>(desk: &mut D, share: &mut Share) -> Result<(), ServeFault>
     ensures calls { (D.at desk.new).calls ≡ (D.at desk.old).calls }
     ensures share { OnOk result (IsShared (D.at desk.new) share.old share.new) }
     ensures stranger { IfErr result (λ fault. (fault ≡ ServeFault.Stranger) × (share.new ≡ share.old)) }
+    ensures begins { D.begins desk.new ≡ D.begins desk.old }
 {
     let Some(own) = desk.leave() else {
         return Err(ServeFault::Stranger);
@@ -193,6 +195,7 @@ fn stop<D: Desk>(desk: &mut D, share: &mut Share, stop: Stop) -> ServeFault
     ensures calls { (D.at desk.new).calls ≡ (D.at desk.old).calls }
     ensures fault { (result ≡ fault_of stop) ⊎ (result ≡ ServeFault.Stranger) }
     ensures left { (start : DeskView) → LeavesDesk start (D.at desk.new) result share.old share.new }
+    ensures begins { D.begins desk.new ≡ D.begins desk.old }
 {
     match stop {
         Stop::Stranger | Stop::UnderWay => fault_of(stop),
@@ -224,12 +227,12 @@ pub fn serve<D: Desk, L: Line, C: Clock, G: Gate>(
 ) -> Result<(), ServeFault>
     requires { (D.at desk.old).place ≡ New }
     ensures served { OnOk result (Serves
-        (scene (L.incoming line.old) (L.outgoing line.old) (L.calls line.old) (C.told clock.old) (D.at desk.old))
-        (scene (L.incoming line.new) (L.outgoing line.new) (L.calls line.new) (C.told clock.new) (D.at desk.new)) (IsServed (L.incoming line.new))) }
+        (scene (L.incoming line.old) (L.outgoing line.old) (L.calls line.old) (C.told clock.old) (D.begins desk.old) (D.at desk.old))
+        (scene (L.incoming line.new) (L.outgoing line.new) (L.calls line.new) (C.told clock.new) (D.begins desk.new) (D.at desk.new)) (IsServed (L.incoming line.new))) }
     ensures shared { OnOk result (((D.at desk.new).place ≡ Gone) × IsShared (D.at desk.new) share.old share.new) }
     ensures stopped { IfErr result (λ fault. StopsEarly
-        (scene (L.incoming line.old) (L.outgoing line.old) (L.calls line.old) (C.told clock.old) (D.at desk.old))
-        (scene (L.incoming line.new) (L.outgoing line.new) (L.calls line.new) (C.told clock.new) (D.at desk.new)) fault (L.failed line.old) (L.failed line.new)) }
+        (scene (L.incoming line.old) (L.outgoing line.old) (L.calls line.old) (C.told clock.old) (D.begins desk.old) (D.at desk.old))
+        (scene (L.incoming line.new) (L.outgoing line.new) (L.calls line.new) (C.told clock.new) (D.begins desk.new) (D.at desk.new)) fault (L.failed line.old) (L.failed line.new)) }
     ensures left { IfErr result (λ fault. LeavesDesk (D.at desk.old) (D.at desk.new) fault share.old share.new) }
     ensures fault { IfErr result (λ fault. IsFault fault (L.failed line.old) (L.failed line.new)) }
 {

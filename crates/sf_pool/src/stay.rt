@@ -1,8 +1,15 @@
 //! A session's stay on a core.
 
-ghost use Rattle.std.specs.Prelude.{◌≡◌, ◌<◌, ◌+◌, ◌++◌, ◌∷◌, List, [], map, vec_len, if◌then◌else◌, OnOk, OnErr, IfOk, IfSome};
+ghost use Rattle.std.specs.Prelude.{◌≡◌, ◌≢◌, ◌<◌, ◌+◌, ◌++◌, ◌∷◌, List, [], false, map, vec_len, if◌then◌else◌, OnOk, OnErr, OnSome, IfOk, IfErr, IfSome, IfNone};
 ghost use Rattle.std.specs.Vec.{vec_capacity};
+ghost use Rattle.sf_call.specs.declared.record.Record.{Record};
+ghost use Rattle.sf_call.specs.declared.record.Record.TheVariants.{Left};
+ghost use Rattle.sf_core.specs.Cores.{slot_of};
+ghost use Rattle.sf_core.specs.Cores.Slot.{Idle};
+ghost use Rattle.sf_core.specs.Histories.{IsHistory};
+ghost use Rattle.sf_core.specs.Events.{Joins, RefusesJoin, Leaves};
 ghost use Rattle.sf_pool.specs.Audits.{told};
+ghost use Rattle.sf_pool.specs.OnCores.{BeginsAt, RefusesAt, StepsAt};
 ghost use Rattle.sf_pool.specs.Desks.{Place, New, Resting, UnderWay, Gone, IsResting, IsUnderWay, IsAnswered, IsLast, Counts, Steps, kept_calls};
 
 use crate::desk::Told;
@@ -33,7 +40,7 @@ impl Model for Stay {
 
     ghost Value = { DeskView };
 
-    ghost view = { λ s. record { place = lane_place s.lane s.transcript.session s.asked (map told s.transcript.calls.items); calls = kept_calls s.keeps s.transcript.calls.items } };
+    ghost view = { λ s. record { session = s.transcript.session; place = lane_place s.lane s.transcript.session s.asked (map told s.transcript.calls.items); calls = kept_calls s.keeps s.transcript.calls.items } };
 
     ghost use Rattle.sf_pool.specs.Stays.{IsStay};
 
@@ -50,7 +57,8 @@ pub struct Stepped {
 
 impl Stepped {
     fn going(blocked: bool) -> Stepped
-        ensures { result.told ≡ Told.Going }
+        ensures told { result.told ≡ Told.Going }
+        ensures blocked { result.blocked ≡ blocked }
     {
         Stepped {
             told: Told::Going,
@@ -59,7 +67,8 @@ impl Stepped {
     }
 
     fn ended(told: Told) -> Stepped
-        ensures { result.told ≡ told }
+        ensures told { result.told ≡ told }
+        ensures blocked { result.blocked ≡ false }
     {
         Stepped {
             told,
@@ -86,6 +95,7 @@ impl Drop for Stay {
 impl Stay {
     /// A session that hasn't joined. Its calls are kept, or the last one alone.
     pub fn new(alloc: Global, keeps: bool) -> Stay
+        ensures session { result.session ≡ 0 }
         ensures place { result.place ≡ New }
         ensures calls { result.calls ≡ kept_calls keeps [] }
     {
@@ -105,9 +115,15 @@ impl Stay {
     pub fn join(&mut self, core: &mut Core) -> Result<u64, CoreFault>
         requires { self.old.place ≡ New }
         ensures number { IfOk result (λ session. 0 < session) }
+        ensures session { IfOk result (λ session. self.new.session ≡ session) }
         ensures ok { OnOk result (IsResting self.new.place) }
         ensures err { OnErr result (self.new ≡ self.old) }
         ensures calls { self.new.calls ≡ self.old.calls }
+        ensures joins { IfOk result (λ session. (session ≡ core.old.joins + 1)
+            × Joins core.old core.new) }
+        ensures history { (h : List Record) → IsHistory core.old h → IsHistory core.new h }
+        ensures refused { OnErr result (core.new ≡ core.old) }
+        ensures fault { IfErr result (λ fault. RefusesJoin core.old fault) }
     {
         let lane = core.join()?;
         let session = lane.session();
@@ -128,7 +144,13 @@ impl Stay {
         requires { IsResting self.old.place }
         ensures ok { IfOk result (λ number. self.new.place ≡ UnderWay number request) }
         ensures err { OnErr result (self.new ≡ self.old) }
+        ensures session { self.new.session ≡ self.old.session }
         ensures calls { self.new.calls ≡ self.old.calls }
+        ensures begins { IfOk result (λ number. (number ≡ core.new.drawn)
+            × BeginsAt self.old core.old core.new request moment) }
+        ensures history { (h : List Record) → IsHistory core.old h → IsHistory core.new h }
+        ensures refused { OnErr result (core.new ≡ core.old) }
+        ensures fault { IfErr result (λ fault. RefusesAt self.old core.old fault) }
     {
         self.transcript.calls.reserve(1)?;
         let asked = request.try_copy(self.alloc)?;
@@ -143,7 +165,10 @@ impl Stay {
     /// One step of the call.
     pub fn step(&mut self, core: &mut Core) -> Stepped
         requires { IsUnderWay self.old.place }
-        ensures { Steps self.old result.told self.new }
+        ensures told { Steps self.old result.told self.new }
+        ensures session { self.new.session ≡ self.old.session }
+        ensures steps { (h : List Record) → IsHistory core.old h
+            → StepsAt self.old core.old h result self.new core.new }
     {
         let _history = core.history();
         let Some(lane) = &mut self.lane else {
@@ -183,8 +208,14 @@ impl Stay {
     pub fn leave(&mut self, core: &mut Core) -> Option<Share>
         requires { IsResting self.old.place }
         ensures place { self.new.place ≡ Gone }
+        ensures session { self.new.session ≡ self.old.session }
         ensures calls { self.new.calls ≡ self.old.calls }
         ensures share { IfSome result (λ share. Counts self.old.calls share) }
+        ensures leaves { OnSome result (Leaves core.old core.new self.old.session) }
+        ensures history { OnSome result ((h : List Record) → IsHistory core.old h
+            → IsHistory core.new (h ++ Left self.old.session ∷ [])) }
+        ensures stranger { IfNone result ((core.new ≡ core.old)
+            × (slot_of core.old self.old.session ≢ Idle)) }
     {
         let lane = self.lane.take()?;
         match core.leave(lane) {
@@ -198,14 +229,16 @@ impl Stay {
 
     /// What the session was told, or its last call alone.
     pub fn transcript(&self) -> &Transcript
-        ensures { IfSome self.now.calls (λ calls. map told result.now.calls.items ≡ calls) }
+        ensures session { result.now.session ≡ self.now.session }
+        ensures calls { IfSome self.now.calls (λ calls. map told result.now.calls.items ≡ calls) }
     {
         &self.transcript
     }
 
     /// What the session was told, or its last call alone. A session that hasn't left is given up.
     pub fn into_transcript(self) -> Transcript
-        ensures { IfSome self.calls (λ calls. map told result.calls.items ≡ calls) }
+        ensures session { result.session ≡ self.session }
+        ensures calls { IfSome self.calls (λ calls. map told result.calls.items ≡ calls) }
     {
         let Stay {
             alloc: _,

@@ -1,14 +1,11 @@
 //! The Unix socket at which a server listens.
 
-use sf_line::StreamLine;
+use crate::socket_line::SocketLine;
 use std::io::{self, ErrorKind};
 use std::os::unix::fs::FileTypeExt;
 use std::os::unix::net::{UnixListener, UnixStream};
 use std::time::Duration;
 use std::{fs, thread};
-
-/// A line over a connection that was accepted.
-pub(crate) type SocketLine = StreamLine<UnixStream, UnixStream>;
 
 /// How often a connection is asked for before the server gives up, and how long it waits in between.
 /// A system that is short of descriptors has some again once sessions have ended.
@@ -42,16 +39,15 @@ pub(crate) fn listen(rt: &HostRuntime, path: &str) -> io::Result<UnixListener> {
     }
 }
 
-fn accept(listener: &UnixListener) -> io::Result<SocketLine> {
+fn accept(rt: &HostRuntime, listener: &UnixListener) -> io::Result<SocketLine> {
     let (stream, _) = listener.accept()?;
-    let other = stream.try_clone()?;
-    Ok(StreamLine::new(stream, other))
+    SocketLine::new(rt.alloc(), stream)
 }
 
 /// The next connection. Where none can be had, it is asked for again, for some ten seconds.
 pub(crate) fn next_line(rt: &HostRuntime, listener: &UnixListener) -> Option<SocketLine> {
     for _ in 0..TRIES {
-        if let Ok(line) = accept(listener) {
+        if let Ok(line) = accept(rt, listener) {
             return Some(line);
         }
         thread::sleep(rt, Duration::from_millis(PAUSE_MILLISECONDS));

@@ -16,6 +16,7 @@ mod connection;
 mod listening;
 mod program;
 mod server;
+mod socket_line;
 pub mod stdio;
 mod totals;
 

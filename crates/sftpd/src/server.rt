@@ -3,7 +3,8 @@
 ghost use Rattle.std.specs.Prelude.{◌<◌};
 
 use crate::clock::SystemClock;
-use crate::listening::{SocketLine, listen, next_line};
+use crate::listening::{listen, next_line};
+use crate::socket_line::SocketLine;
 use crate::totals::tell;
 use crossbeam_channel::{Receiver, Sender, bounded};
 use sf_core::Core;

@@ -1,14 +1,15 @@
 //! Sessions served over lines in memory, at a desk on a core that is lent to it.
 
-ghost use Rattle.std.specs.Prelude.{◌≡◌, [], true, map, IfSome};
+ghost use Rattle.std.specs.Prelude.{◌≡◌, ◌++◌, ◌∷◌, [], Some, true, map, IfSome};
 ghost use Rattle.sf_pool.specs.Audits.{told};
 ghost use Rattle.sf_pool.specs.Desks.{New, kept_calls};
 
 use super::*;
 use sf_call::CoreFault;
-use sf_cases::{StillClock, hex_bytes};
+use sf_cases::requests::stat;
+use sf_cases::{RisingClock, StillClock, hex_bytes};
 use sf_line::{LineCall, MemoryLine, Pieces};
-use sf_pool::{NoGate, Stay, serve};
+use sf_pool::{Begin, NoGate, Stay, serve};
 use sf_session::ServeFault;
 
 /// INIT; MKDIR of `/a` under the id 7; STAT of `/a` under the id 8.
@@ -24,6 +25,16 @@ const TOLD: [&str; 3] = [
     "00000018 65 00000007 00000000 00000007 53756363657373 00000000",
     "00000025 69 00000008 0000000f 0000000000000000 00000000 00000000 000041ed 00000064 00000064",
 ];
+
+/// STAT of `/a` under the id 9.
+const ASKED_AGAIN: &str = "0000000b 11 00000009 00000002 2f61";
+
+/// FAILURE for want of memory, under the id 8.
+const REFUSED: &str = "0000001e 65 00000008 00000004 0000000d 4f7574206f66206d656d6f7279 00000000";
+
+/// The attributes of `/a`, under the id 9.
+const TOLD_AGAIN: &str =
+    "00000025 69 00000009 0000000f 0000000000000000 00000000 00000000 000041ed 00000064 00000064";
 
 fn packets(alloc: Global, texts: &[&str]) -> Result<Vec<u8>, Fail> {
     let mut bytes = Vec::new(alloc);
@@ -77,6 +88,82 @@ impl Desk for OwnDesk<'_> {
 
     fn transcript(&self) -> &Transcript {
         self.stay.transcript()
+    }
+}
+
+/// Such a desk that tells what it was asked to begin. It refuses the second call for want of memory.
+#[derive(Drop)]
+struct TellingDesk<'a, R: Abort> {
+    rt: &'a R,
+    alloc: Global,
+    own: OwnDesk<'a>,
+    begins: Vec<Begin>,
+}
+
+impl<'a, R: Abort> TellingDesk<'a, R> {
+    fn new(rt: &'a R, alloc: Global, core: &'a mut Core) -> TellingDesk<'a, R>
+        ensures place { result.own.stay.place ≡ New }
+        ensures begins { result.begins.items ≡ [] }
+    {
+        TellingDesk {
+            rt,
+            alloc,
+            own: OwnDesk::new(alloc, core),
+            begins: Vec::new(alloc),
+        }
+    }
+
+    /// Notes what came of a call that it was asked to begin.
+    fn note(&mut self, begin: Begin)
+        ensures own { self.new.own.stay ≡ self.old.own.stay }
+        ensures begins { self.new.begins.items ≡ self.old.begins.items ++ begin ∷ [] }
+    {
+        if self.begins.push(begin).is_err() {
+            panic!(self.rt; "no memory");
+        }
+    }
+}
+
+impl<R: Abort> Desk for TellingDesk<'_, R> {
+    ghost at = { λ d. d.own.stay };
+
+    ghost begins = { λ d. Some d.begins.items };
+
+    fn join(&mut self) -> Result<u64, CoreFault> {
+        self.own.join()
+    }
+
+    fn begin(&mut self, request: Request, moment: u32) -> Result<u64, CoreFault> {
+        let Ok(asked) = request.try_copy(self.alloc) else {
+            panic!(self.rt; "no memory");
+        };
+        let outcome = if self.begins.len() == 1 {
+            Err(CoreFault::OutOfMemory)
+        } else {
+            self.own.begin(request, moment)
+        };
+        self.note(Begin {
+            request: asked,
+            moment,
+            outcome,
+        });
+        outcome
+    }
+
+    fn step(&mut self) -> Told {
+        self.own.step()
+    }
+
+    fn answer(&self) -> &Answer {
+        self.own.answer()
+    }
+
+    fn leave(&mut self) -> Option<Share> {
+        self.own.leave()
+    }
+
+    fn transcript(&self) -> &Transcript {
+        self.own.transcript()
     }
 }
 
@@ -166,6 +253,43 @@ fn prompt_replies(rt: HostRuntime) -> Result<(), Fail> {
         LineCall::Read(0),
     ];
     assert_eq!(rt; line.calls(), want.as_slice());
+    assert_eq!(rt; desk.transcript().calls.len(), 2);
+    Ok(())
+}
+
+/// The calls that began, each at its moment, and the one that the desk refused, whose reply says so.
+#[test]
+fn begins_and_a_refusal(rt: HostRuntime) -> Result<(), Fail> {
+    let alloc = rt.alloc();
+    let input = packets(alloc, &[ASKED[0], ASKED[1], ASKED[2], ASKED_AGAIN])?;
+    let want = packets(alloc, &[TOLD[0], TOLD[1], REFUSED, TOLD_AGAIN])?;
+    let mut core = Core::new(alloc)?;
+    let mut desk = TellingDesk::new(&rt, alloc, &mut core);
+    let whole = Pieces::new(usize::MAX, usize::MAX);
+    let mut line = MemoryLine::new(alloc, &input, whole, whole);
+    let mut clock = RisingClock::new(100);
+    let mut share = Share::zero();
+    serve(alloc, &mut desk, &mut line, &mut clock, &NoGate, &mut share)?;
+    assert_eq!(rt; line.output(), want.as_slice());
+    assert_eq!(rt; share.calls(), 2);
+    let begins = vec![in alloc;
+        Begin {
+            request: mkdir(alloc, b"/a")?,
+            moment: 100,
+            outcome: Ok(1)
+        },
+        Begin {
+            request: stat(alloc, b"/a")?,
+            moment: 101,
+            outcome: Err(CoreFault::OutOfMemory)
+        },
+        Begin {
+            request: stat(alloc, b"/a")?,
+            moment: 102,
+            outcome: Ok(2)
+        },
+    ]?;
+    assert_eq!(rt; desk.begins.as_slice(), begins.as_slice());
     assert_eq!(rt; desk.transcript().calls.len(), 2);
     Ok(())
 }

@@ -5,9 +5,11 @@ ghost use Rattle.std.specs.Prelude.{◌<◌};
 use super::*;
 use crate::listening::listen;
 use crate::server::{ServerFault, Serving, serve_on};
+use crate::socket_line::SocketLine;
 use crate::totals::tell;
 use crossbeam_channel::bounded;
 use sf_core::Core;
+use sf_line::{Line, write_all};
 use sf_pool::NoGate;
 use sf_workers::{Served, serve_all};
 use std::fs;
@@ -150,6 +152,28 @@ fn left_file_is_replaced(rt: HostRuntime) -> Result<(), Fail> {
     fs::File::open(&rt, path)?.read_to_end(&mut text)?;
     assert_eq!(rt; text.as_slice(), b"text".as_slice());
     fs::remove_file(&rt, path)?;
+    Ok(())
+}
+
+/// What waits is sent before the line reads, and when it is dropped.
+#[test]
+fn replies_are_gathered(rt: HostRuntime) -> Result<(), Fail> {
+    let (ours, theirs) = UnixStream::pair(&rt)?;
+    let mut line = SocketLine::new(rt.alloc(), ours)?;
+    write_all(&mut line, b"ab")?;
+    write_all(&mut line, b"c")?;
+    theirs.set_nonblocking(true)?;
+    let mut bytes = [0u8; 8];
+    assert!(rt; (&theirs).read(&mut bytes).is_err());
+    (&theirs).write_all(b"x")?;
+    assert_eq!(rt; line.read(&mut bytes)?, 1);
+    assert_eq!(rt; (&theirs).read(&mut bytes)?, 3);
+    assert!(rt; bytes.starts_with(b"abc"));
+    write_all(&mut line, b"de")?;
+    drop(line);
+    assert_eq!(rt; (&theirs).read(&mut bytes)?, 2);
+    assert!(rt; bytes.starts_with(b"de"));
+    assert_eq!(rt; (&theirs).read(&mut bytes)?, 0);
     Ok(())
 }
 

@@ -3,4 +3,4 @@ use Rattle.sf_pool.specs.Desks.{IsUnderWay, DeskView}
 use Rattle.sf_pool.proofs.calling.finish.Goals as goal
 
 pub step-requires : goal.step-requires
-step-requires g c = subst (λ (d : DeskView). IsUnderWay d.place) (sym c.loop-steps.invariant) c.requires
+step-requires g c = subst (λ (d : DeskView). IsUnderWay d.place) (sym c.loop-steps.invariant.place) c.requires
