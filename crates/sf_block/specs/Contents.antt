@@ -1,5 +1,5 @@
 -- A file's bytes, and the memory that they have.
-use Rattle.std.specs.Prelude.{ℕ, ◌+◌, ◌-◌, ◌≤◌, List, ◌++◌, length, take, drop, min, max, replicate}
+use Rattle.std.specs.Prelude.{ℕ, ◌+◌, ◌-◌, ◌≤◌, List, ◌++◌, length, take, drop, max, replicate}
 
 -- the bytes, and what they have memory for
 pub record Stored : Type 0 where
@@ -21,14 +21,6 @@ HasRoom contents offset n = offset + n ≤ contents.room
 -- with memory for these, too
 abbrev pub with_room : Stored → ℕ → ℕ → Stored
 with_room contents offset n = record contents { room = max contents.room (offset + n) }
-
--- how many bytes there are from an offset on, at most so many
-abbrev pub count_from : List ℕ → ℕ → ℕ → ℕ
-count_from bytes offset most = min most (length bytes - offset)
-
--- the front of a buffer is replaced
-abbrev pub with_front : List ℕ → List ℕ → List ℕ
-with_front front buffer = front ++ drop (length front) buffer
 
 -- zeros are appended up to a size
 abbrev pub filled_to : List ℕ → ℕ → List ℕ

@@ -1,7 +1,7 @@
 //! A file's bytes in one vector.
 
-ghost use Rattle.std.specs.Prelude.{◌≡◌, ◌+◌, ◌<◌, ◌≤◌, ◌^◌, [], ◌++◌, length, take, drop, vec_capacity, IsOk, OnOk, OnErr};
-ghost use Rattle.sf_block.specs.Contents.{resized, written, Stored, HasRoom, with_room, count_from, with_front, filled_to};
+ghost use Rattle.std.specs.Prelude.{◌≡◌, ◌+◌, ◌<◌, ◌≤◌, ◌^◌, [], ◌++◌, length, take, drop, vec_capacity, IsOk, IfOk, OnOk, OnErr};
+ghost use Rattle.sf_block.specs.Contents.{resized, written, Stored, HasRoom, with_room, filled_to};
 
 use std::alloc::{AllocError, Global};
 use std::marker::Model;
@@ -40,17 +40,13 @@ impl Contents {
         self.bytes.len() as u64
     }
 
-    /// Puts the bytes from an offset on into a buffer, as many as there are and as fit, and tells how
-    /// many these are: none from the end on.
-    pub fn read_into(&self, offset: u64, buffer: &mut [u8]) -> usize
-        ensures count { result ≡ count_from self.now.bytes offset (length buffer.old) }
-        ensures buffer { buffer.new
-            ≡ with_front (take result (drop offset self.now.bytes)) buffer.old }
+    /// A copy of the bytes from an offset on, of `most` at most: none from the end on.
+    pub fn read(&self, alloc: Global, offset: u64, most: usize) -> Result<Vec<u8>, AllocError>
+        ensures { IfOk result (λ copy. copy.items ≡ take most (drop offset self.now.bytes)) }
     {
         let start = (offset as usize).min(self.bytes.len());
-        let count = buffer.len().min(self.bytes.len() - start);
-        buffer[..count].copy_from_slice(&self.bytes[start..start + count]);
-        count
+        let rest = &self.bytes[start..];
+        Vec::from_slice(alloc, &rest[..most.min(rest.len())])
     }
 
     /// Gets memory for `n` bytes from an offset on, and for all before them.
@@ -78,8 +74,10 @@ impl Contents {
         // Tells that the room is a number of 64 bits.
         let _ = self.bytes.capacity();
         let start = offset as usize;
-        fill_to(&mut self.bytes, start + bytes.len());
-        overwrite(&mut self.bytes, start, bytes);
+        fill_to(&mut self.bytes, start);
+        let (over, behind) = bytes.split_at(bytes.len().min(self.bytes.len() - start));
+        overwrite(&mut self.bytes, start, over);
+        append(&mut self.bytes, behind);
     }
 
     /// Cuts the bytes at a size, or fills them up to it with zeros, as POSIX's `ftruncate` does.
@@ -121,4 +119,13 @@ fn overwrite(all: &mut [u8], start: usize, bytes: &[u8])
     ensures { all.new ≡ take start all.old ++ bytes.now ++ drop (start + length bytes.now) all.old }
 {
     all[start..start + bytes.len()].copy_from_slice(bytes);
+}
+
+/// Appends bytes, in memory that is there.
+fn append(bytes: &mut Vec<u8>, more: &[u8])
+    requires { length bytes.old.items + length more.now ≤ vec_capacity bytes.old }
+    ensures bytes { bytes.new.items ≡ bytes.old.items ++ more.now }
+    ensures room { vec_capacity bytes.old ≤ vec_capacity bytes.new }
+{
+    bytes.extend_from_slice(more).unwrap();
 }

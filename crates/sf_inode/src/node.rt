@@ -1,11 +1,11 @@
 //! A file, or a directory with its entries.
 
-ghost use Rattle.std.specs.Prelude.{◌≡◌, ◌+◌, ◌<◌, ◌^◌, [], Some, None, if◌then◌else◌, length, take, drop, IsOk, IfOk, OnOk, OnErr};
+ghost use Rattle.std.specs.Prelude.{◌≡◌, ◌+◌, ◌<◌, ◌^◌, [], Some, None, true, false, length, take, IfSome, IfNone, IsOk, IfOk, OnOk, OnErr};
 ghost use Rattle.std.specs.Option.{option_copied};
 ghost use Rattle.sf_field.specs.declared.attrs.Attrs.{Attrs};
 ghost use Rattle.sf_call.specs.Attributes.{attrs_of, with_parts, modified_at};
 ghost use Rattle.sf_inode.specs.Nodes.{entry_in, entries_in, entries_past, is_directory_content, is_file_content, is_bare_content, object_in, new_node, with_content, with_metadata, less_content, more_content, stored_in, with_stored, is_unused};
-ghost use Rattle.sf_block.specs.Contents.{resized, written, HasRoom, with_room, count_from, with_front};
+ghost use Rattle.sf_block.specs.Contents.{resized, written, HasRoom, with_room};
 
 use crate::NodeId;
 use crate::entries::Entries;
@@ -150,27 +150,15 @@ impl Node {
         self.metadata = self.metadata.modified_at(moment);
     }
 
-    /// Puts bytes from an offset on into a buffer, and tells how many; a directory has none.
-    pub(crate) fn read(&self, offset: u64, buffer: &mut [u8]) -> usize
-        ensures count { result
-            ≡ count_from (stored_in self.now.content).bytes offset (length buffer.old) }
-        ensures buffer { buffer.new
-            ≡ with_front (take result (drop offset (stored_in self.now.content).bytes)) buffer.old }
-    {
-        match &self.content {
-            Content::Directory(_) => 0,
-            Content::File(contents) => contents.read_into(offset, buffer),
-        }
-    }
-
-    /// How many bytes a file has.
-    pub(crate) fn file_len(&self) -> Option<u64>
-        ensures { result
-            ≡ (if is_file_content self.now.content then Some (length (stored_in self.now.content).bytes) else None) }
+    /// The bytes, if it is a file.
+    pub(crate) fn file(&self) -> Option<&Contents>
+        ensures some { IfSome result (λ file. (is_file_content self.now.content ≡ true)
+            × (file.now ≡ stored_in self.now.content)) }
+        ensures none { IfNone result (is_file_content self.now.content ≡ false) }
     {
         match &self.content {
             Content::Directory(_) => None,
-            Content::File(contents) => Some(contents.len()),
+            Content::File(contents) => Some(contents),
         }
     }
 

@@ -1,18 +1,19 @@
 //! The nodes, and what is open.
 
-ghost use Rattle.std.specs.Prelude.{◌≡◌, ℕ, ◌+◌, ◌<◌, ◌^◌, [], length, take, drop, Some, None, IsOk, IfOk, OnOk, OnErr, option_map};
+ghost use Rattle.std.specs.Prelude.{◌≡◌, ℕ, ◌+◌, ◌<◌, ◌^◌, [], true, false, length, take, Some, None, IfSome, IfNone, IsOk, IfOk, OnOk, OnErr, option_map};
 ghost use Rattle.std.specs.Option.{option_map_or};
 ghost use Rattle.std.specs.declared.alloc.Global.{Global};
 ghost use Rattle.sf_call.specs.Attributes.{attrs_of, with_parts, modified_at};
 ghost use Rattle.sf_inode.specs.Nodes.{new_node, object_in, with_metadata, with_holder, entries_past};
-ghost use Rattle.sf_inode.specs.Stores.{IsFirst, Inserted, with_nodes, node_in, entry_of, holder_of, looked_up, edited, entry_taken, entry_put, released, forgotten, let_go, unlinked, relinked, stored_of, file_size, is_directory_at, is_bare_at, stored_set, opened, handle_put, handle_at, handles_of, handle_dropped, handle_listed, entries_at, closed, each_let_go, closed_all};
+ghost use Rattle.sf_inode.specs.Stores.{IsFirst, Inserted, with_nodes, node_in, entry_of, holder_of, looked_up, edited, entry_taken, entry_put, released, forgotten, let_go, unlinked, relinked, stored_of, is_file_at, file_size, is_directory_at, is_bare_at, stored_set, opened, handle_put, handle_at, handles_of, handle_dropped, handle_listed, entries_at, closed, each_let_go, closed_all};
 ghost use Rattle.std.specs.Option.{option_copied};
-ghost use Rattle.sf_block.specs.Contents.{resized, written, HasRoom, with_room, count_from, with_front};
+ghost use Rattle.sf_block.specs.Contents.{resized, written, HasRoom, with_room};
 
 use crate::NodeId;
 use crate::entries::Entries;
 use crate::handle::{Marks, OpenHandle, SessionHandles};
 use crate::node::{Content, NewNode, Node};
+use sf_block::Contents;
 use sf_call::Metadata;
 use sf_field::{Attrs, Owner, Times};
 use sf_path::Name;
@@ -310,25 +311,20 @@ impl Store {
         Ok(())
     }
 
+    /// The bytes of a file. A directory has none.
+    pub fn file(&self, node: NodeId) -> Option<&Contents>
+        ensures some { IfSome result (λ file. (is_file_at self.now.nodes node ≡ true)
+            × (file.now ≡ stored_of self.now.nodes node)) }
+        ensures none { IfNone result (is_file_at self.now.nodes node ≡ false) }
+    {
+        self.nodes.get(node)?.file()
+    }
+
     /// How many bytes a file has. A directory has none.
     pub fn file_len(&self, node: NodeId) -> Option<u64>
         ensures { result ≡ file_size self.now.nodes node }
     {
-        self.nodes.get(node)?.file_len()
-    }
-
-    /// Puts a file's bytes from an offset on into a buffer, as many as there are and as fit, and tells
-    /// how many these are.
-    pub fn read(&self, node: NodeId, offset: u64, buffer: &mut [u8]) -> usize
-        ensures count { result
-            ≡ count_from (stored_of self.now.nodes node).bytes offset (length buffer.old) }
-        ensures buffer { buffer.new
-            ≡ with_front (take result (drop offset (stored_of self.now.nodes node).bytes)) buffer.old }
-    {
-        match self.nodes.get(node) {
-            Some(it) => it.read(offset, buffer),
-            None => 0,
-        }
+        Some(self.file(node)?.len())
     }
 
     /// Gets memory for `n` bytes of a file from an offset on, and for all before them.

@@ -65,15 +65,6 @@ write_within moment offset start bytes handle m contents w some from past =
     ∙ (λ i. if nat_lt MAX_FILE_SIZE (from i + length bytes) then refuses Failure else ok (from i))
     ∙ (λ i. if past i then refuses Failure else ok start)
 
-within : (a b : ℕ) → b < a → nat_le a b ≡ false
-within a b h = grind (arith, nat_tests)
-
-read_within : (offset len : ℕ) (handle : Handle) (m : Metadata) (contents : List ℕ) → handle.read ≡ true → offset < length contents
-    → read offset len (OpenFile handle m contents) ≡ tells (reply.Data (take (min len MAX_READ) (drop offset contents)))
-read_within offset len handle m contents r less =
-    (λ i. if not (r i) then refuses PermissionDenied else if nat_le (length contents) offset then refuses EndOfFile else tells (reply.Data (take (min len MAX_READ) (drop offset contents))))
-    ∙ (λ i. if within (length contents) offset less i then refuses EndOfFile else tells (reply.Data (take (min len MAX_READ) (drop offset contents))))
-
 pub some_bytes : (b : Bool) (bytes : List ℕ) → (IsTrue b ↔ (bytes ≡ [])) → b ≡ false → is_nil bytes ≡ false
 some_bytes b [] h e = let t : b ≡ true = h.1 refl in cc
 some_bytes b (x ∷ xs) h e = refl
@@ -109,30 +100,11 @@ module _ (s : StoreState) (t : Tree) (session number : ℕ) (h : OpenHandle) (o 
       file_content s.nodes h.node o.node.label h.label (shown_handle session h) (opened t session number) o.node.metadata o.node.content (ap (option_map shown_node) o.there)
       (ap (λ (o : Option Node). (option_map_or (λ (node : Node). stored_in node.content) o (record { bytes = []; room = 0 })).bytes) o.there) o.label o.opens (sym (file_is s t session number h o) ∙ f)
 
-  pub refused : (f : Opened → Answer) → ((handle : Handle) (m : Metadata) → f (OpenDirectory handle m) ≡ refuses Failure) → None ≡ file_size s.nodes h.node → f (opened t session number) ≡ refuses Failure
-  refused f law none = ap f o.opens ∙ no_file f law (shown_handle session h) o.node.metadata o.node.content (sym (file_is s t session number h o) ∙ no_size s.nodes h.node none)
+  no_file_open : (f : Opened → Answer) → ((handle : Handle) (m : Metadata) → f (OpenDirectory handle m) ≡ refuses Failure) → is_file_at s.nodes h.node ≡ false → f (opened t session number) ≡ refuses Failure
+  no_file_open f law none = ap f o.opens ∙ no_file f law (shown_handle session h) o.node.metadata o.node.content (sym (file_is s t session number h o) ∙ none)
 
   pub refused_served : (f : Opened → Answer) → ((handle : Handle) (m : Metadata) → f (OpenDirectory handle m) ≡ refuses Failure) → None ≡ file_size s.nodes h.node → IsCarriedOut s t (f (opened t session number)) (reply.Status Failure)
-  refused_served f law none = tells_served s t (f (opened t session number)) (reply.Status Failure) (refused f law none) o.keeps
-
-  pub read_is : (offset len size : ℕ) → Some size ≡ file_size s.nodes h.node → h.marks.read ≡ true → offset < size
-      → (read offset len (opened t session number)).reply ≡ reply.Data (take (min len MAX_READ) (drop offset (stored_of s.nodes h.node).bytes))
-  read_is offset len size e r less =
-      let w = size_is s.nodes h.node size e in
-      let f = open_file w.0 in
-      let more : offset < length (stored_of s.nodes h.node).bytes = subst (λ (k : ℕ). offset < k) w.1 less in
-      ap (λ (a : Answer). a.reply) (ap (read offset len) f.1.1 ∙ read_within offset len (shown_handle session h) f.0 (stored_of s.nodes h.node).bytes r more)
-
-  pub read_data : (offset len size count : ℕ) (items : List ℕ) → Some size ≡ file_size s.nodes h.node → h.marks.read ≡ true → offset < size → count ≡ min (min len MAX_READ) (size - offset)
-      → items ≡ take count (drop offset (stored_of s.nodes h.node).bytes) → reply.Data items ≡ (read offset len (opened t session number)).reply
-  read_data offset len size count items e r less counted taken =
-      let rest = drop offset (stored_of s.nodes h.node).bytes in
-      let most : count ≡ min (min len MAX_READ) (length rest) =
-      counted ∙ ap (λ k. min (min len MAX_READ) (k - offset)) (size_is s.nodes h.node size e).1 ∙ ap (min (min len MAX_READ)) (sym (length-drop offset (stored_of s.nodes h.node).bytes)) in
-      ap reply.Data (taken ∙ ap (λ k. take k rest) most ∙ take_min (min len MAX_READ) rest) ∙ sym (read_is offset len size e r less)
-
-  pub read_wants : (offset len size : ℕ) → Some size ≡ file_size s.nodes h.node → h.marks.read ≡ true → offset < size → is_success (read offset len (opened t session number)).reply ≡ true
-  read_wants offset len size e r less = ap is_success (read_is offset len size e r less)
+  refused_served f law none = tells_served s t (f (opened t session number)) (reply.Status Failure) (no_file_open f law (no_size s.nodes h.node none)) o.keeps
 
   pub write_unmarked : (moment offset size : ℕ) (bytes : List ℕ) → Some size ≡ file_size s.nodes h.node → h.marks.write ≡ false → IsCarriedOut s t (write moment offset bytes (opened t session number)) (reply.Status PermissionDenied)
   write_unmarked moment offset size bytes e w =

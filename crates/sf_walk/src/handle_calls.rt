@@ -1,6 +1,6 @@
 //! Calls by handle.
 
-ghost use Rattle.std.specs.Prelude.{◌≡◌, ◌+◌, ◌<◌, ◌≤◌, ◌^◌, ℕ, nat_lt, if◌then◌else◌, List, length, take, drop, true, false, is_some, Some, IsOk, IfOk, OnOk, OnErr};
+ghost use Rattle.std.specs.Prelude.{◌≡◌, ◌+◌, ◌<◌, ◌^◌, ℕ, nat_lt, if◌then◌else◌, List, length, true, false, is_some, Some, IsOk, IfOk, OnOk, OnErr};
 ghost use Rattle.sf_reply.specs.Replies.{IsPlain};
 ghost use Rattle.sf_call.specs.declared.metadata.Metadata.{Metadata};
 ghost use Rattle.sf_call.specs.Attributes.{modified_at};
@@ -11,7 +11,7 @@ ghost use Rattle.sf_call.specs.Changes.{changed};
 ghost use Rattle.sf_call.specs.Changes.Change.{SetObject};
 ghost use Rattle.sf_call.specs.Handles.{handle_in, opened};
 ghost use Rattle.sf_call.specs.Calls.{close, stat_opened, set_opened, read, write};
-ghost use Rattle.sf_inode.specs.Stores.{stored_of, is_file_at, shown_of};
+ghost use Rattle.sf_inode.specs.Stores.{is_file_at, shown_of};
 ghost use Rattle.sf_keeps.specs.Keeps.{Keeps};
 ghost use Rattle.sf_walk.specs.Served.{IsCarriedOut, Gives, HoldersStay, is_success};
 
@@ -104,34 +104,17 @@ pub(crate) fn read(
     let Some(handle) = store.handle(session, number) else {
         return Ok(Reply::Status(StatusCode::Failure));
     };
-    let Some(size) = store.file_len(handle.node) else {
+    let Some(file) = store.file(handle.node) else {
         return Ok(Reply::Status(StatusCode::Failure));
     };
     if !handle.marks.read {
         return Ok(Reply::Status(StatusCode::PermissionDenied));
     }
-    if offset >= size {
+    if offset >= file.len() {
         return Ok(Reply::Status(StatusCode::EndOfFile));
     }
-    let count = u64::from(len.min(MAX_READ)).min(size - offset);
-    let bytes = bytes_at(store, handle.node, offset, count as usize)?;
-    Ok(Reply::Data(bytes))
-}
-
-/// So many bytes of a file from an offset on.
-fn bytes_at(
-    store: &Store,
-    node: NodeId,
-    offset: u64,
-    count: usize,
-) -> Result<ByteString, AllocError>
-    requires { offset + count ≤ length (stored_of store.now.nodes node).bytes }
-    ensures { IfOk result (λ bytes. bytes
-        ≡ take count (drop offset (stored_of store.now.nodes node).bytes)) }
-{
-    let mut bytes = vec![in store.alloc(); 0; count]?;
-    store.read(node, offset, &mut bytes);
-    ByteString::from_vec(bytes)
+    let bytes = file.read(store.alloc(), offset, len.min(MAX_READ) as usize)?;
+    Ok(Reply::Data(ByteString::from_vec(bytes)?))
 }
 
 /// WRITE.
