@@ -50,6 +50,8 @@ pub struct Session {
     begun: bool,
     waiting: Option<u32>,
     ended: Option<Cause>,
+    /// Whether no whole packet is unread, as far as it was told by `next`.
+    is_idle: bool,
 }
 
 impl Model for Session {
@@ -75,6 +77,7 @@ impl Session {
             begun: false,
             waiting: None,
             ended: None,
+            is_idle: true,
         }
     }
 
@@ -91,6 +94,7 @@ impl Session {
         if self.unread.extend_from_slice(bytes).is_err() {
             return Err(SessionFault::OutOfMemory);
         }
+        self.is_idle = false;
         Ok(())
     }
 
@@ -108,7 +112,7 @@ impl Session {
             return Err(SessionFault::OutOfMemory);
         };
         match front {
-            Front::More => Ok(Next::More),
+            Front::More => Ok(self.more()),
             Front::Wrong(cause) => Ok(self.end(cause)),
             Front::Asks(ask, len) => match ask {
                 Ask::Version => self.version(len),
@@ -125,6 +129,16 @@ impl Session {
         front_of(self.alloc, self.begun, self.unread.as_slice())
     }
 
+    /// No whole packet is unread.
+    fn more(&mut self) -> Next
+        ensures next { result ≡ Next.More }
+        ensures session { self.new ≡ self.old }
+    {
+        self.is_idle = true;
+        self.let_go();
+        Next::More
+    }
+
     fn end(&mut self, cause: Cause) -> Next
         requires { self.old.waiting ≡ None }
         ensures next { result ≡ Next.Ended cause }
@@ -132,6 +146,7 @@ impl Session {
     {
         self.unread = BytesMut::new(self.alloc);
         self.ended = Some(cause);
+        self.is_idle = true;
         self.let_go();
         Next::Ended(cause)
     }
@@ -242,8 +257,8 @@ impl Session {
         self.output.as_slice()
     }
 
-    /// Drops the first bytes to be sent, since they were. Takes no memory. A session that waits for no
-    /// answer and has sent all keeps no buffer.
+    /// Drops the first bytes to be sent, since they were. Takes no memory. A session that has no whole
+    /// packet unread, waits for no answer and has sent all keeps no buffer.
     pub fn take_front(&mut self, n: usize)
         requires { n ≤ length self.old.output }
         ensures { self.new ≡ record self.old { output = drop n self.old.output } }
@@ -252,12 +267,13 @@ impl Session {
         self.let_go();
     }
 
-    /// Where it waits for no answer and has sent all, it keeps no buffer: one that stays would lie above
-    /// memory that was freed, and the C library could give none of that back.
+    /// Where it is idle, waits for no answer and has sent all, it keeps no buffer: one that stays would
+    /// lie above memory that was freed, and the C library could give none of that back. While packets
+    /// are unread it keeps it for their replies.
     fn let_go(&mut self)
         ensures { self.new ≡ self.old }
     {
-        if self.waiting.is_none() && self.output.is_empty() {
+        if self.is_idle && self.waiting.is_none() && self.output.is_empty() {
             self.output = BytesMut::new(self.alloc);
         }
     }
