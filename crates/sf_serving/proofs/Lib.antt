@@ -1,10 +1,14 @@
 pub mod Acting
+pub mod Alone
 pub mod Causes
 pub mod Ending
 pub mod Following
 pub mod Laws
+pub mod OneStream
 pub mod Opening
 pub mod Outcomes
+pub mod Reaching
 pub mod Rounds
 pub mod Sending
+pub mod Standing
 pub mod Turning

@@ -1,0 +1,237 @@
+-- A stream has one reading: its bodies, what each asks for, and how it ends.
+use Rattle.std.proofs.Common.{◌≡◌, ℕ, ◌+◌, ◌<◌, ◌^◌, List, [], ◌∷◌, ◌++◌, Bool, true, false, length, take, drop, refl, ap, sym, ◌∙◌, subst, arith, inl, inr, append_assoc, map}
+use Rattle.std.specs.Int.{w32}
+use Rattle.std.specs.List.{AllByRecursion, flat_map}
+use Rattle.std.proofs.Math.Seq.{drop-append_seam, take-append_seam}
+use Rattle.std.proofs.lemmas.List.Elements.{All-take, All-drop, All-same}
+use Rattle.std.proofs.lemmas.List.{length-append}
+use Rattle.std.proofs.lemmas.Option.{some_pair_parts}
+use Rattle.sf_field.specs.Fields.{AreBytes, be32, packet}
+use Rattle.sf_field.specs.Reading.{number_at}
+use Rattle.sf_field.proofs.Laws.{reads_u32}
+use Rattle.sf_wire.specs.declared.cutting.Cut.TheVariants as cut
+use Rattle.sf_wire.specs.declared.cutting.BadCut.TheVariants as bad
+use Rattle.sf_wire.specs.Packets.{IsBody, IsCut}
+use Rattle.sf_wire.proofs.Laws.{one_packet}
+use Rattle.sf_request.specs.declared.request.Asked.{Asked}
+use Rattle.sf_request.proofs.Laws.{one_question}
+use Rattle.sf_session.specs.declared.asking.Ask.{Ask}
+use Rattle.sf_session.specs.declared.asking.Ask.TheVariants as ask
+use Rattle.sf_session.specs.declared.cause.Cause.{Cause}
+use Rattle.sf_session.specs.Asking.{AsksFor, ask_in}
+use Rattle.sf_session.specs.Sessions.{Begins, BeginsWrong, EndsBy}
+use Rattle.sf_engine.specs.Worlds.{Answered, Version, Locally, ByCall, Refused, asked_by}
+use Rattle.sf_engine.specs.Traces.{has_begun}
+use Rattle.sf_engine.specs.Laws.{AreAsked}
+use Rattle.sf_serving.specs.Ends.{IsEnd}
+
+-- ---- one front
+
+-- four bytes tell one number
+one_number : (n k : ℕ) (x y : List ℕ) → n < 2 ^ 32 → k < 2 ^ 32 → be32 n ++ x ≡ be32 k ++ y → (n ≡ k) × (x ≡ y)
+one_number n k x y small small' e = some_pair_parts _ _ _ _ (sym (reads_u32.again n x small) ∙ ap (number_at w32) e ∙ reads_u32.again k y small')
+
+abbrev IsCount : List ℕ → ℕ → Type 0
+IsCount bytes n = (rest : List ℕ) × (bytes ≡ be32 n ++ rest)
+
+four_bytes : (n : ℕ) → length (be32 n) ≡ 4
+four_bytes n = refl
+
+no_count : (bytes : List ℕ) (n : ℕ) → length bytes < 4 → IsCount bytes n → ⊥
+no_count bytes n short c = omega (arith, short, four_bytes n, ap (λ (b : List ℕ). length b) c.1, length-append (be32 n) c.0)
+
+begins_count : (bytes body rest : List ℕ) → Begins bytes body rest → IsCount bytes (length body)
+begins_count bytes body rest b = (body ++ rest, b.whole ∙ append_assoc (be32 (length body)) body rest)
+
+-- less than a packet begins with no packet
+more_begins : (bytes body rest : List ℕ) → IsCut bytes cut.More → Begins bytes body rest → ⊥
+unfolding begins_count
+more_begins bytes body rest (inl short) b = no_count bytes (length body) short (begins_count bytes body rest b)
+more_begins bytes body rest (inr m) b =
+    let c = begins_count bytes body rest b in
+    let same = one_number m.0 (length body) m.1 c.0 (omega (arith, m.2)) (omega (arith, b.is_body.short)) (sym m.3 ∙ c.1) in
+    let count : length m.1 ≡ length body + length rest = ap (λ (x : List ℕ). length x) same.1 ∙ length-append body rest in
+    omega (arith, m.4, same.0, count)
+
+-- nor with a wrong length
+more_zero : (bytes : List ℕ) → IsCut bytes cut.More → IsCut bytes (cut.Bad bad.ZeroLength) → ⊥
+more_zero bytes (inl short) z = no_count bytes 0 short (z.0, z.1)
+more_zero bytes (inr m) z =
+    let same = one_number m.0 0 m.1 z.0 (omega (arith, m.2)) (omega arith) (sym m.3 ∙ z.1) in omega (arith, m.4, same.0)
+
+more_long : (bytes : List ℕ) → IsCut bytes cut.More → IsCut bytes (cut.Bad bad.TooLong) → ⊥
+more_long bytes (inl short) z = no_count bytes z.0 short (z.1, z.4)
+more_long bytes (inr m) z =
+    let same = one_number m.0 z.0 m.1 z.1 (omega (arith, m.2)) z.3 (sym m.3 ∙ z.4) in omega (arith, m.2, z.2, same.0)
+
+zero_long : (bytes : List ℕ) → IsCut bytes (cut.Bad bad.ZeroLength) → IsCut bytes (cut.Bad bad.TooLong) → ⊥
+zero_long bytes y z = let same = one_number 0 z.0 y.0 z.1 (omega arith) z.3 (sym y.1 ∙ z.4) in omega (arith, z.2, same.0)
+
+zero_begins : (bytes body rest : List ℕ) → IsCut bytes (cut.Bad bad.ZeroLength) → Begins bytes body rest → ⊥
+zero_begins bytes body rest z b =
+    let c = begins_count bytes body rest b in
+    let same = one_number 0 (length body) z.0 c.0 (omega arith) (omega (arith, b.is_body.short)) (sym z.1 ∙ c.1) in omega (arith, same.0, b.is_body.some)
+
+long_begins : (bytes body rest : List ℕ) → IsCut bytes (cut.Bad bad.TooLong) → Begins bytes body rest → ⊥
+long_begins bytes body rest z b =
+    let c = begins_count bytes body rest b in
+    let same = one_number z.0 (length body) z.1 c.0 z.3 (omega (arith, b.is_body.short)) (sym z.4 ∙ c.1) in omega (arith, same.0, z.2, b.is_body.short)
+
+wrong_begins : (bytes body rest : List ℕ) (cause : Cause) → BeginsWrong bytes cause → Begins bytes body rest → ⊥
+wrong_begins bytes body rest cause (inl z) b = zero_begins bytes body rest z.0 b
+wrong_begins bytes body rest cause (inr z) b = long_begins bytes body rest z.0 b
+
+more_wrong : (bytes : List ℕ) (cause : Cause) → IsCut bytes cut.More → BeginsWrong bytes cause → ⊥
+more_wrong bytes cause m (inl z) = more_zero bytes m z.0
+more_wrong bytes cause m (inr z) = more_long bytes m z.0
+
+one_wrong : (bytes : List ℕ) (a b : Cause) → BeginsWrong bytes a → BeginsWrong bytes b → a ≡ b
+one_wrong bytes a b (inl x) (inl y) = x.1 ∙ sym y.1
+one_wrong bytes a b (inl x) (inr y) = absurd (zero_long bytes x.0 y.0)
+one_wrong bytes a b (inr x) (inl y) = absurd (zero_long bytes y.0 x.0)
+one_wrong bytes a b (inr x) (inr y) = x.1 ∙ sym y.1
+
+-- ---- one question of a body
+
+whole_bytes : (body rest : List ℕ) → AreBytes (packet body ++ rest) → AreBytes body
+whole_bytes body rest h =
+    let P : ℕ → Type 0 = λ b. b < 256 in
+    let front : AreBytes (packet body) = All-same P (packet body) (take (length (packet body)) (packet body ++ rest)) (sym (take-append_seam (packet body) rest)) (All-take P (length (packet body)) (packet body ++ rest) h) in
+    All-same P body (drop (length (be32 (length body))) (packet body)) (sym (drop-append_seam (be32 (length body)) body)) (All-drop P (length (be32 (length body))) (packet body) front)
+
+rest_bytes : (body rest : List ℕ) → AreBytes (packet body ++ rest) → AreBytes rest
+rest_bytes body rest h =
+    let P : ℕ → Type 0 = λ b. b < 256 in
+    All-same P rest (drop (length (packet body)) (packet body ++ rest)) (sym (drop-append_seam (packet body) rest)) (All-drop P (length (packet body)) (packet body ++ rest) h)
+
+one_ask : (begun : Bool) (body : List ℕ) (a b : Ask) → AreBytes body → AsksFor begun body a → AsksFor begun body b → a ≡ b
+one_ask begun body a b bytes h k = h.2 ∙ ap (λ (z : Asked). ask_in begun z) (one_question body h.0 k.0 bytes h.1 k.1) ∙ sym k.2
+
+-- the same question, of a body that begins the bytes
+same_ask : (begun : Bool) (bytes body rest body' rest' : List ℕ) (a b : Ask) → AreBytes bytes → Begins bytes body rest → Begins bytes body' rest' → AsksFor begun body a → AsksFor begun body' b
+    → (body ≡ body') × (rest ≡ rest') × (a ≡ b)
+same_ask begun bytes body rest body' rest' a b are x y h k =
+    let same = one_packet body body' rest rest' x.is_body y.is_body (sym x.whole ∙ y.whole) in
+    let of_body : AreBytes body' = whole_bytes body' rest' (subst AreBytes y.whole are) in
+    (same.0, same.1, one_ask begun body' a b of_body (subst (λ (z : List ℕ). AsksFor begun z a) same.0 h) k)
+
+-- what was answered was no end
+no_end : (a : Answered) (cause : Cause) → asked_by a ≡ ask.End cause → ⊥
+no_end Version cause e = absurd cc
+no_end (Locally id given) cause e = absurd cc
+no_end (ByCall id n q given) cause e = absurd cc
+no_end (Refused id q fault) cause e = absurd cc
+
+same_cause : (a b : Cause) → ask.End a ≡ ask.End b → a ≡ b
+same_cause a b e = cc
+
+-- ---- one end
+
+module _ (begun : Bool) (bytes : List ℕ) (are : AreBytes bytes) where
+  one_end_by : (a b : Cause) → EndsBy begun bytes a → EndsBy begun bytes b → a ≡ b
+  one_end_by a b (inl x) (inl y) = one_wrong bytes a b x y
+  one_end_by a b (inl x) (inr y) = absurd (wrong_begins bytes y.0 y.1 a x y.2)
+  one_end_by a b (inr x) (inl y) = absurd (wrong_begins bytes x.0 x.1 b y x.2)
+  one_end_by a b (inr x) (inr y) = same_cause a b (same_ask begun bytes x.0 x.1 y.0 y.1 (ask.End a) (ask.End b) are x.2 y.2 x.3 y.3).2
+
+  more_ends : (a : Cause) → IsCut bytes cut.More → EndsBy begun bytes a → ⊥
+  more_ends a m (inl x) = more_wrong bytes a m x
+  more_ends a m (inr x) = more_begins bytes x.0 x.1 m x.2
+
+  one_end : (a b : Cause) → IsEnd begun bytes a → IsEnd begun bytes b → a ≡ b
+  one_end a b (inl x) (inl y) = x.0 ∙ sym y.0
+  one_end a b (inl x) (inr y) = absurd (more_ends b x.1 y)
+  one_end a b (inr x) (inl y) = absurd (more_ends a y.1 x)
+  one_end a b (inr x) (inr y) = one_end_by a b x y
+
+  -- no end stands where a body was answered
+  end_begins : (cause : Cause) (body rest : List ℕ) (a : Answered) → IsEnd begun bytes cause → Begins bytes body rest → AsksFor begun body (asked_by a) → ⊥
+  end_begins cause body rest a (inl x) b k = more_begins bytes body rest x.1 b
+  end_begins cause body rest a (inr (inl x)) b k = wrong_begins bytes body rest cause x b
+  end_begins cause body rest a (inr (inr x)) b k = no_end a cause (sym (same_ask begun bytes x.0 x.1 body rest (ask.End cause) (asked_by a) are x.2 b x.3 k).2)
+
+-- ---- one reading
+
+abbrev pub begun_after : Bool → List (List ℕ) → Bool
+begun_after begun [] = begun
+begun_after begun (body ∷ bodies) = true
+
+after_true : (bodies : List (List ℕ)) → begun_after true bodies ≡ true
+after_true [] = refl
+after_true (body ∷ bodies) = refl
+
+pub after_false : (bodies : List (List ℕ)) → has_begun bodies ≡ begun_after false bodies
+after_false [] = refl
+after_false (body ∷ bodies) = refl
+
+-- The bytes are the packets of these bodies, each answered as it asks for, and an end.
+pub record Reads (begun : Bool) (bytes : List ℕ) (bodies : List (List ℕ)) (answers : List Answered) (cause : Cause) : Type 0 where
+  pub rest : List ℕ
+  pub are_bodies : AllByRecursion IsBody bodies
+  pub stream : bytes ≡ flat_map packet bodies ++ rest
+  pub end : IsEnd (begun_after begun bodies) rest cause
+  pub asked : AreAsked begun bodies (map asked_by answers)
+
+-- the first body of a reading, and the reading after it
+record First (begun : Bool) (bytes body : List ℕ) (bodies : List (List ℕ)) (answers : List Answered) (cause : Cause) : Type 0 where
+  pub rest : List ℕ
+  pub begins : Begins bytes body rest
+  pub answer : Answered
+  pub later : List Answered
+  pub answers_are : answers ≡ answer ∷ later
+  pub asks : AsksFor begun body (asked_by answer)
+  pub reads : Reads true rest bodies later cause
+
+first_of : (begun : Bool) (bytes body : List ℕ) (bodies : List (List ℕ)) (answers : List Answered) (cause : Cause) → Reads begun bytes (body ∷ bodies) answers cause → First begun bytes body bodies answers cause
+unfolding AreAsked
+first_of begun bytes body bodies [] cause r = absurd r.asked
+first_of begun bytes body bodies (a ∷ answers) cause r = record {
+  rest = flat_map packet bodies ++ r.rest;
+  begins = record { is_body = r.are_bodies.0; whole = r.stream ∙ append_assoc (packet body) (flat_map packet bodies) r.rest };
+  answer = a;
+  later = answers;
+  answers_are = refl;
+  asks = r.asked.0;
+  reads = record {
+    rest = r.rest;
+    are_bodies = r.are_bodies.1;
+    stream = refl;
+    end = subst (λ (b : Bool). IsEnd b r.rest cause) (sym (after_true bodies)) r.end;
+    asked = r.asked.1;
+  };
+}
+
+-- a reading of nothing but an end
+end_of : (begun : Bool) (bytes : List ℕ) (answers : List Answered) (cause : Cause) → Reads begun bytes [] answers cause → IsEnd begun bytes cause × (answers ≡ [])
+unfolding AreAsked
+end_of begun bytes [] cause r = (subst (λ (b : List ℕ). IsEnd begun b cause) (sym r.stream) r.end, refl)
+end_of begun bytes (a ∷ answers) cause r = absurd r.asked
+
+abbrev pub AreOne : (bodies bodies' : List (List ℕ)) → (answers answers' : List Answered) → (cause cause' : Cause) → Type 0
+AreOne bodies bodies' answers answers' cause cause' = (bodies ≡ bodies') × (map asked_by answers ≡ map asked_by answers') × (cause ≡ cause')
+
+pub one_reading : (begun : Bool) (bytes : List ℕ) (bodies bodies' : List (List ℕ)) (answers answers' : List Answered) (cause cause' : Cause) → AreBytes bytes
+    → Reads begun bytes bodies answers cause → Reads begun bytes bodies' answers' cause' → AreOne bodies bodies' answers answers' cause cause'
+one_reading begun bytes [] [] answers answers' cause cause' are r s =
+    let x = end_of begun bytes answers cause r in
+    let y = end_of begun bytes answers' cause' s in
+    (refl, ap (λ (xs : List Answered). map asked_by xs) (x.1 ∙ sym y.1), one_end begun bytes are cause cause' x.0 y.0)
+one_reading begun bytes [] (body' ∷ bodies') answers answers' cause cause' are r s =
+    let x = end_of begun bytes answers cause r in
+    let y = first_of begun bytes body' bodies' answers' cause' s in
+    absurd (end_begins begun bytes are cause body' y.rest y.answer x.0 y.begins y.asks)
+one_reading begun bytes (body ∷ bodies) [] answers answers' cause cause' are r s =
+    let x = first_of begun bytes body bodies answers cause r in
+    let y = end_of begun bytes answers' cause' s in
+    absurd (end_begins begun bytes are cause' body x.rest x.answer y.0 x.begins x.asks)
+one_reading begun bytes (body ∷ bodies) (body' ∷ bodies') answers answers' cause cause' are r s =
+    let x = first_of begun bytes body bodies answers cause r in
+    let y = first_of begun bytes body' bodies' answers' cause' s in
+    let same = same_ask begun bytes body x.rest body' y.rest (asked_by x.answer) (asked_by y.answer) are x.begins y.begins x.asks y.asks in
+    let later : AreBytes y.rest = rest_bytes body' y.rest (subst AreBytes y.begins.whole are) in
+    let rest = one_reading true y.rest bodies bodies' x.later y.later cause cause' later (subst (λ (b : List ℕ). Reads true b bodies x.later cause) same.1 x.reads) y.reads in (
+      ap (λ (b : List ℕ). b ∷ bodies) same.0 ∙ ap (λ (bs : List (List ℕ)). body' ∷ bs) rest.0,
+      ap (λ (xs : List Answered). map asked_by xs) x.answers_are ∙ ap (λ (a : Ask). a ∷ map asked_by x.later) same.2
+          ∙ ap (λ (asks : List Ask). asked_by y.answer ∷ asks) rest.1 ∙ ap (λ (xs : List Answered). map asked_by xs) (sym y.answers_are),
+      rest.2,
+    )

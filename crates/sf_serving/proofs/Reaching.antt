@@ -1,0 +1,106 @@
+-- What a session alone is answered, from where it opens.
+use Rattle.std.proofs.Common.{◌≡◌, ℕ, ◌-◌, List, [], ◌∷◌, ◌++◌, Some, Result, Ok, Err, refl, ap, sym, ◌∙◌, subst, ◌⊎◌, inl, inr, append-nil, append_assoc, map}
+use Rattle.std.specs.List.{AllByRecursion}
+use Rattle.sf_call.specs.declared.record.Record.{Record}
+use Rattle.sf_call.specs.Histories.{replay, IsLegal}
+use Rattle.sf_engine.specs.declared.event.Event.{Event}
+use Rattle.sf_engine.specs.declared.event.Event.TheVariants as event
+use Rattle.sf_engine.specs.declared.event.Happened.{Happened}
+use Rattle.sf_engine.specs.declared.event.Happened.TheVariants as happened
+use Rattle.sf_engine.specs.declared.event.EngineFault.{EngineFault}
+use Rattle.sf_engine.specs.Worlds.{Entry, Answered, asked_by, Phase, Resting, UnderWay, Decided, Gone, Told, new_told, World, start}
+use Rattle.sf_engine.specs.Traces.{IsSession, Happens, LeadsBy, Runs, Tells, order}
+use Rattle.sf_serving.specs.Serving.{IsOf, IsEntryOf}
+use Rattle.sf_serving.specs.Alone.{answers_alone, moment_begun, moments_begun, HadMemoryFor, HadMemoryAt, HadMemory, TellsAlone}
+use Rattle.sf_serving.proofs.Standing.{lone, Stands, Owes, Reaches, from_nothing, leads_on}
+
+all_front : {A : Type 0} (P : A → Type 0) (xs ys : List A) → AllByRecursion P (xs ++ ys) → AllByRecursion P xs
+all_front P [] ys h = tt
+all_front P (x ∷ xs) ys h = (h.0, all_front P xs ys h.1)
+
+all_back : {A : Type 0} (P : A → Type 0) (xs ys : List A) → AllByRecursion P (xs ++ ys) → AllByRecursion P ys
+all_back P [] ys h = h
+all_back P (x ∷ xs) ys h = all_back P xs ys h.1
+
+-- nothing more is owed where no entry is left
+owes_none : (h : List Record) (begun : ℕ) (f : Phase) → Owes h begun f [] []
+owes_none h begun Resting = from_nothing (replay h) begun [] [] refl
+owes_none h begun (UnderWay id n m q moves) = from_nothing (replay h) (begun - 1) (m ∷ []) [] refl
+owes_none h begun (Decided id n q given) = inl refl
+owes_none h begun (Gone cause) = refl
+
+told_last : (h : List Record) (begun : ℕ) (t t' : Told) (w' : World) → w' ≡ lone h begun t → IsSession w' 1 t' → t' ≡ t
+told_last h begun t t' w' e is = let same : Some t ≡ Some t' = (subst (λ (z : World). IsSession z 1 t') e is).1 in cc
+
+-- where the session is there, it comes to what it is answered at the end
+pub reaches : (entries : List Entry) (h : List Record) (begun : ℕ) (t : Told) (w' : World) (t' : Told) → Runs (lone h begun t) entries w' → AllByRecursion (IsEntryOf 1) entries
+    → Stands t.phase h begun → IsLegal (h ++ order entries) → AllByRecursion HadMemoryFor (order entries) → IsSession w' 1 t' → AllByRecursion HadMemoryAt t'.answers
+    → Reaches h begun t (moments_begun entries) t'.answers
+unfolding Runs
+reaches [] h begun t w' t' runs own stands legal heard is had =
+    ([], ap (λ (z : Told). z.answers) (told_last h begun t t' w' runs is) ∙ sym (append-nil t.answers), owes_none h begun t.phase)
+reaches (e ∷ entries) h begun t w' t' runs own stands legal heard is had =
+    let on = leads_on h e.added (order entries) begun t runs.0 e.event e.result stands legal (all_front HadMemoryFor e.added (order entries) heard) own.0 runs.1 in
+    let runs' : Runs (lone (h ++ e.added) on.count on.told) entries w' = subst (λ (z : World). Runs z entries w') on.world runs.2 in
+    let legal' : IsLegal ((h ++ e.added) ++ order entries) = subst IsLegal (sym (append_assoc h e.added (order entries))) legal in
+    on.goes.back (moments_begun entries) t'.answers had
+    (reaches entries (h ++ e.added) on.count on.told w' t' runs' own.1 on.goes.stands legal' (all_back HadMemoryFor e.added (order entries) heard) is had)
+
+-- ---- from the beginning
+
+no_session : (s : ℕ) (t : Told) → IsSession start s t → ⊥
+no_session s t is = absurd cc
+
+-- the first session opens, and its number is 1
+opens : (s : ℕ) (w' : World) (added : List Record) (ev : Event) (r : Happened) → IsOf s ev (Ok r) → Happens start ev r added w'
+    → (s ≡ 1) × (w' ≡ lone [] 0 new_told) × (added ≡ []) × (moment_begun ev (Ok r) ≡ [])
+opens s w' added event.Open r own g =
+    let mine : Ok r ≡ Ok (happened.Opened s) = own in
+    let same : r ≡ happened.Opened s = cc in
+    let first : happened.Opened s ≡ happened.Opened 1 = sym same ∙ g.0 in
+    (let number : s ≡ 1 = cc in number, g.3, g.2, ap (λ (x : Happened). moment_begun event.Open (Ok x)) g.0)
+opens s w' added (event.Feed x bytes) r own g = absurd (no_session x g.2.0 g.2.1)
+opens s w' added (event.Turn x m) r own g = absurd (no_session x g.0 g.2)
+opens s w' added (event.Close x) r own g = absurd (no_session x g.1.0 g.1.1)
+opens s w' added (event.Sent x n) r own g = absurd (no_session x g.2.0 g.2.1)
+
+first : (s : ℕ) (w' : World) (added : List Record) (ev : Event) (result : Result Happened EngineFault) → IsOf s ev result → LeadsBy start ev result added w'
+    → ((w' ≡ start) × (added ≡ []) × (moment_begun ev result ≡ [])) ⊎ ((s ≡ 1) × (w' ≡ lone [] 0 new_told) × (added ≡ []) × (moment_begun ev result ≡ []))
+first s w' added ev (Ok r) own g = inr (opens s w' added ev r own g)
+first s w' added ev (Err fault) own g = inl (g.2, g.1, refl)
+
+-- what is so of a session alone at the end
+abbrev pub Comes : ℕ → List ℕ → Told → Type 0
+Comes s moments t = (s ≡ 1) × (t.answers ≡ answers_alone moments (map asked_by t.answers))
+
+module _ (s : ℕ) (w' : World) (t' : Told) (is : IsSession w' s t') (had : AllByRecursion HadMemoryAt t'.answers) where
+  opened : (w : World) (added : List Record) (entries : List Entry) (now : List ℕ) → (s ≡ 1) × (w ≡ lone [] 0 new_told) × (added ≡ []) × (now ≡ [])
+      → Runs w entries w' → AllByRecursion (IsEntryOf s) entries → IsLegal (added ++ order entries) → AllByRecursion HadMemoryFor (added ++ order entries) → Comes s (now ++ moments_begun entries) t'
+  unfolding replay
+  opened w added entries now new runs own legal heard =
+      let r = reaches entries [] 0 new_told w' t' (subst (λ (z : World). Runs z entries w') new.1 runs) (subst (λ (n : ℕ). AllByRecursion (IsEntryOf n) entries) new.0 own) tt
+      (subst (λ (xs : List Record). IsLegal (xs ++ order entries)) new.2 legal) (subst (λ (xs : List Record). AllByRecursion HadMemoryFor (xs ++ order entries)) new.2 heard)
+      (subst (λ (n : ℕ). IsSession w' n t') new.0 is) had in
+      let answers : t'.answers ≡ answers_alone (moments_begun entries) (map asked_by t'.answers) =
+      subst (λ (xs : List Answered). xs ≡ answers_alone (moments_begun entries) (map asked_by xs)) (sym r.1) r.2 in
+      (new.0, subst (λ (m : List ℕ). t'.answers ≡ answers_alone (m ++ moments_begun entries) (map asked_by t'.answers)) (sym new.3) answers)
+
+  comes : (entries : List Entry) → Runs start entries w' → AllByRecursion (IsEntryOf s) entries → IsLegal (order entries) → AllByRecursion HadMemoryFor (order entries) → Comes s (moments_begun entries) t'
+  unfolding Runs
+  comes [] runs own legal heard = absurd (no_session s t' (subst (λ (z : World). IsSession z s t') runs is))
+  comes (e ∷ entries) runs own legal heard = elim (first s runs.0 e.added e.event e.result own.0 runs.1) [
+    | inl f ↦
+        let legal' = subst (λ (xs : List Record). IsLegal (xs ++ order entries)) f.1 legal in
+        let heard' = subst (λ (xs : List Record). AllByRecursion HadMemoryFor (xs ++ order entries)) f.1 heard in
+        subst (λ (m : List ℕ). Comes s (m ++ moments_begun entries) t') (sym f.2)
+        (comes entries (subst (λ (z : World). Runs z entries w') f.0 runs.2) own.1 legal' heard')
+    | inr f ↦ opened runs.0 e.added entries (moment_begun e.event e.result) f runs.2 own.1 legal heard
+  ]
+
+-- the session that is alone is the first, and one tree answers it
+pub one_session : (trace : List Entry) (w : World) (s : ℕ) (t : Told) → Tells trace w → IsLegal (order trace) → AllByRecursion (IsEntryOf s) trace → IsSession w s t → HadMemory trace t
+    → Comes s (moments_begun trace) t
+one_session trace w s t tells legal own is had = comes s w t is had.1 trace tells own legal had.0
+
+pub answered_alone : (trace : List Entry) (w : World) (t : Told) → TellsAlone trace w t → t.answers ≡ answers_alone (moments_begun trace) (map asked_by t.answers)
+answered_alone trace w t a = (one_session trace w 1 t a.tells a.legal a.alone a.is_session a.memory).1
