@@ -1,9 +1,10 @@
 -- What is read, fed, closed, written and told as sent.
-use Rattle.std.proofs.Common.{◌≡◌, ℕ, ◌+◌, List, [], ◌∷◌, ◌++◌, Option, Some, None, Result, Ok, Err, length, drop, refl, ap, sym, ◌∙◌, subst, inl, inr, append-nil, append_assoc, length-append, arith}
+use Rattle.std.proofs.Common.{◌≡◌, ℕ, ◌+◌, List, [], ◌∷◌, ◌++◌, Option, Some, None, Result, Ok, Err, length, take, drop, refl, ap, sym, ◌∙◌, subst, inl, inr, append-nil, append_assoc, length-append, arith}
 use Rattle.std.specs.Global.{Vec}
 use Rattle.std.specs.List.{AllByRecursion}
 use Rattle.std.specs.Io.KnownBytes.{Appends, Consumes, Keeps}
 use Rattle.std.proofs.KnownBytes.{Appends-nil, Consumes-trans, Consumes-kept}
+use Rattle.std.proofs.lemmas.List.{take_at}
 use Rattle.std.proofs.lemmas.List.Sums.{sum_by-append}
 use Rattle.sf_wire.specs.declared.cutting.Cut.TheVariants as cut
 use Rattle.sf_wire.specs.Packets.{IsCut}
@@ -163,6 +164,12 @@ fed_leads s t unfed bytes r all w w' added session leads =
       },
       (refl, refl),
     )
+
+-- the front of a piece that a read has filled is what was read
+pub was_fed : (e e' : EngineView) (s n len : ℕ) (buffer old : List ℕ) → length buffer ≡ len
+    → Feeds e s (take n (take len (buffer ++ drop (length buffer) old))) e' → Feeds e s (take n buffer) e'
+was_fed e e' s n len buffer old count feeds =
+    subst (λ (bytes : List ℕ). Feeds e s (take n bytes) e') (take_at buffer (drop (length buffer) old) len count) feeds
 
 pub fed_serves : (start : Scene) (incoming outgoing : Option (List ℕ)) (calls : Option (List LineCall)) (told : Option (List ℕ)) (e e' : EngineView) (s : ℕ) (bytes : List ℕ)
     → Serves start (scene incoming outgoing calls told e) (HasRead s bytes) → Feeds e s bytes e' → Serves start (scene incoming outgoing calls told e') (HasTurn s)

@@ -1,6 +1,6 @@
 //! Serving one session on a line.
 
-ghost use Rattle.std.specs.Prelude.{◌≡◌, ◌<◌, ◌≤◌, ◌∷◌, ℕ, List, [], length, Bool, Option, Result, Ok, IfOk, IfErr, OnOk, OnErr, vec_len};
+ghost use Rattle.std.specs.Prelude.{◌≡◌, ◌<◌, ◌≤◌, ◌∷◌, ℕ, List, [], length, take, Bool, Option, Result, Ok, IfOk, IfErr, OnOk, OnErr, vec_len};
 ghost use Rattle.std.specs.Io.KnownBytes.{Appends};
 ghost use Rattle.sf_line.specs.Lines.{Rose};
 ghost use Rattle.sf_engine.specs.declared.event.Event.TheVariants.{Open};
@@ -12,9 +12,13 @@ use sf_engine::{Engine, EngineFault, Event, Happened};
 use sf_line::{Line, LineFault, write_all};
 use sf_session::{Cause, Clock, ServeFault};
 use std::alloc::{AllocError, Global};
+use std::mem;
 
 /// How many bytes a read asks for.
 const PIECE: usize = 65536;
+
+/// From how many bytes on what was read is fed without a copy.
+const MUCH: usize = PIECE / 2;
 
 /// How many bytes of replies wait, while whole packets are unread.
 const BATCH: usize = 65536;
@@ -46,8 +50,13 @@ fn open(engine: &mut Engine) -> Result<u64, ServeFault>
     }
 }
 
-/// The session is fed.
-fn feed(alloc: Global, engine: &mut Engine, session: u64, bytes: &[u8]) -> Result<(), AllocError>
+/// The session is fed a copy of bytes.
+fn feed_copy(
+    alloc: Global,
+    engine: &mut Engine,
+    session: u64,
+    bytes: &[u8],
+) -> Result<(), AllocError>
     ensures fed { OnOk result (Feeds engine.old session bytes.now engine.new) }
     ensures err { OnErr result (engine.new ≡ engine.old) }
 {
@@ -57,6 +66,52 @@ fn feed(alloc: Global, engine: &mut Engine, session: u64, bytes: &[u8]) -> Resul
         return Err(AllocError);
     }
     Ok(())
+}
+
+/// The session is fed all bytes of a piece, which lends them to the event.
+fn feed_whole(
+    alloc: Global,
+    engine: &mut Engine,
+    session: u64,
+    piece: &mut Vec<u8>,
+) -> Result<(), AllocError>
+    ensures fed { OnOk result (Feeds engine.old session piece.old.items engine.new) }
+    ensures err { OnErr result (engine.new ≡ engine.old) }
+    ensures piece { piece.new ≡ piece.old }
+{
+    let event = Event::Feed(session, mem::replace(piece, Vec::new(alloc)));
+    let outcome = engine.apply(&event);
+    if let Event::Feed(_, bytes) = event {
+        *piece = bytes;
+    }
+    if outcome.is_err() {
+        return Err(AllocError);
+    }
+    Ok(())
+}
+
+/// The session is fed the first bytes of a piece. Where they are much of it, they aren't copied, but the
+/// rest of the piece is lost.
+fn feed(
+    alloc: Global,
+    engine: &mut Engine,
+    session: u64,
+    piece: &mut Vec<u8>,
+    n: usize,
+) -> Result<(), AllocError>
+    requires { n ≤ vec_len piece.old }
+    ensures fed { OnOk result (Feeds engine.old session (take n piece.old.items) engine.new) }
+    ensures err { OnErr result (engine.new ≡ engine.old) }
+    ensures len { vec_len piece.new ≡ vec_len piece.old }
+{
+    if n < MUCH {
+        return feed_copy(alloc, engine, session, &piece[..n]);
+    }
+    let len = piece.len();
+    piece.truncate(n);
+    let fed = feed_whole(alloc, engine, session, piece);
+    piece.resize(len, 0).unwrap();
+    fed
 }
 
 /// One turn of the session. Where no call may begin, its moment has no effect, and the clock isn't asked.
@@ -183,9 +238,9 @@ fn round<L: Line, C: Clock>(
     line: &mut L,
     clock: &mut C,
     session: u64,
-    piece: &mut [u8],
+    piece: &mut Vec<u8>,
 ) -> Result<Option<Cause>, ServeFault>
-    requires { 0 < length piece.old }
+    requires { 0 < vec_len piece.old }
     ensures rounded { IfOk result (λ ended. (start : Scene)
         → Serves start (scene (L.incoming line.old) (L.outgoing line.old) (L.calls line.old) (C.told clock.old) engine.old) (Rests session)
         → Serves start (scene (L.incoming line.new) (L.outgoing line.new) (L.calls line.new) (C.told clock.new) engine.new)
@@ -193,6 +248,7 @@ fn round<L: Line, C: Clock>(
     ensures stops { IfErr result (λ fault. (start : Scene)
         → Serves start (scene (L.incoming line.old) (L.outgoing line.old) (L.calls line.old) (C.told clock.old) engine.old) (Rests session)
         → Serves start (scene (L.incoming line.new) (L.outgoing line.new) (L.calls line.new) (C.told clock.new) engine.new) (Stops session fault)) }
+    ensures len { vec_len piece.new ≡ vec_len piece.old }
     ensures failures { L.failed line.old ≤ L.failed line.new }
     ensures fault { IfErr result (λ fault. IsRoundFault fault (L.failed line.old) (L.failed line.new)) }
 {
@@ -201,7 +257,7 @@ fn round<L: Line, C: Clock>(
         close(engine, session);
         return Ok(Some(Cause::Closed));
     }
-    feed(alloc, engine, session, &piece[..n])?;
+    feed(alloc, engine, session, piece, n)?;
     let ended = drain(engine, line, clock, session)?;
     send(engine, line, session)?;
     Ok(ended)
@@ -214,9 +270,9 @@ fn serve<L: Line, C: Clock>(
     line: &mut L,
     clock: &mut C,
     session: u64,
-    piece: &mut [u8],
+    piece: &mut Vec<u8>,
 ) -> Result<Cause, ServeFault>
-    requires { 0 < length piece.old }
+    requires { 0 < vec_len piece.old }
     ensures served { IfOk result (λ cause. (start : Scene)
         → Serves start (scene (L.incoming line.old) (L.outgoing line.old) (L.calls line.old) (C.told clock.old) engine.old) (Rests session)
         → ServesLine start (scene (L.incoming line.new) (L.outgoing line.new) (L.calls line.new) (C.told clock.new) engine.new) cause) }

@@ -1,13 +1,13 @@
-use Rattle.std.proofs.Common.{Result, sym, ◌∙◌, subst}
-use Rattle.sf_engine.specs.declared.event.Event.TheVariants as event
-use Rattle.sf_engine.specs.declared.event.Happened.{Happened}
-use Rattle.sf_engine.specs.declared.event.EngineFault.{EngineFault}
-use Rattle.sf_engine.specs.Fits.{GoesOnTrace}
-use Rattle.sf_serving.proofs.Outcomes.{some_ok}
+use Rattle.std.proofs.Common.{ℕ, List, take, OnOk, subst}
+use Rattle.sf_serving.specs.Serving.{Feeds}
 use Rattle.sf_serving.proofs.serving.feed.Goals as goal
+
+pub returns-then-n-lt-MUCH-clause-fed : goal.returns-then-n-lt-MUCH-clause-fed
+returns-then-n-lt-MUCH-clause-fed c =
+    let P : List ℕ → Type 0 = λ bytes. OnOk c.feed_copy.result (Feeds c.args.engine.now c.args.session (take c.args.n bytes) c.feed_copy.new.engine) in
+    subst P c.deref.ensures.value c.feed_copy.ensures.fed
 
 pub returns-clause-fed : goal.returns-clause-fed
 returns-clause-fed c =
-    let k = some_ok c.apply-outcome.result (sym c.is_err.ensures.value ∙ c.if-is_err.false) in
-    let P : Result Happened EngineFault → Type 0 = λ r. GoesOnTrace c.args.engine.now (event.Feed c.args.session c.in_ok-from_slice.field-0) r c.apply-outcome.new.self in
-    (c.in_ok-from_slice.field-0, c.in_ok-from_slice.ensures.items, k.0, subst P k.1 c.apply-outcome.ensures.fits)
+    let P : List ℕ → Type 0 = λ bytes. OnOk c.feed_whole-fed.result (Feeds c.args.engine.now c.args.session bytes c.feed_whole-fed.new.engine) in
+    subst P c.truncate.ensures.items c.feed_whole-fed.ensures.fed

@@ -1,10 +1,10 @@
-use Rattle.std.proofs.Common.{◌≡◌, take, length, length-take, sym, subst, arith}
+use Rattle.std.proofs.Common.{◌≡◌, take, length, length-take, sym, ◌∙◌, subst, arith}
 use Rattle.sf_session.specs.declared.fault.ServeFault.TheVariants.{Line}
 use Rattle.sf_engine.proofs.Laws.{told_sessions}
 use Rattle.sf_engine.specs.Views.{EngineView}
 use Rattle.sf_serving.specs.Serving.{scene, Serves, Stops}
 use Rattle.sf_serving.proofs.Outcomes.{if_err_at, if_err_any}
-use Rattle.sf_serving.proofs.Acting.{read_serves, still_serves, fed_serves, ended_serves}
+use Rattle.sf_serving.proofs.Acting.{read_serves, still_serves, was_fed, fed_serves, ended_serves}
 use Rattle.sf_serving.proofs.Rounds.{rests_stops, read_stops, none_read, round_sent, round_fails, round_ends}
 use Rattle.sf_serving.proofs.serving.round.Goals as goal
 
@@ -16,7 +16,7 @@ returns-clause-rounded g c = λ start serves.
     (g.L.Line.calls c.args.line.now) (g.L.Line.calls c.read.new.self) (g.C.Clock.told c.args.clock.now) c.args.engine.now c.args.session c.in_ok-n.n bytes serves
     c.in_ok-n.ensures.taken count c.in_ok-n.ensures.outgoing c.in_ok-n.ensures.calls in
     let fed = fed_serves start (g.L.Line.incoming c.read.new.self) (g.L.Line.outgoing c.read.new.self) (g.L.Line.calls c.read.new.self) (g.C.Clock.told c.args.clock.now) c.args.engine.now c.feed.new.engine
-    c.args.session bytes read c.in_ok-feed.ensures.fed in
+    c.args.session bytes read (was_fed c.args.engine.now c.feed.new.engine c.args.session c.in_ok-n.n c.args.piece.now.len c.read.new.buffer c.args.piece.now.items (c.read.auto.buffer ∙ c.deref_mut.ensures.len) c.in_ok-feed.ensures.fed) in
     round_sent start _ _ c.args.session _ c.in_ok-ended.ended (c.in_ok-send.ensures.sent (g.C.Clock.told c.drain.new.clock)) (c.in_ok-ended.ensures.drained start fed)
 
 pub returns-in_err-n-clause-stops : goal.returns-in_err-n-clause-stops
@@ -46,7 +46,7 @@ returns-in_err-ended-clause-stops g c =
     (g.L.Line.calls c.args.line.now) (g.L.Line.calls c.read.new.self) (g.C.Clock.told c.args.clock.now) c.args.engine.now c.args.session c.in_ok-n.n bytes serves
     c.in_ok-n.ensures.taken count c.in_ok-n.ensures.outgoing c.in_ok-n.ensures.calls in
     let fed = fed_serves start (g.L.Line.incoming c.read.new.self) (g.L.Line.outgoing c.read.new.self) (g.L.Line.calls c.read.new.self) (g.C.Clock.told c.args.clock.now) c.args.engine.now c.feed.new.engine
-    c.args.session bytes read c.in_ok-feed.ensures.fed in
+    c.args.session bytes read (was_fed c.args.engine.now c.feed.new.engine c.args.session c.in_ok-n.n c.args.piece.now.len c.read.new.buffer c.args.piece.now.items (c.read.auto.buffer ∙ c.deref_mut.ensures.len) c.in_ok-feed.ensures.fed) in
     stops start fed)
 
 pub returns-in_err-send-clause-stops : goal.returns-in_err-send-clause-stops
@@ -59,7 +59,7 @@ returns-in_err-send-clause-stops g c =
     (g.L.Line.calls c.args.line.now) (g.L.Line.calls c.read.new.self) (g.C.Clock.told c.args.clock.now) c.args.engine.now c.args.session c.in_ok-n.n bytes serves
     c.in_ok-n.ensures.taken count c.in_ok-n.ensures.outgoing c.in_ok-n.ensures.calls in
     let fed = fed_serves start (g.L.Line.incoming c.read.new.self) (g.L.Line.outgoing c.read.new.self) (g.L.Line.calls c.read.new.self) (g.C.Clock.told c.args.clock.now) c.args.engine.now c.feed.new.engine
-    c.args.session bytes read c.in_ok-feed.ensures.fed in
+    c.args.session bytes read (was_fed c.args.engine.now c.feed.new.engine c.args.session c.in_ok-n.n c.args.piece.now.len c.read.new.buffer c.args.piece.now.items (c.read.auto.buffer ∙ c.deref_mut.ensures.len) c.in_ok-feed.ensures.fed) in
     round_fails start _ _ c.args.session c.in_ok-ended.ended some (c.in_ok-ended.ensures.drained start fed))
 
 pub returns-then-n-eq0-clause-rounded : goal.returns-then-n-eq0-clause-rounded

@@ -27,5 +27,5 @@ loop-preserved g c = record {
       let P : Option Cause → Type 0 = λ z. Serves start now (IsRounded c.args.session now.incoming z) in
       subst P c.in-Ok-None.field-0-is (c.in-Ok-None.ensures.rounded start (c.loop.invariant.serves start serves));
   failures = omega (arith, c.loop.invariant.failures, c.in-Ok-None.ensures.failures);
-  room = omega arith;
+  room = omega (arith, c.loop.invariant.room, c.in-Ok-None.ensures.len);
 }
