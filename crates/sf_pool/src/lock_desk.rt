@@ -7,19 +7,23 @@ ghost use Rattle.sf_pool.specs.Desks.{New, kept_calls};
 use crate::desk::{Desk, Told};
 use crate::stay::Stay;
 use crate::transcript::Transcript;
+use crate::waiting::Waiting;
 use sf_call::{Answer, CoreFault, Request};
 use sf_core::{Core, Share};
 use std::alloc::Global;
 use std::marker::Model;
-use std::sync::{Condvar, Mutex, Wait};
+use std::sync::{Mutex, Wait};
 
 /// One session's calls on a core that threads share. Each of its events is one hold of the lock. Where another
-/// session's call holds what a call wants, its step waits until something happened on the core.
+/// session's call is in the way of its call, a step waits until something happened to that one.
 pub struct LockDesk<'a, R: Wait> {
     rt: &'a R,
     core: &'a Mutex<Core>,
-    happened: &'a Condvar,
+    waiting: &'a Waiting,
     stay: Stay,
+    // The call that began last, and whether it is a rename: one may carry out others.
+    number: u64,
+    renames: bool,
 }
 
 impl<R: Wait> Drop for LockDesk<'_, R> {
@@ -27,8 +31,10 @@ impl<R: Wait> Drop for LockDesk<'_, R> {
         let LockDesk {
             rt: _,
             core: _,
-            happened: _,
+            waiting: _,
             stay: _stay,
+            number: _,
+            renames: _,
         } = self;
     }
 }
@@ -39,7 +45,7 @@ impl<'a, R: Wait> LockDesk<'a, R> {
         rt: &'a R,
         alloc: Global,
         core: &'a Mutex<Core>,
-        happened: &'a Condvar,
+        waiting: &'a Waiting,
         keeps: bool,
     ) -> LockDesk<'a, R>
         ensures session { result.stay.session ≡ 0 }
@@ -49,8 +55,10 @@ impl<'a, R: Wait> LockDesk<'a, R> {
         LockDesk {
             rt,
             core,
-            happened,
+            waiting,
             stay: Stay::new(alloc, keeps),
+            number: 0,
+            renames: false,
         }
     }
 
@@ -62,8 +70,10 @@ impl<'a, R: Wait> LockDesk<'a, R> {
         let LockDesk {
             rt: _,
             core: _,
-            happened: _,
+            waiting: _,
             stay,
+            number: _,
+            renames: _,
         } = self;
         stay.into_transcript()
     }
@@ -73,28 +83,31 @@ impl<R: Wait> Desk for LockDesk<'_, R> {
     ghost at = { λ d. d.stay };
 
     fn join(&mut self) -> Result<u64, CoreFault> {
-        let joined = self.stay.join(&mut self.core.lock(self.rt));
-        self.happened.notify_all();
-        joined
+        self.stay.join(&mut self.core.lock(self.rt))
     }
 
     fn begin(&mut self, request: Request, moment: u32) -> Result<u64, CoreFault> {
-        let begun = self
+        let renames = matches!(request, Request::Rename(..) | Request::PosixRename(..));
+        let number = self
             .stay
-            .begin(&mut self.core.lock(self.rt), request, moment);
-        self.happened.notify_all();
-        begun
+            .begin(&mut self.core.lock(self.rt), request, moment)?;
+        self.number = number;
+        self.renames = renames;
+        Ok(number)
     }
 
     fn step(&mut self) -> Told {
         let mut core = self.core.lock(self.rt);
         let stepped = self.stay.step(&mut core);
-        if stepped.blocked {
-            let _core = self.happened.wait(self.rt, core);
+        if let Some(other) = stepped.blocked {
+            let _core = self.waiting.wait_for(self.rt, other, core);
             return stepped.told;
         }
         drop(core);
-        self.happened.notify_all();
+        match stepped.told {
+            Told::Answered if self.renames => self.waiting.happened(),
+            _ => self.waiting.happened_to(self.number),
+        }
         stepped.told
     }
 
@@ -103,9 +116,7 @@ impl<R: Wait> Desk for LockDesk<'_, R> {
     }
 
     fn leave(&mut self) -> Option<Share> {
-        let share = self.stay.leave(&mut self.core.lock(self.rt));
-        self.happened.notify_all();
-        share
+        self.stay.leave(&mut self.core.lock(self.rt))
     }
 
     fn transcript(&self) -> &Transcript {

@@ -4,12 +4,12 @@ use crossbeam_channel::{Receiver, Sender, unbounded};
 use sf_cases::{StillClock, hex_bytes};
 use sf_core::{Core, Share};
 use sf_line::{MemoryLine, Pieces};
-use sf_pool::{Gate, NoGate, Transcript, audit, gather};
+use sf_pool::{Gate, NoGate, Transcript, Waiting, audit, gather};
 use sf_workers::{Served, serve_all};
 use std::alloc::Global;
 use std::process::Abort;
 use std::sync::atomic::{AtomicU64, Ordering};
-use std::sync::{Condvar, Mutex, Wait};
+use std::sync::{Mutex, Wait};
 use std::test::*;
 use std::thread;
 use std::thread::Threads;
@@ -129,19 +129,60 @@ impl Gate for TwoCalls {
     }
 }
 
+/// Holds call 2 after its first step, by which it has the root, until call 3 has come to its own first step, and
+/// some time longer: call 3 waits by then, as far as that can be had.
+#[derive(Drop)]
+struct InTheWay {
+    seen: AtomicU64,
+    third: AtomicU64,
+}
+
+/// How many turns call 3 has to come to its waiting.
+const LONGER: u64 = 10_000;
+
+impl InTheWay {
+    fn hold(&self) {
+        for _ in 0..TURNS {
+            if self.third.load(Ordering::SeqCst) == 1 {
+                break;
+            }
+            thread::yield_now();
+        }
+        for _ in 0..LONGER {
+            thread::yield_now();
+        }
+    }
+}
+
+impl Gate for InTheWay {
+    fn between(&self, _session: u64, number: u64, steps: u64) {
+        if number == 3 {
+            self.third.store(1, Ordering::SeqCst);
+        }
+        if number == 2 {
+            self.seen.store(1, Ordering::SeqCst);
+            if steps == 1 {
+                self.hold();
+            }
+        }
+    }
+
+    fn answered(&self, _session: u64, _number: u64) {}
+}
+
 /// Sends the first line, and the second one once call 2 was seen.
 fn send_two<'a>(
     rt: &impl Wait,
     sender: Sender<MemoryLine<'a>>,
     first: MemoryLine<'a>,
     second: MemoryLine<'a>,
-    gate: &TwoCalls,
+    seen: &AtomicU64,
 ) -> bool {
     if sender.send(rt, first).is_err() {
         return false;
     }
     for _ in 0..TURNS {
-        if gate.seen.load(Ordering::SeqCst) == 1 {
+        if seen.load(Ordering::SeqCst) == 1 {
             return sender.send(rt, second).is_ok();
         }
         thread::yield_now();
@@ -156,7 +197,7 @@ fn gate_two_calls(rt: HostRuntime) -> Result<(), Fail> {
     let one = packets(alloc, &[INIT, MKDIR_A, STAT_A_F])?;
     let two = packets(alloc, &[INIT, MKDIR_B])?;
     let core = Mutex::new(Core::new(alloc)?);
-    let happened = Condvar::new();
+    let waiting = Waiting::new(alloc)?;
     let gate = TwoCalls::new();
     let clocks = clocks(alloc, 2)?;
     let (sender, lines) = unbounded(alloc)?;
@@ -164,8 +205,8 @@ fn gate_two_calls(rt: HostRuntime) -> Result<(), Fail> {
     let second = line(alloc, &two);
     let (were_sent, all) = thread::join(
         &rt,
-        || send_two(&rt, sender, first, second, &gate),
-        || serve_all(&rt, alloc, &core, &happened, &lines, clocks, &gate, true),
+        || send_two(&rt, sender, first, second, &gate.seen),
+        || serve_all(&rt, alloc, &core, &waiting, &lines, clocks, &gate, true),
     );
     assert!(rt; were_sent);
     let (transcripts, shares) = parted(alloc, all?)?;
@@ -174,6 +215,36 @@ fn gate_two_calls(rt: HostRuntime) -> Result<(), Fail> {
     assert_eq!(rt; gate.late.load(Ordering::SeqCst), 0);
     let core = core.into_inner();
     assert_eq!(rt; transcripts.len(), 2);
+    assert_eq!(rt; audit(&core, &transcripts), Ok(()));
+    let totals = gather(core, shares)?;
+    assert_eq!(rt; (totals.recorded, totals.under_way), (3, 0));
+    Ok(())
+}
+
+/// A call that waits for another one goes on once that one has moved on.
+#[test]
+fn waiting_call_is_woken(rt: HostRuntime) -> Result<(), Fail> {
+    let alloc = rt.alloc();
+    let one = packets(alloc, &[INIT, MKDIR_A, STAT_A_F])?;
+    let two = packets(alloc, &[INIT, MKDIR_B])?;
+    let core = Mutex::new(Core::new(alloc)?);
+    let waiting = Waiting::new(alloc)?;
+    let gate = InTheWay {
+        seen: AtomicU64::new(0),
+        third: AtomicU64::new(0),
+    };
+    let clocks = clocks(alloc, 2)?;
+    let (sender, lines) = unbounded(alloc)?;
+    let first = line(alloc, &one);
+    let second = line(alloc, &two);
+    let (were_sent, all) = thread::join(
+        &rt,
+        || send_two(&rt, sender, first, second, &gate.seen),
+        || serve_all(&rt, alloc, &core, &waiting, &lines, clocks, &gate, true),
+    );
+    assert!(rt; were_sent);
+    let (transcripts, shares) = parted(alloc, all?)?;
+    let core = core.into_inner();
     assert_eq!(rt; audit(&core, &transcripts), Ok(()));
     let totals = gather(core, shares)?;
     assert_eq!(rt; (totals.recorded, totals.under_way), (3, 0));
@@ -190,10 +261,10 @@ fn serve_inputs<R: Threads + Wait + Abort + Sync>(
     keep: bool,
 ) -> Result<(Core, Vec<Transcript>, Vec<Share>), Fail> {
     let core = Mutex::new(core);
-    let happened = Condvar::new();
+    let waiting = Waiting::new(alloc)?;
     let lines = sent(rt, alloc, inputs)?;
     let clocks = clocks(alloc, workers)?;
-    let all = serve_all(rt, alloc, &core, &happened, &lines, clocks, &NoGate, keep)?;
+    let all = serve_all(rt, alloc, &core, &waiting, &lines, clocks, &NoGate, keep)?;
     if all.len() != workers {
         panic!(rt; "{} workers told what they served", all.len());
     }
