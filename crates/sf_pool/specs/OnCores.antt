@@ -1,5 +1,5 @@
 -- What the events of a session's stay do to its core.
-use Rattle.std.specs.Prelude.{◌≡◌, ◌⊎◌, ◌++◌, ℕ, List, Option, Some, None}
+use Rattle.std.specs.Prelude.{◌≡◌, ◌⊎◌, ◌++◌, ℕ, true, false, List, Option, Some, None}
 use Rattle.sf_call.specs.declared.request.Request.{Request}
 use Rattle.sf_call.specs.declared.record.Record.{Record}
 use Rattle.sf_call.specs.declared.fault.CoreFault.{CoreFault}
@@ -34,10 +34,10 @@ RefusesAt d v fault = (fault ≡ OutOfMemory) ⊎ ((lane : LaneView) × IsLaneAt
 
 -- what is told of a step of the core: whether its call was answered, and how; and whether it was blocked
 abbrev pub TellsOf : Step → Stepped → Place → Type 0
-TellsOf step.Moved s place = (s.told ≡ told.Going) × (s.blocked ≡ None)
-TellsOf (step.Blocked holder) s place = (s.told ≡ told.Going) × (s.blocked ≡ Some holder)
-TellsOf (step.Answered answer) s place = (s.told ≡ told.Answered) × (s.blocked ≡ None) × IsLast place answer.number answer.reply
-TellsOf step.Stranger s place = (s.told ≡ told.Stranger) × (s.blocked ≡ None)
+TellsOf step.Moved s place = (s.told ≡ told.Going) × (s.blocked ≡ false)
+TellsOf (step.Blocked holder) s place = (s.told ≡ told.Going) × (s.blocked ≡ true)
+TellsOf (step.Answered answer) s place = (s.told ≡ told.Answered) × (s.blocked ≡ false) × IsLast place answer.number answer.reply
+TellsOf step.Stranger s place = (s.told ≡ told.Stranger) × (s.blocked ≡ false)
 
 -- the session's call makes one step on the core, whose history then is this
 pub record StepsAt (d : DeskView) (v : CoreView) (h : List Record) (s : Stepped) (d' : DeskView) (w : CoreView) : Type 0 where

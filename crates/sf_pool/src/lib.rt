@@ -4,7 +4,6 @@
 //! transcripts with the history that a core keeps (`specs/Audits.antt`). `gather` compares the workers' shares of
 //! the calls with the core's count. A session's calls are made at a `Desk` (`specs/Desks.antt`), which notes what
 //! it was told: `LockDesk` is the desk on a core that threads share, and a `Stay` its part without the lock.
-//! Steps that another call blocks wait at a `Waiting`, which the desks of a core share.
 #![tactic(auto)]
 
 mod audits;
@@ -17,7 +16,6 @@ mod same;
 mod serving;
 mod stay;
 mod transcript;
-mod waiting;
 
 pub use audits::{AuditFault, audit};
 pub use desk::{Begin, Desk, Told};
@@ -27,4 +25,3 @@ pub use lock_desk::LockDesk;
 pub use serving::serve;
 pub use stay::{Stay, Stepped};
 pub use transcript::{Exchange, Transcript};
-pub use waiting::Waiting;

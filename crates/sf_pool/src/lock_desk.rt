@@ -7,23 +7,19 @@ ghost use Rattle.sf_pool.specs.Desks.{New, kept_calls};
 use crate::desk::{Desk, Told};
 use crate::stay::Stay;
 use crate::transcript::Transcript;
-use crate::waiting::Waiting;
 use sf_call::{Answer, CoreFault, Request};
 use sf_core::{Core, Share};
 use std::alloc::Global;
 use std::marker::Model;
-use std::sync::{Mutex, Wait};
+use std::sync::{Condvar, Mutex, Wait};
 
 /// One session's calls on a core that threads share. Each of its events is one hold of the lock. Where another
-/// session's call is in the way of its call, a step waits until something happened to that one.
+/// session's call holds what a call wants, its step waits until something happened on the core.
 pub struct LockDesk<'a, R: Wait> {
     rt: &'a R,
     core: &'a Mutex<Core>,
-    waiting: &'a Waiting,
+    happened: &'a Condvar,
     stay: Stay,
-    // The call that began last, and whether it is a rename: one may carry out others.
-    number: u64,
-    renames: bool,
 }
 
 impl<R: Wait> Drop for LockDesk<'_, R> {
@@ -31,10 +27,8 @@ impl<R: Wait> Drop for LockDesk<'_, R> {
         let LockDesk {
             rt: _,
             core: _,
-            waiting: _,
+            happened: _,
             stay: _stay,
-            number: _,
-            renames: _,
         } = self;
     }
 }
@@ -45,7 +39,7 @@ impl<'a, R: Wait> LockDesk<'a, R> {
         rt: &'a R,
         alloc: Global,
         core: &'a Mutex<Core>,
-        waiting: &'a Waiting,
+        happened: &'a Condvar,
         keeps: bool,
     ) -> LockDesk<'a, R>
         ensures session { result.stay.session ≡ 0 }
@@ -55,10 +49,8 @@ impl<'a, R: Wait> LockDesk<'a, R> {
         LockDesk {
             rt,
             core,
-            waiting,
+            happened,
             stay: Stay::new(alloc, keeps),
-            number: 0,
-            renames: false,
         }
     }
 
@@ -70,10 +62,8 @@ impl<'a, R: Wait> LockDesk<'a, R> {
         let LockDesk {
             rt: _,
             core: _,
-            waiting: _,
+            happened: _,
             stay,
-            number: _,
-            renames: _,
         } = self;
         stay.into_transcript()
     }
@@ -83,31 +73,28 @@ impl<R: Wait> Desk for LockDesk<'_, R> {
     ghost at = { λ d. d.stay };
 
     fn join(&mut self) -> Result<u64, CoreFault> {
-        self.stay.join(&mut self.core.lock(self.rt))
+        let joined = self.stay.join(&mut self.core.lock(self.rt));
+        self.happened.notify_all();
+        joined
     }
 
     fn begin(&mut self, request: Request, moment: u32) -> Result<u64, CoreFault> {
-        let renames = matches!(request, Request::Rename(..) | Request::PosixRename(..));
-        let number = self
+        let begun = self
             .stay
-            .begin(&mut self.core.lock(self.rt), request, moment)?;
-        self.number = number;
-        self.renames = renames;
-        Ok(number)
+            .begin(&mut self.core.lock(self.rt), request, moment);
+        self.happened.notify_all();
+        begun
     }
 
     fn step(&mut self) -> Told {
         let mut core = self.core.lock(self.rt);
         let stepped = self.stay.step(&mut core);
-        if let Some(other) = stepped.blocked {
-            let _core = self.waiting.wait_for(self.rt, other, core);
+        if stepped.blocked {
+            let _core = self.happened.wait(self.rt, core);
             return stepped.told;
         }
         drop(core);
-        match stepped.told {
-            Told::Answered if self.renames => self.waiting.happened(),
-            _ => self.waiting.happened_to(self.number),
-        }
+        self.happened.notify_all();
         stepped.told
     }
 
@@ -116,7 +103,9 @@ impl<R: Wait> Desk for LockDesk<'_, R> {
     }
 
     fn leave(&mut self) -> Option<Share> {
-        self.stay.leave(&mut self.core.lock(self.rt))
+        let share = self.stay.leave(&mut self.core.lock(self.rt));
+        self.happened.notify_all();
+        share
     }
 
     fn transcript(&self) -> &Transcript {

@@ -51,12 +51,12 @@ impl Model for Stay {
 #[derive(Clone, Copy, Debug, PartialEq, Eq)]
 pub struct Stepped {
     pub told: Told,
-    /// The number of the call that held what this one wanted.
-    pub blocked: Option<u64>,
+    /// Another call held what the call wanted.
+    pub blocked: bool,
 }
 
 impl Stepped {
-    fn going(blocked: Option<u64>) -> Stepped
+    fn going(blocked: bool) -> Stepped
         ensures told { result.told ≡ Told.Going }
         ensures blocked { result.blocked ≡ blocked }
     {
@@ -68,11 +68,11 @@ impl Stepped {
 
     fn ended(told: Told) -> Stepped
         ensures told { result.told ≡ told }
-        ensures blocked { result.blocked ≡ None }
+        ensures blocked { result.blocked ≡ false }
     {
         Stepped {
             told,
-            blocked: None,
+            blocked: false,
         }
     }
 }
@@ -175,8 +175,8 @@ impl Stay {
             unreachable!();
         };
         match core.step(lane) {
-            Step::Moved => Stepped::going(None),
-            Step::Blocked(other) => Stepped::going(Some(other)),
+            Step::Moved => Stepped::going(false),
+            Step::Blocked(_) => Stepped::going(true),
             Step::Answered(answer) => {
                 let Some(request) = self.asked.take() else {
                     unreachable!();

@@ -4,12 +4,12 @@ use crossbeam_channel::{Receiver, Sender, unbounded};
 use sf_cases::{StillClock, hex_bytes};
 use sf_core::{Core, Share};
 use sf_line::{MemoryLine, Pieces};
-use sf_pool::{Gate, NoGate, Transcript, Waiting, audit, gather};
+use sf_pool::{Gate, NoGate, Transcript, audit, gather};
 use sf_workers::{Served, serve_all};
 use std::alloc::Global;
 use std::process::Abort;
 use std::sync::atomic::{AtomicU64, Ordering};
-use std::sync::{Mutex, Wait};
+use std::sync::{Condvar, Mutex, Wait};
 use std::test::*;
 use std::thread;
 use std::thread::Threads;
@@ -197,7 +197,7 @@ fn gate_two_calls(rt: HostRuntime) -> Result<(), Fail> {
     let one = packets(alloc, &[INIT, MKDIR_A, STAT_A_F])?;
     let two = packets(alloc, &[INIT, MKDIR_B])?;
     let core = Mutex::new(Core::new(alloc)?);
-    let waiting = Waiting::new(alloc)?;
+    let happened = Condvar::new();
     let gate = TwoCalls::new();
     let clocks = clocks(alloc, 2)?;
     let (sender, lines) = unbounded(alloc)?;
@@ -206,7 +206,7 @@ fn gate_two_calls(rt: HostRuntime) -> Result<(), Fail> {
     let (were_sent, all) = thread::join(
         &rt,
         || send_two(&rt, sender, first, second, &gate.seen),
-        || serve_all(&rt, alloc, &core, &waiting, &lines, clocks, &gate, true),
+        || serve_all(&rt, alloc, &core, &happened, &lines, clocks, &gate, true),
     );
     assert!(rt; were_sent);
     let (transcripts, shares) = parted(alloc, all?)?;
@@ -228,7 +228,7 @@ fn waiting_call_is_woken(rt: HostRuntime) -> Result<(), Fail> {
     let one = packets(alloc, &[INIT, MKDIR_A, STAT_A_F])?;
     let two = packets(alloc, &[INIT, MKDIR_B])?;
     let core = Mutex::new(Core::new(alloc)?);
-    let waiting = Waiting::new(alloc)?;
+    let happened = Condvar::new();
     let gate = InTheWay {
         seen: AtomicU64::new(0),
         third: AtomicU64::new(0),
@@ -240,7 +240,7 @@ fn waiting_call_is_woken(rt: HostRuntime) -> Result<(), Fail> {
     let (were_sent, all) = thread::join(
         &rt,
         || send_two(&rt, sender, first, second, &gate.seen),
-        || serve_all(&rt, alloc, &core, &waiting, &lines, clocks, &gate, true),
+        || serve_all(&rt, alloc, &core, &happened, &lines, clocks, &gate, true),
     );
     assert!(rt; were_sent);
     let (transcripts, shares) = parted(alloc, all?)?;
@@ -261,10 +261,10 @@ fn serve_inputs<R: Threads + Wait + Abort + Sync>(
     keep: bool,
 ) -> Result<(Core, Vec<Transcript>, Vec<Share>), Fail> {
     let core = Mutex::new(core);
-    let waiting = Waiting::new(alloc)?;
+    let happened = Condvar::new();
     let lines = sent(rt, alloc, inputs)?;
     let clocks = clocks(alloc, workers)?;
-    let all = serve_all(rt, alloc, &core, &waiting, &lines, clocks, &NoGate, keep)?;
+    let all = serve_all(rt, alloc, &core, &happened, &lines, clocks, &NoGate, keep)?;
     if all.len() != workers {
         panic!(rt; "{} workers told what they served", all.len());
     }
