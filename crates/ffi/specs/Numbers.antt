@@ -75,30 +75,30 @@ leads_on (Ok happened.Closed) = false
 leads_on (Ok happened.Sent) = false
 leads_on (Err fault) = false
 
--- so many turns of a session were made, each of which leads to another one
-abbrev pub HasTurned : ℕ → ℕ → ℕ → EngineView → EngineView → Type 0
-HasTurned session moment zero old new = new ≡ old
-HasTurned session moment (suc made) old new = (last : EngineView) × (result : Result Happened EngineFault)
-    × HasTurned session moment made old last × LeadsBy last (event.Turn session moment) result new × (leads_on result ≡ true)
+-- an event, a session's turn, was applied so many times, and each time leads to another one
+abbrev pub HasTurned : Event → ℕ → EngineView → EngineView → Type 0
+HasTurned turn zero old new = new ≡ old
+HasTurned turn (suc made) old new = (last : EngineView) × (result : Result Happened EngineFault)
+    × HasTurned turn made old last × LeadsBy last turn result new × (leads_on result ≡ true)
 
 -- The turns ended by the first that leads to no other, or as many were made as may be.
-abbrev pub Settles : ℕ → ℕ → ℕ → EngineView → Option (Result Happened EngineFault) → EngineView → Type 0
-Settles session moment most old None new = HasTurned session moment most old new
-Settles session moment most old (Some result) new = (made : ℕ) × (last : EngineView) × (made < most)
-    × HasTurned session moment made old last × LeadsBy last (event.Turn session moment) result new × (leads_on result ≡ false)
+abbrev pub Settles : Event → ℕ → EngineView → Option (Result Happened EngineFault) → EngineView → Type 0
+Settles turn most old None new = HasTurned turn most old new
+Settles turn most old (Some result) new = (made : ℕ) × (last : EngineView) × (made < most)
+    × HasTurned turn made old last × LeadsBy last turn result new × (leads_on result ≡ false)
 
 -- the number of the turn that ended them, or 6
 abbrev pub IsLast : Option (Result Happened EngineFault) → ℤ → Type 0
 IsLast None n = n ≡ pos 6
 IsLast (Some result) n = IsNumber result n
 
-abbrev pub SettlesAt : ℕ → ℕ → ℕ → EngineView → ℤ → EngineView → Type 0
-SettlesAt session moment most old n new = (end : Option (Result Happened EngineFault)) × Settles session moment most old end new × IsLast end n
+abbrev pub SettlesAt : Event → ℕ → EngineView → ℤ → EngineView → Type 0
+SettlesAt turn most old n new = (end : Option (Result Happened EngineFault)) × Settles turn most old end new × IsLast end n
 
 -- so of the engines that C has
-abbrev pub AnswersSettled : Option EngineView → ℕ → ℕ → ℕ → ℤ → Option EngineView → Type 0
-AnswersSettled before session moment most n after = (old : EngineView) × (new : EngineView) × (before ≡ Some old) × (after ≡ Some new)
-    × SettlesAt session moment most old n new
+abbrev pub AnswersSettled : Option EngineView → Event → ℕ → ℤ → Option EngineView → Type 0
+AnswersSettled before turn most n after = (old : EngineView) × (new : EngineView) × (before ≡ Some old) × (after ≡ Some new)
+    × SettlesAt turn most old n new
 
 -- a new engine keeps so many records, or all for 0
 abbrev pub IsFresh : ℕ → EngineView → Type 0

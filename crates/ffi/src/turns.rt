@@ -30,7 +30,7 @@ fn last_turn(
     moment: u32,
     most: u64,
 ) -> Option<Result<Happened, EngineFault>>
-    ensures { Settles session moment most engine.old result engine.new }
+    ensures { Settles (Event.Turn session moment) most engine.old result engine.new }
 {
     for _ in 0..most {
         let outcome = engine.apply(&Event::Turn(session, moment));
@@ -43,7 +43,7 @@ fn last_turn(
 
 /// As `last_turn`, and answers the turn's number, or 6.
 pub fn settle(engine: &mut Engine, session: u64, moment: u32, most: u64) -> i64
-    ensures { SettlesAt session moment most engine.old result engine.new }
+    ensures { SettlesAt (Event.Turn session moment) most engine.old result engine.new }
 {
     match last_turn(engine, session, moment, most) {
         Some(outcome) => number_of(outcome),

@@ -1,9 +1,9 @@
 //! The bytes of a file, in memory.
 //!
-//! Start with `Contents`, which contracts see as a list of bytes and the room that memory was got for.
-//! `specs/Contents.antt` says what a new size makes of the bytes (`resized`), and a write (`written`), as
-//! POSIX's `ftruncate` and `pwrite` do. Read the contracts of `reserve_for` and `write` first: room is got
-//! before bytes change, so a write can't fail, and a growth that is refused changes nothing.
+//! Start with `Contents`, which contracts see as a list of bytes. `specs/Contents.antt` says what a new size makes
+//! of them (`resized`), and a write (`written`), as POSIX's `ftruncate` and `pwrite` do. Inside, they are in blocks
+//! of 32768 bytes, which are shared with those who read and wrote them (`specs/Blocks.antt`). A write or a growth
+//! for which there is no memory changes nothing, and a cut takes none.
 #![tactic(auto)]
 
 mod contents;

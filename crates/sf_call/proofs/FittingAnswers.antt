@@ -33,7 +33,7 @@ use Rattle.sf_call.specs.Handles.Opened.{NotOpen, OpenDirectory, OpenFile}
 use Rattle.sf_call.specs.Listings.{path_of, is_past, name_past, entry_of, listed_entry, listing_of}
 use Rattle.sf_call.specs.Changes.{touch, touched}
 use Rattle.sf_call.specs.Values.{IsRequest, IsCall}
-use Rattle.sf_call.specs.Calls.{Answer, answer_to, stat, refuses_size, with_size, sets, set_stat, make_directory, remove_directory, remove_file, has_all_handles, open_directory, open_present, open_file, close, stat_opened, set_opened, read, start_of, write, lists, read_directory, unless_root, moves}
+use Rattle.sf_call.specs.Calls.{Answer, answer_to, stat, refuses_size, with_size, sets, set_stat, make_directory, remove_directory, remove_file, has_all_handles, open_directory, open_present, open_file, close, stat_opened, set_opened, read, start_of, write, lists, read_directory, unless_root, moves, opening, stamp}
 use Rattle.sf_call.proofs.RenameCases.{rename_cases, posix_rename_cases}
 use Rattle.sf_call.proofs.FittingTrees.{MetadataFits, ObjectFits, TreeFits, ChangeFits, all_made, found_value, rest_names}
 
@@ -235,7 +235,7 @@ module _ (tree : Tree) (fits : TreeFits tree) where
     set_found attrs (DirectoryAt label m) a f = parts_set label attrs (Directory m) a f
     set_found attrs (FileAt label m contents) a f = parts_set label attrs (File m contents) a f
 
-    made : (path : Path) (attrs : Attrs) (place : Place) → IsPath path → AttrsFit attrs → AnswerFits (make_directory tree number moment path attrs place)
+    made : (path : Path) (attrs : Attrs) (place : Place) → IsPath path → AttrsFit attrs → AnswerFits (make_directory tree (stamp number moment) path attrs place)
     made path attrs NoWay p a = (tt, tt)
     made path attrs (At label) p a = (tt, tt)
     made path attrs Absent p a = (tt, ((p, made_fits 0o755 attrs a), touched_fits (parent path)))
@@ -258,7 +258,7 @@ module _ (tree : Tree) (fits : TreeFits tree) where
     directory_opened (FileAt label m contents) = (tt, tt)
     directory_opened (DirectoryAt label m) = either (has_all_handles tree session) _ _ (tt, tt) (number_fits, (tt, tt))
 
-    present_opened : (flags : OpenFlags) (found : Found) → FoundFits found → AnswerFits (open_present tree session number moment flags found)
+    present_opened : (flags : OpenFlags) (found : Found) → FoundFits found → AnswerFits (open_present tree session (stamp number moment) flags found)
     present_opened flags Nowhere f = (tt, tt)
     present_opened flags Nothing f = (tt, tt)
     present_opened flags (DirectoryAt label m) f = (tt, tt)
@@ -266,7 +266,7 @@ module _ (tree : Tree) (fits : TreeFits tree) where
         either (has_all_handles tree session) _ _ (tt, tt)
         (either (flags.truncate && flags.write) _ _ (number_fits, (tt, ((modified_fits m f.0, omega arith), tt))) (number_fits, (tt, tt)))
 
-    file_opened : (path : Path) (flags : OpenFlags) (attrs : Attrs) (place : Place) → IsPath path → AttrsFit attrs → AnswerFits (open_file tree session number moment path flags attrs place)
+    file_opened : (path : Path) (flags : OpenFlags) (attrs : Attrs) (place : Place) → IsPath path → AttrsFit attrs → AnswerFits (open_file tree session (stamp number moment) (opening path flags attrs) place)
     file_opened path flags attrs NoWay p a = (tt, tt)
     file_opened path flags attrs (At label) p a =
         either (flags.create && flags.exclusive) _ _ (tt, tt)

@@ -20,7 +20,7 @@ use Rattle.sf_call.specs.Tree.Found.{Nowhere, Nothing, DirectoryAt, FileAt}
 use Rattle.sf_call.specs.Handles.{Opened, handle_in, opened}
 use Rattle.sf_call.specs.Handles.Opened.{NotOpen, OpenDirectory, OpenFile}
 use Rattle.sf_call.specs.Listings.{path_of, listing_of}
-use Rattle.sf_call.specs.Calls.{Answer, apply, stat, refuses_size, sets, set_stat, make_directory, remove_directory, remove_file, has_all_handles, open_directory, open_present, open_file, close, stat_opened, set_opened, read, start_of, write, lists, read_directory, unless_root}
+use Rattle.sf_call.specs.Calls.{Answer, apply, stat, refuses_size, sets, set_stat, make_directory, remove_directory, remove_file, has_all_handles, open_directory, open_present, open_file, close, stat_opened, set_opened, read, start_of, write, lists, read_directory, unless_root, opening, stamp}
 use Rattle.sf_call.specs.ReplyKinds.{IsStatus, IsStatusOrAttrs, IsStatusOrHandle, IsStatusOrData, IsStatusOrNames, IsReplyTo}
 use Rattle.sf_call.proofs.RenameCases.{rename_cases, posix_rename_cases}
 
@@ -58,7 +58,7 @@ set_by_handle moment attrs NotOpen = tt
 set_by_handle moment attrs (OpenDirectory h m) = choice IsStatus (nat_eq h.label 0) _ _ tt (parts_set moment h.label attrs (Directory m))
 set_by_handle moment attrs (OpenFile h m contents) = choice IsStatus (is_some attrs.size && not h.write) _ _ tt (parts_set moment h.label attrs (File m contents))
 
-made : (tree : Tree) (number moment : ℕ) (path : Path) (attrs : Attrs) (place : Place) → IsStatus (make_directory tree number moment path attrs place).reply
+made : (tree : Tree) (number moment : ℕ) (path : Path) (attrs : Attrs) (place : Place) → IsStatus (make_directory tree (stamp number moment) path attrs place).reply
 made tree number moment path attrs NoWay = tt
 made tree number moment path attrs (At label) = tt
 made tree number moment path attrs Absent = tt
@@ -81,14 +81,14 @@ directory_opened tree session number Nothing = tt
 directory_opened tree session number (FileAt label m contents) = tt
 directory_opened tree session number (DirectoryAt label m) = choice (IsStatusOrHandle number) (has_all_handles tree session) _ _ tt refl
 
-present_opened : (tree : Tree) (session number moment : ℕ) (flags : OpenFlags) (found : Found) → IsStatusOrHandle number (open_present tree session number moment flags found).reply
+present_opened : (tree : Tree) (session number moment : ℕ) (flags : OpenFlags) (found : Found) → IsStatusOrHandle number (open_present tree session (stamp number moment) flags found).reply
 present_opened tree session number moment flags Nowhere = tt
 present_opened tree session number moment flags Nothing = tt
 present_opened tree session number moment flags (DirectoryAt label m) = tt
 present_opened tree session number moment flags (FileAt label m contents) =
     choice (IsStatusOrHandle number) (has_all_handles tree session) _ _ tt (choice (IsStatusOrHandle number) (flags.truncate && flags.write) _ _ refl refl)
 
-file_opened : (tree : Tree) (session number moment : ℕ) (path : Path) (flags : OpenFlags) (attrs : Attrs) (place : Place) → IsStatusOrHandle number (open_file tree session number moment path flags attrs place).reply
+file_opened : (tree : Tree) (session number moment : ℕ) (path : Path) (flags : OpenFlags) (attrs : Attrs) (place : Place) → IsStatusOrHandle number (open_file tree session (stamp number moment) (opening path flags attrs) place).reply
 file_opened tree session number moment path flags attrs NoWay = tt
 file_opened tree session number moment path flags attrs (At label) =
     choice (IsStatusOrHandle number) (flags.create && flags.exclusive) _ _ tt (present_opened tree session number moment flags (found_object label (object_of tree.objects label)))

@@ -32,7 +32,7 @@ use Rattle.sf_call.specs.Moves.{moved}
 use Rattle.sf_call.specs.Changes.{touch, touched, changed}
 use Rattle.sf_call.specs.Changes.Change.{SetObject, Move}
 use Rattle.sf_call.specs.Allowed.{kind_of, IsSetRightly, IsNewHandle, AreAllowed, IsMove}
-use Rattle.sf_call.specs.Calls.{Answer, answer_to, stat, refuses_size, with_size, sets, set_stat, make_directory, goes, remove_directory, remove_file, has_all_handles, open_directory, open_present, open_file, close, stat_opened, set_opened, read, start_of, write, lists, read_directory, unless_root, moves, rename_to, rename, replace_by, posix_rename}
+use Rattle.sf_call.specs.Calls.{Answer, answer_to, stat, refuses_size, with_size, sets, set_stat, make_directory, goes, remove_directory, remove_file, has_all_handles, open_directory, open_present, open_file, close, stat_opened, set_opened, read, start_of, write, lists, read_directory, unless_root, moves, rename_to, rename, replace_by, posix_rename, opening, stamp}
 use Rattle.sf_call.proofs.Ways.{open_way}
 use Rattle.sf_call.proofs.MovedNames.{same_path_is, after_front-append, no_front, no_proper_front, moved_outside}
 use Rattle.sf_call.proofs.Orders.{exact_paths}
@@ -217,7 +217,7 @@ module _ (tree : Tree) (number moment : ℕ) (unused : (q : Path) → label_at t
   set_place attrs Absent = tt
   set_place attrs (At label) = set_object attrs label (object_of tree.objects label) refl
 
-  made : (path : Path) (attrs : Attrs) (place : Place) → place_at tree path ≡ place → IsRight (make_directory tree number moment path attrs place)
+  made : (path : Path) (attrs : Attrs) (place : Place) → place_at tree path ≡ place → IsRight (make_directory tree (stamp number moment) path attrs place)
   made path attrs NoWay e = tt
   made path attrs (At label) e = tt
   made path attrs Absent e =
@@ -276,13 +276,13 @@ module _ (tree : Tree) (number moment : ℕ) (unused : (q : Path) → label_at t
   directory_opened session (FileAt label m contents) = tt
   directory_opened session (DirectoryAt label m) = either (has_all_handles tree session) _ _ tt (new_handle, tt)
 
-  present_opened : (session : ℕ) (flags : OpenFlags) (label : ℕ) (o : Option Object) → object_of tree.objects label ≡ o → IsRight (open_present tree session number moment flags (found_object label o))
+  present_opened : (session : ℕ) (flags : OpenFlags) (label : ℕ) (o : Option Object) → object_of tree.objects label ≡ o → IsRight (open_present tree session (stamp number moment) flags (found_object label o))
   present_opened session flags label None e = tt
   present_opened session flags label (Some (Directory m)) e = tt
   present_opened session flags label (Some (File m contents)) e =
       either (has_all_handles tree session) _ _ tt (either (flags.truncate && flags.write) _ _ (new_handle, (ap (option_map kind_of) e, tt)) (new_handle, tt))
 
-  file_opened : (session : ℕ) (path : Path) (flags : OpenFlags) (attrs : Attrs) (place : Place) → place_at tree path ≡ place → IsRight (open_file tree session number moment path flags attrs place)
+  file_opened : (session : ℕ) (path : Path) (flags : OpenFlags) (attrs : Attrs) (place : Place) → place_at tree path ≡ place → IsRight (open_file tree session (stamp number moment) (opening path flags attrs) place)
   file_opened session path flags attrs NoWay e = tt
   file_opened session path flags attrs (At label) e =
       either (flags.create && flags.exclusive) _ _ tt (present_opened session flags label (object_of tree.objects label) refl)

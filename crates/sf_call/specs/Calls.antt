@@ -73,12 +73,20 @@ set_stat moment attrs Nothing = refuses NoSuchFile
 set_stat moment attrs (DirectoryAt label m) = sets moment label attrs (Directory m)
 set_stat moment attrs (FileAt label m contents) = sets moment label attrs (File m contents)
 
--- MKDIR (draft, section 6.6; POSIX, mkdir): a new directory, whose label is the call's number; its parent is modified
-abbrev pub make_directory : Tree → ℕ → ℕ → Path → Attrs → Place → Answer
-make_directory tree number moment path attrs NoWay = refuses NoSuchFile
-make_directory tree number moment path attrs (At label) = refuses Failure
-make_directory tree number moment path attrs Absent =
-    succeeds (NewPath path number (Directory (new_metadata 0o755 moment attrs)) ∷ touched tree moment (parent path))
+-- A call's number, which is the label of what it makes and the number of a handle that it opens; and its moment.
+pub record Stamp : Type 0 where
+  pub number : ℕ
+  pub moment : ℕ
+
+abbrev pub stamp : ℕ → ℕ → Stamp
+stamp number moment = record { number = number; moment = moment }
+
+-- MKDIR (draft, section 6.6; POSIX, mkdir): a new directory; its parent is modified
+abbrev pub make_directory : Tree → Stamp → Path → Attrs → Place → Answer
+make_directory tree call path attrs NoWay = refuses NoSuchFile
+make_directory tree call path attrs (At label) = refuses Failure
+make_directory tree call path attrs Absent =
+    succeeds (NewPath path call.number (Directory (new_metadata 0o755 call.moment attrs)) ∷ touched tree call.moment (parent path))
 
 -- a path is gone; its parent is modified
 abbrev pub goes : Tree → ℕ → Path → Answer
@@ -124,26 +132,35 @@ open_directory tree session number (DirectoryAt label m) =
     if has_all_handles tree session then refuses Failure else opens number (directory_handle session label) []
 
 -- OPEN of a file that is there: TRUNC with WRITE cuts it
-abbrev pub open_present : Tree → ℕ → ℕ → ℕ → OpenFlags → Found → Answer
-open_present tree session number moment flags Nowhere = refuses NoSuchFile
-open_present tree session number moment flags Nothing = refuses NoSuchFile
-open_present tree session number moment flags (DirectoryAt label m) = refuses Failure
-open_present tree session number moment flags (FileAt label m contents) =
+abbrev pub open_present : Tree → ℕ → Stamp → OpenFlags → Found → Answer
+open_present tree session call flags Nowhere = refuses NoSuchFile
+open_present tree session call flags Nothing = refuses NoSuchFile
+open_present tree session call flags (DirectoryAt label m) = refuses Failure
+open_present tree session call flags (FileAt label m contents) =
     if has_all_handles tree session then refuses Failure
-    else if flags.truncate && flags.write then opens number (file_handle session label flags) (SetObject label (File (modified_at moment m) []) ∷ [])
-    else opens number (file_handle session label flags) []
+    else if flags.truncate && flags.write then opens call.number (file_handle session label flags) (SetObject label (File (modified_at call.moment m) []) ∷ [])
+    else opens call.number (file_handle session label flags) []
 
--- OPEN (draft, section 6.3; POSIX, open): a new file is empty, and its label is the call's number; its parent is modified
-abbrev pub open_file : Tree → ℕ → ℕ → ℕ → Path → OpenFlags → Attrs → Place → Answer
-open_file tree session number moment path flags attrs NoWay = refuses NoSuchFile
-open_file tree session number moment path flags attrs (At label) =
-    if flags.create && flags.exclusive then refuses Failure
-    else open_present tree session number moment flags (found_object label (object_of tree.objects label))
-open_file tree session number moment path flags attrs Absent =
-    if not flags.create then refuses NoSuchFile
+-- What is to be opened, and how.
+pub record Opening : Type 0 where
+  pub path : Path
+  pub flags : OpenFlags
+  pub attrs : Attrs
+
+abbrev pub opening : Path → OpenFlags → Attrs → Opening
+opening path flags attrs = record { path = path; flags = flags; attrs = attrs }
+
+-- OPEN (draft, section 6.3; POSIX, open): a new file is empty; its parent is modified
+abbrev pub open_file : Tree → ℕ → Stamp → Opening → Place → Answer
+open_file tree session call asked NoWay = refuses NoSuchFile
+open_file tree session call asked (At label) =
+    if asked.flags.create && asked.flags.exclusive then refuses Failure
+    else open_present tree session call asked.flags (found_object label (object_of tree.objects label))
+open_file tree session call asked Absent =
+    if not asked.flags.create then refuses NoSuchFile
     else if has_all_handles tree session then refuses Failure
-    else opens number (file_handle session number flags)
-    (NewPath path number (File (new_metadata 0o644 moment attrs) []) ∷ touched tree moment (parent path))
+    else opens call.number (file_handle session call.number asked.flags)
+    (NewPath asked.path call.number (File (new_metadata 0o644 call.moment asked.attrs) []) ∷ touched tree call.moment (parent asked.path))
 
 -- ---- renames
 
@@ -247,11 +264,11 @@ unless_root (name ∷ path) answer = answer
 abbrev pub answer_to : Tree → ℕ → ℕ → ℕ → Request → Answer
 answer_to tree session number moment (Stat path) = stat (found_at tree path)
 answer_to tree session number moment (SetStat path attrs) = unless_root path (set_stat moment attrs (found_at tree path))
-answer_to tree session number moment (Mkdir path attrs) = unless_root path (make_directory tree number moment path attrs (place_at tree path))
+answer_to tree session number moment (Mkdir path attrs) = unless_root path (make_directory tree (stamp number moment) path attrs (place_at tree path))
 answer_to tree session number moment (Rmdir path) = unless_root path (remove_directory tree moment path (found_at tree path))
 answer_to tree session number moment (Remove path) = unless_root path (remove_file tree moment path (found_at tree path))
 answer_to tree session number moment (OpenDir path) = open_directory tree session number (found_at tree path)
-answer_to tree session number moment (Open path flags attrs) = unless_root path (open_file tree session number moment path flags attrs (place_at tree path))
+answer_to tree session number moment (Open path flags attrs) = unless_root path (open_file tree session (stamp number moment) (opening path flags attrs) (place_at tree path))
 answer_to tree session number moment (Close handle) = close handle (handle_in tree session handle)
 answer_to tree session number moment (FStat handle) = stat_opened (opened tree session handle)
 answer_to tree session number moment (FSetStat handle attrs) = set_opened moment attrs (opened tree session handle)

@@ -16,7 +16,7 @@ use Rattle.sf_client.specs.declared.fault.ClientFault.TheVariants as fault
 use Rattle.sf_client.specs.Dues.{due_of, is_due}
 use Rattle.sf_client.specs.Exchanges.{ClientView, Exchange, Exchanged, Sent, Took, id_after}
 use Rattle.sf_client.specs.Outcomes.{asked}
-use Rattle.sf_client.specs.Ahead.{EndsBy, GathersNames, SendsOn, TakesOn}
+use Rattle.sf_client.specs.Ahead.{EndsBy, GathersNames, SendsOn, TakesOn, sender}
 use Rattle.sf_client.specs.Calls.{Does, IsLast, IsListing, listings, all_entries, ListsAll, ended_by, told_by}
 use Rattle.sf_client.proofs.Exchanging.{all-append}
 use Rattle.sf_client.proofs.Steps.{broke_since, answer_due}
@@ -91,7 +91,7 @@ list_unsent n v u w entries a b g going same is =
       so_far = no_memory n entries a.stopped a.dropped a.waiting g.xs going g.so_far;
     }))
 
-pub list_asked : (n : ℕ) (v u w : ClientView) (entries : List Entry) (a b : Ahead) (sent : Bool) → Listing n v entries a u → a.stopped ≡ None → a.waiting < 2 → SendsOn u a (request.ReadDir (be64 n)) (Ok sent) w b → Listing n v entries b w
+pub list_asked : (n : ℕ) (v u w : ClientView) (entries : List Entry) (a b : Ahead) (sent : Bool) → Listing n v entries a u → a.stopped ≡ None → a.waiting < 2 → SendsOn (sender u a) (request.ReadDir (be64 n)) (Ok sent) (sender w b) → Listing n v entries b w
 list_asked n v u w entries a b true g going room h = list_sent n v u w entries a b g going room h.0 h.1
 list_asked n v u w entries a b false g going room h = list_unsent n v u w entries a b g going h.0 h.1
 
@@ -161,7 +161,7 @@ whatever : (n : ℕ) (entries now : List Entry) (dropped waiting : ℕ) (xs : Li
 whatever n entries now dropped waiting xs h = (h.0, (h.1.0, h.1.1, h.1.2, (λ e. absurd cc), h.1.4, h.1.5, h.1.6))
 
 -- some names came, and there was room for them
-list_took : (n : ℕ) (v u w : ClientView) (entries part now : List Entry) (a b : Ahead) → Listing n v entries a u → 0 < a.waiting → TakesOn u a due.Names (Ok (Some (reply.Names part))) w b → now ≡ entries ++ part → Listing n v now b w
+list_took : (n : ℕ) (v u w : ClientView) (entries part now : List Entry) (a b : Ahead) → Listing n v entries a u → 0 < a.waiting → TakesOn (sender u a) due.Names (Ok (Some (reply.Names part))) (sender w b) → now ≡ entries ++ part → Listing n v now b w
 list_took n v u w entries part now a b g some h is =
     let head = flight_head (AsksNames n) v u g.xs g.qs a g.flight some in
     subst (λ (es : List Entry). Listing n v es b w) (sym is)
@@ -169,7 +169,7 @@ list_took n v u w entries part now a b g some h is =
     (came n v u w entries (entries ++ part) a _ g head.0 head.1 (reply.Names part) head.2 (answer_due due.Names (reply.Names part) h.0) h.2 refl refl (λ asks. names_more n entries part a.stopped a.dropped a.waiting g.xs head.0 h.1 some asks g.so_far)))
 
 -- some names came, and there was no room for them
-list_no_room : (n : ℕ) (v u w : ClientView) (entries part now : List Entry) (a b c : Ahead) → Listing n v entries a u → 0 < a.waiting → TakesOn u a due.Names (Ok (Some (reply.Names part))) w b
+list_no_room : (n : ℕ) (v u w : ClientView) (entries part now : List Entry) (a b c : Ahead) → Listing n v entries a u → 0 < a.waiting → TakesOn (sender u a) due.Names (Ok (Some (reply.Names part))) (sender w b)
     → c ≡ record b { dropped = b.waiting; stopped = Some fault.OutOfMemory } → Listing n v now c w
 list_no_room n v u w entries part now a b c g some h is =
     let head = flight_head (AsksNames n) v u g.xs g.qs a g.flight some in
@@ -177,12 +177,12 @@ list_no_room n v u w entries part now a b c g some h is =
     (came n v u w entries now a _ g head.0 head.1 (reply.Names part) head.2 (answer_due due.Names (reply.Names part) h.0) h.2 refl refl
     (λ asks. whatever n entries now _ _ _ (stopped_here n entries a.stopped fault.OutOfMemory a.dropped a.waiting g.xs head.0 (reply.Names part) h.1 some tt asks g.so_far)))
 
-pub list_gathered : (n : ℕ) (v u w : ClientView) (entries part now : List Entry) (a b c : Ahead) → Listing n v entries a u → 0 < a.waiting → TakesOn u a due.Names (Ok (Some (reply.Names part))) w b → GathersNames entries part now b c → Listing n v now c w
+pub list_gathered : (n : ℕ) (v u w : ClientView) (entries part now : List Entry) (a b c : Ahead) → Listing n v entries a u → 0 < a.waiting → TakesOn (sender u a) due.Names (Ok (Some (reply.Names part))) (sender w b) → GathersNames entries part now b c → Listing n v now c w
 list_gathered n v u w entries part now a b c g some h (inl k) = subst (λ (x : Ahead). Listing n v now x w) (sym k.1) (list_took n v u w entries part now a b g some h k.0)
 list_gathered n v u w entries part now a b c g some h (inr k) = list_no_room n v u w entries part now a b c g some h k
 
 -- a reply was dropped, or ended the listing
-pub list_missed : (n : ℕ) (v u w : ClientView) (entries : List Entry) (a b : Ahead) → Listing n v entries a u → 0 < a.waiting → TakesOn u a due.Names (Ok None) w b → Listing n v entries b w
+pub list_missed : (n : ℕ) (v u w : ClientView) (entries : List Entry) (a b : Ahead) → Listing n v entries a u → 0 < a.waiting → TakesOn (sender u a) due.Names (Ok None) (sender w b) → Listing n v entries b w
 list_missed n v u w entries a b g some h =
     let head = flight_head (AsksNames n) v u g.xs g.qs a g.flight some in
     elim h.5 [
@@ -194,7 +194,7 @@ list_missed n v u w entries a b g some h =
 
 -- ---- the end
 
-pub list_failed : (n : ℕ) (v u w : ClientView) (entries : List Entry) (a b : Ahead) (f : ClientFault) → Listing n v entries a u → 0 < a.waiting → TakesOn u a due.Names (told_by {X = List Entry} reply.Names (Err f)) w b → Does (ListsAll n) v (Err f) w
+pub list_failed : (n : ℕ) (v u w : ClientView) (entries : List Entry) (a b : Ahead) (f : ClientFault) → Listing n v entries a u → 0 < a.waiting → TakesOn (sender u a) due.Names (told_by {X = List Entry} reply.Names (Err f)) (sender w b) → Does (ListsAll n) v (Err f) w
 list_failed n v u w entries a b fault.Stream g some h = broke_since v u w g.flight.ahead.failures h
 list_failed n v u w entries a b fault.Protocol g some h = flight_spoilt (AsksNames n) due.Names v u w g.xs g.qs a g.flight some (λ q such. ap due_of such) h
 list_failed n v u w entries a b (fault.Status code) g some h = absurd h

@@ -18,7 +18,7 @@ use Rattle.sf_client.specs.declared.fault.ClientFault.TheVariants as fault
 use Rattle.sf_client.specs.Dues.{Refuses, due_of, is_answer, is_due}
 use Rattle.sf_client.specs.Exchanges.{ClientView, Exchange, Exchanged, Sent, Took, id_after}
 use Rattle.sf_client.specs.Outcomes.{asked}
-use Rattle.sf_client.specs.Ahead.{EndsBy, GathersPiece, SendsOn, TakesOn}
+use Rattle.sf_client.specs.Ahead.{EndsBy, GathersPiece, SendsOn, TakesOn, sender}
 use Rattle.sf_client.specs.Calls.{Does, IsLast, IsReadOf, KeepsSome, read_from, reads, Reads, ReadsAll, AsksSize, size_of, ended_by, told_by}
 use Rattle.sf_client.proofs.Exchanging.{exchanged_none, exchanged_then, unanswered_then}
 use Rattle.sf_client.proofs.Steps.{broke_since, answer_due}
@@ -152,7 +152,7 @@ read_unsent n v u w bytes a b g going same is =
     }))
 
 pub read_asked : (n : ℕ) (v u w : ClientView) (bytes : List ℕ) (offset : ℕ) (a b : Ahead) (sent : Bool) → Reading n v bytes a u → a.stopped ≡ None → a.dropped ≡ 0 → a.waiting < 64 → offset ≡ length bytes + a.waiting * 32768
-    → SendsOn u a (read_from n offset) (Ok sent) w b → Reading n v bytes b w
+    → SendsOn (sender u a) (read_from n offset) (Ok sent) (sender w b) → Reading n v bytes b w
 read_asked n v u w bytes offset a b true g going none room at h = read_sent n v u w bytes offset a b g going none room at h.0 h.1
 read_asked n v u w bytes offset a b false g going none room at h = read_unsent n v u w bytes a b g going h.0 h.1
 
@@ -257,19 +257,19 @@ read_took n v u w bytes piece a left g some h short whole =
     (λ reads. keeps_more n g.xs g.kept (asked head.0 (reply.Data piece)) reads g.keeps)
     (took_on n bytes piece a.stopped a.dropped a.waiting left head.0 head.1 g.kept h.1 some (data_most piece h.0) short whole before)
 
-took_short : (n : ℕ) (v u w : ClientView) (bytes piece : List ℕ) (a b c : Ahead) → Reading n v bytes a u → 0 < a.waiting → TakesOn u a (due.Data 32768) (Ok (Some (reply.Data piece))) w b → length piece < 32768
+took_short : (n : ℕ) (v u w : ClientView) (bytes piece : List ℕ) (a b c : Ahead) → Reading n v bytes a u → 0 < a.waiting → TakesOn (sender u a) (due.Data 32768) (Ok (Some (reply.Data piece))) (sender w b) → length piece < 32768
     → c ≡ record b { dropped = b.waiting } → Reading n v (bytes ++ piece) c w
 took_short n v u w bytes piece a b c g some h less is =
     subst (λ (x : Ahead). Reading n v (bytes ++ piece) x w) (sym (is ∙ ap (λ (y : Ahead). record y { dropped = y.waiting }) h.3))
     (read_took n v u w bytes piece a (a.waiting - 1) g some (h.0, h.1, h.2) (λ k. refl) (λ k. absurd (omega (arith, less, k))))
 
-took_whole : (n : ℕ) (v u w : ClientView) (bytes piece : List ℕ) (a b : Ahead) → Reading n v bytes a u → 0 < a.waiting → TakesOn u a (due.Data 32768) (Ok (Some (reply.Data piece))) w b → 32768 ≤ length piece → Reading n v (bytes ++ piece) b w
+took_whole : (n : ℕ) (v u w : ClientView) (bytes piece : List ℕ) (a b : Ahead) → Reading n v bytes a u → 0 < a.waiting → TakesOn (sender u a) (due.Data 32768) (Ok (Some (reply.Data piece))) (sender w b) → 32768 ≤ length piece → Reading n v (bytes ++ piece) b w
 took_whole n v u w bytes piece a b g some h whole =
     subst (λ (x : Ahead). Reading n v (bytes ++ piece) x w) (sym h.3)
     (read_took n v u w bytes piece a a.dropped g some (h.0, h.1, h.2) (λ k. absurd (omega (arith, whole, k))) (λ k. h.1))
 
 -- a piece came, and there was no room for it
-read_no_room : (n : ℕ) (v u w : ClientView) (bytes piece now : List ℕ) (a b c : Ahead) → Reading n v bytes a u → 0 < a.waiting → TakesOn u a (due.Data 32768) (Ok (Some (reply.Data piece))) w b
+read_no_room : (n : ℕ) (v u w : ClientView) (bytes piece now : List ℕ) (a b c : Ahead) → Reading n v bytes a u → 0 < a.waiting → TakesOn (sender u a) (due.Data 32768) (Ok (Some (reply.Data piece))) (sender w b)
     → c ≡ record b { dropped = b.waiting; stopped = Some fault.OutOfMemory } → Reading n v now c w
 read_no_room n v u w bytes piece now a b c g some h is =
     let head = flight_head (IsReadOf n) v u g.xs g.qs a g.flight some in
@@ -278,7 +278,7 @@ read_no_room n v u w bytes piece now a b c g some h is =
     (came n v u w bytes now a _ g head.0 head.1 (reply.Data piece) _ head.2 (answer_due (due.Data 32768) (reply.Data piece) h.0) h.2 refl refl (λ reads. keeps_more n g.xs g.kept (asked head.0 (reply.Data piece)) reads g.keeps)
     (whatever n bytes now (a.waiting - 1) (a.waiting - 1) head.1 (g.kept ++ asked head.0 (reply.Data piece) ∷ []) (stopped_here n bytes a.stopped fault.OutOfMemory a.dropped a.waiting head.0 head.1 g.kept (reply.Data piece) h.1 some tt before)))
 
-pub read_gathered : (n : ℕ) (v u w : ClientView) (bytes piece now : List ℕ) (a b c : Ahead) → Reading n v bytes a u → 0 < a.waiting → TakesOn u a (due.Data 32768) (Ok (Some (reply.Data piece))) w b → GathersPiece bytes piece now b c
+pub read_gathered : (n : ℕ) (v u w : ClientView) (bytes piece now : List ℕ) (a b c : Ahead) → Reading n v bytes a u → 0 < a.waiting → TakesOn (sender u a) (due.Data 32768) (Ok (Some (reply.Data piece))) (sender w b) → GathersPiece bytes piece now b c
     → Reading n v now c w
 read_gathered n v u w bytes piece now a b c g some h (inl (is, inl k)) = subst (λ (t : List ℕ). Reading n v t c w) (sym is) (took_short n v u w bytes piece a b c g some h k.0 k.1)
 read_gathered n v u w bytes piece now a b c g some h (inl (is, inr k)) =
@@ -286,7 +286,7 @@ read_gathered n v u w bytes piece now a b c g some h (inl (is, inr k)) =
 read_gathered n v u w bytes piece now a b c g some h (inr k) = read_no_room n v u w bytes piece now a b c g some h k
 
 -- a reply was dropped, or ended the reading
-pub read_missed : (n : ℕ) (v u w : ClientView) (bytes : List ℕ) (a b : Ahead) → Reading n v bytes a u → 0 < a.waiting → TakesOn u a (due.Data 32768) (Ok None) w b → Reading n v bytes b w
+pub read_missed : (n : ℕ) (v u w : ClientView) (bytes : List ℕ) (a b : Ahead) → Reading n v bytes a u → 0 < a.waiting → TakesOn (sender u a) (due.Data 32768) (Ok None) (sender w b) → Reading n v bytes b w
 read_missed n v u w bytes a b g some h =
     let head = flight_head (IsReadOf n) v u g.xs g.qs a g.flight some in
     let before : SoFar n bytes a.stopped a.dropped a.waiting (head.0 ∷ head.1) g.kept = subst (λ (t : List WireRequest). SoFar n bytes a.stopped a.dropped a.waiting t g.kept) head.2 g.so_far in
@@ -300,7 +300,7 @@ read_missed n v u w bytes a b g some h =
 
 -- ---- the end
 
-pub read_failed : (n : ℕ) (v u w : ClientView) (bytes : List ℕ) (a b : Ahead) (f : ClientFault) → Reading n v bytes a u → 0 < a.waiting → TakesOn u a (due.Data 32768) (told_by {X = List ℕ} reply.Data (Err f)) w b → Does (Reads n) v (Err f) w
+pub read_failed : (n : ℕ) (v u w : ClientView) (bytes : List ℕ) (a b : Ahead) (f : ClientFault) → Reading n v bytes a u → 0 < a.waiting → TakesOn (sender u a) (due.Data 32768) (told_by {X = List ℕ} reply.Data (Err f)) (sender w b) → Does (Reads n) v (Err f) w
 read_failed n v u w bytes a b fault.Stream g some h = broke_since v u w g.flight.ahead.failures h
 read_failed n v u w bytes a b fault.Protocol g some h = flight_spoilt (IsReadOf n) (due.Data 32768) v u w g.xs g.qs a g.flight some (λ q such. ap due_of such.1) h
 read_failed n v u w bytes a b (fault.Status code) g some h = absurd h

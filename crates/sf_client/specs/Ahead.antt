@@ -35,21 +35,34 @@ abbrev pub Keeps : Ahead → Reply → Option Reply → Ahead → Type 0
 Keeps a r (Some x) b = (x ≡ r) × (is_refusal r ≡ false) × (a.dropped ≡ 0) × (b ≡ record a { waiting = a.waiting - 1 })
 Keeps a r None b = (f : ClientFault) × ((a.dropped ≡ 0) → EndsBy r f) × Misses f a b
 
+-- A client, and what it has sent ahead.
+pub record Sender : Type 0 where
+  pub client : ClientView
+  pub ahead : Ahead
+
+abbrev pub sender : ClientView → Ahead → Sender
+sender client ahead = record { client = client; ahead = ahead }
+
 -- what came of sending one more request; none was sent where there was no memory
-abbrev pub SendsOn : ClientView → Ahead → WireRequest → Result Bool ClientFault → ClientView → Ahead → Type 0
-SendsOn v a q (Ok true) w b = Sent v (packet (request_body a.id q)) w × (b ≡ record a { id = id_after a.id; waiting = a.waiting + 1 })
-SendsOn v a q (Ok false) w b = (w ≡ v) × (b ≡ record a { dropped = a.waiting; stopped = Some fault.OutOfMemory })
-SendsOn v a q (Err f) w b = (f ≡ fault.Stream) × Broke v w
+abbrev pub SendsOn : Sender → WireRequest → Result Bool ClientFault → Sender → Type 0
+SendsOn x q (Ok true) y = Sent x.client (packet (request_body x.ahead.id q)) y.client
+    × (y.ahead ≡ record x.ahead { id = id_after x.ahead.id; waiting = x.ahead.waiting + 1 })
+SendsOn x q (Ok false) y = (y.client ≡ x.client)
+    × (y.ahead ≡ record x.ahead { dropped = x.ahead.waiting; stopped = Some fault.OutOfMemory })
+SendsOn x q (Err f) y = (f ≡ fault.Stream) × Broke x.client y.client
 
 -- what came of taking the first of the replies that are due
-abbrev pub TakesOn : ClientView → Ahead → Due → Result (Option Reply) ClientFault → ClientView → Ahead → Type 0
-TakesOn v a d (Ok (Some r)) w b = (is_answer d r ≡ true) × (a.dropped ≡ 0) × Took v r w × (b ≡ record a { waiting = a.waiting - 1 })
-TakesOn v a d (Ok None) w b = (r : Reply) × (f : ClientFault) × (is_due d r ≡ true) × Took v r w × ((a.dropped ≡ 0) → EndsBy r f) × Misses f a b
-TakesOn v a d (Err fault.Stream) w b = Broke v w
-TakesOn v a d (Err fault.Protocol) w b = (w.failed ≡ true) × (w.outgoing ≡ v.outgoing) × HasNoReply v.incoming v.next d
-TakesOn v a d (Err (fault.Status code)) w b = ⊥
-TakesOn v a d (Err fault.OutOfMemory) w b = ⊥
-TakesOn v a d (Err fault.Failed) w b = ⊥
+abbrev pub TakesOn : Sender → Due → Result (Option Reply) ClientFault → Sender → Type 0
+TakesOn x d (Ok (Some r)) y = (is_answer d r ≡ true) × (x.ahead.dropped ≡ 0) × Took x.client r y.client
+    × (y.ahead ≡ record x.ahead { waiting = x.ahead.waiting - 1 })
+TakesOn x d (Ok None) y = (r : Reply) × (f : ClientFault) × (is_due d r ≡ true) × Took x.client r y.client
+    × ((x.ahead.dropped ≡ 0) → EndsBy r f) × Misses f x.ahead y.ahead
+TakesOn x d (Err fault.Stream) y = Broke x.client y.client
+TakesOn x d (Err fault.Protocol) y = (y.client.failed ≡ true) × (y.client.outgoing ≡ x.client.outgoing)
+    × HasNoReply x.client.incoming x.client.next d
+TakesOn x d (Err (fault.Status code)) y = ⊥
+TakesOn x d (Err fault.OutOfMemory) y = ⊥
+TakesOn x d (Err fault.Failed) y = ⊥
 
 -- there was no memory for what came: nothing more is sent
 abbrev pub RunsShort : Ahead → Ahead → Type 0

@@ -4,7 +4,7 @@ ghost use Rattle.std.specs.Prelude.{◌≡◌, ◌≢◌, ◌+◌, ◌-◌, ◌<
 ghost use Rattle.sf_request.specs.Requests.{request_body};
 ghost use Rattle.sf_client.specs.declared.fault.ClientFault.TheVariants as fault;
 ghost use Rattle.sf_client.specs.Exchanges.{id_after};
-ghost use Rattle.sf_client.specs.Ahead.{Misses, Keeps, SendsOn, TakesOn, most_ahead};
+ghost use Rattle.sf_client.specs.Ahead.{Misses, Keeps, SendsOn, TakesOn, most_ahead, sender};
 
 use crate::client::{Client, id_following};
 use crate::due::{Due, refusal};
@@ -131,7 +131,7 @@ impl<L: Line + Drop> Client<L> {
     ) -> Result<bool, ClientFault>
         requires short { length (request_body ahead.old.id request.now) < 2 ^ 32 }
         requires room { ahead.old.waiting < most_ahead }
-        ensures { SendsOn self.old ahead.old request.now result self.new ahead.new }
+        ensures { SendsOn (sender self.old ahead.old) request.now result (sender self.new ahead.new) }
     {
         match self.send_request(ahead.id, request) {
             Ok(()) => {
@@ -154,7 +154,7 @@ impl<L: Line + Drop> Client<L> {
         due: Due,
     ) -> Result<Option<Reply>, ClientFault>
         requires { 0 < ahead.old.waiting }
-        ensures { TakesOn self.old ahead.old due result self.new ahead.new }
+        ensures { TakesOn (sender self.old ahead.old) due result (sender self.new ahead.new) }
     {
         match self.take_reply(due) {
             Ok(reply) => Ok(ahead.kept(reply)),

@@ -9,7 +9,7 @@ ghost use Rattle.sf_request.specs.Requests.{request_body};
 ghost use Rattle.sf_reply.specs.declared.reply.Reply.TheVariants as reply;
 ghost use Rattle.sf_client.specs.Dues.{due_of};
 ghost use Rattle.sf_client.specs.Outcomes.{Comes};
-ghost use Rattle.sf_client.specs.Ahead.{SendsOn, TakesOn, GathersPiece, GathersNames, most_ahead};
+ghost use Rattle.sf_client.specs.Ahead.{SendsOn, TakesOn, GathersPiece, GathersNames, most_ahead, sender};
 ghost use Rattle.sf_client.specs.Calls.{Does, ByHandle, ClosesAfter, EndsAfter, IsKept, AsksSize, told_of, told_by, ended_by, read_from, to_read, to_write, Reads, ReadsAll, WritesAll, ListsAll, items_of};
 
 use crate::ahead::Ahead;
@@ -171,7 +171,7 @@ impl<L: Line + Drop> Client<L> {
         offset: u64,
     ) -> Result<bool, ClientFault>
         requires { ahead.old.waiting < most_ahead }
-        ensures { SendsOn self.old ahead.old (read_from handle offset) result self.new ahead.new }
+        ensures { SendsOn (sender self.old ahead.old) (read_from handle offset) result (sender self.new ahead.new) }
     {
         let number = handle.to_be_bytes();
         let handle = ByteStr::new(&number);
@@ -186,7 +186,7 @@ impl<L: Line + Drop> Client<L> {
     /// Takes the bytes of a READ.
     fn take_piece(&mut self, ahead: &mut Ahead) -> Result<Option<ByteString>, ClientFault>
         requires { 0 < ahead.old.waiting }
-        ensures { TakesOn self.old ahead.old (Due.Data 32768) (told_by reply.Data result) self.new ahead.new }
+        ensures { TakesOn (sender self.old ahead.old) (Due.Data 32768) (told_by reply.Data result) (sender self.new ahead.new) }
     {
         match self.take_on(ahead, Due::Data(32768)) {
             Ok(Some(Reply::Data(bytes))) => Ok(Some(bytes)),
@@ -249,7 +249,7 @@ impl<L: Line + Drop> Client<L> {
     ) -> Result<bool, ClientFault>
         requires short { length piece.now ≤ PIECE }
         requires room { ahead.old.waiting < most_ahead }
-        ensures { SendsOn self.old ahead.old (request.Write (be64 handle) offset piece.now) result self.new ahead.new }
+        ensures { SendsOn (sender self.old ahead.old) (request.Write (be64 handle) offset piece.now) result (sender self.new ahead.new) }
     {
         let number = handle.to_be_bytes();
         let request = WireRequest::Write {
@@ -263,7 +263,7 @@ impl<L: Line + Drop> Client<L> {
     /// Takes the STATUS OK of a WRITE.
     fn take_success(&mut self, ahead: &mut Ahead) -> Result<Option<()>, ClientFault>
         requires { 0 < ahead.old.waiting }
-        ensures { TakesOn self.old ahead.old Due.Success (told_by (λ _. reply.Status Success) result) self.new ahead.new }
+        ensures { TakesOn (sender self.old ahead.old) Due.Success (told_by (λ _. reply.Status Success) result) (sender self.new ahead.new) }
     {
         match self.take_on(ahead, Due::Success) {
             Ok(Some(_reply)) => Ok(Some(())),
@@ -308,7 +308,7 @@ impl<L: Line + Drop> Client<L> {
     /// Sends a READDIR.
     fn ask_names(&mut self, ahead: &mut Ahead, handle: u64) -> Result<bool, ClientFault>
         requires { ahead.old.waiting < most_ahead }
-        ensures { SendsOn self.old ahead.old (request.ReadDir (be64 handle)) result self.new ahead.new }
+        ensures { SendsOn (sender self.old ahead.old) (request.ReadDir (be64 handle)) result (sender self.new ahead.new) }
     {
         let number = handle.to_be_bytes();
         let handle = ByteStr::new(&number);
@@ -318,7 +318,7 @@ impl<L: Line + Drop> Client<L> {
     /// Takes the names of a READDIR.
     fn take_names(&mut self, ahead: &mut Ahead) -> Result<Option<Listing>, ClientFault>
         requires { 0 < ahead.old.waiting }
-        ensures { TakesOn self.old ahead.old Due.Names (told_by reply.Names result) self.new ahead.new }
+        ensures { TakesOn (sender self.old ahead.old) Due.Names (told_by reply.Names result) (sender self.new ahead.new) }
     {
         match self.take_on(ahead, Due::Names) {
             Ok(Some(Reply::Names(entries))) => Ok(Some(entries)),

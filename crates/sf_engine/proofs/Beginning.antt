@@ -105,7 +105,7 @@ decided_began front w s t moves n k q given added h session under (inr d) n' s' 
     ]
 
 module _ (n s m : ℕ) (q : Request) (given : Reply) where
-  rest_began : (w : World) (z k : ℕ) (t t' : Told) (r : Happened) (added : List Record) → RestLeads w z k t r added t' → IsAmong (Did n s m q given) added → ⊥
+  rest_began : (w : World) (z k : ℕ) (t t' : Told) (r : Happened) (added : List Record) → RestLeads k (record { world = w; session = z; told = t; added = added; now = t' }) r → IsAmong (Did n s m q given) added → ⊥
   rest_began w z k t t' happened.Idle added g a = among_none (Did n s m q given) added g.1 a
   rest_began w z k t t' happened.Wrote added g a = among_none (Did n s m q given) added g.1 a
   rest_began w z k t t' happened.Begun added g a = among_none (Did n s m q given) added g.1 a
@@ -129,7 +129,7 @@ module _ (n s m : ℕ) (q : Request) (given : Reply) where
   close_began (Gone cause) z added e a = among_none (Did n s m q given) added e a
 
   turn_began : (front : List Entry) (w : World) (z k : ℕ) (t t' : Told) (f : Phase) (r : Happened) (added : List Record) → HaveBegun front w → IsSession w z t → t.phase ≡ f
-      → TurnLeads w z k t f r added t' → IsAmong (Did n s m q given) added → Began front n s m q
+      → TurnLeads k (record { world = w; session = z; told = t; added = added; now = t' }) f r → IsAmong (Did n s m q given) added → Began front n s m q
   turn_began front w z k t t' Resting r added h session e g a = absurd (rest_began w z k t t' r added g a)
   turn_began front w z k t t' (UnderWay id c o p moves) happened.Moved added h session e g a = absurd (among_none (Did n s m q given) added g.1 a)
   turn_began front w z k t t' (UnderWay id c o p moves) (happened.Blocked holder) added h session e g a = absurd (among_none (Did n s m q given) added g.1 a)
@@ -178,7 +178,7 @@ module _ (n k : ℕ) (q : Request) where
   same_under : (t t' : Told) → t' ≡ t → IsUnderWay t'.phase n k q → IsUnderWay t.phase n k q
   same_under t t' e under = subst (λ (z : Told). IsUnderWay z.phase n k q) e under
 
-  rest_goes : (w : World) (s m : ℕ) (t t' : Told) (r : Happened) (added : List Record) → RestLeads w s m t r added t' → t.phase ≡ Resting → IsUnderWay t'.phase n k q → BeginsNow m r added t'.phase n k q
+  rest_goes : (w : World) (s m : ℕ) (t t' : Told) (r : Happened) (added : List Record) → RestLeads m (record { world = w; session = s; told = t; added = added; now = t' }) r → t.phase ≡ Resting → IsUnderWay t'.phase n k q → BeginsNow m r added t'.phase n k q
   rest_goes w s m t t' happened.Idle added g e under = absurd (subst (λ (z : Phase). IsUnderWay z n k q) e (same_under t t' g.2 under))
   rest_goes w s m t t' happened.Wrote added g e under = absurd (subst (λ (z : Told). IsUnderWay z.phase n k q) g.0.now under)
   rest_goes w s m t t' happened.Begun added g e under =
@@ -198,7 +198,7 @@ module _ (n k : ℕ) (q : Request) where
   left_idle true t e under = under
   left_idle false t e under = subst (λ (z : Type 0). z) e under
 
-  turn_goes : (w : World) (s m : ℕ) (t t' : Told) (f : Phase) (r : Happened) (added : List Record) → TurnLeads w s m t f r added t' → t.phase ≡ f → IsUnderWay t'.phase n k q
+  turn_goes : (w : World) (s m : ℕ) (t t' : Told) (f : Phase) (r : Happened) (added : List Record) → TurnLeads m (record { world = w; session = s; told = t; added = added; now = t' }) f r → t.phase ≡ f → IsUnderWay t'.phase n k q
       → IsUnderWay f n k q ⊎ BeginsNow m r added t'.phase n k q
   turn_goes w s m t t' Resting r added g e under = inr (rest_goes w s m t t' r added g e under)
   turn_goes w s m t t' (UnderWay id c o p moves) happened.Moved added g e under = inl (subst (λ (z : Told). IsUnderWay z.phase n k q) g.2 under)

@@ -133,7 +133,7 @@ one_reply w s moves n k q a b added legal (inr h) (inr g) =
 -- ---- one world after an entry
 
 module _ (w : World) (legal : IsLegal w.records) where
-  one_rest : (s m : ℕ) (t a b : Told) (r : Happened) (added : List Record) → AreBytes t.unread → RestLeads w s m t r added a → RestLeads w s m t r added b → a ≡ b
+  one_rest : (s m : ℕ) (t a b : Told) (r : Happened) (added : List Record) → AreBytes t.unread → RestLeads m (record { world = w; session = s; told = t; added = added; now = a }) r → RestLeads m (record { world = w; session = s; told = t; added = added; now = b }) r → a ≡ b
   one_rest s m t a b happened.Idle added bytes g h = g.2 ∙ sym h.2
   one_rest s m t a b happened.Wrote added bytes g h =
       let x = g.0 in
@@ -171,7 +171,7 @@ module _ (w : World) (legal : IsLegal w.records) where
   one_rest s m t a b happened.Closed added bytes g h = absurd g
   one_rest s m t a b happened.Sent added bytes g h = absurd g
 
-  one_turn : (s m : ℕ) (t a b : Told) (f : Phase) (r : Happened) (added : List Record) → AreBytes t.unread → TurnLeads w s m t f r added a → TurnLeads w s m t f r added b → a ≡ b
+  one_turn : (s m : ℕ) (t a b : Told) (f : Phase) (r : Happened) (added : List Record) → AreBytes t.unread → TurnLeads m (record { world = w; session = s; told = t; added = added; now = a }) f r → TurnLeads m (record { world = w; session = s; told = t; added = added; now = b }) f r → a ≡ b
   one_turn s m t a b Resting r added bytes g h = one_rest s m t a b r added bytes g h
   one_turn s m t a b (UnderWay id n k q moves) happened.Moved added bytes g h = g.2 ∙ sym h.2
   one_turn s m t a b (UnderWay id n k q moves) (happened.Blocked holder) added bytes g h = g.2 ∙ sym h.2
@@ -198,7 +198,7 @@ module _ (w : World) (legal : IsLegal w.records) where
       g.2.3 ∙ ap (λ (z : Told). with_told w s (fed z items.items) [] 0) same ∙ sym h.2.3
   one_after v v' (event.Turn s m) r added bytes g h =
       let same = one_told s h.0 g.0 h.2 g.2 in
-      let g' = subst (λ (z : Told). TurnLeads w s m z z.phase r added g.1) same g.3 in
+      let g' = subst (λ (z : Told). TurnLeads m (record { world = w; session = s; told = z; added = added; now = g.1 }) z.phase r) same g.3 in
       let now = one_turn s m h.0 g.1 h.1 h.0.phase r added (bytes (s - 1) h.0 h.2.1) g' h.3 in
       g.4 ∙ ap (λ (z : Told). with_told w s z added (calls_begun r)) now ∙ sym h.4
   one_after v v' (event.Close s) r added bytes g h =
@@ -235,7 +235,7 @@ module _ (w : World) (s m : ℕ) (t : Told) (bytes : AreBytes t.unread) where
   begun_read : (unread body rest : List ℕ) → unread ≡ t.unread → Begins unread body rest → AreBytes rest
   begun_read unread body rest e b = rest_bytes body rest (All-same (λ c. c < 256) (packet body ++ rest) t.unread (sym b.whole ∙ e) bytes)
 
-  rest_read : (r : Happened) (added : List Record) (t' : Told) → RestLeads w s m t r added t' → AreBytes t'.unread
+  rest_read : (r : Happened) (added : List Record) (t' : Told) → RestLeads m (record { world = w; session = s; told = t; added = added; now = t' }) r → AreBytes t'.unread
   rest_read happened.Idle added t' g = subst (λ (z : Told). AreBytes z.unread) (sym g.2) bytes
   rest_read happened.Wrote added t' g = subst (λ (z : Told). AreBytes z.unread) (sym g.0.now) (begun_read t.unread g.0.body g.0.rest refl g.0.begins)
   rest_read happened.Begun added t' g = subst (λ (z : Told). AreBytes z.unread) (sym g.0.now) (begun_read t.unread g.0.body g.0.rest refl g.0.begins)
@@ -252,7 +252,7 @@ module _ (w : World) (s m : ℕ) (t : Told) (bytes : AreBytes t.unread) where
   left_read true u h = no_bytes
   left_read false u h = h
 
-  turn_read : (f : Phase) (r : Happened) (added : List Record) (t' : Told) → TurnLeads w s m t f r added t' → AreBytes t'.unread
+  turn_read : (f : Phase) (r : Happened) (added : List Record) (t' : Told) → TurnLeads m (record { world = w; session = s; told = t; added = added; now = t' }) f r → AreBytes t'.unread
   turn_read Resting r added t' g = rest_read r added t' g
   turn_read (UnderWay id n k q moves) happened.Moved added t' g = subst (λ (z : Told). AreBytes z.unread) (sym g.2) bytes
   turn_read (UnderWay id n k q moves) (happened.Blocked holder) added t' g = subst (λ (z : Told). AreBytes z.unread) (sym g.2) bytes

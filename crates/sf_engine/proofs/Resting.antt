@@ -65,7 +65,7 @@ moves_leaves v v' s t t' l was now = record {
 -- less than a packet is unread: nothing changes
 pub stays : (w : World) (v v' : CoreView) (s m : ℕ) (t : Told) (x y : SessionView) (p q : Place) (closed : Bool) (added : List Record)
     → SeatAgrees v s t (seat x p closed) → NextGives x next.More y → v' ≡ v → added ≡ [] → q ≡ p
-    → Turned v v' s t 0 (seat y q closed) (λ t'. RestLeads w s m t happened.Idle added t')
+    → Turned v v' s t 0 (seat y q closed) (λ t'. RestLeads m (record { world = w; session = s; told = t; added = added; now = t' }) happened.Idle)
 stays w v v' s m t x y p q closed added h g vis none qis = record {
   told = t;
   lead = (subst (λ (b : List ℕ). IsCut b cut.More) h.unread g.1, none, refl);
@@ -80,7 +80,7 @@ answered_at_once : (w : World) (v : CoreView) (s m : ℕ) (t : Told) (c : Bool) 
     → (body rest : List ℕ) (a : Answered) → Begins x.unread body rest → AsksFor x.begun body (asked_by a) → IsAtOnce w a
     → y ≡ record { unread = rest; output = x.output ++ packet_for a; begun = true; waiting = None; ended = None }
     → added ≡ [] → q ≡ p
-    → Turned v v s (with_phase t Resting) 0 (seat y q c) (λ t'. RestLeads w s m (with_phase t Resting) happened.Wrote added t')
+    → Turned v v s (with_phase t Resting) 0 (seat y q c) (λ t'. RestLeads m (record { world = w; session = s; told = (with_phase t Resting); added = added; now = t' }) happened.Wrote)
 answered_at_once w v s m t c x y p q added h at body rest a begins asks once now none qis =
     let told : Told = record t { unread = rest; bodies = t.bodies ++ body ∷ []; answers = t.answers ++ a ∷ []; phase = Resting } in
     let lane = at.lane in record {
@@ -124,12 +124,12 @@ once_refused w v lane id request core.Stranger drawn idle h = absurd (h idle)
 pub rest_turned : (w : World) (v v' : CoreView) (s m : ℕ) (t : Told) (c : Bool) (x y : SessionView) (p q : Place) (r : Happened) (added : List Record)
     → v.drawn ≡ w.begun → SeatAgrees v s (with_phase t Resting) (seat x p c) → (at : IsResting v s x p)
     → Reads (seated v x at.lane) m r (new_part v' added y q)
-    → Turned v v' s (with_phase t Resting) (calls_begun r) (seat y q c) (λ t'. RestLeads w s m (with_phase t Resting) r added t')
+    → Turned v v' s (with_phase t Resting) (calls_begun r) (seat y q c) (λ t'. RestLeads m (record { world = w; session = s; told = (with_phase t Resting); added = added; now = t' }) r)
 rest_turned w v v' s m t c x y p q happened.Idle added drawn h at g =
     stays w v v' s m (with_phase t Resting) x y p q c added h g.0 g.1 g.2 (g.3 ∙ sym at.place_is)
 rest_turned w v v' s m t c x y p q happened.Wrote added drawn h at g =
     let was = with_phase t Resting in
-    let P : CoreView → Type 0 = λ z. Turned v z s was 0 (seat y q c) (λ t'. RestLeads w s m was happened.Wrote added t') in
+    let P : CoreView → Type 0 = λ z. Turned v z s was 0 (seat y q c) (λ t'. RestLeads m (record { world = w; session = s; told = was; added = added; now = t' }) happened.Wrote) in
     subst P (sym g.1) (elim g.0 [
       | inl k ↦
           let o = k.1 in

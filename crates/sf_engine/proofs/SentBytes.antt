@@ -39,7 +39,7 @@ same_says t t' e = record { sent = ap (λ (z : Told). z.sent) e; says = inl (ap 
 says_nothing : (t t' u : Told) → t' ≡ u → u.sent ≡ t.sent → u.answers ≡ t.answers → MaySay t t'
 says_nothing t t' u e a b = record { sent = ap (λ (z : Told). z.sent) e ∙ a; says = inl (ap (λ (z : Told). z.answers) e ∙ b) }
 
-rest_says : (w : World) (s m : ℕ) (t t' : Told) (r : Happened) (added : List Record) → RestLeads w s m t r added t' → MaySay t t'
+rest_says : (w : World) (s m : ℕ) (t t' : Told) (r : Happened) (added : List Record) → RestLeads m (record { world = w; session = s; told = t; added = added; now = t' }) r → MaySay t t'
 rest_says w s m t t' happened.Idle added g = same_says t t' g.2
 rest_says w s m t t' happened.Wrote added g = record { sent = ap (λ (z : Told). z.sent) g.0.now; says = inr (g.0.answer, ap (λ (z : Told). z.answers) g.0.now) }
 rest_says w s m t t' happened.Begun added g = record { sent = ap (λ (z : Told). z.sent) g.0.now; says = inl (ap (λ (z : Told). z.answers) g.0.now) }
@@ -56,7 +56,7 @@ left_says : (closed : Bool) (t u : Told) → MaySay t u → MaySay t (left_if_cl
 left_says false t u h = h
 left_says true t u h = record { sent = h.sent; says = h.says }
 
-turn_says : (w : World) (s m : ℕ) (t t' : Told) (f : Phase) (r : Happened) (added : List Record) → TurnLeads w s m t f r added t' → MaySay t t'
+turn_says : (w : World) (s m : ℕ) (t t' : Told) (f : Phase) (r : Happened) (added : List Record) → TurnLeads m (record { world = w; session = s; told = t; added = added; now = t' }) f r → MaySay t t'
 turn_says w s m t t' Resting r added g = rest_says w s m t t' r added g
 turn_says w s m t t' (UnderWay id n k q moves) happened.Moved added g = record { sent = ap (λ (z : Told). z.sent) g.2; says = inl (ap (λ (z : Told). z.answers) g.2) }
 turn_says w s m t t' (UnderWay id n k q moves) (happened.Blocked holder) added g = same_says t t' g.2

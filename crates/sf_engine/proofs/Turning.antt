@@ -35,7 +35,7 @@ engine v seats = record { core = v; seats = seats }
 phase_turned : (w : World) (v v' : CoreView) (seats : List Seat) (s m : ℕ) (t : Told) (c : Bool) (f : Phase) (x y : SessionView) (p q : Place) (r : Happened) (h added : List Record)
     → Agrees w (engine v seats) → h ≡ w.records → SeatAgrees v s (with_phase t f) (seat x p c)
     → PlaceGives (part v h x c) p m r (new_part v' added y q)
-    → Turned v v' s (with_phase t f) (calls_begun r) (seat y q c) (λ t'. TurnLeads w s m (with_phase t f) f r added t')
+    → Turned v v' s (with_phase t f) (calls_begun r) (seat y q c) (λ t'. TurnLeads m (record { world = w; session = s; told = (with_phase t f); added = added; now = t' }) f r)
 phase_turned w v v' seats s m t c Resting x y p q r h added agrees hist old g =
     let at : IsResting v s x p = old.at in
     rest_turned w v v' s m t c x y p q r added agrees.begun old at (subst (λ (z : Place). PlaceGives (part v h x c) z m r (new_part v' added y q)) at.place_is g)
@@ -43,7 +43,7 @@ phase_turned w v v' seats s m t c (UnderWay id n k request moves) x y p q r h ad
     let at : IsGoing v s x id n k request moves p = old.at in
     let g' = subst (λ (z : Place). PlaceGives (part v h x c) z m r (new_part v' added y q)) at.place_is g in
     let was = with_phase t (UnderWay id n k request moves) in
-    let P : SessionView → Type 0 = λ z. Turned v v' s was (calls_begun r) (seat z q c) (λ t'. TurnLeads w s m was (UnderWay id n k request moves) r added t') in
+    let P : SessionView → Type 0 = λ z. Turned v v' s was (calls_begun r) (seat z q c) (λ t'. TurnLeads m (record { world = w; session = s; told = was; added = added; now = t' }) (UnderWay id n k request moves) r) in
     subst P (sym g'.1) (step_turned w v v' seats s was c x p q id n k request moves r h added agrees hist old at g'.0.0 g'.0.1)
 phase_turned w v v' seats s m t c (Decided id n request given) x y p q r h added agrees hist old g =
     let at : IsAnswered v s x id given p = old.at in
@@ -51,13 +51,13 @@ phase_turned w v v' seats s m t c (Decided id n request given) x y p q r h added
     let old' : SeatAgrees v s was (seat x p t.closed) = subst (λ (b : Bool). SeatAgrees v s was (seat x p b)) old.closed old in
     let g' = subst (λ (b : Bool). PlaceGives (part v h x b) (place.Answered at.lane at.answer) m r (new_part v' added y q)) old.closed (subst (λ (z : Place). PlaceGives (part v h x c) z m r (new_part v' added y q)) at.place_is g) in
     let o = write_turned w v v' s m was was.closed x y p q id n request given r added old' at g'.0 g'.1 in
-    let P : Bool → Type 0 = λ b. Turned v v' s was (calls_begun r) (seat y q b) (λ t'. TurnLeads w s m was (Decided id n request given) r added t') in
-    let Q : ℕ → Type 0 = λ k. Turned v v' s was k (seat y q t.closed) (λ t'. TurnLeads w s m was (Decided id n request given) r added t') in
+    let P : Bool → Type 0 = λ b. Turned v v' s was (calls_begun r) (seat y q b) (λ t'. TurnLeads m (record { world = w; session = s; told = was; added = added; now = t' }) (Decided id n request given) r) in
+    let Q : ℕ → Type 0 = λ k. Turned v v' s was k (seat y q t.closed) (λ t'. TurnLeads m (record { world = w; session = s; told = was; added = added; now = t' }) (Decided id n request given) r) in
     subst P (sym old.closed) (subst Q (ap calls_begun (sym g'.0)) o)
 phase_turned w v v' seats s m t c (Gone cause) x y p q r h added agrees hist old g =
     let g' = subst (λ (z : Place). PlaceGives (part v h x c) z m r (new_part v' added y q)) old.at.0 g in
     let was = with_phase t (Gone cause) in
-    let Q : ℕ → Type 0 = λ k. Turned v v' s was k (seat y q c) (λ t'. TurnLeads w s m was (Gone cause) r added t') in
+    let Q : ℕ → Type 0 = λ k. Turned v v' s was k (seat y q c) (λ t'. TurnLeads m (record { world = w; session = s; told = was; added = added; now = t' }) (Gone cause) r) in
     subst Q (ap calls_begun (sym g'.0)) (gone_turned w v v' s m was x y p q c cause r added old old.at.0 g'.0 g'.1 g'.2 g'.3 g'.4)
 
 -- what is told of a seat's session
@@ -75,7 +75,7 @@ turn_steps v v' seats at m p q r was gives w agrees =
     let t = told_at w v seats at p agrees was in
     let g = gives w.records agrees.history in
     let does = turn_works (part v w.records p.session p.closed) p.place (at + 1) m t.0.phase r (new_part v' g.0 q.session q.place) t.3.at g.2.0 in
-    let T : Seat → Type 0 = λ z. Turned v v' (at + 1) t.0 (calls_begun r) z (λ t'. TurnLeads w (at + 1) m t.0 t.0.phase r g.0 t') in
+    let T : Seat → Type 0 = λ z. Turned v v' (at + 1) t.0 (calls_begun r) z (λ t'. TurnLeads m (record { world = w; session = (at + 1); told = t.0; added = g.0; now = t' }) t.0.phase r) in
     let same : seat q.session q.place p.closed ≡ q = ap (λ (b : Bool). seat q.session q.place b) (sym g.2.1) in
     let o : T q = subst T same (phase_turned w v v' seats (at + 1) m t.0 p.closed t.0.phase p.session q.session p.place q.place r w.records g.0 agrees refl t.3 g.2.0) in
     record {

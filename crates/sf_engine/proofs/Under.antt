@@ -104,7 +104,7 @@ decided_now : (w : World) (v v' : CoreView) (s : ℕ) (t : Told) (c : Bool) (x :
     → slot_of v' s ≡ Idle → q ≡ place.Answered (at_rest at.lane) a
     → Decides w s moves (Did n s m request a.reply) added
     → Turned v v' s (with_phase t (UnderWay id n m request moves)) 0 (seat x q c)
-    (λ t'. StepLeads w s (with_phase t (UnderWay id n m request moves)) id n m request moves happened.Decided added t')
+    (λ t'. StepLeads (record { world = w; session = s; told = (with_phase t (UnderWay id n m request moves)); added = added; now = t' }) (record { id = id; number = n; moment = m; request = request; moves = moves }) happened.Decided)
 decided_now w v v' s t c x p q id n m request moves a added h at moved idle qis decides = record {
   told = with_phase t (Decided id n request a.reply);
   lead = (a.reply, decides, refl);
@@ -128,7 +128,7 @@ pub step_turned : (w : World) (v v' : CoreView) (seats : List Seat) (s : ℕ) (t
     → SeatAgrees v s (with_phase t (UnderWay id n m request moves)) (seat x p c) → (at : IsGoing v s x id n m request moves p)
     → (lane' : LaneView) → GoesOn (before v h at.lane) r (after v' added lane') q
     → Turned v v' s (with_phase t (UnderWay id n m request moves)) (calls_begun r) (seat x q c)
-    (λ t'. StepLeads w s (with_phase t (UnderWay id n m request moves)) id n m request moves r added t')
+    (λ t'. StepLeads (record { world = w; session = s; told = (with_phase t (UnderWay id n m request moves)); added = added; now = t' }) (record { id = id; number = n; moment = m; request = request; moves = moves }) r)
 step_turned w v v' seats s t c x p q id n m request moves happened.Moved h added agrees hist old at lane' g =
     let go = g.0.2 in
     let a = g.0.0 in

@@ -35,6 +35,21 @@ fn byte_strings(rt: HostRuntime) -> Result<(), Fail> {
 }
 
 #[test]
+fn parts_of_byte_strings(rt: HostRuntime) -> Result<(), Fail> {
+    let mut bytes = ByteString::from_slice(rt.alloc(), b"abcdef")?;
+    let part = bytes.part(1, 4)?;
+    assert_eq!(rt; part.as_slice(), b"bcd".as_slice());
+    assert_eq!(rt; bytes.part(0, 6)?, bytes);
+    assert!(rt; bytes.part(6, 6)?.is_empty());
+    bytes.truncate(9);
+    assert_eq!(rt; bytes.as_slice(), b"abcdef".as_slice());
+    bytes.truncate(2);
+    assert_eq!(rt; bytes.as_slice(), b"ab".as_slice());
+    assert_eq!(rt; part.as_slice(), b"bcd".as_slice());
+    Ok(())
+}
+
+#[test]
 fn single_fields(rt: HostRuntime) -> Result<(), Fail> {
     let alloc = rt.alloc();
     let mut out = BytesMut::new(alloc);

@@ -11,17 +11,12 @@ use Rattle.sf_call.specs.declared.metadata.Metadata.{Metadata}
 use Rattle.sf_call.specs.Attributes.{Object}
 use Rattle.sf_call.specs.Attributes.Object.{Directory, File}
 use Rattle.sf_call.specs.Tree.{is_nil}
-use Rattle.sf_block.specs.Contents.{Stored}
 use Rattle.sf_inode.specs.declared.node.Node.{Node}
 use Rattle.sf_inode.specs.declared.node.NewNode.{NewNode}
 use Rattle.sf_inode.specs.declared.node.Content.{Content}
 use Rattle.sf_inode.specs.declared.node.Content.TheVariants as content
 
 -- ---- what a node has
--- a file's bytes and their room before any are written
-abbrev pub nothing_stored : Stored
-nothing_stored = record { bytes = []; room = 0 }
-
 -- A directory's entries are the list of its names with the nodes that they lead to, in the order of the names and each once.
 -- A file has none.
 abbrev pub entries_in : Content → List (Name × ℕ)
@@ -45,14 +40,14 @@ abbrev pub is_bare_content : Content → Bool
 is_bare_content (content.Directory entries) = is_nil entries
 is_bare_content (content.File contents) = true
 
--- a file's bytes and their room; a directory has none
-abbrev pub stored_in : Content → Stored
-stored_in (content.Directory entries) = nothing_stored
-stored_in (content.File contents) = contents
+-- a file's bytes; a directory has none
+abbrev pub bytes_in : Content → List ℕ
+bytes_in (content.Directory entries) = []
+bytes_in (content.File contents) = contents
 
 abbrev pub object_in : Metadata → Content → Object
 object_in m (content.Directory entries) = Directory m
-object_in m (content.File contents) = File m contents.bytes
+object_in m (content.File contents) = File m contents
 
 -- no name and no handle leads to it
 abbrev pub is_unused : Node → Bool
@@ -65,7 +60,7 @@ entries_past last entries = filter (λ e. is_past last e.0) entries
 -- ---- new nodes
 abbrev pub new_content : FileType → Content
 new_content file_type.Directory = content.Directory []
-new_content file_type.File = content.File nothing_stored
+new_content file_type.File = content.File []
 
 -- a node with one name, which nothing holds and no handle opens
 abbrev pub new_node : NewNode → Node
@@ -83,9 +78,9 @@ less_content n (content.Directory entries) = content.Directory (remove_entry (sa
 less_content n (content.File contents) = content.File contents
 
 -- ---- changes of a file's bytes; a directory stays
-abbrev pub with_stored : Stored → Content → Content
-with_stored new (content.Directory entries) = content.Directory entries
-with_stored new (content.File contents) = content.File new
+abbrev pub with_bytes : List ℕ → Content → Content
+with_bytes new (content.Directory entries) = content.Directory entries
+with_bytes new (content.File contents) = content.File new
 
 -- ---- changes of a node
 abbrev pub with_content : (Content → Content) → Node → Node

@@ -7,12 +7,11 @@ use Rattle.std.specs.BTreeMap.{is_at, insert_entry}
 use Rattle.sf_path.specs.Names.{Name}
 use Rattle.sf_call.specs.declared.handle.Handle.{Handle}
 use Rattle.sf_call.specs.Attributes.{Object, made_at}
-use Rattle.sf_block.specs.Contents.{Stored}
 use Rattle.sf_inode.specs.declared.node.Node.{Node}
 use Rattle.sf_inode.specs.declared.node.Content.TheVariants as content
 use Rattle.sf_inode.specs.declared.handle.OpenHandle.{OpenHandle}
 use Rattle.sf_inode.specs.declared.handle.Marks.{Marks}
-use Rattle.sf_inode.specs.Nodes.{entry_in, entries_in, object_in, is_directory_content, is_bare_content, nothing_stored, less_content, more_content, stored_in, is_file_content, with_stored, with_content, without_name, with_opened, is_unused}
+use Rattle.sf_inode.specs.Nodes.{entry_in, entries_in, object_in, is_directory_content, is_bare_content, less_content, more_content, bytes_in, is_file_content, with_bytes, with_content, without_name, with_opened, is_unused}
 
 -- a node or nothing at each number from 0 on, each session's handles by their numbers, and how many look-ups were made
 pub record StoreState : Type 0 where
@@ -87,22 +86,30 @@ unlinked_from s dir n (Some id) = forgotten (entry_taken s dir n) id
 abbrev pub unlinked : StoreState → ℕ → Name → StoreState
 unlinked s dir n = unlinked_from s dir n (entry_of s.nodes dir n)
 
--- An entry is moved: to a new name, or to one that leads to another node, which goes if nothing else leads to it.
-abbrev pub moved_entry : StoreState → ℕ → Name → ℕ → Name → ℕ → StoreState
-moved_entry s old_dir old_name new_dir new_name id = entry_taken (entry_put s new_dir new_name id) old_dir old_name
+-- Where an entry stands: a directory, and a name.
+pub record Spot : Type 0 where
+  pub dir : ℕ
+  pub name : Name
 
-abbrev pub relinked_from : StoreState → ℕ → Name → ℕ → Name → Option ℕ → Option ℕ → StoreState
-relinked_from s old_dir old_name new_dir new_name None target = s
-relinked_from s old_dir old_name new_dir new_name (Some id) None = moved_entry s old_dir old_name new_dir new_name id
-relinked_from s old_dir old_name new_dir new_name (Some id) (Some target) = forgotten (moved_entry s old_dir old_name new_dir new_name id) target
+abbrev pub spot : ℕ → Name → Spot
+spot dir name = record { dir = dir; name = name }
+
+-- An entry is moved: to a new name, or to one that leads to another node, which goes if nothing else leads to it.
+abbrev pub moved_entry : StoreState → Spot → Spot → ℕ → StoreState
+moved_entry s old new id = entry_taken (entry_put s new.dir new.name id) old.dir old.name
+
+abbrev pub relinked_from : StoreState → Spot → Spot → Option ℕ → Option ℕ → StoreState
+relinked_from s old new None target = s
+relinked_from s old new (Some id) None = moved_entry s old new id
+relinked_from s old new (Some id) (Some target) = forgotten (moved_entry s old new id) target
 
 abbrev pub relinked : StoreState → ℕ → Name → ℕ → Name → StoreState
 relinked s old_dir old_name new_dir new_name =
-    relinked_from s old_dir old_name new_dir new_name (entry_of s.nodes old_dir old_name) (entry_of s.nodes new_dir new_name)
+    relinked_from s (spot old_dir old_name) (spot new_dir new_name) (entry_of s.nodes old_dir old_name) (entry_of s.nodes new_dir new_name)
 
--- a node's bytes, if it is a file, and their room
-abbrev pub stored_of : List (Option Node) → ℕ → Stored
-stored_of nodes id = option_map_or (λ node. stored_in node.content) (node_in nodes id) nothing_stored
+-- a node's bytes, if it is a file
+abbrev pub bytes_of : List (Option Node) → ℕ → List ℕ
+bytes_of nodes id = option_map_or (λ node. bytes_in node.content) (node_in nodes id) []
 
 -- a directory's entries, in the order of their names; a file has none
 abbrev pub entries_at : List (Option Node) → ℕ → List (Name × ℕ)
@@ -113,7 +120,7 @@ is_file_at nodes id = option_map_or (λ node. is_file_content node.content) (nod
 
 -- a file's size; a directory has none
 abbrev pub file_size : List (Option Node) → ℕ → Option ℕ
-file_size nodes id = if is_file_at nodes id then Some (length (stored_of nodes id).bytes) else None
+file_size nodes id = if is_file_at nodes id then Some (length (bytes_of nodes id)) else None
 
 abbrev pub is_directory_at : List (Option Node) → ℕ → Bool
 is_directory_at nodes id = option_map_or (λ node. is_directory_content node.content) (node_in nodes id) false
@@ -123,8 +130,8 @@ abbrev pub is_bare_at : List (Option Node) → ℕ → Bool
 is_bare_at nodes id = option_map_or (λ node. is_bare_content node.content) (node_in nodes id) false
 
 -- with other bytes of a file and other room
-abbrev pub stored_set : StoreState → ℕ → Stored → StoreState
-stored_set s id new = edited (with_content (with_stored new)) s id
+abbrev pub bytes_set : StoreState → ℕ → List ℕ → StoreState
+bytes_set s id new = edited (with_content (with_bytes new)) s id
 
 -- ---- handles
 abbrev pub with_sessions : StoreState → List (ℕ × List (ℕ × OpenHandle)) → StoreState
@@ -141,14 +148,16 @@ handles_put s session number h (Some handles) = with_sessions s (set_value (is_a
 abbrev pub handle_put : StoreState → ℕ → ℕ → OpenHandle → StoreState
 handle_put s session number h = handles_put s session number h (handles_of s session)
 
-abbrev pub opened_at : StoreState → ℕ → ℕ → ℕ → Marks → Option Node → StoreState
-opened_at s session number id marks None = s
-opened_at s session number id marks (Some node) =
-    edited (λ it. with_opened (min (it.opens + 1) (2 ^ 64 - 1)) it) (handle_put s session number (record { node = id; label = node.label; marks = marks; listed = None })) id
+-- a new handle of a node, with no name listed yet
+abbrev pub new_handle : ℕ → Marks → Node → OpenHandle
+new_handle id marks node = record { node = id; label = node.label; marks = marks; listed = None }
+
+abbrev pub opened_by : StoreState → ℕ → ℕ → OpenHandle → StoreState
+opened_by s session number h = edited (λ it. with_opened (min (it.opens + 1) (2 ^ 64 - 1)) it) (handle_put s session number h) h.node
 
 -- a handle opens a node, if it is there
 abbrev pub opened : StoreState → ℕ → ℕ → ℕ → Marks → StoreState
-opened s session number id marks = opened_at s session number id marks (node_in s.nodes id)
+opened s session number id marks = option_map_or (λ node. opened_by s session number (new_handle id marks node)) (node_in s.nodes id) s
 
 -- with the last name that a listing gave
 abbrev pub with_last : Name → OpenHandle → OpenHandle

@@ -1,17 +1,17 @@
 //! A file, or a directory with its entries.
 
-ghost use Rattle.std.specs.Prelude.{◌≡◌, ◌+◌, ◌<◌, ◌^◌, [], Some, None, true, false, length, take, IfSome, IfNone, IsOk, IfOk, OnOk, OnErr};
+ghost use Rattle.std.specs.Prelude.{◌≡◌, ◌+◌, ◌<◌, ◌≤◌, ◌^◌, [], Some, None, true, false, length, take, IfSome, IfNone, IsOk, IfOk, OnOk, OnErr};
 ghost use Rattle.std.specs.Option.{option_copied};
 ghost use Rattle.sf_field.specs.declared.attrs.Attrs.{Attrs};
 ghost use Rattle.sf_call.specs.Attributes.{attrs_of, with_parts, modified_at};
-ghost use Rattle.sf_inode.specs.Nodes.{entry_in, entries_in, entries_past, is_directory_content, is_file_content, is_bare_content, object_in, new_node, with_content, with_metadata, less_content, more_content, stored_in, with_stored, is_unused};
-ghost use Rattle.sf_block.specs.Contents.{resized, written, HasRoom, with_room};
+ghost use Rattle.sf_inode.specs.Nodes.{entry_in, entries_in, entries_past, is_directory_content, is_file_content, is_bare_content, object_in, new_node, with_content, with_metadata, less_content, more_content, bytes_in, with_bytes, is_unused};
+ghost use Rattle.sf_block.specs.Contents.{resized, written};
 
 use crate::NodeId;
 use crate::entries::Entries;
 use sf_block::Contents;
 use sf_call::{FileType, Metadata};
-use sf_field::Attrs;
+use sf_field::{Attrs, ByteString};
 use sf_path::Name;
 use std::alloc::{AllocError, Global};
 
@@ -153,7 +153,7 @@ impl Node {
     /// The bytes, if it is a file.
     pub(crate) fn file(&self) -> Option<&Contents>
         ensures some { IfSome result (λ file. (is_file_content self.now.content ≡ true)
-            × (file.now ≡ stored_in self.now.content)) }
+            × (file.now ≡ bytes_in self.now.content)) }
         ensures none { IfNone result (is_file_content self.now.content ≡ false) }
     {
         match &self.content {
@@ -162,40 +162,34 @@ impl Node {
         }
     }
 
-    /// Gets memory for `n` bytes from an offset on. A refused growth changes nothing.
-    pub(crate) fn reserve_for(&mut self, offset: u64, n: usize) -> Result<(), AllocError>
-        requires { offset + n < 2 ^ 64 }
+    /// Replaces bytes from an offset on; a gap before them is filled with zeros.
+    pub(crate) fn write(
+        &mut self,
+        alloc: Global,
+        offset: u64,
+        bytes: &ByteString,
+    ) -> Result<(), AllocError>
+        requires { offset + length bytes.now < 2 ^ 64 }
         ensures ok { OnOk result (self.new
-            ≡ with_content (with_stored (with_room (stored_in self.old.content) offset n)) self.old) }
+            ≡ with_content (with_bytes (written (bytes_in self.old.content) offset bytes.now)) self.old) }
         ensures err { OnErr result (self.new ≡ self.old) }
     {
         match &mut self.content {
             Content::Directory(_) => Ok(()),
-            Content::File(contents) => contents.reserve_for(offset, n),
-        }
-    }
-
-    /// Replaces bytes from an offset on, in reserved room; a gap before them is filled with zeros.
-    pub(crate) fn write(&mut self, offset: u64, bytes: &[u8])
-        requires { HasRoom (stored_in self.old.content) offset (length bytes.now) }
-        ensures { self.new
-            ≡ with_content (with_stored (record (stored_in self.old.content) { bytes = written (stored_in self.old.content).bytes offset bytes.now })) self.old }
-    {
-        if let Content::File(contents) = &mut self.content {
-            contents.write(offset, bytes);
+            Content::File(contents) => contents.write(alloc, offset, bytes),
         }
     }
 
     /// Cuts the bytes at a size, or fills them up to it with zeros.
-    pub(crate) fn set_len(&mut self, n: u64) -> Result<(), AllocError>
+    pub(crate) fn set_len(&mut self, alloc: Global, n: u64) -> Result<(), AllocError>
         ensures ok { OnOk result (self.new
-            ≡ with_content (with_stored (record (with_room (stored_in self.old.content) n 0) { bytes = resized (stored_in self.old.content).bytes n })) self.old) }
-        ensures enough { HasRoom (stored_in self.old.content) n 0 → IsOk result }
+            ≡ with_content (with_bytes (resized (bytes_in self.old.content) n)) self.old) }
+        ensures enough { n ≤ length (bytes_in self.old.content) → IsOk result }
         ensures err { OnErr result (self.new ≡ self.old) }
     {
         match &mut self.content {
             Content::Directory(_) => Ok(()),
-            Content::File(contents) => contents.set_len(n),
+            Content::File(contents) => contents.set_len(alloc, n),
         }
     }
 

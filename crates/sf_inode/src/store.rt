@@ -1,13 +1,13 @@
 //! The nodes, and what is open.
 
-ghost use Rattle.std.specs.Prelude.{◌≡◌, ℕ, ◌+◌, ◌<◌, ◌^◌, [], true, false, length, take, Some, None, IfSome, IfNone, IsOk, IfOk, OnOk, OnErr, option_map};
+ghost use Rattle.std.specs.Prelude.{◌≡◌, ◌≤◌, ℕ, ◌+◌, ◌<◌, ◌^◌, [], true, false, length, take, Some, None, IfSome, IfNone, IsOk, IfOk, OnOk, OnErr, option_map};
 ghost use Rattle.std.specs.Option.{option_map_or};
 ghost use Rattle.std.specs.declared.alloc.Global.{Global};
 ghost use Rattle.sf_call.specs.Attributes.{attrs_of, with_parts, modified_at};
 ghost use Rattle.sf_inode.specs.Nodes.{new_node, object_in, with_metadata, with_holder, entries_past};
-ghost use Rattle.sf_inode.specs.Stores.{IsFirst, Inserted, with_nodes, node_in, entry_of, holder_of, looked_up, edited, entry_taken, entry_put, released, forgotten, let_go, unlinked, relinked, stored_of, is_file_at, file_size, is_directory_at, is_bare_at, stored_set, opened, handle_put, handle_at, handles_of, handle_dropped, handle_listed, entries_at, closed, each_let_go, closed_all};
+ghost use Rattle.sf_inode.specs.Stores.{IsFirst, Inserted, with_nodes, node_in, entry_of, holder_of, looked_up, edited, entry_taken, entry_put, released, forgotten, let_go, unlinked, relinked, bytes_of, is_file_at, file_size, is_directory_at, is_bare_at, bytes_set, opened, handle_put, handle_at, handles_of, handle_dropped, handle_listed, entries_at, closed, each_let_go, closed_all};
 ghost use Rattle.std.specs.Option.{option_copied};
-ghost use Rattle.sf_block.specs.Contents.{resized, written, HasRoom, with_room};
+ghost use Rattle.sf_block.specs.Contents.{resized, written};
 
 use crate::NodeId;
 use crate::entries::Entries;
@@ -15,7 +15,7 @@ use crate::handle::{Marks, OpenHandle, SessionHandles};
 use crate::node::{Content, NewNode, Node};
 use sf_block::Contents;
 use sf_call::Metadata;
-use sf_field::{Attrs, Owner, Times};
+use sf_field::{Attrs, ByteString, Owner, Times};
 use sf_path::Name;
 use slab::Slab;
 use std::alloc::{AllocError, Global};
@@ -314,7 +314,7 @@ impl Store {
     /// The bytes of a file. A directory has none.
     pub fn file(&self, node: NodeId) -> Option<&Contents>
         ensures some { IfSome result (λ file. (is_file_at self.now.nodes node ≡ true)
-            × (file.now ≡ stored_of self.now.nodes node)) }
+            × (file.now ≡ bytes_of self.now.nodes node)) }
         ensures none { IfNone result (is_file_at self.now.nodes node ≡ false) }
     {
         self.nodes.get(node)?.file()
@@ -327,40 +327,28 @@ impl Store {
         Some(self.file(node)?.len())
     }
 
-    /// Gets memory for `n` bytes of a file from an offset on, and for all before them.
-    pub fn reserve_for(&mut self, node: NodeId, offset: u64, n: usize) -> Result<(), AllocError>
-        requires { offset + n < 2 ^ 64 }
+    /// Replaces a file's bytes from an offset on; a gap before them is filled with zeros.
+    pub fn write(&mut self, node: NodeId, offset: u64, bytes: &ByteString) -> Result<(), AllocError>
+        requires { offset + length bytes.now < 2 ^ 64 }
         ensures ok { OnOk result (self.new
-            ≡ stored_set self.old node (with_room (stored_of self.old.nodes node) offset n)) }
+            ≡ bytes_set self.old node (written (bytes_of self.old.nodes node) offset bytes.now)) }
         ensures err { OnErr result (self.new ≡ self.old) }
     {
         match self.nodes.get_mut(node) {
-            Some(it) => it.reserve_for(offset, n),
+            Some(it) => it.write(self.alloc, offset, bytes),
             None => Ok(()),
-        }
-    }
-
-    /// Replaces a file's bytes from an offset on, where room was reserved; a gap before them is filled
-    /// with zeros.
-    pub fn write(&mut self, node: NodeId, offset: u64, bytes: &[u8])
-        requires { HasRoom (stored_of self.old.nodes node) offset (length bytes.now) }
-        ensures { self.new
-            ≡ stored_set self.old node (record (stored_of self.old.nodes node) { bytes = written (stored_of self.old.nodes node).bytes offset bytes.now }) }
-    {
-        if let Some(it) = self.nodes.get_mut(node) {
-            it.write(offset, bytes);
         }
     }
 
     /// Cuts a file's bytes at a size, or fills them up to it with zeros.
     pub fn set_len(&mut self, node: NodeId, n: u64) -> Result<(), AllocError>
         ensures ok { OnOk result (self.new
-            ≡ stored_set self.old node (record (with_room (stored_of self.old.nodes node) n 0) { bytes = resized (stored_of self.old.nodes node).bytes n })) }
-        ensures enough { HasRoom (stored_of self.old.nodes node) n 0 → IsOk result }
+            ≡ bytes_set self.old node (resized (bytes_of self.old.nodes node) n)) }
+        ensures enough { n ≤ length (bytes_of self.old.nodes node) → IsOk result }
         ensures err { OnErr result (self.new ≡ self.old) }
     {
         match self.nodes.get_mut(node) {
-            Some(it) => it.set_len(n),
+            Some(it) => it.set_len(self.alloc, n),
             None => Ok(()),
         }
     }

@@ -1,7 +1,7 @@
 //! Each call of a store with ample memory, with what POSIX says of its like.
 
 use sf_call::{FileType, Metadata};
-use sf_field::{NO_ATTRS, Owner, Times};
+use sf_field::{ByteString, NO_ATTRS, Owner, Times};
 use sf_inode::{Marks, NewNode, NodeId, Store};
 use sf_path::{Name, Path};
 use std::alloc::Global;
@@ -35,7 +35,7 @@ fn marks(read: bool) -> Marks {
 }
 
 /// The first four bytes of a file, or all where it has fewer.
-fn front(rt: &HostRuntime, store: &Store, node: NodeId) -> Result<Vec<u8>, Fail> {
+fn front(rt: &HostRuntime, store: &Store, node: NodeId) -> Result<ByteString, Fail> {
     let file = store.file(node).ok_or("no file")?;
     Ok(file.read(rt.alloc(), 0, 4)?)
 }
@@ -130,8 +130,7 @@ fn written_bytes_are_read(rt: HostRuntime) -> Result<(), Fail> {
         metadata,
     };
     let a = store.insert(root, name(alloc, b"/a")?, new)?;
-    store.reserve_for(a, 1, 2)?;
-    store.write(a, 1, b"xy");
+    store.write(a, 1, &ByteString::from_slice(alloc, b"xy")?)?;
     assert_eq!(rt; front(&rt, &store, a)?.as_slice(), b"\0xy".as_slice());
     assert!(rt; store.file(root).is_none());
     store.set_len(a, 2)?;

@@ -8,8 +8,7 @@ use Rattle.sf_path.specs.Order.{same_name, name_cmp, name_total}
 use Rattle.sf_inode.specs.declared.node.Node.{Node}
 use Rattle.sf_inode.specs.declared.node.Content.{Content}
 use Rattle.sf_inode.specs.declared.node.Content.TheVariants as content
-use Rattle.sf_inode.specs.Nodes.{entries_in, less_content, more_content, with_stored}
-use Rattle.sf_block.specs.Contents.{Stored}
+use Rattle.sf_inode.specs.Nodes.{entries_in, less_content, more_content, with_bytes}
 use Rattle.sf_inode.specs.Stores.{node_in, entries_at}
 use Rattle.sf_keeps.proofs.Orderly.{sorted_put, sorted_removed}
 
@@ -41,6 +40,6 @@ pub more_in_order : (n : Name) (id : ℕ) (c : Content) → IsInOrder c → IsIn
 more_in_order n id (content.Directory es) h = sorted_put name_cmp name_total es n id h
 more_in_order n id (content.File contents) h = h
 
-pub stored_in_order : (new : Stored) (c : Content) → IsInOrder c → IsInOrder (with_stored new c)
+pub stored_in_order : (new : List ℕ) (c : Content) → IsInOrder c → IsInOrder (with_bytes new c)
 stored_in_order new (content.Directory es) h = h
 stored_in_order new (content.File contents) h = h

@@ -3,7 +3,6 @@ use Rattle.std.specs.Prelude.{◌≡◌, ℕ, nat_eq, true, false, cond, List, i
 use Rattle.std.specs.Option.{option_map_or}
 use Rattle.std.proofs.Common.{sym, ap, subst, ◌∙◌, eqb-true}
 use Rattle.sf_path.specs.Names.{Name}
-use Rattle.sf_block.specs.Contents.{Stored, with_room}
 use Rattle.sf_call.specs.declared.metadata.Metadata.{Metadata}
 use Rattle.sf_call.specs.Attributes.{Object}
 use Rattle.sf_call.specs.Attributes.Object.{File}
@@ -13,9 +12,9 @@ use Rattle.sf_call.specs.Changes.Change.{SetObject}
 use Rattle.sf_inode.specs.declared.node.Node.{Node}
 use Rattle.sf_inode.specs.declared.node.Content.{Content}
 use Rattle.sf_inode.specs.declared.node.Content.TheVariants as content
-use Rattle.sf_inode.specs.Nodes.{entry_in, object_in, nothing_stored, stored_in, is_file_content, with_content, with_metadata, with_stored, with_holder}
+use Rattle.sf_inode.specs.Nodes.{entry_in, object_in, is_file_content, with_content, with_metadata, with_bytes, with_holder}
 use Rattle.sf_keeps.specs.Shows.{View, Shows}
-use Rattle.sf_inode.specs.Stores.{StoreState, node_in, entry_of, shown_node, edited, edited_by, with_nodes, looked_up, stored_of, is_file_at, stored_set}
+use Rattle.sf_inode.specs.Stores.{StoreState, node_in, entry_of, shown_node, edited, edited_by, with_nodes, looked_up, is_file_at, bytes_set}
 use Rattle.sf_keeps.specs.Keeps.{view_of, Keeps}
 use Rattle.sf_keeps.proofs.StoreLaws.{node_in-edited, entry_same, shows_edited, view_unseen, kind_metadata}
 use Rattle.sf_keeps.proofs.StoreBytes.{entry_stored, kind_stored}
@@ -58,29 +57,24 @@ pub keeps_metadata : (f : Metadata → Metadata) (s : StoreState) (t : Tree) (id
 keeps_metadata f s t id node k here = keeps_edited (with_metadata f) s t id node k here (λ m. refl) refl (node_in_order s.nodes id node k.entries here) (kind_metadata node.metadata (f node.metadata) node.content)
 
 -- a file at a number is a node
-file_there : (nodes : List (Option Node)) (id : ℕ) (node : Node) → node_in nodes id ≡ Some node → is_file_at nodes id ≡ true → (contents : Stored) × (node.content ≡ content.File contents)
+file_there : (nodes : List (Option Node)) (id : ℕ) (node : Node) → node_in nodes id ≡ Some node → is_file_at nodes id ≡ true → (contents : List ℕ) × (node.content ≡ content.File contents)
 file_there nodes id node here file =
     let is : is_file_content node.content ≡ true = sym (ap (λ (o : Option Node). option_map_or (λ (it : Node). is_file_content it.content) o false) here) ∙ file in
-    elim node.content as (λ c. is_file_content c ≡ true → (contents : Stored) × (c ≡ content.File contents)) [
+    elim node.content as (λ c. is_file_content c ≡ true → (contents : List ℕ) × (c ≡ content.File contents)) [
       | content.Directory es ↦ λ e. absurd (cc)
       | content.File contents ↦ λ e. (contents, refl)
     ] is
 
 -- other bytes of a file
-pub keeps_bytes : (new : Stored) (s : StoreState) (t : Tree) (id : ℕ) (node : Node) → Keeps s t → node_in s.nodes id ≡ Some node → is_file_at s.nodes id ≡ true
-    → Keeps (stored_set s id new) (changed t (SetObject node.label (File node.metadata new.bytes)))
+pub keeps_bytes : (new : List ℕ) (s : StoreState) (t : Tree) (id : ℕ) (node : Node) → Keeps s t → node_in s.nodes id ≡ Some node → is_file_at s.nodes id ≡ true
+    → Keeps (bytes_set s id new) (changed t (SetObject node.label (File node.metadata new)))
 keeps_bytes new s t id node k here file =
     let w = file_there s.nodes id node here file in
-    subst (λ (o : Object). Keeps (stored_set s id new) (changed t (SetObject node.label o)))
-    (ap (λ (c : Content). object_in node.metadata (with_stored new c)) w.1)
-    (keeps_edited (with_content (with_stored new)) s t id node k here (entry_stored new node.content) refl (stored_in_order new node.content (node_in_order s.nodes id node k.entries here)) (kind_stored new node.metadata node.content))
+    subst (λ (o : Object). Keeps (bytes_set s id new) (changed t (SetObject node.label o)))
+    (ap (λ (c : Content). object_in node.metadata (with_bytes new c)) w.1)
+    (keeps_edited (with_content (with_bytes new)) s t id node k here (entry_stored new node.content) refl (stored_in_order new node.content (node_in_order s.nodes id node k.entries here)) (kind_stored new node.metadata node.content))
 
 -- ---- what is not seen
--- the same bytes with other room
-stored_alike : (room : ℕ) (k : Metadata) (c : Content) → object_in k (with_stored (record { bytes = (stored_in c).bytes; room = room }) c) ≡ object_in k c
-stored_alike room k (content.Directory es) = refl
-stored_alike room k (content.File contents) = refl
-
 -- nothing is changed where no node is
 keeps_none : (f : Node → Node) (s : StoreState) (t : Tree) (id : ℕ) → Keeps s t → node_in s.nodes id ≡ None → Keeps (edited f s id) t
 keeps_none f s t id k none = subst (λ (x : StoreState). Keeps x t) (sym (ap (λ (o : Option Node). with_nodes s (edited_by f s.nodes id o)) none)) k
@@ -97,13 +91,6 @@ keeps_always f s t id k entries same own alike = elim (node_in s.nodes id) as (�
 
 pub keeps_held : (r : Option ℕ) (s : StoreState) (t : Tree) (id : ℕ) → Keeps s t → Keeps (edited (with_holder r) s id) t
 keeps_held r s t id k = keeps_always (with_holder r) s t id k (λ node e m. refl) (λ node. refl) (λ node h. h) (λ node e. refl)
-
-pub keeps_reserved : (s : StoreState) (t : Tree) (id offset n : ℕ) → Keeps s t → Keeps (stored_set s id (with_room (stored_of s.nodes id) offset n)) t
-keeps_reserved s t id offset n k =
-    let new : Stored = with_room (stored_of s.nodes id) offset n in
-    keeps_always (with_content (with_stored new)) s t id k (λ node e m. entry_stored new node.content m) (λ node. refl) (λ node h. stored_in_order new node.content h) (λ node e.
-    let is : stored_of s.nodes id ≡ stored_in node.content = ap (λ (o : Option Node). option_map_or (λ (it : Node). stored_in it.content) o nothing_stored) e in
-    λ i. (node.label, (ap (λ (x : Stored). object_in node.metadata (with_stored (record { bytes = x.bytes; room = new.room }) node.content)) is ∙ stored_alike new.room node.metadata node.content) i))
 
 pub keeps_looked : (s : StoreState) (t : Tree) → Keeps s t → Keeps (looked_up s) t
 keeps_looked s t k = keeps_marked s (looked_up s) t t (entry_of s.nodes) (marks_of s.nodes) k k.shows (λ x m. refl) (λ i. refl) refl refl refl (marked s t k) k.entries

@@ -13,7 +13,7 @@ use Rattle.sf_inode.specs.declared.node.Content.TheVariants as content
 use Rattle.sf_inode.specs.Nodes.{is_directory_content, is_bare_content, more_content, less_content, with_content}
 use Rattle.sf_keeps.specs.Steps.{Steps, walk, changed_step}
 use Rattle.sf_keeps.specs.Shows.{View, Shows, is_directory_by, with_step}
-use Rattle.sf_inode.specs.Stores.{StoreState, node_in, entry_of, handle_at, shown_of, entry_put, moved_entry, relinked, relinked_from}
+use Rattle.sf_inode.specs.Stores.{StoreState, node_in, entry_of, handle_at, shown_of, entry_put, moved_entry, relinked, relinked_from, spot}
 use Rattle.sf_keeps.specs.Keeps.{view_of, Keeps, times_open}
 use Rattle.sf_keeps.proofs.Sound.{IsBare}
 use Rattle.sf_keeps.proofs.Shown.{same_apart}
@@ -39,15 +39,15 @@ module _ (s : StoreState) (t : Tree) (po : Path) (od : ℕ) (on : Name) (c : ℕ
   abbrev after : Tree
   after = changed t (Move (po ++ on ∷ []) (pn ++ nn ∷ []))
 
-  marks_moved : (i : ℕ) → marks_of (moved_entry s od on nd nn c).nodes i ≡ marks_of s.nodes i
+  marks_moved : (i : ℕ) → marks_of (moved_entry s (spot od on) (spot nd nn) c).nodes i ≡ marks_of s.nodes i
   marks_moved i =
       let f = still_there (with_content (more_content nn c)) s nd od to.0 from.0 to.2 from.1 in
       marks_entries (less_content on) (entry_put s nd nn c) od f.0 f.1 i ∙ marks_entries (more_content nn c) s nd to.0 to.2 i
 
-  ordered_moved : InOrder (moved_entry s od on nd nn c).nodes
+  ordered_moved : InOrder (moved_entry s (spot od on) (spot nd nn) c).nodes
   ordered_moved = in_order_moved s t k.shows po od on pn nd nn c from.0 to.0 to.1 at_from from.1 there at_to to.2 to.3 not_inside k.entries
 
-  is_view : view_of (moved_entry s od on nd nn c) ≡ with_step (with_step (view_of s) od on None) nd nn (Some c)
+  is_view : view_of (moved_entry s (spot od on) (spot nd nn) c) ≡ with_step (with_step (view_of s) od on None) nd nn (Some c)
   is_view = view_moved s t k.shows po od on pn nd nn c from.0 to.0 to.1 at_from from.1 there at_to to.2 to.3 not_inside k.entries
 
   to_is : is_directory_by (shown_of s.nodes) nd ≡ true
@@ -56,10 +56,10 @@ module _ (s : StoreState) (t : Tree) (po : Path) (od : ℕ) (on : Name) (c : ℕ
   -- ---- onto nothing
   pub keeps_moved : entry_of s.nodes nd nn ≡ None → Keeps (relinked s od on nd nn) (changed t (Move (po ++ on ∷ []) (pn ++ nn ∷ [])))
   keeps_moved none =
-      let is : relinked s od on nd nn ≡ moved_entry s od on nd nn c = ap (λ o. relinked_from s od on nd nn o (entry_of s.nodes nd nn)) there ∙ ap (relinked_from s od on nd nn (Some c)) none in
+      let is : relinked s od on nd nn ≡ moved_entry s (spot od on) (spot nd nn) c = ap (λ o. relinked_from s (spot od on) (spot nd nn) o (entry_of s.nodes nd nn)) there ∙ ap (relinked_from s (spot od on) (spot nd nn) (Some c)) none in
       let shows = shows_relinked s t k.shows po od on pn nd nn c from.0 to.0 to.1 at_from from.1 there at_to to.2 to.3 not_inside k.entries none in
       subst (λ (x : StoreState). Keeps x after) (sym is)
-      (keeps_marked s (moved_entry s od on nd nn c) t after moved (marks_of s.nodes) k (subst (λ (x : StoreState). Shows (view_of x) after) is shows)
+      (keeps_marked s (moved_entry s (spot od on) (spot nd nn) c) t after moved (marks_of s.nodes) k (subst (λ (x : StoreState). Shows (view_of x) after) is shows)
       (λ x m. ap (λ (v : View). v.step x m) is_view) marks_moved refl refl refl
       (marked_same (entry_of s.nodes) moved s.root (marks_of s.nodes) (times_open t) (handle_at s) (marked s t k)
       (single_moved (view_of s) t k.shows.by po od on pn nd nn c at_from there at_to to_is not_inside k.single)
@@ -99,7 +99,7 @@ module _ (s : StoreState) (t : Tree) (po : Path) (od : ℕ) (on : Name) (c : ℕ
     keeps_replaced =
         let is = is_relinked s t k.shows po od on pn nd nn c from.0 to.0 to.1 at_from from.1 there at_to to.2 to.3 not_inside k.entries target gone.0 stood_at gone.1 gone.2 bare in
         subst (λ (x : StoreState). Keeps x after) (sym is)
-        (keeps_forgotten s (moved_entry s od on nd nn c) t after moved target gone.0 k
+        (keeps_forgotten s (moved_entry s (spot od on) (spot nd nn) c) t after moved target gone.0 k
         (target_there s t k.shows po od on pn nd nn c from.0 to.0 to.1 at_from from.1 there at_to to.2 to.3 not_inside k.entries target gone.0 stood_at gone.1 gone.2 bare) gone.2 ordered_moved
         (λ x m. ap (λ (v : View). v.step x m) is_view)
         marks_moved refl refl

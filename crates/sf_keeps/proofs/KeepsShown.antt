@@ -14,9 +14,8 @@ use Rattle.sf_call.specs.Changes.Change.{SetObject}
 use Rattle.sf_inode.specs.declared.node.Node.{Node}
 use Rattle.sf_inode.specs.declared.node.Content.{Content}
 use Rattle.sf_inode.specs.declared.node.Content.TheVariants as content
-use Rattle.sf_inode.specs.Nodes.{object_in, is_directory_content, is_file_content, stored_in, with_metadata}
-use Rattle.sf_block.specs.Contents.{Stored}
-use Rattle.sf_inode.specs.Stores.{StoreState, node_in, shown_node, shown_of, edited, stored_set, stored_of, is_directory_at, is_file_at}
+use Rattle.sf_inode.specs.Nodes.{object_in, is_directory_content, is_file_content, bytes_in, with_metadata}
+use Rattle.sf_inode.specs.Stores.{StoreState, node_in, shown_node, shown_of, edited, bytes_set, bytes_of, is_directory_at, is_file_at}
 use Rattle.sf_keeps.specs.Keeps.{Keeps}
 use Rattle.sf_keeps.proofs.KeepsEdited.{keeps_metadata, keeps_bytes}
 
@@ -35,7 +34,7 @@ directory_content : (k m : Metadata) (c : Content) → object_in k c ≡ Directo
 directory_content k m (content.Directory es) e = (cc, refl)
 directory_content k m (content.File contents) e = absurd (cc)
 
-file_content : (k m : Metadata) (bytes : List ℕ) (c : Content) → object_in k c ≡ File m bytes → (k ≡ m) × (is_file_content c ≡ true) × ((stored_in c).bytes ≡ bytes)
+file_content : (k m : Metadata) (bytes : List ℕ) (c : Content) → object_in k c ≡ File m bytes → (k ≡ m) × (is_file_content c ≡ true) × ((bytes_in c) ≡ bytes)
 file_content k m bytes (content.Directory es) e = absurd (cc)
 file_content k m bytes (content.File contents) e = (cc, refl, cc)
 
@@ -44,12 +43,12 @@ directory_shown nodes id label m e =
     let w = node_shown nodes id label (Directory m) e in
     ap (λ (o : Option Node). option_map_or (λ (it : Node). is_directory_content it.content) o false) w.1 ∙ (directory_content w.0.metadata m w.0.content w.3).1
 
-pub file_shown : (nodes : List (Option Node)) (id label : ℕ) (m : Metadata) (bytes : List ℕ) → shown_of nodes id ≡ Some (label, File m bytes) → (is_file_at nodes id ≡ true) × ((stored_of nodes id).bytes ≡ bytes)
+pub file_shown : (nodes : List (Option Node)) (id label : ℕ) (m : Metadata) (bytes : List ℕ) → shown_of nodes id ≡ Some (label, File m bytes) → (is_file_at nodes id ≡ true) × ((bytes_of nodes id) ≡ bytes)
 file_shown nodes id label m bytes e =
     let w = node_shown nodes id label (File m bytes) e in
     let f = file_content w.0.metadata m bytes w.0.content w.3 in (
       ap (λ (o : Option Node). option_map_or (λ (it : Node). is_file_content it.content) o false) w.1 ∙ f.1,
-      ap (λ (o : Option Node). (option_map_or (λ (it : Node). stored_in it.content) o (record { bytes = []; room = 0 })).bytes) w.1 ∙ f.2,
+      ap (λ (o : Option Node). (option_map_or (λ (it : Node). bytes_in it.content) o [])) w.1 ∙ f.2,
     )
 
 -- ---- other metadata of a directory or a file, and other bytes
@@ -75,11 +74,11 @@ keeps_file f s t id label m bytes k e =
     subst (λ (v : ℕ × Object). Keeps (edited (with_metadata f) s id) (changed t (SetObject v.0 v.1))) (λ i. (w.2 i, other_file f w.0.metadata m bytes w.0.content w.3 i))
     (keeps_metadata f s t id w.0 k w.1)
 
-pub keeps_contents : (new : Stored) (s : StoreState) (t : Tree) (id label : ℕ) (m : Metadata) (old : List ℕ) → Keeps s t → shown_of s.nodes id ≡ Some (label, File m old)
-    → Keeps (stored_set s id new) (changed t (SetObject label (File m new.bytes)))
+pub keeps_contents : (new : List ℕ) (s : StoreState) (t : Tree) (id label : ℕ) (m : Metadata) (old : List ℕ) → Keeps s t → shown_of s.nodes id ≡ Some (label, File m old)
+    → Keeps (bytes_set s id new) (changed t (SetObject label (File m new)))
 keeps_contents new s t id label m old k e =
     let w = node_shown s.nodes id label (File m old) e in
-    subst (λ (v : ℕ × Metadata). Keeps (stored_set s id new) (changed t (SetObject v.0 (File v.1 new.bytes)))) (λ i. (w.2 i, (file_content w.0.metadata m old w.0.content w.3).0 i))
+    subst (λ (v : ℕ × Metadata). Keeps (bytes_set s id new) (changed t (SetObject v.0 (File v.1 new)))) (λ i. (w.2 i, (file_content w.0.metadata m old w.0.content w.3).0 i))
     (keeps_bytes new s t id w.0 k w.1 (file_shown s.nodes id label m old e).0)
 
 -- ---- objects set twice

@@ -12,7 +12,7 @@ pub use Rattle.sf_keeps.proofs.Bare.{bare_found}
 -- what a change leaves alone
 pub use Rattle.sf_keeps.proofs.Untouched.{edited_apart, edited_itself, inserted_alike, unlinked_alike, relinked_alike}
 -- the same tree: a look-up, a holder, reserved memory
-pub use Rattle.sf_keeps.proofs.KeepsEdited.{keeps_looked, keeps_held, keeps_reserved}
+pub use Rattle.sf_keeps.proofs.KeepsEdited.{keeps_looked, keeps_held}
 -- another object under a label
 pub use Rattle.sf_keeps.proofs.KeepsEdited.{keeps_metadata, keeps_bytes}
 pub use Rattle.sf_keeps.proofs.KeepsShown.{keeps_directory, keeps_file, keeps_contents, object_again}

@@ -1,5 +1,6 @@
 -- A store keeps the tree after a handle was opened, and after one listed.
 use Rattle.std.specs.Prelude.{◌≡◌, ℕ, ◌+◌, ◌-◌, ◌<◌, ◌^◌, min, nat_eq, true, false, cond, ◌&&◌, List, option_map, option_and_then, Option, Some, None, IsSome, refl}
+use Rattle.std.specs.Option.{option_map_or}
 use Rattle.std.proofs.Common.{sym, ap, subst, ◌∙◌, arith, eq-eqb}
 use Rattle.std.specs.Ordering.{nat_cmp}
 use Rattle.std.specs.Cmp.{nat_cmp_total}
@@ -15,7 +16,7 @@ use Rattle.sf_inode.specs.declared.handle.OpenHandle.{OpenHandle}
 use Rattle.sf_inode.specs.declared.handle.Marks.{Marks}
 use Rattle.sf_inode.specs.Nodes.{with_opened}
 use Rattle.sf_keeps.specs.Shows.{View, Shows}
-use Rattle.sf_inode.specs.Stores.{StoreState, node_in, handle_at, shown_handle, with_sessions, edited, opened, opened_at, handle_listed, with_last}
+use Rattle.sf_inode.specs.Stores.{StoreState, node_in, handle_at, shown_handle, with_sessions, edited, opened, new_handle, opened_by, handle_listed, with_last}
 use Rattle.sf_keeps.specs.Keeps.{view_of, Keeps, times_open}
 use Rattle.sf_keeps.proofs.Keyed.{lookup-set}
 use Rattle.sf_keeps.proofs.Shown.{nat_same}
@@ -106,7 +107,7 @@ module _ (s : StoreState) (t : Tree) (k : Keeps s t) (session number id : ℕ) (
   pub keeps_opened : Keeps (opened s session number id marks) after
   keeps_opened =
       let p = put_handle_set s k.sessions k.handles session number own in
-      subst (λ (x : StoreState). Keeps x after) (sym (ap (opened_at s session number id marks) here ∙ ap (λ (z : StoreState). edited more z id) p.1)) (keeps_put p.0 p.2)
+      subst (λ (x : StoreState). Keeps x after) (sym (ap (λ (o : Option Node). option_map_or (λ (node : Node). opened_by s session number (new_handle id marks node)) o s) here ∙ ap (λ (z : StoreState). edited more z id) p.1)) (keeps_put p.0 p.2)
 
 -- ---- a handle's last name
 module _ (s : StoreState) (t : Tree) (k : Keeps s t) (session number : ℕ) (h : OpenHandle) (at : handle_at s session number ≡ Some h) (name : Name) where

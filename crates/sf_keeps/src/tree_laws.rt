@@ -10,12 +10,11 @@ ghost use Rattle.sf_call.specs.Tree.{Tree, empty_tree, after_front, directory_at
 ghost use Rattle.sf_call.specs.declared.place.Place.TheVariants.{NoWay, Absent, At};
 ghost use Rattle.sf_call.specs.Changes.{changed};
 ghost use Rattle.sf_call.specs.Changes.Change.{SetObject, NewPath, GonePath, Move};
-ghost use Rattle.sf_block.specs.Contents.{Stored, with_room};
 ghost use Rattle.sf_inode.specs.declared.node.Node.{Node};
 ghost use Rattle.sf_inode.specs.declared.node.NewNode.{NewNode};
 ghost use Rattle.sf_inode.specs.Nodes.{object_in, new_content, new_node, with_metadata, with_holder};
 ghost use Rattle.sf_keeps.specs.Steps.{walk};
-ghost use Rattle.sf_inode.specs.Stores.{StoreState, IsFirst, Inserted, node_in, entry_of, shown_of, holder_of, looked_up, edited, unlinked, relinked, stored_of, is_file_at, is_directory_at, is_bare_at, stored_set};
+ghost use Rattle.sf_inode.specs.Stores.{StoreState, IsFirst, Inserted, node_in, entry_of, shown_of, holder_of, looked_up, edited, unlinked, relinked, bytes_of, is_file_at, is_directory_at, is_bare_at, bytes_set};
 ghost use Rattle.sf_keeps.specs.Keeps.{Keeps};
 
 /// A store keeps at most one tree, and a new one the root alone.
@@ -50,7 +49,7 @@ pub fn shown_nodes()
         → shown_of nodes id ≡ Some (label, Directory m) → is_directory_at nodes id ≡ true }
     ensures file { (nodes : List (Option Node)) (id label : ℕ) (m : Metadata) (bytes : List ℕ)
         → shown_of nodes id ≡ Some (label, File m bytes) → (is_file_at nodes id ≡ true)
-        × ((stored_of nodes id).bytes ≡ bytes) }
+        × ((bytes_of nodes id) ≡ bytes) }
 {}
 
 /// A change leaves alone what the other nodes show and who holds them: other than the one that was
@@ -108,13 +107,11 @@ pub fn found_paths()
         → walk (entry_of s.nodes) s.root p ≡ Some id → is_empty t.names p ≡ is_bare_at s.nodes id }
 {}
 
-/// A look-up, a holder and memory for bytes leave the tree as it is.
+/// A look-up and a holder leave the tree as it is.
 pub fn same_tree()
     ensures find { (s : StoreState) (t : Tree) → Keeps s t → Keeps (looked_up s) t }
     ensures hold { (holder : Option ℕ) (s : StoreState) (t : Tree) (id : ℕ) → Keeps s t
         → Keeps (edited (with_holder holder) s id) t }
-    ensures reserve { (s : StoreState) (t : Tree) (id offset n : ℕ) → Keeps s t
-        → Keeps (stored_set s id (with_room (stored_of s.nodes id) offset n)) t }
 {}
 
 /// Other metadata of a node, or other bytes of a file, are another object under its label. Of objects that
@@ -123,9 +120,9 @@ pub fn changed_object()
     ensures metadata { (f : Metadata → Metadata) (s : StoreState) (t : Tree) (id : ℕ) (node : Node)
         → Keeps s t → node_in s.nodes id ≡ Some node
         → Keeps (edited (with_metadata f) s id) (changed t (SetObject node.label (object_in (f node.metadata) node.content))) }
-    ensures bytes { (new : Stored) (s : StoreState) (t : Tree) (id : ℕ) (node : Node) → Keeps s t
+    ensures bytes { (new : List ℕ) (s : StoreState) (t : Tree) (id : ℕ) (node : Node) → Keeps s t
         → node_in s.nodes id ≡ Some node → is_file_at s.nodes id ≡ true
-        → Keeps (stored_set s id new) (changed t (SetObject node.label (File node.metadata new.bytes))) }
+        → Keeps (bytes_set s id new) (changed t (SetObject node.label (File node.metadata new))) }
     ensures directory { (f : Metadata
         → Metadata) (s : StoreState) (t : Tree) (id label : ℕ) (m : Metadata) → Keeps s t
         → shown_of s.nodes id ≡ Some (label, Directory m)
@@ -134,8 +131,8 @@ pub fn changed_object()
         → Metadata) (s : StoreState) (t : Tree) (id label : ℕ) (m : Metadata) (bytes : List ℕ)
         → Keeps s t → shown_of s.nodes id ≡ Some (label, File m bytes)
         → Keeps (edited (with_metadata f) s id) (changed t (SetObject label (File (f m) bytes))) }
-    ensures contents { (new : Stored) (s : StoreState) (t : Tree) (id label : ℕ) (m : Metadata) (old : List ℕ) → Keeps s t → shown_of s.nodes id ≡ Some (label, File m old)
-        → Keeps (stored_set s id new) (changed t (SetObject label (File m new.bytes))) }
+    ensures contents { (new : List ℕ) (s : StoreState) (t : Tree) (id label : ℕ) (m : Metadata) (old : List ℕ) → Keeps s t → shown_of s.nodes id ≡ Some (label, File m old)
+        → Keeps (bytes_set s id new) (changed t (SetObject label (File m new))) }
     ensures again { (t : Tree) (label : ℕ) (o u : Object)
         → changed (changed t (SetObject label o)) (SetObject label u)
         ≡ changed t (SetObject label u) }

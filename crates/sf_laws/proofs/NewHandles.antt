@@ -19,7 +19,7 @@ use Rattle.sf_call.specs.declared.handle.Handle.{Handle}
 use Rattle.sf_call.specs.Tree.{Tree, label_at, object_of, handle_of, directory_at, place_at, found_object, found_place}
 use Rattle.sf_call.specs.Handles.{if_of}
 use Rattle.sf_call.specs.Changes.{done, touch}
-use Rattle.sf_call.specs.Calls.{Answer, apply, has_all_handles, directory_handle, file_handle, open_directory, open_present, open_file, unless_root}
+use Rattle.sf_call.specs.Calls.{Answer, apply, has_all_handles, directory_handle, file_handle, open_directory, open_present, open_file, unless_root, opening, stamp}
 use Rattle.sf_laws.specs.NewHandles.{IsJustOpened}
 use Rattle.sf_call.proofs.Laws.{lookup-put}
 use Rattle.sf_call.proofs.Laws.{place_label}
@@ -122,14 +122,14 @@ module _ (tree : Tree) (session number moment : ℕ) (path : Path) where
         → IsJustOpened t session given path (flags.read || not flags.write) flags.write flags.append
     this_number = given_number tree session number path (flags.read || not flags.write) flags.write flags.append
 
-    file_object : (label : ℕ) (o : Option Object) → label_at tree.names path ≡ Some label → OpensFile (open_present tree session number moment flags (found_object label o))
+    file_object : (label : ℕ) (o : Option Object) → label_at tree.names path ≡ Some label → OpensFile (open_present tree session (stamp number moment) flags (found_object label o))
     file_object label None at = λ given e. cc
     file_object label (Some (Directory m)) at = λ given e. cc
     file_object label (Some (File m contents)) at =
         one_of (has_all_handles tree session) _ _ (λ given e. cc)
         (one_of (flags.truncate && flags.write) _ _ (λ given e. this_number _ given e (file_handle_put _ label refl at)) (λ given e. this_number _ given e (file_handle_put _ label refl at)))
 
-    file_place : (place : Place) → place_at tree path ≡ place → OpensFile (open_file tree session number moment path flags attrs place)
+    file_place : (place : Place) → place_at tree path ≡ place → OpensFile (open_file tree session (stamp number moment) (opening path flags attrs) place)
     file_place NoWay e = λ given k. cc
     file_place (At label) e = one_of (flags.create && flags.exclusive) _ _ (λ given k. cc) (file_object label (object_of tree.objects label) (place_label tree path label e))
     file_place Absent e =

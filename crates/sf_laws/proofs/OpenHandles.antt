@@ -31,7 +31,7 @@ use Rattle.sf_call.specs.Listings.{path_of, listing_of}
 use Rattle.sf_call.specs.Moves.{moved}
 use Rattle.sf_call.specs.Changes.{changed, done, touch, touched}
 use Rattle.sf_call.specs.Changes.Change.{SetObject, NewPath, GonePath, Move, OpenHandle, SetHandle, CloseHandle}
-use Rattle.sf_call.specs.Calls.{Answer, answer_to, leave, stat, refuses_size, sets, set_stat, make_directory, remove_directory, remove_file, has_all_handles, directory_handle, file_handle, open_directory, open_present, open_file, close, stat_opened, set_opened, read, start_of, write, lists, read_directory, unless_root, moves}
+use Rattle.sf_call.specs.Calls.{Answer, answer_to, leave, stat, refuses_size, sets, set_stat, make_directory, remove_directory, remove_file, has_all_handles, directory_handle, file_handle, open_directory, open_present, open_file, close, stat_opened, set_opened, read, start_of, write, lists, read_directory, unless_root, moves, opening, stamp}
 use Rattle.sf_call.specs.Histories.{replay, IsLegal}
 use Rattle.sf_call.proofs.Laws.{lookup-put, object_kept, all_filtered, all_removed, all_put, all_set, found_value, holds_after, rename_cases, posix_rename_cases}
 
@@ -264,7 +264,7 @@ module _ (tree : Tree) (session number moment : ℕ) (h : HandlesHold tree) wher
   set_found attrs (DirectoryAt label m) = parts_set label attrs (Directory m)
   set_found attrs (FileAt label m contents) = parts_set label attrs (File m contents)
 
-  made : (path : Path) (attrs : Attrs) (place : Place) → Keeps (make_directory tree number moment path attrs place)
+  made : (path : Path) (attrs : Attrs) (place : Place) → Keeps (make_directory tree (stamp number moment) path attrs place)
   made path attrs NoWay = h
   made path attrs (At label) = h
   made path attrs Absent = touch_holds _ moment (directory_at tree (parent path)) (new_holds tree path number _ h)
@@ -302,7 +302,7 @@ module _ (tree : Tree) (session number moment : ℕ) (h : HandlesHold tree) wher
   directory_opened Absent = h
   directory_opened (At label) = directory_object label (object_of tree.objects label) refl
 
-  file_object : (flags : OpenFlags) (label : ℕ) (o : Option Object) → object_of tree.objects label ≡ o → Keeps (open_present tree session number moment flags (found_object label o))
+  file_object : (flags : OpenFlags) (label : ℕ) (o : Option Object) → object_of tree.objects label ≡ o → Keeps (open_present tree session (stamp number moment) flags (found_object label o))
   file_object flags label None is = h
   file_object flags label (Some (Directory m)) is = h
   file_object flags label (Some (File m contents)) is =
@@ -310,7 +310,7 @@ module _ (tree : Tree) (session number moment : ℕ) (h : HandlesHold tree) wher
       let open' = open_holds tree number (file_handle session label flags) free (there label _ is) h in
       either (flags.truncate && flags.write) _ _ (set_holds _ label _ open') open')
 
-  file_opened : (path : Path) (flags : OpenFlags) (attrs : Attrs) (place : Place) → Keeps (open_file tree session number moment path flags attrs place)
+  file_opened : (path : Path) (flags : OpenFlags) (attrs : Attrs) (place : Place) → Keeps (open_file tree session (stamp number moment) (opening path flags attrs) place)
   file_opened path flags attrs NoWay = h
   file_opened path flags attrs (At label) = either (flags.create && flags.exclusive) _ _ h (file_object flags label (object_of tree.objects label) refl)
   file_opened path flags attrs Absent =

@@ -24,7 +24,7 @@ use Rattle.sf_call.specs.Changes.{Change, changed, done, touch, touched}
 use Rattle.sf_call.specs.Changes.Change.{SetObject, NewPath, GonePath, Move, OpenHandle, SetHandle, CloseHandle}
 use Rattle.sf_laws.specs.LeftAlone.{IsOfPath, IsOfLabel, IsOfNumber}
 use Rattle.sf_laws.specs.Own.{IsOwnPath, IsOwnObject, IsOwnHandle}
-use Rattle.sf_call.specs.Calls.{Answer, answer_to, stat, refuses_size, sets, set_stat, make_directory, remove_directory, remove_file, has_all_handles, open_directory, open_present, open_file, close, stat_opened, set_opened, read, start_of, write, lists, read_directory, unless_root, moves}
+use Rattle.sf_call.specs.Calls.{Answer, answer_to, stat, refuses_size, sets, set_stat, make_directory, remove_directory, remove_file, has_all_handles, open_directory, open_present, open_file, close, stat_opened, set_opened, read, start_of, write, lists, read_directory, unless_root, moves, opening, stamp}
 use Rattle.sf_call.proofs.Laws.{directory_there, place_label, rename_cases, posix_rename_cases}
 use Rattle.sf_laws.proofs.LeftAlone.{other_path, other_object, other_handle}
 
@@ -75,7 +75,7 @@ module _ (tree : Tree) (session number : ℕ) where
     set_place path attrs Absent e = tt
     set_place path attrs (At label) e = set_object path attrs label (object_of tree.objects label) (place_label tree path label e)
 
-    made : (path : Path) (attrs : Attrs) (place : Place) → AreOwn (Mkdir path attrs) (make_directory tree number moment path attrs place).changes
+    made : (path : Path) (attrs : Attrs) (place : Place) → AreOwn (Mkdir path attrs) (make_directory tree (stamp number moment) path attrs place).changes
     made path attrs NoWay = tt
     made path attrs (At label) = tt
     made path attrs Absent = ((refl, refl), touch_own (Mkdir path attrs) (parent path) (directory_at tree (parent path)) refl (λ label e. e))
@@ -100,14 +100,14 @@ module _ (tree : Tree) (session number : ℕ) where
     directory_opened path (DirectoryAt label m) = either (OpenDir path) (has_all_handles tree session) _ _ tt (refl, tt)
 
     present_opened : (path : Path) (flags : OpenFlags) (attrs : Attrs) (label : ℕ) (o : Option Object) → label_at tree.names path ≡ Some label
-        → AreOwn (Open path flags attrs) (open_present tree session number moment flags (found_object label o)).changes
+        → AreOwn (Open path flags attrs) (open_present tree session (stamp number moment) flags (found_object label o)).changes
     present_opened path flags attrs label None e = tt
     present_opened path flags attrs label (Some (Directory m)) e = tt
     present_opened path flags attrs label (Some (File m contents)) e =
         either (Open path flags attrs) (has_all_handles tree session) _ _ tt
         (either (Open path flags attrs) (flags.truncate && flags.write) _ _ (refl, (inl e, tt)) (refl, tt))
 
-    file_opened : (path : Path) (flags : OpenFlags) (attrs : Attrs) (place : Place) → place_at tree path ≡ place → AreOwn (Open path flags attrs) (open_file tree session number moment path flags attrs place).changes
+    file_opened : (path : Path) (flags : OpenFlags) (attrs : Attrs) (place : Place) → place_at tree path ≡ place → AreOwn (Open path flags attrs) (open_file tree session (stamp number moment) (opening path flags attrs) place).changes
     file_opened path flags attrs NoWay e = tt
     file_opened path flags attrs (At label) e =
         either (Open path flags attrs) (flags.create && flags.exclusive) _ _ tt (present_opened path flags attrs label (object_of tree.objects label) (place_label tree path label e))

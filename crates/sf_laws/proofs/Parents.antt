@@ -23,7 +23,7 @@ use Rattle.sf_call.specs.Moves.{moved}
 use Rattle.sf_call.specs.Tree.Found.{Nowhere, Nothing, DirectoryAt, FileAt}
 use Rattle.sf_call.specs.Changes.{changed, done, touch, touched}
 use Rattle.sf_call.specs.Changes.Change.{SetObject, NewPath, GonePath, Move}
-use Rattle.sf_call.specs.Calls.{Answer, answer_to, make_directory, remove_directory, remove_file, has_all_handles, open_present, open_file, moves}
+use Rattle.sf_call.specs.Calls.{Answer, answer_to, make_directory, remove_directory, remove_file, has_all_handles, open_present, open_file, moves, opening, stamp}
 use Rattle.sf_call.proofs.Laws.{exact_paths, other_put, other_set, other_removed, set_there, kept_object, directory_there, moved_outside, no_front, no_parent, rename_cases, posix_rename_cases}
 use Rattle.sf_laws.specs.Own.{IsOneOf, IsEntryOf}
 
@@ -100,12 +100,12 @@ module _ (tree : Tree) (session number moment label : ℕ) (path : Path) (m : Me
   new_stays : (new : Path) (object : Object) → object_of (changed tree (NewPath new number object)).objects label ≡ Some (Directory m)
   new_stays new object = other_put nat_cmp nat_cmp-IsAntisymmetric nat_cmp_total tree.objects number object label apart ∙ is
 
-  made : (attrs : Attrs) (place : Place) → Keeps (make_directory tree number moment path attrs place)
+  made : (attrs : Attrs) (place : Place) → Keeps (make_directory tree (stamp number moment) path attrs place)
   made attrs NoWay = inl is
   made attrs (At l) = inl is
   made attrs Absent = touch_stays _ (directory_at tree (parent path)) refl (new_stays path _)
 
-  file_object : (flags : OpenFlags) (l : ℕ) (o : Option Object) → object_of tree.objects l ≡ o → Keeps (open_present tree session number moment flags (found_object l o))
+  file_object : (flags : OpenFlags) (l : ℕ) (o : Option Object) → object_of tree.objects l ≡ o → Keeps (open_present tree session (stamp number moment) flags (found_object l o))
   file_object flags l None at = inl is
   file_object flags l (Some (Directory x)) at = inl is
   file_object flags l (Some (File x contents)) at =
@@ -113,7 +113,7 @@ module _ (tree : Tree) (session number moment label : ℕ) (path : Path) (m : Me
       either (has_all_handles tree session) _ _ (inl is) (either (flags.truncate && flags.write) _ _
       (inl (other_set nat_cmp nat_cmp-IsAntisymmetric tree.objects l _ label other ∙ is)) (inl is))
 
-  file_opened : (flags : OpenFlags) (attrs : Attrs) (place : Place) → Keeps (open_file tree session number moment path flags attrs place)
+  file_opened : (flags : OpenFlags) (attrs : Attrs) (place : Place) → Keeps (open_file tree session (stamp number moment) (opening path flags attrs) place)
   file_opened flags attrs NoWay = inl is
   file_opened flags attrs (At l) = either (flags.create && flags.exclusive) _ _ (inl is) (file_object flags l (object_of tree.objects l) refl)
   file_opened flags attrs Absent =

@@ -22,7 +22,7 @@ use Rattle.sf_call.specs.Tree.Found.{Nowhere, Nothing, DirectoryAt, FileAt}
 use Rattle.sf_call.specs.Handles.{Opened, handle_in, opened}
 use Rattle.sf_call.specs.Handles.Opened.{NotOpen, OpenDirectory, OpenFile}
 use Rattle.sf_call.specs.Listings.{path_of, listing_of}
-use Rattle.sf_call.specs.Calls.{Answer, answer_to, stat, refuses_size, sets, set_stat, make_directory, remove_directory, remove_file, has_all_handles, open_directory, open_present, open_file, close, stat_opened, set_opened, read, start_of, write, lists, read_directory, unless_root, refuses}
+use Rattle.sf_call.specs.Calls.{Answer, answer_to, stat, refuses_size, sets, set_stat, make_directory, remove_directory, remove_file, has_all_handles, open_directory, open_present, open_file, close, stat_opened, set_opened, read, start_of, write, lists, read_directory, unless_root, refuses, opening, stamp}
 use Rattle.sf_call.specs.Changes.{Change}
 use Rattle.sf_call.proofs.Laws.{rename_cases, posix_rename_cases}
 
@@ -86,7 +86,7 @@ set_by_handle moment attrs NotOpen = refl
 set_by_handle moment attrs (OpenDirectory h m) = choice (nat_eq h.label 0) _ _ refl (parts_set moment h.label attrs (Directory m))
 set_by_handle moment attrs (OpenFile h m contents) = choice (is_some attrs.size && not h.write) _ _ refl (parts_set moment h.label attrs (File m contents))
 
-made : (tree : Tree) (number moment : ℕ) (path : Path) (attrs : Attrs) (place : Place) → RefusesStill (make_directory tree number moment path attrs place)
+made : (tree : Tree) (number moment : ℕ) (path : Path) (attrs : Attrs) (place : Place) → RefusesStill (make_directory tree (stamp number moment) path attrs place)
 made tree number moment path attrs NoWay = refl
 made tree number moment path attrs (At label) = refl
 made tree number moment path attrs Absent = tt
@@ -109,14 +109,14 @@ directory_opened tree session number Nothing = refl
 directory_opened tree session number (FileAt label m contents) = refl
 directory_opened tree session number (DirectoryAt label m) = choice (has_all_handles tree session) _ _ refl tt
 
-present_opened : (tree : Tree) (session number moment : ℕ) (flags : OpenFlags) (found : Found) → RefusesStill (open_present tree session number moment flags found)
+present_opened : (tree : Tree) (session number moment : ℕ) (flags : OpenFlags) (found : Found) → RefusesStill (open_present tree session (stamp number moment) flags found)
 present_opened tree session number moment flags Nowhere = refl
 present_opened tree session number moment flags Nothing = refl
 present_opened tree session number moment flags (DirectoryAt label m) = refl
 present_opened tree session number moment flags (FileAt label m contents) =
     choice (has_all_handles tree session) _ _ refl (choice (flags.truncate && flags.write) _ _ tt tt)
 
-file_opened : (tree : Tree) (session number moment : ℕ) (path : Path) (flags : OpenFlags) (attrs : Attrs) (place : Place) → RefusesStill (open_file tree session number moment path flags attrs place)
+file_opened : (tree : Tree) (session number moment : ℕ) (path : Path) (flags : OpenFlags) (attrs : Attrs) (place : Place) → RefusesStill (open_file tree session (stamp number moment) (opening path flags attrs) place)
 file_opened tree session number moment path flags attrs NoWay = refl
 file_opened tree session number moment path flags attrs (At label) =
     choice (flags.create && flags.exclusive) _ _ refl (present_opened tree session number moment flags (found_object label (object_of tree.objects label)))

@@ -3,3 +3,4 @@ pub mod OrderLaws
 pub mod Parts
 pub mod Lengths
 pub mod Again
+pub mod Heads

@@ -1,3 +1,4 @@
 pub mod Names
 pub mod Normal
 pub mod Order
+pub mod Heads

@@ -1,8 +1,9 @@
 //! The name of a file or a directory.
 
-ghost use Rattle.std.specs.Prelude.{◌≡◌, ◌↔◌, IsTrue, IfOk, Some, length, refl};
+ghost use Rattle.std.specs.Prelude.{◌≡◌, ◌↔◌, IsTrue, IfOk, Some, length, refl, slice_index_or};
 ghost use Rattle.std.specs.Cmp.{eq_by_cmp_equiv, partial_equiv_from_equiv, partial_order_from_total};
 ghost use Rattle.sf_path.specs.Names.{IsName};
+ghost use Rattle.sf_path.specs.Heads.{head_of};
 ghost use Rattle.sf_path.specs.Order.{same_name, name_cmp, name_total};
 
 use smallvec::SmallVec;
@@ -12,30 +13,63 @@ use std::marker::Model;
 
 /// How many bytes of a name need no block of memory of their own. With them a name takes 64 bytes, and the
 /// blocks of an ordered map of names are such as the C library gives back.
-const SHORT_NAME: usize = 48;
+const SHORT_NAME: usize = 40;
 
 /// The name of a file or a directory: 1 to 255 bytes without a slash and a byte 0, and neither `.` nor `..`.
 /// It need not be UTF-8.
 #[derive(Debug)]
 pub struct Name {
+    /// What `head_of` makes of the bytes. Names whose heads differ stand in the order of their heads, so that
+    /// a search among many names looks at one number of most of them.
+    head: u64,
     bytes: SmallVec<u8, SHORT_NAME>,
 }
 
 impl Model for Name {
-    ghost use Rattle.std.specs.Prelude.{List, ℕ};
+    ghost use Rattle.std.specs.Prelude.{List, ℕ, ◌≡◌};
     ghost use Rattle.sf_path.specs.Names.{IsName};
+    ghost use Rattle.sf_path.specs.Heads.{head_of};
 
     ghost Value = { List ℕ };
 
     ghost view = { λ name. name.bytes.items };
 
-    ghost invariant = { λ name. IsName name.bytes.items };
+    ghost invariant = { λ name. IsName name.bytes.items × (name.head ≡ head_of name.bytes.items) };
 }
 
 impl Drop for Name {
     // By hand: where a name is dropped, a proof then sees one call and not the name's parts.
     fn drop(self) {
-        let Self { bytes: _bytes } = self;
+        let Self {
+            head: _,
+            bytes: _bytes,
+        } = self;
+    }
+}
+
+/// The first 8 bytes as a number, the first one the greatest; after fewer bytes come zeros.
+fn head_of(bytes: &[u8]) -> u64
+    ensures { result ≡ head_of bytes.now }
+{
+    u64::from_be_bytes([
+        byte_at(bytes, 0),
+        byte_at(bytes, 1),
+        byte_at(bytes, 2),
+        byte_at(bytes, 3),
+        byte_at(bytes, 4),
+        byte_at(bytes, 5),
+        byte_at(bytes, 6),
+        byte_at(bytes, 7),
+    ])
+}
+
+/// The byte at a place, or 0 past the end.
+fn byte_at(bytes: &[u8], i: usize) -> u8
+    ensures { result ≡ slice_index_or bytes.now i 0 }
+{
+    match bytes.get(i) {
+        Some(byte) => *byte,
+        None => 0,
     }
 }
 
@@ -46,6 +80,7 @@ impl Name {
         ensures { IfOk result (λ name. name ≡ bytes.now) }
     {
         Ok(Name {
+            head: head_of(bytes),
             bytes: SmallVec::from_slice(alloc, bytes)?,
         })
     }
@@ -70,7 +105,8 @@ impl Name {
         ensures { IfOk result (λ copy. copy ≡ self.now) }
     {
         Ok(Name {
-            bytes: SmallVec::from_slice(alloc, self.as_slice())?,
+            head: self.head,
+            bytes: SmallVec::from_slice(alloc, self.bytes.as_slice())?,
         })
     }
 }
@@ -113,6 +149,9 @@ impl Ord for Name {
 
     /// The order of the names' bytes.
     fn cmp(&self, other: &Name) -> Ordering {
+        if self.head != other.head {
+            return self.head.cmp(&other.head);
+        }
         self.bytes.cmp(&other.bytes)
     }
 }

@@ -141,6 +141,11 @@ fn order(rt: HostRuntime) -> Result<(), Fail> {
         b"/a/z".as_slice(),
         b"/a-b".as_slice(),
         b"/aa".as_slice(),
+        b"/aaaaaaaa".as_slice(),
+        b"/aaaaaaaaa".as_slice(),
+        b"/aaaaaaaaab".as_slice(),
+        b"/aaaaaaaab".as_slice(),
+        b"/aaaaaaab".as_slice(),
         b"/b/a".as_slice(),
         b"/\xff".as_slice(),
     ];

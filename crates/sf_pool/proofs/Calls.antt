@@ -17,7 +17,7 @@ use Rattle.sf_pool.specs.declared.desk.Begin.{Begin}
 use Rattle.sf_pool.specs.Audits.{Deed}
 use Rattle.sf_pool.specs.Desks.{Place, Resting, UnderWay, IsResting, IsUnderWay, IsAnswered, IsLast, Answers, DeskView, Notes}
 use Rattle.sf_pool.specs.Scenes.{answer_deeds, Attempt, attempt, answer_attempts, Begins}
-use Rattle.sf_pool.specs.Serving.{MakesCall, FailsSteps, LacksReply}
+use Rattle.sf_pool.specs.Serving.{MakesCall, talk, FailsSteps, LacksReply}
 use Rattle.sf_pool.proofs.Talking.{notes_none}
 
 abbrev deed : ℕ → Request → Reply → Deed
@@ -57,7 +57,7 @@ made_at request Asked d d1 d2 number n reply v w (Some id) at calls answers last
 
 pub call_made : (request : Request) (Asked : List Attempt → Type 0) (d d1 d2 : DeskView) (number n : ℕ) (reply : Reply) (v w : SessionView) → d1.place ≡ UnderWay number request → d1.calls ≡ d.calls
     → Answers d1.place d1.calls d2 → IsLast d2.place n reply
-    → IfSome v.waiting (λ id. w ≡ record v { output = v.output ++ packet (reply_body id reply); waiting = None }) → Asked (attempt request (Ok number) ∷ []) → MakesCall request Asked d d2 v w
+    → IfSome v.waiting (λ id. w ≡ record v { output = v.output ++ packet (reply_body id reply); waiting = None }) → Asked (attempt request (Ok number) ∷ []) → MakesCall request Asked (talk d v) (talk d2 w)
 call_made request Asked d d1 d2 number n reply v w at calls answers last written asked = made_at request Asked d d1 d2 number n reply v w v.waiting at calls answers last written asked
 
 refused_at : (request : Request) (Asked : List Attempt → Type 0) (d d1 : DeskView) (fault : CoreFault) (v w : SessionView) (waiting : Option ℕ) → IsResting d.place → d1 ≡ d
@@ -76,7 +76,7 @@ refused_at request Asked d d1 fault v w (Some id) rests same written asked = (
 )
 
 pub call_refused : (request : Request) (Asked : List Attempt → Type 0) (d d1 : DeskView) (fault : CoreFault) (v w : SessionView) → IsResting d.place → d1 ≡ d
-    → IfSome v.waiting (λ id. w ≡ record v { output = v.output ++ packet (reply_body id (refusal_of fault)); waiting = None }) → Asked (attempt request (Err fault) ∷ []) → MakesCall request Asked d d1 v w
+    → IfSome v.waiting (λ id. w ≡ record v { output = v.output ++ packet (reply_body id (refusal_of fault)); waiting = None }) → Asked (attempt request (Err fault) ∷ []) → MakesCall request Asked (talk d v) (talk d1 w)
 call_refused request Asked d d1 fault v w rests same written asked = refused_at request Asked d d1 fault v w v.waiting rests same written asked
 
 pub steps_failed : (request : Request) (number : ℕ) (why : Stop) (d d1 d2 : DeskView) → d1.place ≡ UnderWay number request → d1.calls ≡ d.calls → FailsSteps why d1 d2 → LacksReply request number why d d2

@@ -26,7 +26,7 @@ use Rattle.sf_pool.specs.declared.desk.Begin.{Begin}
 use Rattle.sf_pool.specs.Audits.{Deed}
 use Rattle.sf_pool.specs.Desks.{IsResting, DeskView, Notes}
 use Rattle.sf_pool.specs.Scenes.{Scene, scene, answer_deeds, Attempt, answer_attempts, Begins, Serves, HasSentAll, IsServed}
-use Rattle.sf_pool.specs.Serving.{Goes, Rests, SendsPart, MakesCall, FailsCall, StopsAt, HasSentFor}
+use Rattle.sf_pool.specs.Serving.{Goes, Rests, SendsPart, MakesCall, talk, FailsCall, StopsAt, HasSentFor}
 use Rattle.sf_pool.proofs.Talking.{notes_none, begins_none, fed, read_serves, still_serves, answer_serves, answer_goes, answered, pend_serves, pended, write_serves, sent_more, all_sent, end_serves, ended_by}
 
 -- what answers a body with no call
@@ -57,12 +57,12 @@ local_serves start i o c tl b d v w gives serves =
 
 -- a packet's call was made, or refused
 pub call_serves : (start : Scene) (i o : Option (List ℕ)) (c : Option (List LineCall)) (tl tl' : Option (List ℕ)) (b b' : Option (List Begin)) (d d' : DeskView) (v m w : SessionView) (request : Request)
-    → NextGives v (next.Call request) m → MakesCall request (Begins tl tl' b b') d d' m w → Serves start (scene i o c tl b d) (Goes v) → Serves start (scene i o c tl' b' d') (Goes w)
+    → NextGives v (next.Call request) m → MakesCall request (Begins tl tl' b b') (talk d m) (talk d' w) → Serves start (scene i o c tl b d) (Goes v) → Serves start (scene i o c tl' b' d') (Goes w)
 call_serves start i o c tl tl' b b' d d' v m w request gives made serves =
     let t = serves.0 in
     let goes = serves.2 in
     let h = gives.1 in
-    let a = subst (λ (x : SessionView). MakesCall request (Begins tl tl' b b') d d' x w) h.now made in
+    let a = subst (λ (x : SessionView). MakesCall request (Begins tl tl' b b') (talk d x) (talk d' w)) h.now made in
     let whole : t.unread ≡ packet h.body ++ h.rest = sym goes.unread ∙ h.begins.whole in
     let asks : AsksFor (has_begun t.bodies) h.body (asked_by a.0) =
     subst (λ (g : Bool). AsksFor g h.body (asked_by a.0)) goes.begun (subst (λ (x : Ask). AsksFor v.begun h.body x) (sym a.1) h.asks) in (
@@ -71,10 +71,10 @@ call_serves start i o c tl tl' b b' d d' v m w request gives made serves =
       answer_goes v w t h.body h.rest a.0 goes (ap (λ (x : SessionView). x.unread) a.2) (ap (λ (x : SessionView). x.begun) a.2) (ap (λ (x : SessionView). x.ended) a.2) (ap (λ (x : SessionView). x.output) a.2),
     )
 
-pub call_ready : (Asked : List Attempt → Type 0) (d d' : DeskView) (v m w : SessionView) (request : Request) → NextGives v (next.Call request) m → MakesCall request Asked d d' m w → (w.waiting ≡ None) × IsResting d'.place
+pub call_ready : (Asked : List Attempt → Type 0) (d d' : DeskView) (v m w : SessionView) (request : Request) → NextGives v (next.Call request) m → MakesCall request Asked (talk d m) (talk d' w) → (w.waiting ≡ None) × IsResting d'.place
 call_ready Asked d d' v m w request gives made =
     let h = gives.1 in
-    let a = subst (λ (x : SessionView). MakesCall request Asked d d' x w) h.now made in
+    let a = subst (λ (x : SessionView). MakesCall request Asked (talk d x) (talk d' w)) h.now made in
     (ap (λ (x : SessionView). x.waiting) a.2, a.3)
 
 -- a packet's call has no reply (what its phase tells of its moment and its moves is of no account)

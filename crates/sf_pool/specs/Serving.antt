@@ -48,11 +48,19 @@ abbrev pub HasRead : Bool → Option (List ℕ) → SessionView → Told → Typ
 HasRead true incoming v t = IsServed incoming t
 HasRead false incoming v t = Goes v t
 
+-- A desk, and the session that asks it.
+pub record Talk : Type 0 where
+  pub desk : DeskView
+  pub session : SessionView
+
+abbrev pub talk : DeskView → SessionView → Talk
+talk desk session = record { desk = desk; session = session }
+
 -- The session's call was made, or refused by the desk: its reply is appended to the output. The desk was asked for it alone.
-abbrev pub MakesCall : Request → (List Attempt → Type 0) → DeskView → DeskView → SessionView → SessionView → Type 0
-MakesCall request Asked d d' v w = IfSome v.waiting (λ id. (a : Answered) × (asked_by a ≡ ask.Call id request)
-    × (w ≡ record v { output = v.output ++ packet_for a; waiting = None })
-    × IsResting d'.place × Notes d.calls d'.calls (answer_deeds a) × Asked (answer_attempts a))
+abbrev pub MakesCall : Request → (List Attempt → Type 0) → Talk → Talk → Type 0
+MakesCall request Asked x y = IfSome x.session.waiting (λ id. (a : Answered) × (asked_by a ≡ ask.Call id request)
+    × (y.session ≡ record x.session { output = x.session.output ++ packet_for a; waiting = None })
+    × IsResting y.desk.place × Notes x.desk.calls y.desk.calls (answer_deeds a) × Asked (answer_attempts a))
 
 -- The steps stop with no answer.
 abbrev pub FailsSteps : Stop → DeskView → DeskView → Type 0

@@ -3,7 +3,7 @@
 ghost use Rattle.std.specs.Prelude.{◌≡◌, IsSome, OnOk, OnErr, IfOk, IfErr};
 ghost use Rattle.sf_pool.specs.Desks.{IsResting, IsUnderWay, Answers};
 ghost use Rattle.sf_pool.specs.Scenes.{Begins};
-ghost use Rattle.sf_pool.specs.Serving.{MakesCall, FailsSteps, FailsCall};
+ghost use Rattle.sf_pool.specs.Serving.{MakesCall, talk, FailsSteps, FailsCall};
 
 use crate::desk::{Desk, Told};
 use crate::gate::Gate;
@@ -53,7 +53,7 @@ pub(crate) fn make_call<D: Desk, C: Clock, G: Gate>(
 ) -> Result<(), Stop>
     requires waiting { IsSome session.old.waiting }
     requires resting { IsResting (D.at desk.old).place }
-    ensures made { OnOk result (MakesCall request (Begins (C.told clock.old) (C.told clock.new) (D.begins desk.old) (D.begins desk.new)) (D.at desk.old) (D.at desk.new) session.old session.new) }
+    ensures made { OnOk result (MakesCall request (Begins (C.told clock.old) (C.told clock.new) (D.begins desk.old) (D.begins desk.new)) (talk (D.at desk.old) session.old) (talk (D.at desk.new) session.new)) }
     ensures fails { IfErr result (λ stop. FailsCall request stop (Begins (C.told clock.old) (C.told clock.new) (D.begins desk.old) (D.begins desk.new)) (D.at desk.old) (D.at desk.new)) }
 {
     let moment = clock.now();

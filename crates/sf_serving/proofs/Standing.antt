@@ -171,7 +171,7 @@ had_last [] a more h = h.0
 had_last (x ∷ front) a more h = had_last front a more h.1
 
 -- a resting session's turn
-rest_goes : (h added : List Record) (begun m : ℕ) (t t' : Told) (r : Happened) → Stands Resting h begun → RestLeads (lone h begun (with_phase t Resting)) 1 m (with_phase t Resting) r added t'
+rest_goes : (h added : List Record) (begun m : ℕ) (t t' : Told) (r : Happened) → Stands Resting h begun → RestLeads m (record { world = (lone h begun (with_phase t Resting)); session = 1; told = (with_phase t Resting); added = added; now = t' }) r
     → Goes h added begun (begun + calls_begun r) (with_phase t Resting) t' (moment_begun (event.Turn 1 m) (Ok r))
 rest_goes h added begun m t t' happened.Idle k g =
     goes_same h added begun (with_phase t Resting) t' g.1 (ap (λ (z : Told). z.answers) g.2) (ap (λ (z : Told). z.phase) g.2) k
@@ -255,7 +255,7 @@ by_call h begun moments id n m q given more same some low e (inr x) =
 -- a turn of a session whose call is under way
 step_goes : (h added rest : List Record) (begun turn : ℕ) (t t' : Told) (id n m : ℕ) (q : Request) (moves : ℕ) (r : Happened) → Stands (UnderWay id n m q moves) h begun
     → IsLegal (h ++ (added ++ rest)) → AllByRecursion HadMemoryFor added
-    → StepLeads (lone h begun (with_phase t (UnderWay id n m q moves))) 1 (with_phase t (UnderWay id n m q moves)) id n m q moves r added t'
+    → StepLeads (record { world = (lone h begun (with_phase t (UnderWay id n m q moves))); session = 1; told = (with_phase t (UnderWay id n m q moves)); added = added; now = t' }) (record { id = id; number = n; moment = m; request = q; moves = moves }) r
     → Goes h added begun (begun + calls_begun r) (with_phase t (UnderWay id n m q moves)) t' (moment_begun (event.Turn 1 turn) (Ok r))
 step_goes h added rest begun turn t t' id n m q moves happened.Moved k legal had g =
     let answered : t'.answers ≡ t.answers = ap (λ (z : Told). z.answers) g.2 in
@@ -335,7 +335,7 @@ goes_none h added begun more t t' now e g =
     subst (λ (k : ℕ). Goes h added begun (begun + k) t t' now) (sym e.0) (subst (λ (xs : List ℕ). Goes h added begun (begun + 0) t t' xs) (sym e.1) g)
 
 turn_goes : (f : Phase) (h added rest : List Record) (begun turn : ℕ) (t t' : Told) (r : Happened) → Stands f h begun → IsLegal (h ++ (added ++ rest)) → AllByRecursion HadMemoryFor added
-    → TurnLeads (lone h begun (with_phase t f)) 1 turn (with_phase t f) f r added t' → Goes h added begun (begun + calls_begun r) (with_phase t f) t' (moment_begun (event.Turn 1 turn) (Ok r))
+    → TurnLeads turn (record { world = (lone h begun (with_phase t f)); session = 1; told = (with_phase t f); added = added; now = t' }) f r → Goes h added begun (begun + calls_begun r) (with_phase t f) t' (moment_begun (event.Turn 1 turn) (Ok r))
 turn_goes Resting h added rest begun turn t t' r k legal had g = rest_goes h added begun turn t t' r k g
 turn_goes (UnderWay id n m q moves) h added rest begun turn t t' r k legal had g = step_goes h added rest begun turn t t' id n m q moves r k legal had g
 turn_goes (Decided id n q given) h added rest begun turn t t' r k legal had g =
@@ -396,7 +396,7 @@ happens_on h added rest begun t w' (event.Turn s m) r k legal had own g =
     let u = g'.0 in
     let t' = g'.1 in
     let is : u ≡ t = same_told h begun t u g'.2 in
-    let leads : TurnLeads (lone h begun t) 1 m t t.phase r added t' = subst (λ (z : Told). TurnLeads (lone h begun t) 1 m z z.phase r added t') is g'.3 in
+    let leads : TurnLeads m (record { world = (lone h begun t); session = 1; told = t; added = added; now = t' }) t.phase r = subst (λ (z : Told). TurnLeads m (record { world = (lone h begun t); session = 1; told = z; added = added; now = t' }) z.phase r) is g'.3 in
     record {
       told = t';
       count = begun + calls_begun r;

@@ -16,7 +16,7 @@ use Rattle.sf_engine.specs.Traces.{has_begun, IsSession, TakesBytes, LeadsBy, Tu
 use Rattle.sf_engine.specs.Views.{EngineView}
 use Rattle.sf_engine.specs.Fits.{GoesOnTrace}
 use Rattle.sf_line.specs.declared.line_call.LineCall.{LineCall}
-use Rattle.sf_serving.specs.Serving.{Scene, scene, MayBegin, may_begin_after, IsFront, IsLow, IsLowAt, Progress, progress, Serves, IsInStep, GoesOn, GoesOnBy, HasTurnBy, IsIdle, Turns}
+use Rattle.sf_serving.specs.Serving.{Scene, scene, MayBegin, may_begin_after, IsFront, IsLow, IsLowAt, Progress, progress, Serves, IsInStep, GoesOn, GoesOnBy, HasTurnBy, IsIdle, Turns, timed}
 use Rattle.sf_serving.proofs.Causes.{not_closed}
 use Rattle.sf_serving.proofs.Following.{Follows, Leading, Timing, go_on, same_told}
 
@@ -51,7 +51,7 @@ takes_same t t' e takes = subst (λ (z : Told). TakesBytes z) (sym e) takes
 busy_now : (t' u : Told) → t' ≡ u → MayBegin false u.phase → MayBegin false t'.phase
 busy_now t' u e busy = subst (λ (z : Told). MayBegin false z.phase) (sym e) busy
 
-rest_turned : (w : World) (s m : ℕ) (t : Told) (r : Happened) (added : List Record) (t' : Told) → t.phase ≡ Resting → TakesBytes t → RestLeads w s m t r added t' → Turned t t' × ComesTo r t t'
+rest_turned : (w : World) (s m : ℕ) (t : Told) (r : Happened) (added : List Record) (t' : Told) → t.phase ≡ Resting → TakesBytes t → RestLeads m (record { world = w; session = s; told = t; added = added; now = t' }) r → Turned t t' × ComesTo r t t'
 rest_turned w s m t happened.Idle added t' rests takes g =
     (turned_same t t' g.2, (g.2, ap (λ (z : Told). z.phase) g.2 ∙ rests, subst (λ (z : Told). IsCut z.unread cut.More) (sym g.2) g.0))
 rest_turned w s m t happened.Wrote added t' rests takes g = (
@@ -89,7 +89,7 @@ rest_turned w s m t happened.Decided added t' rests takes g = absurd g
 rest_turned w s m t happened.Closed added t' rests takes g = absurd g
 rest_turned w s m t happened.Sent added t' rests takes g = absurd g
 
-step_turned : (w : World) (s : ℕ) (t : Told) (id n k : ℕ) (q : Request) (moves : ℕ) (r : Happened) (added : List Record) (t' : Told) → TakesBytes t → MayBegin false t.phase → StepLeads w s t id n k q moves r added t'
+step_turned : (w : World) (s : ℕ) (t : Told) (id n k : ℕ) (q : Request) (moves : ℕ) (r : Happened) (added : List Record) (t' : Told) → TakesBytes t → MayBegin false t.phase → StepLeads (record { world = w; session = s; told = t; added = added; now = t' }) (record { id = id; number = n; moment = k; request = q; moves = moves }) r
     → Turned t t' × ComesTo r t t'
 step_turned w s t id n k q moves happened.Moved added t' takes busy g = (
   record {
@@ -134,7 +134,7 @@ wrote_turned t id n q given r t' takes is now =
       subst (λ (x : Happened). ComesTo x t t') (sym is) came,
     )
 
-turned_by : (w : World) (s m : ℕ) (t : Told) (f : Phase) (r : Happened) (added : List Record) (t' : Told) → t.phase ≡ f → TakesBytes t → TurnLeads w s m t f r added t'
+turned_by : (w : World) (s m : ℕ) (t : Told) (f : Phase) (r : Happened) (added : List Record) (t' : Told) → t.phase ≡ f → TakesBytes t → TurnLeads m (record { world = w; session = s; told = t; added = added; now = t' }) f r
     → Turned t t' × ComesTo r t t'
 turned_by w s m t Resting r added t' at takes g = rest_turned w s m t r added t' at takes g
 turned_by w s m t (UnderWay id n k q moves) r added t' at takes g =
@@ -172,7 +172,7 @@ turn_leads : (s m : ℕ) (t : Told) (unfed : List ℕ) (r : Result Happened Engi
 turn_leads s m t unfed (Ok r) takes w w' added session leads =
     let same : leads.0 ≡ t = same_told w s leads.0 t leads.2 session in
     let P : World → Type 0 = λ z. IsSession z s leads.1 in
-    let L : Told → Type 0 = λ z. TurnLeads w s m z z.phase r added leads.1 in
+    let L : Told → Type 0 = λ z. TurnLeads m (record { world = w; session = s; told = z; added = added; now = leads.1 }) z.phase r in
     let h = turned_by w s m t t.phase r added leads.1 refl takes (subst L same leads.3) in (
       leads.1,
       unfed,
@@ -211,16 +211,16 @@ turned_to s (Ok happened.Closed) p p' on step fed to = (record { in_step = step;
 turned_to s (Ok happened.Sent) p p' on step fed to = (record { in_step = step; fed = fed; takes = to.0 }, to.1)
 
 -- a session that doesn't rest begins no call
-begins_none : (w : World) (s m : ℕ) (t : Told) (f : Phase) (r : Happened) (added : List Record) (t' : Told) → MayBegin false f → TurnLeads w s m t f r added t' → r ≢ happened.Begun
+begins_none : (w : World) (s m : ℕ) (t : Told) (f : Phase) (r : Happened) (added : List Record) (t' : Told) → MayBegin false f → TurnLeads m (record { world = w; session = s; told = t; added = added; now = t' }) f r → r ≢ happened.Begun
 begins_none w s m t Resting r added t' busy g e = busy
-begins_none w s m t (UnderWay id n k q moves) r added t' busy g e = subst (λ (x : Happened). StepLeads w s t id n k q moves x added t') e g
+begins_none w s m t (UnderWay id n k q moves) r added t' busy g e = subst (λ (x : Happened). StepLeads (record { world = w; session = s; told = t; added = added; now = t' }) (record { id = id; number = n; moment = k; request = q; moves = moves }) x) e g
 begins_none w s m t (Decided id n q given) r added t' busy g e = let no : happened.Wrote ≡ happened.Begun = sym g.0 ∙ e in cc
 begins_none w s m t (Gone cause) r added t' busy g e = let no : happened.Ended cause ≡ happened.Begun = sym g.0 ∙ e in cc
 
 turn_begins_none : (s m : ℕ) (t : Told) (r : Result Happened EngineFault) (w w' : World) (added : List Record) → MayBegin false t.phase → IsSession w s t → LeadsBy w (event.Turn s m) r added w' → r ≢ Ok happened.Begun
 turn_begins_none s m t (Ok r) w w' added busy session leads e =
     let same : leads.0 ≡ t = same_told w s leads.0 t leads.2 session in
-    let L : Told → Type 0 = λ z. TurnLeads w s m z z.phase r added leads.1 in
+    let L : Told → Type 0 = λ z. TurnLeads m (record { world = w; session = s; told = z; added = added; now = leads.1 }) z.phase r in
     let begun : r ≡ happened.Begun = cc in
     begins_none w s m t t.phase r added leads.1 busy (subst L same leads.3) begun
 turn_begins_none s m t (Err f) w w' added busy session leads e = cc
@@ -233,7 +233,7 @@ turn_timed s m t r begin moments may (inr none) w w' added session leads =
 
 -- one turn
 pub turned_serves : (start : Scene) (incoming outgoing : Option (List ℕ)) (calls : Option (List LineCall)) (told told' : Option (List ℕ)) (e e' : EngineView) (s : ℕ) (begin : Bool) (r : Result Happened EngineFault)
-    → Serves start (scene incoming outgoing calls told e) (HasTurnBy s begin) → Turns e s begin r e' told told'
+    → Serves start (scene incoming outgoing calls told e) (HasTurnBy s begin) → Turns (timed e told) s begin r (timed e' told')
     → Serves start (scene incoming outgoing calls told' e') (TurnedTo s r)
 turned_serves start incoming outgoing calls told told' e e' s begin r serves turns trace fits =
     let h = serves trace fits in

@@ -213,10 +213,18 @@ HasStopped f p = (f ≢ fault.Line → HasSentAll p × (p.written ≡ p.told.sen
 abbrev pub Feeds : EngineView → ℕ → List ℕ → EngineView → Type 0
 Feeds e session bytes e' = (fed : Vec ℕ) × (fed.items ≡ bytes) × (r : Happened) × GoesOnTrace e (event.Feed session fed) (Ok r) e'
 
+-- An engine, and what a clock has told.
+pub record Timed : Type 0 where
+  pub engine : EngineView
+  pub told : Option (List ℕ)
+
+abbrev pub timed : EngineView → Option (List ℕ) → Timed
+timed engine told = record { engine = engine; told = told }
+
 -- The session had a turn, at a moment that the clock told, or at any where no call may begin.
-abbrev pub Turns : EngineView → ℕ → Bool → Result Happened EngineFault → EngineView → (told told' : Option (List ℕ)) → Type 0
-Turns e session may_begin result e' told told' = (moment : ℕ) × (moments : List ℕ) × GoesOnTrace e (event.Turn session moment) result e'
-    × Appends told told' moments × ((moments ≡ moment ∷ []) ⊎ ((moments ≡ []) × (may_begin ≡ false)))
+abbrev pub Turns : Timed → ℕ → Bool → Result Happened EngineFault → Timed → Type 0
+Turns x session may_begin result y = (moment : ℕ) × (moments : List ℕ) × GoesOnTrace x.engine (event.Turn session moment) result y.engine
+    × Appends x.told y.told moments × ((moments ≡ moment ∷ []) ⊎ ((moments ≡ []) × (may_begin ≡ false)))
 
 -- the event was applied, or refused
 abbrev pub Applies : EngineView → Event → EngineView → Type 0

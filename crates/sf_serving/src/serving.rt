@@ -6,7 +6,7 @@ ghost use Rattle.sf_line.specs.Lines.{Rose};
 ghost use Rattle.sf_engine.specs.declared.event.Event.TheVariants.{Open};
 ghost use Rattle.sf_engine.specs.declared.event.Happened.TheVariants.{Opened};
 ghost use Rattle.sf_engine.specs.Fits.{GoesOnTrace};
-ghost use Rattle.sf_serving.specs.Serving.{Scene, scene, may_begin_after, Serves, GoesOn, GoesOnBy, HasTurn, HasTurnBy, Turns, Rests, IsDrained, IsRounded, Stops, HasSentFor, HasStopped, Waits, Feeds, Applies, SendsAll, SendsSome, ServesLine, StopsEarly, IsUnchanged, refusal_of, IsOpenFault, IsRoundFault, IsServeFault};
+ghost use Rattle.sf_serving.specs.Serving.{Scene, scene, may_begin_after, Serves, GoesOn, GoesOnBy, HasTurn, HasTurnBy, Turns, timed, Rests, IsDrained, IsRounded, Stops, HasSentFor, HasStopped, Waits, Feeds, Applies, SendsAll, SendsSome, ServesLine, StopsEarly, IsUnchanged, refusal_of, IsOpenFault, IsRoundFault, IsServeFault};
 
 use sf_engine::{Engine, EngineFault, Event, Happened};
 use sf_line::{Line, LineFault, write_all};
@@ -121,7 +121,7 @@ fn turn<C: Clock>(
     session: u64,
     may_begin: bool,
 ) -> Result<Happened, EngineFault>
-    ensures { Turns engine.old session may_begin result engine.new (C.told clock.old) (C.told clock.new) }
+    ensures { Turns (timed engine.old (C.told clock.old)) session may_begin result (timed engine.new (C.told clock.new)) }
 {
     if !may_begin {
         return engine.apply(&Event::Turn(session, 0));

@@ -1,31 +1,29 @@
 -- Reading and writing a file's bytes.
-use Rattle.std.specs.Prelude.{if◌then◌else◌, ◌≡◌, ◌↔◌, IsTrue, ℕ, ◌+◌, ◌-◌, ◌<◌, min, nat_lt, nat_le, Bool, true, false, not, List, [], ◌∷◌, length, take, drop, option_map, Option, Some, None, refl}
+use Rattle.std.specs.Prelude.{if◌then◌else◌, ◌≡◌, ◌↔◌, IsTrue, ℕ, ◌+◌, nat_lt, Bool, true, false, not, List, [], ◌∷◌, length, option_map, Option, Some, None, refl}
 use Rattle.std.specs.Option.{option_map_or}
-use Rattle.std.proofs.lemmas.Bool.Decides.{nat_tests}
-use Rattle.std.proofs.lemmas.List.{length-drop, take_min}
-use Rattle.std.proofs.Common.{sym, ap, subst, ◌∙◌, arith}
+use Rattle.std.proofs.Common.{sym, ap, subst, ◌∙◌}
 use Rattle.sf_reply.specs.declared.reply.Reply.TheVariants as reply
-use Rattle.sf_reply.specs.declared.reply.StatusCode.TheVariants.{Success, EndOfFile, PermissionDenied, Failure}
+use Rattle.sf_reply.specs.declared.reply.StatusCode.TheVariants.{Success, PermissionDenied, Failure}
 use Rattle.sf_call.specs.declared.handle.Handle.{Handle}
 use Rattle.sf_call.specs.declared.metadata.Metadata.{Metadata}
-use Rattle.sf_call.specs.declared.limits.TheConstants.{MAX_FILE_SIZE, MAX_READ}
-use Rattle.sf_call.specs.Attributes.{modified_at}
+use Rattle.sf_call.specs.declared.limits.TheConstants.{MAX_FILE_SIZE}
+use Rattle.sf_call.specs.Attributes.{Object, modified_at}
 use Rattle.sf_call.specs.Attributes.Object.{File}
-use Rattle.sf_block.specs.Contents.{written, Stored, with_room}
+use Rattle.sf_block.specs.Contents.{written}
 use Rattle.sf_call.specs.Tree.{Tree, is_nil}
 use Rattle.sf_call.specs.Handles.{Opened, opened, opened_object}
 use Rattle.sf_call.specs.Handles.Opened.{OpenDirectory, OpenFile}
 use Rattle.sf_call.specs.Changes.{changed}
 use Rattle.sf_call.specs.Changes.Change.{SetObject}
-use Rattle.sf_call.specs.Calls.{Answer, tells, refuses, succeeds, read, write, start_of}
+use Rattle.sf_call.specs.Calls.{Answer, refuses, succeeds, write, start_of}
 use Rattle.sf_inode.specs.declared.node.Node.{Node}
 use Rattle.sf_inode.specs.declared.node.Content.{Content}
 use Rattle.sf_inode.specs.declared.node.Content.TheVariants as content
 use Rattle.sf_inode.specs.declared.handle.OpenHandle.{OpenHandle}
-use Rattle.sf_inode.specs.Nodes.{object_in, stored_in, with_stored, with_content, with_metadata, is_file_content}
-use Rattle.sf_inode.specs.Stores.{StoreState, node_in, stored_of, stored_set, file_size, is_file_at, shown_of, shown_node, shown_handle, edited}
+use Rattle.sf_inode.specs.Nodes.{object_in, bytes_in, with_bytes, with_content, with_metadata, is_file_content}
+use Rattle.sf_inode.specs.Stores.{StoreState, node_in, bytes_of, bytes_set, file_size, is_file_at, shown_of, shown_node, shown_handle, edited}
 use Rattle.sf_keeps.specs.Keeps.{Keeps}
-use Rattle.sf_keeps.proofs.Laws.{keeps_reserved, keeps_contents, keeps_file, object_again, edited_itself}
+use Rattle.sf_keeps.proofs.Laws.{keeps_contents, keeps_file, object_again, edited_itself}
 use Rattle.sf_walk.specs.Served.{IsCarriedOut, is_success}
 use Rattle.sf_walk.proofs.Told.{tells_served}
 use Rattle.sf_walk.proofs.SetNodes.{shown_stored, stored_bytes}
@@ -70,25 +68,25 @@ some_bytes b [] h e = let t : b ≡ true = h.1 refl in cc
 some_bytes b (x ∷ xs) h e = refl
 
 -- ---- sizes
-size_is : (nodes : List (Option Node)) (id size : ℕ) → Some size ≡ file_size nodes id → (is_file_at nodes id ≡ true) × (size ≡ length (stored_of nodes id).bytes)
+size_is : (nodes : List (Option Node)) (id size : ℕ) → Some size ≡ file_size nodes id → (is_file_at nodes id ≡ true) × (size ≡ length (bytes_of nodes id))
 size_is nodes id size e =
-    elim (is_file_at nodes id) as (λ b. is_file_at nodes id ≡ b → Some size ≡ (if b then Some (length (stored_of nodes id).bytes) else None) → (is_file_at nodes id ≡ true) × (size ≡ length (stored_of nodes id).bytes)) [
-      | true ↦ λ f q. (f, (let w : size ≡ length (stored_of nodes id).bytes = cc in w))
+    elim (is_file_at nodes id) as (λ b. is_file_at nodes id ≡ b → Some size ≡ (if b then Some (length (bytes_of nodes id)) else None) → (is_file_at nodes id ≡ true) × (size ≡ length (bytes_of nodes id))) [
+      | true ↦ λ f q. (f, (let w : size ≡ length (bytes_of nodes id) = cc in w))
       | false ↦ λ f q. absurd (let x : ⊥ = cc in x)
     ] refl e
 
 no_size : (nodes : List (Option Node)) (id : ℕ) → None ≡ file_size nodes id → is_file_at nodes id ≡ false
 no_size nodes id e =
-    elim (is_file_at nodes id) as (λ b. is_file_at nodes id ≡ b → None ≡ (if b then Some (length (stored_of nodes id).bytes) else None) → is_file_at nodes id ≡ false) [
+    elim (is_file_at nodes id) as (λ b. is_file_at nodes id ≡ b → None ≡ (if b then Some (length (bytes_of nodes id)) else None) → is_file_at nodes id ≡ false) [
       | true ↦ λ f q. absurd (let x : ⊥ = cc in x)
       | false ↦ λ f q. f
     ] refl e
 
 -- what a file shows, and what is open then
 abbrev pub IsOpenFile : List (Option Node) → ℕ → ℕ → Handle → Opened → Type 0
-IsOpenFile nodes id label handle o = (m : Metadata) × ((shown_of nodes id ≡ Some (label, File m (stored_of nodes id).bytes)) × (o ≡ OpenFile handle m (stored_of nodes id).bytes))
+IsOpenFile nodes id label handle o = (m : Metadata) × ((shown_of nodes id ≡ Some (label, File m (bytes_of nodes id))) × (o ≡ OpenFile handle m (bytes_of nodes id)))
 
-file_content : (nodes : List (Option Node)) (id l label : ℕ) (handle : Handle) (o : Opened) (m : Metadata) (c : Content) → shown_of nodes id ≡ Some (l, object_in m c) → (stored_of nodes id).bytes ≡ (stored_in c).bytes
+file_content : (nodes : List (Option Node)) (id l label : ℕ) (handle : Handle) (o : Opened) (m : Metadata) (c : Content) → shown_of nodes id ≡ Some (l, object_in m c) → (bytes_of nodes id) ≡ bytes_in c
     → l ≡ label → o ≡ opened_object handle (Some (object_in m c)) → is_file_content c ≡ true → IsOpenFile nodes id label handle o
 file_content nodes id l label handle o m (content.Directory es) shows bytes e is f = absurd (let x : ⊥ = cc in x)
 file_content nodes id l label handle o m (content.File contents) shows bytes e is f = (m, (shows ∙ (λ i. Some (e i, File m (sym bytes i))), is ∙ ap (OpenFile handle m) (sym bytes)))
@@ -98,7 +96,7 @@ module _ (s : StoreState) (t : Tree) (session number : ℕ) (h : OpenHandle) (o 
   open_file : is_file_at s.nodes h.node ≡ true → IsOpenFile s.nodes h.node h.label (shown_handle session h) (opened t session number)
   open_file f =
       file_content s.nodes h.node o.node.label h.label (shown_handle session h) (opened t session number) o.node.metadata o.node.content (ap (option_map shown_node) o.there)
-      (ap (λ (o : Option Node). (option_map_or (λ (node : Node). stored_in node.content) o (record { bytes = []; room = 0 })).bytes) o.there) o.label o.opens (sym (file_is s t session number h o) ∙ f)
+      (ap (λ (o : Option Node). (option_map_or (λ (node : Node). bytes_in node.content) o [])) o.there) o.label o.opens (sym (file_is s t session number h o) ∙ f)
 
   no_file_open : (f : Opened → Answer) → ((handle : Handle) (m : Metadata) → f (OpenDirectory handle m) ≡ refuses Failure) → is_file_at s.nodes h.node ≡ false → f (opened t session number) ≡ refuses Failure
   no_file_open f law none = ap f o.opens ∙ no_file f law (shown_handle session h) o.node.metadata o.node.content (sym (file_is s t session number h o) ∙ none)
@@ -110,29 +108,29 @@ module _ (s : StoreState) (t : Tree) (session number : ℕ) (h : OpenHandle) (o 
   write_unmarked moment offset size bytes e w =
       let f = open_file (size_is s.nodes h.node size e).0 in
       tells_served s t (write moment offset bytes (opened t session number)) (reply.Status PermissionDenied)
-      (ap (write moment offset bytes) f.1.1 ∙ write_denied moment offset bytes (shown_handle session h) f.0 (stored_of s.nodes h.node).bytes w) o.keeps
+      (ap (write moment offset bytes) f.1.1 ∙ write_denied moment offset bytes (shown_handle session h) f.0 (bytes_of s.nodes h.node) w) o.keeps
 
   pub write_none : (moment offset size : ℕ) (bytes : List ℕ) → Some size ≡ file_size s.nodes h.node → h.marks.write ≡ true → bytes ≡ [] → IsCarriedOut s t (write moment offset bytes (opened t session number)) (reply.Status Success)
   write_none moment offset size bytes e w none =
       let f = open_file (size_is s.nodes h.node size e).0 in
       tells_served s t (write moment offset bytes (opened t session number)) (reply.Status Success)
-      (ap (write moment offset bytes) f.1.1 ∙ write_nothing moment offset bytes (shown_handle session h) f.0 (stored_of s.nodes h.node).bytes w none) o.keeps
+      (ap (write moment offset bytes) f.1.1 ∙ write_nothing moment offset bytes (shown_handle session h) f.0 (bytes_of s.nodes h.node) w none) o.keeps
 
   module _ (offset start size : ℕ) (bytes : List ℕ) (e : Some size ≡ file_size s.nodes h.node) (marked : h.marks.write ≡ true) (some : is_nil bytes ≡ false) (from : start ≡ (if h.marks.append then size else offset)) where
-    starts : start_of (shown_handle session h) (stored_of s.nodes h.node).bytes offset ≡ start
+    starts : start_of (shown_handle session h) (bytes_of s.nodes h.node) offset ≡ start
     starts = sym (from ∙ ap (λ k. if h.marks.append then k else offset) (size_is s.nodes h.node size e).1)
 
     pub write_refused : (moment : ℕ) → true ≡ nat_lt MAX_FILE_SIZE (start + length bytes) → IsCarriedOut s t (write moment offset bytes (opened t session number)) (reply.Status Failure)
     write_refused moment past =
         let f = open_file (size_is s.nodes h.node size e).0 in
         tells_served s t (write moment offset bytes (opened t session number)) (reply.Status Failure)
-        (ap (write moment offset bytes) f.1.1 ∙ write_past moment offset start bytes (shown_handle session h) f.0 (stored_of s.nodes h.node).bytes marked some starts (sym past)) o.keeps
+        (ap (write moment offset bytes) f.1.1 ∙ write_past moment offset start bytes (shown_handle session h) f.0 (bytes_of s.nodes h.node) marked some starts (sym past)) o.keeps
 
     pub write_wants : (moment : ℕ) → false ≡ nat_lt MAX_FILE_SIZE (start + length bytes) → is_success (write moment offset bytes (opened t session number)).reply ≡ true
     write_wants moment past =
         let f = open_file (size_is s.nodes h.node size e).0 in
         ap (λ (a : Answer). is_success a.reply)
-        (ap (write moment offset bytes) f.1.1 ∙ write_within moment offset start bytes (shown_handle session h) f.0 (stored_of s.nodes h.node).bytes marked some starts (sym past))
+        (ap (write moment offset bytes) f.1.1 ∙ write_within moment offset start bytes (shown_handle session h) f.0 (bytes_of s.nodes h.node) marked some starts (sym past))
 
     pub write_served : (new : StoreState) (moment : ℕ) → false ≡ nat_lt MAX_FILE_SIZE (start + length bytes)
         → ((u : Tree) (label : ℕ) (m : Metadata) (contents : List ℕ) → Keeps s u → shown_of s.nodes h.node ≡ Some (label, File m contents) → Keeps new (changed u (SetObject label (File (modified_at moment m) (written contents start bytes)))))
@@ -140,27 +138,25 @@ module _ (s : StoreState) (t : Tree) (session number : ℕ) (h : OpenHandle) (o 
     write_served new moment past law =
         let f = open_file (size_is s.nodes h.node size e).0 in
         subst (λ (a : Answer). IsCarriedOut new t a (reply.Status Success))
-        (sym (ap (write moment offset bytes) f.1.1 ∙ write_within moment offset start bytes (shown_handle session h) f.0 (stored_of s.nodes h.node).bytes marked some starts (sym past)))
-        (record { told = refl; tree = law t h.label f.0 (stored_of s.nodes h.node).bytes o.keeps f.1.0 })
+        (sym (ap (write moment offset bytes) f.1.1 ∙ write_within moment offset start bytes (shown_handle session h) f.0 (bytes_of s.nodes h.node) marked some starts (sym past)))
+        (record { told = refl; tree = law t h.label f.0 (bytes_of s.nodes h.node) o.keeps f.1.0 })
 
 -- ---- bytes are put into a file
-shows_stored : (s new : StoreState) (id label : ℕ) (m : Metadata) (old : List ℕ) (stored : Stored) → shown_of s.nodes id ≡ Some (label, File m old) → new ≡ stored_set s id stored → shown_of new.nodes id ≡ Some (label, File m stored.bytes)
-shows_stored s new id label m old stored shows state =
-    ap (λ (x : StoreState). shown_of x.nodes id) state ∙ ap (option_map shown_node) (edited_itself (with_content (with_stored stored)) s id) ∙ shown_stored (node_in s.nodes id) label m old stored shows
+shows_bytes : (s new : StoreState) (id label : ℕ) (m : Metadata) (old bytes : List ℕ) → shown_of s.nodes id ≡ Some (label, File m old) → new ≡ bytes_set s id bytes → shown_of new.nodes id ≡ Some (label, File m bytes)
+shows_bytes s new id label m old bytes shows state =
+    ap (λ (x : StoreState). shown_of x.nodes id) state ∙ ap (option_map shown_node) (edited_itself (with_content (with_bytes bytes)) s id) ∙ shown_stored (node_in s.nodes id) label m old bytes shows
 
-pub put_keeps : (s first second new : StoreState) (t : Tree) (id label moment start n : ℕ) (m : Metadata) (old bytes : List ℕ) → Keeps s t → shown_of s.nodes id ≡ Some (label, File m old)
-    → first ≡ stored_set s id (with_room (stored_of s.nodes id) start n) → second ≡ stored_set first id (record (stored_of first.nodes id) { bytes = written (stored_of first.nodes id).bytes start bytes }) → new ≡ edited (with_metadata (modified_at moment)) second id
+pub put_keeps : (s first new : StoreState) (t : Tree) (id label moment start : ℕ) (m : Metadata) (old bytes : List ℕ) → Keeps s t → shown_of s.nodes id ≡ Some (label, File m old)
+    → first ≡ bytes_set s id (written (bytes_of s.nodes id) start bytes) → new ≡ edited (with_metadata (modified_at moment)) first id
     → Keeps new (changed t (SetObject label (File (modified_at moment m) (written old start bytes))))
-put_keeps s first second new t id label moment start n m old bytes keeps shows reserved put marked =
-    let keeps_first : Keeps first t = subst (λ (x : StoreState). Keeps x t) (sym reserved) (keeps_reserved s t id start n keeps) in
-    let shows_first : shown_of first.nodes id ≡ Some (label, File m old) =
-    shows_stored s first id label m old (with_room (stored_of s.nodes id) start n) shows reserved ∙ ap (λ (b : List ℕ). Some (label, File m b)) (stored_bytes (node_in s.nodes id) label m old shows) in
-    let stored : Stored = record (stored_of first.nodes id) { bytes = written (stored_of first.nodes id).bytes start bytes } in
-    let after : stored.bytes ≡ written old start bytes = ap (λ (b : List ℕ). written b start bytes) (stored_bytes (node_in first.nodes id) label m old shows_first) in
-    let one = changed t (SetObject label (File m stored.bytes)) in
-    let keeps_second : Keeps second one = subst (λ (x : StoreState). Keeps x one) (sym put) (keeps_contents stored first t id label m old keeps_first shows_first) in
-    let shows_second : shown_of second.nodes id ≡ Some (label, File m stored.bytes) = shows_stored first second id label m old stored shows_first put in
-    let keeps_new : Keeps new (changed one (SetObject label (File (modified_at moment m) stored.bytes))) =
-    subst (λ (x : StoreState). Keeps x (changed one (SetObject label (File (modified_at moment m) stored.bytes)))) (sym marked) (keeps_file (modified_at moment) second one id label m stored.bytes keeps_second shows_second) in
+put_keeps s first new t id label moment start m old bytes keeps shows put marked =
+    let now = written (bytes_of s.nodes id) start bytes in
+    let after : now ≡ written old start bytes = ap (λ (b : List ℕ). written b start bytes) (stored_bytes (node_in s.nodes id) label m old shows) in
+    let one = changed t (SetObject label (File m now)) in
+    let last : Object = File (modified_at moment m) now in
+    let keeps_first : Keeps first one = subst (λ (x : StoreState). Keeps x one) (sym put) (keeps_contents now s t id label m old keeps shows) in
+    let shows_first : shown_of first.nodes id ≡ Some (label, File m now) = shows_bytes s first id label m old now shows put in
+    let keeps_new : Keeps new (changed one (SetObject label last)) =
+    subst (λ (x : StoreState). Keeps x (changed one (SetObject label last))) (sym marked) (keeps_file (modified_at moment) first one id label m now keeps_first shows_first) in
     subst (λ (b : List ℕ). Keeps new (changed t (SetObject label (File (modified_at moment m) b)))) after
-    (subst (λ (u : Tree). Keeps new u) (object_again t label (File m stored.bytes) (File (modified_at moment m) stored.bytes)) keeps_new)
+    (subst (λ (u : Tree). Keeps new u) (object_again t label (File m now) last) keeps_new)

@@ -1,13 +1,13 @@
 -- What the store's methods leave of holders and of the count of look-ups.
 use Rattle.std.specs.Prelude.{◌≡◌, ℕ, zero, suc, ◌+◌, ◌-◌, ◌<◌, ◌^◌, min, nat_eq, true, false, cond, List, [], ◌∷◌, length, Option, Some, None, slice_set, if◌then◌else◌, refl}
+use Rattle.std.specs.Option.{option_map_or}
 use Rattle.std.proofs.Common.{sym, ap, subst, ◌∙◌, eqb-true, eq-eqb, arith, get_or-set_same, get_or-set_other}
 use Rattle.sf_path.specs.Names.{Name}
-use Rattle.sf_block.specs.Contents.{Stored}
 use Rattle.sf_inode.specs.declared.node.Node.{Node}
 use Rattle.sf_inode.specs.declared.handle.OpenHandle.{OpenHandle}
 use Rattle.sf_inode.specs.declared.handle.Marks.{Marks}
-use Rattle.sf_inode.specs.Nodes.{less_content, more_content, with_content, with_stored, with_opened, without_name, is_unused}
-use Rattle.sf_inode.specs.Stores.{StoreState, node_in, entry_of, edited_by, edited, stored_set, entry_taken, entry_put, moved_entry, relinked_from, relinked, with_nodes, released_if, released, unlinked_from, unlinked, handles_of, handles_put, handle_put, opened_at, opened, handle_dropped, closed_by, closed, handle_at, Inserted}
+use Rattle.sf_inode.specs.Nodes.{less_content, more_content, with_content, with_bytes, with_opened, without_name, is_unused}
+use Rattle.sf_inode.specs.Stores.{StoreState, node_in, entry_of, edited_by, edited, bytes_set, entry_taken, entry_put, moved_entry, relinked_from, relinked, with_nodes, released_if, released, unlinked_from, unlinked, handles_of, handles_put, handle_put, new_handle, opened_by, opened, handle_dropped, closed_by, closed, handle_at, Inserted, spot}
 use Rattle.sf_walk.specs.Served.{IsAsBefore, Stays, HoldersStay, IsAlike, LookedUp, after_look_ups}
 use Rattle.sf_walk.proofs.LookUps.{looked_nodes}
 
@@ -71,8 +71,8 @@ stays_edited {N} f leaves old s id h =
     ] refl
 
 -- a file has other bytes, or other room
-pub stays_stored : {N : Option ℕ → ℕ → Type 0} (old s : StoreState) (id : ℕ) (stored : Stored) → Stays N old s → Stays N old (stored_set s id stored)
-stays_stored {N} old s id stored = stays_edited (with_content (with_stored stored)) (λ node. (refl, refl)) old s id
+pub stays_stored : {N : Option ℕ → ℕ → Type 0} (old s : StoreState) (id : ℕ) (stored : List ℕ) → Stays N old s → Stays N old (bytes_set s id stored)
+stays_stored {N} old s id stored = stays_edited (with_content (with_bytes stored)) (λ node. (refl, refl)) old s id
 
 -- a node went, or not
 pub stays_released : {N : Option ℕ → ℕ → Type 0} (old s : StoreState) (id : ℕ) → Stays N old s → Stays N old (released s id)
@@ -100,14 +100,14 @@ stays_unlinked {N} old s dir n h =
 
 pub stays_relinked : {N : Option ℕ → ℕ → Type 0} (old s : StoreState) (dir : ℕ) (n : Name) (to : ℕ) (m : Name) → Stays N old s → Stays N old (relinked s dir n to m)
 stays_relinked {N} old s dir n to m h =
-    elim (entry_of s.nodes dir n) as (λ o. Stays N old (relinked_from s dir n to m o (entry_of s.nodes to m))) [
+    elim (entry_of s.nodes dir n) as (λ o. Stays N old (relinked_from s (spot dir n) (spot to m) o (entry_of s.nodes to m))) [
       | None ↦ h
       | Some id ↦
-          let moved : Stays N old (moved_entry s dir n to m id) =
+          let moved : Stays N old (moved_entry s (spot dir n) (spot to m) id) =
           stays_edited (with_content (less_content n)) (λ node. (refl, refl)) old (entry_put s to m id) dir (stays_edited (with_content (more_content m id)) (λ node. (refl, refl)) old s to h) in
-          elim (entry_of s.nodes to m) as (λ r. Stays N old (relinked_from s dir n to m (Some id) r)) [
+          elim (entry_of s.nodes to m) as (λ r. Stays N old (relinked_from s (spot dir n) (spot to m) (Some id) r)) [
             | None ↦ moved
-            | Some target ↦ stays_released old (edited without_name (moved_entry s dir n to m id) target) target (stays_edited without_name (λ node. (refl, refl)) old (moved_entry s dir n to m id) target moved)
+            | Some target ↦ stays_released old (edited without_name (moved_entry s (spot dir n) (spot to m) id) target) target (stays_edited without_name (λ node. (refl, refl)) old (moved_entry s (spot dir n) (spot to m) id) target moved)
           ]
     ]
 
@@ -133,7 +133,7 @@ stays_alike old mid new e h = record { node = λ i m at. h.node i m (sym (ap (λ
 
 pub stays_opened : {N : Option ℕ → ℕ → Type 0} (old s : StoreState) (session number id : ℕ) (marks : Marks) → Stays N old s → Stays N old (opened s session number id marks)
 stays_opened {N} old s session number id marks h =
-    elim (node_in s.nodes id) as (λ o. Stays N old (opened_at s session number id marks o)) [
+    elim (node_in s.nodes id) as (λ o. Stays N old (option_map_or (λ (node : Node). opened_by s session number (new_handle id marks node)) o s)) [
       | None ↦ h
       | Some n ↦
           let handle : OpenHandle = record { node = id; label = n.label; marks = marks; listed = None } in

@@ -21,11 +21,11 @@ use Rattle.sf_call.specs.Handles.{Opened, handle_in, opened}
 use Rattle.sf_call.specs.Handles.Opened.{NotOpen, OpenDirectory, OpenFile}
 use Rattle.sf_call.specs.Listings.{path_of, listing_of}
 use Rattle.sf_call.specs.Changes.{touch, moved_by}
-use Rattle.sf_call.specs.Calls.{Answer, answer_to, stat, set_stat, sets, refuses_size, make_directory, remove_directory, remove_file, open_directory, open_present, open_file, has_all_handles, close, stat_opened, set_opened, read, write, start_of, read_directory, lists, unless_root}
+use Rattle.sf_call.specs.Calls.{Answer, answer_to, stat, set_stat, sets, refuses_size, make_directory, remove_directory, remove_file, open_directory, open_present, open_file, has_all_handles, close, stat_opened, set_opened, read, write, start_of, read_directory, lists, unless_root, opening, stamp}
 use Rattle.sf_inode.specs.Stores.{StoreState}
 use Rattle.sf_walk.specs.declared.renames.Course.{Course}
 use Rattle.sf_walk.specs.declared.renames.Course.TheVariants.{Told, Moves}
-use Rattle.sf_walk.specs.Renames.{IsCourse, does_move}
+use Rattle.sf_walk.specs.Renames.{IsCourse, does_move, renaming}
 
 abbrev Stays : Answer → Type 0
 Stays answer = moved_by answer.changes ≡ None
@@ -58,7 +58,7 @@ set_stat_stays moment attrs (DirectoryAt label m) = sets_stays moment label attr
 set_stat_stays moment attrs (FileAt label m contents) = sets_stays moment label attrs (File m contents)
 
 module _ (t : Tree) (session number moment : ℕ) where
-  make_stays : (p : Path) (attrs : Attrs) (at : Place) → Stays (make_directory t number moment p attrs at)
+  make_stays : (p : Path) (attrs : Attrs) (at : Place) → Stays (make_directory t (stamp number moment) p attrs at)
   make_stays p attrs place.NoWay = refl
   make_stays p attrs (place.At label) = refl
   make_stays p attrs place.Absent = touches moment (directory_at t (parent p))
@@ -81,13 +81,13 @@ module _ (t : Tree) (session number moment : ℕ) where
   open_directory_stays (DirectoryAt label m) = either (has_all_handles t session) _ _ refl refl
   open_directory_stays (FileAt label m contents) = refl
 
-  present_stays : (flags : OpenFlags) (found : Found) → Stays (open_present t session number moment flags found)
+  present_stays : (flags : OpenFlags) (found : Found) → Stays (open_present t session (stamp number moment) flags found)
   present_stays flags Nowhere = refl
   present_stays flags Nothing = refl
   present_stays flags (DirectoryAt label m) = refl
   present_stays flags (FileAt label m contents) = either (has_all_handles t session) _ _ refl (either (flags.truncate && flags.write) _ _ refl refl)
 
-  open_stays : (p : Path) (flags : OpenFlags) (attrs : Attrs) (at : Place) → Stays (open_file t session number moment p flags attrs at)
+  open_stays : (p : Path) (flags : OpenFlags) (attrs : Attrs) (at : Place) → Stays (open_file t session (stamp number moment) (opening p flags attrs) at)
   open_stays p flags attrs place.NoWay = refl
   open_stays p flags attrs (place.At label) = either (flags.create && flags.exclusive) _ _ refl (present_stays flags (found_object label (object_of t.objects label)))
   open_stays p flags attrs place.Absent = either (not flags.create) _ _ refl (either (has_all_handles t session) _ _ refl (touches moment (directory_at t (parent p))))
@@ -144,6 +144,6 @@ others_stay t session number moment (request.Rename old new) a b = absurd (a old
 others_stay t session number moment (request.PosixRename old new) a b = absurd (b old new refl)
 
 -- what a rename comes to tells whether it moves
-pub course_moves : (s : StoreState) (t : Tree) (moment : ℕ) (old new : Path) (answer : Answer) (course : Course) → IsCourse s t moment old new answer course → does_move course ≡ is_some (moved_by answer.changes)
+pub course_moves : (s : StoreState) (t : Tree) (moment : ℕ) (old new : Path) (answer : Answer) (course : Course) → IsCourse s t (renaming old new moment) answer course → does_move course ≡ is_some (moved_by answer.changes)
 course_moves s t moment old new answer (Told code) e = sym (ap (λ (a : Answer). is_some (moved_by a.changes)) e)
 course_moves s t moment old new answer (Moves from into) e = sym (ap (λ (a : Answer). is_some (moved_by a.changes)) e.0)

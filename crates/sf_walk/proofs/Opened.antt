@@ -19,16 +19,16 @@ use Rattle.sf_call.specs.Attributes.Object.{Directory, File}
 use Rattle.sf_call.specs.Tree.{Tree, Found, object_of, place_at, found_at, found_place, found_object}
 use Rattle.sf_call.specs.Changes.{changed, done, touched}
 use Rattle.sf_call.specs.Changes.Change.{SetObject, NewPath, OpenHandle}
-use Rattle.sf_call.specs.Calls.{Answer, refuses, opens, has_all_handles, directory_handle, file_handle, open_directory, open_present, open_file, unless_root}
+use Rattle.sf_call.specs.Calls.{Answer, refuses, opens, has_all_handles, directory_handle, file_handle, open_directory, open_present, open_file, unless_root, opening, stamp}
 use Rattle.sf_inode.specs.declared.node.Node.{Node}
 use Rattle.sf_inode.specs.declared.node.NewNode.{NewNode}
 use Rattle.sf_inode.specs.declared.node.Content.{Content}
 use Rattle.sf_inode.specs.declared.node.Content.TheVariants as content
 use Rattle.sf_inode.specs.declared.handle.OpenHandle as open_handle
 use Rattle.sf_inode.specs.declared.handle.Marks.{Marks}
-use Rattle.sf_inode.specs.Nodes.{object_in, stored_in, new_node, is_directory_content, with_opened, with_metadata, with_content, with_stored}
+use Rattle.sf_inode.specs.Nodes.{object_in, bytes_in, new_node, is_directory_content, with_opened, with_metadata, with_content, with_bytes}
 use Rattle.sf_keeps.specs.Steps.{walk}
-use Rattle.sf_inode.specs.Stores.{StoreState, node_in, entry_of, is_directory_at, shown_node, shown_of, edited, stored_set, handle_put, opened_at, opened}
+use Rattle.sf_inode.specs.Stores.{StoreState, node_in, entry_of, is_directory_at, shown_node, shown_of, edited, bytes_set, handle_put, new_handle, opened_by, opened}
 use Rattle.sf_keeps.specs.Keeps.{Keeps}
 use Rattle.sf_keeps.proofs.Laws.{keeps_opened, keeps_inserted, keeps_contents, keeps_file, object_again, inserted_alike}
 use Rattle.sf_walk.specs.Ways.{missing, way_from, last_of, found_content, found_node}
@@ -57,7 +57,7 @@ shown_edited f same s id i =
 
 -- who opens a node can't be seen
 pub shown_opened : (s : StoreState) (session number id : ℕ) (marks : Marks) (i : ℕ) → shown_of (opened s session number id marks).nodes i ≡ shown_of s.nodes i
-shown_opened s session number id marks i = elim (node_in s.nodes id) as (λ o. shown_of (opened_at s session number id marks o).nodes i ≡ shown_of s.nodes i) [
+shown_opened s session number id marks i = elim (node_in s.nodes id) as (λ o. shown_of (option_map_or (λ (node : Node). opened_by s session number (new_handle id marks node)) o s).nodes i ≡ shown_of s.nodes i) [
   | None ↦ refl
   | Some n ↦
       let handle : open_handle.OpenHandle = record { node = id; label = n.label; marks = marks; listed = None } in
@@ -71,7 +71,7 @@ kind_there nodes id it b at e = sym (e ∙ ap (λ (o : Option Node). option_map_
 abbrev shown_as : ℕ → Object → Option (ℕ × Object)
 shown_as l o = Some (l, o)
 
-file_there : (l : ℕ) (m : Metadata) (c : Content) → is_directory_content c ≡ false → shown_as l (object_in m c) ≡ shown_as l (File m (stored_in c).bytes)
+file_there : (l : ℕ) (m : Metadata) (c : Content) → is_directory_content c ≡ false → shown_as l (object_in m c) ≡ shown_as l (File m (bytes_in c))
 file_there l m (content.Directory es) e = cc
 file_there l m (content.File contents) e = refl
 
@@ -96,17 +96,17 @@ module _ (t : Tree) (session number moment : ℕ) (flags : OpenFlags) where
   abbrev opens_file : ℕ → Metadata → Bool → Bool → Answer
   opens_file l m full cuts = cond full (refuses Failure) (cond cuts (opens number (file_handle session l flags) (SetObject l (File (modified_at moment m) []) ∷ [])) (opens number (file_handle session l flags) []))
 
-  present_opens : (l : ℕ) (m : Metadata) (c : Content) (cuts : Bool) → is_directory_content c ≡ false → has_all_handles t session ≡ false → (flags.truncate && flags.write) ≡ cuts → open_present t session number moment flags (found_content l m c) ≡ opens_file l m false cuts
+  present_opens : (l : ℕ) (m : Metadata) (c : Content) (cuts : Bool) → is_directory_content c ≡ false → has_all_handles t session ≡ false → (flags.truncate && flags.write) ≡ cuts → open_present t session (stamp number moment) flags (found_content l m c) ≡ opens_file l m false cuts
   present_opens l m (content.Directory es) cuts d e f = cc
   present_opens l m (content.File contents) cuts d e f = (λ i. opens_file l m (e i) (f i))
 
-  pub present_wants : (it : Node) → is_directory_content it.content ≡ false → has_all_handles t session ≡ false → is_success (open_present t session number moment flags (found_node it)).reply ≡ true
+  pub present_wants : (it : Node) → is_directory_content it.content ≡ false → has_all_handles t session ≡ false → is_success (open_present t session (stamp number moment) flags (found_node it)).reply ≡ true
   present_wants it d e =
       ap (λ (a : Answer). is_success a.reply) (present_opens it.label it.metadata it.content (flags.truncate && flags.write) d e refl)
       ∙ elim (flags.truncate && flags.write) as (λ b. is_success (opens_file it.label it.metadata false b).reply ≡ true) [ true ↦ refl | false ↦ refl ]
 
   pub present_served : (s new : StoreState) (it : Node) (id : ℕ) → Keeps s t → IsUnused t number → number < 2 ^ 64 → node_in s.nodes id ≡ Some it → is_directory_content it.content ≡ false → has_all_handles t session ≡ false
-      → (flags.truncate && flags.write) ≡ false → new ≡ opened s session number id (marks_of flags) → IsCarriedOut new t (open_present t session number moment flags (found_node it)) (reply.Handle number)
+      → (flags.truncate && flags.write) ≡ false → new ≡ opened s session number id (marks_of flags) → IsCarriedOut new t (open_present t session (stamp number moment) flags (found_node it)) (reply.Handle number)
   present_served s new it id k fresh fits at d e f state =
       let kept = keeps_opened s t k session number id (marks_of flags) it fresh.above fits fresh.handle at in
       subst (λ (a : Answer). IsCarriedOut new t a (reply.Handle number)) (sym (present_opens it.label it.metadata it.content false d e f))
@@ -117,31 +117,31 @@ module _ (t : Tree) (session number moment : ℕ) (flags : OpenFlags) where
   CutsFile mid new id = (u : Tree) (label : ℕ) (m : Metadata) (bytes : List ℕ) → Keeps mid u → shown_of mid.nodes id ≡ Some (label, File m bytes) → Keeps new (changed u (SetObject label (File (modified_at moment m) [])))
 
   pub present_cut : (s mid new : StoreState) (it : Node) (id : ℕ) → Keeps s t → IsUnused t number → number < 2 ^ 64 → node_in s.nodes id ≡ Some it → is_directory_content it.content ≡ false → has_all_handles t session ≡ false
-      → (flags.truncate && flags.write) ≡ true → mid ≡ opened s session number id (marks_of flags) → CutsFile mid new id → IsCarriedOut new t (open_present t session number moment flags (found_node it)) (reply.Handle number)
+      → (flags.truncate && flags.write) ≡ true → mid ≡ opened s session number id (marks_of flags) → CutsFile mid new id → IsCarriedOut new t (open_present t session (stamp number moment) flags (found_node it)) (reply.Handle number)
   present_cut s mid new it id k fresh fits at d e f state cuts =
       let kept : Keeps mid (changed t (OpenHandle number (file_handle session it.label flags))) =
       subst (λ (x : StoreState). Keeps x (changed t (OpenHandle number (file_handle session it.label flags)))) (sym state) (keeps_opened s t k session number id (marks_of flags) it fresh.above fits fresh.handle at) in
-      let shown : shown_of mid.nodes id ≡ Some (it.label, File it.metadata (stored_in it.content).bytes) =
+      let shown : shown_of mid.nodes id ≡ Some (it.label, File it.metadata (bytes_in it.content)) =
       ap (λ (x : StoreState). shown_of x.nodes id) state ∙ shown_opened s session number id (marks_of flags) id ∙ ap (option_map shown_node) at ∙ file_there it.label it.metadata it.content d in
       subst (λ (a : Answer). IsCarriedOut new t a (reply.Handle number)) (sym (present_opens it.label it.metadata it.content true d e f))
-      (record { told = refl; tree = cuts (changed t (OpenHandle number (file_handle session it.label flags))) it.label it.metadata (stored_in it.content).bytes kept shown })
+      (record { told = refl; tree = cuts (changed t (OpenHandle number (file_handle session it.label flags))) it.label it.metadata (bytes_in it.content) kept shown })
 
 -- ---- OPEN of a missing name
 module _ (t : Tree) (session number moment : ℕ) (path : Path) (flags : OpenFlags) (attrs : Attrs) where
   abbrev creates : Bool → Bool → Answer
   creates lacks full = cond lacks (refuses NoSuchFile) (cond full (refuses Failure) (opens number (file_handle session number flags) (NewPath path number (File (new_metadata 0o644 moment attrs) []) ∷ touched t moment (parent path))))
 
-  absent_is : (lacks full : Bool) → not flags.create ≡ lacks → has_all_handles t session ≡ full → open_file t session number moment path flags attrs Absent ≡ creates lacks full
+  absent_is : (lacks full : Bool) → not flags.create ≡ lacks → has_all_handles t session ≡ full → open_file t session (stamp number moment) (opening path flags attrs) Absent ≡ creates lacks full
   absent_is lacks full c f = λ i. creates (c i) (f i)
 
-  pub absent_wants : not flags.create ≡ false → has_all_handles t session ≡ false → is_success (open_file t session number moment path flags attrs Absent).reply ≡ true
+  pub absent_wants : not flags.create ≡ false → has_all_handles t session ≡ false → is_success (open_file t session (stamp number moment) (opening path flags attrs) Absent).reply ≡ true
   absent_wants c f = ap (λ (a : Answer). is_success a.reply) (absent_is false false c f)
 
   pub absent_served : (s mid new : StoreState) (front : Path) (dir : ℕ) (metadata : Metadata)
       → Keeps s t → IsUnused t number → number < 2 ^ 64 → path ≡ front ++ last_of path ∷ [] → walk (entry_of s.nodes) s.root front ≡ Some dir → is_directory_at s.nodes dir ≡ true → entry_of s.nodes dir (last_of path) ≡ None
       → not flags.create ≡ false → has_all_handles t session ≡ false → metadata ≡ new_metadata 0o644 moment attrs
       → OpenedNew s mid session number dir (last_of path) (marks_of flags) (record { label = number; file_type = file_type.File; metadata = metadata }) → new ≡ edited (with_metadata (modified_at moment)) mid dir
-      → IsCarriedOut new t (open_file t session number moment path flags attrs Absent) (reply.Handle number)
+      → IsCarriedOut new t (open_file t session (stamp number moment) (opening path flags attrs) Absent) (reply.Handle number)
   absent_served s mid new front dir metadata k fresh fits is at d none c f asked did state =
       let n = last_of path in
       let it : NewNode = record { label = number; file_type = file_type.File; metadata = metadata } in
@@ -162,31 +162,31 @@ module _ (t : Tree) (session number moment : ℕ) (path : Path) (flags : OpenFla
       subst (λ (a : Answer). IsCarriedOut new t a (reply.Handle number)) (sym (absent_is false false c f)) (record { told = refl; tree = whole })
 
 -- ---- a file that is cut
-cut_node : (room : ℕ) (c : Content) (l label : ℕ) (k m : Metadata) (bytes : List ℕ) → shown_as l (object_in k c) ≡ shown_as label (File m bytes)
-    → shown_as l (object_in k (with_stored (record { bytes = []; room = room }) c)) ≡ shown_as label (File m [])
-cut_node room (content.Directory es) l label k m bytes e =
+cut_node : (c : Content) (l label : ℕ) (k m : Metadata) (bytes : List ℕ) → shown_as l (object_in k c) ≡ shown_as label (File m bytes)
+    → shown_as l (object_in k (with_bytes [] c)) ≡ shown_as label (File m [])
+cut_node (content.Directory es) l label k m bytes e =
     let objects : Some (Directory k) ≡ Some (File m bytes) = ap (option_map (λ (v : ℕ × Object). v.1)) e in
     absurd (let x : ⊥ = cc in x)
-cut_node room (content.File contents) l label k m bytes e =
+cut_node (content.File contents) l label k m bytes e =
     let labels : Some l ≡ Some label = ap (option_map (λ (v : ℕ × Object). v.0)) e in
-    let objects : Some (File k contents.bytes) ≡ Some (File m bytes) = ap (option_map (λ (v : ℕ × Object). v.1)) e in
+    let objects : Some (File k contents) ≡ Some (File m bytes) = ap (option_map (λ (v : ℕ × Object). v.1)) e in
     let one : l ≡ label = cc in
     let same : k ≡ m = cc in
     λ i. shown_as (one i) (File (same i) [])
 
-cut_shown : (room : ℕ) (o : Option Node) (label : ℕ) (m : Metadata) (bytes : List ℕ) → option_map shown_node o ≡ Some (label, File m bytes)
-    → option_map shown_node (option_map (with_content (with_stored (record { bytes = []; room = room }))) o) ≡ Some (label, File m [])
-cut_shown room None label m bytes e = cc
-cut_shown room (Some node) label m bytes e = cut_node room node.content node.label label node.metadata m bytes e
+cut_shown : (o : Option Node) (label : ℕ) (m : Metadata) (bytes : List ℕ) → option_map shown_node o ≡ Some (label, File m bytes)
+    → option_map shown_node (option_map (with_content (with_bytes [])) o) ≡ Some (label, File m [])
+cut_shown None label m bytes e = cc
+cut_shown (Some node) label m bytes e = cut_node node.content node.label label node.metadata m bytes e
 
-pub cut_served : (room : ℕ) (s mid new : StoreState) (t : Tree) (id moment label : ℕ) (m : Metadata) (bytes : List ℕ) → Keeps s t → shown_of s.nodes id ≡ Some (label, File m bytes)
-    → mid ≡ stored_set s id (record { bytes = []; room = room }) → new ≡ edited (with_metadata (modified_at moment)) mid id → Keeps new (changed t (SetObject label (File (modified_at moment m) [])))
-cut_served room s mid new t id moment label m bytes k at is state =
-    let kept : Keeps mid (changed t (SetObject label (File m []))) = subst (λ (x : StoreState). Keeps x (changed t (SetObject label (File m [])))) (sym is) (keeps_contents (record { bytes = []; room = room }) s t id label m bytes k at) in
+pub cut_served : (s mid new : StoreState) (t : Tree) (id moment label : ℕ) (m : Metadata) (bytes : List ℕ) → Keeps s t → shown_of s.nodes id ≡ Some (label, File m bytes)
+    → mid ≡ bytes_set s id [] → new ≡ edited (with_metadata (modified_at moment)) mid id → Keeps new (changed t (SetObject label (File (modified_at moment m) [])))
+cut_served s mid new t id moment label m bytes k at is state =
+    let kept : Keeps mid (changed t (SetObject label (File m []))) = subst (λ (x : StoreState). Keeps x (changed t (SetObject label (File m [])))) (sym is) (keeps_contents [] s t id label m bytes k at) in
     let shown : shown_of mid.nodes id ≡ Some (label, File m []) =
     ap (λ (x : StoreState). shown_of x.nodes id) is
-    ∙ ap (option_map shown_node) (edited_itself (with_content (with_stored (record { bytes = []; room = room }))) s id)
-    ∙ cut_shown room (node_in s.nodes id) label m bytes at in
+    ∙ ap (option_map shown_node) (edited_itself (with_content (with_bytes [])) s id)
+    ∙ cut_shown (node_in s.nodes id) label m bytes at in
     subst (λ (x : StoreState). Keeps x (changed t (SetObject label (File (modified_at moment m) [])))) (sym state)
     (subst (λ (u : Tree). Keeps (edited (with_metadata (modified_at moment)) mid id) u) (object_again t label (File m []) (File (modified_at moment m) []))
     (keeps_file (modified_at moment) mid (changed t (SetObject label (File m []))) id label m [] kept shown))
@@ -235,7 +235,7 @@ module _ (old mid : StoreState) (t : Tree) (p : Path) (most : ℕ) (looked : Loo
 
   module _ (session number moment : ℕ) (flags : OpenFlags) (attrs : Attrs) where
     abbrev answer : Place → Answer
-    answer place = open_file t session number moment p flags attrs place
+    answer place = open_file t session (stamp number moment) (opening p flags attrs) place
 
     pub open_no_way : (l : Located) (code : StatusCode) → (p ≡ [] → ⊥) → (code ≡ NoSuchFile) × (l ≡ located.NoWay) → l ≡ way_from old.nodes old.root old.root p
         → IsCarriedOut mid t (unless_root p (answer (place_at t p))) (reply.Status code)
@@ -259,18 +259,18 @@ module _ (old mid : StoreState) (t : Tree) (p : Path) (most : ℕ) (looked : Loo
     open_exclusive above y ne e both =
         let k = keeps_looked old mid t most looked h in
         let f = node_at mid t k p above y (way_looked old mid p most (located.At above y) looked e) in
-        let at_label = ap answer f.2.2 ∙ ap (λ b. cond b (refuses Failure) (open_present t session number moment flags (found_object f.2.0.label (object_of t.objects f.2.0.label)))) both in
+        let at_label = ap answer f.2.2 ∙ ap (λ b. cond b (refuses Failure) (open_present t session (stamp number moment) flags (found_object f.2.0.label (object_of t.objects f.2.0.label)))) both in
         past_root mid t p (answer (place_at t p)) (reply.Status Failure) ne (tells_served mid t (answer (place_at t p)) (reply.Status Failure) at_label k)
 
     pub open_located : (new : StoreState) (above y : ℕ) → {E : Type 0} → (r : Result Reply E) → (p ≡ [] → ⊥) → located.At above y ≡ way_from old.nodes old.root old.root p → (flags.create && flags.exclusive) ≡ false
-        → ((it : Node) → node_in mid.nodes y ≡ Some it → Gives new t (open_present t session number moment flags (found_node it)) r)
+        → ((it : Node) → node_in mid.nodes y ≡ Some it → Gives new t (open_present t session (stamp number moment) flags (found_node it)) r)
         → Gives new t (unless_root p (answer (place_at t p))) r
     open_located new above y {E} r ne e both served =
         let k = keeps_looked old mid t most looked h in
         let f = node_at mid t k p above y (way_looked old mid p most (located.At above y) looked e) in
         let is : found_object f.2.0.label (object_of t.objects f.2.0.label) ≡ found_node f.2.0 = sym (ap (found_place t.objects) f.2.2) ∙ f.2.3 in
-        let at_label : answer (place_at t p) ≡ open_present t session number moment flags (found_node f.2.0) =
-        ap answer f.2.2 ∙ ap (λ b. cond b (refuses Failure) (open_present t session number moment flags (found_object f.2.0.label (object_of t.objects f.2.0.label)))) both ∙ ap (open_present t session number moment flags) is in
+        let at_label : answer (place_at t p) ≡ open_present t session (stamp number moment) flags (found_node f.2.0) =
+        ap answer f.2.2 ∙ ap (λ b. cond b (refuses Failure) (open_present t session (stamp number moment) flags (found_object f.2.0.label (object_of t.objects f.2.0.label)))) both ∙ ap (open_present t session (stamp number moment) flags) is in
         past_root_gives new t p (answer (place_at t p)) r ne (subst (λ (a : Answer). Gives new t a r) (sym at_label) (served f.2.0 f.2.1))
 
 -- ---- what a missing name's directory is after the look-ups

@@ -13,7 +13,7 @@ use Rattle.sf_call.specs.Attributes.Object.{Directory}
 use Rattle.sf_call.specs.Tree.{Tree, place_at, directory_at, object_of}
 use Rattle.sf_call.specs.Changes.{changed, done, touch, touched}
 use Rattle.sf_call.specs.Changes.Change.{NewPath, GonePath}
-use Rattle.sf_call.specs.Calls.{Answer, make_directory, goes}
+use Rattle.sf_call.specs.Calls.{Answer, make_directory, goes, stamp}
 use Rattle.sf_inode.specs.declared.node.Node.{Node}
 use Rattle.sf_inode.specs.declared.node.NewNode.{NewNode}
 use Rattle.sf_inode.specs.declared.node.Content.{Content}
@@ -84,7 +84,7 @@ pub make_served : (old mid made new : StoreState) (t : Tree) (p : Path) (most nu
     → LookedUp old mid most → Keeps old t → object_of t.objects number ≡ None → located.Missing dir ≡ way_from old.nodes old.root old.root p
     → Inserted mid made dir (last_of p) id (new_node it) → it.label ≡ number → object_in it.metadata (new_content it.file_type) ≡ Directory (new_metadata 0o755 moment attrs)
     → new ≡ edited (with_metadata (modified_at moment)) made dir
-    → IsCarriedOut new t (make_directory t number moment p attrs (place_at t p)) (reply.Status Success)
+    → IsCarriedOut new t (make_directory t (stamp number moment) p attrs (place_at t p)) (reply.Status Success)
 make_served old mid made new t p most number moment attrs dir id it looked h fresh e did label object state =
     let k = keeps_looked old mid t most looked h in
     let f = name_missing mid t k p dir (way_looked old mid p most (located.Missing dir) looked e) in
@@ -102,7 +102,7 @@ make_served old mid made new t p most number moment attrs dir id it looked h fre
     (subst (λ (q : Path). Keeps (edited (with_metadata (modified_at moment)) made dir) (done t (NewPath q number (Directory (new_metadata 0o755 moment attrs)) ∷ touched t moment (parent q)))) (sym is)
     (subst (λ (o : Object). Keeps (edited (with_metadata (modified_at moment)) made dir) (done t (NewPath (r ++ n ∷ []) number o ∷ touched t moment (parent (r ++ n ∷ []))))) object
     (subst (λ (l : ℕ). Keeps (edited (with_metadata (modified_at moment)) made dir) (done t (NewPath (r ++ n ∷ []) l (object_in it.metadata (new_content it.file_type)) ∷ touched t moment (parent (r ++ n ∷ []))))) label after))) in
-    subst (λ (a : Answer). IsCarriedOut new t a (reply.Status Success)) (sym (ap (make_directory t number moment p attrs) f.0)) (record { told = refl; tree = whole })
+    subst (λ (a : Answer). IsCarriedOut new t a (reply.Status Success)) (sym (ap (make_directory t (stamp number moment) p attrs) f.0)) (record { told = refl; tree = whole })
 
 -- ---- a path less
 pub goes_served : (s new : StoreState) (t : Tree) (p : Path) (moment dir y : ℕ)

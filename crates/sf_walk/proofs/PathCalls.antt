@@ -13,7 +13,7 @@ use Rattle.sf_call.specs.declared.metadata.Metadata.{Metadata}
 use Rattle.sf_call.specs.Attributes.{modified_at, attrs_of}
 use Rattle.sf_call.specs.Tree.{Tree, Found, place_at, found_at, found_place, is_empty}
 use Rattle.sf_call.specs.Tree.Found.{Nowhere, Nothing}
-use Rattle.sf_call.specs.Calls.{Answer, tells, refuses, stat, set_stat, sets, make_directory, remove_directory, remove_file, goes, unless_root}
+use Rattle.sf_call.specs.Calls.{Answer, tells, refuses, stat, set_stat, sets, make_directory, remove_directory, remove_file, goes, unless_root, stamp}
 use Rattle.sf_inode.specs.declared.node.Node.{Node}
 use Rattle.sf_inode.specs.declared.node.Content.{Content}
 use Rattle.sf_inode.specs.declared.node.Content.TheVariants as content
@@ -112,22 +112,22 @@ module _ (old mid : StoreState) (t : Tree) (p : Path) (most : ℕ) (looked : Loo
 
   -- ---- MKDIR
   pub make_wants : (number moment : ℕ) (attrs : Attrs) (d : ℕ) → (p ≡ [] → ⊥) → located.Missing d ≡ way_from old.nodes old.root old.root p
-      → is_success (unless_root p (make_directory t number moment p attrs (place_at t p))).reply ≡ true
+      → is_success (unless_root p (make_directory t (stamp number moment) p attrs (place_at t p))).reply ≡ true
   make_wants number moment attrs d ne e =
-      past_root_wants p (make_directory t number moment p attrs (place_at t p)) ne
-      (ap (λ place. is_success (make_directory t number moment p attrs place).reply) (name_missing mid t mid_keeps p d (way_looked old mid p most (located.Missing d) looked e)).0)
+      past_root_wants p (make_directory t (stamp number moment) p attrs (place_at t p)) ne
+      (ap (λ place. is_success (make_directory t (stamp number moment) p attrs place).reply) (name_missing mid t mid_keeps p d (way_looked old mid p most (located.Missing d) looked e)).0)
 
   pub make_no_way : (number moment : ℕ) (attrs : Attrs) (l : Located) (code : StatusCode) → (code ≡ NoSuchFile) × (l ≡ located.NoWay) → l ≡ way_from old.nodes old.root old.root p
-      → IsCarriedOut mid t (make_directory t number moment p attrs (place_at t p)) (reply.Status code)
+      → IsCarriedOut mid t (make_directory t (stamp number moment) p attrs (place_at t p)) (reply.Status code)
   make_no_way number moment attrs l code not e =
-      tells_served mid t (make_directory t number moment p attrs (place_at t p)) (reply.Status code)
-      (ap (make_directory t number moment p attrs) (no_way mid t mid_keeps p (way_looked old mid p most located.NoWay looked (sym not.1 ∙ e))) ∙ ap refuses (sym not.0)) mid_keeps
+      tells_served mid t (make_directory t (stamp number moment) p attrs (place_at t p)) (reply.Status code)
+      (ap (make_directory t (stamp number moment) p attrs) (no_way mid t mid_keeps p (way_looked old mid p most located.NoWay looked (sym not.1 ∙ e))) ∙ ap refuses (sym not.0)) mid_keeps
 
   pub make_present : (number moment : ℕ) (attrs : Attrs) (above y : ℕ) → located.At above y ≡ way_from old.nodes old.root old.root p
-      → IsCarriedOut mid t (make_directory t number moment p attrs (place_at t p)) (reply.Status Failure)
+      → IsCarriedOut mid t (make_directory t (stamp number moment) p attrs (place_at t p)) (reply.Status Failure)
   make_present number moment attrs above y e =
-      tells_served mid t (make_directory t number moment p attrs (place_at t p)) (reply.Status Failure)
-      (ap (make_directory t number moment p attrs) (node_at mid t mid_keeps p above y (way_looked old mid p most (located.At above y) looked e)).2.2) mid_keeps
+      tells_served mid t (make_directory t (stamp number moment) p attrs (place_at t p)) (reply.Status Failure)
+      (ap (make_directory t (stamp number moment) p attrs) (node_at mid t mid_keeps p above y (way_looked old mid p most (located.At above y) looked e)).2.2) mid_keeps
 
   -- ---- REMOVE
   remove_content : (moment l : ℕ) (m : Metadata) (c : Content) → remove_file t moment p (found_content l m c) ≡ cond (is_directory_content c) (refuses Failure) (goes t moment p)

@@ -10,7 +10,7 @@ use Rattle.sf_call.specs.declared.metadata.Metadata.{Metadata}
 use Rattle.sf_call.specs.declared.limits.TheConstants.{MAX_FILE_SIZE}
 use Rattle.sf_call.specs.Attributes.{Object, modified_at, with_parts}
 use Rattle.sf_call.specs.Attributes.Object.{Directory, File}
-use Rattle.sf_block.specs.Contents.{resized, Stored, with_room}
+use Rattle.sf_block.specs.Contents.{resized}
 use Rattle.sf_call.specs.Tree.{Tree}
 use Rattle.sf_call.specs.Changes.{changed}
 use Rattle.sf_call.specs.Changes.Change.{SetObject}
@@ -18,8 +18,8 @@ use Rattle.sf_call.specs.Calls.{Answer, refuses, succeeds, sets, refuses_size, w
 use Rattle.sf_inode.specs.declared.node.Node.{Node}
 use Rattle.sf_inode.specs.declared.node.Content.{Content}
 use Rattle.sf_inode.specs.declared.node.Content.TheVariants as content
-use Rattle.sf_inode.specs.Nodes.{object_in, nothing_stored, stored_in, with_stored, with_content, is_directory_content, with_metadata}
-use Rattle.sf_inode.specs.Stores.{StoreState, node_in, stored_of, stored_set, is_directory_at, shown_of, shown_node, edited}
+use Rattle.sf_inode.specs.Nodes.{object_in, bytes_in, with_bytes, with_content, is_directory_content, with_metadata}
+use Rattle.sf_inode.specs.Stores.{StoreState, node_in, bytes_of, bytes_set, is_directory_at, shown_of, shown_node, edited}
 use Rattle.sf_keeps.specs.Keeps.{Keeps}
 use Rattle.sf_keeps.proofs.Laws.{keeps_metadata, keeps_contents, keeps_file, object_again, edited_itself}
 use Rattle.sf_walk.specs.Served.{IsCarriedOut, is_success}
@@ -29,7 +29,7 @@ not_above size h = grind (arith, nat_tests)
 
 sets_plain : (moment l : ℕ) (attrs : Attrs) (m : Metadata) (c : Content) → attrs.size ≡ None → sets moment l attrs (object_in m c) ≡ succeeds (SetObject l (object_in (with_parts m attrs) c) ∷ [])
 sets_plain moment l attrs m (content.Directory es) e = λ i. if refuses_size (Directory m) (e i) then refuses Failure else succeeds (SetObject l (Directory (with_parts m attrs)) ∷ [])
-sets_plain moment l attrs m (content.File c) e = λ i. if refuses_size (File m c.bytes) (e i) then refuses Failure else succeeds (SetObject l (with_size moment attrs (e i) m c.bytes) ∷ [])
+sets_plain moment l attrs m (content.File c) e = λ i. if refuses_size (File m c) (e i) then refuses Failure else succeeds (SetObject l (with_size moment attrs (e i) m c) ∷ [])
 
 sets_cut : (moment l : ℕ) (attrs : Attrs) (m : Metadata) (bytes : List ℕ) (size : ℕ) → attrs.size ≡ Some size → nat_lt MAX_FILE_SIZE size ≡ false
     → sets moment l attrs (File m bytes) ≡ succeeds (SetObject l (File (with_parts (modified_at moment m) attrs) (resized bytes size)) ∷ [])
@@ -40,19 +40,19 @@ sets_cut moment l attrs m bytes size e d =
 abbrev shown_as : ℕ → Object → ℕ × Object
 shown_as label object = (label, object)
 
-content_bytes : (l k : ℕ) (m n : Metadata) (c : Content) (old : List ℕ) → Some (shown_as k (object_in n c)) ≡ Some (l, File m old) → (stored_in c).bytes ≡ old
+content_bytes : (l k : ℕ) (m n : Metadata) (c : Content) (old : List ℕ) → Some (shown_as k (object_in n c)) ≡ Some (l, File m old) → bytes_in c ≡ old
 content_bytes l k m n (content.Directory es) old e = let f = ap (λ (o : Option (ℕ × Object)). option_map (λ (v : ℕ × Object). v.1) o) e in cc
 content_bytes l k m n (content.File c) old e = let f = ap (λ (o : Option (ℕ × Object)). option_map (λ (v : ℕ × Object). v.1) o) e in cc
 
 -- what a node shows, with other bytes or other metadata
-stored_content : (l k : ℕ) (m n : Metadata) (c : Content) (old : List ℕ) (r : Stored) → Some (shown_as k (object_in n c)) ≡ Some (l, File m old) → Some (shown_as k (object_in n (with_stored r c))) ≡ Some (l, File m r.bytes)
+stored_content : (l k : ℕ) (m n : Metadata) (c : Content) (old : List ℕ) (r : List ℕ) → Some (shown_as k (object_in n c)) ≡ Some (l, File m old) → Some (shown_as k (object_in n (with_bytes r c))) ≡ Some (l, File m r)
 stored_content l k m n (content.Directory es) old r e = let f = ap (λ (o : Option (ℕ × Object)). option_map (λ (v : ℕ × Object). v.1) o) e in cc
 stored_content l k m n (content.File c) old r e =
     let f = ap (λ (o : Option (ℕ × Object)). option_map (λ (v : ℕ × Object). v.1) o) e in
     let g = ap (λ (o : Option (ℕ × Object)). option_map (λ (v : ℕ × Object). v.0) o) e in
     let a : k ≡ l = cc in
     let b : n ≡ m = cc in
-    λ i. Some (a i, File (b i) r.bytes)
+    λ i. Some (a i, File (b i) r)
 
 marked_content : (f : Metadata → Metadata) (l k : ℕ) (m n : Metadata) (c : Content) (bytes : List ℕ) → Some (shown_as k (object_in n c)) ≡ Some (l, File m bytes) → Some (shown_as k (object_in (f n) c)) ≡ Some (l, File (f m) bytes)
 marked_content f l k m n (content.Directory es) bytes e = let g = ap (λ (o : Option (ℕ × Object)). option_map (λ (v : ℕ × Object). v.1) o) e in cc
@@ -61,10 +61,10 @@ marked_content f l k m n (content.File c) bytes e =
     let g = ap (λ (o : Option (ℕ × Object)). option_map (λ (v : ℕ × Object). v.0) o) e in
     let a : k ≡ l = cc in
     let b : n ≡ m = cc in
-    let d : c.bytes ≡ bytes = cc in
+    let d : c ≡ bytes = cc in
     λ i. Some (a i, File (f (b i)) (d i))
 
-pub shown_stored : (o : Option Node) (l : ℕ) (m : Metadata) (old : List ℕ) (r : Stored) → option_map shown_node o ≡ Some (l, File m old) → option_map shown_node (option_map (with_content (with_stored r)) o) ≡ Some (l, File m r.bytes)
+pub shown_stored : (o : Option Node) (l : ℕ) (m : Metadata) (old : List ℕ) (r : List ℕ) → option_map shown_node o ≡ Some (l, File m old) → option_map shown_node (option_map (with_content (with_bytes r)) o) ≡ Some (l, File m r)
 shown_stored None l m old r e = cc
 shown_stored (Some node) l m old r e = stored_content l node.label m node.metadata node.content old r e
 
@@ -72,7 +72,7 @@ pub shown_marked : (f : Metadata → Metadata) (o : Option Node) (l : ℕ) (m : 
 shown_marked f None l m bytes e = cc
 shown_marked f (Some node) l m bytes e = marked_content f l node.label m node.metadata node.content bytes e
 
-pub stored_bytes : (o : Option Node) (l : ℕ) (m : Metadata) (old : List ℕ) → option_map shown_node o ≡ Some (l, File m old) → (option_map_or (λ (node : Node). stored_in node.content) o nothing_stored).bytes ≡ old
+pub stored_bytes : (o : Option Node) (l : ℕ) (m : Metadata) (old : List ℕ) → option_map shown_node o ≡ Some (l, File m old) → (option_map_or (λ (node : Node). bytes_in node.content) o []) ≡ old
 stored_bytes None l m old e = cc
 stored_bytes (Some node) l m old e = content_bytes l node.label m node.metadata node.content old e
 
@@ -83,16 +83,16 @@ set_plain s new t id moment attrs it h at none state =
     (subst (λ (a : Answer). IsCarriedOut (edited (with_metadata (λ m. with_parts m attrs)) s id) t a (reply.Status Success)) (sym (sets_plain moment it.label attrs it.metadata it.content none))
     (record { told = refl; tree = keeps_metadata (λ m. with_parts m attrs) s t id it h at }))
 
-set_cut : (s first second new : StoreState) (t : Tree) (id label moment size : ℕ) (attrs : Attrs) (m : Metadata) (old : List ℕ) (cut_to : Stored) → cut_to.bytes ≡ resized old size → Keeps s t → shown_of s.nodes id ≡ Some (label, File m old)
+set_cut : (s first second new : StoreState) (t : Tree) (id label moment size : ℕ) (attrs : Attrs) (m : Metadata) (old : List ℕ) (cut_to : List ℕ) → cut_to ≡ resized old size → Keeps s t → shown_of s.nodes id ≡ Some (label, File m old)
     → attrs.size ≡ Some size → nat_lt MAX_FILE_SIZE size ≡ false
-    → first ≡ stored_set s id cut_to → second ≡ edited (with_metadata (modified_at moment)) first id → new ≡ edited (with_metadata (λ k. with_parts k attrs)) second id
+    → first ≡ bytes_set s id cut_to → second ≡ edited (with_metadata (modified_at moment)) first id → new ≡ edited (with_metadata (λ k. with_parts k attrs)) second id
     → IsCarriedOut new t (sets moment label attrs (File m old)) (reply.Status Success)
 set_cut s first second new t id label moment size attrs m old cut_to is_cut h shows some fits cut marked set =
-    let bytes = cut_to.bytes in
+    let bytes = cut_to in
     let one = changed t (SetObject label (File m bytes)) in
     let keeps_one : Keeps first one = subst (λ (x : StoreState). Keeps x one) (sym cut) (keeps_contents cut_to s t id label m old h shows) in
     let shows_one : shown_of first.nodes id ≡ Some (label, File m bytes) =
-    ap (λ (x : StoreState). shown_of x.nodes id) cut ∙ ap (option_map shown_node) (edited_itself (with_content (with_stored cut_to)) s id)
+    ap (λ (x : StoreState). shown_of x.nodes id) cut ∙ ap (option_map shown_node) (edited_itself (with_content (with_bytes cut_to)) s id)
     ∙ shown_stored (node_in s.nodes id) label m old cut_to shows in
     let two = changed one (SetObject label (File (modified_at moment m) bytes)) in
     let keeps_two : Keeps second two = subst (λ (x : StoreState). Keeps x two) (sym marked) (keeps_file (modified_at moment) first one id label m bytes keeps_one shows_one) in
@@ -107,16 +107,16 @@ set_cut s first second new t id label moment size attrs m old cut_to is_cut h sh
 
 set_content_cut : (s first second new : StoreState) (t : Tree) (id label moment size : ℕ) (attrs : Attrs) (m : Metadata) (c : Content) → Keeps s t → shown_of s.nodes id ≡ Some (label, object_in m c) → is_directory_content c ≡ false
     → attrs.size ≡ Some size → nat_lt MAX_FILE_SIZE size ≡ false
-    → first ≡ stored_set s id (record (with_room (stored_of s.nodes id) size 0) { bytes = resized (stored_of s.nodes id).bytes size }) → second ≡ edited (with_metadata (modified_at moment)) first id → new ≡ edited (with_metadata (λ k. with_parts k attrs)) second id
+    → first ≡ bytes_set s id (resized (bytes_of s.nodes id) size) → second ≡ edited (with_metadata (modified_at moment)) first id → new ≡ edited (with_metadata (λ k. with_parts k attrs)) second id
     → IsCarriedOut new t (sets moment label attrs (object_in m c)) (reply.Status Success)
 set_content_cut s first second new t id label moment size attrs m (content.Directory es) h shows d some fits cut marked set = absurd (let x : ⊥ = cc in x)
 set_content_cut s first second new t id label moment size attrs m (content.File c) h shows d some fits cut marked set =
-    set_cut s first second new t id label moment size attrs m c.bytes (record (with_room (stored_of s.nodes id) size 0) { bytes = resized (stored_of s.nodes id).bytes size })
-    (ap (λ (bytes : List ℕ). resized bytes size) (stored_bytes (node_in s.nodes id) label m c.bytes shows)) h shows some fits cut marked set
+    set_cut s first second new t id label moment size attrs m c (resized (bytes_of s.nodes id) size)
+    (ap (λ (bytes : List ℕ). resized bytes size) (stored_bytes (node_in s.nodes id) label m c shows)) h shows some fits cut marked set
 
 pub set_sized : (s first second new : StoreState) (t : Tree) (id moment size : ℕ) (attrs : Attrs) (it : Node) → Keeps s t → node_in s.nodes id ≡ Some it → is_directory_at s.nodes id ≡ false
     → attrs.size ≡ Some size → nat_lt MAX_FILE_SIZE size ≡ false
-    → first ≡ stored_set s id (record (with_room (stored_of s.nodes id) size 0) { bytes = resized (stored_of s.nodes id).bytes size }) → second ≡ edited (with_metadata (modified_at moment)) first id → new ≡ edited (with_metadata (λ k. with_parts k attrs)) second id
+    → first ≡ bytes_set s id (resized (bytes_of s.nodes id) size) → second ≡ edited (with_metadata (modified_at moment)) first id → new ≡ edited (with_metadata (λ k. with_parts k attrs)) second id
     → IsCarriedOut new t (sets moment it.label attrs (object_in it.metadata it.content)) (reply.Status Success)
 set_sized s first second new t id moment size attrs it h at d =
     set_content_cut s first second new t id it.label moment size attrs it.metadata it.content h (ap (option_map shown_node) at)

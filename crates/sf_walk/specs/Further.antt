@@ -56,6 +56,3 @@ IsFound s number path at (further.Free to) = IsNextFree s number path at to
 abbrev pub Looks : StoreState → StoreState → Path → Reached → Further → Type 0
 Looks old new path at further.AtParent = (new ≡ old) × (at.walked + 1 ≡ length path)
 Looks old new path at found = (new ≡ looked_up old) × (at.walked + 1 < length path)
-
-abbrev pub LeadsTo : StoreState → StoreState → ℕ → Path → Reached → Further → Type 0
-LeadsTo old new number path at found = Looks old new path at found × IsFound old number path at found

@@ -31,10 +31,19 @@ pub record MayMove (s : StoreState) (old new : Path) (from into : ℕ) : Type 0 
   pub not_inside : after_front old new ≡ None
   pub bare : (target : ℕ) → entry_of s.nodes into last ≡ Some target → is_bare_at s.nodes target ≡ true
 
+-- What a rename asks for, and its moment.
+pub record Renaming : Type 0 where
+  pub old : Path
+  pub new : Path
+  pub moment : ℕ
+
+abbrev pub renaming : Path → Path → ℕ → Renaming
+renaming old new moment = record { old = old; new = new; moment = moment }
+
 -- what is told is the tree's answer, or the answer is the move and it may be done
-abbrev pub IsCourse : StoreState → Tree → ℕ → Path → Path → Answer → Course → Type 0
-IsCourse s t moment old new answer (Told code) = answer ≡ tells (reply.Status code)
-IsCourse s t moment old new answer (Moves from into) = (answer ≡ moves t moment old new) × MayMove s old new from into
+abbrev pub IsCourse : StoreState → Tree → Renaming → Answer → Course → Type 0
+IsCourse s t asked answer (Told code) = answer ≡ tells (reply.Status code)
+IsCourse s t asked answer (Moves from into) = (answer ≡ moves t asked.moment asked.old asked.new) × MayMove s asked.old asked.new from into
 
 -- where there is a move, neither path is the root
 abbrev pub AreNamed : Path → Path → Course → Type 0

@@ -114,7 +114,7 @@ pub(crate) fn read(
         return Ok(Reply::Status(StatusCode::EndOfFile));
     }
     let bytes = file.read(store.alloc(), offset, len.min(MAX_READ) as usize)?;
-    Ok(Reply::Data(ByteString::from_vec(bytes)?))
+    Ok(Reply::Data(bytes))
 }
 
 /// WRITE.
@@ -179,8 +179,7 @@ fn put_bytes(
     ensures look_ups { store.new.look_ups ≡ store.old.look_ups }
     ensures holders { HoldersStay store.old store.new }
 {
-    store.reserve_for(node, start, bytes.len())?;
-    store.write(node, start, bytes.as_slice());
+    store.write(node, start, bytes)?;
     store.touch(node, moment);
     Ok(())
 }

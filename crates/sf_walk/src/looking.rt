@@ -4,7 +4,7 @@ ghost use Rattle.std.specs.Prelude.{◌≡◌, ◌≢◌, ◌+◌, length, Some,
 ghost use Rattle.sf_inode.specs.Stores.{holder_of, looked_up};
 ghost use Rattle.sf_walk.specs.Ways.{way_from};
 ghost use Rattle.sf_walk.specs.Steps.{IsOnWay, IsFree, IsFreeThere};
-ghost use Rattle.sf_walk.specs.Further.{IsHeldThere, LeadsTo};
+ghost use Rattle.sf_walk.specs.Further.{IsHeldThere, IsFound, Looks};
 
 use crate::finding::Located;
 use sf_call::Reached;
@@ -26,7 +26,7 @@ pub(crate) enum Further {
 /// Looks up the next name of a path, unless it is the last one.
 pub(crate) fn look(store: &mut Store, number: u64, path: &Path, at: Reached) -> Further
     requires { IsOnWay store.old path.now at.walked at.node }
-    ensures { LeadsTo store.old store.new number path.now at result }
+    ensures { Looks store.old store.new path.now at result × IsFound store.old number path.now at result }
 {
     if path.len() == at.walked + 1 {
         return Further::AtParent;

@@ -11,10 +11,9 @@ ghost use Rattle.sf_call.specs.Attributes.Object.{File};
 ghost use Rattle.sf_call.specs.Changes.{changed};
 ghost use Rattle.sf_call.specs.Changes.Change.{SetObject};
 ghost use Rattle.sf_call.specs.Tree.{Tree, found_at, place_at};
-ghost use Rattle.sf_call.specs.Calls.{has_all_handles, open_directory, open_present, open_file, unless_root};
-ghost use Rattle.sf_block.specs.Contents.{with_room};
+ghost use Rattle.sf_call.specs.Calls.{has_all_handles, open_directory, open_present, open_file, unless_root, opening, stamp};
 ghost use Rattle.sf_inode.specs.declared.node.Node.{Node};
-ghost use Rattle.sf_inode.specs.Stores.{StoreState, node_in, entry_of, shown_of, is_directory_at, stored_of, stored_set};
+ghost use Rattle.sf_inode.specs.Stores.{StoreState, node_in, entry_of, shown_of, is_directory_at, bytes_set};
 ghost use Rattle.sf_keeps.specs.Steps.{walk};
 ghost use Rattle.sf_keeps.specs.Keeps.{Keeps};
 ghost use Rattle.sf_walk.specs.Ways.{last_of, found_node, way_from};
@@ -113,7 +112,7 @@ pub(crate) fn open(
 ) -> Result<Reply, AllocError>
     requires { located ≡ way_from store.old.nodes store.old.root store.old.root path.now }
     ensures served { (t : Tree) → Keeps store.old t → IsUnused t number
-        → Gives store.new t (unless_root path.now (open_file t session number moment path.now flags attrs.now (place_at t path.now))) result }
+        → Gives store.new t (unless_root path.now (open_file t session (stamp number moment) (opening path.now flags attrs.now) (place_at t path.now))) result }
     ensures err { OnErr result (IsAlike store.old store.new) }
     ensures plain { IfOk result IsPlain }
     ensures look_ups { store.new.look_ups ≡ store.old.look_ups }
@@ -147,7 +146,7 @@ fn open_present(
 ) -> Result<Reply, AllocError>
     ensures served { (t : Tree) (it : Node) → Keeps store.old t → IsUnused t number
         → node_in store.old.nodes node ≡ Some it
-        → Gives store.new t (open_present t session number moment flags (found_node it)) result }
+        → Gives store.new t (open_present t session (stamp number moment) flags (found_node it)) result }
     ensures err { OnErr result (store.new ≡ store.old) }
     ensures plain { IfOk result IsPlain }
     ensures look_ups { store.new.look_ups ≡ store.old.look_ups }
@@ -181,8 +180,7 @@ fn truncate(store: &mut Store, moment: u32, node: NodeId)
 
 /// Takes out a file's bytes, which takes no memory.
 fn cut(store: &mut Store, node: NodeId)
-    ensures { store.new
-        ≡ stored_set store.old node (record (with_room (stored_of store.old.nodes node) 0 0) { bytes = [] }) }
+    ensures { store.new ≡ bytes_set store.old node [] }
 {
     match store.set_len(node, 0) {
         Ok(()) => {}
@@ -207,7 +205,7 @@ fn open_absent(
     ensures served { (t : Tree) (front : Path) → Keeps store.old t → IsUnused t number
         → path.now ≡ front ++ last_of path.now ∷ []
         → walk (entry_of store.old.nodes) store.old.root front ≡ Some parent
-        → Gives store.new t (open_file t session number moment path.now flags attrs.now Absent) result }
+        → Gives store.new t (open_file t session (stamp number moment) (opening path.now flags attrs.now) Absent) result }
     ensures err { OnErr result (IsAlike store.old store.new) }
     ensures plain { IfOk result IsPlain }
     ensures look_ups { store.new.look_ups ≡ store.old.look_ups }

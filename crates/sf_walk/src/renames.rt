@@ -11,7 +11,7 @@ ghost use Rattle.sf_inode.specs.Stores.{StoreState, relinked};
 ghost use Rattle.sf_keeps.specs.Keeps.{Keeps};
 ghost use Rattle.sf_walk.specs.Ways.{are_nested, last_of, AreWays, IsLocated};
 ghost use Rattle.sf_walk.specs.Served.{Gives, IsAlike, HoldersStay};
-ghost use Rattle.sf_walk.specs.Renames.{does_move, may_replace, IsCourse, AreNamed, IsTold};
+ghost use Rattle.sf_walk.specs.Renames.{does_move, may_replace, IsCourse, AreNamed, IsTold, renaming};
 
 use crate::finding::{Located, Ways};
 use sf_call::{Call, Request};
@@ -96,7 +96,7 @@ pub(crate) fn posix_rename(
 fn rename_course(old: &Path, new: &Path, ways: Ways) -> Course
     ensures course { (s : StoreState) (t : Tree) (moment : ℕ) → Keeps s t
         → AreWays s (OnPaths old.now new.now) ways
-        → IsCourse s t moment old.now new.now (unless_root old.now (unless_root new.now (rename t moment old.now new.now (place_at t old.now)))) result }
+        → IsCourse s t (renaming old.now new.now moment) (unless_root old.now (unless_root new.now (rename t moment old.now new.now (place_at t old.now)))) result }
     ensures named { AreNamed old.now new.now result }
 {
     if has_root(old, new) {
@@ -122,7 +122,7 @@ fn rename_course(old: &Path, new: &Path, ways: Ways) -> Course
 fn posix_course(store: &Store, old: &Path, new: &Path, ways: Ways) -> Course
     requires { AreWays store.now (OnPaths old.now new.now) ways }
     ensures course { (t : Tree) (moment : ℕ) → Keeps store.now t
-        → IsCourse store.now t moment old.now new.now (unless_root old.now (unless_root new.now (posix_rename t moment old.now new.now (place_at t old.now)))) result }
+        → IsCourse store.now t (renaming old.now new.now moment) (unless_root old.now (unless_root new.now (posix_rename t moment old.now new.now (place_at t old.now)))) result }
     ensures named { AreNamed old.now new.now result }
     ensures same { same_path old.now new.now ≡ true → IsTold result }
 {
@@ -193,7 +193,7 @@ fn carry_out(
 ) -> Result<Reply, AllocError>
     requires { AreNamed old.now new.now course }
     ensures served { (t : Tree) (answer : Answer) → Keeps store.old t
-        → IsCourse store.old t moment old.now new.now answer course
+        → IsCourse store.old t (renaming old.now new.now moment) answer course
         → Gives store.new t answer result }
     ensures sure { IsTold course → IsOk result }
     ensures err { OnErr result (IsAlike store.old store.new) }

@@ -1,6 +1,4 @@
-use Rattle.std.proofs.Common.{ap, ◌∙◌, List, ℕ, refl, sym, subst}
-use Rattle.sf_block.specs.Contents.{written}
-use Rattle.sf_inode.specs.Stores.{stored_of, stored_set}
+use Rattle.std.proofs.Common.{refl, sym, subst}
 use Rattle.sf_call.specs.Attributes.{modified_at}
 use Rattle.sf_inode.specs.Nodes.{with_metadata}
 use Rattle.sf_walk.specs.Served.{HoldersStay}
@@ -11,14 +9,12 @@ use Rattle.sf_walk.proofs.handle_calls.put_bytes.Goals as goal
 pub returns-clause-tree : goal.returns-clause-tree
 returns-clause-tree c = λ t label m contents h shows.
     put_keeps
-    c.args.store.now c.reserve_for.new.self c.write.new.self c.touch.new.self t c.args.node label c.args.moment c.args.start c.len.result m contents c.args.bytes.now h shows
-    c.in_ok-reserve_for.ensures.ok
-    (c.write.ensures ∙ ap (λ (b : List ℕ). stored_set c.reserve_for.new.self c.args.node (record (stored_of c.reserve_for.new.self.nodes c.args.node) { bytes = written (stored_of c.reserve_for.new.self.nodes c.args.node).bytes c.args.start b })) c.as_slice.ensures)
+    c.args.store.now c.write.new.self c.touch.new.self t c.args.node label c.args.moment c.args.start m contents c.args.bytes.now h shows
+    c.in_ok-write.ensures.ok
     c.touch.ensures
 
 pub returns-clause-holders : goal.returns-clause-holders
 returns-clause-holders c =
     let stays = HoldersStay c.args.store.now in
     subst stays (sym c.touch.ensures) (stays_edited (with_metadata (modified_at c.args.moment)) (λ node. (refl, refl)) c.args.store.now c.write.new.self c.args.node
-    (subst stays (sym c.write.ensures) (stays_stored c.args.store.now c.reserve_for.new.self c.args.node _
-    (subst stays (sym c.in_ok-reserve_for.ensures.ok) (stays_stored c.args.store.now c.args.store.now c.args.node _ (stays_same c.args.store.now c.args.store.now refl))))))
+    (subst stays (sym c.in_ok-write.ensures.ok) (stays_stored c.args.store.now c.args.store.now c.args.node _ (stays_same c.args.store.now c.args.store.now refl))))

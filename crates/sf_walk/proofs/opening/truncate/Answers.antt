@@ -1,8 +1,6 @@
 use Rattle.std.proofs.Common.{refl, sym, subst, []}
 use Rattle.sf_call.specs.Attributes.{modified_at}
-use Rattle.sf_inode.specs.Nodes.{with_metadata, with_content, with_stored}
-use Rattle.sf_block.specs.Contents.{with_room}
-use Rattle.sf_inode.specs.Stores.{stored_of}
+use Rattle.sf_inode.specs.Nodes.{with_metadata, with_content, with_bytes}
 use Rattle.sf_walk.specs.Served.{HoldersStay}
 use Rattle.sf_walk.proofs.Holders.{stays_edited}
 use Rattle.sf_walk.proofs.Opened.{cut_served}
@@ -10,11 +8,11 @@ use Rattle.sf_walk.proofs.opening.truncate.Goals as goal
 
 pub returns-clause-tree : goal.returns-clause-tree
 returns-clause-tree c = λ t label m bytes k at.
-    cut_served (with_room (stored_of c.args.store.now.nodes c.args.node) 0 0).room c.args.store.now c.cut.new.store c.touch.new.self t c.args.node c.args.moment label m bytes k at c.cut.ensures c.touch.ensures
+    cut_served c.args.store.now c.cut.new.store c.touch.new.self t c.args.node c.args.moment label m bytes k at c.cut.ensures c.touch.ensures
 
 pub returns-clause-holders : goal.returns-clause-holders
 returns-clause-holders c = λ before h.
-    let f = with_content (with_stored (record (with_room (stored_of c.args.store.now.nodes c.args.node) 0 0) { bytes = [] })) in
+    let f = with_content (with_bytes []) in
     subst (HoldersStay before) (sym c.touch.ensures)
     (stays_edited (with_metadata (modified_at c.args.moment)) (λ node. (refl, refl)) before c.cut.new.store c.args.node
     (subst (HoldersStay before) (sym c.cut.ensures) (stays_edited f (λ node. (refl, refl)) before c.args.store.now c.args.node h)))

@@ -8,14 +8,14 @@ use Rattle.sf_inode.specs.Stores.{StoreState, edited}
 use Rattle.sf_walk.specs.declared.renames.Course.{Course}
 use Rattle.sf_walk.specs.Ways.{last_of}
 use Rattle.sf_walk.specs.Served.{IsCarriedOut, HoldersStay}
-use Rattle.sf_walk.specs.Renames.{IsCourse}
+use Rattle.sf_walk.specs.Renames.{IsCourse, renaming}
 use Rattle.sf_walk.proofs.Holders.{stays_same, stays_edited, stays_relinked}
 use Rattle.sf_walk.proofs.MovedEntries.{moves_served}
 use Rattle.sf_walk.proofs.renames.carry_out.Goals as goal
 
 pub returns-in_ok-relink_last-in-Moves-clause-served : goal.returns-in_ok-relink_last-in-Moves-clause-served
 returns-in_ok-relink_last-in-Moves-clause-served c = λ t answer k is.
-    let may = subst (λ (x : Course). IsCourse c.args.store.now t c.args.moment c.args.old.now c.args.new.now answer x) c.in-Moves.is is in
+    let may = subst (λ (x : Course). IsCourse c.args.store.now t (renaming c.args.old.now c.args.new.now c.args.moment) answer x) c.in-Moves.is is in
     subst (λ (a : Answer). IsCarriedOut c.touch-in-Moves.new.self t a (reply.Status Success)) (sym may.0)
     (moves_served c.args.store.now t k c.args.moment c.args.old.now c.args.new.now c.in-Moves.from c.in-Moves.into may.1 c.touch-in-Moves.new.self
     (c.touch-in-Moves.ensures ∙ ap (λ (x : StoreState). edited (with_metadata (modified_at c.args.moment)) x c.in-Moves.into)

@@ -1,0 +1,83 @@
+-- Names whose heads differ stand in the order of their heads.
+use Rattle.std.proofs.Common.{◌≡◌, ◌≢◌, ℕ, zero, suc, ◌+◌, ◌*◌, ◌<◌, ◌≤◌, List, [], ◌∷◌, refl, sym, ap, subst, ◌∙◌, inl, inr, arith}
+use Rattle.std.specs.Prelude.{All}
+use Rattle.std.specs.declared.cmp.Ordering.{Ordering}
+use Rattle.std.specs.declared.cmp.Ordering.TheVariants.{Less, Equal, Greater}
+use Rattle.std.specs.Ordering.{nat_cmp, ordering_then, MatchOrdering}
+use Rattle.std.specs.Cmp.{nat_cmp_is}
+use Rattle.std.specs.Cmp.Lexicographic.{slice_cmp}
+use Rattle.std.proofs.lemmas.Bool.{cases_lt}
+use Rattle.std.proofs.lemmas.Cmp.{ranked}
+use Rattle.std.proofs.lemmas.List.Elements.{All-head, All-tail, All-nil}
+use Rattle.sf_path.specs.Heads.{spelled, head_of}
+
+abbrev Bytes : List ℕ → Type 0
+Bytes bytes = All (λ b. b < 256) bytes
+
+none : Bytes []
+none = All-nil (λ b. b < 256)
+
+first_of_bytes : (b : ℕ) (bytes : List ℕ) → Bytes (b ∷ bytes) → b < 256
+first_of_bytes b bytes h = All-head (λ b. b < 256) b bytes h
+
+rest_of : (b : ℕ) (bytes : List ℕ) → Bytes (b ∷ bytes) → Bytes bytes
+rest_of b bytes h = All-tail (λ b. b < 256) b bytes h
+
+-- what is smaller stays smaller, whatever bytes come behind
+rises : (more n m : ℕ) (a b : List ℕ) → Bytes a → n < m → spelled more n a < spelled more m b
+rises zero n m a b h lt = lt
+rises (suc more) n m [] [] h lt = rises more (n * 256) (m * 256) [] [] none (omega arith)
+rises (suc more) n m [] (y ∷ ys) h lt = rises more (n * 256) (m * 256 + y) [] ys none (omega arith)
+rises (suc more) n m (x ∷ xs) [] h lt =
+    let small = first_of_bytes x xs h in
+    rises more (n * 256 + x) (m * 256) xs [] (rest_of x xs h) (omega arith)
+rises (suc more) n m (x ∷ xs) (y ∷ ys) h lt =
+    let small = first_of_bytes x xs h in
+    rises more (n * 256 + x) (m * 256 + y) xs ys (rest_of x xs h) (omega arith)
+
+-- zeros are the least that can come behind
+least : (more n m : ℕ) (b : List ℕ) → n ≤ m → spelled more n [] ≤ spelled more m b
+least zero n m b le = le
+least (suc more) n m [] le = least more (n * 256) (m * 256) [] (omega arith)
+least (suc more) n m (y ∷ ys) le = least more (n * 256) (m * 256 + y) ys (omega arith)
+
+below : (x y : ℕ) → x < y → nat_cmp x y ≡ Less
+below x y lt = sym (nat_cmp_is x y Less lt)
+
+above : (x y : ℕ) → y < x → nat_cmp x y ≡ Greater
+above x y lt = sym (nat_cmp_is x y Greater lt)
+
+-- where first bytes differ they decide, and else what comes behind
+decided : (more n x y : ℕ) (xs ys : List ℕ) → Bytes xs → Bytes ys → spelled more (n * 256 + x) xs ≢ spelled more (n * 256 + y) ys
+    → ((m : ℕ) → spelled more m xs ≢ spelled more m ys → nat_cmp (spelled more m xs) (spelled more m ys) ≡ slice_cmp nat_cmp xs ys)
+    → (r : Ordering) → nat_cmp x y ≡ r → MatchOrdering r (x < y) (x ≡ y) (y < x)
+    → nat_cmp (spelled more (n * 256 + x) xs) (spelled more (n * 256 + y) ys) ≡ ordering_then (nat_cmp x y) (slice_cmp nat_cmp xs ys)
+decided more n x y xs ys g h apart onward Less e lt =
+    let under : x < y = lt in
+    below _ _ (rises more (n * 256 + x) (n * 256 + y) xs ys g (omega arith)) ∙ sym (ap (λ r. ordering_then r (slice_cmp nat_cmp xs ys)) e)
+decided more n x y xs ys g h apart onward Greater e lt =
+    let over : y < x = lt in
+    above _ _ (rises more (n * 256 + y) (n * 256 + x) ys xs h (omega arith)) ∙ sym (ap (λ r. ordering_then r (slice_cmp nat_cmp xs ys)) e)
+decided more n x y xs ys g h apart onward Equal e same =
+    let level : x ≡ y = same in
+    let further : spelled more (n * 256 + x) xs ≢ spelled more (n * 256 + x) ys =
+    subst (λ z. spelled more (n * 256 + x) xs ≢ spelled more (n * 256 + z) ys) (sym level) apart in
+    subst (λ z. nat_cmp (spelled more (n * 256 + x) xs) (spelled more (n * 256 + z) ys) ≡ slice_cmp nat_cmp xs ys) level (onward (n * 256 + x) further)
+    ∙ sym (ap (λ r. ordering_then r (slice_cmp nat_cmp xs ys)) e)
+
+spelled_order : (more n : ℕ) (a b : List ℕ) → Bytes a → Bytes b → spelled more n a ≢ spelled more n b
+    → nat_cmp (spelled more n a) (spelled more n b) ≡ slice_cmp nat_cmp a b
+spelled_order zero n a b g h apart = absurd (apart refl)
+spelled_order (suc more) n [] [] g h apart = absurd (apart refl)
+spelled_order (suc more) n [] (y ∷ ys) g h apart =
+    let le = least more (n * 256) (n * 256 + y) ys (omega arith) in
+    below _ _ (elim (cases_lt (spelled more (n * 256) []) (spelled more (n * 256 + y) ys)) [ inl lt ↦ lt | inr over ↦ absurd (apart (omega arith)) ])
+spelled_order (suc more) n (x ∷ xs) [] g h apart =
+    let le = least more (n * 256) (n * 256 + x) xs (omega arith) in
+    above _ _ (elim (cases_lt (spelled more (n * 256) []) (spelled more (n * 256 + x) xs)) [ inl lt ↦ lt | inr over ↦ absurd (apart (omega arith)) ])
+spelled_order (suc more) n (x ∷ xs) (y ∷ ys) g h apart =
+    let onward = λ (m : ℕ) (further : spelled more m xs ≢ spelled more m ys). spelled_order more m xs ys (rest_of x xs g) (rest_of y ys h) further in
+    decided more n x y xs ys (rest_of x xs g) (rest_of y ys h) apart onward (nat_cmp x y) refl (ranked x y (nat_cmp x y) refl)
+
+pub head_order : (a b : List ℕ) → Bytes a → Bytes b → head_of a ≢ head_of b → nat_cmp (head_of a) (head_of b) ≡ slice_cmp nat_cmp a b
+head_order a b g h apart = spelled_order 8 0 a b g h apart
