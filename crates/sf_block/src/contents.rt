@@ -4,6 +4,7 @@ ghost use Rattle.std.specs.Prelude.{◌≡◌, ◌+◌, ◌-◌, ◌*◌, ◌/�
 ghost use Rattle.sf_block.specs.Contents.{resized, written, IsGrown};
 ghost use Rattle.sf_block.specs.Blocks.{joined, with_block, AreBlocks, AreBlocksOf, ReachTo, block_of};
 
+use crate::row::Row;
 use sf_field::ByteString;
 use std::alloc::{AllocError, Global};
 use std::marker::Model;
@@ -11,11 +12,12 @@ use std::marker::Model;
 /// How many bytes a whole block has: as many as clients ask for at once.
 const BLOCK: usize = 32768;
 
-/// The bytes of a file. Blocks are shared with those who read and wrote them, and replaced where bytes change.
+/// The bytes of a file. Blocks are shared with those who read and wrote them, and replaced where bytes change. Those
+/// that are cut off go where others take their places, and all with the file.
 #[derive(Debug)]
 pub struct Contents {
     /// Blocks of `BLOCK` bytes each.
-    whole: Vec<ByteString>,
+    whole: Row,
     /// The bytes behind them, fewer than `BLOCK`.
     rest: ByteString,
     len: usize,
@@ -50,7 +52,7 @@ impl Contents {
         ensures { result ≡ [] }
     {
         Contents {
-            whole: Vec::new(alloc),
+            whole: Row::new(alloc),
             rest: ByteString::new(),
             len: 0,
         }
@@ -268,7 +270,8 @@ impl Contents {
         ensures ok { OnOk result (self.new ≡ self.old ++ block) }
         ensures err { OnErr result (self.new ≡ self.old) }
     {
-        self.whole.push(block)?;
+        self.whole.reserve(1)?;
+        self.whole.push_reserved(block);
         self.len += BLOCK;
         Ok(())
     }
@@ -387,20 +390,19 @@ fn zeros(alloc: Global, n: usize) -> Result<ByteString, AllocError>
 }
 
 /// Puts a block in place of another, or behind them all, in memory that is there.
-fn put(whole: &mut Vec<ByteString>, rest: &mut ByteString, i: usize, block: ByteString)
+fn put(whole: &mut Row, rest: &mut ByteString, i: usize, block: ByteString)
     requires blocks { AreBlocks whole.old.items rest.old }
-    requires place { i ≤ vec_len whole.old }
-    requires room { vec_len whole.old < vec_capacity whole.old }
+    requires place { i ≤ length whole.old.items }
+    requires room { 0 < whole.old.room }
     requires fits { length block ≤ 32768 }
-    requires within { i < vec_len whole.old → length block ≡ 32768 }
+    requires within { i < length whole.old.items → length block ≡ 32768 }
     ensures blocks { AreBlocks whole.new.items rest.new }
     ensures bytes { joined whole.new.items rest.new
         ≡ with_block i block (joined whole.old.items rest.old) }
-    ensures len { vec_len whole.new ≤ vec_len whole.old + 1 }
-    ensures room { vec_capacity whole.old ≤ vec_capacity whole.new }
+    ensures room { whole.old.room ≤ whole.new.room + 1 }
 {
     if i < whole.len() {
-        whole[i] = block;
+        whole.set(i, block);
     } else if block.len() < BLOCK {
         *rest = block;
     } else {
@@ -410,14 +412,11 @@ fn put(whole: &mut Vec<ByteString>, rest: &mut ByteString, i: usize, block: Byte
 }
 
 /// Takes a block out, and those behind it: it is what is left behind the others.
-fn cut_at(whole: &mut Vec<ByteString>, rest: &mut ByteString, i: usize)
+fn cut_at(whole: &mut Row, rest: &mut ByteString, i: usize)
     ensures whole { whole.new.items ≡ take i whole.old.items }
     ensures rest { rest.new ≡ slice_index_or whole.old.items i rest.old }
 {
     if i < whole.len() {
-        whole.truncate(i + 1);
-        if let Some(block) = whole.pop() {
-            *rest = block;
-        }
+        *rest = whole.cut(i);
     }
 }

@@ -215,6 +215,34 @@ fn cut_within_a_block_and_at_a_seam(rt: HostRuntime) -> Result<(), Fail> {
 }
 
 #[test]
+fn what_was_cut_off_does_not_come_back(rt: HostRuntime) -> Result<(), Fail> {
+    let alloc = rt.alloc();
+    let mut contents = Contents::new(alloc);
+    write(
+        alloc,
+        &mut contents,
+        0,
+        many(alloc, 70_000, b'a')?.as_slice(),
+    )?;
+    contents.set_len(alloc, 0)?;
+    assert_bytes(&rt, alloc, &contents, b"")?;
+    write(
+        alloc,
+        &mut contents,
+        0,
+        many(alloc, 32_768, b'b')?.as_slice(),
+    )?;
+    assert_eq!(rt; contents.len(), 32_768);
+    assert_read(&rt, alloc, &contents, 32_766, b"bb")?;
+    contents.set_len(alloc, 70_000)?;
+    assert_read(&rt, alloc, &contents, 32_766, b"bb\0\0")?;
+    assert_read(&rt, alloc, &contents, 65_534, b"\0\0\0\0")?;
+    assert_read(&rt, alloc, &contents, 69_998, b"\0\0")?;
+    assert_eq!(rt; contents.len(), 70_000);
+    Ok(())
+}
+
+#[test]
 fn read_in_a_block_and_over_three(rt: HostRuntime) -> Result<(), Fail> {
     let alloc = rt.alloc();
     let mut contents = Contents::new(alloc);

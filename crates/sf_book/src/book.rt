@@ -7,7 +7,6 @@ ghost use Rattle.sf_book.specs.Books.{is_deed, put};
 use sf_call::Record;
 use std::alloc::{AllocError, Global};
 use std::marker::Model;
-use std::mem;
 
 /// The records of a history, in the order in which they were put. Room is reserved before a record is
 /// put, so that putting can't fail.
@@ -71,7 +70,7 @@ impl Book {
     }
 
     /// Makes room for so many records. It takes memory only where there is less, and then for as many
-    /// more as are kept, so that the places of records that went are given back seldom.
+    /// more as are kept, or three times as many where records go, so that their places are given back seldom.
     pub fn reserve(&mut self, n: usize) -> Result<(), AllocError>
         ensures records { self.new ≡ record self.old { room = self.new.room } }
         ensures ok { OnOk result (n ≤ self.new.room) }
@@ -82,7 +81,9 @@ impl Book {
             return Ok(());
         }
         self.close_up();
-        let more = n.saturating_add(self.entries.len());
+        let kept = self.entries.len();
+        let times = if self.keep.is_some() { 3 } else { 1 };
+        let more = n.saturating_add(kept.saturating_mul(times));
         if self.entries.reserve(more).is_ok() {
             return Ok(());
         }
@@ -121,8 +122,9 @@ impl Book {
         ensures room { self.new.room ≡ self.old.room }
         ensures keep { self.new.keep ≡ self.old.keep }
     {
-        let oldest = mem::replace(&mut self.entries[self.gone], Record::Left { session: 0 });
-        self.folded = self.folded.saturating_add(deeds(oldest));
+        let told = deeds(&self.entries[self.gone]);
+        self.entries[self.gone] = Record::Left { session: 0 };
+        self.folded = self.folded.saturating_add(told);
         self.gone += 1;
     }
 
@@ -142,8 +144,8 @@ impl Book {
 }
 
 /// How many calls a record that goes told of: a leaving of none.
-fn deeds(gone: Record) -> u64
-    ensures { result ≡ count_by is_deed (gone ∷ []) }
+fn deeds(gone: &Record) -> u64
+    ensures { result ≡ count_by is_deed (gone.now ∷ []) }
 {
     match gone {
         Record::Did { .. } => 1,

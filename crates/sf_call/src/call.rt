@@ -1,13 +1,15 @@
 //! Calls that wait for their answers.
 
-ghost use Rattle.std.specs.Prelude.{◌≡◌, ◌<◌, ◌^◌, [], length, OnOk, OnErr};
+ghost use Rattle.std.specs.Prelude.{◌≡◌, ◌<◌, ◌^◌, [], length, IfOk, OnOk, OnErr};
 ghost use Rattle.std.specs.Option.{option_copied, option_and_then};
 ghost use Rattle.std.specs.Ordering.{nat_cmp};
 ghost use Rattle.std.specs.Map.{lookup, remove_entry};
 ghost use Rattle.std.specs.BTreeMap.{is_at, insert_entry};
 ghost use Rattle.sf_call.specs.declared.call.Call.{Call};
+ghost use Rattle.sf_call.specs.declared.record.Record.TheVariants.{Did};
 ghost use Rattle.sf_call.specs.Unanswered.{staged, answered, gone_where_answered};
 
+use crate::record::Record;
 use crate::request::Request;
 use sf_reply::Reply;
 use std::alloc::{AllocError, Global};
@@ -60,10 +62,72 @@ pub struct Call {
     pub reply: Option<Reply>,
 }
 
+/// A call in memory of its own, so that a map of calls moves a pointer and not the call.
+#[derive(Drop)]
+pub struct PlacedCall {
+    call: Box<Call>,
+}
+
+impl Model for PlacedCall {
+    ghost use Rattle.sf_call.specs.declared.call.Call.{Call};
+
+    ghost Value = { Call };
+
+    ghost view = { λ placed. placed.call.value };
+}
+
+impl PlacedCall {
+    fn new(alloc: Global, call: Call) -> Result<PlacedCall, AllocError>
+        ensures { IfOk result (λ placed. placed ≡ call) }
+    {
+        match Box::new(alloc, call) {
+            Ok(call) => Ok(PlacedCall { call }),
+            Err(_) => Err(AllocError),
+        }
+    }
+
+    /// The call's record, with the reply that it was given.
+    pub fn into_record(self, reply: Reply) -> Record
+        ensures { result ≡ Did self.number self.session self.moment self.request reply }
+    {
+        let Call {
+            number,
+            session,
+            moment,
+            request,
+            stage: _,
+            copy: _copy,
+            reply: _waiting,
+        } = Box::into_inner(self.call);
+        Record::Did {
+            number,
+            session,
+            moment,
+            request,
+            reply,
+        }
+    }
+
+    /// The reply that waits for the session.
+    fn into_reply(self) -> Option<Reply>
+        ensures { result ≡ self.reply }
+    {
+        Box::into_inner(self.call).reply
+    }
+
+    /// The call.
+    pub fn as_call(&self) -> &Call
+        ensures { result.now ≡ self.now }
+    {
+        self.call.as_ref()
+    }
+}
+
 /// The unanswered calls by rising number.
 #[derive(Drop)]
 pub struct Calls {
-    calls: BTreeMap<u64, Call>,
+    alloc: Global,
+    calls: BTreeMap<u64, PlacedCall>,
 }
 
 impl Model for Calls {
@@ -81,6 +145,7 @@ impl Calls {
         ensures { result ≡ [] }
     {
         Calls {
+            alloc,
             calls: BTreeMap::new(alloc),
         }
     }
@@ -98,7 +163,9 @@ impl Calls {
         ensures ok { OnOk result (self.new ≡ insert_entry nat_cmp self.old call.number call) }
         ensures err { OnErr result (self.new ≡ self.old) }
     {
-        self.calls.insert(call.number, call)?;
+        let number = call.number;
+        let placed = PlacedCall::new(self.alloc, call)?;
+        self.calls.insert(number, placed)?;
         Ok(())
     }
 
@@ -106,11 +173,11 @@ impl Calls {
     pub fn get(&self, number: u64) -> Option<&Call>
         ensures { option_copied result ≡ lookup (is_at (nat_cmp number)) self.now }
     {
-        self.calls.get(&number)
+        Some(self.calls.get(&number)?.as_call())
     }
 
     /// The calls by rising number.
-    pub fn iter(&self) -> Iter<'_, u64, Call>
+    pub fn iter(&self) -> Iter<'_, u64, PlacedCall>
         ensures { result ≡ self.now }
     {
         self.calls.iter()
@@ -120,8 +187,8 @@ impl Calls {
     pub fn set_stage(&mut self, number: u64, stage: Stage)
         ensures { self.new ≡ staged self.old number stage }
     {
-        if let Some(call) = self.calls.get_mut(&number) {
-            call.stage = stage;
+        if let Some(placed) = self.calls.get_mut(&number) {
+            placed.call.stage = stage;
         }
     }
 
@@ -131,9 +198,9 @@ impl Calls {
         ensures copy { result
             ≡ option_and_then (λ (call : Call). call.copy) (lookup (is_at (nat_cmp number)) self.old) }
     {
-        let call = self.calls.get_mut(&number)?;
-        call.reply = Some(reply);
-        call.copy.take()
+        let placed = self.calls.get_mut(&number)?;
+        placed.call.reply = Some(reply);
+        placed.call.copy.take()
     }
 
     /// Takes out the call of a number, if its reply waits.
@@ -146,11 +213,22 @@ impl Calls {
         if !waits {
             return None;
         }
-        self.remove(number)?.reply
+        self.remove_reply(number)
+    }
+
+    /// Takes out the call of a number, and gives its reply. Few calls come here, so that no step of another one
+    /// makes room for a whole call.
+    #[inline(never)]
+    fn remove_reply(&mut self, number: u64) -> Option<Reply>
+        ensures reply { result
+            ≡ option_and_then (λ (call : Call). call.reply) (lookup (is_at (nat_cmp number)) self.old) }
+        ensures rest { self.new ≡ remove_entry (is_at (nat_cmp number)) self.old }
+    {
+        self.remove(number)?.into_reply()
     }
 
     /// Takes out the call of a number.
-    pub fn remove(&mut self, number: u64) -> Option<Call>
+    pub fn remove(&mut self, number: u64) -> Option<PlacedCall>
         ensures call { result ≡ lookup (is_at (nat_cmp number)) self.old }
         ensures rest { self.new ≡ remove_entry (is_at (nat_cmp number)) self.old }
     {

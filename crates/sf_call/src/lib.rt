@@ -22,7 +22,7 @@ mod request;
 mod tree_laws;
 
 pub use answer::Answer;
-pub use call::{Call, Calls, Reached, Stage};
+pub use call::{Call, Calls, PlacedCall, Reached, Stage};
 pub use fault::CoreFault;
 pub use handle::Handle;
 pub use history_laws::{

@@ -7,7 +7,7 @@ ghost use Rattle.sf_call.specs.Values.{IsRequest, IsCall};
 
 use sf_field::{Attrs, ByteString, OpenFlags};
 use sf_path::Path;
-use std::alloc::{AllocError, Global};
+use std::alloc::AllocError;
 
 /// LSTAT is `Stat` too: the tree has no links. A handle is the number of the call that opened it.
 #[derive(Debug, PartialEq, Eq, Drop)]
@@ -47,20 +47,19 @@ impl Request {
         parts(self);
     }
 
-    /// Takes memory for the names of paths. The bytes of a WRITE are shared.
-    pub fn try_copy(&self, alloc: Global) -> Result<Request, AllocError>
+    /// The same request once more: its paths and the bytes of a WRITE are shared, which takes no memory. It fails where
+    /// the owners can't be counted: at 2^63 of them.
+    pub fn share(&self) -> Result<Request, AllocError>
         ensures { IfOk result (λ copy. copy ≡ self.now) }
     {
         Ok(match self {
-            Request::Stat(path) => Request::Stat(path.try_copy(alloc)?),
-            Request::SetStat(path, attrs) => Request::SetStat(path.try_copy(alloc)?, *attrs),
-            Request::Mkdir(path, attrs) => Request::Mkdir(path.try_copy(alloc)?, *attrs),
-            Request::Rmdir(path) => Request::Rmdir(path.try_copy(alloc)?),
-            Request::Remove(path) => Request::Remove(path.try_copy(alloc)?),
-            Request::OpenDir(path) => Request::OpenDir(path.try_copy(alloc)?),
-            Request::Open(path, flags, attrs) => {
-                Request::Open(path.try_copy(alloc)?, *flags, *attrs)
-            }
+            Request::Stat(path) => Request::Stat(path.share()?),
+            Request::SetStat(path, attrs) => Request::SetStat(path.share()?, *attrs),
+            Request::Mkdir(path, attrs) => Request::Mkdir(path.share()?, *attrs),
+            Request::Rmdir(path) => Request::Rmdir(path.share()?),
+            Request::Remove(path) => Request::Remove(path.share()?),
+            Request::OpenDir(path) => Request::OpenDir(path.share()?),
+            Request::Open(path, flags, attrs) => Request::Open(path.share()?, *flags, *attrs),
             Request::Close(handle) => Request::Close(*handle),
             Request::FStat(handle) => Request::FStat(*handle),
             Request::FSetStat(handle, attrs) => Request::FSetStat(*handle, *attrs),
@@ -83,12 +82,8 @@ impl Request {
                 data: data.share()?,
             },
             Request::ReadDir(handle) => Request::ReadDir(*handle),
-            Request::Rename(old, new) => {
-                Request::Rename(old.try_copy(alloc)?, new.try_copy(alloc)?)
-            }
-            Request::PosixRename(old, new) => {
-                Request::PosixRename(old.try_copy(alloc)?, new.try_copy(alloc)?)
-            }
+            Request::Rename(old, new) => Request::Rename(old.share()?, new.share()?),
+            Request::PosixRename(old, new) => Request::PosixRename(old.share()?, new.share()?),
         })
     }
 }

@@ -102,7 +102,7 @@ fn copies_of_requests(rt: HostRuntime) -> Result<(), Fail> {
     let made_apart = one_of_each(rt.alloc())?;
     assert_eq!(rt; requests.len(), 15);
     for (request, same) in requests.iter().zip(made_apart.iter()) {
-        assert_eq!(rt; &request.try_copy(rt.alloc())?, same);
+        assert_eq!(rt; &request.share()?, same);
     }
     for (request, next) in requests.iter().zip(made_apart.iter().skip(1)) {
         assert_ne!(rt; request, next);
@@ -118,7 +118,11 @@ fn copies_of_handles(rt: HostRuntime) -> Result<(), Fail> {
         read: true,
         write: false,
         append: true,
-        listed: Path::parse(rt.alloc(), b"/n05")?.into_names().pop(),
+        listed: Some(
+            Path::parse(rt.alloc(), b"/n05")?
+                .name(0)
+                .try_copy(rt.alloc())?,
+        ),
     };
     let copy = listed.try_copy(rt.alloc())?;
     assert_eq!(rt; (copy.session, copy.label), (3, 7));

@@ -165,7 +165,7 @@ impl Parts {
         self.make_room()?;
         let number = self.drawn + 1;
         request.is_call(number, session, moment);
-        let copy = copy_of(self.store.alloc(), &request)?;
+        let copy = copy_of(&request)?;
         self.calls.insert(Call {
             number,
             session,
@@ -301,16 +301,10 @@ impl Parts {
         let Some(call) = self.calls.remove(number) else {
             unreachable!();
         };
-        let (reply, copy) = decide(&mut self.store, &call, ways);
-        self.free(call.stage);
-        self.sessions.set(call.session, None);
-        self.book.put(Record::Did {
-            number: call.number,
-            session: call.session,
-            moment: call.moment,
-            request: call.request,
-            reply,
-        });
+        let (reply, copy) = decide(&mut self.store, call.as_call(), ways);
+        self.free(call.as_call().stage);
+        self.sessions.set(call.as_call().session, None);
+        self.book.put(call.into_record(reply));
         copy
     }
 
@@ -342,11 +336,11 @@ impl Parts {
 
 /// A call that walks may be carried out by another one while its session waits, so its request is there
 /// twice.
-fn copy_of(alloc: Global, request: &Request) -> Result<Option<Request>, AllocError>
+fn copy_of(request: &Request) -> Result<Option<Request>, AllocError>
     ensures { IfOk result (λ copy. copy ≡ copy_of (path_of request.now) request.now) }
 {
     match path_of(request) {
-        Some(_) => Ok(Some(request.try_copy(alloc)?)),
+        Some(_) => Ok(Some(request.share()?)),
         None => Ok(None),
     }
 }
@@ -369,7 +363,7 @@ fn overtaken(calls: &Calls, number: u64, old: &Path, numbers: &mut Vec<u64>)
 {
     numbers.clear();
     'calls: for (other, call) in calls.iter() {
-        if is_overtaken(call, *other, number, old) {
+        if is_overtaken(call.as_call(), *other, number, old) {
             numbers.push_reserved(*other);
         }
     }

@@ -9,8 +9,9 @@ use std::process::Abort;
 use std::test::*;
 
 fn name(alloc: Global, text: &[u8]) -> Result<Name, Fail> {
-    let mut names = Path::parse(alloc, text)?.into_names();
-    Ok(names.pop().ok_or("no name")?)
+    let path = Path::parse(alloc, text)?;
+    let last = path.len().checked_sub(1).ok_or("no name")?;
+    Ok(path.name(last).try_copy(alloc)?)
 }
 
 fn made(label: u64, file_type: FileType) -> NewNode {

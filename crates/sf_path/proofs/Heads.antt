@@ -1,15 +1,19 @@
--- Names whose heads differ stand in the order of their heads.
-use Rattle.std.proofs.Common.{◌≡◌, ◌≢◌, ℕ, zero, suc, ◌+◌, ◌*◌, ◌<◌, ◌≤◌, List, [], ◌∷◌, refl, sym, ap, subst, ◌∙◌, inl, inr, arith}
-use Rattle.std.specs.Prelude.{All}
+-- Names whose heads differ stand in the order of their heads, and short ones are the same where their heads are.
+use Rattle.std.proofs.Common.{◌≡◌, ◌≢◌, ℕ, zero, suc, ◌+◌, ◌*◌, ◌%◌, ◌<◌, ◌≤◌, List, [], ◌∷◌, length, get_or, refl, sym, ap, subst, ◌∙◌, inl, inr, arith}
+use Rattle.std.specs.Prelude.{All, Contains}
 use Rattle.std.specs.declared.cmp.Ordering.{Ordering}
 use Rattle.std.specs.declared.cmp.Ordering.TheVariants.{Less, Equal, Greater}
 use Rattle.std.specs.Ordering.{nat_cmp, ordering_then, MatchOrdering}
 use Rattle.std.specs.Cmp.{nat_cmp_is}
 use Rattle.std.specs.Cmp.Lexicographic.{slice_cmp}
 use Rattle.std.proofs.lemmas.Bool.{cases_lt}
-use Rattle.std.proofs.lemmas.Cmp.{ranked}
+use Rattle.std.proofs.lemmas.Cmp.{ranked, tied_itself}
+use Rattle.std.proofs.lemmas.List.{get_or_default}
+use Rattle.std.proofs.lemmas.Nat.{mod-mul-add}
 use Rattle.std.proofs.lemmas.List.Elements.{All-head, All-tail, All-nil}
 use Rattle.sf_path.specs.Heads.{spelled, head_of}
+use Rattle.sf_path.specs.Names.{IsPart}
+use Rattle.sf_path.specs.Order.{name_total}
 
 abbrev Bytes : List ℕ → Type 0
 Bytes bytes = All (λ b. b < 256) bytes
@@ -81,3 +85,64 @@ spelled_order (suc more) n (x ∷ xs) (y ∷ ys) g h apart =
 
 pub head_order : (a b : List ℕ) → Bytes a → Bytes b → head_of a ≢ head_of b → nat_cmp (head_of a) (head_of b) ≡ slice_cmp nat_cmp a b
 head_order a b g h apart = spelled_order 8 0 a b g h apart
+
+abbrev Solid : List ℕ → Type 0
+Solid bytes = All (λ b. 0 < b) bytes
+
+first_of_solid : (b : ℕ) (bytes : List ℕ) → Solid (b ∷ bytes) → 0 < b
+first_of_solid b bytes h = All-head (λ b. 0 < b) b bytes h
+
+solid_rest : (b : ℕ) (bytes : List ℕ) → Solid (b ∷ bytes) → Solid bytes
+solid_rest b bytes h = All-tail (λ b. 0 < b) b bytes h
+
+-- what is short and has no zeros isn't spelled as anything else
+spelled_once : (more n : ℕ) (a b : List ℕ) → Bytes a → Bytes b → Solid a → Solid b → length a ≤ more → length b ≤ more
+    → spelled more n a ≡ spelled more n b → a ≡ b
+spelled_once zero n [] [] g h s t la lb e = refl
+spelled_once zero n [] (y ∷ ys) g h s t la lb e = absurd (omega (arith, lb))
+spelled_once zero n (x ∷ xs) b g h s t la lb e = absurd (omega (arith, la))
+spelled_once (suc more) n [] [] g h s t la lb e = refl
+spelled_once (suc more) n [] (y ∷ ys) g h s t la lb e =
+    let some = first_of_solid y ys t in
+    let less = rises more (n * 256) (n * 256 + y) [] ys none (omega arith) in
+    absurd (omega arith)
+spelled_once (suc more) n (x ∷ xs) [] g h s t la lb e =
+    let some = first_of_solid x xs s in
+    let less = rises more (n * 256) (n * 256 + x) [] xs none (omega arith) in
+    absurd (omega arith)
+spelled_once (suc more) n (x ∷ xs) (y ∷ ys) g h s t la lb e =
+    elim (cases_lt x y) [
+      | inl lt ↦ (let less = rises more (n * 256 + x) (n * 256 + y) xs ys (rest_of x xs g) (omega arith) in absurd (omega arith))
+      | inr over ↦
+          elim (cases_lt y x) [
+            | inl lt ↦ (let less = rises more (n * 256 + y) (n * 256 + x) ys xs (rest_of y ys h) (omega arith) in absurd (omega arith))
+            | inr under ↦
+                (let level : x ≡ y = omega arith in
+                let again : spelled more (n * 256 + x) xs ≡ spelled more (n * 256 + x) ys =
+                subst (λ z. spelled more (n * 256 + x) xs ≡ spelled more (n * 256 + z) ys) (sym level) e in
+                let rest = spelled_once more (n * 256 + x) xs ys (rest_of x xs g) (rest_of y ys h) (solid_rest x xs s) (solid_rest y ys t)
+                (omega arith) (omega arith) again in
+                cc)
+          ]
+    ]
+
+solid_name : (name : List ℕ) → ¬ Contains name 0 → Solid name
+solid_name name h = λ k d lt. elim (cases_lt 0 (get_or name k d)) [ inl some ↦ some | inr none ↦ absurd (h (k, lt, get_or_default name k 0 d lt ∙ omega arith)) ]
+
+-- the last byte that is spelled is the last of the number
+last_byte : (more n : ℕ) (a : List ℕ) → Bytes a → Solid a → suc more ≤ length a → spelled (suc more) n a % 256 ≢ 0
+last_byte more n [] g s long e = absurd (omega (arith, long))
+last_byte zero n (x ∷ xs) g s long e =
+    let some = first_of_solid x xs s in
+    let is = mod-mul-add n 256 x (first_of_bytes x xs g) in
+    omega arith
+last_byte (suc more) n (x ∷ xs) g s long e = last_byte more (n * 256 + x) xs (rest_of x xs g) (solid_rest x xs s) (omega (arith, long)) e
+
+short_head : (a : List ℕ) → IsPart a → head_of a % 256 ≡ 0 → length a ≤ 8
+short_head a g e = elim (cases_lt (length a) 8) [ inl lt ↦ omega arith | inr long ↦ absurd (last_byte 7 0 a g.bytes (solid_name a g.no_zero) long e) ]
+
+-- names are the same where their heads are, and end with a 0
+pub short_names : (a b : List ℕ) → IsPart a → IsPart b → head_of a ≡ head_of b → head_of a % 256 ≡ 0 → slice_cmp nat_cmp a b ≡ Equal
+short_names a b g h e short =
+    let same = spelled_once 8 0 a b g.bytes h.bytes (solid_name a g.no_zero) (solid_name b h.no_zero) (short_head a g short) (short_head b h (ap (λ k. k % 256) (sym e) ∙ short)) e in
+    subst (λ z. slice_cmp nat_cmp a z ≡ Equal) same (tied_itself name_total a)

@@ -1,7 +1,7 @@
 -- The text of a path is at most one byte longer than a text that stands for that path.
-use Rattle.std.proofs.Common.{ℕ, suc, ◌+◌, ◌-◌, ◌≤◌, Bool, true, false, cond, ◌==◌, ◌||◌, List, [], ◌∷◌, ◌++◌, length, take, zero, arith, length-append}
-use Rattle.std.specs.Prelude.{fold, codes, bytes_eq}
-use Rattle.std.specs.List.{onto_first, flat_map}
+use Rattle.std.proofs.Common.{◌≡◌, refl, ℕ, suc, ◌+◌, ◌-◌, ◌≤◌, Bool, true, false, le-ltb, cond, ◌==◌, ◌||◌, List, [], ◌∷◌, ◌++◌, length, take, zero, arith, length-append}
+use Rattle.std.specs.Prelude.{fold, codes, bytes_eq, nat_lt}
+use Rattle.std.specs.List.{onto_first, flat_map, list_any}
 use Rattle.std.proofs.lemmas.List.Concat.{flat_map-append}
 use Rattle.sf_path.specs.Names.{Path, slash, slashed, text_of}
 use Rattle.sf_path.specs.Normal.{parts, with_part, norm}
@@ -46,3 +46,13 @@ text_len (name ∷ names) n h = h
 
 pub length-text_of-norm : (text : List ℕ) → length (text_of (norm text)) ≤ length text + 1
 length-text_of-norm text = text_len (norm text) (length text) (omega (arith, fold_len [] (parts text), parts_len text))
+
+no_long_part : (n : ℕ) (ps : List (List ℕ)) → slashed_len ps ≤ n + 1 → n ≤ 255 → list_any (λ part. nat_lt 255 (length part)) ps ≡ false
+no_long_part n [] h small = refl
+no_long_part n (p ∷ ps) h small =
+    let rest : slashed_len ps ≤ n + 1 = omega arith in
+    rw (le-ltb 255 (length p) (omega arith)) (no_long_part n ps rest small)
+
+-- a short text has no long part
+pub short_text : (text : List ℕ) → length text ≤ 255 → list_any (λ part. nat_lt 255 (length part)) (parts text) ≡ false
+short_text text small = no_long_part (length text) (parts text) (parts_len text) small

@@ -20,7 +20,7 @@ const SHORT_NAME: usize = 40;
 #[derive(Debug)]
 pub struct Name {
     /// What `head_of` makes of the bytes. Names whose heads differ stand in the order of their heads, so that
-    /// a search among many names looks at one number of most of them.
+    /// a search among many names looks at one number of most of them; names of fewer than 8 bytes are their heads.
     head: u64,
     bytes: SmallVec<u8, SHORT_NAME>,
 }
@@ -151,6 +151,10 @@ impl Ord for Name {
     fn cmp(&self, other: &Name) -> Ordering {
         if self.head != other.head {
             return self.head.cmp(&other.head);
+        }
+        if self.head % 256 == 0 {
+            // No byte of a name is 0: both have fewer than 8 bytes, and these are the head's.
+            return Ordering::Equal;
         }
         self.bytes.cmp(&other.bytes)
     }

@@ -12,6 +12,9 @@ use std::alloc::{AllocError, Global};
 pub fn has_long_part(text: &[u8]) -> bool
     ensures { result ≡ list_any (λ part. nat_lt 255 (length part)) (parts text.now) }
 {
+    if text.len() <= 255 {
+        return false;
+    }
     text.split(|b| *b == b'/').any(|part| part.len() > 255)
 }
 
@@ -32,13 +35,12 @@ fn add_part(alloc: Global, names: &mut Vec<Name>, part: &[u8]) -> Result<(), All
     requires { IsPart part.now }
     ensures { OnOk result (names.new.items ≡ with_part names.old.items part.now) }
 {
-    if part.is_empty() || part == b".".as_slice() {
-        return Ok(());
+    match part {
+        [] | [b'.'] => {}
+        [b'.', b'.'] => {
+            let _ = names.pop();
+        }
+        name => names.push(Name::from_slice(alloc, name)?)?,
     }
-    if part == b"..".as_slice() {
-        let _ = names.pop();
-        return Ok(());
-    }
-    names.push(Name::from_slice(alloc, part)?)?;
     Ok(())
 }

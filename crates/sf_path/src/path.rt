@@ -13,22 +13,27 @@ use crate::parse::{has_long_part, names_of};
 use std::alloc::{AllocError, Global};
 use std::cmp::Ordering;
 use std::marker::Model;
+use std::sync::ArcSlice;
 
-/// The names from the root to a file or a directory. The root has none.
+/// The names from the root to a file or a directory. The root has none. They have counted owners, so that a path is
+/// shared and not copied.
 #[derive(Debug)]
 pub struct Path {
-    names: Vec<Name>,
+    // None for the root, which takes no memory.
+    names: Option<ArcSlice<Name>>,
 }
 
 impl Model for Path {
-    ghost use Rattle.std.specs.Prelude.{List, ℕ};
+    ghost use Rattle.std.specs.Prelude.{List, ℕ, []};
+    ghost use Rattle.std.specs.Option.{option_map_or};
+    ghost use Rattle.std.specs.Arc.{arc_slice_items};
     ghost use Rattle.sf_path.specs.Names.{IsPath};
 
     ghost Value = { List (List ℕ) };
 
-    ghost view = { λ path. path.names.items };
+    ghost view = { λ path. option_map_or arc_slice_items path.names [] };
 
-    ghost invariant = { λ path. IsPath path.names.items };
+    ghost invariant = { λ path. IsPath (option_map_or arc_slice_items path.names []) };
 }
 
 impl Drop for Path {
@@ -40,11 +45,32 @@ impl Drop for Path {
 
 impl Path {
     /// The path of the root, which takes no memory.
-    pub fn root(alloc: Global) -> Path
+    pub fn root() -> Path
         ensures { result ≡ [] }
     {
-        Path {
-            names: Vec::new(alloc),
+        Path { names: None }
+    }
+
+    /// The path of these names. It takes memory for the count of owners.
+    fn of(names: Vec<Name>) -> Result<Path, AllocError>
+        requires { IsPath names.items }
+        ensures { IfOk result (λ path. path ≡ names.items) }
+    {
+        if names.is_empty() {
+            return Ok(Path::root());
+        }
+        Ok(Path {
+            names: Some(ArcSlice::from_vec(names)?),
+        })
+    }
+
+    fn as_slice(&self) -> &[Name]
+        ensures same { result.now ≡ self.now }
+        ensures names { IsPath result.now }
+    {
+        match &self.names {
+            Some(names) => names.as_slice(),
+            None => &[],
         }
     }
 
@@ -68,8 +94,7 @@ impl Path {
         if text.contains(&0) {
             return Err(PathFault::NulByte);
         }
-        let names = names_of(alloc, text)?;
-        Ok(Path { names })
+        Ok(Path::of(names_of(alloc, text)?)?)
     }
 
     /// The names of a path are names: a proof takes this from a call, which does nothing.
@@ -83,14 +108,14 @@ impl Path {
     pub fn len(&self) -> usize
         ensures { result ≡ length self.now }
     {
-        self.names.len()
+        self.as_slice().len()
     }
 
     /// Whether the path has no name.
     pub fn is_root(&self) -> bool
         ensures { IsTrue result ↔ (self.now ≡ []) }
     {
-        self.names.is_empty()
+        self.as_slice().is_empty()
     }
 
     /// The name at a place, from the root on.
@@ -98,7 +123,7 @@ impl Path {
         requires { i < length self.now }
         ensures { slice_get self.now i ≡ Some result.now }
     {
-        &self.names[i]
+        &self.as_slice()[i]
     }
 
     /// How many names the two paths begin with alike.
@@ -109,9 +134,10 @@ impl Path {
         ensures longest { result < length self.now → result < length other.now
             → slice_get self.now result ≢ slice_get other.now result }
     {
-        let most = self.len().min(other.len());
+        let (own, others) = (self.as_slice(), other.as_slice());
+        let most = own.len().min(others.len());
         for i in 0..most {
-            if self.names[i] != other.names[i] {
+            if own[i] != others[i] {
                 return i;
             }
         }
@@ -130,11 +156,19 @@ impl Path {
         requires { n ≤ length self.now }
         ensures { IfOk result (λ path. path ≡ take n self.now) }
     {
-        let mut names = Vec::new(alloc);
-        for name in &self.names[..n] {
+        Path::of(self.front_names(alloc, n)?)
+    }
+
+    fn front_names(&self, alloc: Global, n: usize) -> Result<Vec<Name>, AllocError>
+        requires { n ≤ length self.now }
+        ensures same { IfOk result (λ names. names.items ≡ take n self.now) }
+        ensures names { IfOk result (λ names. IsPath names.items) }
+    {
+        let mut names = Vec::with_capacity(alloc, n)?;
+        for name in &self.as_slice()[..n] {
             names.push(name.try_copy(alloc)?)?;
         }
-        Ok(Path { names })
+        Ok(names)
     }
 
     /// The path without its last name; of the root the root.
@@ -144,11 +178,17 @@ impl Path {
         self.front(alloc, self.len().saturating_sub(1))
     }
 
-    /// A path of the same names.
-    pub fn try_copy(&self, alloc: Global) -> Result<Path, AllocError>
+    /// One more owner of the same names, which takes no memory. It fails where the owners can't be counted: at 2^63
+    /// of them.
+    pub fn share(&self) -> Result<Path, AllocError>
         ensures { IfOk result (λ copy. copy ≡ self.now) }
     {
-        self.front(alloc, self.len())
+        match &self.names {
+            Some(names) => Ok(Path {
+                names: Some(names.clone()?),
+            }),
+            None => Ok(Path::root()),
+        }
     }
 
     /// The path with the names of another behind its own, from the `n`th on.
@@ -156,20 +196,11 @@ impl Path {
         requires { n ≤ length other.now }
         ensures { IfOk result (λ path. path ≡ self.now ++ drop n other.now) }
     {
-        self.are_names();
-        let mut names = self.try_copy(alloc)?.into_names();
-        for name in &other.names[n..] {
+        let mut names = self.front_names(alloc, self.len())?;
+        for name in &other.as_slice()[n..] {
             names.push(name.try_copy(alloc)?)?;
         }
-        Ok(Path { names })
-    }
-
-    /// The path's names, without taking memory.
-    pub fn into_names(self) -> Vec<Name>
-        ensures { result.items ≡ self }
-    {
-        let Path { names } = self;
-        names
+        Path::of(names)
     }
 
     /// The text of the path: a slash for the root, else each name with a slash before it.
@@ -181,7 +212,7 @@ impl Path {
             return Vec::from_slice(alloc, b"/");
         }
         let mut text = Vec::new(alloc);
-        for name in &self.names {
+        for name in self.as_slice() {
             text.push(b'/')?;
             text.extend_from_slice(name.as_slice())?;
         }
@@ -198,7 +229,7 @@ impl PartialEq for Path {
         ensures value { result ≡ same_path self.now other.now }
         ensures same { IsTrue result ↔ (self.now ≡ other.now) }
     {
-        self.names == other.names
+        self.as_slice() == other.as_slice()
     }
 }
 
@@ -227,6 +258,6 @@ impl Ord for Path {
 
     /// The order of the paths' names; a path stands before all that begin with it.
     fn cmp(&self, other: &Path) -> Ordering {
-        self.names.cmp(&other.names)
+        self.as_slice().cmp(other.as_slice())
     }
 }

@@ -107,7 +107,7 @@ fn fronts(rt: HostRuntime) -> Result<(), Fail> {
     let beside = Path::parse(alloc, b"/home/ada/letters")?;
     let above = Path::parse(alloc, b"/home/ada")?;
     let longer = Path::parse(alloc, b"/home/ada/notes2")?;
-    let root = Path::root(alloc);
+    let root = Path::root();
 
     assert_eq!(rt; path.common(&beside), 2);
     assert_eq!(rt; path.common(&above), 2);
@@ -123,12 +123,12 @@ fn fronts(rt: HostRuntime) -> Result<(), Fail> {
     assert_eq!(rt; path.front(alloc, 2)?, above);
     assert_eq!(rt; path.parent(alloc)?, above);
     assert_eq!(rt; root.parent(alloc)?, root);
-    assert_eq!(rt; path.try_copy(alloc)?, path);
+    assert_eq!(rt; path.share()?, path);
+    assert_eq!(rt; root.share()?, root);
     assert_eq!(rt; path.name(1).try_copy(alloc)?, *above.name(1));
 
-    let names = path.into_names();
-    assert_eq!(rt; names.len(), 3);
-    assert_eq!(rt; names[2].as_slice(), b"notes".as_slice());
+    assert_eq!(rt; path.len(), 3);
+    assert_eq!(rt; path.name(2).as_slice(), b"notes".as_slice());
     Ok(())
 }
 

@@ -21,8 +21,8 @@ impl TryCopy for u64 {
 }
 
 impl TryCopy for Path {
-    fn try_copy(&self, alloc: Global) -> Result<Path, AllocError> {
-        self.try_copy(alloc)
+    fn try_copy(&self, _alloc: Global) -> Result<Path, AllocError> {
+        self.share()
     }
 }
 

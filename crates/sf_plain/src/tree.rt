@@ -54,7 +54,7 @@ impl PlainTree {
             times: Times { atime: 0, mtime: 0 },
         };
         let mut names = BTreeMap::new(alloc);
-        names.insert(Path::root(alloc), 0)?;
+        names.insert(Path::root(), 0)?;
         let mut objects = BTreeMap::new(alloc);
         objects.insert(0, Node::directory(root))?;
         Ok(PlainTree {
@@ -217,7 +217,7 @@ impl PlainTree {
         ensures ok { OnOk result (self.new ≡ changed self.old (NewPath path.now label node)) }
         ensures err { OnErr result (self.new ≡ self.old) }
     {
-        let name = path.try_copy(self.alloc)?;
+        let name = path.share()?;
         self.names.insert(name, label)?;
         if let Err(_) = self.objects.insert(label, node) {
             self.names.remove(path);

@@ -22,7 +22,6 @@ use std::marker::Model;
 /// A session's place in a core, the call that it has under way, and what it was told.
 #[derive(Debug)]
 pub struct Stay {
-    alloc: Global,
     lane: Option<Lane>,
     // The request of the call under way.
     asked: Option<Request>,
@@ -80,7 +79,6 @@ impl Stepped {
 impl Drop for Stay {
     fn drop(self) {
         let Stay {
-            alloc: _,
             lane,
             asked: _asked,
             transcript: _transcript,
@@ -100,7 +98,6 @@ impl Stay {
         ensures calls { result.calls ≡ kept_calls keeps [] }
     {
         Stay {
-            alloc,
             lane: None,
             asked: None,
             transcript: Transcript {
@@ -153,7 +150,7 @@ impl Stay {
         ensures fault { IfErr result (λ fault. RefusesAt self.old core.old fault) }
     {
         self.transcript.calls.reserve(1)?;
-        let asked = request.try_copy(self.alloc)?;
+        let asked = request.share()?;
         let Some(lane) = &mut self.lane else {
             return Err(CoreFault::Stranger);
         };
@@ -241,7 +238,6 @@ impl Stay {
         ensures calls { IfSome self.calls (λ calls. map told result.calls.items ≡ calls) }
     {
         let Stay {
-            alloc: _,
             lane,
             asked: _asked,
             transcript,

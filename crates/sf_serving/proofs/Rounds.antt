@@ -29,19 +29,19 @@ ended_drained law start now s cause serves trace fits =
     let read = read_of law start now trace fits h.0 h.1 in
     (h.0, h.1, ((h.2.0, h.2.1, whole_left h.0.told cause read h.2.2 h.2.3), h.2.3))
 
--- a session that neither waits for bytes nor has left goes on
-pub still_goes : (s : ℕ) (r : Happened) (p : Progress) → (r ≡ happened.Idle → ⊥) → ((cause : Cause) → r ≡ happened.Ended cause → ⊥) → TurnedTo s (Ok r) p → GoesOnBy s (may_begin_after r) p
-still_goes s happened.Idle p idle ended h = absurd (idle refl)
-still_goes s (happened.Ended cause) p idle ended h = absurd (ended cause refl)
-still_goes s (happened.Opened n) p idle ended h = h
-still_goes s happened.Fed p idle ended h = h
-still_goes s happened.Moved p idle ended h = h
-still_goes s (happened.Blocked n) p idle ended h = h
-still_goes s happened.Decided p idle ended h = h
-still_goes s happened.Wrote p idle ended h = h
-still_goes s happened.Begun p idle ended h = h
-still_goes s happened.Closed p idle ended h = h
-still_goes s happened.Sent p idle ended h = h
+-- a session that neither waits for bytes nor has left, and that no reply was written of, may have its next turn
+pub still_goes : (s : ℕ) (r : Happened) (p : Progress) → (r ≡ happened.Idle → ⊥) → ((cause : Cause) → r ≡ happened.Ended cause → ⊥) → (r ≡ happened.Wrote → ⊥) → TurnedTo s (Ok r) p → HasTurnBy s (may_begin_after r) p
+still_goes s happened.Idle p idle ended wrote h = absurd (idle refl)
+still_goes s (happened.Ended cause) p idle ended wrote h = absurd (ended cause refl)
+still_goes s happened.Wrote p idle ended wrote h = absurd (wrote refl)
+still_goes s (happened.Opened n) p idle ended wrote h = h
+still_goes s happened.Fed p idle ended wrote h = h
+still_goes s happened.Moved p idle ended wrote h = h
+still_goes s (happened.Blocked n) p idle ended wrote h = h
+still_goes s happened.Decided p idle ended wrote h = h
+still_goes s happened.Begun p idle ended wrote h = h
+still_goes s happened.Closed p idle ended wrote h = h
+still_goes s happened.Sent p idle ended wrote h = h
 
 -- a session that goes on may stop for any fault
 pub goes_stops : (start now : Scene) (s : ℕ) (f : ServeFault) → Serves start now (GoesOn s) → Serves start now (Stops s f)

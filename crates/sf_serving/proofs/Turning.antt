@@ -1,5 +1,5 @@
 -- Turns of a session that is served.
-use Rattle.std.proofs.Common.{◌≡◌, ◌≢◌, ◌⊎◌, ℕ, ◌-◌, List, [], ◌∷◌, ◌++◌, Option, Some, Bool, true, false, Result, Ok, Err, slice_get, slice_set, zero, suc, refl, ap, sym, ◌∙◌, subst, inl, inr, append-nil}
+use Rattle.std.proofs.Common.{◌≡◌, ◌≢◌, ◌<◌, ◌⊎◌, ℕ, ◌-◌, List, [], ◌∷◌, ◌++◌, length, Option, Some, Bool, true, false, Result, Ok, Err, slice_get, slice_set, zero, suc, refl, ap, sym, ◌∙◌, subst, inl, inr, append-nil}
 use Rattle.sf_wire.specs.declared.cutting.Cut.TheVariants as cut
 use Rattle.sf_wire.specs.Packets.{IsCut}
 use Rattle.sf_reply.specs.declared.reply.Reply.{Reply}
@@ -11,12 +11,12 @@ use Rattle.sf_engine.specs.declared.event.Event.TheVariants as event
 use Rattle.sf_engine.specs.declared.event.Happened.{Happened}
 use Rattle.sf_engine.specs.declared.event.Happened.TheVariants as happened
 use Rattle.sf_engine.specs.declared.event.EngineFault.{EngineFault}
-use Rattle.sf_engine.specs.Worlds.{ByCall, Phase, Resting, UnderWay, Decided, Gone, Told, World, with_told, is_here, is_here_in}
+use Rattle.sf_engine.specs.Worlds.{ByCall, Phase, Resting, UnderWay, Decided, Gone, Told, World, with_told, output_of, is_here, is_here_in}
 use Rattle.sf_engine.specs.Traces.{has_begun, IsSession, TakesBytes, LeadsBy, TurnLeads, RestLeads, StepLeads, with_answer, left_if_closed, calls_begun}
 use Rattle.sf_engine.specs.Views.{EngineView}
 use Rattle.sf_engine.specs.Fits.{GoesOnTrace}
 use Rattle.sf_line.specs.declared.line_call.LineCall.{LineCall}
-use Rattle.sf_serving.specs.Serving.{Scene, scene, MayBegin, may_begin_after, IsFront, IsLow, IsLowAt, Progress, progress, Serves, IsInStep, GoesOn, GoesOnBy, HasTurnBy, IsIdle, Turns, timed}
+use Rattle.sf_serving.specs.Serving.{Scene, scene, MayBegin, may_begin_after, IsFront, IsLow, IsLowAt, Progress, progress, Serves, IsInStep, GoesOn, HasTurnBy, IsIdle, Turns, timed}
 use Rattle.sf_serving.proofs.Causes.{not_closed}
 use Rattle.sf_serving.proofs.Following.{Follows, Leading, Timing, go_on, same_told}
 
@@ -31,7 +31,8 @@ pub record Turned (t t' : Told) : Type 0 where
 abbrev pub ComesTo : Happened → Told → Told → Type 0
 ComesTo happened.Idle t t' = (t' ≡ t) × (t'.phase ≡ Resting) × IsCut t'.unread cut.More
 ComesTo (happened.Ended cause) t t' = (t'.phase ≡ Gone cause) × EndsBy (has_begun t.bodies) t.unread cause
-ComesTo r t t' = TakesBytes t' × MayBegin (may_begin_after r) t'.phase
+ComesTo happened.Wrote t t' = TakesBytes t'
+ComesTo r t t' = TakesBytes t' × MayBegin (may_begin_after r) t'.phase × (output_of t' ≡ output_of t)
 
 same_front : {A : Type 0} (a b : List A) → b ≡ a → IsFront a b
 same_front a b e = ([], e ∙ sym (append-nil a))
@@ -61,7 +62,7 @@ rest_turned w s m t happened.Wrote added t' rests takes g = (
     bodies = (g.0.body ∷ [], ap (λ (z : Told). z.bodies) g.0.now);
     answers = (g.0.answer ∷ [], ap (λ (z : Told). z.answers) g.0.now);
   },
-  ((ap (λ (z : Told). z.closed) g.0.now ∙ takes.0, ap (λ (z : Told). is_here z) g.0.now), tt),
+  (ap (λ (z : Told). z.closed) g.0.now ∙ takes.0, ap (λ (z : Told). is_here z) g.0.now),
 )
 rest_turned w s m t happened.Begun added t' rests takes g = (
   record {
@@ -70,7 +71,7 @@ rest_turned w s m t happened.Begun added t' rests takes g = (
     bodies = (g.0.body ∷ [], ap (λ (z : Told). z.bodies) g.0.now);
     answers = same_front t.answers t'.answers (ap (λ (z : Told). z.answers) g.0.now);
   },
-  ((ap (λ (z : Told). z.closed) g.0.now ∙ takes.0, ap (λ (z : Told). is_here z) g.0.now), busy_now t' _ g.0.now tt),
+  ((ap (λ (z : Told). z.closed) g.0.now ∙ takes.0, ap (λ (z : Told). is_here z) g.0.now), busy_now t' _ g.0.now tt, ap (λ (z : Told). output_of z) g.0.now),
 )
 rest_turned w s m t (happened.Ended cause) added t' rests takes g = (
   record {
@@ -98,9 +99,9 @@ step_turned w s t id n k q moves happened.Moved added t' takes busy g = (
     bodies = same_front t.bodies t'.bodies (ap (λ (z : Told). z.bodies) g.2);
     answers = same_front t.answers t'.answers (ap (λ (z : Told). z.answers) g.2);
   },
-  ((ap (λ (z : Told). z.closed) g.2 ∙ takes.0, ap (λ (z : Told). is_here z) g.2), busy_now t' _ g.2 tt),
+  ((ap (λ (z : Told). z.closed) g.2 ∙ takes.0, ap (λ (z : Told). is_here z) g.2), busy_now t' _ g.2 tt, ap (λ (z : Told). output_of z) g.2),
 )
-step_turned w s t id n k q moves (happened.Blocked holder) added t' takes busy g = (turned_same t t' g.2, (takes_same t t' g.2 takes, busy_now t' t g.2 busy))
+step_turned w s t id n k q moves (happened.Blocked holder) added t' takes busy g = (turned_same t t' g.2, (takes_same t t' g.2 takes, busy_now t' t g.2 busy, ap (λ (z : Told). output_of z) g.2))
 step_turned w s t id n k q moves happened.Decided added t' takes busy g = (
   record {
     stream = ap (λ (z : Told). z.stream) g.2;
@@ -108,7 +109,7 @@ step_turned w s t id n k q moves happened.Decided added t' takes busy g = (
     bodies = same_front t.bodies t'.bodies (ap (λ (z : Told). z.bodies) g.2);
     answers = same_front t.answers t'.answers (ap (λ (z : Told). z.answers) g.2);
   },
-  ((ap (λ (z : Told). z.closed) g.2 ∙ takes.0, ap (λ (z : Told). is_here z) g.2), busy_now t' _ g.2 tt),
+  ((ap (λ (z : Told). z.closed) g.2 ∙ takes.0, ap (λ (z : Told). is_here z) g.2), busy_now t' _ g.2 tt, ap (λ (z : Told). output_of z) g.2),
 )
 step_turned w s t id n k q moves (happened.Opened z) added t' takes busy g = absurd g
 step_turned w s t id n k q moves happened.Fed added t' takes busy g = absurd g
@@ -124,7 +125,7 @@ wrote_turned : (t : Told) (id n : ℕ) (q : Request) (given : Reply) (r : Happen
     → Turned t t' × ComesTo r t t'
 wrote_turned t id n q given r t' takes is now =
     let e : t' ≡ with_answer t (ByCall id n q given) = now ∙ ap (λ (c : Bool). left_if_closed c (with_answer t (ByCall id n q given))) takes.0 in
-    let came : ComesTo happened.Wrote t t' = ((ap (λ (z : Told). z.closed) e ∙ takes.0, ap (λ (z : Told). is_here z) e), tt) in (
+    let came : ComesTo happened.Wrote t t' = (ap (λ (z : Told). z.closed) e ∙ takes.0, ap (λ (z : Told). is_here z) e) in (
       record {
         stream = ap (λ (z : Told). z.stream) e;
         sent = ap (λ (z : Told). z.sent) e;
@@ -189,26 +190,30 @@ turn_leads s m t unfed (Err f) takes w w' added session leads =
       (refl, refl, refl),
     )
 
--- after a turn: the session goes on, waits for bytes, or has left
+-- after a turn: the session goes on, waits for bytes, or has left; where no reply was written, no more waits to be sent
 abbrev pub TurnedTo : ℕ → Result Happened EngineFault → Progress → Type 0
 TurnedTo s (Ok happened.Idle) p = IsIdle s p
 TurnedTo s (Ok (happened.Ended cause)) p = IsInStep s p × (p.unfed ≡ []) × (p.told.phase ≡ Gone cause) × (cause ≢ Closed)
-TurnedTo s (Ok r) p = GoesOnBy s (may_begin_after r) p
+TurnedTo s (Ok happened.Wrote) p = GoesOn s p
+TurnedTo s (Ok r) p = HasTurnBy s (may_begin_after r) p
 TurnedTo s (Err f) p = GoesOn s p
 
-turned_to : (s : ℕ) (r : Result Happened EngineFault) (p p' : Progress) → GoesOn s p → IsInStep s p' → p'.unfed ≡ [] → TurnComesTo r p.told p'.told → TurnedTo s r p'
-turned_to s (Err f) p p' on step fed to = record { in_step = step; fed = fed; takes = takes_same p.told p'.told to on.takes }
-turned_to s (Ok happened.Idle) p p' on step fed to = (record { in_step = step; fed = fed; takes = takes_same p.told p'.told to.0 on.takes }, to.1, to.2)
-turned_to s (Ok (happened.Ended cause)) p p' on step fed to = (step, fed, to.0, λ e. not_closed (has_begun p.told.bodies) p.told.unread cause e to.1)
-turned_to s (Ok (happened.Opened n)) p p' on step fed to = (record { in_step = step; fed = fed; takes = to.0 }, to.1)
-turned_to s (Ok happened.Fed) p p' on step fed to = (record { in_step = step; fed = fed; takes = to.0 }, to.1)
-turned_to s (Ok happened.Moved) p p' on step fed to = (record { in_step = step; fed = fed; takes = to.0 }, to.1)
-turned_to s (Ok (happened.Blocked n)) p p' on step fed to = (record { in_step = step; fed = fed; takes = to.0 }, to.1)
-turned_to s (Ok happened.Decided) p p' on step fed to = (record { in_step = step; fed = fed; takes = to.0 }, to.1)
-turned_to s (Ok happened.Wrote) p p' on step fed to = (record { in_step = step; fed = fed; takes = to.0 }, to.1)
-turned_to s (Ok happened.Begun) p p' on step fed to = (record { in_step = step; fed = fed; takes = to.0 }, to.1)
-turned_to s (Ok happened.Closed) p p' on step fed to = (record { in_step = step; fed = fed; takes = to.0 }, to.1)
-turned_to s (Ok happened.Sent) p p' on step fed to = (record { in_step = step; fed = fed; takes = to.0 }, to.1)
+low_same : (t t' : Told) → output_of t' ≡ output_of t → IsLow t → IsLow t'
+low_same t t' e low = subst (λ (b : List ℕ). length b < 65536) (sym e) low
+
+turned_to : (s : ℕ) (r : Result Happened EngineFault) (p p' : Progress) → GoesOn s p → IsLow p.told → IsInStep s p' → p'.unfed ≡ [] → TurnComesTo r p.told p'.told → TurnedTo s r p'
+turned_to s (Err f) p p' on low step fed to = record { in_step = step; fed = fed; takes = takes_same p.told p'.told to on.takes }
+turned_to s (Ok happened.Idle) p p' on low step fed to = (record { in_step = step; fed = fed; takes = takes_same p.told p'.told to.0 on.takes }, to.1, to.2)
+turned_to s (Ok (happened.Ended cause)) p p' on low step fed to = (step, fed, to.0, λ e. not_closed (has_begun p.told.bodies) p.told.unread cause e to.1)
+turned_to s (Ok happened.Wrote) p p' on low step fed to = record { in_step = step; fed = fed; takes = to }
+turned_to s (Ok (happened.Opened n)) p p' on low step fed to = ((record { in_step = step; fed = fed; takes = to.0 }, low_same p.told p'.told to.2 low), to.1)
+turned_to s (Ok happened.Fed) p p' on low step fed to = ((record { in_step = step; fed = fed; takes = to.0 }, low_same p.told p'.told to.2 low), to.1)
+turned_to s (Ok happened.Moved) p p' on low step fed to = ((record { in_step = step; fed = fed; takes = to.0 }, low_same p.told p'.told to.2 low), to.1)
+turned_to s (Ok (happened.Blocked n)) p p' on low step fed to = ((record { in_step = step; fed = fed; takes = to.0 }, low_same p.told p'.told to.2 low), to.1)
+turned_to s (Ok happened.Decided) p p' on low step fed to = ((record { in_step = step; fed = fed; takes = to.0 }, low_same p.told p'.told to.2 low), to.1)
+turned_to s (Ok happened.Begun) p p' on low step fed to = ((record { in_step = step; fed = fed; takes = to.0 }, low_same p.told p'.told to.2 low), to.1)
+turned_to s (Ok happened.Closed) p p' on low step fed to = ((record { in_step = step; fed = fed; takes = to.0 }, low_same p.told p'.told to.2 low), to.1)
+turned_to s (Ok happened.Sent) p p' on low step fed to = ((record { in_step = step; fed = fed; takes = to.0 }, low_same p.told p'.told to.2 low), to.1)
 
 -- a session that doesn't rest begins no call
 begins_none : (w : World) (s m : ℕ) (t : Told) (f : Phase) (r : Happened) (added : List Record) (t' : Told) → MayBegin false f → TurnLeads m (record { world = w; session = s; told = t; added = added; now = t' }) f r → r ≢ happened.Begun
@@ -248,5 +253,5 @@ turned_serves start incoming outgoing calls told told' e e' s begin r serves tur
     let after = g.3 in (
       progress p.session g.0 g.1 p.written,
       g.2,
-      turned_to s r p (progress p.session g.0 g.1 p.written) on (on.in_step.0, on.in_step.1 ∙ sym after.1) (after.0 ∙ on.fed) after.2,
+      turned_to s r p (progress p.session g.0 g.1 p.written) on h.2.0.1 (on.in_step.0, on.in_step.1 ∙ sym after.1) (after.0 ∙ on.fed) after.2,
     )

@@ -224,7 +224,8 @@ fn drain<L: Line, C: Clock>(
         match happened {
             Happened::Idle => return Ok(None),
             Happened::Ended(cause) => return Ok(Some(cause)),
-            _ => send_batch(engine, line, session)?,
+            Happened::Wrote => send_batch(engine, line, session)?,
+            _ => {}
         }
         may_begin = may_begin_after(happened);
     }

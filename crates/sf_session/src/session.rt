@@ -18,7 +18,7 @@ use thiserror::Error;
 
 /// Room for the next replies, above that of the longest packet that refuses a call. The C library
 /// keeps small blocks for reuse, wherever they lie, and gives back larger ones.
-const REPLIES: usize = 4096;
+const REPLIES: usize = 1088;
 
 /// Why a call of a session was refused. The session is unchanged then.
 #[derive(Clone, Copy, Debug, PartialEq, Eq, Error)]

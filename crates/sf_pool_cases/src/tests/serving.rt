@@ -95,7 +95,6 @@ impl Desk for OwnDesk<'_> {
 #[derive(Drop)]
 struct TellingDesk<'a, R: Abort> {
     rt: &'a R,
-    alloc: Global,
     own: OwnDesk<'a>,
     begins: Vec<Begin>,
 }
@@ -107,7 +106,6 @@ impl<'a, R: Abort> TellingDesk<'a, R> {
     {
         TellingDesk {
             rt,
-            alloc,
             own: OwnDesk::new(alloc, core),
             begins: Vec::new(alloc),
         }
@@ -134,7 +132,7 @@ impl<R: Abort> Desk for TellingDesk<'_, R> {
     }
 
     fn begin(&mut self, request: Request, moment: u32) -> Result<u64, CoreFault> {
-        let Ok(asked) = request.try_copy(self.alloc) else {
+        let Ok(asked) = request.share() else {
             panic!(self.rt; "no memory");
         };
         let outcome = if self.begins.len() == 1 {

@@ -5,7 +5,8 @@ use Rattle.sf_block.proofs.contents.put.Goals as goal
 
 pub returns-then-i-len-clause-bytes : goal.returns-then-i-len-clause-bytes
 returns-then-i-len-clause-bytes c =
-    put_in_place c.args.i c.args.whole.now.items c.args.rest.now c.args.block c.requires.blocks.0 (search rules)
+    ap (λ (w : List (List ℕ)). joined w c.args.rest.now) c.set.ensures.items
+    ∙ put_in_place c.args.i c.args.whole.now.items c.args.rest.now c.args.block c.requires.blocks.0 (search rules)
 
 pub returns-then-len-lt-BLOCK-clause-bytes : goal.returns-then-len-lt-BLOCK-clause-bytes
 returns-then-len-lt-BLOCK-clause-bytes c =

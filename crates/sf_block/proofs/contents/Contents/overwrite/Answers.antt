@@ -15,7 +15,7 @@ put-requires-clause-place c =
     let left : List (List ℕ) = into_iter_items c.next.new.self in
     let n = put_next c.loop-block.self-inside.whole.items c.loop-block.self-inside.rest old bytes c.args.offset c.loop-block.i c.requires.place c.loop-block.invariant.blocks c.loop-block.invariant.bytes
     (into_iter_items c.loop-block.block-iterator) left c.in-Some.block c.loop-block.invariant.fresh c.in-Some.ensures.steps.0 c.loop-block.invariant.to in
-    omega (arith, n.0.0, c.loop-block.self-inside.whole.ok.0)
+    n.0.0
 
 pub put-requires-clause-fits : goal.put-requires-clause-fits
 put-requires-clause-fits c =
@@ -35,7 +35,7 @@ put-requires-clause-within c =
     let left : List (List ℕ) = into_iter_items c.next.new.self in
     let n = put_next c.loop-block.self-inside.whole.items c.loop-block.self-inside.rest old bytes c.args.offset c.loop-block.i c.requires.place c.loop-block.invariant.blocks c.loop-block.invariant.bytes
     (into_iter_items c.loop-block.block-iterator) left c.in-Some.block c.loop-block.invariant.fresh c.in-Some.ensures.steps.0 c.loop-block.invariant.to in
-    λ lt. n.0.2 (omega (arith, lt, c.loop-block.self-inside.whole.ok.0))
+    n.0.2
 
 pub loop-block-preserved : goal.loop-block-preserved
 loop-block-preserved c =
@@ -56,7 +56,7 @@ loop-block-preserved c =
           c.loop-block.invariant.bytes n.1 n.3 c.put.ensures.bytes;
       fresh = n.2;
       to = n.4;
-      room = omega (arith, count, c.put.ensures.len, c.put.ensures.room, c.loop-block.invariant.room);
+      room = omega (arith, count, c.put.ensures.room, c.loop-block.invariant.room);
     }
 
 pub invariant_of-self-2 : goal.invariant_of-self-2

@@ -1,4 +1,4 @@
-use Rattle.std.proofs.Common.{◌+◌, ◌*◌, ◌≤◌, ◌≡◌, ◌++◌, length, take, drop, vec_len, vec_capacity}
+use Rattle.std.proofs.Common.{◌+◌, ◌*◌, ◌≤◌, ◌≡◌, ◌++◌, length, take, drop}
 use Rattle.std.specs.Vec.Iter.{into_iter_items, into_iter_len}
 use Rattle.sf_block.specs.Contents.{written}
 use Rattle.sf_block.specs.Blocks.{joined, AreBlocks, AreBlocksOf, ReachTo}
@@ -14,5 +14,5 @@ invariant-loop-block l = record {
   bytes : joined l.self-inside.whole.items l.self-inside.rest ≡ take (l.i * 32768) (written l.fn.self l.offset l.bytes) ++ drop (l.i * 32768) l.fn.self;
   fresh : AreBlocksOf (written l.fn.self l.offset l.bytes) l.i (into_iter_items l.block-iterator);
   to : ReachTo (l.i + length (into_iter_items l.block-iterator)) l.offset (length l.bytes);
-  room : vec_len l.self-inside.whole + length (into_iter_items l.block-iterator) ≤ vec_capacity l.self-inside.whole;
+  room : length (into_iter_items l.block-iterator) ≤ l.self-inside.whole.room;
 }

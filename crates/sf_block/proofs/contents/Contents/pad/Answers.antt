@@ -19,7 +19,7 @@ filled c =
     let k = c.len.result + (c.args.n - c.self.inside.len) in
     let len : c.self.inside.len ≡ length c.args.self.now = c.self.invariant.1 ∙ ap (λ (x : List ℕ). length x) c.self.view_is in
     let block : c.in_ok-block.block ≡ resized c.self.inside.rest k = c.in_ok-block.ensures ∙ ap (λ (x : List ℕ). resized x k) c.as_slice.ensures in
-    let i : c.len-i.result ≡ length c.self.inside.whole.items = c.len-i.ensures ∙ c.reserve.new.self.ok.0 ∙ ap (λ (x : List (List ℕ)). length x) c.in_ok-reserve.ensures.items in
+    let i : c.len-i.result ≡ length c.self.inside.whole.items = c.len-i.ensures ∙ ap (λ (x : List (List ℕ)). length x) c.in_ok-reserve.ensures.items in
     pad_is c.self.inside.whole.items c.reserve.new.self.items c.put.new.whole.items c.self.inside.rest c.put.new.rest c.in_ok-block.block c.args.self.now c.len-i.result c.args.n k
     c.self.invariant.0 c.self.view_is c.requires.from c.in_ok-reserve.ensures.items i (omega (arith, len, c.len.ensures)) block c.put.ensures.bytes
 

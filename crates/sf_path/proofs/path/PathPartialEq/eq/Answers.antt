@@ -6,7 +6,7 @@ use Rattle.sf_path.proofs.OrderLaws.{same_name-Decides}
 use Rattle.sf_path.proofs.path.PathPartialEq.eq.Goals as goal
 
 pub returns-clause-value : goal.returns-clause-value
-returns-clause-value c = rw (← c.self.view_is, ← c.other.view_is) (c.eq.ensures ∙ lists_ties name_cmp (λ x y. refl) c.self.inside.names.items c.other.inside.names.items)
+returns-clause-value c = rw (← c.as_slice.ensures.same, ← c.as_slice-2.ensures.same) (c.eq.ensures ∙ lists_ties name_cmp (λ x y. refl) c.as_slice.result.now c.as_slice-2.result.now)
 
 pub returns-clause-same : goal.returns-clause-same
-returns-clause-same c = rw (← c.self.view_is, ← c.other.view_is) (slice_eq-Decides same_name-Decides _ _ _ c.eq.ensures)
+returns-clause-same c = rw (← c.as_slice.ensures.same, ← c.as_slice-2.ensures.same) (slice_eq-Decides same_name-Decides _ _ _ c.eq.ensures)

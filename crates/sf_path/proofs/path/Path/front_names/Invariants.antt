@@ -1,5 +1,5 @@
 use Rattle.std.proofs.Common.{◌≡◌, take}
-use Rattle.sf_path.proofs.path.Path.front.Given as goal
+use Rattle.sf_path.proofs.path.Path.front_names.Given as goal
 
 abbrev pub invariant-loop-name : goal.invariant-loop-name
 invariant-loop-name l = l.names.items ≡ take l.name-index l.name-items
