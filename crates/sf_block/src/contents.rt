@@ -16,11 +16,11 @@ const BLOCK: usize = 32768;
 /// that are cut off go where others take their places, and all with the file.
 #[derive(Debug)]
 pub struct Contents {
+    len: usize,
     /// Blocks of `BLOCK` bytes each.
     whole: Row,
     /// The bytes behind them, fewer than `BLOCK`.
     rest: ByteString,
-    len: usize,
 }
 
 impl Drop for Contents {

@@ -1,5 +1,5 @@
 -- What a step makes of a core, of its history and of the lane.
-use Rattle.std.specs.Prelude.{◌≡◌, ◌<◌, ◌≤◌, ◌^◌, ℕ, List, [], ◌∷◌, ◌++◌, option_and_then, Some, None, refl}
+use Rattle.std.specs.Prelude.{◌≡◌, ◌<◌, ◌≤◌, ◌^◌, ℕ, List, [], ◌∷◌, ◌++◌, option_and_then, Option, Some, None, refl}
 use Rattle.std.proofs.Common.{sym, ap, subst, ◌∙◌, inl, inr, arith, append-nil}
 use Rattle.std.proofs.lemmas.List.{append_assoc}
 use Rattle.sf_reply.specs.declared.reply.Reply.{Reply}
@@ -10,6 +10,7 @@ use Rattle.sf_call.specs.declared.call.Stage.{Stage}
 use Rattle.sf_call.specs.declared.record.Record.{Record}
 use Rattle.sf_walk.specs.declared.finding.Ways.{Ways}
 use Rattle.sf_walk.specs.Ways.{IsLocated}
+use Rattle.sf_walk.specs.declared.walking.Walk.{Walk}
 use Rattle.sf_walk.specs.declared.walking.Walk.TheVariants as walked
 use Rattle.sf_core.specs.declared.step.Step.{Step}
 use Rattle.sf_core.specs.declared.step.Step.TheVariants as step
@@ -39,6 +40,30 @@ pub step_stranger : (p : PartsView) → IsCore p → (lane : LaneView) (n : ℕ)
 step_stranger p core lane n call never v ev l el =
     subst (λ (x : CoreView). StepsOn x l step.Stranger x l) ev (subst (λ (x : LaneView). StepsOn (seen p) x step.Stranger (seen p) x) el
     (λ h is. ([], subst (λ (g : List Record). IsHistory (seen p) g) (sym (append-nil h)) is, ((λ c own. no_stranger p core.history core.sound lane n call never c own), refl, record { none = refl; lane = refl }))))
+
+-- whose call a number is
+pub own : (p : PartsView) → IsCore p → (lane : LaneView) (n : ℕ) (c : Call) → call_at p.calls n ≡ Some c → c.session ≡ lane.session → session_at p.sessions lane.session ≡ Some (Some n)
+own p core lane n c at same = subst (λ (s : ℕ). session_at p.sessions s ≡ Some (Some n)) same (core.sound.calls n c at).session
+
+pub not_own : (p : PartsView) → IsCore p → (lane : LaneView) (n : ℕ) → ((c : Call) → call_at p.calls n ≡ Some c → c.session ≡ lane.session → ⊥) → session_at p.sessions lane.session ≡ Some (Some n) → ⊥
+not_own p core lane n never busy = let it = (core.sound.sessions lane.session (Some n) busy).busy n refl in never it.0 it.1 it.2
+
+-- whether its reply waits
+pub none_waits : (o : Option Call) (c : Call) → o ≡ Some c → c.reply ≡ None → None ≡ option_and_then (λ (d : Call). d.reply) o
+none_waits o c at none = sym (ap (option_and_then (λ (d : Call). d.reply)) at ∙ none)
+
+-- the call that was found is the one of its number, and went on by this step
+pub walks_on : (p q : PartsView) (n : ℕ) (found step : Walk) → found ≡ step → (c : Call) → call_at p.calls n ≡ Some c → Walked p q c n found → (d : Call) → call_at p.calls n ≡ Some d → Walked p q d n step
+walks_on p q n found step same c at walks d there = subst (λ (x : Walk). Walked p q d n x) same (subst (λ (x : Call). Walked p q x n found) (some_is c d (sym at ∙ there)) walks)
+  where
+    some_is : (a b : Call) → Some a ≡ Some b → a ≡ b
+    some_is a b e = cc
+
+-- a step that found no call of the lane, on parts that stayed
+pub step_foreign : (p : PartsView) → IsCore p → (lane : LaneView) (n : ℕ) → lane.call ≡ Some n → (session_at p.sessions lane.session ≡ Some (Some n) → ⊥) → (q : PartsView) → q ≡ p → (v : CoreView) → seen p ≡ v → (l : LaneView) → lane ≡ l
+    → StepsOn v l step.Stranger (seen q) l
+step_foreign p core lane n call never q same v ev l el =
+    subst (λ (w : CoreView). StepsOn v l step.Stranger w l) (sym ev ∙ ap seen (sym same)) (step_stranger p core lane n call never v ev l el)
 
 module _ (p : PartsView) (core : IsCore p) (lane : LaneView) (n : ℕ) (busy : session_at p.sessions lane.session ≡ Some (Some n)) (call : lane.call ≡ Some n) (fits : p.store.look_ups < 2 ^ 64) where
   pub the : (c : Call) × (call_at p.calls n ≡ Some c) × (c.session ≡ lane.session)

@@ -1,5 +1,5 @@
 -- What each event does to the parts of a core.
-use Rattle.std.specs.Prelude.{◌≡◌, ◌⊎◌, ◌≤◌, ◌+◌, ℕ, false, List, [], ◌∷◌, length, Option, Some, None}
+use Rattle.std.specs.Prelude.{◌≡◌, ◌⊎◌, ◌≤◌, ◌+◌, ℕ, false, List, [], ◌∷◌, length, Option, Some, None, IsSome}
 use Rattle.std.specs.Ordering.{nat_cmp}
 use Rattle.std.specs.Map.{set_value, remove_entry}
 use Rattle.std.specs.BTreeMap.{is_at, insert_entry}
@@ -23,6 +23,8 @@ use Rattle.sf_walk.specs.declared.walking.Walk.TheVariants as walk
 use Rattle.sf_walk.specs.Ways.{names_of}
 use Rattle.sf_walk.specs.Served.{IsCarriedOut, IsRefused, IsUnused, LooksUp, NodesStay, may_want_memory}
 use Rattle.sf_walk.specs.Steps.{Advances}
+use Rattle.sf_core.specs.declared.parts.Outcome.{Outcome}
+use Rattle.sf_core.specs.declared.parts.Outcome.TheVariants as outcome
 use Rattle.sf_core.specs.Cores.{call_at, session_at}
 use Rattle.sf_core.specs.Progress.{did, new_call, overtaken}
 use Rattle.sf_core.specs.Parts.{PartsView}
@@ -90,6 +92,12 @@ pub record Walked (p q : PartsView) (c : Call) (number : ℕ) (step : Walk) : Ty
   pub calls : q.calls ≡ walked_calls p.calls number step
   pub drawn : q.drawn ≡ p.drawn
   pub joins : q.joins ≡ p.joins
+
+-- A session's call was to go on: it is none of the session's, or its reply waits, or it made a step.
+abbrev pub ComesTo : PartsView → PartsView → ℕ → ℕ → Outcome → Type 0
+ComesTo p q session number outcome.Foreign = (q ≡ p) × ((c : Call) → call_at p.calls number ≡ Some c → c.session ≡ session → ⊥)
+ComesTo p q session number outcome.Waits = (q ≡ p) × (c : Call) × (call_at p.calls number ≡ Some c) × (c.session ≡ session) × IsSome c.reply
+ComesTo p q session number (outcome.Walked step) = (c : Call) × (call_at p.calls number ≡ Some c) × (c.session ≡ session) × (c.reply ≡ None) × Walked p q c number step
 
 -- the store where a call holds nothing any more
 abbrev pub freed : Stage → StoreState → StoreState

@@ -9,7 +9,7 @@ ghost use Rattle.sf_core.specs.Histories.{IsHistory};
 ghost use Rattle.sf_core.specs.Events.{Steps, Joins, Begins, begun, Leaves, RefusesJoin, RefusesBegin};
 
 use crate::lane::{Lane, Share};
-use crate::parts::Parts;
+use crate::parts::{Outcome, Parts};
 use crate::step::Step;
 use sf_book::Book;
 use sf_call::{Answer, CoreFault, Record, Request};
@@ -160,18 +160,19 @@ impl Core {
         let Some(number) = lane.call else {
             return Step::Stranger;
         };
-        if !self.parts.is_own(lane.session, number) {
-            return Step::Stranger;
-        }
         let _count = self.parts.look_ups();
-        if let Some(reply) = self.parts.fetch(lane.session, number) {
-            lane.call = None;
-            return Step::Answered(Answer::new(number, lane.session, reply));
-        }
-        match self.parts.walk(number) {
-            Walk::Moved(_) => Step::Moved,
-            Walk::Blocked(holder) => Step::Blocked(holder),
-            Walk::Ready(ways) => {
+        match self.parts.walk(lane.session, number) {
+            Outcome::Foreign => Step::Stranger,
+            Outcome::Waits => {
+                let Some(reply) = self.parts.fetch(lane.session, number) else {
+                    unreachable!();
+                };
+                lane.call = None;
+                Step::Answered(Answer::new(number, lane.session, reply))
+            }
+            Outcome::Walked(Walk::Moved(_)) => Step::Moved,
+            Outcome::Walked(Walk::Blocked(holder)) => Step::Blocked(holder),
+            Outcome::Walked(Walk::Ready(ways)) => {
                 self.parts.overtake(number, ways, &mut self.overtaken);
                 let reply = self.parts.finish(number, ways);
                 lane.call = None;

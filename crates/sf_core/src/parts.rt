@@ -11,7 +11,7 @@ ghost use Rattle.sf_walk.specs.Ways.{path_of, other_of, IsLocated};
 ghost use Rattle.sf_walk.specs.Steps.{Stands};
 ghost use Rattle.sf_core.specs.Cores.{call_at, session_at};
 ghost use Rattle.sf_core.specs.Progress.{reply_of, has_passed, is_past, overtaken, undecided_in, copy_of, old_at};
-ghost use Rattle.sf_core.specs.Stepping.{IsNewParts, SameButRoom, Joined, Begun, Walked, Finished, Fetched, Overtakes, Helps, HelpsAll, Parted, freed, set_back, all_set_back};
+ghost use Rattle.sf_core.specs.Stepping.{IsNewParts, SameButRoom, Joined, Begun, ComesTo, Finished, Fetched, Overtakes, Helps, HelpsAll, Parted, freed, set_back, all_set_back};
 
 use crate::sessions::Sessions;
 use sf_book::Book;
@@ -22,6 +22,16 @@ use sf_reply::Reply;
 use sf_walk::{Walk, Ways, advance, decide, from_root_twice, is_move, other_of, path_of};
 use std::alloc::{AllocError, Global};
 use std::marker::Model;
+
+/// What a call came to that was to go on.
+#[derive(Clone, Copy, Debug)]
+pub(crate) enum Outcome {
+    /// It is no call of the session.
+    Foreign,
+    /// Its reply waits for the session.
+    Waits,
+    Walked(Walk),
+}
 
 /// The store, the history, and the sessions and calls by their numbers.
 #[derive(Drop)]
@@ -120,16 +130,6 @@ impl Parts {
         }
     }
 
-    /// Whether the call of a number is a session's unanswered one.
-    pub(crate) fn is_own(&self, session: u64, number: u64) -> bool
-        ensures { IsTrue result ↔ (session_at self.now.sessions session ≡ Some (Some number)) }
-    {
-        match self.sessions.get(session) {
-            Some(Some(own)) => *own == number,
-            _ => false,
-        }
-    }
-
     /// Makes room for one more record than calls and sessions may still bring.
     fn make_room(&mut self) -> Result<(), AllocError>
         ensures same { SameButRoom self.old self.new }
@@ -180,23 +180,27 @@ impl Parts {
         Ok(())
     }
 
-    /// Takes a call one step on.
-    pub(crate) fn walk(&mut self, number: u64) -> Walk
-        requires there { IsSome (call_at self.old.calls number) }
+    /// Takes a session's call one step on, unless its reply waits.
+    pub(crate) fn walk(&mut self, session: u64, number: u64) -> Outcome
         requires root { is_directory_at self.old.store.nodes self.old.store.root ≡ true }
         requires stands { (c : Call) → call_at self.old.calls number ≡ Some c
             → Stands self.old.store (path_of c.request) (other_of c.request) c.stage }
-        ensures { (c : Call) → call_at self.old.calls number ≡ Some c
-            → Walked self.old self.new c number result }
+        ensures { ComesTo self.old self.new session number result }
     {
         let Some(call) = self.calls.get(number) else {
-            unreachable!();
+            return Outcome::Foreign;
         };
+        if call.session != session {
+            return Outcome::Foreign;
+        }
+        if call.reply.is_some() {
+            return Outcome::Waits;
+        }
         let walk = advance(&mut self.store, call);
         if let Walk::Moved(stage) = walk {
             self.calls.set_stage(number, stage);
         }
-        walk
+        Outcome::Walked(walk)
     }
 
     /// Takes the call of a number out, where its reply waits for the session.

@@ -32,10 +32,11 @@ pub(crate) enum Content {
 
 #[derive(Drop)]
 pub(crate) struct Node {
-    pub(crate) label: u64,
+    // What a walk and a STAT look at comes first, side by side.
+    pub(crate) holder: Option<u64>,
     pub(crate) metadata: Metadata,
     pub(crate) content: Content,
-    pub(crate) holder: Option<u64>,
+    pub(crate) label: u64,
     /// How many names lead to it.
     pub(crate) names: u64,
     /// How many handles open it.

@@ -1,5 +1,5 @@
--- For the crates above: how long replies are. They speak of definitions alone. All other files here are
--- private to this crate.
+-- For the crates above: how long replies are, and how a line of a listing ends. They speak of definitions
+-- alone. All other files here are private to this crate.
 use Rattle.std.proofs.Common.{◌≡◌, ℕ, ◌+◌, ◌≤◌, List, length, arith}
 use Rattle.std.specs.List.{flat_map}
 use Rattle.std.proofs.lemmas.Grind.{common_steps}
@@ -14,6 +14,7 @@ use Rattle.sf_reply.specs.Replies.{reply_body, entry_text, IsPlain}
 -- an entry, the reply of REALPATH, and the line that describes a file
 pub use Rattle.sf_reply.proofs.Entries.{length-entry, length-one_name}
 pub use Rattle.sf_reply.proofs.LineLengths.{longname_short}
+pub use Rattle.sf_reply.proofs.LineEnds.{longname_ends}
 
 -- a reply that holds neither data nor names
 pub plain_short : (id : ℕ) (reply : Reply) → IsPlain reply → length (packet (reply_body id reply)) ≤ MAX_PLAIN_REPLY

@@ -17,7 +17,7 @@ use Rattle.sf_field.specs.Attributes.{attrs_text, AttrsFit}
 use Rattle.sf_field.specs.Reading.{◌>>=◌, Gives, number_at, string_at, sent_attrs_at}
 use Rattle.sf_field.proofs.Laws.{IsBytes, IsBytes-rest, IsBytes-take, IsBytes-drop, bind_some, some_is, Takes, Takes-then, Takes-none, Reads, reads_u32, reads_u64, reads_string}
 use Rattle.sf_field.proofs.Laws.{reads_sent_attrs}
-use Rattle.sf_reply.specs.Replies.{number_of, message_of, status_text, handle_text, entry_text, names_text, kind_of_reply, fields_of, reply_body, EntryFits, ReplyFits}
+use Rattle.sf_reply.specs.Replies.{number_of, message_of, status_text, handle_text, entry_text, names_text, kind_of_reply, fields_of, EntryFits, ReplyFits}
 use Rattle.sf_reply.specs.Reading.{IsReply, whole, code_of, status_with, status_of, status_at, handle_at, entry_at, entries_at, names_at, reply_fields_at, reply_at}
 
 -- ---- values with nothing after them

@@ -10,6 +10,12 @@ use std::alloc::{AllocError, Global};
 /// The type bits of a directory, above the twelve bits of its permissions.
 const DIRECTORY: u32 = 4;
 
+/// How many bytes stand between the mode and the name, where no number leaves its column.
+const COLUMNS: usize = 45;
+
+/// How many stand before the name then.
+const FRONT: usize = 10 + COLUMNS;
+
 fn letter(permissions: u32, bit: u32, letter: u8) -> u8
     ensures { result ≡ place permissions bit letter }
 {
@@ -48,7 +54,9 @@ fn columns(
     ensures { IfOk result (λ text. string_bytes text ≡ columns_text links owner size mtime) }
 {
     let Owner { uid, gid } = owner;
-    format!(in alloc; " {links:>3} {uid:<8} {gid:<8} {size:>8} {mtime:>12} ")
+    let mut text = String::with_capacity(alloc, COLUMNS)?;
+    write!(text, " {links:>3} {uid:<8} {gid:<8} {size:>8} {mtime:>12} ")?;
+    Ok(text)
 }
 
 /// The file's type and permissions as `ls -l` shows them, the number of links right in 3, the uid
@@ -72,7 +80,8 @@ pub fn longname(
     let (Some(permissions), Some(times)) = (attrs.permissions, attrs.times) else {
         unreachable!()
     };
-    let mut line = Vec::from_slice(alloc, &mode(permissions))?;
+    let mut line = Vec::with_capacity(alloc, FRONT + name.len())?;
+    line.extend_from_slice(&mode(permissions))?;
     line.extend_from_slice(columns(alloc, links, owner, size, times.mtime)?.as_bytes())?;
     line.extend_from_slice(name)?;
     Ok(line)

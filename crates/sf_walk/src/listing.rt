@@ -63,7 +63,7 @@ fn entries_of(store: &Store, found: &[(Name, NodeId)]) -> Result<Listing, AllocE
     ensures { IfOk result (λ listing. listing
         ≡ filter_map (listed_entry store.now.nodes) found.now) }
 {
-    let mut entries = Vec::new(store.alloc());
+    let mut entries = Vec::with_capacity(store.alloc(), found.len())?;
     'entries: for (name, node) in found {
         if let Some(attrs) = store.attrs(*node) {
             entries.push(entry_of(store.alloc(), name, attrs)?)?;
@@ -72,7 +72,7 @@ fn entries_of(store: &Store, found: &[(Name, NodeId)]) -> Result<Listing, AllocE
     Listing::from_vec(entries)
 }
 
-/// A node as it is listed, with one link.
+/// A node as it is listed, with one link. The name's bytes are those at the end of its line.
 fn entry_of(alloc: Global, name: &Name, attrs: Attrs) -> Result<Entry, AllocError>
     requires parts { HasAllParts attrs }
     requires kind { HasType attrs.permissions }
@@ -80,11 +80,10 @@ fn entry_of(alloc: Global, name: &Name, attrs: Attrs) -> Result<Entry, AllocErro
     ensures line { IfOk result (λ entry. longname_text attrs 1 name.now ≡ Some entry.longname) }
     ensures attrs { IfOk result (λ entry. entry.attrs ≡ attrs) }
 {
-    let filename = ByteString::from_slice(alloc, name.as_slice())?;
-    let line = longname(alloc, &attrs, 1, name.as_slice())?;
+    let line = ByteString::from_vec(longname(alloc, &attrs, 1, name.as_slice())?)?;
     Ok(Entry {
-        filename,
-        longname: ByteString::from_vec(line)?,
+        filename: line.part(line.len() - name.len(), line.len())?,
+        longname: line,
         attrs,
     })
 }

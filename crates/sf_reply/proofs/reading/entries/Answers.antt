@@ -1,7 +1,7 @@
-use Rattle.std.proofs.Common.{◌≡◌, ◌-◌, ◌∙◌, ap, Some, arith}
+use Rattle.std.proofs.Common.{◌≡◌, ◌-◌, ◌∙◌, Some, arith}
 use Rattle.sf_reply.specs.declared.reply.Entry.{Entry}
 use Rattle.sf_reply.specs.Reading.{entry_at, entries_at}
-use Rattle.sf_reply.proofs.ReadingLoop.{after, one_more, none_more, all_read, first}
+use Rattle.sf_reply.proofs.ReadingLoop.{one_more, none_more, all_read, first}
 use Rattle.sf_reply.proofs.reading.entries.Goals as goal
 
 pub returns-in_default : goal.returns-in_default
