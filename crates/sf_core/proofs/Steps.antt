@@ -1,5 +1,5 @@
 -- What a step makes of a core, of its history and of the lane.
-use Rattle.std.specs.Prelude.{◌≡◌, ◌<◌, ◌≤◌, ◌^◌, ℕ, List, [], ◌∷◌, ◌++◌, option_and_then, Option, Some, None, refl}
+use Rattle.std.specs.Prelude.{◌≡◌, ◌<◌, ◌≤◌, ◌+◌, ◌^◌, ℕ, zero, suc, List, [], ◌∷◌, ◌++◌, true, false, is_some, option_map, option_and_then, Option, Some, None, refl}
 use Rattle.std.proofs.Common.{sym, ap, subst, ◌∙◌, inl, inr, arith, append-nil}
 use Rattle.std.proofs.lemmas.List.{append_assoc}
 use Rattle.sf_reply.specs.declared.reply.Reply.{Reply}
@@ -8,6 +8,15 @@ use Rattle.sf_call.specs.Histories.{IsGiven}
 use Rattle.sf_call.specs.declared.call.Call.{Call}
 use Rattle.sf_call.specs.declared.call.Stage.{Stage}
 use Rattle.sf_call.specs.declared.record.Record.{Record}
+use Rattle.std.specs.Option.{option_map_or}
+use Rattle.sf_call.specs.declared.metadata.Metadata.{Metadata}
+use Rattle.sf_call.specs.Attributes.{Object}
+use Rattle.sf_call.specs.Tree.{directory_metadata}
+use Rattle.sf_inode.specs.declared.node.Node.{Node}
+use Rattle.sf_inode.specs.declared.node.Content.{Content}
+use Rattle.sf_inode.specs.declared.node.Content.TheVariants as content
+use Rattle.sf_inode.specs.Nodes.{object_in, is_directory_content}
+use Rattle.sf_inode.specs.Stores.{node_in, shown_node, is_directory_at}
 use Rattle.sf_walk.specs.declared.finding.Ways.{Ways}
 use Rattle.sf_walk.specs.Ways.{IsLocated}
 use Rattle.sf_walk.specs.declared.walking.Walk.{Walk}
@@ -18,21 +27,18 @@ use Rattle.sf_core.specs.Lanes.{LaneView, at_rest}
 use Rattle.sf_core.specs.Cores.{CoreView, call_at, session_at}
 use Rattle.sf_core.specs.Progress.{reply_of, did, undecided_in}
 use Rattle.sf_core.specs.Histories.{IsHistory}
-use Rattle.sf_core.specs.Events.{Steps, Fetches, Decides}
+use Rattle.sf_core.specs.Events.{StepsOn, Moves, Walks, Fetches, Decides}
 use Rattle.sf_core.specs.Parts.{PartsView, seen}
 use Rattle.sf_core.specs.Sound.{IsCore, IsWritten, Sound}
-use Rattle.sf_core.specs.Stepping.{Walked, Fetched, Overtakes, Finished}
+use Rattle.sf_core.specs.declared.parts.Outcome.{Outcome}
+use Rattle.sf_core.specs.declared.parts.Outcome.TheVariants as outcome
+use Rattle.sf_core.specs.Stepping.{is_move, Walked, Stepped, Moved, Fetched, Overtakes, Finished}
 use Rattle.sf_core.proofs.Sounds.{reply_is, one_there}
 use Rattle.sf_core.proofs.Handing.{history_of, written_of, sound_of, core_same, history_same, undecided_same, undecided_less}
 use Rattle.sf_core.proofs.Telling.{no_stranger}
 use Rattle.sf_core.proofs.Stepped.{same_book}
 use Rattle.sf_core.proofs.Fetching.{fetched_sound, fetched_given, fetched_told}
 use Rattle.sf_core.proofs.Making.{walked_records, moved_sound, moved_told, blocked_sound, blocked_told, ready_sound, ready_at, ready_located, made, made_at, decided_sound, decided_written, decided_given, decided_drawn, decided_told}
-
--- what a step ensures
-abbrev StepsOn : CoreView → LaneView → Step → CoreView → LaneView → Type 0
-StepsOn v l s w m = (h : List Record) → IsHistory v h → (added : List Record) × IsHistory w (h ++ added)
-    × Steps (record { core = v; history = h; lane = l }) s (record { core = w; added = added; lane = m })
 
 -- a lane of no session of this core
 pub step_stranger : (p : PartsView) → IsCore p → (lane : LaneView) (n : ℕ) → lane.call ≡ Some n → (session_at p.sessions lane.session ≡ Some (Some n) → ⊥) → (v : CoreView) → seen p ≡ v → (l : LaneView) → lane ≡ l
@@ -253,3 +259,76 @@ module _ (p : PartsView) (core : IsCore p) (lane : LaneView) (n : ℕ) (busy : s
           step_decided a is_answer v ev l el =
               subst (λ (x : CoreView). StepsOn x l (step.Answered a) (seen r) (at_rest lane)) ev
               (subst (λ (x : LaneView). StepsOn (seen p) x (step.Answered a) (seen r) (at_rest lane)) el (decided_on a is_answer))
+
+-- ---- many steps
+module _ (lane : LaneView) (n : ℕ) (call : lane.call ≡ Some n) where
+  one_moved : (p q : PartsView) (after : Stage) → Stepped p lane.session n (outcome.Walked (walked.Moved after)) q → StepsOn (seen p) lane step.Moved (seen q) lane
+  one_moved p q after it =
+      let c = it.comes in
+      step_moved p it.core lane n (own p it.core lane n c.0 c.1 c.2) call it.fits (none_waits (call_at p.calls n) c.0 c.1 c.3) q after
+      (walks_on p q n (walked.Moved after) (walked.Moved after) refl c.0 c.1 c.4) (seen p) refl lane refl
+
+  moves_by : (k : ℕ) (p q : PartsView) → Moved k p lane.session n q → Moves k (seen p) lane (seen q)
+  unfolding Moved Moves
+  moves_by zero p q same = ap seen same
+  moves_by (suc k) p q it = (seen it.0, moves_by k p it.0 it.1, one_moved it.0 q it.2.0 it.2.1)
+
+  -- no more calls are undecided
+  pub places_by : (k : ℕ) (p q : PartsView) (places : ℕ) → Moved k p lane.session n q → undecided_in p.calls ≤ places → undecided_in q.calls ≤ places
+  unfolding Moved
+  places_by zero p q places same fit = subst (λ (x : PartsView). undecided_in x.calls ≤ places) (sym same) fit
+  places_by (suc k) p q places it fit =
+      let one = it.2.1 in
+      let c = one.comes in
+      places_moved it.0 one.core lane n (own it.0 one.core lane n c.0 c.1 c.2) call one.fits (none_waits (call_at it.0.calls n) c.0 c.1 c.3) q it.2.0
+      (walks_on it.0 q n (walked.Moved it.2.0) (walked.Moved it.2.0) refl c.0 c.1 c.4) places (places_by k p it.0 places it.1 fit)
+
+  pub walks_by : (k most : ℕ) (p mid : PartsView) → k < most → Moved k p lane.session n mid → (s : Step) (w : CoreView) (m : LaneView) → (v : CoreView) → seen p ≡ v → (l : LaneView) → lane ≡ l
+      → StepsOn (seen mid) l s w m → (s ≡ step.Moved → k + 1 ≡ most) → Walks v l most s w m
+  walks_by k most p mid few moved s w m v ev l el last full = record {
+    moves = k;
+    mid = seen mid;
+    few = few;
+    moved = subst (λ (x : LaneView). Moves k v x (seen mid)) el (subst (λ (x : CoreView). Moves k x lane (seen mid)) ev (moves_by k p mid moved));
+    last = last;
+    full = full;
+  }
+
+  -- after a step that moved the call
+  pub moved_core : (p q : PartsView) (r : Outcome) → Stepped p lane.session n r q → is_move r ≡ true → IsCore q
+  moved_core p q (outcome.Walked (walked.Moved after)) it is =
+      let c = it.comes in
+      core_moved p it.core lane n (own p it.core lane n c.0 c.1 c.2) call it.fits (none_waits (call_at p.calls n) c.0 c.1 c.3) q after
+      (walks_on p q n (walked.Moved after) (walked.Moved after) refl c.0 c.1 c.4)
+  moved_core p q (outcome.Walked (walked.Blocked holder)) it is = absurd cc
+  moved_core p q (outcome.Walked (walked.Ready ways)) it is = absurd cc
+  moved_core p q outcome.Foreign it is = absurd cc
+  moved_core p q outcome.Waits it is = absurd cc
+
+  -- a step of no call of the session left the parts as they were
+  pub core_stays : (k : ℕ) (o p q : PartsView) (places : ℕ) → Moved k o lane.session n p → undecided_in o.calls ≤ places → IsCore p → q ≡ p → IsCore q × (undecided_in q.calls ≤ places)
+  core_stays k o p q places moved fit core same = subst (λ (x : PartsView). IsCore x × (undecided_in x.calls ≤ places)) (sym same) (core, places_by k o p places moved fit)
+
+  pub moved_more : (k : ℕ) (o p q : PartsView) (r : Outcome) → Moved k o lane.session n p → Stepped p lane.session n r q → is_move r ≡ true → Moved (suc k) o lane.session n q
+  unfolding Moved
+  moved_more k o p q (outcome.Walked (walked.Moved after)) moved it is = (p, moved, (after, it))
+  moved_more k o p q (outcome.Walked (walked.Blocked holder)) moved it is = absurd cc
+  moved_more k o p q (outcome.Walked (walked.Ready ways)) moved it is = absurd cc
+  moved_more k o p q outcome.Foreign moved it is = absurd cc
+  moved_more k o p q outcome.Waits moved it is = absurd cc
+
+pub none_moved : (p : PartsView) (session n : ℕ) → Moved 0 p session n p
+unfolding Moved
+none_moved p session n = refl
+
+-- the root is a directory
+pub rooted : (p : PartsView) → IsCore p → is_directory_at p.store.nodes p.store.root ≡ true
+rooted p core = by_node (node_in p.store.nodes p.store.root) core.sound.keeps.shows.by.sound.rooted
+  where
+    by_node : (o : Option Node) → is_some (option_and_then (λ (w : ℕ × Object). directory_metadata w.1) (option_map shown_node o)) ≡ true → option_map_or (λ (it : Node). is_directory_content it.content) o false ≡ true
+    by_node None is = is
+    by_node (Some it) is = by_content it.metadata it.content is
+      where
+        by_content : (m : Metadata) (z : Content) → is_some (directory_metadata (object_in m z)) ≡ true → is_directory_content z ≡ true
+        by_content m (content.Directory entries) is = refl
+        by_content m (content.File contents) is = is

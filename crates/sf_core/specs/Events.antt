@@ -1,5 +1,5 @@
 -- What each event does to a core.
-use Rattle.std.specs.Prelude.{◌≡◌, ◌≢◌, ◌⊎◌, ◌<◌, ◌≤◌, ◌+◌, ◌-◌, ◌^◌, ℕ, min, List, [], ◌∷◌, ◌++◌, filter_map, Some, None}
+use Rattle.std.specs.Prelude.{◌≡◌, ◌≢◌, ◌⊎◌, ◌<◌, ◌≤◌, ◌+◌, ◌-◌, ◌^◌, ℕ, zero, suc, min, List, [], ◌∷◌, ◌++◌, filter_map, Some, None}
 use Rattle.std.specs.Ordering.{nat_cmp}
 use Rattle.std.specs.List.{AllByRecursion}
 use Rattle.std.specs.List.Sorted.{IsStrictlySortedBy}
@@ -20,6 +20,7 @@ use Rattle.sf_core.specs.declared.step.Step.TheVariants.{Moved, Blocked, Answere
 use Rattle.sf_core.specs.Lanes.{LaneView, at_rest}
 use Rattle.sf_core.specs.Cores.{CoreView, Slot, call_at, slot_of, joined, last_number, most_sessions}
 use Rattle.sf_core.specs.Cores.Slot.{Gone, Idle, Busy}
+use Rattle.sf_core.specs.Histories.{IsHistory}
 use Rattle.sf_core.specs.Progress.{reply_of, left_of, bound_of, depth_of, WalksOn, MayDecide, did, new_call, SameCall, overtaken, names_of, number_at}
 
 -- the lane's call, if the lane is this core's
@@ -171,6 +172,25 @@ Steps b Moved a = ((c : Call) × (d : Call) × Goes b.core a.core b.lane c d) ×
 Steps b (Blocked holder) a = ((c : Call) × IsBlocked b.core a.core b.lane c holder) × AddsNothing b a
 Steps b (Answered given) a = ((c : Call) × (Fetches b a c given.reply ⊎ Decides b a c given.reply)) × Answers b given a
 Steps b Stranger a = ((c : Call) → OwnCall b.core b.lane c → ⊥) × (a.core ≡ b.core) × AddsNothing b a
+
+-- a step, whatever the history was: it adds records to it so
+abbrev pub StepsOn : CoreView → LaneView → Step → CoreView → LaneView → Type 0
+StepsOn v lane s w lane' = (h : List Record) → IsHistory v h → (added : List Record) × IsHistory w (h ++ added)
+    × Steps (record { core = v; history = h; lane = lane }) s (record { core = w; added = added; lane = lane' })
+
+-- so many steps, one after the other, each of which moved
+unfoldable pub Moves : ℕ → CoreView → LaneView → CoreView → Type 0
+Moves zero v lane w = w ≡ v
+Moves (suc n) v lane w = (mid : CoreView) × Moves n v lane mid × StepsOn mid lane Moved w lane
+
+-- Walking on, by so many steps at most: all moved but the last, and this one too only where no more were to be made.
+pub record Walks (v : CoreView) (lane : LaneView) (most : ℕ) (s : Step) (w : CoreView) (lane' : LaneView) : Type 0 where
+  pub moves : ℕ
+  pub mid : CoreView
+  pub few : moves < most
+  pub moved : Moves moves v lane mid
+  pub last : StepsOn mid lane s w lane'
+  pub full : s ≡ Moved → moves + 1 ≡ most
 
 -- a session joins, under the next number
 pub record Joins (v w : CoreView) : Type 0 where

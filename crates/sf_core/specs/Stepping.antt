@@ -1,5 +1,5 @@
 -- What each event does to the parts of a core.
-use Rattle.std.specs.Prelude.{◌≡◌, ◌⊎◌, ◌≤◌, ◌+◌, ℕ, false, List, [], ◌∷◌, length, Option, Some, None, IsSome}
+use Rattle.std.specs.Prelude.{◌≡◌, ◌⊎◌, ◌<◌, ◌≤◌, ◌+◌, ◌^◌, ℕ, zero, suc, Bool, true, false, List, [], ◌∷◌, length, Option, Some, None, IsSome}
 use Rattle.std.specs.Ordering.{nat_cmp}
 use Rattle.std.specs.Map.{set_value, remove_entry}
 use Rattle.std.specs.BTreeMap.{is_at, insert_entry}
@@ -28,6 +28,7 @@ use Rattle.sf_core.specs.declared.parts.Outcome.TheVariants as outcome
 use Rattle.sf_core.specs.Cores.{call_at, session_at}
 use Rattle.sf_core.specs.Progress.{did, new_call, overtaken}
 use Rattle.sf_core.specs.Parts.{PartsView}
+use Rattle.sf_core.specs.Sound.{IsCore}
 
 -- a session has this call, or none, if it is joined
 abbrev pub session_set_by : List (ℕ × Option ℕ) → ℕ → Option ℕ → Option (Option ℕ) → List (ℕ × Option ℕ)
@@ -98,6 +99,31 @@ abbrev pub ComesTo : PartsView → PartsView → ℕ → ℕ → Outcome → Typ
 ComesTo p q session number outcome.Foreign = (q ≡ p) × ((c : Call) → call_at p.calls number ≡ Some c → c.session ≡ session → ⊥)
 ComesTo p q session number outcome.Waits = (q ≡ p) × (c : Call) × (call_at p.calls number ≡ Some c) × (c.session ≡ session) × IsSome c.reply
 ComesTo p q session number (outcome.Walked step) = (c : Call) × (call_at p.calls number ≡ Some c) × (c.session ≡ session) × (c.reply ≡ None) × Walked p q c number step
+
+-- whether a step moved the call
+abbrev pub is_move : Outcome → Bool
+is_move (outcome.Walked (walk.Moved after)) = true
+is_move _ = false
+
+-- a step of a session's call
+pub record Stepped (p : PartsView) (session number : ℕ) (result : Outcome) (q : PartsView) : Type 0 where
+  pub core : IsCore p
+  pub fits : p.store.look_ups < 2 ^ 64
+  pub comes : ComesTo p q session number result
+
+-- so many steps, one after the other, each of which moved
+unfoldable pub Moved : ℕ → PartsView → ℕ → ℕ → PartsView → Type 0
+Moved zero p session number q = q ≡ p
+Moved (suc n) p session number q = (mid : PartsView) × Moved n p session number mid × ((after : Stage) × Stepped mid session number (outcome.Walked (walk.Moved after)) q)
+
+-- Walking on, by so many steps at most: all moved but the last, and this one too only where no more were to be made.
+pub record WalksOn (p : PartsView) (session number most : ℕ) (result : Outcome) (q : PartsView) : Type 0 where
+  pub moves : ℕ
+  pub mid : PartsView
+  pub few : moves < most
+  pub moved : Moved moves p session number mid
+  pub last : Stepped mid session number result q
+  pub full : (after : Stage) → result ≡ outcome.Walked (walk.Moved after) → moves + 1 ≡ most
 
 -- the store where a call holds nothing any more
 abbrev pub freed : Stage → StoreState → StoreState

@@ -6,7 +6,7 @@ ghost use Rattle.sf_call.specs.declared.record.Record.TheVariants.{Left};
 ghost use Rattle.sf_core.specs.Cores.{Slot, new_core, slot_of, joined, last_number, most_sessions};
 ghost use Rattle.sf_core.specs.Cores.Slot.{Idle};
 ghost use Rattle.sf_core.specs.Histories.{IsHistory};
-ghost use Rattle.sf_core.specs.Events.{Steps, Joins, Begins, begun, Leaves, RefusesJoin, RefusesBegin};
+ghost use Rattle.sf_core.specs.Events.{StepsOn, Walks, Joins, Begins, begun, Leaves, RefusesJoin, RefusesBegin};
 
 use crate::lane::{Lane, Share};
 use crate::parts::{Outcome, Parts};
@@ -153,15 +153,22 @@ impl Core {
     /// One step of the lane's call. Takes no memory where it moves or blocks.
     pub fn step(&mut self, lane: &mut Lane) -> Step
         requires { IsSome lane.old.call }
-        ensures { (h : List Record) → IsHistory self.old h → (added : List Record)
-            × IsHistory self.new (h ++ added)
-            × Steps (record { core = self.old; history = h; lane = lane.old }) result (record { core = self.new; added = added; lane = lane.new }) }
+        ensures { StepsOn self.old lane.old result self.new lane.new }
+    {
+        self.walk(lane, 1)
+    }
+
+    /// Steps of the lane's call, one after the other, up to one that doesn't move, and `most` at most: what
+    /// came of the last one is told. Between them nothing comes from other sessions.
+    pub fn walk(&mut self, lane: &mut Lane, most: u64) -> Step
+        requires call { IsSome lane.old.call }
+        requires some { 0 < most }
+        ensures { Walks self.old lane.old most result self.new lane.new }
     {
         let Some(number) = lane.call else {
             return Step::Stranger;
         };
-        let _count = self.parts.look_ups();
-        match self.parts.walk(lane.session, number) {
+        match self.parts.walk_on(lane.session, number, most) {
             Outcome::Foreign => Step::Stranger,
             Outcome::Waits => {
                 let Some(reply) = self.parts.fetch(lane.session, number) else {

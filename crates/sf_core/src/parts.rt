@@ -10,8 +10,9 @@ ghost use Rattle.sf_inode.specs.Stores.{is_directory_at};
 ghost use Rattle.sf_walk.specs.Ways.{path_of, other_of, IsLocated};
 ghost use Rattle.sf_walk.specs.Steps.{Stands};
 ghost use Rattle.sf_core.specs.Cores.{call_at, session_at};
+ghost use Rattle.sf_core.specs.Sound.{IsCore};
 ghost use Rattle.sf_core.specs.Progress.{reply_of, has_passed, is_past, overtaken, undecided_in, copy_of, old_at};
-ghost use Rattle.sf_core.specs.Stepping.{IsNewParts, SameButRoom, Joined, Begun, ComesTo, Finished, Fetched, Overtakes, Helps, HelpsAll, Parted, freed, set_back, all_set_back};
+ghost use Rattle.sf_core.specs.Stepping.{IsNewParts, SameButRoom, Joined, Begun, ComesTo, Finished, Fetched, Overtakes, Helps, HelpsAll, Parted, WalksOn, is_move, freed, set_back, all_set_back};
 
 use crate::sessions::Sessions;
 use sf_book::Book;
@@ -31,6 +32,15 @@ pub(crate) enum Outcome {
     /// Its reply waits for the session.
     Waits,
     Walked(Walk),
+}
+
+impl Outcome {
+    /// Whether the call holds another directory now.
+    fn is_move(&self) -> bool
+        ensures { result ≡ is_move self.now }
+    {
+        matches!(self, Outcome::Walked(Walk::Moved(_)))
+    }
 }
 
 /// The store, the history, and the sessions and calls by their numbers.
@@ -185,8 +195,10 @@ impl Parts {
         requires root { is_directory_at self.old.store.nodes self.old.store.root ≡ true }
         requires stands { (c : Call) → call_at self.old.calls number ≡ Some c
             → Stands self.old.store (path_of c.request) (other_of c.request) c.stage }
-        ensures { ComesTo self.old self.new session number result }
+        ensures comes { ComesTo self.old self.new session number result }
+        ensures fits { self.old.store.look_ups < 2 ^ 64 }
     {
+        let _count = self.store.look_ups();
         let Some(call) = self.calls.get(number) else {
             return Outcome::Foreign;
         };
@@ -201,6 +213,22 @@ impl Parts {
             self.calls.set_stage(number, stage);
         }
         Outcome::Walked(walk)
+    }
+
+    /// Takes a session's call on, up to a step that doesn't move it, by so many steps at most.
+    pub(crate) fn walk_on(&mut self, session: u64, number: u64, most: u64) -> Outcome
+        requires core { IsCore self.old }
+        requires some { 0 < most }
+        ensures { WalksOn self.old session number most result self.new }
+    {
+        let mut outcome = self.walk(session, number);
+        for _ in 1..most {
+            if !outcome.is_move() {
+                return outcome;
+            }
+            outcome = self.walk(session, number);
+        }
+        outcome
     }
 
     /// Takes the call of a number out, where its reply waits for the session.

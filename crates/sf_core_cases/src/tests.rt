@@ -77,25 +77,30 @@ fn begin_at(
     }
 }
 
-fn step(rt: &impl Abort, core: &mut Core, lane: &mut Lane) -> Told {
-    assert!(rt; !lane.is_idle());
-    match core.step(lane) {
+fn came_of(step: &Step) -> Told {
+    match step {
         Step::Moved => Told::Moved,
-        Step::Blocked(holder) => Told::Blocked(holder),
+        Step::Blocked(holder) => Told::Blocked(*holder),
         Step::Answered(answer) => outcome_of(answer.reply()),
         Step::Stranger => Told::Stranger,
     }
 }
 
+fn step(rt: &impl Abort, core: &mut Core, lane: &mut Lane) -> Told {
+    assert!(rt; !lane.is_idle());
+    came_of(&core.step(lane))
+}
+
+/// Steps up to one that doesn't move, and so many at most.
+fn walk(rt: &impl Abort, core: &mut Core, lane: &mut Lane, most: u64) -> Told {
+    assert!(rt; !lane.is_idle());
+    assert!(rt; most > 0);
+    came_of(&core.walk(lane, most))
+}
+
 /// Takes the lane's call to its answer, which no other call keeps it from.
 fn finish(rt: &impl Abort, core: &mut Core, lane: &mut Lane) -> Told {
-    for _ in 0..300 {
-        let came_to = step(rt, core, lane);
-        if came_to != Told::Moved {
-            return came_to;
-        }
-    }
-    panic!(rt; "no end")
+    walk(rt, core, lane, 300)
 }
 
 fn leave(rt: &impl Abort, core: &mut Core, lane: Lane) -> Share {

@@ -6,6 +6,7 @@ pub mod Resting
 pub mod Under
 pub mod Writing
 pub mod Turning
+pub mod Chains
 pub mod Feeding
 pub mod Opening
 pub mod Running

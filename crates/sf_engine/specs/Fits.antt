@@ -1,5 +1,5 @@
 -- When an engine fits a trace.
-use Rattle.std.specs.Prelude.{◌≡◌, ◌≢◌, ◌<◌, ◌+◌, ◌≤◌, ◌⊎◌, ◌↔◌, IsTrue, Bool, ℕ, List, [], ◌∷◌, ◌++◌, length, Some, None, Result, slice_get}
+use Rattle.std.specs.Prelude.{◌≡◌, ◌≢◌, ◌<◌, ◌+◌, ◌≤◌, ◌⊎◌, ◌↔◌, IsTrue, Bool, true, OnErr, ℕ, zero, suc, List, [], ◌∷◌, ◌++◌, length, Some, None, Result, Ok, slice_get}
 use Rattle.sf_reply.specs.declared.reply.Reply.{Reply}
 use Rattle.sf_call.specs.declared.call.Call.{Call}
 use Rattle.sf_call.specs.declared.call.Stage.{Stage}
@@ -18,10 +18,11 @@ use Rattle.sf_engine.specs.declared.seat.Seat.{Seat}
 use Rattle.sf_engine.specs.declared.seat.Place.{Place}
 use Rattle.sf_engine.specs.declared.seat.Place.TheVariants as place
 use Rattle.sf_engine.specs.declared.event.Event.{Event}
+use Rattle.sf_engine.specs.declared.event.Event.TheVariants as event
 use Rattle.sf_engine.specs.declared.event.Happened.{Happened}
 use Rattle.sf_engine.specs.declared.event.EngineFault.{EngineFault}
 use Rattle.sf_engine.specs.Worlds.{Entry, Phase, Resting, UnderWay, Decided, Gone as left, Told, World, transcript, here}
-use Rattle.sf_engine.specs.Traces.{has_begun, Tells, order, AreEntries, IsSession, IsNoSession, Leads}
+use Rattle.sf_engine.specs.Traces.{has_begun, goes_on, Tells, order, AreEntries, IsSession, IsNoSession, Leads}
 use Rattle.sf_engine.specs.Works.{Passage, IsStep, IsWork}
 use Rattle.sf_engine.specs.Views.{EngineView}
 
@@ -121,6 +122,11 @@ GoesOnTrace old event result new = (trace : List Entry) → (fits : Fits old tra
     × Leads fits.world (entry_of event result added) now.world
     × IsStep event result (passage old fits.world.records added new)
     × IsWork event (passage old fits.world.records added new)
+
+-- Turns of a session at a moment: so many that go on, one after the other, and a last one that came to this. Refused, it changes nothing.
+unfoldable pub HasTurns : ℕ → EngineView → ℕ → ℕ → Result Happened EngineFault → EngineView → Type 0
+HasTurns zero e s m r e' = GoesOnTrace e (event.Turn s m) r e' × OnErr r (e' ≡ e)
+HasTurns (suc n) e s m r e' = (mid : EngineView) × (h : Happened) × GoesOnTrace e (event.Turn s m) (Ok h) mid × (goes_on h ≡ true) × HasTurns n mid s m r e'
 
 -- The engine fits each trace that it fitted, followed by one entry for each event, so many of them refused.
 abbrev pub RunsTrace : EngineView → List Event → ℕ → EngineView → Type 0

@@ -1,5 +1,5 @@
 -- What an event does to a core and to one session, from their public contracts.
-use Rattle.std.specs.Prelude.{◌≡◌, ◌≢◌, ◌<◌, ◌≤◌, ◌+◌, ◌⊎◌, ◌++◌, ◌∷◌, ℕ, List, [], length, drop, Bool, true, false, Some, None, IsSome, IfSome}
+use Rattle.std.specs.Prelude.{◌≡◌, ◌≢◌, ◌<◌, ◌≤◌, ◌+◌, ◌-◌, ◌^◌, ◌⊎◌, ◌++◌, ◌∷◌, ℕ, zero, suc, List, [], length, drop, Bool, true, false, Some, None, Result, Ok, Err, IsSome, IfSome}
 use Rattle.sf_field.specs.Fields.{packet}
 use Rattle.sf_reply.specs.Replies.{reply_body}
 use Rattle.sf_call.specs.declared.record.Record.{Record}
@@ -24,6 +24,7 @@ use Rattle.sf_engine.specs.declared.event.Happened.{Happened}
 use Rattle.sf_engine.specs.declared.event.Happened.TheVariants as happened
 use Rattle.sf_engine.specs.declared.event.EngineFault.{EngineFault}
 use Rattle.sf_engine.specs.declared.event.EngineFault.TheVariants as fault
+use Rattle.sf_engine.specs.Traces.{goes_on, goes_on_at}
 
 -- whatever the history was, records are added to it so
 abbrev pub Gives : CoreView → CoreView → (List Record → List Record → Type 0) → Type 0
@@ -123,6 +124,10 @@ is_resting (place.UnderWay lane) = false
 is_resting (place.Answered lane given) = false
 is_resting (place.Left cause) = false
 
+abbrev pub is_under_way : Place → Bool
+is_under_way (place.UnderWay lane) = true
+is_under_way _ = false
+
 -- whether it has a lane, and which
 abbrev pub has_lane : Place → Bool
 has_lane (place.Resting lane) = true
@@ -196,3 +201,35 @@ MayRefuseTurn (place.Resting lane) = Unit {0}
 MayRefuseTurn (place.UnderWay lane) = ⊥
 MayRefuseTurn (place.Answered lane a) = Unit {0}
 MayRefuseTurn (place.Left cause) = ⊥
+
+-- a core, with a session and its place
+pub record Stand : Type 0 where
+  pub core : CoreView
+  pub session : SessionView
+  pub place : Place
+
+abbrev pub stand : CoreView → SessionView → Place → Stand
+stand v x p = record { core = v; session = x; place = p }
+
+-- what turns ask of the core and of the session
+pub record IsReady (a : Stand) : Type 0 where
+  pub history : List Record
+  pub is_history : IsHistory a.core history
+  pub placed : IsPlaced a.core a.session a.place
+  pub waits : is_busy a.place ≡ true → IsSome a.session.waiting
+
+-- a turn of a session that was closed or not, at a moment
+abbrev pub TurnGives : Stand → Bool → ℕ → Happened → Stand → Type 0
+TurnGives a closed m r b = Gives a.core b.core (λ h added. PlaceGives (part a.core h a.session closed) a.place m r (new_part b.core added b.session b.place))
+
+-- Turns, one after the other: so many after which the call goes on, and a last one that came to this. Refused, it changes nothing.
+unfoldable pub TurnsGive : ℕ → Stand → Bool → ℕ → Result Happened EngineFault → Stand → Type 0
+TurnsGive zero a closed m (Ok r) b = TurnGives a closed m r b
+TurnsGive zero a closed m (Err f) b = (b ≡ a) × (f ≡ fault.OutOfMemory) × MayRefuseTurn a.place
+TurnsGive (suc n) a closed m r b = (h : Happened) × (mid : Stand) × (goes_on h ≡ true) × TurnGives a closed m h mid × TurnsGive n mid closed m r b
+
+-- turns up to one after which the call doesn't go on, unless very many were made
+pub record GoesFar (a : Stand) (closed : Bool) (m : ℕ) (r : Result Happened EngineFault) (b : Stand) : Type 0 where
+  pub turns : ℕ
+  pub give : TurnsGive turns a closed m r b
+  pub far : goes_on_at r ≡ true → 2 ^ 64 - 2 ≤ turns

@@ -1,13 +1,15 @@
 //! Many sessions on one core.
 
-ghost use Rattle.std.specs.Prelude.{◌≡◌, ◌<◌, ◌≤◌, ◌+◌, ◌⊎◌, ℕ, List, [], Some, None, OnErr, IfOk, IfSome, IfNone};
+ghost use Rattle.std.specs.Prelude.{◌≡◌, ◌<◌, ◌≤◌, ◌+◌, ◌-◌, ◌^◌, ◌⊎◌, ℕ, true, List, [], Some, None, OnErr, IfOk, IfSome, IfNone};
 ghost use Rattle.sf_core.specs.Cores.{new_core};
 ghost use Rattle.sf_core.specs.Histories.{IsHistory};
-ghost use Rattle.sf_engine.specs.Traces.{refusals};
-ghost use Rattle.sf_engine.specs.Fits.{Fits, GoesOnTrace, RunsTrace, IsSentBy, IsUnknown, IsQuietBy};
+ghost use Rattle.sf_engine.specs.Traces.{goes_on_at, refusals};
+ghost use Rattle.sf_engine.specs.Fits.{Fits, GoesOnTrace, HasTurns, RunsTrace, IsSentBy, IsUnknown, IsQuietBy};
 
 use crate::event::{EngineFault, Event, Happened};
-use crate::seat::{Seat, are_quiet, close_seat, feed_seat, open_seat, send_seat, turn_seat};
+use crate::seat::{
+    Seat, are_quiet, close_seat, feed_seat, open_seat, send_seat, turn_seat, turns_seat,
+};
 use sf_core::Core;
 use std::alloc::{AllocError, Global};
 use std::marker::Model;
@@ -158,6 +160,18 @@ impl Engine {
             Event::Close(session) => self.close(*session),
             Event::Sent(session, n) => self.send(*session, *n),
         }
+    }
+
+    /// Turns of a session at a moment, as long as its call is on its way to its reply. What came of the last
+    /// one is told. One packet is read at most.
+    pub fn turns(&mut self, session: u64, moment: u32) -> Result<Happened, EngineFault>
+        ensures { (n : ℕ) × HasTurns n self.old session moment result self.new
+            × (goes_on_at result ≡ true → 2 ^ 64 - 2 ≤ n) }
+    {
+        let Some(at) = index_of(session, self.seats.len()) else {
+            return Err(EngineFault::NoSuchSession);
+        };
+        turns_seat(&mut self.core, &mut self.seats[at], moment)
     }
 
     /// Applies the events in order, and answers how many were refused.

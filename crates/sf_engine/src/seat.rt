@@ -7,7 +7,9 @@ ghost use Rattle.sf_core.specs.Cores.Slot.{Idle};
 ghost use Rattle.sf_core.specs.Cores.{slot_of};
 ghost use Rattle.sf_core.specs.Events.{Leaves};
 ghost use Rattle.sf_core.specs.Histories.{IsHistory};
-ghost use Rattle.sf_engine.specs.Turns.{Gives, seated, part, new_part, Settles, has_lane, is_resting, IsLaneOf, PlaceGives, CloseGives, FeedGives, FeedFault, SentGives, SentFault, IsPlaced, is_busy, OpenGives, OpenFault, MayRefuseTurn};
+ghost use Rattle.sf_core.specs.Lanes.{LaneView};
+ghost use Rattle.sf_engine.specs.Traces.{goes_on_at};
+ghost use Rattle.sf_engine.specs.Turns.{Gives, seated, part, new_part, Settles, has_lane, is_resting, is_under_way, IsLaneOf, PlaceGives, CloseGives, FeedGives, FeedFault, SentGives, SentFault, IsPlaced, is_busy, OpenGives, OpenFault, MayRefuseTurn, stand, IsReady, TurnsGive, GoesFar};
 
 use crate::event::{EngineFault, Happened};
 use sf_call::{Answer, CoreFault};
@@ -15,6 +17,9 @@ use sf_core::{Core, Lane, Step};
 use sf_session::{Cause, Next, Session, SessionFault};
 use std::alloc::Global;
 use std::mem;
+
+/// More steps than any call takes.
+const MANY: u64 = u64::MAX;
 
 /// How far a session is.
 #[derive(Debug)]
@@ -186,6 +191,92 @@ impl Place {
         }
     }
 
+    /// Turns, as long as its call goes on.
+    fn turns(
+        &mut self,
+        core: &mut Core,
+        session: &mut Session,
+        closed: bool,
+        moment: u32,
+    ) -> Result<Happened, EngineFault>
+        requires { IsReady (stand core.old session.old self.old) }
+        ensures { GoesFar (stand core.old session.old self.old) closed moment result (stand core.new session.new self.new) }
+    {
+        match self {
+            Place::Resting(_) => self.read_on(core, session, closed, moment),
+            Place::UnderWay(_) => self.walk_on(core, session, closed),
+            Place::Answered(_, _) => self.turn(core, session, closed, moment),
+            Place::Left(cause) => Ok(Happened::Ended(*cause)),
+        }
+    }
+
+    /// The turns of a resting session: a call that begins goes on.
+    fn read_on(
+        &mut self,
+        core: &mut Core,
+        session: &mut Session,
+        closed: bool,
+        moment: u32,
+    ) -> Result<Happened, EngineFault>
+        requires resting { is_resting self.old ≡ true }
+        requires ready { IsReady (stand core.old session.old self.old) }
+        ensures { GoesFar (stand core.old session.old self.old) closed moment result (stand core.new session.new self.new) }
+    {
+        match self.read(core, session, moment)? {
+            Happened::Begun => self.walk_on(core, session, closed),
+            happened => Ok(happened),
+        }
+    }
+
+    /// The turns of a session whose call is under way: steps up to its answer, and then its reply.
+    fn walk_on(
+        &mut self,
+        core: &mut Core,
+        session: &mut Session,
+        closed: bool,
+    ) -> Result<Happened, EngineFault>
+        requires under_way { is_under_way self.old ≡ true }
+        requires ready { IsReady (stand core.old session.old self.old) }
+        ensures { (moment : ℕ) → GoesFar (stand core.old session.old self.old) closed moment result (stand core.new session.new self.new) }
+    {
+        let Place::UnderWay(lane) = self else {
+            unreachable!();
+        };
+        match core.walk(lane, MANY) {
+            Step::Answered(answer) => self.write_on(core, session, closed, answer),
+            Step::Blocked(holder) => Ok(Happened::Blocked(holder)),
+            Step::Moved => Ok(Happened::Moved),
+            Step::Stranger => unreachable!(),
+        }
+    }
+
+    /// Writes the reply of a call that has just been decided. Where memory is wanting its answer waits.
+    fn write_on(
+        &mut self,
+        core: &mut Core,
+        session: &mut Session,
+        closed: bool,
+        answer: Answer,
+    ) -> Result<Happened, EngineFault>
+        requires under_way { is_under_way self.old ≡ true }
+        requires placed { (lane : LaneView) → IsLaneOf self.old lane → IsPlaced core.old session.old (Place.Answered lane answer) }
+        ensures { (lane : LaneView) → IsLaneOf self.old lane → (moment : ℕ)
+            → TurnsGive 0 (stand core.old session.old (Place.Answered lane answer)) closed moment result (stand core.new session.new self.new)
+            × (goes_on_at result ≡ false) }
+    {
+        let lane = self.take_lane();
+        match session.answer(&answer) {
+            Ok(()) => {
+                *self = settle(core, session, lane, closed);
+                Ok(Happened::Wrote)
+            }
+            Err(_) => {
+                *self = Place::Answered(lane, answer);
+                Err(EngineFault::OutOfMemory)
+            }
+        }
+    }
+
     /// Closing: a session that rests leaves at once. Whether it goes on to its answer first is told with the place.
     fn close(self, core: &mut Core, session: &mut Session) -> (Place, bool)
         requires { IsPlaced core.old session.old self }
@@ -217,6 +308,21 @@ pub(crate) fn turn_seat(
 {
     seat.place
         .turn(core, &mut seat.session, seat.closed, moment)
+}
+
+/// Turns of a session, as long as its call goes on.
+pub(crate) fn turns_seat(
+    core: &mut Core,
+    seat: &mut Seat,
+    moment: u32,
+) -> Result<Happened, EngineFault>
+    requires { IsReady (stand core.old seat.old.session seat.old.place) }
+    ensures turns { GoesFar (stand core.old seat.old.session seat.old.place) seat.old.closed moment result
+        (stand core.new seat.new.session seat.new.place) }
+    ensures closed { seat.new.closed ≡ seat.old.closed }
+{
+    seat.place
+        .turns(core, &mut seat.session, seat.closed, moment)
 }
 
 /// Whether no session's call goes on.

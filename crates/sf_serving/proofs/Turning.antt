@@ -1,5 +1,7 @@
 -- Turns of a session that is served.
 use Rattle.std.proofs.Common.{◌≡◌, ◌≢◌, ◌<◌, ◌⊎◌, ℕ, ◌-◌, List, [], ◌∷◌, ◌++◌, length, Option, Some, Bool, true, false, Result, Ok, Err, slice_get, slice_set, zero, suc, refl, ap, sym, ◌∙◌, subst, inl, inr, append-nil}
+use Rattle.std.specs.Io.KnownBytes.{Appends}
+use Rattle.std.proofs.KnownBytes.{Appends-nil}
 use Rattle.sf_wire.specs.declared.cutting.Cut.TheVariants as cut
 use Rattle.sf_wire.specs.Packets.{IsCut}
 use Rattle.sf_reply.specs.declared.reply.Reply.{Reply}
@@ -12,11 +14,11 @@ use Rattle.sf_engine.specs.declared.event.Happened.{Happened}
 use Rattle.sf_engine.specs.declared.event.Happened.TheVariants as happened
 use Rattle.sf_engine.specs.declared.event.EngineFault.{EngineFault}
 use Rattle.sf_engine.specs.Worlds.{ByCall, Phase, Resting, UnderWay, Decided, Gone, Told, World, with_told, output_of, is_here, is_here_in}
-use Rattle.sf_engine.specs.Traces.{has_begun, IsSession, TakesBytes, LeadsBy, TurnLeads, RestLeads, StepLeads, with_answer, left_if_closed, calls_begun}
+use Rattle.sf_engine.specs.Traces.{has_begun, goes_on, IsSession, TakesBytes, LeadsBy, TurnLeads, RestLeads, StepLeads, with_answer, left_if_closed, calls_begun}
 use Rattle.sf_engine.specs.Views.{EngineView}
-use Rattle.sf_engine.specs.Fits.{GoesOnTrace}
+use Rattle.sf_engine.specs.Fits.{GoesOnTrace, HasTurns}
 use Rattle.sf_line.specs.declared.line_call.LineCall.{LineCall}
-use Rattle.sf_serving.specs.Serving.{Scene, scene, MayBegin, may_begin_after, IsFront, IsLow, IsLowAt, Progress, progress, Serves, IsInStep, GoesOn, HasTurnBy, IsIdle, Turns, timed}
+use Rattle.sf_serving.specs.Serving.{Scene, scene, MayBegin, may_begin_after, IsFront, IsLow, IsLowAt, Progress, progress, Serves, IsInStep, GoesOn, HasTurnBy, IsIdle, Timed, Turns, timed}
 use Rattle.sf_serving.proofs.Causes.{not_closed}
 use Rattle.sf_serving.proofs.Following.{Follows, Leading, Timing, go_on, same_told}
 
@@ -236,9 +238,13 @@ turn_timed s m t r begin moments may (inl told) w w' added session leads = inl t
 turn_timed s m t r begin moments may (inr none) w w' added session leads =
     inr (none.0, turn_begins_none s m t r w w' added (subst (λ (b : Bool). MayBegin b t.phase) none.1 may) session leads)
 
--- one turn
-pub turned_serves : (start : Scene) (incoming outgoing : Option (List ℕ)) (calls : Option (List LineCall)) (told told' : Option (List ℕ)) (e e' : EngineView) (s : ℕ) (begin : Bool) (r : Result Happened EngineFault)
-    → Serves start (scene incoming outgoing calls told e) (HasTurnBy s begin) → Turns (timed e told) s begin r (timed e' told')
+-- one turn, at a moment that the clock told, or at any where no call may begin
+abbrev TurnsOnce : Timed → ℕ → Bool → Result Happened EngineFault → Timed → Type 0
+TurnsOnce x session may_begin result y = (moment : ℕ) × (moments : List ℕ) × GoesOnTrace x.engine (event.Turn session moment) result y.engine
+    × Appends x.told y.told moments × ((moments ≡ moment ∷ []) ⊎ ((moments ≡ []) × (may_begin ≡ false)))
+
+turned_serves : (start : Scene) (incoming outgoing : Option (List ℕ)) (calls : Option (List LineCall)) (told told' : Option (List ℕ)) (e e' : EngineView) (s : ℕ) (begin : Bool) (r : Result Happened EngineFault)
+    → Serves start (scene incoming outgoing calls told e) (HasTurnBy s begin) → TurnsOnce (timed e told) s begin r (timed e' told')
     → Serves start (scene incoming outgoing calls told' e') (TurnedTo s r)
 turned_serves start incoming outgoing calls told told' e e' s begin r serves turns trace fits =
     let h = serves trace fits in
@@ -255,3 +261,36 @@ turned_serves start incoming outgoing calls told told' e e' s begin r serves tur
       g.2,
       turned_to s r p (progress p.session g.0 g.1 p.written) on h.2.0.1 (on.in_step.0, on.in_step.1 ∙ sym after.1) (after.0 ∙ on.fed) after.2,
     )
+
+-- a session whose call is on its way doesn't rest
+goes_busy : (s : ℕ) (h : Happened) (p : Progress) → goes_on h ≡ true → TurnedTo s (Ok h) p → HasTurnBy s false p
+goes_busy s happened.Begun p goes to = to
+goes_busy s happened.Moved p goes to = to
+goes_busy s happened.Decided p goes to = to
+goes_busy s (happened.Opened n) p goes to = absurd cc
+goes_busy s happened.Fed p goes to = absurd cc
+goes_busy s happened.Wrote p goes to = absurd cc
+goes_busy s (happened.Blocked n) p goes to = absurd cc
+goes_busy s happened.Idle p goes to = absurd cc
+goes_busy s (happened.Ended cause) p goes to = absurd cc
+goes_busy s happened.Closed p goes to = absurd cc
+goes_busy s happened.Sent p goes to = absurd cc
+
+-- so many turns that go on, and a last one: the clock told no moment after the first one's
+many_serve : (n : ℕ) (start : Scene) (incoming outgoing : Option (List ℕ)) (calls : Option (List LineCall)) (told told' : Option (List ℕ)) (e e' : EngineView) (s m : ℕ) (begin : Bool) (moments : List ℕ) (r : Result Happened EngineFault)
+    → Serves start (scene incoming outgoing calls told e) (HasTurnBy s begin) → HasTurns n e s m r e' → Appends told told' moments → (moments ≡ m ∷ []) ⊎ ((moments ≡ []) × (begin ≡ false))
+    → Serves start (scene incoming outgoing calls told' e') (TurnedTo s r)
+unfolding HasTurns
+many_serve zero start incoming outgoing calls told told' e e' s m begin moments r serves turns clock timely =
+    turned_serves start incoming outgoing calls told told' e e' s begin r serves (m, moments, turns.0, clock, timely)
+many_serve (suc n) start incoming outgoing calls told told' e e' s m begin moments r serves turns clock timely =
+    let first = turned_serves start incoming outgoing calls told told' e turns.0 s begin (Ok turns.1) serves (m, moments, turns.2, clock, timely) in
+    let busy : Serves start (scene incoming outgoing calls told' turns.0) (HasTurnBy s false) = λ trace fits. let h = first trace fits in (h.0, h.1, goes_busy s turns.1 h.0 turns.3 h.2) in
+    many_serve n start incoming outgoing calls told' told' turns.0 e' s m false [] r busy turns.4 (Appends-nil told') (inr (refl, refl))
+
+-- turns of the session
+pub turns_serve : (start : Scene) (incoming outgoing : Option (List ℕ)) (calls : Option (List LineCall)) (told told' : Option (List ℕ)) (e e' : EngineView) (s : ℕ) (begin : Bool) (r : Result Happened EngineFault)
+    → Serves start (scene incoming outgoing calls told e) (HasTurnBy s begin) → Turns (timed e told) s begin r (timed e' told')
+    → Serves start (scene incoming outgoing calls told' e') (TurnedTo s r)
+turns_serve start incoming outgoing calls told told' e e' s begin r serves turns =
+    many_serve turns.2 start incoming outgoing calls told told' e e' s turns.0 begin turns.1 r serves turns.3 turns.4 turns.5

@@ -22,7 +22,7 @@ use Rattle.sf_engine.specs.declared.event.EngineFault.TheVariants as refused
 use Rattle.sf_engine.specs.Worlds.{Entry, Answered, Phase, Resting, UnderWay, Decided, Gone, Told, World, transcript, output_of, here}
 use Rattle.sf_engine.specs.Traces.{IsSession, Leads, TakesBytes, TakesNone}
 use Rattle.sf_engine.specs.Views.{EngineView}
-use Rattle.sf_engine.specs.Fits.{Fits, GoesOnTrace}
+use Rattle.sf_engine.specs.Fits.{Fits, GoesOnTrace, HasTurns}
 use Rattle.sf_serving.specs.Ends.{IsWhole}
 
 -- What a line still has to give, what it has taken, its calls, and the moments that a clock told, where they tell it; and an
@@ -221,9 +221,9 @@ pub record Timed : Type 0 where
 abbrev pub timed : EngineView → Option (List ℕ) → Timed
 timed engine told = record { engine = engine; told = told }
 
--- The session had a turn, at a moment that the clock told, or at any where no call may begin.
+-- The session had turns, of which all but the last go on, at a moment that the clock told, or at any where no call may begin.
 abbrev pub Turns : Timed → ℕ → Bool → Result Happened EngineFault → Timed → Type 0
-Turns x session may_begin result y = (moment : ℕ) × (moments : List ℕ) × GoesOnTrace x.engine (event.Turn session moment) result y.engine
+Turns x session may_begin result y = (moment : ℕ) × (moments : List ℕ) × (n : ℕ) × HasTurns n x.engine session moment result y.engine
     × Appends x.told y.told moments × ((moments ≡ moment ∷ []) ⊎ ((moments ≡ []) × (may_begin ≡ false)))
 
 -- the event was applied, or refused

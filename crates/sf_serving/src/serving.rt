@@ -114,8 +114,9 @@ fn feed(
     fed
 }
 
-/// One turn of the session. Where no call may begin, its moment has no effect, and the clock isn't asked.
-fn turn<C: Clock>(
+/// Turns of the session, of which all but the last go on. Where no call may begin, their moment has no effect, and
+/// the clock isn't asked.
+fn turns<C: Clock>(
     engine: &mut Engine,
     clock: &mut C,
     session: u64,
@@ -124,10 +125,10 @@ fn turn<C: Clock>(
     ensures { Turns (timed engine.old (C.told clock.old)) session may_begin result (timed engine.new (C.told clock.new)) }
 {
     if !may_begin {
-        return engine.apply(&Event::Turn(session, 0));
+        return engine.turns(session, 0);
     }
     let moment = clock.now();
-    engine.apply(&Event::Turn(session, moment))
+    engine.turns(session, moment)
 }
 
 /// Whether the session's next turn may begin a call.
@@ -217,7 +218,7 @@ fn drain<L: Line, C: Clock>(
 {
     let mut may_begin = true;
     for _ in 0..u64::MAX {
-        let happened = match turn(engine, clock, session, may_begin) {
+        let happened = match turns(engine, clock, session, may_begin) {
             Ok(happened) => happened,
             Err(_) => return Err(ServeFault::OutOfMemory),
         };

@@ -43,6 +43,34 @@ fn removal_waits_for_walker(rt: HostRuntime) -> Result<(), Fail> {
     Ok(())
 }
 
+/// Calls walk on at once: so far, to where another one is in the way, or to their end.
+#[test]
+fn many_steps_at_once(rt: HostRuntime) -> Result<(), Fail> {
+    let alloc = rt.alloc();
+    let (mut core, mut a) = with_a(&rt, alloc)?;
+    let mut b = join(&rt, &mut core);
+    begin(&rt, &mut core, &mut a, stat(alloc, b"/a/f"));
+    begin(&rt, &mut core, &mut b, rmdir(alloc, b"/a"));
+    let before = core.look_ups();
+    assert_eq!(&rt; walk(&rt, &mut core, &mut a, 2), Told::Moved);
+    assert_eq!(&rt; core.look_ups(), before.saturating_add(1));
+    assert_eq!(&rt; walk(&rt, &mut core, &mut b, 300), Told::Blocked(2));
+    records_are(&rt, &core, &[1]);
+    assert_eq!(&rt;
+        walk(&rt, &mut core, &mut a, 300),
+        Told::Status(StatusCode::NoSuchFile)
+    );
+    assert_eq!(&rt;
+        walk(&rt, &mut core, &mut b, 1),
+        Told::Status(StatusCode::Success)
+    );
+    assert_eq!(&rt; core.look_ups(), before.saturating_add(4));
+    records_are(&rt, &core, &[1, 2, 3]);
+    a.abandon();
+    b.abandon();
+    Ok(())
+}
+
 #[test]
 fn root_is_waited_for(rt: HostRuntime) -> Result<(), Fail> {
     let alloc = rt.alloc();

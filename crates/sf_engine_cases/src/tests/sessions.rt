@@ -28,6 +28,44 @@ fn two_sessions(rt: HostRuntime) -> Result<(), Fail> {
     Ok(())
 }
 
+/// All turns of a session up to one that doesn't go on come to this.
+fn goes_on_to(
+    rt: &impl Abort,
+    engine: &mut Engine,
+    session: u64,
+    want: Result<Happened, EngineFault>,
+) {
+    let outcome = engine.turns(session, 100);
+    assert!(rt; outcome == want, "{outcome:?}");
+}
+
+/// One call answers a packet; where another session's call is in the way it stops there.
+#[test]
+fn many_turns_at_once(rt: HostRuntime) -> Result<(), Fail> {
+    let alloc = rt.alloc();
+    let mut engine = Engine::new(alloc)?;
+    opens(&rt, &mut engine, 1);
+    opens(&rt, &mut engine, 2);
+    feeds(&rt, alloc, &mut engine, 1, &[INIT, MKDIR_A])?;
+    feeds(&rt, alloc, &mut engine, 2, &[INIT, STAT_A])?;
+    goes_on_to(&rt, &mut engine, 1, Ok(Happened::Wrote));
+    goes_on_to(&rt, &mut engine, 2, Ok(Happened::Wrote));
+    turns(&rt, &mut engine, 1, Happened::Begun);
+    turns(&rt, &mut engine, 1, Happened::Moved);
+    goes_on_to(&rt, &mut engine, 2, Ok(Happened::Blocked(1)));
+    records_are(&rt, &engine, &[]);
+    goes_on_to(&rt, &mut engine, 1, Ok(Happened::Wrote));
+    goes_on_to(&rt, &mut engine, 2, Ok(Happened::Wrote));
+    goes_on_to(&rt, &mut engine, 2, Ok(Happened::Idle));
+    is_sent(&rt, &engine, 1, &packets(alloc, &[VERSION, OK_7])?);
+    is_sent(&rt, &engine, 2, &packets(alloc, &[VERSION, ATTRS_A])?);
+    records_are(&rt, &engine, &[1, 2]);
+    goes_on_to(&rt, &mut engine, 3, Err(EngineFault::NoSuchSession));
+    comes_to(&rt, &mut engine, Event::Close(1), Ok(Happened::Closed));
+    goes_on_to(&rt, &mut engine, 1, Ok(Happened::Ended(Cause::Closed)));
+    Ok(())
+}
+
 /// `/a` is there. The call of a session that is closed meanwhile is answered, and then the session leaves.
 #[test]
 fn close_under_way(rt: HostRuntime) -> Result<(), Fail> {

@@ -1,0 +1,49 @@
+use Rattle.std.proofs.Common.{◌≡◌, ℕ, ◌≤◌, ◌-◌, ◌^◌, true, Some, refl, arith, ap, sym, subst, inl, inr, slice_get, slice_set, length}
+use Rattle.std.proofs.lemmas.Option.{slice_get_read}
+use Rattle.sf_engine.specs.declared.event.Event.TheVariants as event
+use Rattle.sf_engine.specs.declared.event.EngineFault.TheVariants as fault
+use Rattle.sf_engine.specs.Traces.{goes_on_at}
+use Rattle.sf_engine.specs.Views.{EngineView}
+use Rattle.sf_engine.specs.Fits.{HasTurns}
+use Rattle.sf_engine.proofs.Turning.{engine, no_session, refused_steps}
+use Rattle.sf_engine.proofs.Chains.{seat_turns, no_turns, is_ready}
+use Rattle.sf_engine.proofs.engine.Engine.turns.Goals as goal
+
+pub returns-in_default : goal.returns-in_default
+returns-in_default c =
+    let old = c.args.self.now in
+    let count : length old.seats ≡ length c.self.inside.seats.items = ap (λ (e : EngineView). length e.seats) (sym c.self.view_is) in (
+      0,
+      no_turns old c.args.session c.args.moment fault.NoSuchSession (λ w agrees. refused_steps old (event.Turn c.args.session c.args.moment) fault.NoSuchSession w agrees
+          (no_session old c.args.session w agrees (elim c.in_default.ensures.none [ inl e ↦ inl e | inr lt ↦ inr (omega (arith, lt, count, c.len.ensures, c.self.inside.seats.ok.0)) ]))),
+      λ e. absurd cc,
+    )
+
+pub turns_seat-requires : goal.turns_seat-requires
+turns_seat-requires c =
+    let i = c.self.inside in
+    let at : ℕ = c.in-Some.at in
+    let was : slice_get i.seats.items at ≡ Some c.index_mut.result.now =
+    slice_get_read i.seats.items (length i.seats.items) at c.index_mut.result.now refl (omega (arith, c.in-Some.ensures.some.1, c.len.ensures, i.seats.ok.0)) c.index_mut.ensures.value in
+    is_ready c.self.invariant.0 i.core i.seats.items at c.index_mut.result.now c.self.invariant.1 was
+
+pub invariant_of-self : goal.invariant_of-self
+invariant_of-self c =
+    let i = c.self.inside in
+    let at : ℕ = c.in-Some.at in
+    let was : slice_get i.seats.items at ≡ Some c.index_mut.result.now =
+    slice_get_read i.seats.items (length i.seats.items) at c.index_mut.result.now refl (omega (arith, c.in-Some.ensures.some.1, c.len.ensures, i.seats.ok.0)) c.index_mut.ensures.value in
+    (seat_turns i.core c.turns_seat.new.core i.seats.items at c.args.session c.args.moment c.index_mut.result.now c.turns_seat.new.seat c.turns_seat.result c.in-Some.ensures.some.0 was c.turns_seat.ensures.turns c.turns_seat.ensures.closed).1
+    c.self.invariant
+
+pub returns : goal.returns
+returns c =
+    let i = c.self.inside in
+    let at : ℕ = c.in-Some.at in
+    let was : slice_get i.seats.items at ≡ Some c.index_mut.result.now =
+    slice_get_read i.seats.items (length i.seats.items) at c.index_mut.result.now refl (omega (arith, c.in-Some.ensures.some.1, c.len.ensures, i.seats.ok.0)) c.index_mut.ensures.value in
+    let new : EngineView = engine c.turns_seat.new.core (slice_set i.seats.items at c.turns_seat.new.seat) in
+    let P : EngineView → Type 0 = λ e. (n : ℕ) × HasTurns n e c.args.session c.args.moment c.turns_seat.result new × (goes_on_at c.turns_seat.result ≡ true → 2 ^ 64 - 2 ≤ n) in
+    let k = c.turns_seat.ensures.turns in
+    let has = seat_turns i.core c.turns_seat.new.core i.seats.items at c.args.session c.args.moment c.index_mut.result.now c.turns_seat.new.seat c.turns_seat.result c.in-Some.ensures.some.0 was k c.turns_seat.ensures.closed in
+    subst P c.self.view_is (k.turns, has.0, k.far)
