@@ -96,7 +96,7 @@ impl Book {
         ensures room { self.old.room ≤ self.new.room }
     {
         let left = self.entries.len() - self.gone;
-        self.entries.rotate_left(self.gone);
+        move_to_front(&mut self.entries, self.gone);
         self.entries.truncate(left);
         self.gone = 0;
     }
@@ -140,6 +140,17 @@ impl Book {
         ensures { result ≡ self.now.folded }
     {
         self.folded
+    }
+}
+
+/// Moves the entries from a place on to the front. What stood there is behind them, in any order.
+fn move_to_front(entries: &mut [Record], gone: usize)
+    requires { gone ≤ length entries.old }
+    ensures front { take (length entries.old - gone) entries.new ≡ drop gone entries.old }
+    ensures len { length entries.new ≡ length entries.old }
+{
+    for i in 0..entries.len() - gone {
+        entries.swap(i, gone + i);
     }
 }
 

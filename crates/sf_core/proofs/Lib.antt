@@ -21,3 +21,4 @@ pub mod Preparing
 pub mod Making
 pub mod Beginning
 pub mod Steps
+pub mod UnderWay

@@ -67,6 +67,15 @@ module _ {X : Type 0} where
         | Greater ↦ λ h. let r = count_put es k v h in omega (arith, r)
       ] e
 
+  -- set twice, it has the second value
+  pub set_twice : (test : ℕ → Bool) (es : List (ℕ × X)) (v w : X) → set_value test (set_value test es v) w ≡ set_value test es w
+  set_twice test [] v w = refl
+  set_twice test (x ∷ es) v w =
+      elim (test x.0) as (λ b. test x.0 ≡ b → set_value test (cond b ((x.0, v) ∷ es) (x ∷ set_value test es v)) w ≡ cond b ((x.0, w) ∷ es) (x ∷ set_value test es w)) [
+        | true ↦ λ e. ap (λ b. cond b ((x.0, w) ∷ es) ((x.0, v) ∷ set_value test es w)) e
+        | false ↦ λ e. ap (λ b. cond b ((x.0, w) ∷ set_value test es v) (x ∷ set_value test (set_value test es v) w)) e ∙ ap (λ (rest : List (ℕ × X)). x ∷ rest) (set_twice test es v w)
+      ] refl
+
   pub count_set : (test : ℕ → Bool) (es : List (ℕ × X)) (v : X) → length (set_value test es v) ≡ length es
   count_set test es v = length-set_value test es v
 

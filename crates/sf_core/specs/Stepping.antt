@@ -12,7 +12,7 @@ use Rattle.sf_call.specs.declared.call.Stage.TheVariants as stage
 use Rattle.sf_call.specs.Tree.{Tree}
 use Rattle.sf_call.specs.Calls.{answer_to}
 use Rattle.sf_call.specs.Changes.{moved_by}
-use Rattle.sf_call.specs.Unanswered.{staged, answered}
+use Rattle.sf_call.specs.Unanswered.{at_stage, staged, answered}
 use Rattle.sf_call.specs.Values.{IsCall}
 use Rattle.sf_book.specs.Books.{put}
 use Rattle.sf_inode.specs.Nodes.{with_holder}
@@ -99,6 +99,23 @@ abbrev pub ComesTo : PartsView → PartsView → ℕ → ℕ → Outcome → Typ
 ComesTo p q session number outcome.Foreign = (q ≡ p) × ((c : Call) → call_at p.calls number ≡ Some c → c.session ≡ session → ⊥)
 ComesTo p q session number outcome.Waits = (q ≡ p) × (c : Call) × (call_at p.calls number ≡ Some c) × (c.session ≡ session) × IsSome c.reply
 ComesTo p q session number (outcome.Walked step) = (c : Call) × (call_at p.calls number ≡ Some c) × (c.session ≡ session) × (c.reply ≡ None) × Walked p q c number step
+
+-- the stage after a step
+abbrev pub stage_after : Walk → Stage → Stage
+stage_after (walk.Moved after) at = after
+stage_after (walk.Blocked holder) at = at
+stage_after (walk.Ready found) at = at
+
+-- a sound core on this store, where the call of the number is under way and has come to this stage
+pub record IsUnderWay (p : PartsView) (number : ℕ) (s : StoreState) (c : Call) (at : Stage) : Type 0 where
+  pub core : IsCore p
+  pub store : p.store ≡ s
+  pub call : call_at p.calls number ≡ Some (at_stage at c)
+  pub undecided : c.reply ≡ None
+
+-- the parts where the call of the number has come to a stage, on this store
+abbrev pub come_to : PartsView → ℕ → StoreState → Stage → PartsView
+come_to p number s at = record p { store = s; calls = staged p.calls number at }
 
 -- whether a step moved the call
 abbrev pub is_move : Outcome → Bool

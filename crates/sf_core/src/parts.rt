@@ -6,13 +6,16 @@ ghost use Rattle.sf_call.specs.Requests.{target_of};
 ghost use Rattle.std.specs.Vec.{vec_capacity};
 ghost use Rattle.sf_call.specs.declared.call.Call.{Call};
 ghost use Rattle.sf_call.specs.Tree.{after_front};
+ghost use Rattle.sf_call.specs.Unanswered.{at_stage};
 ghost use Rattle.sf_inode.specs.Stores.{is_directory_at};
 ghost use Rattle.sf_walk.specs.Ways.{path_of, other_of, IsLocated};
-ghost use Rattle.sf_walk.specs.Steps.{Stands};
+ghost use Rattle.sf_walk.specs.Steps.{Stands, Advances};
 ghost use Rattle.sf_core.specs.Cores.{call_at, session_at};
 ghost use Rattle.sf_core.specs.Sound.{IsCore};
 ghost use Rattle.sf_core.specs.Progress.{reply_of, has_passed, is_past, overtaken, undecided_in, copy_of, old_at};
-ghost use Rattle.sf_core.specs.Stepping.{IsNewParts, SameButRoom, Joined, Begun, ComesTo, Finished, Fetched, Overtakes, Helps, HelpsAll, Parted, WalksOn, is_move, freed, set_back, all_set_back};
+ghost use Rattle.sf_core.specs.declared.parts.Outcome.TheVariants as outcome;
+ghost use Rattle.sf_core.specs.Parts.{PartsView};
+ghost use Rattle.sf_core.specs.Stepping.{IsNewParts, SameButRoom, Joined, Begun, Finished, Fetched, Overtakes, Helps, HelpsAll, Parted, IsUnderWay, WalksOn, come_to, is_move, stage_after, freed, set_back, all_set_back};
 
 use crate::sessions::Sessions;
 use sf_book::Book;
@@ -32,15 +35,6 @@ pub(crate) enum Outcome {
     /// Its reply waits for the session.
     Waits,
     Walked(Walk),
-}
-
-impl Outcome {
-    /// Whether the call holds another directory now.
-    fn is_move(&self) -> bool
-        ensures { result ≡ is_move self.now }
-    {
-        matches!(self, Outcome::Walked(Walk::Moved(_)))
-    }
 }
 
 /// The store, the history, and the sessions and calls by their numbers.
@@ -190,13 +184,12 @@ impl Parts {
         Ok(())
     }
 
-    /// Takes a session's call one step on, unless its reply waits.
-    pub(crate) fn walk(&mut self, session: u64, number: u64) -> Outcome
-        requires root { is_directory_at self.old.store.nodes self.old.store.root ≡ true }
-        requires stands { (c : Call) → call_at self.old.calls number ≡ Some c
-            → Stands self.old.store (path_of c.request) (other_of c.request) c.stage }
-        ensures comes { ComesTo self.old self.new session number result }
-        ensures fits { self.old.store.look_ups < 2 ^ 64 }
+    /// Takes a session's call on, up to a step that doesn't move it, by so many steps at most, unless its
+    /// reply waits. The stage that it has come to is noted once.
+    pub(crate) fn walk_on(&mut self, session: u64, number: u64, most: u64) -> Outcome
+        requires core { IsCore self.old }
+        requires some { 0 < most }
+        ensures { WalksOn self.old session number most result self.new }
     {
         let _count = self.store.look_ups();
         let Some(call) = self.calls.get(number) else {
@@ -208,27 +201,10 @@ impl Parts {
         if call.reply.is_some() {
             return Outcome::Waits;
         }
-        let walk = advance(&mut self.store, call);
-        if let Walk::Moved(stage) = walk {
-            self.calls.set_stage(number, stage);
-        }
+        let mut stage = call.stage;
+        let walk = go_on(&mut self.store, call, &mut stage, most);
+        self.calls.set_stage(number, stage);
         Outcome::Walked(walk)
-    }
-
-    /// Takes a session's call on, up to a step that doesn't move it, by so many steps at most.
-    pub(crate) fn walk_on(&mut self, session: u64, number: u64, most: u64) -> Outcome
-        requires core { IsCore self.old }
-        requires some { 0 < most }
-        ensures { WalksOn self.old session number most result self.new }
-    {
-        let mut outcome = self.walk(session, number);
-        for _ in 1..most {
-            if !outcome.is_move() {
-                return outcome;
-            }
-            outcome = self.walk(session, number);
-        }
-        outcome
     }
 
     /// Takes the call of a number out, where its reply waits for the session.
@@ -364,6 +340,47 @@ impl Parts {
         self.sessions.remove(session);
         self.book.put(Record::Left { session });
     }
+}
+
+/// Takes a call on from a stage, up to a step that doesn't move it, by so many steps at most: what came of
+/// the last one is told.
+fn go_on(store: &mut Store, call: &Call, stage: &mut Stage, most: u64) -> Walk
+    requires core { (p : PartsView) × (number : ℕ) × IsUnderWay p number store.old call.now stage.old }
+    requires some { 0 < most }
+    ensures { (p : PartsView) (number : ℕ) → IsUnderWay p number store.old call.now stage.old
+        → WalksOn p call.now.session number most (outcome.Walked result) (come_to p number store.new stage.new) }
+{
+    let mut walk = step(store, call, stage);
+    for _ in 1..most {
+        if !moved(walk) {
+            return walk;
+        }
+        walk = step(store, call, stage);
+    }
+    walk
+}
+
+/// Takes a call one step on from a stage.
+fn step(store: &mut Store, call: &Call, stage: &mut Stage) -> Walk
+    requires root { is_directory_at store.old.nodes store.old.root ≡ true }
+    requires stands { Stands store.old (path_of call.now.request) (other_of call.now.request) stage.old }
+    ensures advances { Advances store.old store.new (at_stage stage.old call.now) result }
+    ensures stage { stage.new ≡ stage_after result stage.old }
+    ensures fits { store.old.look_ups < 2 ^ 64 }
+{
+    let _count = store.look_ups();
+    let walk = advance(store, call, *stage);
+    if let Walk::Moved(after) = walk {
+        *stage = after;
+    }
+    walk
+}
+
+/// Whether the call holds another directory after a step.
+fn moved(walk: Walk) -> bool
+    ensures { result ≡ is_move (outcome.Walked walk) }
+{
+    matches!(walk, Walk::Moved(_))
 }
 
 /// A call that walks may be carried out by another one while its session waits, so its request is there

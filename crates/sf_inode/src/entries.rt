@@ -1,6 +1,6 @@
 //! The entries of a directory.
 
-ghost use Rattle.std.specs.Prelude.{◌≡◌, [], take, IsOk, IfOk, OnOk, OnErr};
+ghost use Rattle.std.specs.Prelude.{◌≡◌, [], take, IsOk, IfOk, IfNone, OnOk, OnErr};
 ghost use Rattle.std.specs.Option.{option_copied};
 ghost use Rattle.std.specs.Map.{lookup, remove_entry};
 ghost use Rattle.std.specs.BTreeMap.{insert_entry};
@@ -62,14 +62,18 @@ impl Entries {
         Ok(())
     }
 
-    /// Takes a name out. A directory without names has no memory.
-    pub(crate) fn remove(&mut self, name: &Name)
-        ensures { self.new ≡ remove_entry (same_name name.now) self.old }
+    /// Takes a name out, and gives the node that it led to. A directory without names has no memory.
+    #[tactic(auto, using(crate::proofs::Absent::absent_removed))]
+    pub(crate) fn remove(&mut self, name: &Name) -> Option<NodeId>
+        ensures node { result ≡ lookup (same_name name.now) self.old }
+        ensures rest { self.new ≡ remove_entry (same_name name.now) self.old }
+        ensures none { IfNone result (self.new ≡ self.old) }
     {
-        self.nodes.remove(name);
+        let node = self.nodes.remove(name);
         if self.nodes.is_empty() {
             self.nodes.clear();
         }
+        node
     }
 
     /// The first entries whose names come after the last one that was given, so many at most. Takes

@@ -71,9 +71,11 @@ impl SessionHandles {
     }
 
     /// Takes a handle out, if it is there.
+    #[tactic(auto, using(crate::proofs::Absent::absent_removed))]
     pub(crate) fn remove(&mut self, number: u64) -> Option<OpenHandle>
         ensures value { result ≡ lookup (is_at (nat_cmp number)) self.old }
         ensures rest { self.new ≡ remove_entry (is_at (nat_cmp number)) self.old }
+        ensures none { IfNone result (self.new ≡ self.old) }
     {
         self.handles.remove(&number)
     }

@@ -117,12 +117,15 @@ impl Node {
         }
     }
 
-    /// Takes a name out of a directory; of a file nothing changes.
-    pub(crate) fn remove_entry(&mut self, name: &Name)
-        ensures { self.new ≡ with_content (less_content name.now) self.old }
+    /// Takes a name out of a directory, and gives the node that it led to; of a file nothing changes.
+    pub(crate) fn remove_entry(&mut self, name: &Name) -> Option<NodeId>
+        ensures node { result ≡ entry_in self.old.content name.now }
+        ensures rest { self.new ≡ with_content (less_content name.now) self.old }
+        ensures none { IfNone result (self.new ≡ self.old) }
     {
-        if let Content::Directory(entries) = &mut self.content {
-            entries.remove(name);
+        match &mut self.content {
+            Content::Directory(entries) => entries.remove(name),
+            Content::File(_) => None,
         }
     }
 

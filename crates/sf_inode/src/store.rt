@@ -1,6 +1,6 @@
 //! The nodes, and what is open.
 
-ghost use Rattle.std.specs.Prelude.{◌≡◌, ◌≤◌, ℕ, ◌+◌, ◌<◌, ◌^◌, [], true, false, length, take, Some, None, IfSome, IfNone, IsOk, IfOk, OnOk, OnErr, option_map};
+ghost use Rattle.std.specs.Prelude.{◌≡◌, ◌≤◌, ℕ, ◌+◌, ◌<◌, ◌^◌, [], true, false, length, take, Some, None, IfSome, IfNone, IsOk, IfOk, OnOk, OnErr, is_some, option_map};
 ghost use Rattle.std.specs.Option.{option_map_or};
 ghost use Rattle.std.specs.declared.alloc.Global.{Global};
 ghost use Rattle.sf_call.specs.Attributes.{attrs_of, with_parts, modified_at};
@@ -223,12 +223,15 @@ impl Store {
         Ok(id)
     }
 
-    /// Takes a name out of a directory.
-    fn take_entry(&mut self, dir: NodeId, name: &Name)
-        ensures { self.new ≡ entry_taken self.old dir name.now }
+    /// Takes a name out of a directory, and gives the node that it led to.
+    fn take_entry(&mut self, dir: NodeId, name: &Name) -> Option<NodeId>
+        ensures node { result ≡ entry_of self.old.nodes dir name.now }
+        ensures rest { self.new ≡ entry_taken self.old dir name.now }
+        ensures none { IfNone result (self.new ≡ self.old) }
     {
-        if let Some(above) = self.nodes.get_mut(dir) {
-            above.remove_entry(name);
+        match self.nodes.get_mut(dir) {
+            Some(above) => above.remove_entry(name),
+            None => None,
         }
     }
 
@@ -269,8 +272,7 @@ impl Store {
     pub fn unlink(&mut self, dir: NodeId, name: &Name)
         ensures { self.new ≡ unlinked self.old dir name.now }
     {
-        if let Some(node) = self.entry(dir, name) {
-            self.take_entry(dir, name);
+        if let Some(node) = self.take_entry(dir, name) {
             self.forget(node);
         }
     }
@@ -424,19 +426,26 @@ impl Store {
         }
     }
 
-    /// Closes a session's handle. Its node goes if nothing else names it.
-    pub fn close(&mut self, session: u64, number: u64)
-        ensures { self.new ≡ closed self.old session number }
+    /// Closes a session's handle, if it is there, and tells whether it was. Its node goes if nothing else
+    /// names it.
+    pub fn close(&mut self, session: u64, number: u64) -> bool
+        ensures told { result ≡ is_some (handle_at self.old session number) }
+        ensures closed { self.new ≡ closed self.old session number }
+        ensures none { result ≡ false → self.new ≡ self.old }
     {
         if let Some(handle) = self.take_handle(session, number) {
             self.let_go(handle.node);
+            return true;
         }
+        false
     }
 
+    #[tactic(auto, using(std::proofs::lemmas::Map::Steps::set_value_same))]
     fn take_handle(&mut self, session: u64, number: u64) -> Option<OpenHandle>
         ensures value { result ≡ handle_at self.old session number }
         ensures rest { self.new
             ≡ handle_dropped self.old session number (handles_of self.old session) }
+        ensures none { IfNone result (self.new ≡ self.old) }
     {
         match self.sessions.get_mut(&session) {
             Some(handles) => handles.remove(number),

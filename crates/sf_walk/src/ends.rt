@@ -2,6 +2,7 @@
 
 ghost use Rattle.std.specs.Prelude.{◌≡◌, ◌+◌, length, Some};
 ghost use Rattle.sf_call.specs.declared.call.Stage.TheVariants as stage;
+ghost use Rattle.sf_call.specs.Unanswered.{at_stage};
 ghost use Rattle.sf_inode.specs.Nodes.{with_holder};
 ghost use Rattle.sf_inode.specs.Stores.{edited};
 ghost use Rattle.sf_walk.specs.Steps.{IsOnWay, Advances, leaving, left_behind};
@@ -25,11 +26,12 @@ pub(crate) struct Ends {
 
 /// Goes one name further with the end of the old path, and with the other once it is at its parent.
 pub(crate) fn at_ends(store: &mut Store, call: &Call, path: &Path, other: &Path, ends: Ends) -> Walk
-    requires walks { Walks call.now path.now (Some other.now)
-        (stage.Ends ends.common ends.old ends.new) }
+    requires walks { Walks (at_stage (stage.Ends ends.common ends.old ends.new) call.now) path.now
+        (Some other.now) (stage.Ends ends.common ends.old ends.new) }
     requires old { IsOnWay store.old path.now ends.old.walked ends.old.node }
     requires new { IsOnWay store.old other.now ends.new.walked ends.new.node }
-    ensures { Advances store.old store.new call.now result }
+    ensures { Advances store.old store.new
+        (at_stage (stage.Ends ends.common ends.old ends.new) call.now) result }
 {
     match look(store, call.number, path, ends.old) {
         Further::AtParent => new_end(store, call, path, other, ends),
@@ -48,12 +50,13 @@ pub(crate) fn at_ends(store: &mut Store, call: &Call, path: &Path, other: &Path,
 
 /// Goes one name further with the end of the new path; the other is at its parent.
 fn new_end(store: &mut Store, call: &Call, path: &Path, other: &Path, ends: Ends) -> Walk
-    requires walks { Walks call.now path.now (Some other.now)
-        (stage.Ends ends.common ends.old ends.new) }
+    requires walks { Walks (at_stage (stage.Ends ends.common ends.old ends.new) call.now) path.now
+        (Some other.now) (stage.Ends ends.common ends.old ends.new) }
     requires old { IsOnWay store.old path.now ends.old.walked ends.old.node }
     requires new { IsOnWay store.old other.now ends.new.walked ends.new.node }
     requires parent { ends.old.walked + 1 ≡ length path.now }
-    ensures { Advances store.old store.new call.now result }
+    ensures { Advances store.old store.new
+        (at_stage (stage.Ends ends.common ends.old ends.new) call.now) result }
 {
     match look(store, call.number, other, ends.new) {
         Further::AtParent => at_parents(store, call, path, other, ends),
@@ -76,13 +79,14 @@ fn new_end(store: &mut Store, call: &Call, path: &Path, other: &Path, ends: Ends
 /// Decides with the parents of both paths held, unless another call holds what the new one leads
 /// to.
 fn at_parents(store: &mut Store, call: &Call, path: &Path, other: &Path, ends: Ends) -> Walk
-    requires walks { Walks call.now path.now (Some other.now)
-        (stage.Ends ends.common ends.old ends.new) }
+    requires walks { Walks (at_stage (stage.Ends ends.common ends.old ends.new) call.now) path.now
+        (Some other.now) (stage.Ends ends.common ends.old ends.new) }
     requires old { IsOnWay store.old path.now ends.old.walked ends.old.node }
     requires new { IsOnWay store.old other.now ends.new.walked ends.new.node }
     requires parent { ends.old.walked + 1 ≡ length path.now }
     requires parent_new { ends.new.walked + 1 ≡ length other.now }
-    ensures { Advances store.old store.new call.now result }
+    ensures { Advances store.old store.new
+        (at_stage (stage.Ends ends.common ends.old ends.new) call.now) result }
 {
     let new = find_last(store, other, ends.new);
     if let Some(holder) = holder_there(store, call.number, new) {

@@ -30,12 +30,10 @@ pub(crate) fn close(store: &mut Store, session: u64, number: u64) -> Reply
     ensures look_ups { store.new.look_ups ≡ store.old.look_ups }
     ensures holders { HoldersStay store.old store.new }
 {
-    match store.handle(session, number) {
-        None => Reply::Status(StatusCode::Failure),
-        Some(_) => {
-            store.close(session, number);
-            Reply::Status(StatusCode::Success)
-        }
+    if store.close(session, number) {
+        Reply::Status(StatusCode::Success)
+    } else {
+        Reply::Status(StatusCode::Failure)
     }
 }
 

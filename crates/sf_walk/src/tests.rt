@@ -131,10 +131,10 @@ fn a_call_takes_the_root(rt: HostRuntime) -> Result<(), Fail> {
     };
     let node = store.root();
     let taken = Stage::At { walked: 0, node };
-    assert_eq!(rt; advance(&mut store, &call), Walk::Moved(taken));
+    assert_eq!(rt; advance(&mut store, &call, call.stage), Walk::Moved(taken));
     assert_eq!(rt; store.holder(node), Some(1));
     call.number = 2;
-    assert_eq!(rt; advance(&mut store, &call), Walk::Blocked(1));
+    assert_eq!(rt; advance(&mut store, &call, call.stage), Walk::Blocked(1));
     Ok(())
 }
 
@@ -197,7 +197,7 @@ fn the_root_does_not_move(rt: HostRuntime) -> Result<(), Fail> {
     };
     assert!(rt; path_of(&call.request).is_none());
     assert!(rt; other_of(&call.request).is_none());
-    let Walk::Ready(ways) = advance(&mut store, &call) else {
+    let Walk::Ready(ways) = advance(&mut store, &call, call.stage) else {
         panic!(rt; "not ready");
     };
     assert!(rt; !is_move(&store, &call, ways));

@@ -3,6 +3,7 @@
 ghost use Rattle.std.specs.Prelude.{◌≡◌, ◌+◌, true, Some, None, length};
 ghost use Rattle.std.specs.Option.{option_copied};
 ghost use Rattle.sf_call.specs.declared.call.Stage.TheVariants as stage;
+ghost use Rattle.sf_call.specs.Unanswered.{at_stage};
 ghost use Rattle.sf_inode.specs.Stores.{is_directory_at};
 ghost use Rattle.sf_walk.specs.Ways.{path_of, other_of};
 ghost use Rattle.sf_walk.specs.Steps.{Stands, IsOnWay, IsBefore, Arrives, Advances};
@@ -37,17 +38,18 @@ pub enum Walk {
 /// It decides with both parents held, once no other call holds what the new path leads to; it
 /// doesn't wait for what the old one leads to. Where one path begins with the other it is a call on
 /// its old path alone, and with the root among them it decides at once.
-pub fn advance(store: &mut Store, call: &Call) -> Walk
+///
+/// The stage that it has come to is told beside it: who makes many steps notes the last one alone.
+pub fn advance(store: &mut Store, call: &Call, stage: Stage) -> Walk
     requires root { is_directory_at store.old.nodes store.old.root ≡ true }
-    requires stands { Stands store.old (path_of call.now.request) (other_of call.now.request)
-        call.now.stage }
-    ensures { Advances store.old store.new call.now result }
+    requires stands { Stands store.old (path_of call.now.request) (other_of call.now.request) stage }
+    ensures { Advances store.old store.new (at_stage stage call.now) result }
 {
     let Some(path) = path_of(&call.request) else {
         return Walk::Ready(Ways::along(Located::NoWay));
     };
     let other = other_of(&call.request);
-    match call.stage {
+    match stage {
         Stage::Fresh => first(store, call, path, other),
         Stage::At { walked, node } => onward(store, call, path, other, Reached { walked, node }),
         Stage::Ends { common, old, new } => match other {
@@ -60,8 +62,9 @@ pub fn advance(store: &mut Store, call: &Call) -> Walk
 /// Takes the root.
 fn first(store: &mut Store, call: &Call, path: &Path, other: Option<&Path>) -> Walk
     requires root { is_directory_at store.old.nodes store.old.root ≡ true }
-    requires walks { Walks call.now path.now (option_copied other) stage.Fresh }
-    ensures { Advances store.old store.new call.now result }
+    requires walks { Walks (at_stage stage.Fresh call.now) path.now (option_copied other)
+        stage.Fresh }
+    ensures { Advances store.old store.new (at_stage stage.Fresh call.now) result }
 {
     let root = store.root();
     if path.is_root() {
@@ -83,10 +86,12 @@ fn first(store: &mut Store, call: &Call, path: &Path, other: Option<&Path>) -> W
 
 /// Goes one name further from a directory.
 fn onward(store: &mut Store, call: &Call, path: &Path, other: Option<&Path>, at: Reached) -> Walk
-    requires walks { Walks call.now path.now (option_copied other) (stage.At at.walked at.node) }
+    requires walks { Walks (at_stage (stage.At at.walked at.node) call.now) path.now
+        (option_copied other) (stage.At at.walked at.node) }
     requires on_way { IsOnWay store.old path.now at.walked at.node }
     requires before { IsBefore path.now (option_copied other) at.walked }
-    ensures { Advances store.old store.new call.now result }
+    ensures { Advances store.old store.new (at_stage (stage.At at.walked at.node) call.now)
+        result }
 {
     match look(store, call.number, path, at) {
         Further::AtParent => at_parent(store, call, path, at),
@@ -102,10 +107,12 @@ fn onward(store: &mut Store, call: &Call, path: &Path, other: Option<&Path>, at:
 
 /// Decides at the parent of a path's last name, unless another call holds what it leads to.
 fn at_parent(store: &mut Store, call: &Call, path: &Path, at: Reached) -> Walk
-    requires walks { Walks call.now path.now None (stage.At at.walked at.node) }
+    requires walks { Walks (at_stage (stage.At at.walked at.node) call.now) path.now None
+        (stage.At at.walked at.node) }
     requires on_way { IsOnWay store.old path.now at.walked at.node }
     requires last { at.walked + 1 ≡ length path.now }
-    ensures { Advances store.old store.new call.now result }
+    ensures { Advances store.old store.new (at_stage (stage.At at.walked at.node) call.now)
+        result }
 {
     let found = find_last(store, path, at);
     match holder_there(store, call.number, found) {

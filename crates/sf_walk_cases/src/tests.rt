@@ -144,7 +144,7 @@ fn by_steps(rt: &impl Abort, store: &mut Store, call: &mut Call) -> Reply {
     call.stage = Stage::Fresh;
     assert!(rt; store.is_directory(store.root()));
     for _ in 0..MANY_STEPS {
-        match advance(store, call) {
+        match advance(store, call, call.stage) {
             Walk::Moved(stage) => call.stage = stage,
             Walk::Blocked(holder) => panic!(rt; "call {holder} still holds a node"),
             Walk::Ready(ways) => {

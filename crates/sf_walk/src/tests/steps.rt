@@ -43,7 +43,7 @@ fn step(store: &mut Store, call: &mut Call) -> Walk
     ensures located { (ways : Ways) → result ≡ Ready ways
         → IsLocated store.new call.new.request ways }
 {
-    let walk = advance(store, call);
+    let walk = advance(store, call, call.stage);
     if let Walk::Moved(stage) = walk {
         call.stage = stage;
     }

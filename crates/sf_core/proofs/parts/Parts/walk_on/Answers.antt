@@ -1,47 +1,55 @@
-use Rattle.std.proofs.Common.{◌∙◌, suc, Some, refl, sym, arith}
-use Rattle.sf_core.specs.Lanes.{LaneView}
-use Rattle.sf_core.proofs.Stepped.{stands}
-use Rattle.sf_core.proofs.Steps.{moved_core, moved_more, none_moved, rooted}
+use Rattle.std.proofs.Common.{◌<◌, ◌^◌, ℕ, refl, sym, ap, subst, ◌∙◌}
+use Rattle.sf_call.specs.declared.call.Call.{Call}
+use Rattle.sf_core.specs.Cores.{call_at}
+use Rattle.sf_core.specs.Parts.{PartsView}
+use Rattle.sf_core.proofs.Sounds.{some_eq, none_some}
+use Rattle.sf_core.proofs.Steps.{none_moved}
 use Rattle.sf_core.proofs.parts.Parts.walk_on.Goals as goal
 
-pub walk-outcome-requires-clause-stands : goal.walk-outcome-requires-clause-stands
-walk-outcome-requires-clause-stands c = stands c.args.self.now c.requires.core.history c.requires.core.sound c.args.number
-
-pub loop-init : goal.loop-init
-loop-init c = record {
-  walks = (
-    0,
-    c.args.self.now,
-    omega arith,
-    none_moved c.args.self.now c.args.session c.args.number,
-    record { core = c.requires.core; fits = c.walk-outcome.ensures.fits; comes = c.walk-outcome.ensures.comes },
-  );
-}
-
-pub walk-outcome-requires-in-loop-clause-root : goal.walk-outcome-requires-in-loop-clause-root
-walk-outcome-requires-in-loop-clause-root c =
-    let lane : LaneView = record { session = c.args.session; call = Some c.args.number; begun = 0 } in
-    let it = c.loop.invariant.walks in
-    rooted c.loop.self (moved_core lane c.args.number refl it.1 c.loop.self c.loop.outcome it.4 (sym c.is_move.ensures ∙ c.if-not-is_move.false))
-
-pub walk-outcome-requires-in-loop-clause-stands : goal.walk-outcome-requires-in-loop-clause-stands
-walk-outcome-requires-in-loop-clause-stands c =
-    let lane : LaneView = record { session = c.args.session; call = Some c.args.number; begun = 0 } in
-    let it = c.loop.invariant.walks in
-    let core = moved_core lane c.args.number refl it.1 c.loop.self c.loop.outcome it.4 (sym c.is_move.ensures ∙ c.if-not-is_move.false) in
-    stands c.loop.self core.history core.sound c.args.number
-
-pub loop-preserved : goal.loop-preserved
-loop-preserved c =
-    let lane : LaneView = record { session = c.args.session; call = Some c.args.number; begun = 0 } in
-    let it = c.loop.invariant.walks in
-    let moves = sym c.is_move.ensures ∙ c.if-not-is_move.false in
+pub returns-in_default : goal.returns-in_default
+returns-in_default c =
+    let none = c.in_default.ensures ∙ ap (λ (p : PartsView). call_at p.calls c.args.number) c.self.view_is in
     record {
-      walks = (
-        suc it.0,
-        c.loop.self,
-        omega (arith, it.2),
-        moved_more lane c.args.number refl it.0 c.args.self.now it.1 c.loop.self c.loop.outcome it.3 it.4 moves,
-        record { core = moved_core lane c.args.number refl it.1 c.loop.self c.loop.outcome it.4 moves; fits = c.walk-outcome-in-loop.ensures.fits; comes = c.walk-outcome-in-loop.ensures.comes },
-      );
+      moves = 0;
+      mid = c.args.self.now;
+      few = c.requires.some;
+      moved = none_moved c.args.self.now c.args.session c.args.number;
+      last = record {
+        core = c.requires.core;
+        fits = subst (λ (k : ℕ). k < 2 ^ 64) (c.look_ups-count.ensures ∙ ap (λ (p : PartsView). p.store.look_ups) c.self.view_is) c.look_ups-count.type_inv;
+        comes = (refl, λ d at same. none_some d (none ∙ at));
+      };
+      full = λ after e. absurd cc;
+    }
+
+pub returns-then-call-session : goal.returns-then-call-session
+returns-then-call-session c =
+    let there = c.in-Some.ensures ∙ ap (λ (p : PartsView). call_at p.calls c.args.number) c.self.view_is in
+    record {
+      moves = 0;
+      mid = c.args.self.now;
+      few = c.requires.some;
+      moved = none_moved c.args.self.now c.args.session c.args.number;
+      last = record {
+        core = c.requires.core;
+        fits = subst (λ (k : ℕ). k < 2 ^ 64) (c.look_ups-count.ensures ∙ ap (λ (p : PartsView). p.store.look_ups) c.self.view_is) c.look_ups-count.type_inv;
+        comes = (refl, λ d at same. c.if-call-session.true (ap (λ (x : Call). x.session) (some_eq c.in-Some.call.now d (there ∙ at)) ∙ same));
+      };
+      full = λ after e. absurd cc;
+    }
+
+pub returns-then-is_some : goal.returns-then-is_some
+returns-then-is_some c =
+    let there = c.in-Some.ensures ∙ ap (λ (p : PartsView). call_at p.calls c.args.number) c.self.view_is in
+    record {
+      moves = 0;
+      mid = c.args.self.now;
+      few = c.requires.some;
+      moved = none_moved c.args.self.now c.args.session c.args.number;
+      last = record {
+        core = c.requires.core;
+        fits = subst (λ (k : ℕ). k < 2 ^ 64) (c.look_ups-count.ensures ∙ ap (λ (p : PartsView). p.store.look_ups) c.self.view_is) c.look_ups-count.type_inv;
+        comes = (refl, c.in-Some.call.now, sym there, c.if-call-session.false, sym c.is_some.ensures ∙ c.if-is_some.true);
+      };
+      full = λ after e. absurd cc;
     }
