@@ -1,5 +1,5 @@
 -- Bytes are fed to a session.
-use Rattle.std.proofs.Common.{◌≡◌, ◌≢◌, ℕ, ◌+◌, List, [], ◌++◌, Some, None, true, false, Result, Ok, Err, IfOk, IfErr, OnErr, slice_get, slice_set, refl, ap, sym, ◌∙◌, subst, inl, inr, append-nil, Vec, Global}
+use Rattle.std.proofs.Common.{◌≡◌, ◌≢◌, ℕ, ◌+◌, List, [], ◌++◌, Some, None, true, false, Result, Ok, Err, IfOk, IfErr, OnErr, slice_get, slice_set, length, ◌<◌, ◌^◌, arith, refl, ap, sym, ◌∙◌, subst, inl, inr, append-nil, Vec, Global}
 use Rattle.sf_call.specs.declared.record.Record.{Record}
 use Rattle.sf_session.specs.Sessions.{SessionView}
 use Rattle.sf_core.specs.Cores.{CoreView}
@@ -68,6 +68,10 @@ feed_fault w v at s bytes p t fault.NoSuchSession session h why = absurd why
 feed_fault w v at s bytes p t fault.Sessions session h why = absurd why
 feed_fault w v at s bytes p t fault.NumbersSpent session h why = absurd why
 feed_fault w v at s bytes p t fault.NotSent session h why = absurd why
+
+-- a vector of these bytes, at the place of another one
+abbrev pub vec_of : {X : Type 0} → Vec X Global → (bytes : List ℕ) → length bytes < 2 ^ 63 → Vec ℕ Global
+vec_of v bytes fits = record { ptr = v.ptr; len = length bytes; cap = length bytes; alloc = v.alloc; items = bytes; ok = (refl, omega arith); small = fits }
 
 pub any_feed_steps : (v : CoreView) (seats : List Seat) (at s : ℕ) (bytes : Vec ℕ Global) (p q : Seat) (r : Result Happened EngineFault) → at + 1 ≡ s → slice_get seats at ≡ Some p
     → IfOk r (λ k. FeedGives p bytes.items k q) → OnErr r (q ≡ p) → IfErr r (λ f. FeedFault p f)

@@ -1,6 +1,7 @@
 //! Many sessions on one core.
 
-ghost use Rattle.std.specs.Prelude.{◌≡◌, ◌<◌, ◌≤◌, ◌+◌, ◌-◌, ◌^◌, ◌⊎◌, ℕ, true, List, [], Some, None, OnErr, IfOk, IfSome, IfNone};
+ghost use Rattle.std.specs.Prelude.{◌≡◌, ◌<◌, ◌≤◌, ◌+◌, ◌-◌, ◌^◌, ◌⊎◌, ℕ, true, List, [], length, Some, None, OnErr, IfOk, IfSome, IfNone};
+ghost use Rattle.std.specs.Global.{Vec};
 ghost use Rattle.sf_core.specs.Cores.{new_core};
 ghost use Rattle.sf_core.specs.Histories.{IsHistory};
 ghost use Rattle.sf_engine.specs.Traces.{goes_on_at, refusals};
@@ -107,16 +108,6 @@ impl Engine {
         open_seat(self.alloc, &mut self.core, &mut self.seats)
     }
 
-    fn feed(&mut self, session: u64, bytes: &Vec<u8>) -> Result<Happened, EngineFault>
-        ensures fits { GoesOnTrace self.old (Event.Feed session bytes.now) result self.new }
-        ensures err { OnErr result (self.new ≡ self.old) }
-    {
-        let Some(at) = index_of(session, self.seats.len()) else {
-            return Err(EngineFault::NoSuchSession);
-        };
-        feed_seat(&mut self.seats[at], bytes)
-    }
-
     fn turn(&mut self, session: u64, moment: u32) -> Result<Happened, EngineFault>
         ensures fits { GoesOnTrace self.old (Event.Turn session moment) result self.new }
         ensures err { OnErr result (self.new ≡ self.old) }
@@ -160,6 +151,20 @@ impl Engine {
             Event::Close(session) => self.close(*session),
             Event::Sent(session, n) => self.send(*session, *n),
         }
+    }
+
+    /// Appends to the bytes that a session has not read, as the event `Feed` of them does, without a copy for the
+    /// event. A slice has fewer than 2^63 bytes.
+    pub fn feed(&mut self, session: u64, bytes: &[u8]) -> Result<Happened, EngineFault>
+        requires { length bytes.now < 2 ^ 63 }
+        ensures fits { (fed : Vec ℕ) → fed.items ≡ bytes.now
+            → GoesOnTrace self.old (Event.Feed session fed) result self.new }
+        ensures err { OnErr result (self.new ≡ self.old) }
+    {
+        let Some(at) = index_of(session, self.seats.len()) else {
+            return Err(EngineFault::NoSuchSession);
+        };
+        feed_seat(&mut self.seats[at], bytes)
     }
 
     /// Turns of a session at a moment, as long as its call is on its way to its reply. What came of the last

@@ -12,13 +12,9 @@ use sf_engine::{Engine, EngineFault, Event, Happened};
 use sf_line::{Line, LineFault, write_all};
 use sf_session::{Cause, Clock, ServeFault};
 use std::alloc::{AllocError, Global};
-use std::mem;
 
 /// How many bytes a read asks for.
 const PIECE: usize = 65536;
-
-/// From how many bytes on what was read is fed without a copy.
-const MUCH: usize = PIECE / 2;
 
 /// How many bytes of replies wait, while whole packets are unread.
 const BATCH: usize = 65536;
@@ -50,68 +46,16 @@ fn open(engine: &mut Engine) -> Result<u64, ServeFault>
     }
 }
 
-/// The session is fed a copy of bytes.
-fn feed_copy(
-    alloc: Global,
-    engine: &mut Engine,
-    session: u64,
-    bytes: &[u8],
-) -> Result<(), AllocError>
-    ensures fed { OnOk result (Feeds engine.old session bytes.now engine.new) }
+/// The session is fed the first bytes of a piece.
+fn feed(engine: &mut Engine, session: u64, piece: &Vec<u8>, n: usize) -> Result<(), AllocError>
+    requires { n ≤ vec_len piece.now }
+    ensures fed { OnOk result (Feeds engine.old session (take n piece.now.items) engine.new) }
     ensures err { OnErr result (engine.new ≡ engine.old) }
 {
-    let event = Event::Feed(session, Vec::from_slice(alloc, bytes)?);
-    let outcome = engine.apply(&event);
-    if outcome.is_err() {
+    if engine.feed(session, &piece[..n]).is_err() {
         return Err(AllocError);
     }
     Ok(())
-}
-
-/// The session is fed all bytes of a piece, which lends them to the event.
-fn feed_whole(
-    alloc: Global,
-    engine: &mut Engine,
-    session: u64,
-    piece: &mut Vec<u8>,
-) -> Result<(), AllocError>
-    ensures fed { OnOk result (Feeds engine.old session piece.old.items engine.new) }
-    ensures err { OnErr result (engine.new ≡ engine.old) }
-    ensures piece { piece.new ≡ piece.old }
-{
-    let event = Event::Feed(session, mem::replace(piece, Vec::new(alloc)));
-    let outcome = engine.apply(&event);
-    if let Event::Feed(_, bytes) = event {
-        *piece = bytes;
-    }
-    if outcome.is_err() {
-        return Err(AllocError);
-    }
-    Ok(())
-}
-
-/// The session is fed the first bytes of a piece. Where they are much of it, they aren't copied, but the
-/// rest of the piece is lost.
-fn feed(
-    alloc: Global,
-    engine: &mut Engine,
-    session: u64,
-    piece: &mut Vec<u8>,
-    n: usize,
-) -> Result<(), AllocError>
-    requires { n ≤ vec_len piece.old }
-    ensures fed { OnOk result (Feeds engine.old session (take n piece.old.items) engine.new) }
-    ensures err { OnErr result (engine.new ≡ engine.old) }
-    ensures len { vec_len piece.new ≡ vec_len piece.old }
-{
-    if n < MUCH {
-        return feed_copy(alloc, engine, session, &piece[..n]);
-    }
-    let len = piece.len();
-    piece.truncate(n);
-    let fed = feed_whole(alloc, engine, session, piece);
-    piece.resize(len, 0).unwrap();
-    fed
 }
 
 /// Turns of the session, of which all but the last go on. Where no call may begin, their moment has no effect, and
@@ -235,7 +179,6 @@ fn drain<L: Line, C: Clock>(
 
 /// Reads a piece, gives turns, and sends. At the end of the input the session is closed.
 fn round<L: Line, C: Clock>(
-    alloc: Global,
     engine: &mut Engine,
     line: &mut L,
     clock: &mut C,
@@ -259,7 +202,7 @@ fn round<L: Line, C: Clock>(
         close(engine, session);
         return Ok(Some(Cause::Closed));
     }
-    feed(alloc, engine, session, piece, n)?;
+    feed(engine, session, piece, n)?;
     let ended = drain(engine, line, clock, session)?;
     send(engine, line, session)?;
     Ok(ended)
@@ -267,7 +210,6 @@ fn round<L: Line, C: Clock>(
 
 /// Serves the session to its end.
 fn serve<L: Line, C: Clock>(
-    alloc: Global,
     engine: &mut Engine,
     line: &mut L,
     clock: &mut C,
@@ -285,7 +227,7 @@ fn serve<L: Line, C: Clock>(
     ensures fault { IfErr result (λ fault. IsRoundFault fault (L.failed line.old) (L.failed line.new)) }
 {
     for _ in 0..u64::MAX {
-        match round(alloc, engine, line, clock, session, piece) {
+        match round(engine, line, clock, session, piece) {
             Ok(Some(cause)) => return Ok(cause),
             Ok(None) => {}
             Err(fault) => return Err(fault),
@@ -352,7 +294,7 @@ pub fn serve_one<L: Line, C: Clock>(
 {
     let mut piece = zeros(alloc, PIECE)?;
     let session = open(engine)?;
-    match serve(alloc, engine, line, clock, session, &mut piece) {
+    match serve(engine, line, clock, session, &mut piece) {
         Ok(cause) => Ok(cause),
         Err(fault) => Err(stop(engine, line, session, fault)),
     }

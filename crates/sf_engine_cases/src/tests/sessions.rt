@@ -66,6 +66,42 @@ fn many_turns_at_once(rt: HostRuntime) -> Result<(), Fail> {
     Ok(())
 }
 
+/// Bytes are fed to a session without an event, and this comes of it.
+fn feeding_comes_to(
+    rt: &impl Abort,
+    engine: &mut Engine,
+    session: u64,
+    bytes: &Vec<u8>,
+    want: Result<Happened, EngineFault>,
+) {
+    let outcome = engine.feed(session, bytes);
+    assert!(rt; outcome == want, "{outcome:?}");
+}
+
+/// The first bytes come alone, and the others later: a session reads them as those of an event.
+#[test]
+fn fed_without_an_event(rt: HostRuntime) -> Result<(), Fail> {
+    let alloc = rt.alloc();
+    let mut engine = Engine::new(alloc)?;
+    let first = packets(alloc, &[INIT, MKDIR_A])?;
+    let later = packets(alloc, &[STAT_A])?;
+    opens(&rt, &mut engine, 1);
+    feeding_comes_to(&rt, &mut engine, 1, &first, Ok(Happened::Fed));
+    goes_on_to(&rt, &mut engine, 1, Ok(Happened::Wrote));
+    feeding_comes_to(&rt, &mut engine, 1, &later, Ok(Happened::Fed));
+    goes_on_to(&rt, &mut engine, 1, Ok(Happened::Wrote));
+    goes_on_to(&rt, &mut engine, 1, Ok(Happened::Wrote));
+    goes_on_to(&rt, &mut engine, 1, Ok(Happened::Idle));
+    let sent = packets(alloc, &[VERSION, OK_7, ATTRS_A])?;
+    is_sent(&rt, &engine, 1, &sent);
+    let unknown = Err(EngineFault::NoSuchSession);
+    feeding_comes_to(&rt, &mut engine, 2, &later, unknown);
+    comes_to(&rt, &mut engine, Event::Close(1), Ok(Happened::Closed));
+    feeding_comes_to(&rt, &mut engine, 1, &later, Err(EngineFault::Ended));
+    is_sent(&rt, &engine, 1, &sent);
+    Ok(())
+}
+
 /// `/a` is there. The call of a session that is closed meanwhile is answered, and then the session leaves.
 #[test]
 fn close_under_way(rt: HostRuntime) -> Result<(), Fail> {
