@@ -105,7 +105,7 @@ fn bytes_outlive_the_name(rt: HostRuntime) -> Result<(), Fail> {
     assert_eq!(rt; store.handles(3), 1);
     store.unlink(root, &name(alloc, b"/a")?);
     assert_eq!(rt; front(&rt, &store, a)?.as_slice(), b"\0\0".as_slice());
-    store.close(3, 10);
+    assert!(rt; store.close(3, 10));
     assert_eq!(rt; size(&rt, &store, a), Some(2));
     assert_eq!(rt; store.handles(3), 0);
     store.close_all(4);
@@ -157,8 +157,10 @@ fn a_named_node_stays_when_closed(rt: HostRuntime) -> Result<(), Fail> {
     };
     assert_eq!(rt; listed.as_slice(), b"k".as_slice());
     assert!(rt; store.handle(4, 10).is_none());
-    store.close(3, 10);
+    assert!(rt; !store.close(4, 10));
+    assert!(rt; store.close(3, 10));
     assert!(rt; store.handle(3, 10).is_none());
+    assert!(rt; !store.close(3, 10));
     assert_eq!(rt; size(&rt, &store, a), Some(0));
     Ok(())
 }
