@@ -160,6 +160,7 @@ impl Core {
 
     /// Steps of the lane's call, one after the other, up to one that doesn't move, and `most` at most: what
     /// came of the last one is told. Between them nothing comes from other sessions.
+    #[inline(always)]
     pub fn walk(&mut self, lane: &mut Lane, most: u64) -> Step
         requires call { IsSome lane.old.call }
         requires some { 0 < most }

@@ -11,6 +11,7 @@ pub mod Feeding
 pub mod Opening
 pub mod Running
 pub mod Quiet
+pub mod Waiting
 pub mod Orders
 pub mod Reading
 pub mod Laws

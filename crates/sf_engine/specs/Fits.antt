@@ -1,5 +1,7 @@
 -- When an engine fits a trace.
 use Rattle.std.specs.Prelude.{◌≡◌, ◌≢◌, ◌<◌, ◌+◌, ◌≤◌, ◌⊎◌, ◌↔◌, IsTrue, Bool, true, OnErr, ℕ, zero, suc, List, [], ◌∷◌, ◌++◌, length, Some, None, Result, Ok, slice_get}
+use Rattle.sf_wire.specs.declared.cutting.Cut.TheVariants as cut
+use Rattle.sf_wire.specs.Packets.{IsCut}
 use Rattle.sf_reply.specs.declared.reply.Reply.{Reply}
 use Rattle.sf_call.specs.declared.call.Call.{Call}
 use Rattle.sf_call.specs.declared.call.Stage.{Stage}
@@ -138,6 +140,15 @@ RunsTrace old events refused new = (trace : List Entry) → Fits old trace
 abbrev pub IsSentBy : EngineView → ℕ → List ℕ → Type 0
 IsSentBy e session output = (trace : List Entry) → (fits : Fits e trace)
     → (t : Told) × IsSession fits.world session t × (transcript t.answers ≡ t.sent ++ output)
+
+-- what is told of a session that waits for bytes: it rests, and no whole packet is unread
+abbrev pub WantsBytes : Told → Type 0
+WantsBytes t = (t.phase ≡ Resting) × IsCut t.unread cut.More
+
+-- whether that is so of a session, by each trace that the engine fits
+abbrev pub WantsBytesBy : EngineView → ℕ → Bool → Type 0
+WantsBytesBy e session wants = (trace : List Entry) → (fits : Fits e trace)
+    → IsTrue wants ↔ ((t : Told) × IsSession fits.world session t × WantsBytes t)
 
 -- no call of a session goes on: none is under way, and no answer waits to be written
 abbrev pub IsQuiet : Phase → Type 0

@@ -5,11 +5,12 @@ ghost use Rattle.std.specs.Global.{Vec};
 ghost use Rattle.sf_core.specs.Cores.{new_core};
 ghost use Rattle.sf_core.specs.Histories.{IsHistory};
 ghost use Rattle.sf_engine.specs.Traces.{goes_on_at, refusals};
-ghost use Rattle.sf_engine.specs.Fits.{Fits, GoesOnTrace, HasTurns, RunsTrace, IsSentBy, IsUnknown, IsQuietBy};
+ghost use Rattle.sf_engine.specs.Fits.{Fits, GoesOnTrace, HasTurns, RunsTrace, IsSentBy, IsUnknown, WantsBytesBy, IsQuietBy};
 
 use crate::event::{EngineFault, Event, Happened};
 use crate::seat::{
     Seat, are_quiet, close_seat, feed_seat, open_seat, send_seat, turn_seat, turns_seat,
+    wants_bytes,
 };
 use sf_core::Core;
 use std::alloc::{AllocError, Global};
@@ -202,6 +203,17 @@ impl Engine {
         };
         let seat = &self.seats[at];
         Some(seat.session.output())
+    }
+
+    /// Whether a session rests with no whole packet unread, and no wrong length: a turn would come to `Idle`. A number
+    /// without a session wants none.
+    pub fn wants_bytes(&self, session: u64) -> bool
+        ensures { WantsBytesBy self.now session result }
+    {
+        let Some(at) = index_of(session, self.seats.len()) else {
+            return false;
+        };
+        wants_bytes(&self.seats[at])
     }
 
     /// Whether no call is under way, and no answer waits to be written.

@@ -1,6 +1,8 @@
 //! One session of an engine: how far it is, and its turns.
 
 ghost use Rattle.std.specs.Prelude.{◌≡◌, ◌≢◌, ◌++◌, ◌∷◌, ◌||◌, ◌↔◌, IsTrue, All, ℕ, Bool, List, [], true, false, Some, None, IfOk, IfErr, OnErr, OnOk, Ok};
+ghost use Rattle.sf_wire.specs.declared.cutting.Cut.TheVariants.{More};
+ghost use Rattle.sf_wire.specs.Packets.{IsCut};
 ghost use Rattle.sf_call.specs.declared.record.Record.{Record};
 ghost use Rattle.sf_call.specs.declared.record.Record.TheVariants.{Left};
 ghost use Rattle.sf_core.specs.Cores.Slot.{Idle};
@@ -192,6 +194,7 @@ impl Place {
     }
 
     /// Turns, as long as its call goes on.
+    #[inline(always)]
     fn turns(
         &mut self,
         core: &mut Core,
@@ -211,6 +214,7 @@ impl Place {
     }
 
     /// The turns of a resting session: a call that begins goes on.
+    #[inline(always)]
     fn read_on(
         &mut self,
         core: &mut Core,
@@ -229,6 +233,7 @@ impl Place {
     }
 
     /// The turns of a session whose call is under way: steps up to its answer, and then its reply.
+    #[inline(always)]
     fn walk_on(
         &mut self,
         core: &mut Core,
@@ -251,6 +256,7 @@ impl Place {
     }
 
     /// Writes the reply of a call that has just been decided. Where memory is wanting its answer waits.
+    #[inline(always)]
     fn write_on(
         &mut self,
         core: &mut Core,
@@ -311,6 +317,7 @@ pub(crate) fn turn_seat(
 }
 
 /// Turns of a session, as long as its call goes on.
+#[inline(always)]
 pub(crate) fn turns_seat(
     core: &mut Core,
     seat: &mut Seat,
@@ -323,6 +330,16 @@ pub(crate) fn turns_seat(
 {
     seat.place
         .turns(core, &mut seat.session, seat.closed, moment)
+}
+
+/// Whether a session rests, with no whole packet unread.
+pub(crate) fn wants_bytes(seat: &Seat) -> bool
+    ensures { IsTrue result ↔ (is_resting seat.now.place ≡ true) × IsCut seat.now.session.unread More }
+{
+    match seat.place {
+        Place::Resting(_) => seat.session.is_drained(),
+        Place::UnderWay(_) | Place::Answered(_, _) | Place::Left(_) => false,
+    }
 }
 
 /// Whether no session's call goes on.

@@ -1,5 +1,5 @@
 -- From one turn to a round, and from a round to the whole.
-use Rattle.std.proofs.Common.{◌≡◌, ◌≤◌, ℕ, List, [], Bool, true, Option, Some, None, Ok, Err, take, refl, subst, inl, inr, arith}
+use Rattle.std.proofs.Common.{◌≡◌, ◌≤◌, ℕ, List, [], ◌++◌, Bool, true, Option, Some, None, Ok, Err, take, refl, subst, inl, inr, arith}
 use Rattle.std.proofs.lemmas.Bool.{cases_lt}
 use Rattle.std.specs.Io.KnownBytes.{IsAtEnd}
 use Rattle.sf_line.specs.Lines.{Rose}
@@ -11,8 +11,11 @@ use Rattle.sf_engine.specs.declared.event.Happened.{Happened}
 use Rattle.sf_engine.specs.declared.event.Happened.TheVariants as happened
 use Rattle.sf_engine.specs.declared.event.EngineFault.{EngineFault}
 use Rattle.sf_engine.specs.Worlds.{Told, transcript}
+use Rattle.sf_engine.specs.Traces.{IsSession}
+use Rattle.sf_engine.specs.Fits.{WantsBytes, WantsBytesBy}
 use Rattle.sf_serving.specs.Serving.{Scene, Progress, progress, may_begin_after, Serves, IsInStep, GoesOn, GoesOnBy, HasTurn, HasTurnBy, HasLeft, IsDrained, IsRounded, HasSentAll, Rests, Stops, IsRoundFault, all_sent, SendsAll, SendsSome}
 use Rattle.sf_serving.specs.Ends.{IsWhole}
+use Rattle.sf_serving.proofs.Following.{same_told}
 use Rattle.sf_serving.proofs.Turning.{TurnedTo}
 use Rattle.sf_serving.proofs.Acting.{HasRead}
 use Rattle.sf_serving.proofs.Ending.{Law, read_of, whole_left}
@@ -22,6 +25,18 @@ serves_more start now P Q f serves trace fits = let h = serves trace fits in (h.
 
 pub idle_drained : (start now : Scene) (s : ℕ) → Serves start now (TurnedTo s (Ok happened.Idle)) → Serves start now (IsDrained s None)
 idle_drained start now s serves = serves_more start now (TurnedTo s (Ok happened.Idle)) (IsDrained s None) (λ p h. h) serves
+
+-- after a reply nothing is unread but the beginning of a packet
+pub waits_drained : (start now : Scene) (s : ℕ) → WantsBytesBy now.engine s true → Serves start now (GoesOn s) → Serves start now (IsDrained s None)
+waits_drained start now s wants serves trace fits =
+    let h = serves trace fits in
+    let p = h.0 in
+    let S = h.1 in
+    let seen = (wants (trace ++ S.entries) S.fit).0 refl in
+    let session : IsSession S.fit.world s p.told = subst (λ (k : ℕ). IsSession S.fit.world k p.told) h.2.in_step.0 S.is_session in
+    let same : seen.0 ≡ p.told = same_told S.fit.world s seen.0 p.told seen.1 session in
+    let now : WantsBytes p.told = subst WantsBytes same seen.2 in
+    (p, S, (h.2, now.0, now.1))
 
 pub ended_drained : Law → (start now : Scene) (s : ℕ) (cause : Cause) → Serves start now (TurnedTo s (Ok (happened.Ended cause))) → Serves start now (IsDrained s (Some cause))
 ended_drained law start now s cause serves trace fits =

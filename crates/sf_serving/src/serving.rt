@@ -169,7 +169,12 @@ fn drain<L: Line, C: Clock>(
         match happened {
             Happened::Idle => return Ok(None),
             Happened::Ended(cause) => return Ok(Some(cause)),
-            Happened::Wrote => send_batch(engine, line, session)?,
+            Happened::Wrote => {
+                if engine.wants_bytes(session) {
+                    return Ok(None);
+                }
+                send_batch(engine, line, session)?;
+            }
             _ => {}
         }
         may_begin = may_begin_after(happened);

@@ -1,6 +1,8 @@
 //! One session: the bytes of its packets to requests, replies to bytes.
 
-ghost use Rattle.std.specs.Prelude.{◌≡◌, ◌≢◌, ◌≤◌, ◌++◌, ◌↔◌, [], length, drop, true, Err, Some, None, IsSome, IfSome, IfOk, OnOk, OnErr};
+ghost use Rattle.std.specs.Prelude.{◌≡◌, ◌≢◌, ◌≤◌, ◌++◌, ◌↔◌, IsTrue, [], length, drop, true, Err, Some, None, IsSome, IfSome, IfOk, OnOk, OnErr};
+ghost use Rattle.sf_wire.specs.declared.cutting.Cut.TheVariants.{More};
+ghost use Rattle.sf_wire.specs.Packets.{IsCut};
 ghost use Rattle.sf_reply.specs.Replies.{reply_body, version_body};
 ghost use Rattle.sf_field.specs.Fields.{packet, max_body};
 ghost use Rattle.sf_session.specs.Sessions.{Fronts, new_session, NextGives, refusal_of};
@@ -10,7 +12,7 @@ use crate::cause::Cause;
 use crate::front::{Front, front_of};
 use bytes::BytesMut;
 use sf_call::{Answer, CoreFault, Request};
-use sf_wire::{Reply, StatusCode, write_reply, write_version};
+use sf_wire::{Cut, Reply, StatusCode, cut, write_reply, write_version};
 use std::alloc::{AllocError, Global};
 use std::marker::Model;
 use std::mem;
@@ -50,8 +52,6 @@ pub struct Session {
     begun: bool,
     waiting: Option<u32>,
     ended: Option<Cause>,
-    /// Whether no whole packet is unread, as far as it was told by `next`.
-    is_idle: bool,
 }
 
 impl Model for Session {
@@ -77,7 +77,6 @@ impl Session {
             begun: false,
             waiting: None,
             ended: None,
-            is_idle: true,
         }
     }
 
@@ -94,8 +93,17 @@ impl Session {
         if self.unread.extend_from_slice(bytes).is_err() {
             return Err(SessionFault::OutOfMemory);
         }
-        self.is_idle = false;
         Ok(())
+    }
+
+    /// Whether less than a packet is unread, and no wrong length. Takes no memory.
+    pub fn is_drained(&self) -> bool
+        ensures { IsTrue result ↔ IsCut self.now.unread More }
+    {
+        match cut(self.unread.as_slice()) {
+            Cut::More => true,
+            Cut::Whole(_) | Cut::Bad(_) => false,
+        }
     }
 
     /// Takes the next packet that is unread and whole.
@@ -134,7 +142,6 @@ impl Session {
         ensures next { result ≡ Next.More }
         ensures session { self.new ≡ self.old }
     {
-        self.is_idle = true;
         self.let_go();
         Next::More
     }
@@ -146,7 +153,6 @@ impl Session {
     {
         self.unread = BytesMut::new(self.alloc);
         self.ended = Some(cause);
-        self.is_idle = true;
         self.let_go();
         Next::Ended(cause)
     }
@@ -193,6 +199,7 @@ impl Session {
         Ok(Next::Local)
     }
 
+    #[inline(always)]
     fn call(&mut self, id: u32, request: Request, len: usize) -> Result<Next, SessionFault>
         requires len { len ≤ length self.old.unread }
         ensures ok { OnOk result (self.new
@@ -210,6 +217,7 @@ impl Session {
     }
 
     /// Appends the reply of the request that the session waits for.
+    #[inline(always)]
     pub fn answer(&mut self, answer: &Answer) -> Result<(), SessionFault>
         requires { IsSome self.old.waiting }
         ensures ok { OnOk result (IfSome self.old.waiting (λ id. self.new
@@ -267,13 +275,13 @@ impl Session {
         self.let_go();
     }
 
-    /// Where it is idle, waits for no answer and has sent all, it keeps no buffer: one that stays would
+    /// Where it is drained, waits for no answer and has sent all, it keeps no buffer: one that stays would
     /// lie above memory that was freed, and the C library could give none of that back. While packets
     /// are unread it keeps it for their replies.
     fn let_go(&mut self)
         ensures { self.new ≡ self.old }
     {
-        if self.is_idle && self.waiting.is_none() && self.output.is_empty() {
+        if self.output.is_empty() && self.waiting.is_none() && self.is_drained() {
             self.output = BytesMut::new(self.alloc);
         }
     }

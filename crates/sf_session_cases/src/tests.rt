@@ -58,6 +58,26 @@ fn bytes_wait_for_a_whole_packet(rt: HostRuntime) -> Result<(), Fail> {
     Ok(())
 }
 
+/// A session is drained until a packet is whole, or its length is wrong.
+#[test]
+fn drained_of_packets(rt: HostRuntime) -> Result<(), Fail> {
+    let mut session = Session::new(rt.alloc());
+    assert!(rt; session.is_drained());
+    session.feed(&INIT[..8])?;
+    assert!(rt; session.is_drained());
+    session.feed(&INIT[8..])?;
+    session.feed(&READLINK[..3])?;
+    assert!(rt; !session.is_drained());
+    assert!(rt; matches!(session.next()?, Next::Local));
+    assert!(rt; session.is_drained());
+    session.feed(&READLINK[3..])?;
+    session.feed(b"\0\0\0\0")?;
+    assert!(rt; !session.is_drained());
+    assert!(rt; matches!(session.next()?, Next::Local));
+    assert!(rt; !session.is_drained());
+    Ok(())
+}
+
 #[test]
 fn an_answer_is_appended(rt: HostRuntime) -> Result<(), Fail> {
     let mut session = waiting(&rt, rt.alloc())?;

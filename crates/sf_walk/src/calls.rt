@@ -88,6 +88,7 @@ pub fn other_of(request: &Request) -> Option<&Path>
 /// Answers a call where its paths were found to lead, without a look-up: its reply twice, once for its
 /// record. A call without a path asks nothing of what was located.
 #[tactic(auto, using(crate::proofs::Refused::keeps_alike, crate::proofs::Trimmed::served_trimmed, crate::proofs::Trimmed::stays_trimmed, crate::proofs::Trimmed::looks_same))]
+#[inline(always)]
 pub fn decide(store: &mut Store, call: &Call, ways: Ways) -> (Reply, Reply)
     requires { IsLocated store.old call.now.request ways }
     ensures served { (t : Tree) → Keeps store.old t → IsUnused t call.now.number
@@ -110,6 +111,7 @@ pub fn decide(store: &mut Store, call: &Call, ways: Ways) -> (Reply, Reply)
 }
 
 #[tactic(auto, using(crate::proofs::Holders::stays_none_new, crate::proofs::Rooted::twice_copies))]
+#[inline(always)]
 fn answer(store: &mut Store, call: &Call, ways: Ways) -> Result<(Reply, Reply), AllocError>
     requires { IsLocated store.old call.now.request ways }
     ensures served { (t : Tree) → Keeps store.old t → IsUnused t call.now.number

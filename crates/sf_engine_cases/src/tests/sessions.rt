@@ -204,3 +204,30 @@ fn output_that_was_sent(rt: HostRuntime) -> Result<(), Fail> {
     );
     Ok(())
 }
+
+/// A session wants bytes where it rests and no whole packet is unread; a number without a session wants none.
+#[test]
+fn bytes_are_wanted(rt: HostRuntime) -> Result<(), Fail> {
+    let alloc = rt.alloc();
+    let mut engine = Engine::new(alloc)?;
+    assert!(rt; !engine.wants_bytes(1));
+    opens(&rt, &mut engine, 1);
+    opens(&rt, &mut engine, 2);
+    assert!(rt; engine.wants_bytes(1));
+    feeds(&rt, alloc, &mut engine, 1, &[INIT, MKDIR_A, "0000000b"])?;
+    assert!(rt; !engine.wants_bytes(1));
+    assert!(rt; engine.wants_bytes(2));
+    turns(&rt, &mut engine, 1, Happened::Wrote);
+    assert!(rt; !engine.wants_bytes(1));
+    for happened in [Happened::Begun, Happened::Moved, Happened::Decided] {
+        turns(&rt, &mut engine, 1, happened);
+        assert!(rt; !engine.wants_bytes(1));
+    }
+    turns(&rt, &mut engine, 1, Happened::Wrote);
+    assert!(rt; engine.wants_bytes(1));
+    comes_to(&rt, &mut engine, Event::Close(1), Ok(Happened::Closed));
+    assert!(rt; !engine.wants_bytes(1));
+    assert!(rt; !engine.wants_bytes(0));
+    assert!(rt; !engine.wants_bytes(3));
+    Ok(())
+}

@@ -1,0 +1,20 @@
+use Rattle.std.proofs.Common.{◌≡◌, ℕ, Some, refl, arith, ap, sym, ◌∙◌, inl, inr, slice_get, length}
+use Rattle.std.proofs.lemmas.Option.{slice_get_read}
+use Rattle.sf_engine.specs.declared.seat.Seat.{Seat}
+use Rattle.sf_engine.specs.Views.{EngineView}
+use Rattle.sf_engine.proofs.Waiting.{wants_is, wants_none}
+use Rattle.sf_engine.proofs.engine.Engine.wants_bytes.Goals as goal
+
+pub returns : goal.returns
+returns c =
+    let i = c.self.inside in
+    let at : ℕ = c.in-Some.at in
+    let seat : Seat = c.index-seats.result.now in
+    let read : slice_get i.seats.items at ≡ Some seat = slice_get_read i.seats.items (length i.seats.items) at seat refl (omega (arith, c.in-Some.ensures.some.1, c.len.ensures, i.seats.ok.0)) c.index-seats.ensures in
+    let was : slice_get c.args.self.now.seats at ≡ Some seat = ap (λ (e : EngineView). slice_get e.seats at) (sym c.self.view_is) ∙ read in
+    wants_is c.args.self.now at c.args.session seat c.wants_bytes.result c.in-Some.ensures.some.0 was c.wants_bytes.ensures
+
+pub returns-in_default : goal.returns-in_default
+returns-in_default c =
+    let count : length c.args.self.now.seats ≡ length c.self.inside.seats.items = ap (λ (e : EngineView). length e.seats) (sym c.self.view_is) in
+    wants_none c.args.self.now c.args.session (elim c.in_default.ensures.none [ inl e ↦ inl e | inr lt ↦ inr (omega (arith, lt, count, c.len.ensures, c.self.inside.seats.ok.0)) ])
