@@ -6,9 +6,9 @@ use Rattle.sf_engine.specs.declared.event.EngineFault.{EngineFault}
 use Rattle.sf_serving.specs.Serving.{scene, may_begin_after, Serves, GoesOn, GoesOnBy, HasTurnBy}
 use Rattle.sf_serving.proofs.Outcomes.{if_err_at}
 use Rattle.sf_serving.proofs.Turning.{turns_serve, TurnedTo}
-use Rattle.sf_serving.proofs.Rounds.{idle_drained, ended_drained, serves_more, still_goes, refused_goes, goes_stops, may_turn, turn_stops}
+use Rattle.sf_serving.proofs.Rounds.{idle_drained, waits_drained, ended_drained, serves_more, still_goes, refused_goes, goes_stops, may_turn, turn_stops}
 use Rattle.sf_serving.proofs.serving.drain.Goals as goal
-use Rattle.sf_serving.proofs.serving.drain.Goals.{in-Wrote+in_ok-send_batch-in-Wrote, in_default}
+use Rattle.sf_serving.proofs.serving.drain.Goals.{in-Wrote+else-wants_bytes+in_ok-send_batch-in-Wrote, in_default}
 
 pub loop-init : goal.loop-init
 loop-init g c = record {
@@ -23,6 +23,15 @@ returns-in-Idle-clause-drained g c = λ start serves.
     let now = scene (g.L.Line.incoming c.loop.line) (g.L.Line.outgoing c.loop.line) (g.L.Line.calls c.loop.line) (g.C.Clock.told c.turns.new.clock) c.turns.new.engine in
     let P : Result Happened EngineFault → Type 0 = λ r. Serves start now (TurnedTo c.args.session r) in
     idle_drained start now c.args.session (subst P (c.in-Ok.is ∙ ap (λ (h : Happened). Ok h) c.in-Idle.is) turned)
+
+pub returns-then-wants_bytes-clause-drained : goal.returns-then-wants_bytes-clause-drained
+returns-then-wants_bytes-clause-drained g c = λ start serves.
+    let turned = turns_serve start (g.L.Line.incoming c.loop.line) (g.L.Line.outgoing c.loop.line) (g.L.Line.calls c.loop.line) (g.C.Clock.told c.loop.clock) (g.C.Clock.told c.turns.new.clock)
+    c.loop.engine c.turns.new.engine c.args.session c.loop.may_begin c.turns.result (c.loop.invariant.serves start serves) c.turns.ensures in
+    let now = scene (g.L.Line.incoming c.loop.line) (g.L.Line.outgoing c.loop.line) (g.L.Line.calls c.loop.line) (g.C.Clock.told c.turns.new.clock) c.turns.new.engine in
+    let P : Result Happened EngineFault → Type 0 = λ r. Serves start now (TurnedTo c.args.session r) in
+    let wrote : Serves start now (GoesOn c.args.session) = subst P (c.in-Ok.is ∙ ap (λ (h : Happened). Ok h) c.in-Wrote.is) turned in
+    waits_drained start now c.args.session c.if-wants_bytes.ensures wrote
 
 pub returns-in-Ended-clause-drained : goal.returns-in-Ended-clause-drained
 returns-in-Ended-clause-drained g c = λ start serves.
@@ -54,7 +63,7 @@ returns-in_err-send_batch-in-Wrote-clause-stops g c =
 pub loop-preserved : goal.loop-preserved
 loop-preserved g c =
     elim c.match-happened.branch [
-      | in-Wrote+in_ok-send_batch-in-Wrote w ↦ rw (w.engine-is, w.line-is) (record {
+      | in-Wrote+else-wants_bytes+in_ok-send_batch-in-Wrote w ↦ rw (w.engine-is, w.line-is) (record {
         serves = λ start serves.
             let turned = turns_serve start (g.L.Line.incoming c.loop.line) (g.L.Line.outgoing c.loop.line) (g.L.Line.calls c.loop.line) (g.C.Clock.told c.loop.clock) (g.C.Clock.told c.turns.new.clock)
             c.loop.engine c.turns.new.engine c.args.session c.loop.may_begin c.turns.result (c.loop.invariant.serves start serves) c.turns.ensures in

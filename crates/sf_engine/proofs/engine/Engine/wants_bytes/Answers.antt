@@ -9,8 +9,8 @@ pub returns : goal.returns
 returns c =
     let i = c.self.inside in
     let at : ℕ = c.in-Some.at in
-    let seat : Seat = c.index-seats.result.now in
-    let read : slice_get i.seats.items at ≡ Some seat = slice_get_read i.seats.items (length i.seats.items) at seat refl (omega (arith, c.in-Some.ensures.some.1, c.len.ensures, i.seats.ok.0)) c.index-seats.ensures in
+    let seat : Seat = c.index.result.now in
+    let read : slice_get i.seats.items at ≡ Some seat = slice_get_read i.seats.items (length i.seats.items) at seat refl (omega (arith, c.in-Some.ensures.some.1, c.len.ensures, i.seats.ok.0)) c.index.ensures in
     let was : slice_get c.args.self.now.seats at ≡ Some seat = ap (λ (e : EngineView). slice_get e.seats at) (sym c.self.view_is) ∙ read in
     wants_is c.args.self.now at c.args.session seat c.wants_bytes.result c.in-Some.ensures.some.0 was c.wants_bytes.ensures
 
