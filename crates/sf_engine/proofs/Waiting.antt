@@ -1,5 +1,5 @@
 -- Whether a session waits for bytes is seen in its seat.
-use Rattle.std.proofs.Common.{◌≡◌, ℕ, ◌+◌, ◌-◌, ◌↔◌, ◌⊎◌, ◌<◌, List, Bool, true, false, Some, None, inl, inr, IsTrue, slice_get, length, ap, sym, ◌∙◌, subst, refl, arith}
+use Rattle.std.proofs.Common.{◌≡◌, ℕ, ◌+◌, ◌↔◌, ◌⊎◌, ◌<◌, List, Bool, true, false, Some, None, inl, inr, IsTrue, slice_get, length, ap, sym, ◌∙◌, subst, refl, arith}
 use Rattle.sf_wire.specs.declared.cutting.Cut.TheVariants as cut
 use Rattle.sf_wire.specs.Packets.{IsCut}
 use Rattle.sf_session.specs.Sessions.{SessionView}

@@ -22,6 +22,9 @@ use thiserror::Error;
 /// keeps small blocks for reuse, wherever they lie, and gives back larger ones.
 const REPLIES: usize = 1088;
 
+/// How often a buffer of that room serves a session that was sent all, before it goes.
+const USES: u32 = 16;
+
 /// Why a call of a session was refused. The session is unchanged then.
 #[derive(Clone, Copy, Debug, PartialEq, Eq, Error)]
 pub enum SessionFault {
@@ -52,6 +55,8 @@ pub struct Session {
     begun: bool,
     waiting: Option<u32>,
     ended: Option<Cause>,
+    /// How often all was sent by the buffer that `output` has.
+    uses: u32,
 }
 
 impl Model for Session {
@@ -77,6 +82,7 @@ impl Session {
             begun: false,
             waiting: None,
             ended: None,
+            uses: 0,
         }
     }
 
@@ -266,7 +272,7 @@ impl Session {
     }
 
     /// Drops the first bytes to be sent, since they were. Takes no memory. A session that has no whole
-    /// packet unread, waits for no answer and has sent all keeps no buffer.
+    /// packet unread, waits for no answer and has sent all keeps a small buffer, or none.
     pub fn take_front(&mut self, n: usize)
         requires { n ≤ length self.old.output }
         ensures { self.new ≡ record self.old { output = drop n self.old.output } }
@@ -275,14 +281,20 @@ impl Session {
         self.let_go();
     }
 
-    /// Where it is drained, waits for no answer and has sent all, it keeps no buffer: one that stays would
-    /// lie above memory that was freed, and the C library could give none of that back. While packets
-    /// are unread it keeps it for their replies.
+    /// Where it is drained, waits for no answer and has sent all, it keeps a small buffer for a few calls more, and no
+    /// other: one that stays would lie above memory that was freed, and the C library could give none of
+    /// that back. While packets are unread it keeps it for their replies.
     fn let_go(&mut self)
         ensures { self.new ≡ self.old }
     {
-        if self.output.is_empty() && self.waiting.is_none() && self.is_drained() {
+        if !self.output.is_empty() || self.waiting.is_some() || !self.is_drained() {
+            return;
+        }
+        self.output.clear();
+        self.uses = self.uses.saturating_add(1);
+        if self.ended.is_some() || self.uses >= USES || self.output.capacity() > REPLIES {
             self.output = BytesMut::new(self.alloc);
+            self.uses = 0;
         }
     }
 
