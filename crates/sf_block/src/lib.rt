@@ -10,6 +10,3 @@ mod contents;
 mod row;
 
 pub use contents::Contents;
-
-#[cfg(test)]
-mod tests;

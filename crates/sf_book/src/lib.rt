@@ -8,6 +8,3 @@
 mod book;
 
 pub use book::Book;
-
-#[cfg(test)]
-mod tests;

@@ -12,6 +12,3 @@ mod lines;
 
 pub use client::Client;
 pub use fault::ClientFault;
-
-#[cfg(test)]
-mod tests;

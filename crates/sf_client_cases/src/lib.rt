@@ -1,4 +1,4 @@
-//! The client's requests, answered by the server.
+//! The client alone, over a line whose replies each test writes, and its requests answered by the server.
 #![tactic(auto)]
 
 #[cfg(test)]

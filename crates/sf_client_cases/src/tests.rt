@@ -13,6 +13,7 @@ use std::alloc::Global;
 use std::process::Abort;
 use std::test::*;
 
+mod alone;
 mod copies;
 
 const INIT: &str = "00000005 01 00000003";

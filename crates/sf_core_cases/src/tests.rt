@@ -8,6 +8,7 @@ use std::alloc::Global;
 use std::process::Abort;
 use std::test::*;
 
+mod book;
 mod drawn;
 mod kept;
 mod rows;

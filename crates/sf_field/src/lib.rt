@@ -26,6 +26,3 @@ pub use writing::{
     attrs_len, put_attrs, put_string, put_u32, put_u64, write_attrs, write_string, write_u32,
     write_u64,
 };
-
-#[cfg(test)]
-mod tests;

@@ -8,6 +8,8 @@ use std::alloc::Global;
 use std::process::Abort;
 use std::test::*;
 
+mod contents;
+
 fn name(alloc: Global, text: &[u8]) -> Result<Name, Fail> {
     let path = Path::parse(alloc, text)?;
     let last = path.len().checked_sub(1).ok_or("no name")?;

@@ -17,6 +17,3 @@ pub use line::{Line, LineFault, write_all};
 pub use line_call::LineCall;
 pub use memory_line::{MemoryLine, Pieces};
 pub use stream_line::StreamLine;
-
-#[cfg(test)]
-mod tests;

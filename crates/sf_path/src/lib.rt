@@ -18,6 +18,3 @@ pub use fault::PathFault;
 pub use laws::{normal_text_again, slash_before};
 pub use name::Name;
 pub use path::Path;
-
-#[cfg(test)]
-mod tests;

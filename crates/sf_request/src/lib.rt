@@ -19,6 +19,3 @@ pub use reading::read_request;
 pub use request::{Asked, WireRequest};
 pub use request_laws::{one_question, sent_requests};
 pub use requesting::{close_packet, init_packet, write_request};
-
-#[cfg(test)]
-mod tests;

@@ -23,6 +23,3 @@ pub use calls::{decide, from_root, from_root_twice, other_of, path_of};
 pub use finding::{Located, Ways, locate};
 pub use renames::is_move;
 pub use walking::{Walk, advance};
-
-#[cfg(test)]
-mod tests;

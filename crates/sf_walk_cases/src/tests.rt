@@ -9,8 +9,10 @@ use std::alloc::Global;
 use std::process::Abort;
 use std::test::*;
 
+mod calls;
 mod drawn;
 mod lists;
+mod steps;
 
 /// A call makes fewer steps than this.
 const MANY_STEPS: usize = 32;

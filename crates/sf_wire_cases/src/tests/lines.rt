@@ -1,0 +1,176 @@
+//! Lines over memory and over streams.
+
+use super::*;
+use sf_line::{Line, LineCall, LineFault, MemoryLine, Pieces, StreamLine, write_all};
+use std::io::{self, ErrorKind, Read, Write};
+
+/// Moves a line's input to its output, and answers how many bytes each read gave.
+fn echo<L: Line>(alloc: Global, line: &mut L) -> Result<Vec<usize>, Fail> {
+    let mut counts = Vec::new(alloc);
+    for _ in 0..16 {
+        let mut buffer = [0u8; 4];
+        let n = line.read(&mut buffer)?;
+        counts.push(n)?;
+        if n == 0 {
+            break;
+        }
+        let mut rest = &buffer[..n];
+        for _ in 0..n {
+            let written = line.write(rest)?;
+            rest = &rest[written..];
+        }
+    }
+    Ok(counts)
+}
+
+#[test]
+fn memory_line(rt: HostRuntime) -> Result<(), Fail> {
+    let alloc = rt.alloc();
+    let pieces = Pieces::new(1, 3);
+    let mut line = MemoryLine::new(alloc, b"abcdefg", pieces, Pieces::new(1, 2));
+    assert_eq!(rt;
+        echo(alloc, &mut line)?.as_slice(),
+        [1usize, 3, 3, 0].as_slice()
+    );
+    assert_eq!(rt; line.output(), b"abcdefg".as_slice());
+    assert_eq!(rt; line.failures(), 0);
+    Ok(())
+}
+
+/// Pieces of a byte and of two bytes.
+#[test]
+fn all_is_written(rt: HostRuntime) -> Result<(), Fail> {
+    let pieces = Pieces::new(1, 2);
+    let mut line = MemoryLine::new(rt.alloc(), b"", pieces, pieces);
+    write_all(&mut line, b"abcd")?;
+    write_all(&mut line, b"")?;
+    write_all(&mut line, b"e")?;
+    assert_eq!(rt; line.output(), b"abcde".as_slice());
+    Ok(())
+}
+
+#[test]
+fn stream_line(rt: HostRuntime) -> Result<(), Fail> {
+    let alloc = rt.alloc();
+    let mut output: Vec<u8> = Vec::new(alloc);
+    let mut line = StreamLine::new(b"abcdefg".as_slice(), &mut output);
+    assert_eq!(rt;
+        echo(alloc, &mut line)?.as_slice(),
+        [4usize, 3, 0].as_slice()
+    );
+    assert_eq!(rt; line.failures(), 0);
+    assert_eq!(rt; output.as_slice(), b"abcdefg".as_slice());
+    Ok(())
+}
+
+/// Is interrupted once, gives one byte, and fails from then on.
+#[derive(Drop)]
+struct Failing {
+    calls: u32,
+}
+
+impl Read for Failing {
+    fn read(&mut self, buf: &mut [u8]) -> io::Result<usize> {
+        self.calls = self.calls.saturating_add(1);
+        match self.calls {
+            1 => Err(ErrorKind::Interrupted.into()),
+            2 if !buf.is_empty() => {
+                buf[0] = b'x';
+                Ok(1)
+            }
+            _ => Err(ErrorKind::ConnectionReset.into()),
+        }
+    }
+}
+
+#[test]
+fn failing_streams(rt: HostRuntime) -> Result<(), Fail> {
+    let mut no_room = [0u8; 0];
+    let mut line = StreamLine::new(Failing { calls: 0 }, no_room.as_mut_slice());
+    let mut buffer = [0u8; 2];
+    assert_eq!(rt; line.read(&mut buffer), Ok(1));
+    assert_eq!(rt; buffer[0], b'x');
+    assert_eq!(rt; line.failures(), 0);
+    assert_eq!(rt; line.read(&mut buffer), Err(LineFault));
+    assert_eq!(rt; line.failures(), 1);
+    assert_eq!(rt; line.write(&buffer), Err(LineFault));
+    assert_eq!(rt; line.failures(), 2);
+    assert_eq!(rt; line.write(&[]), Ok(0));
+    Ok(())
+}
+
+/// Bytes one at a time, more than a million.
+#[test]
+fn a_million_reads(rt: HostRuntime) -> Result<(), Fail> {
+    let alloc = rt.alloc();
+    let input: Vec<u8> = vec![in alloc; 7u8; 1_100_000]?;
+    let mut no_room = [0u8; 0];
+    let mut line = StreamLine::new(input.as_slice(), no_room.as_mut_slice());
+    let ones = Pieces::new(1, 1);
+    let mut memory_line = MemoryLine::new(alloc, &input, ones, ones);
+    let mut buffer = [0u8; 1];
+    for _ in 0..1_100_000 {
+        assert_eq!(rt; line.read(&mut buffer), Ok(1));
+        assert_eq!(rt; memory_line.read(&mut buffer), Ok(1));
+    }
+    assert_eq!(rt; line.read(&mut buffer), Ok(0));
+    assert_eq!(rt; memory_line.read(&mut buffer), Ok(0));
+    assert_eq!(rt; line.failures(), 0);
+    assert_eq!(rt; memory_line.calls().len(), 1_100_001);
+    Ok(())
+}
+
+/// Fails at its first call, and takes all from then on.
+#[derive(Drop)]
+struct FailsOnce {
+    calls: u32,
+}
+
+impl Write for FailsOnce {
+    fn write(&mut self, buf: &[u8]) -> io::Result<usize> {
+        self.calls = self.calls.saturating_add(1);
+        if self.calls == 1 {
+            return Err(ErrorKind::ConnectionReset.into());
+        }
+        Ok(buf.len())
+    }
+
+    fn flush(&mut self) -> io::Result<()> {
+        Ok(())
+    }
+}
+
+/// An error that is no interruption is one fault after one call.
+#[test]
+fn a_writer_that_fails_once(rt: HostRuntime) -> Result<(), Fail> {
+    let mut writer = FailsOnce { calls: 0 };
+    let mut line = StreamLine::new(b"".as_slice(), &mut writer);
+    assert_eq!(rt; line.write(b"ab"), Err(LineFault));
+    assert_eq!(rt; line.failures(), 1);
+    assert_eq!(rt; line.write(b"ab"), Ok(2));
+    assert_eq!(rt; line.failures(), 1);
+    assert_eq!(rt; writer.calls, 2);
+    Ok(())
+}
+
+/// The calls are told in the order in which they were made.
+#[test]
+fn calls_in_order(rt: HostRuntime) -> Result<(), Fail> {
+    let alloc = rt.alloc();
+    let pieces = Pieces::new(2, 3);
+    let mut line = MemoryLine::new(alloc, b"abc", pieces, pieces);
+    let mut buffer = [0u8; 4];
+    assert_eq!(rt; line.read(&mut buffer), Ok(2));
+    write_all(&mut line, b"vwxyz")?;
+    assert_eq!(rt; line.read(&mut buffer), Ok(1));
+    assert_eq!(rt; line.read(&mut buffer), Ok(0));
+    let want = [
+        LineCall::Read(2),
+        LineCall::Write(2),
+        LineCall::Write(3),
+        LineCall::Read(1),
+        LineCall::Read(0),
+    ];
+    assert_eq!(rt; line.calls(), want.as_slice());
+    Ok(())
+}
