@@ -5,6 +5,7 @@ use sf_field::{Attrs, ByteString, OpenFlags, Owner, Times};
 use sf_path::Path;
 use sf_reply::{Reply, StatusCode};
 use std::alloc::{AllocError, Global};
+use std::process::Abort;
 use std::test::*;
 
 const NOTHING: Attrs = Attrs {
@@ -110,27 +111,29 @@ fn copies_of_requests(rt: HostRuntime) -> Result<(), Fail> {
     Ok(())
 }
 
+fn is_copied(rt: &impl Abort, alloc: Global, handle: &Handle) -> Result<(), Fail> {
+    let copy = handle.try_copy(alloc)?;
+    assert_eq!(rt; (copy.session, copy.label), (handle.session, handle.label));
+    assert_eq!(rt; copy.read, handle.read);
+    assert_eq!(rt; copy.write, handle.write);
+    assert_eq!(rt; copy.append, handle.append);
+    assert_eq!(rt; copy.listed, handle.listed);
+    Ok(())
+}
+
 #[test]
 fn copies_of_handles(rt: HostRuntime) -> Result<(), Fail> {
+    let alloc = rt.alloc();
+    let path = Path::parse(alloc, b"/n05")?;
     let listed = Handle {
         session: 3,
         label: 7,
         read: true,
         write: false,
         append: true,
-        listed: Some(
-            Path::parse(rt.alloc(), b"/n05")?
-                .name(0)
-                .try_copy(rt.alloc())?,
-        ),
+        listed: Some(path.name(0).try_copy(alloc)?),
     };
-    let copy = listed.try_copy(rt.alloc())?;
-    assert_eq!(rt; (copy.session, copy.label), (3, 7));
-    assert_eq!(rt; (copy.read, copy.write, copy.append), (true, false, true));
-    let Some(name) = copy.listed else {
-        panic!(rt; "no name");
-    };
-    assert_eq!(rt; name.as_slice(), b"n05".as_slice());
+    is_copied(&rt, alloc, &listed)?;
     let writing = Handle {
         session: 4,
         label: 8,
@@ -139,11 +142,7 @@ fn copies_of_handles(rt: HostRuntime) -> Result<(), Fail> {
         append: false,
         listed: None,
     };
-    let copy = writing.try_copy(rt.alloc())?;
-    assert_eq!(rt; (copy.session, copy.label), (4, 8));
-    assert_eq!(rt; (copy.read, copy.write, copy.append), (false, true, false));
-    assert!(rt; copy.listed.is_none());
-    Ok(())
+    is_copied(&rt, alloc, &writing)
 }
 
 #[test]

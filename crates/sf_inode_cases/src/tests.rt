@@ -37,58 +37,174 @@ fn marks(read: bool) -> Marks {
     }
 }
 
-/// The first four bytes of a file, or all where it has fewer.
-fn front(rt: &HostRuntime, store: &Store, node: NodeId) -> Result<ByteString, Fail> {
-    let file = store.file(node).ok_or("no file")?;
-    Ok(file.read(rt.alloc(), 0, 4)?)
+/// A store whose names are texts. Its methods compare what the store tells with what a test wants, so that the tests
+/// are lists of them.
+#[derive(Drop)]
+struct Ground {
+    store: Store,
+    alloc: Global,
 }
 
-/// The size of a node that is there.
-fn size(rt: &impl Abort, store: &Store, node: NodeId) -> Option<u64> {
-    match store.attrs(node) {
-        Some(attrs) => attrs.size,
-        None => panic!(rt; "no node"),
+impl Ground {
+    fn new(alloc: Global) -> Result<Ground, Fail> {
+        let store = Store::new(alloc)?;
+        Ok(Ground { store, alloc })
+    }
+
+    fn root(&self) -> NodeId {
+        self.store.root()
+    }
+
+    fn makes(&mut self, parent: NodeId, text: &[u8], made: NewNode) -> Result<NodeId, Fail> {
+        let name = name(self.alloc, text)?;
+        Ok(self.store.insert(parent, name, made)?)
+    }
+
+    fn directory(&mut self, parent: NodeId, text: &[u8], label: u64) -> Result<NodeId, Fail> {
+        self.makes(parent, text, made(label, FileType::Directory))
+    }
+
+    fn file(&mut self, parent: NodeId, text: &[u8], label: u64) -> Result<NodeId, Fail> {
+        self.makes(parent, text, made(label, FileType::File))
+    }
+
+    fn unlink(&mut self, parent: NodeId, text: &[u8]) -> Result<(), Fail> {
+        self.store.unlink(parent, &name(self.alloc, text)?);
+        Ok(())
+    }
+
+    fn relink(
+        &mut self,
+        parent: NodeId,
+        text: &[u8],
+        to: NodeId,
+        new_text: &[u8],
+    ) -> Result<(), Fail> {
+        let old = name(self.alloc, text)?;
+        let new = name(self.alloc, new_text)?;
+        Ok(self.store.relink(parent, &old, to, new)?)
+    }
+
+    fn open(&mut self, session: u64, number: u64, node: NodeId, read: bool) -> Result<(), Fail> {
+        Ok(self.store.open(session, number, node, marks(read))?)
+    }
+
+    /// Whether a handle was there to be closed.
+    fn closes(&mut self, rt: &impl Abort, session: u64, number: u64, want: bool) {
+        assert!(rt; self.store.close(session, number) == want);
+    }
+
+    fn has_handles(&self, rt: &impl Abort, session: u64, want: usize) {
+        assert_eq!(rt; self.store.handles(session), want);
+    }
+
+    fn has_no_handle(&self, rt: &impl Abort, session: u64, number: u64) {
+        assert!(rt; self.store.handle(session, number).is_none());
+    }
+
+    fn finds(
+        &mut self,
+        rt: &impl Abort,
+        parent: NodeId,
+        text: &[u8],
+        want: Option<NodeId>,
+    ) -> Result<(), Fail> {
+        let found = self.store.find(parent, &name(self.alloc, text)?);
+        assert_eq!(rt; found, want);
+        Ok(())
+    }
+
+    fn is_empty(&self, rt: &impl Abort, node: NodeId, want: bool) {
+        assert!(rt; self.store.is_empty(node) == want);
+    }
+
+    fn is_directory(&self, rt: &impl Abort, node: NodeId, want: bool) {
+        assert!(rt; self.store.is_directory(node) == want);
+    }
+
+    fn is_held(&self, rt: &impl Abort, node: NodeId, want: Option<u64>) {
+        assert_eq!(rt; self.store.holder(node), want);
+    }
+
+    fn is_gone(&self, rt: &impl Abort, node: NodeId) {
+        assert_eq!(rt; self.store.attrs(node), None);
+    }
+
+    /// The size of a node that is there.
+    fn has_size(&self, rt: &impl Abort, node: NodeId, want: u64) {
+        match self.store.attrs(node) {
+            Some(attrs) => assert_eq!(rt; attrs.size, Some(want)),
+            None => panic!(rt; "no node"),
+        }
+    }
+
+    /// The names in the root after one of them, so many at most. Each is found, and leads to the node that stands
+    /// beside it.
+    fn lists(
+        &mut self,
+        rt: &impl Abort,
+        after: Option<&[u8]>,
+        most: usize,
+        want: &[&[u8]],
+    ) -> Result<(), Fail> {
+        let root = self.root();
+        let last = match after {
+            Some(text) => Some(name(self.alloc, text)?),
+            None => None,
+        };
+        let found = self.store.entries_after(root, last.as_ref(), most)?;
+        assert_eq!(rt; found.len(), want.len());
+        for ((found_name, node), want) in found.iter().zip(want) {
+            assert_eq!(rt; found_name.as_slice(), *want);
+            assert_eq!(rt; self.store.find(root, found_name), Some(*node));
+        }
+        Ok(())
+    }
+
+    /// The first four bytes of a file, or all where it has fewer.
+    fn begins(&self, rt: &impl Abort, node: NodeId, want: &[u8]) -> Result<(), Fail> {
+        let file = self.store.file(node).ok_or("no file")?;
+        assert_eq!(rt; file.read(self.alloc, 0, 4)?.as_slice(), want);
+        Ok(())
     }
 }
 
 #[test]
 fn find_what_was_inserted(rt: HostRuntime) -> Result<(), Fail> {
-    let alloc = rt.alloc();
-    let mut store = Store::new(alloc)?;
-    let root = store.root();
-    assert!(rt; store.is_empty(root));
-    let a = store.insert(root, name(alloc, b"/a")?, made(1, FileType::Directory))?;
-    let b = store.insert(a, name(alloc, b"/b")?, made(2, FileType::File))?;
-    assert!(rt; !store.is_empty(root));
-    assert!(rt; store.is_directory(a));
-    assert!(rt; !store.is_directory(b));
-    assert_eq!(rt; store.find(root, &name(alloc, b"/a")?), Some(a));
-    assert_eq!(rt; store.find(a, &name(alloc, b"/b")?), Some(b));
-    assert_eq!(rt; store.find(root, &name(alloc, b"/b")?), None);
-    assert_eq!(rt; store.look_ups(), 3);
-    store.unlink(a, &name(alloc, b"/b")?);
-    assert_eq!(rt; store.find(a, &name(alloc, b"/b")?), None);
-    assert_eq!(rt; store.attrs(b), None);
-    assert!(rt; store.is_empty(a));
+    let mut ground = Ground::new(rt.alloc())?;
+    let root = ground.root();
+    ground.is_empty(&rt, root, true);
+    let a = ground.directory(root, b"/a", 1)?;
+    let b = ground.file(a, b"/b", 2)?;
+    ground.is_empty(&rt, root, false);
+    ground.is_directory(&rt, a, true);
+    ground.is_directory(&rt, b, false);
+    ground.finds(&rt, root, b"/a", Some(a))?;
+    ground.finds(&rt, a, b"/b", Some(b))?;
+    ground.finds(&rt, root, b"/b", None)?;
+    assert_eq!(rt; ground.store.look_ups(), 3);
+    ground.unlink(a, b"/b")?;
+    ground.finds(&rt, a, b"/b", None)?;
+    ground.is_gone(&rt, b);
+    ground.is_empty(&rt, a, true);
     Ok(())
 }
 
 #[test]
 fn hold_set_and_touch(rt: HostRuntime) -> Result<(), Fail> {
-    let alloc = rt.alloc();
-    let mut store = Store::new(alloc)?;
-    let root = store.root();
-    let a = store.insert(root, name(alloc, b"/a")?, made(1, FileType::File))?;
-    store.hold(a, 7);
-    assert_eq!(rt; store.holder(a), Some(7));
-    assert_eq!(rt; store.holder(root), None);
-    store.free(a);
-    assert_eq!(rt; store.holder(a), None);
+    let mut ground = Ground::new(rt.alloc())?;
+    let root = ground.root();
+    let a = ground.file(root, b"/a", 1)?;
+    ground.store.hold(a, 7);
+    ground.is_held(&rt, a, Some(7));
+    ground.is_held(&rt, root, None);
+    ground.store.free(a);
+    ground.is_held(&rt, a, None);
     let mut attrs = NO_ATTRS;
     attrs.permissions = Some(0o600);
-    store.set(a, &attrs);
-    store.touch(a, 9);
-    let attrs = store.attrs(a).ok_or("no attributes")?;
+    ground.store.set(a, &attrs);
+    ground.store.touch(a, 9);
+    let attrs = ground.store.attrs(a).ok_or("no attributes")?;
     assert_eq!(rt; attrs.permissions, Some(0o100600));
     assert_eq!(rt; attrs.times, Some(Times { atime: 5, mtime: 9 }));
     Ok(())
@@ -96,22 +212,21 @@ fn hold_set_and_touch(rt: HostRuntime) -> Result<(), Fail> {
 
 #[test]
 fn bytes_outlive_the_name(rt: HostRuntime) -> Result<(), Fail> {
-    let alloc = rt.alloc();
-    let mut store = Store::new(alloc)?;
-    let root = store.root();
-    let a = store.insert(root, name(alloc, b"/a")?, made(1, FileType::File))?;
-    store.set_len(a, 2)?;
-    assert_eq!(rt; size(&rt, &store, a), Some(2));
-    store.open(3, 10, a, marks(true))?;
-    store.open(4, 11, a, marks(false))?;
-    assert_eq!(rt; store.handles(3), 1);
-    store.unlink(root, &name(alloc, b"/a")?);
-    assert_eq!(rt; front(&rt, &store, a)?.as_slice(), b"\0\0".as_slice());
-    assert!(rt; store.close(3, 10));
-    assert_eq!(rt; size(&rt, &store, a), Some(2));
-    assert_eq!(rt; store.handles(3), 0);
-    store.close_all(4);
-    assert_eq!(rt; store.attrs(a), None);
+    let mut ground = Ground::new(rt.alloc())?;
+    let root = ground.root();
+    let a = ground.file(root, b"/a", 1)?;
+    ground.store.set_len(a, 2)?;
+    ground.has_size(&rt, a, 2);
+    ground.open(3, 10, a, true)?;
+    ground.open(4, 11, a, false)?;
+    ground.has_handles(&rt, 3, 1);
+    ground.unlink(root, b"/a")?;
+    ground.begins(&rt, a, b"\0\0")?;
+    ground.closes(&rt, 3, 10, true);
+    ground.has_size(&rt, a, 2);
+    ground.has_handles(&rt, 3, 0);
+    ground.store.close_all(4);
+    ground.is_gone(&rt, a);
     Ok(())
 }
 
@@ -119,38 +234,27 @@ fn bytes_outlive_the_name(rt: HostRuntime) -> Result<(), Fail> {
 #[test]
 fn written_bytes_are_read(rt: HostRuntime) -> Result<(), Fail> {
     let alloc = rt.alloc();
-    let mut store = Store::new(alloc)?;
-    let root = store.root();
-    let metadata = Metadata {
-        owner: Owner { uid: 1, gid: 2 },
-        permissions: 0o644,
-        times: Times { atime: 5, mtime: 5 },
-    };
-    let file_type = FileType::File;
-    let new = NewNode {
-        label: 1,
-        file_type,
-        metadata,
-    };
-    let a = store.insert(root, name(alloc, b"/a")?, new)?;
-    store.write(a, 1, &ByteString::from_slice(alloc, b"xy")?)?;
-    assert_eq!(rt; front(&rt, &store, a)?.as_slice(), b"\0xy".as_slice());
-    assert!(rt; store.file(root).is_none());
-    store.set_len(a, 2)?;
-    assert_eq!(rt; size(&rt, &store, a), Some(2));
-    assert_eq!(rt; front(&rt, &store, a)?.as_slice(), b"\0x".as_slice());
-    Ok(())
+    let mut ground = Ground::new(alloc)?;
+    let root = ground.root();
+    let a = ground.file(root, b"/a", 1)?;
+    let bytes = ByteString::from_slice(alloc, b"xy")?;
+    ground.store.write(a, 1, &bytes)?;
+    ground.begins(&rt, a, b"\0xy")?;
+    assert!(rt; ground.store.file(root).is_none());
+    ground.store.set_len(a, 2)?;
+    ground.has_size(&rt, a, 2);
+    ground.begins(&rt, a, b"\0x")
 }
 
 #[test]
 fn a_named_node_stays_when_closed(rt: HostRuntime) -> Result<(), Fail> {
     let alloc = rt.alloc();
-    let mut store = Store::new(alloc)?;
-    let root = store.root();
-    let a = store.insert(root, name(alloc, b"/a")?, made(1, FileType::Directory))?;
-    store.open(3, 10, a, marks(true))?;
-    store.listed(3, 10, &name(alloc, b"/k")?)?;
-    let handle = store.handle(3, 10).ok_or("no handle")?;
+    let mut ground = Ground::new(alloc)?;
+    let root = ground.root();
+    let a = ground.directory(root, b"/a", 1)?;
+    ground.open(3, 10, a, true)?;
+    ground.store.listed(3, 10, &name(alloc, b"/k")?)?;
+    let handle = ground.store.handle(3, 10).ok_or("no handle")?;
     assert_eq!(rt; handle.node, a);
     assert_eq!(rt; handle.label, 1);
     assert_eq!(rt; handle.marks, marks(true));
@@ -158,53 +262,44 @@ fn a_named_node_stays_when_closed(rt: HostRuntime) -> Result<(), Fail> {
         panic!(rt; "nothing listed");
     };
     assert_eq!(rt; listed.as_slice(), b"k".as_slice());
-    assert!(rt; store.handle(4, 10).is_none());
-    assert!(rt; !store.close(4, 10));
-    assert!(rt; store.close(3, 10));
-    assert!(rt; store.handle(3, 10).is_none());
-    assert!(rt; !store.close(3, 10));
-    assert_eq!(rt; size(&rt, &store, a), Some(0));
+    ground.has_no_handle(&rt, 4, 10);
+    ground.closes(&rt, 4, 10, false);
+    ground.closes(&rt, 3, 10, true);
+    ground.has_no_handle(&rt, 3, 10);
+    ground.closes(&rt, 3, 10, false);
+    ground.has_size(&rt, a, 0);
     Ok(())
 }
 
 #[test]
 fn rename_with_what_lies_below_and_over_a_file(rt: HostRuntime) -> Result<(), Fail> {
-    let alloc = rt.alloc();
-    let mut store = Store::new(alloc)?;
-    let root = store.root();
-    let a = store.insert(root, name(alloc, b"/a")?, made(1, FileType::Directory))?;
-    let b = store.insert(a, name(alloc, b"/b")?, made(2, FileType::File))?;
-    store.relink(root, &name(alloc, b"/a")?, root, name(alloc, b"/c")?)?;
-    assert_eq!(rt; store.find(root, &name(alloc, b"/a")?), None);
-    assert_eq!(rt; store.find(root, &name(alloc, b"/c")?), Some(a));
-    assert_eq!(rt; store.find(a, &name(alloc, b"/b")?), Some(b));
-    let f = store.insert(root, name(alloc, b"/f")?, made(3, FileType::File))?;
-    store.relink(a, &name(alloc, b"/b")?, root, name(alloc, b"/f")?)?;
-    assert_eq!(rt; store.find(root, &name(alloc, b"/f")?), Some(b));
-    assert_eq!(rt; store.find(a, &name(alloc, b"/b")?), None);
-    assert_eq!(rt; store.attrs(f), None);
+    let mut ground = Ground::new(rt.alloc())?;
+    let root = ground.root();
+    let a = ground.directory(root, b"/a", 1)?;
+    let b = ground.file(a, b"/b", 2)?;
+    ground.relink(root, b"/a", root, b"/c")?;
+    ground.finds(&rt, root, b"/a", None)?;
+    ground.finds(&rt, root, b"/c", Some(a))?;
+    ground.finds(&rt, a, b"/b", Some(b))?;
+    let f = ground.file(root, b"/f", 3)?;
+    ground.relink(a, b"/b", root, b"/f")?;
+    ground.finds(&rt, root, b"/f", Some(b))?;
+    ground.finds(&rt, a, b"/b", None)?;
+    ground.is_gone(&rt, f);
     Ok(())
 }
 
 #[test]
 fn entries_in_the_order_of_their_names(rt: HostRuntime) -> Result<(), Fail> {
     let alloc = rt.alloc();
-    let mut store = Store::new(alloc)?;
-    let root = store.root();
+    let mut ground = Ground::new(alloc)?;
+    let root = ground.root();
     for (label, text) in [(1, b"/m"), (2, b"/c"), (3, b"/x"), (4, b"/a")] {
-        store.insert(root, name(alloc, text)?, made(label, FileType::File))?;
+        ground.file(root, text, label)?;
     }
-    let first = store.entries_after(root, None, 2)?;
-    assert_eq!(rt; first.len(), 2);
-    assert_eq!(rt; first[0].0.as_slice(), b"a".as_slice());
-    assert_eq!(rt; first[1].0.as_slice(), b"c".as_slice());
-    let next = store.entries_after(root, Some(&name(alloc, b"/c")?), 9)?;
-    assert_eq!(rt; next.len(), 2);
-    assert_eq!(rt; next[0].0.as_slice(), b"m".as_slice());
-    assert_eq!(rt; next[1].0.as_slice(), b"x".as_slice());
-    assert_eq!(rt; store.find(root, &next[1].0), Some(next[1].1));
-    assert_eq!(rt; store.entries_after(root, Some(&next[1].0), 9)?.len(), 0);
-    Ok(())
+    ground.lists(&rt, None, 2, &[b"a", b"c"])?;
+    ground.lists(&rt, Some(b"/c"), 9, &[b"m", b"x"])?;
+    ground.lists(&rt, Some(b"/x"), 9, &[])
 }
 
 const MANY: u64 = 1000;
@@ -276,22 +371,21 @@ fn many_names_in_any_order(rt: HostRuntime) -> Result<(), Fail> {
 #[test]
 fn trimmed_nodes_stay(rt: HostRuntime) -> Result<(), Fail> {
     let alloc = rt.alloc();
-    let mut store = Store::new(alloc)?;
-    let root = store.root();
-    let kept = store.insert(root, name(alloc, b"/k")?, made(1, FileType::File))?;
-    store.set_len(kept, 3)?;
+    let mut ground = Ground::new(alloc)?;
+    let root = ground.root();
+    let kept = ground.file(root, b"/k", 1)?;
+    ground.store.set_len(kept, 3)?;
     let mut chain = Vec::new(alloc);
     let mut last = root;
     for label in 2..66 {
         chain.push(last)?;
-        last = store.insert(last, name(alloc, b"/d")?, made(label, FileType::Directory))?;
+        last = ground.directory(last, b"/d", label)?;
     }
     for above in chain.iter().rev() {
-        store.unlink(*above, &name(alloc, b"/d")?);
-        store.trim();
+        ground.unlink(*above, b"/d")?;
+        ground.store.trim();
     }
-    assert_eq!(rt; store.attrs(last), None);
-    assert_eq!(rt; size(&rt, &store, kept), Some(3));
-    assert_eq!(rt; store.find(root, &name(alloc, b"/k")?), Some(kept));
-    Ok(())
+    ground.is_gone(&rt, last);
+    ground.has_size(&rt, kept, 3);
+    ground.finds(&rt, root, b"/k", Some(kept))
 }

@@ -40,21 +40,40 @@ fn waiting(rt: &impl Abort, alloc: Global) -> Result<Session, Fail>
     Ok(session)
 }
 
+/// A packet was whole, and the session answered it by itself.
+fn answers_itself(rt: &impl Abort, session: &mut Session) -> Result<(), Fail> {
+    assert!(rt; matches!(session.next()?, Next::Local));
+    Ok(())
+}
+
+fn wants_more(rt: &impl Abort, session: &mut Session) -> Result<(), Fail> {
+    assert!(rt; matches!(session.next()?, Next::More));
+    Ok(())
+}
+
+fn has_output(rt: &impl Abort, session: &Session, want: &[u8]) {
+    assert_eq!(rt; session.output(), want);
+}
+
+fn is_drained(rt: &impl Abort, session: &Session, want: bool) {
+    assert!(rt; session.is_drained() == want);
+}
+
 #[test]
 fn bytes_wait_for_a_whole_packet(rt: HostRuntime) -> Result<(), Fail> {
     let mut session = Session::new(rt.alloc());
     session.feed(&INIT[..8])?;
-    assert!(rt; matches!(session.next()?, Next::More));
-    assert!(rt; session.output().is_empty());
+    wants_more(&rt, &mut session)?;
+    has_output(&rt, &session, b"");
     session.feed(&INIT[8..])?;
-    assert!(rt; matches!(session.next()?, Next::Local));
-    assert_eq!(rt; session.output(), VERSION);
-    assert!(rt; matches!(session.next()?, Next::More));
+    answers_itself(&rt, &mut session)?;
+    has_output(&rt, &session, VERSION);
+    wants_more(&rt, &mut session)?;
     session.feed(READLINK)?;
-    assert!(rt; matches!(session.next()?, Next::Local));
+    answers_itself(&rt, &mut session)?;
     let output = session.take_output();
     assert_eq!(rt; &output.as_slice()[VERSION.len()..], UNSUPPORTED);
-    assert!(rt; session.output().is_empty());
+    has_output(&rt, &session, b"");
     Ok(())
 }
 
@@ -62,19 +81,19 @@ fn bytes_wait_for_a_whole_packet(rt: HostRuntime) -> Result<(), Fail> {
 #[test]
 fn drained_of_packets(rt: HostRuntime) -> Result<(), Fail> {
     let mut session = Session::new(rt.alloc());
-    assert!(rt; session.is_drained());
+    is_drained(&rt, &session, true);
     session.feed(&INIT[..8])?;
-    assert!(rt; session.is_drained());
+    is_drained(&rt, &session, true);
     session.feed(&INIT[8..])?;
     session.feed(&READLINK[..3])?;
-    assert!(rt; !session.is_drained());
-    assert!(rt; matches!(session.next()?, Next::Local));
-    assert!(rt; session.is_drained());
+    is_drained(&rt, &session, false);
+    answers_itself(&rt, &mut session)?;
+    is_drained(&rt, &session, true);
     session.feed(&READLINK[3..])?;
     session.feed(b"\0\0\0\0")?;
-    assert!(rt; !session.is_drained());
-    assert!(rt; matches!(session.next()?, Next::Local));
-    assert!(rt; !session.is_drained());
+    is_drained(&rt, &session, false);
+    answers_itself(&rt, &mut session)?;
+    is_drained(&rt, &session, false);
     Ok(())
 }
 
@@ -114,11 +133,12 @@ fn an_ended_session(rt: HostRuntime) -> Result<(), Fail> {
     session.feed(INIT)?;
     session.feed(INIT)?;
     session.feed(STAT)?;
-    assert!(rt; matches!(session.next()?, Next::Local));
-    assert!(rt; matches!(session.next()?, Next::Ended(Cause::SecondInit)));
-    assert!(rt; matches!(session.next()?, Next::Ended(Cause::SecondInit)));
+    answers_itself(&rt, &mut session)?;
+    for _ in 0..2 {
+        assert!(rt; matches!(session.next()?, Next::Ended(Cause::SecondInit)));
+    }
     assert_eq!(rt; session.feed(STAT), Err(SessionFault::Ended));
-    assert_eq!(rt; session.output(), VERSION);
+    has_output(&rt, &session, VERSION);
     Ok(())
 }
 

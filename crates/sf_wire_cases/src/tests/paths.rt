@@ -100,34 +100,48 @@ fn fault_numbers_and_words(rt: HostRuntime) -> Result<(), Fail> {
     Ok(())
 }
 
+/// How many names two paths have in common at their front, and whether the other one is all of them.
 #[test]
 fn fronts(rt: HostRuntime) -> Result<(), Fail> {
     let alloc = rt.alloc();
+    let notes: &[u8] = b"/home/ada/notes";
+    let above: &[u8] = b"/home/ada";
+    let root: &[u8] = b"/";
+    for (text, other, common, begins) in [
+        (notes, b"/home/ada/letters".as_slice(), 2, false),
+        (notes, above, 2, true),
+        (notes, notes, 3, true),
+        (notes, root, 0, true),
+        (above, notes, 2, false),
+        (b"/home/ada/notes2".as_slice(), notes, 2, false),
+        (root, root, 0, true),
+    ] {
+        let path = Path::parse(alloc, text)?;
+        let other = Path::parse(alloc, other)?;
+        assert_eq!(rt; path.common(&other), common);
+        assert_eq!(rt; path.begins_with(&other), begins);
+    }
+    Ok(())
+}
+
+fn is_same(rt: &impl Abort, path: &Path, want: &Path) {
+    assert_eq!(rt; path, want);
+}
+
+#[test]
+fn parts(rt: HostRuntime) -> Result<(), Fail> {
+    let alloc = rt.alloc();
     let path = Path::parse(alloc, b"/home/ada/notes")?;
-    let beside = Path::parse(alloc, b"/home/ada/letters")?;
     let above = Path::parse(alloc, b"/home/ada")?;
-    let longer = Path::parse(alloc, b"/home/ada/notes2")?;
     let root = Path::root();
-
-    assert_eq!(rt; path.common(&beside), 2);
-    assert_eq!(rt; path.common(&above), 2);
-    assert_eq!(rt; path.common(&path), 3);
-    assert_eq!(rt; path.common(&root), 0);
-    assert!(rt; path.begins_with(&above));
-    assert!(rt; path.begins_with(&root));
-    assert!(rt; !above.begins_with(&path));
-    assert!(rt; !longer.begins_with(&path));
-    assert!(rt; root.is_root());
-    assert!(rt; !above.is_root());
-
-    assert_eq!(rt; path.front(alloc, 2)?, above);
-    assert_eq!(rt; path.parent(alloc)?, above);
-    assert_eq!(rt; root.parent(alloc)?, root);
-    assert_eq!(rt; path.share()?, path);
-    assert_eq!(rt; root.share()?, root);
-    assert_eq!(rt; path.name(1).try_copy(alloc)?, *above.name(1));
-
+    is_same(&rt, &path.front(alloc, 2)?, &above);
+    is_same(&rt, &path.parent(alloc)?, &above);
+    is_same(&rt, &root.parent(alloc)?, &root);
+    is_same(&rt, &path.share()?, &path);
+    is_same(&rt, &root.share()?, &root);
+    assert!(rt; root.is_root() && !above.is_root());
     assert_eq!(rt; path.len(), 3);
+    assert_eq!(rt; path.name(1).try_copy(alloc)?, *above.name(1));
     assert_eq!(rt; path.name(2).as_slice(), b"notes".as_slice());
     Ok(())
 }
