@@ -3,3 +3,5 @@
 
 -- a session's bodies are those of its stream, and its replies those of its calls' records
 pub use Rattle.sf_engine.proofs.Reading.{told_sessions}
+-- a number has no session, or one
+pub use Rattle.sf_engine.proofs.Waiting.{told_of_none}

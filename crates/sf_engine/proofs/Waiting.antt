@@ -41,7 +41,8 @@ wants_is e at s p b num was h trace fits =
           h.1 (seen_resting e.core (at + 1) p.session t.0.phase p.place seat.at now.0, subst (λ (bytes : List ℕ). IsCut bytes cut.More) (sym seat.unread) now.1),
     )
 
-told_of_none : (w : World) (s : ℕ) (t : Told) → IsNoSession w s → IsSession w s t → ⊥
+-- a number has no session, or one
+pub told_of_none : (w : World) (s : ℕ) (t : Told) → IsNoSession w s → IsSession w s t → ⊥
 told_of_none w s t (inl z) session = omega (arith, z, session.0)
 told_of_none w s t (inr n) session = let e : None ≡ Some t = sym n ∙ session.1 in cc
 

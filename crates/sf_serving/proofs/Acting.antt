@@ -19,7 +19,8 @@ use Rattle.sf_engine.specs.declared.event.Happened.{Happened}
 use Rattle.sf_engine.specs.declared.event.EngineFault.{EngineFault}
 use Rattle.sf_engine.specs.declared.event.EngineFault.TheVariants as fault
 use Rattle.sf_engine.specs.Worlds.{Entry, transcript, Phase, Resting, UnderWay, Decided, Gone, Told, World, output_of, is_here, with_told}
-use Rattle.sf_engine.specs.Traces.{IsSession, IsNoSession, TakesBytes, TakesNone, MayRefuse, fed, closed_now, left_for}
+use Rattle.sf_engine.proofs.Laws.{told_of_none}
+use Rattle.sf_engine.specs.Traces.{IsSession, TakesBytes, TakesNone, MayRefuse, fed, closed_now, left_for}
 use Rattle.sf_engine.specs.Views.{EngineView}
 use Rattle.sf_engine.specs.Fits.{Fits, GoesOnTrace}
 use Rattle.sf_serving.specs.Ends.{IsWhole}
@@ -196,13 +197,9 @@ fed_serves start incoming outgoing calls told e e' s bytes serves feeds trace fi
       ),
     )
 
-pub no_session : (w : World) (s : ℕ) (t : Told) → IsSession w s t → IsNoSession w s → ⊥
-no_session w s t session (inl z) = omega (arith, z, session.0)
-no_session w s t session (inr n) = let e : None ≡ Some t = sym n ∙ session.1 in cc
-
 close_not_refused : (w : World) (s : ℕ) (t : Told) (f : EngineFault) → IsSession w s t → MayRefuse w (event.Close s) f → ⊥
 close_not_refused w s t fault.OutOfMemory session h = h
-close_not_refused w s t fault.NoSuchSession session h = no_session w s t session h
+close_not_refused w s t fault.NoSuchSession session h = told_of_none w s t h session
 close_not_refused w s t fault.Sessions session h = h
 close_not_refused w s t fault.Ended session h = h
 close_not_refused w s t fault.NumbersSpent session h = h

@@ -13,18 +13,17 @@ use Rattle.sf_engine.specs.declared.event.EngineFault.{EngineFault}
 use Rattle.sf_engine.specs.Worlds.{Told, transcript}
 use Rattle.sf_engine.specs.Traces.{IsSession}
 use Rattle.sf_engine.specs.Fits.{WantsBytes, WantsBytesBy}
-use Rattle.sf_serving.specs.Serving.{Scene, Progress, progress, may_begin_after, Serves, IsInStep, GoesOn, GoesOnBy, HasTurn, HasTurnBy, HasLeft, IsDrained, IsRounded, HasSentAll, Rests, Stops, IsRoundFault, all_sent, SendsAll, SendsSome}
+use Rattle.sf_serving.specs.Serving.{Scene, Progress, progress, may_begin_after, Serves, IsInStep, GoesOn, GoesOnBy, HasTurn, HasTurnBy, HasTurned, HasLeft, IsDrained, IsRounded, HasSentAll, Rests, Stops, IsRoundFault, all_sent, SendsAll, SendsSome}
 use Rattle.sf_serving.specs.Ends.{IsWhole}
 use Rattle.sf_serving.proofs.Following.{same_told}
-use Rattle.sf_serving.proofs.Turning.{TurnedTo}
 use Rattle.sf_serving.proofs.Acting.{HasRead}
 use Rattle.sf_serving.proofs.Ending.{Law, read_of, whole_left}
 
 pub serves_more : (start now : Scene) (P Q : Progress → Type 0) → ((p : Progress) → P p → Q p) → Serves start now P → Serves start now Q
 serves_more start now P Q f serves trace fits = let h = serves trace fits in (h.0, h.1, f h.0 h.2)
 
-pub idle_drained : (start now : Scene) (s : ℕ) → Serves start now (TurnedTo s (Ok happened.Idle)) → Serves start now (IsDrained s None)
-idle_drained start now s serves = serves_more start now (TurnedTo s (Ok happened.Idle)) (IsDrained s None) (λ p h. h) serves
+pub idle_drained : (start now : Scene) (s : ℕ) → Serves start now (HasTurned s (Ok happened.Idle)) → Serves start now (IsDrained s None)
+idle_drained start now s serves = serves_more start now (HasTurned s (Ok happened.Idle)) (IsDrained s None) (λ p h. h) serves
 
 -- after a reply nothing is unread but the beginning of a packet
 pub waits_drained : (start now : Scene) (s : ℕ) → WantsBytesBy now.engine s true → Serves start now (GoesOn s) → Serves start now (IsDrained s None)
@@ -38,14 +37,14 @@ waits_drained start now s wants serves trace fits =
     let now : WantsBytes p.told = subst WantsBytes same seen.2 in
     (p, S, (h.2, now.0, now.1))
 
-pub ended_drained : Law → (start now : Scene) (s : ℕ) (cause : Cause) → Serves start now (TurnedTo s (Ok (happened.Ended cause))) → Serves start now (IsDrained s (Some cause))
+pub ended_drained : Law → (start now : Scene) (s : ℕ) (cause : Cause) → Serves start now (HasTurned s (Ok (happened.Ended cause))) → Serves start now (IsDrained s (Some cause))
 ended_drained law start now s cause serves trace fits =
     let h = serves trace fits in
     let read = read_of law start now trace fits h.0 h.1 in
     (h.0, h.1, ((h.2.0, h.2.1, whole_left h.0.told cause read h.2.2 h.2.3), h.2.3))
 
 -- a session that neither waits for bytes nor has left, and that no reply was written of, may have its next turn
-pub still_goes : (s : ℕ) (r : Happened) (p : Progress) → (r ≡ happened.Idle → ⊥) → ((cause : Cause) → r ≡ happened.Ended cause → ⊥) → (r ≡ happened.Wrote → ⊥) → TurnedTo s (Ok r) p → HasTurnBy s (may_begin_after r) p
+pub still_goes : (s : ℕ) (r : Happened) (p : Progress) → (r ≡ happened.Idle → ⊥) → ((cause : Cause) → r ≡ happened.Ended cause → ⊥) → (r ≡ happened.Wrote → ⊥) → HasTurned s (Ok r) p → HasTurnBy s (may_begin_after r) p
 still_goes s happened.Idle p idle ended wrote h = absurd (idle refl)
 still_goes s (happened.Ended cause) p idle ended wrote h = absurd (ended cause refl)
 still_goes s happened.Wrote p idle ended wrote h = absurd (wrote refl)
@@ -75,8 +74,8 @@ turn_stops start now s begin f serves = serves_more start now (HasTurnBy s begin
 pub rests_stops : (start now : Scene) (s : ℕ) (f : ServeFault) → Serves start now (Rests s) → Serves start now (Stops s f)
 rests_stops start now s f serves = serves_more start now (Rests s) (Stops s f) (λ p h. (h.0.0.in_step.0, λ no. h.0.0.in_step.1)) serves
 
-pub refused_goes : (start now : Scene) (s : ℕ) (e : EngineFault) → Serves start now (TurnedTo s (Err e)) → Serves start now (GoesOn s)
-refused_goes start now s e serves = serves_more start now (TurnedTo s (Err e)) (GoesOn s) (λ p h. h) serves
+pub refused_goes : (start now : Scene) (s : ℕ) (e : EngineFault) → Serves start now (HasTurned s (Err e)) → Serves start now (GoesOn s)
+refused_goes start now s e serves = serves_more start now (HasTurned s (Err e)) (GoesOn s) (λ p h. h) serves
 
 pub rose_since : (start old new : ℕ) → start ≤ old → old ≤ new → Rose old new → Rose start new
 rose_since start old new before more (inl rose) = inl (omega arith)

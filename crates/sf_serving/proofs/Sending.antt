@@ -15,11 +15,12 @@ use Rattle.sf_engine.specs.Worlds.{Entry, transcript, Told, World, output_of, wi
 use Rattle.sf_engine.specs.Traces.{IsSession, MayRefuse, sent_more}
 use Rattle.sf_engine.specs.Views.{EngineView}
 use Rattle.sf_engine.specs.Fits.{Fits, GoesOnTrace, IsSentBy, IsUnknown}
+use Rattle.sf_engine.proofs.Laws.{told_of_none}
 use Rattle.sf_serving.specs.Serving.{Scene, scene, Progress, progress, Served, Serves, IsInStep, GoesOn, GoesOnBy, HasTurnBy, Stops, Applies, Waits, all_sent, SendsAll, SendsSome}
 use Rattle.sf_serving.proofs.Following.{front_all, Leading, prompt_further, go_on, same_told}
 use Rattle.sf_serving.proofs.Turning.{told_now}
 use Rattle.sf_serving.proofs.Ending.{prompt_writes}
-use Rattle.sf_serving.proofs.Acting.{drop_front, low_sent, no_session, given_more, taken_more, writes_give_none}
+use Rattle.sf_serving.proofs.Acting.{drop_front, low_sent, given_more, taken_more, writes_give_none}
 
 -- what waits, by what the engine's output is
 pub waits_sent : (e : EngineView) (s : ℕ) (output : List ℕ) → IsSentBy e s output → Waits e s output
@@ -29,7 +30,7 @@ waits_sent e s output is trace fits t session =
     subst (λ (z : Told). transcript z.answers ≡ z.sent ++ output) same h.2
 
 pub waits_unknown : (e : EngineView) (s : ℕ) (output : List ℕ) → IsUnknown e s → Waits e s output
-waits_unknown e s output unknown trace fits t session = absurd (no_session fits.world s t session (unknown trace fits))
+waits_unknown e s output unknown trace fits t session = absurd (told_of_none fits.world s t (unknown trace fits) session)
 
 -- what waits of a session that is served
 waits_here : (start now : Scene) (trace : List Entry) (fits : Fits start.engine trace) (p : Progress) (s : ℕ) (output : List ℕ) → p.session ≡ s → Served start now trace fits p → Waits now.engine s output
@@ -79,7 +80,7 @@ whole_front outgoing outgoing' calls calls' output appended logged = record { se
 
 sent_not_refused : (w : World) (s n : ℕ) (t : Told) (f : EngineFault) → IsSession w s t → length (output_of t) ≡ n → MayRefuse w (event.Sent s n) f → ⊥
 sent_not_refused w s n t fault.OutOfMemory session all h = h
-sent_not_refused w s n t fault.NoSuchSession session all h = no_session w s t session h
+sent_not_refused w s n t fault.NoSuchSession session all h = told_of_none w s t h session
 sent_not_refused w s n t fault.Sessions session all h = h
 sent_not_refused w s n t fault.Ended session all h = h
 sent_not_refused w s n t fault.NumbersSpent session all h = h

@@ -18,7 +18,7 @@ use Rattle.sf_engine.specs.Traces.{has_begun, goes_on, IsSession, TakesBytes, Le
 use Rattle.sf_engine.specs.Views.{EngineView}
 use Rattle.sf_engine.specs.Fits.{GoesOnTrace, HasTurns}
 use Rattle.sf_line.specs.declared.line_call.LineCall.{LineCall}
-use Rattle.sf_serving.specs.Serving.{Scene, scene, MayBegin, may_begin_after, IsFront, IsLow, IsLowAt, Progress, progress, Serves, IsInStep, GoesOn, HasTurnBy, IsIdle, Timed, Turns, timed}
+use Rattle.sf_serving.specs.Serving.{Scene, scene, MayBegin, may_begin_after, IsFront, IsLow, IsLowAt, Progress, progress, Serves, IsInStep, GoesOn, HasTurnBy, IsIdle, HasTurned}
 use Rattle.sf_serving.proofs.Causes.{not_closed}
 use Rattle.sf_serving.proofs.Following.{Follows, Leading, Timing, go_on, same_told}
 
@@ -192,18 +192,10 @@ turn_leads s m t unfed (Err f) takes w w' added session leads =
       (refl, refl, refl),
     )
 
--- after a turn: the session goes on, waits for bytes, or has left; where no reply was written, no more waits to be sent
-abbrev pub TurnedTo : ℕ → Result Happened EngineFault → Progress → Type 0
-TurnedTo s (Ok happened.Idle) p = IsIdle s p
-TurnedTo s (Ok (happened.Ended cause)) p = IsInStep s p × (p.unfed ≡ []) × (p.told.phase ≡ Gone cause) × (cause ≢ Closed)
-TurnedTo s (Ok happened.Wrote) p = GoesOn s p
-TurnedTo s (Ok r) p = HasTurnBy s (may_begin_after r) p
-TurnedTo s (Err f) p = GoesOn s p
-
 low_same : (t t' : Told) → output_of t' ≡ output_of t → IsLow t → IsLow t'
 low_same t t' e low = subst (λ (b : List ℕ). length b < 65536) (sym e) low
 
-turned_to : (s : ℕ) (r : Result Happened EngineFault) (p p' : Progress) → GoesOn s p → IsLow p.told → IsInStep s p' → p'.unfed ≡ [] → TurnComesTo r p.told p'.told → TurnedTo s r p'
+turned_to : (s : ℕ) (r : Result Happened EngineFault) (p p' : Progress) → GoesOn s p → IsLow p.told → IsInStep s p' → p'.unfed ≡ [] → TurnComesTo r p.told p'.told → HasTurned s r p'
 turned_to s (Err f) p p' on low step fed to = record { in_step = step; fed = fed; takes = takes_same p.told p'.told to on.takes }
 turned_to s (Ok happened.Idle) p p' on low step fed to = (record { in_step = step; fed = fed; takes = takes_same p.told p'.told to.0 on.takes }, to.1, to.2)
 turned_to s (Ok (happened.Ended cause)) p p' on low step fed to = (step, fed, to.0, λ e. not_closed (has_begun p.told.bodies) p.told.unread cause e to.1)
@@ -239,13 +231,13 @@ turn_timed s m t r begin moments may (inr none) w w' added session leads =
     inr (none.0, turn_begins_none s m t r w w' added (subst (λ (b : Bool). MayBegin b t.phase) none.1 may) session leads)
 
 -- one turn, at a moment that the clock told, or at any where no call may begin
-abbrev TurnsOnce : Timed → ℕ → Bool → Result Happened EngineFault → Timed → Type 0
-TurnsOnce x session may_begin result y = (moment : ℕ) × (moments : List ℕ) × GoesOnTrace x.engine (event.Turn session moment) result y.engine
-    × Appends x.told y.told moments × ((moments ≡ moment ∷ []) ⊎ ((moments ≡ []) × (may_begin ≡ false)))
+abbrev TurnsOnce : EngineView → Option (List ℕ) → ℕ → Bool → Result Happened EngineFault → EngineView → Option (List ℕ) → Type 0
+TurnsOnce e told session may_begin result e' told' = (moment : ℕ) × (moments : List ℕ) × GoesOnTrace e (event.Turn session moment) result e'
+    × Appends told told' moments × ((moments ≡ moment ∷ []) ⊎ ((moments ≡ []) × (may_begin ≡ false)))
 
 turned_serves : (start : Scene) (incoming outgoing : Option (List ℕ)) (calls : Option (List LineCall)) (told told' : Option (List ℕ)) (e e' : EngineView) (s : ℕ) (begin : Bool) (r : Result Happened EngineFault)
-    → Serves start (scene incoming outgoing calls told e) (HasTurnBy s begin) → TurnsOnce (timed e told) s begin r (timed e' told')
-    → Serves start (scene incoming outgoing calls told' e') (TurnedTo s r)
+    → Serves start (scene incoming outgoing calls told e) (HasTurnBy s begin) → TurnsOnce e told s begin r e' told'
+    → Serves start (scene incoming outgoing calls told' e') (HasTurned s r)
 turned_serves start incoming outgoing calls told told' e e' s begin r serves turns trace fits =
     let h = serves trace fits in
     let p = h.0 in
@@ -263,7 +255,7 @@ turned_serves start incoming outgoing calls told told' e e' s begin r serves tur
     )
 
 -- a session whose call is on its way doesn't rest
-goes_busy : (s : ℕ) (h : Happened) (p : Progress) → goes_on h ≡ true → TurnedTo s (Ok h) p → HasTurnBy s false p
+goes_busy : (s : ℕ) (h : Happened) (p : Progress) → goes_on h ≡ true → HasTurned s (Ok h) p → HasTurnBy s false p
 goes_busy s happened.Begun p goes to = to
 goes_busy s happened.Moved p goes to = to
 goes_busy s happened.Decided p goes to = to
@@ -277,9 +269,9 @@ goes_busy s happened.Closed p goes to = absurd cc
 goes_busy s happened.Sent p goes to = absurd cc
 
 -- so many turns that go on, and a last one: the clock told no moment after the first one's
-many_serve : (n : ℕ) (start : Scene) (incoming outgoing : Option (List ℕ)) (calls : Option (List LineCall)) (told told' : Option (List ℕ)) (e e' : EngineView) (s m : ℕ) (begin : Bool) (moments : List ℕ) (r : Result Happened EngineFault)
+pub many_serve : (n : ℕ) (start : Scene) (incoming outgoing : Option (List ℕ)) (calls : Option (List LineCall)) (told told' : Option (List ℕ)) (e e' : EngineView) (s m : ℕ) (begin : Bool) (moments : List ℕ) (r : Result Happened EngineFault)
     → Serves start (scene incoming outgoing calls told e) (HasTurnBy s begin) → HasTurns n e s m r e' → Appends told told' moments → (moments ≡ m ∷ []) ⊎ ((moments ≡ []) × (begin ≡ false))
-    → Serves start (scene incoming outgoing calls told' e') (TurnedTo s r)
+    → Serves start (scene incoming outgoing calls told' e') (HasTurned s r)
 unfolding HasTurns
 many_serve zero start incoming outgoing calls told told' e e' s m begin moments r serves turns clock timely =
     turned_serves start incoming outgoing calls told told' e e' s begin r serves (m, moments, turns.0, clock, timely)
@@ -287,10 +279,3 @@ many_serve (suc n) start incoming outgoing calls told told' e e' s m begin momen
     let first = turned_serves start incoming outgoing calls told told' e turns.0 s begin (Ok turns.1) serves (m, moments, turns.2, clock, timely) in
     let busy : Serves start (scene incoming outgoing calls told' turns.0) (HasTurnBy s false) = λ trace fits. let h = first trace fits in (h.0, h.1, goes_busy s turns.1 h.0 turns.3 h.2) in
     many_serve n start incoming outgoing calls told' told' turns.0 e' s m false [] r busy turns.4 (Appends-nil told') (inr (refl, refl))
-
--- turns of the session
-pub turns_serve : (start : Scene) (incoming outgoing : Option (List ℕ)) (calls : Option (List LineCall)) (told told' : Option (List ℕ)) (e e' : EngineView) (s : ℕ) (begin : Bool) (r : Result Happened EngineFault)
-    → Serves start (scene incoming outgoing calls told e) (HasTurnBy s begin) → Turns (timed e told) s begin r (timed e' told')
-    → Serves start (scene incoming outgoing calls told' e') (TurnedTo s r)
-turns_serve start incoming outgoing calls told told' e e' s begin r serves turns =
-    many_serve turns.2 start incoming outgoing calls told told' e e' s turns.0 begin turns.1 r serves turns.3 turns.4 turns.5

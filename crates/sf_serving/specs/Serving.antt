@@ -1,5 +1,5 @@
 -- How far one session on a line was served.
-use Rattle.std.specs.Prelude.{◌≡◌, ◌≢◌, ◌<◌, ◌≤◌, ◌⊎◌, ℕ, List, [], ◌∷◌, ◌++◌, length, Bool, true, false, Option, Some, None, Result, Ok}
+use Rattle.std.specs.Prelude.{◌≡◌, ◌≢◌, ◌<◌, ◌≤◌, ◌⊎◌, ℕ, List, [], ◌∷◌, ◌++◌, length, Bool, true, false, Option, Some, None, Result, Ok, Err}
 use Rattle.std.specs.Global.{Vec}
 use Rattle.std.specs.List.{AllByRecursion}
 use Rattle.std.specs.Io.KnownBytes.{Appends, Consumes, IsAtEnd}
@@ -22,7 +22,7 @@ use Rattle.sf_engine.specs.declared.event.EngineFault.TheVariants as refused
 use Rattle.sf_engine.specs.Worlds.{Entry, Answered, Phase, Resting, UnderWay, Decided, Gone, Told, World, transcript, output_of, here}
 use Rattle.sf_engine.specs.Traces.{IsSession, Leads, TakesBytes, TakesNone}
 use Rattle.sf_engine.specs.Views.{EngineView}
-use Rattle.sf_engine.specs.Fits.{Fits, GoesOnTrace, HasTurns}
+use Rattle.sf_engine.specs.Fits.{Fits, GoesOnTrace}
 use Rattle.sf_serving.specs.Ends.{IsWhole}
 
 -- What a line still has to give, what it has taken, its calls, and the moments that a clock told, where they tell it; and an
@@ -176,6 +176,14 @@ HasTurnBy session may_begin p = HasTurn session p × MayBegin may_begin p.told.p
 abbrev pub IsIdle : ℕ → Progress → Type 0
 IsIdle session p = GoesOn session p × (p.told.phase ≡ Resting) × IsCut p.told.unread cut.More
 
+-- after a turn: the session goes on, waits for bytes, or has left; where no reply was written, no more waits to be sent
+abbrev pub HasTurned : ℕ → Result Happened EngineFault → Progress → Type 0
+HasTurned session (Ok happened.Idle) p = IsIdle session p
+HasTurned session (Ok (happened.Ended cause)) p = IsInStep session p × (p.unfed ≡ []) × (p.told.phase ≡ Gone cause) × (cause ≢ Closed)
+HasTurned session (Ok happened.Wrote) p = GoesOn session p
+HasTurned session (Ok r) p = HasTurnBy session (may_begin_after r) p
+HasTurned session (Err fault) p = GoesOn session p
+
 -- the session has left, and all that was read was answered
 abbrev pub HasLeft : ℕ → Cause → Progress → Type 0
 HasLeft session cause p = IsInStep session p × (p.unfed ≡ []) × IsWhole p.told cause
@@ -212,19 +220,6 @@ HasStopped f p = (f ≢ fault.Line → HasSentAll p × (p.written ≡ p.told.sen
 -- the session was fed these bytes
 abbrev pub Feeds : EngineView → ℕ → List ℕ → EngineView → Type 0
 Feeds e session bytes e' = (fed : Vec ℕ) × (fed.items ≡ bytes) × (r : Happened) × GoesOnTrace e (event.Feed session fed) (Ok r) e'
-
--- An engine, and what a clock has told.
-pub record Timed : Type 0 where
-  pub engine : EngineView
-  pub told : Option (List ℕ)
-
-abbrev pub timed : EngineView → Option (List ℕ) → Timed
-timed engine told = record { engine = engine; told = told }
-
--- The session had turns, of which all but the last go on, at a moment that the clock told, or at any where no call may begin.
-abbrev pub Turns : Timed → ℕ → Bool → Result Happened EngineFault → Timed → Type 0
-Turns x session may_begin result y = (moment : ℕ) × (moments : List ℕ) × (n : ℕ) × HasTurns n x.engine session moment result y.engine
-    × Appends x.told y.told moments × ((moments ≡ moment ∷ []) ⊎ ((moments ≡ []) × (may_begin ≡ false)))
 
 -- the event was applied, or refused
 abbrev pub Applies : EngineView → Event → EngineView → Type 0

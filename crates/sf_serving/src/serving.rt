@@ -2,11 +2,12 @@
 
 ghost use Rattle.std.specs.Prelude.{◌≡◌, ◌<◌, ◌≤◌, ◌∷◌, ℕ, List, [], length, take, Bool, Option, Result, Ok, IfOk, IfErr, OnOk, OnErr, vec_len};
 ghost use Rattle.std.specs.Io.KnownBytes.{Appends};
+ghost use Rattle.sf_line.specs.declared.line_call.LineCall.{LineCall};
 ghost use Rattle.sf_line.specs.Lines.{Rose};
 ghost use Rattle.sf_engine.specs.declared.event.Event.TheVariants.{Open};
 ghost use Rattle.sf_engine.specs.declared.event.Happened.TheVariants.{Opened};
 ghost use Rattle.sf_engine.specs.Fits.{GoesOnTrace};
-ghost use Rattle.sf_serving.specs.Serving.{Scene, scene, may_begin_after, Serves, GoesOn, GoesOnBy, HasTurn, HasTurnBy, Turns, timed, Rests, IsDrained, IsRounded, Stops, HasSentFor, HasStopped, Waits, Feeds, Applies, SendsAll, SendsSome, ServesLine, StopsEarly, IsUnchanged, refusal_of, IsOpenFault, IsRoundFault, IsServeFault};
+ghost use Rattle.sf_serving.specs.Serving.{Scene, scene, may_begin_after, Serves, GoesOn, GoesOnBy, HasTurn, HasTurnBy, HasTurned, Rests, IsDrained, IsRounded, Stops, HasSentFor, HasStopped, Waits, Feeds, Applies, SendsAll, SendsSome, ServesLine, StopsEarly, IsUnchanged, refusal_of, IsOpenFault, IsRoundFault, IsServeFault};
 
 use sf_engine::{Engine, EngineFault, Event, Happened};
 use sf_line::{Line, LineFault, write_all};
@@ -66,7 +67,9 @@ fn turns<C: Clock>(
     session: u64,
     may_begin: bool,
 ) -> Result<Happened, EngineFault>
-    ensures { Turns (timed engine.old (C.told clock.old)) session may_begin result (timed engine.new (C.told clock.new)) }
+    ensures { (start : Scene) (incoming outgoing : Option (List ℕ)) (calls : Option (List LineCall))
+        → Serves start (scene incoming outgoing calls (C.told clock.old) engine.old) (HasTurnBy session may_begin)
+        → Serves start (scene incoming outgoing calls (C.told clock.new) engine.new) (HasTurned session result) }
 {
     if !may_begin {
         return engine.turns(session, 0);
