@@ -51,10 +51,6 @@ impl Ground {
         Ok(Ground { store, alloc })
     }
 
-    fn root(&self) -> NodeId {
-        self.store.root()
-    }
-
     fn makes(&mut self, parent: NodeId, text: &[u8], made: NewNode) -> Result<NodeId, Fail> {
         let name = name(self.alloc, text)?;
         Ok(self.store.insert(parent, name, made)?)
@@ -96,6 +92,20 @@ impl Ground {
 
     fn has_handles(&self, rt: &impl Abort, session: u64, want: usize) {
         assert_eq!(rt; self.store.handles(session), want);
+    }
+
+    /// The last name that a handle has listed.
+    fn has_listed(
+        &self,
+        rt: &impl Abort,
+        session: u64,
+        number: u64,
+        want: &[u8],
+    ) -> Result<(), Fail> {
+        let handle = self.store.handle(session, number).ok_or("no handle")?;
+        let listed = handle.listed.as_ref().ok_or("nothing listed")?;
+        assert_eq!(rt; listed.as_slice(), want);
+        Ok(())
     }
 
     fn has_no_handle(&self, rt: &impl Abort, session: u64, number: u64) {
@@ -147,7 +157,7 @@ impl Ground {
         most: usize,
         want: &[&[u8]],
     ) -> Result<(), Fail> {
-        let root = self.root();
+        let root = self.store.root();
         let last = match after {
             Some(text) => Some(name(self.alloc, text)?),
             None => None,
@@ -172,7 +182,7 @@ impl Ground {
 #[test]
 fn find_what_was_inserted(rt: HostRuntime) -> Result<(), Fail> {
     let mut ground = Ground::new(rt.alloc())?;
-    let root = ground.root();
+    let root = ground.store.root();
     ground.is_empty(&rt, root, true);
     let a = ground.directory(root, b"/a", 1)?;
     let b = ground.file(a, b"/b", 2)?;
@@ -193,7 +203,7 @@ fn find_what_was_inserted(rt: HostRuntime) -> Result<(), Fail> {
 #[test]
 fn hold_set_and_touch(rt: HostRuntime) -> Result<(), Fail> {
     let mut ground = Ground::new(rt.alloc())?;
-    let root = ground.root();
+    let root = ground.store.root();
     let a = ground.file(root, b"/a", 1)?;
     ground.store.hold(a, 7);
     ground.is_held(&rt, a, Some(7));
@@ -213,7 +223,7 @@ fn hold_set_and_touch(rt: HostRuntime) -> Result<(), Fail> {
 #[test]
 fn bytes_outlive_the_name(rt: HostRuntime) -> Result<(), Fail> {
     let mut ground = Ground::new(rt.alloc())?;
-    let root = ground.root();
+    let root = ground.store.root();
     let a = ground.file(root, b"/a", 1)?;
     ground.store.set_len(a, 2)?;
     ground.has_size(&rt, a, 2);
@@ -235,7 +245,7 @@ fn bytes_outlive_the_name(rt: HostRuntime) -> Result<(), Fail> {
 fn written_bytes_are_read(rt: HostRuntime) -> Result<(), Fail> {
     let alloc = rt.alloc();
     let mut ground = Ground::new(alloc)?;
-    let root = ground.root();
+    let root = ground.store.root();
     let a = ground.file(root, b"/a", 1)?;
     let bytes = ByteString::from_slice(alloc, b"xy")?;
     ground.store.write(a, 1, &bytes)?;
@@ -250,18 +260,14 @@ fn written_bytes_are_read(rt: HostRuntime) -> Result<(), Fail> {
 fn a_named_node_stays_when_closed(rt: HostRuntime) -> Result<(), Fail> {
     let alloc = rt.alloc();
     let mut ground = Ground::new(alloc)?;
-    let root = ground.root();
+    let root = ground.store.root();
     let a = ground.directory(root, b"/a", 1)?;
     ground.open(3, 10, a, true)?;
     ground.store.listed(3, 10, &name(alloc, b"/k")?)?;
+    ground.has_listed(&rt, 3, 10, b"k")?;
     let handle = ground.store.handle(3, 10).ok_or("no handle")?;
-    assert_eq!(rt; handle.node, a);
-    assert_eq!(rt; handle.label, 1);
+    assert_eq!(rt; (handle.node, handle.label), (a, 1));
     assert_eq!(rt; handle.marks, marks(true));
-    let Some(listed) = &handle.listed else {
-        panic!(rt; "nothing listed");
-    };
-    assert_eq!(rt; listed.as_slice(), b"k".as_slice());
     ground.has_no_handle(&rt, 4, 10);
     ground.closes(&rt, 4, 10, false);
     ground.closes(&rt, 3, 10, true);
@@ -274,7 +280,7 @@ fn a_named_node_stays_when_closed(rt: HostRuntime) -> Result<(), Fail> {
 #[test]
 fn rename_with_what_lies_below_and_over_a_file(rt: HostRuntime) -> Result<(), Fail> {
     let mut ground = Ground::new(rt.alloc())?;
-    let root = ground.root();
+    let root = ground.store.root();
     let a = ground.directory(root, b"/a", 1)?;
     let b = ground.file(a, b"/b", 2)?;
     ground.relink(root, b"/a", root, b"/c")?;
@@ -293,7 +299,7 @@ fn rename_with_what_lies_below_and_over_a_file(rt: HostRuntime) -> Result<(), Fa
 fn entries_in_the_order_of_their_names(rt: HostRuntime) -> Result<(), Fail> {
     let alloc = rt.alloc();
     let mut ground = Ground::new(alloc)?;
-    let root = ground.root();
+    let root = ground.store.root();
     for (label, text) in [(1, b"/m"), (2, b"/c"), (3, b"/x"), (4, b"/a")] {
         ground.file(root, text, label)?;
     }
@@ -372,7 +378,7 @@ fn many_names_in_any_order(rt: HostRuntime) -> Result<(), Fail> {
 fn trimmed_nodes_stay(rt: HostRuntime) -> Result<(), Fail> {
     let alloc = rt.alloc();
     let mut ground = Ground::new(alloc)?;
-    let root = ground.root();
+    let root = ground.store.root();
     let kept = ground.file(root, b"/k", 1)?;
     ground.store.set_len(kept, 3)?;
     let mut chain = Vec::new(alloc);

@@ -40,40 +40,21 @@ fn waiting(rt: &impl Abort, alloc: Global) -> Result<Session, Fail>
     Ok(session)
 }
 
-/// A packet was whole, and the session answered it by itself.
-fn answers_itself(rt: &impl Abort, session: &mut Session) -> Result<(), Fail> {
-    assert!(rt; matches!(session.next()?, Next::Local));
-    Ok(())
-}
-
-fn wants_more(rt: &impl Abort, session: &mut Session) -> Result<(), Fail> {
-    assert!(rt; matches!(session.next()?, Next::More));
-    Ok(())
-}
-
-fn has_output(rt: &impl Abort, session: &Session, want: &[u8]) {
-    assert_eq!(rt; session.output(), want);
-}
-
-fn is_drained(rt: &impl Abort, session: &Session, want: bool) {
-    assert!(rt; session.is_drained() == want);
-}
-
 #[test]
 fn bytes_wait_for_a_whole_packet(rt: HostRuntime) -> Result<(), Fail> {
     let mut session = Session::new(rt.alloc());
     session.feed(&INIT[..8])?;
-    wants_more(&rt, &mut session)?;
-    has_output(&rt, &session, b"");
+    assert!(rt; matches!(session.next()?, Next::More));
+    assert!(rt; session.output().is_empty());
     session.feed(&INIT[8..])?;
-    answers_itself(&rt, &mut session)?;
-    has_output(&rt, &session, VERSION);
-    wants_more(&rt, &mut session)?;
+    assert!(rt; matches!(session.next()?, Next::Local));
+    assert_eq!(rt; session.output(), VERSION);
+    assert!(rt; matches!(session.next()?, Next::More));
     session.feed(READLINK)?;
-    answers_itself(&rt, &mut session)?;
+    assert!(rt; matches!(session.next()?, Next::Local));
     let output = session.take_output();
     assert_eq!(rt; &output.as_slice()[VERSION.len()..], UNSUPPORTED);
-    has_output(&rt, &session, b"");
+    assert!(rt; session.output().is_empty());
     Ok(())
 }
 
@@ -81,19 +62,19 @@ fn bytes_wait_for_a_whole_packet(rt: HostRuntime) -> Result<(), Fail> {
 #[test]
 fn drained_of_packets(rt: HostRuntime) -> Result<(), Fail> {
     let mut session = Session::new(rt.alloc());
-    is_drained(&rt, &session, true);
+    assert!(rt; session.is_drained());
     session.feed(&INIT[..8])?;
-    is_drained(&rt, &session, true);
+    assert!(rt; session.is_drained());
     session.feed(&INIT[8..])?;
     session.feed(&READLINK[..3])?;
-    is_drained(&rt, &session, false);
-    answers_itself(&rt, &mut session)?;
-    is_drained(&rt, &session, true);
+    assert!(rt; !session.is_drained());
+    assert!(rt; matches!(session.next()?, Next::Local));
+    assert!(rt; session.is_drained());
     session.feed(&READLINK[3..])?;
     session.feed(b"\0\0\0\0")?;
-    is_drained(&rt, &session, false);
-    answers_itself(&rt, &mut session)?;
-    is_drained(&rt, &session, false);
+    assert!(rt; !session.is_drained());
+    assert!(rt; matches!(session.next()?, Next::Local));
+    assert!(rt; !session.is_drained());
     Ok(())
 }
 
@@ -133,12 +114,11 @@ fn an_ended_session(rt: HostRuntime) -> Result<(), Fail> {
     session.feed(INIT)?;
     session.feed(INIT)?;
     session.feed(STAT)?;
-    answers_itself(&rt, &mut session)?;
-    for _ in 0..2 {
-        assert!(rt; matches!(session.next()?, Next::Ended(Cause::SecondInit)));
-    }
+    assert!(rt; matches!(session.next()?, Next::Local));
+    assert!(rt; matches!(session.next()?, Next::Ended(Cause::SecondInit)));
+    assert!(rt; matches!(session.next()?, Next::Ended(Cause::SecondInit)));
     assert_eq!(rt; session.feed(STAT), Err(SessionFault::Ended));
-    has_output(&rt, &session, VERSION);
+    assert_eq!(rt; session.output(), VERSION);
     Ok(())
 }
 

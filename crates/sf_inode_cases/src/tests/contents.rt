@@ -54,6 +54,25 @@ fn write(
     contents.write(alloc, offset, &ByteString::from_slice(alloc, bytes)?)
 }
 
+fn set_len(alloc: Global, contents: &mut Contents, n: u64) -> Result<(), AllocError> {
+    contents.set_len(alloc, n)
+}
+
+/// All bytes are this one.
+fn assert_all(
+    rt: &impl Abort,
+    alloc: Global,
+    contents: &Contents,
+    n: usize,
+    byte: u8,
+) -> Result<(), Fail> {
+    assert_bytes(rt, alloc, contents, &many(alloc, n, byte)?)
+}
+
+fn assert_len(rt: &impl Abort, contents: &Contents, n: u64) {
+    assert_eq!(rt; contents.len(), n);
+}
+
 #[test]
 fn write_over_behind_and_past_the_end(rt: HostRuntime) -> Result<(), Fail> {
     let alloc = rt.alloc();
@@ -99,11 +118,11 @@ fn cut_and_fill_up(rt: HostRuntime) -> Result<(), Fail> {
     let alloc = rt.alloc();
     let mut contents = Contents::new(alloc);
     write(alloc, &mut contents, 0, b"abcde")?;
-    contents.set_len(alloc, 2)?;
+    set_len(alloc, &mut contents, 2)?;
     assert_bytes(&rt, alloc, &contents, b"ab")?;
-    contents.set_len(alloc, 4)?;
+    set_len(alloc, &mut contents, 4)?;
     assert_bytes(&rt, alloc, &contents, b"ab\0\0")?;
-    contents.set_len(alloc, 0)?;
+    set_len(alloc, &mut contents, 0)?;
     assert_bytes(&rt, alloc, &contents, b"")?;
     Ok(())
 }
@@ -113,7 +132,7 @@ fn more_than_any_memory(rt: HostRuntime) -> Result<(), Fail> {
     let alloc = rt.alloc();
     let mut contents = Contents::new(alloc);
     write(alloc, &mut contents, 0, b"ab")?;
-    assert!(rt; contents.set_len(alloc, u64::MAX).is_err());
+    assert!(rt; set_len(alloc, &mut contents, u64::MAX).is_err());
     assert!(rt; write(alloc, &mut contents, u64::MAX - 1, b"c").is_err());
     assert_bytes(&rt, alloc, &contents, b"ab")?;
     Ok(())
@@ -125,7 +144,7 @@ fn write_over_a_seam(rt: HostRuntime) -> Result<(), Fail> {
     let mut contents = Contents::new(alloc);
     write(alloc, &mut contents, 0, &many(alloc, 65_536, b'a')?)?;
     write(alloc, &mut contents, 32_766, b"1234")?;
-    assert_eq!(rt; contents.len(), 65_536);
+    assert_len(&rt, &contents, 65_536);
     assert_read(&rt, alloc, &contents, 32_764, b"aa1234aa")?;
     assert_read(&rt, alloc, &contents, 65_534, b"aa")?;
     Ok(())
@@ -137,7 +156,7 @@ fn write_of_a_whole_block(rt: HostRuntime) -> Result<(), Fail> {
     let mut contents = Contents::new(alloc);
     write(alloc, &mut contents, 0, &many(alloc, 32_768, b'a')?)?;
     write(alloc, &mut contents, 32_768, &many(alloc, 32_768, b'b')?)?;
-    assert_eq!(rt; contents.len(), 65_536);
+    assert_len(&rt, &contents, 65_536);
     assert_read(&rt, alloc, &contents, 32_766, b"aabb")?;
     write(alloc, &mut contents, 0, &many(alloc, 32_768, b'c')?)?;
     assert_read(&rt, alloc, &contents, 0, &many(alloc, 32_768, b'c')?)?;
@@ -146,7 +165,7 @@ fn write_of_a_whole_block(rt: HostRuntime) -> Result<(), Fail> {
     write(alloc, &mut contents, 1, &many(alloc, 32_768, b'd')?)?;
     assert_read(&rt, alloc, &contents, 0, b"cd")?;
     assert_read(&rt, alloc, &contents, 32_767, b"ddb")?;
-    assert_eq!(rt; contents.len(), 65_536);
+    assert_len(&rt, &contents, 65_536);
     Ok(())
 }
 
@@ -159,7 +178,7 @@ fn what_was_read_stays(rt: HostRuntime) -> Result<(), Fail> {
     let whole = contents.read(alloc, 0, 32_768)?;
     write(alloc, &mut contents, 5, b"xyz")?;
     assert_eq!(rt; whole.as_slice(), old.as_slice());
-    contents.set_len(alloc, 7)?;
+    set_len(alloc, &mut contents, 7)?;
     assert_eq!(rt; whole.as_slice(), old.as_slice());
     assert_bytes(&rt, alloc, &contents, b"aaaaaxy")?;
     Ok(())
@@ -171,9 +190,9 @@ fn append_makes_a_block_whole(rt: HostRuntime) -> Result<(), Fail> {
     let mut contents = Contents::new(alloc);
     write(alloc, &mut contents, 0, &many(alloc, 32_766, b'a')?)?;
     write(alloc, &mut contents, 32_766, b"bb")?;
-    assert_eq!(rt; contents.len(), 32_768);
+    assert_len(&rt, &contents, 32_768);
     write(alloc, &mut contents, 32_768, b"c")?;
-    assert_eq!(rt; contents.len(), 32_769);
+    assert_len(&rt, &contents, 32_769);
     assert_read(&rt, alloc, &contents, 32_765, b"abbc")?;
     Ok(())
 }
@@ -184,7 +203,7 @@ fn gap_of_several_blocks(rt: HostRuntime) -> Result<(), Fail> {
     let mut contents = Contents::new(alloc);
     write(alloc, &mut contents, 0, b"ab")?;
     write(alloc, &mut contents, 100_000, b"yz")?;
-    assert_eq!(rt; contents.len(), 100_002);
+    assert_len(&rt, &contents, 100_002);
     assert_read(&rt, alloc, &contents, 0, b"ab\0\0")?;
     assert_read(&rt, alloc, &contents, 2, &many(alloc, 99_998, 0)?)?;
     assert_read(&rt, alloc, &contents, 99_998, b"\0\0yz")?;
@@ -200,16 +219,16 @@ fn cut_within_a_block_and_at_a_seam(rt: HostRuntime) -> Result<(), Fail> {
     let alloc = rt.alloc();
     let mut contents = Contents::new(alloc);
     write(alloc, &mut contents, 0, &many(alloc, 70_000, b'a')?)?;
-    contents.set_len(alloc, 40_000)?;
-    assert_bytes(&rt, alloc, &contents, &many(alloc, 40_000, b'a')?)?;
-    contents.set_len(alloc, 32_768)?;
-    assert_bytes(&rt, alloc, &contents, &many(alloc, 32_768, b'a')?)?;
-    contents.set_len(alloc, 32_770)?;
+    set_len(alloc, &mut contents, 40_000)?;
+    assert_all(&rt, alloc, &contents, 40_000, b'a')?;
+    set_len(alloc, &mut contents, 32_768)?;
+    assert_all(&rt, alloc, &contents, 32_768, b'a')?;
+    set_len(alloc, &mut contents, 32_770)?;
     assert_read(&rt, alloc, &contents, 32_766, b"aa\0\0")?;
-    contents.set_len(alloc, 3)?;
+    set_len(alloc, &mut contents, 3)?;
     assert_bytes(&rt, alloc, &contents, b"aaa")?;
-    contents.set_len(alloc, 65_536)?;
-    assert_eq!(rt; contents.len(), 65_536);
+    set_len(alloc, &mut contents, 65_536)?;
+    assert_len(&rt, &contents, 65_536);
     assert_read(&rt, alloc, &contents, 3, &many(alloc, 65_533, 0)?)?;
     Ok(())
 }
@@ -224,7 +243,7 @@ fn what_was_cut_off_does_not_come_back(rt: HostRuntime) -> Result<(), Fail> {
         0,
         many(alloc, 70_000, b'a')?.as_slice(),
     )?;
-    contents.set_len(alloc, 0)?;
+    set_len(alloc, &mut contents, 0)?;
     assert_bytes(&rt, alloc, &contents, b"")?;
     write(
         alloc,
@@ -232,13 +251,13 @@ fn what_was_cut_off_does_not_come_back(rt: HostRuntime) -> Result<(), Fail> {
         0,
         many(alloc, 32_768, b'b')?.as_slice(),
     )?;
-    assert_eq!(rt; contents.len(), 32_768);
+    assert_len(&rt, &contents, 32_768);
     assert_read(&rt, alloc, &contents, 32_766, b"bb")?;
-    contents.set_len(alloc, 70_000)?;
+    set_len(alloc, &mut contents, 70_000)?;
     assert_read(&rt, alloc, &contents, 32_766, b"bb\0\0")?;
     assert_read(&rt, alloc, &contents, 65_534, b"\0\0\0\0")?;
     assert_read(&rt, alloc, &contents, 69_998, b"\0\0")?;
-    assert_eq!(rt; contents.len(), 70_000);
+    assert_len(&rt, &contents, 70_000);
     Ok(())
 }
 

@@ -23,6 +23,23 @@ fn echo<L: Line>(alloc: Global, line: &mut L) -> Result<Vec<usize>, Fail> {
     Ok(counts)
 }
 
+fn reads<L: Line>(
+    rt: &impl Abort,
+    line: &mut L,
+    buffer: &mut [u8],
+    want: Result<usize, LineFault>,
+) {
+    assert_eq!(rt; line.read(buffer), want);
+}
+
+fn writes<L: Line>(rt: &impl Abort, line: &mut L, bytes: &[u8], want: Result<usize, LineFault>) {
+    assert_eq!(rt; line.write(bytes), want);
+}
+
+fn has_failed<L: Line>(rt: &impl Abort, line: &L, times: u64) {
+    assert_eq!(rt; line.failures(), times);
+}
+
 #[test]
 fn memory_line(rt: HostRuntime) -> Result<(), Fail> {
     let alloc = rt.alloc();
@@ -33,7 +50,7 @@ fn memory_line(rt: HostRuntime) -> Result<(), Fail> {
         [1usize, 3, 3, 0].as_slice()
     );
     assert_eq!(rt; line.output(), b"abcdefg".as_slice());
-    assert_eq!(rt; line.failures(), 0);
+    has_failed(&rt, &line, 0);
     Ok(())
 }
 
@@ -58,7 +75,7 @@ fn stream_line(rt: HostRuntime) -> Result<(), Fail> {
         echo(alloc, &mut line)?.as_slice(),
         [4usize, 3, 0].as_slice()
     );
-    assert_eq!(rt; line.failures(), 0);
+    has_failed(&rt, &line, 0);
     assert_eq!(rt; output.as_slice(), b"abcdefg".as_slice());
     Ok(())
 }
@@ -88,14 +105,14 @@ fn failing_streams(rt: HostRuntime) -> Result<(), Fail> {
     let mut no_room = [0u8; 0];
     let mut line = StreamLine::new(Failing { calls: 0 }, no_room.as_mut_slice());
     let mut buffer = [0u8; 2];
-    assert_eq!(rt; line.read(&mut buffer), Ok(1));
+    reads(&rt, &mut line, &mut buffer, Ok(1));
     assert_eq!(rt; buffer[0], b'x');
-    assert_eq!(rt; line.failures(), 0);
-    assert_eq!(rt; line.read(&mut buffer), Err(LineFault));
-    assert_eq!(rt; line.failures(), 1);
-    assert_eq!(rt; line.write(&buffer), Err(LineFault));
-    assert_eq!(rt; line.failures(), 2);
-    assert_eq!(rt; line.write(&[]), Ok(0));
+    has_failed(&rt, &line, 0);
+    reads(&rt, &mut line, &mut buffer, Err(LineFault));
+    has_failed(&rt, &line, 1);
+    writes(&rt, &mut line, &buffer, Err(LineFault));
+    has_failed(&rt, &line, 2);
+    writes(&rt, &mut line, &[], Ok(0));
     Ok(())
 }
 
@@ -110,12 +127,12 @@ fn a_million_reads(rt: HostRuntime) -> Result<(), Fail> {
     let mut memory_line = MemoryLine::new(alloc, &input, ones, ones);
     let mut buffer = [0u8; 1];
     for _ in 0..1_100_000 {
-        assert_eq!(rt; line.read(&mut buffer), Ok(1));
-        assert_eq!(rt; memory_line.read(&mut buffer), Ok(1));
+        reads(&rt, &mut line, &mut buffer, Ok(1));
+        reads(&rt, &mut memory_line, &mut buffer, Ok(1));
     }
-    assert_eq!(rt; line.read(&mut buffer), Ok(0));
-    assert_eq!(rt; memory_line.read(&mut buffer), Ok(0));
-    assert_eq!(rt; line.failures(), 0);
+    reads(&rt, &mut line, &mut buffer, Ok(0));
+    reads(&rt, &mut memory_line, &mut buffer, Ok(0));
+    has_failed(&rt, &line, 0);
     assert_eq!(rt; memory_line.calls().len(), 1_100_001);
     Ok(())
 }
@@ -145,10 +162,10 @@ impl Write for FailsOnce {
 fn a_writer_that_fails_once(rt: HostRuntime) -> Result<(), Fail> {
     let mut writer = FailsOnce { calls: 0 };
     let mut line = StreamLine::new(b"".as_slice(), &mut writer);
-    assert_eq!(rt; line.write(b"ab"), Err(LineFault));
-    assert_eq!(rt; line.failures(), 1);
-    assert_eq!(rt; line.write(b"ab"), Ok(2));
-    assert_eq!(rt; line.failures(), 1);
+    writes(&rt, &mut line, b"ab", Err(LineFault));
+    has_failed(&rt, &line, 1);
+    writes(&rt, &mut line, b"ab", Ok(2));
+    has_failed(&rt, &line, 1);
     assert_eq!(rt; writer.calls, 2);
     Ok(())
 }
@@ -160,10 +177,10 @@ fn calls_in_order(rt: HostRuntime) -> Result<(), Fail> {
     let pieces = Pieces::new(2, 3);
     let mut line = MemoryLine::new(alloc, b"abc", pieces, pieces);
     let mut buffer = [0u8; 4];
-    assert_eq!(rt; line.read(&mut buffer), Ok(2));
+    reads(&rt, &mut line, &mut buffer, Ok(2));
     write_all(&mut line, b"vwxyz")?;
-    assert_eq!(rt; line.read(&mut buffer), Ok(1));
-    assert_eq!(rt; line.read(&mut buffer), Ok(0));
+    reads(&rt, &mut line, &mut buffer, Ok(1));
+    reads(&rt, &mut line, &mut buffer, Ok(0));
     let want = [
         LineCall::Read(2),
         LineCall::Write(2),

@@ -5,12 +5,16 @@ use sf_reply::{MAX_PLAIN_REPLY, write_reply, write_version};
 use sf_request::{Asked, ByteStr, WireRequest, read_request};
 use sf_wire::{BadCut, Cut, cut};
 
+fn is_cut(rt: &impl Abort, bytes: &[u8], want: Cut) {
+    assert_eq!(rt; cut(bytes), want);
+}
+
 /// A packet is cut after all of its bytes and no sooner.
 fn is_one_packet(rt: &impl Abort, packet: &[u8]) {
     for len in 0..packet.len() {
-        assert_eq!(rt; cut(&packet[..len]), Cut::More);
+        is_cut(rt, &packet[..len], Cut::More);
     }
-    assert_eq!(rt; cut(packet), Cut::Whole(packet.len()));
+    is_cut(rt, packet, Cut::Whole(packet.len()));
 }
 
 /// What a body asks that has no room for an id, or for INIT's version.
@@ -145,11 +149,11 @@ fn realpath_of_empty_path(rt: HostRuntime) -> Result<(), Fail> {
 /// Four bytes tell a wrong length, and no fewer do.
 fn is_bad(rt: &impl Abort, length: [u8; 4], cause: BadCut) {
     for len in 0..4 {
-        assert_eq!(rt; cut(&length[..len]), Cut::More);
+        is_cut(rt, &length[..len], Cut::More);
     }
-    assert_eq!(rt; cut(&length), Cut::Bad(cause));
+    is_cut(rt, &length, Cut::Bad(cause));
     let [a, b, c, d] = length;
-    assert_eq!(rt; cut(&[a, b, c, d, 14]), Cut::Bad(cause));
+    is_cut(rt, &[a, b, c, d, 14], Cut::Bad(cause));
 }
 
 #[test]
@@ -157,7 +161,7 @@ fn wrong_lengths(rt: HostRuntime) {
     is_bad(&rt, [0, 0, 0, 0], BadCut::ZeroLength);
     is_bad(&rt, [0, 4, 0, 1], BadCut::TooLong);
     is_bad(&rt, [255, 255, 255, 255], BadCut::TooLong);
-    assert_eq!(rt; cut(&[0, 4, 0, 0]), Cut::More);
+    is_cut(&rt, &[0, 4, 0, 0], Cut::More);
 }
 
 #[test]
@@ -231,48 +235,41 @@ fn unknown_extension(rt: HostRuntime) -> Result<(), Fail> {
 #[test]
 fn statuses(rt: HostRuntime) -> Result<(), Fail> {
     let alloc = rt.alloc();
+    let mut longest = 0;
+    for (id, code, want) in [
+        (
+            6,
+            StatusCode::EndOfFile,
+            "0000001c 65 00000006 00000001 0000000b 456e64206f662066696c65 00000000",
+        ),
+        (
+            6,
+            StatusCode::NoSuchFile,
+            "0000001d 65 00000006 00000002 0000000c 4e6f20737563682066696c65 00000000",
+        ),
+        (
+            6,
+            StatusCode::PermissionDenied,
+            "00000022 65 00000006 00000003 00000011 5065726d697373696f6e2064656e696564 00000000",
+        ),
+        (
+            2,
+            StatusCode::BadMessage,
+            "0000001c 65 00000002 00000005 0000000b 426164206d657373616765 00000000",
+        ),
+        (
+            9,
+            StatusCode::OpUnsupported,
+            "00000026 65 00000009 00000008 00000015 4f7065726174696f6e20756e737570706f72746564 00000000",
+        ),
+    ] {
+        let mut out = BytesMut::new(alloc);
+        write_reply(id, &Reply::Status(code), &mut out)?;
+        is_written(&rt, alloc, &out, want)?;
+        longest = out.len().max(longest);
+    }
+    assert_eq!(rt; longest, MAX_PLAIN_REPLY);
     let mut out = BytesMut::new(alloc);
-    write_reply(6, &Reply::Status(StatusCode::EndOfFile), &mut out)?;
-    is_written(
-        &rt,
-        alloc,
-        &out,
-        "0000001c 65 00000006 00000001 0000000b 456e64206f662066696c65 00000000",
-    )?;
-    out.clear();
-    write_reply(6, &Reply::Status(StatusCode::NoSuchFile), &mut out)?;
-    is_written(
-        &rt,
-        alloc,
-        &out,
-        "0000001d 65 00000006 00000002 0000000c 4e6f20737563682066696c65 00000000",
-    )?;
-    out.clear();
-    write_reply(6, &Reply::Status(StatusCode::PermissionDenied), &mut out)?;
-    is_written(
-        &rt,
-        alloc,
-        &out,
-        "00000022 65 00000006 00000003 00000011 5065726d697373696f6e2064656e696564 00000000",
-    )?;
-    out.clear();
-    write_reply(2, &Reply::Status(StatusCode::BadMessage), &mut out)?;
-    is_written(
-        &rt,
-        alloc,
-        &out,
-        "0000001c 65 00000002 00000005 0000000b 426164206d657373616765 00000000",
-    )?;
-    out.clear();
-    write_reply(9, &Reply::Status(StatusCode::OpUnsupported), &mut out)?;
-    assert_eq!(rt; out.len(), MAX_PLAIN_REPLY);
-    is_written(
-        &rt,
-        alloc,
-        &out,
-        "00000026 65 00000009 00000008 00000015 4f7065726174696f6e20756e737570706f72746564 00000000",
-    )?;
-    out.clear();
     write_reply(3, &Reply::NoMemory, &mut out)?;
     is_written(
         &rt,
