@@ -291,9 +291,9 @@ fn a_rename_waits(rt: HostRuntime) -> Result<(), Fail> {
         let mut ground = Ground::new(&rt, alloc)?;
         ground.store.hold(held, OTHER);
         let before = ground.store.look_ups();
-        let rename = rename(alloc, b"/d/a/b/x", b"/d/c/e/y");
         let stages = ground.both_ways();
         let stages = stages.get(..count).ok_or("too many stages")?;
+        let rename = rename(alloc, b"/d/a/b/x", b"/d/c/e/y");
         let walk = ground.walks(&rt, rename, stages);
         assert_eq!(rt; walk, Walk::Blocked(OTHER));
         ground.looked(&rt, before, u64::try_from(count).unwrap_or(0));
