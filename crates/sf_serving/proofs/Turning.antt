@@ -7,7 +7,6 @@ use Rattle.sf_wire.specs.Packets.{IsCut}
 use Rattle.sf_reply.specs.declared.reply.Reply.{Reply}
 use Rattle.sf_call.specs.declared.request.Request.{Request}
 use Rattle.sf_call.specs.declared.record.Record.{Record}
-use Rattle.sf_session.specs.declared.cause.Cause.TheVariants.{Closed}
 use Rattle.sf_session.specs.Sessions.{EndsBy}
 use Rattle.sf_engine.specs.declared.event.Event.TheVariants as event
 use Rattle.sf_engine.specs.declared.event.Happened.{Happened}
@@ -18,7 +17,7 @@ use Rattle.sf_engine.specs.Traces.{has_begun, goes_on, IsSession, TakesBytes, Le
 use Rattle.sf_engine.specs.Views.{EngineView}
 use Rattle.sf_engine.specs.Fits.{GoesOnTrace, HasTurns}
 use Rattle.sf_line.specs.declared.line_call.LineCall.{LineCall}
-use Rattle.sf_serving.specs.Serving.{Scene, scene, MayBegin, may_begin_after, IsFront, IsLow, IsLowAt, Progress, progress, Serves, IsInStep, GoesOn, HasTurnBy, IsIdle, HasTurned}
+use Rattle.sf_serving.specs.Serving.{Scene, scene, MayBegin, may_begin_after, IsFront, IsLow, IsLowAt, Progress, progress, Serves, IsInStep, GoesOn, HasTurnBy, HasTurned}
 use Rattle.sf_serving.proofs.Causes.{not_closed}
 use Rattle.sf_serving.proofs.Following.{Follows, Leading, Timing, go_on, same_told}
 

@@ -9,4 +9,4 @@ returns-then-not-may_begin g c = λ start incoming outgoing calls serves.
 
 pub returns : goal.returns
 returns g c = λ start incoming outgoing calls serves.
-    many_serve c.turns.ensures.0 start incoming outgoing calls _ _ _ _ c.args.session c.now.result c.args.may_begin (c.now.result ∷ []) _ serves c.turns.ensures.1 c.now.ensures (inl refl)
+    many_serve c.turns-2.ensures.0 start incoming outgoing calls _ _ _ _ c.args.session c.now-moment.result c.args.may_begin (c.now-moment.result ∷ []) _ serves c.turns-2.ensures.1 c.now-moment.ensures (inl refl)
