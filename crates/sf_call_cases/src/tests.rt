@@ -60,8 +60,17 @@ fn parts_replace(rt: HostRuntime) {
     assert_eq!(rt; FileType::File.bits(), 0o100000);
 }
 
-/// One request of each kind. No two fields of one request are alike.
-fn one_of_each(alloc: Global) -> Result<Vec<Request>, Fail> {
+fn path(alloc: Global, text: &[u8]) -> Result<Path, Fail> {
+    Ok(Path::parse(alloc, text)?)
+}
+
+fn add_by_path(alloc: Global, requests: &mut Vec<Request>) -> Result<(), Fail> {
+    requests.push(Request::Stat(path(alloc, b"/a/b")?))?;
+    requests.push(Request::SetStat(path(alloc, b"/c")?, ALL))?;
+    requests.push(Request::Mkdir(path(alloc, b"/a/d")?, ALL))?;
+    requests.push(Request::Rmdir(path(alloc, b"/a/d")?))?;
+    requests.push(Request::Remove(path(alloc, b"/")?))?;
+    requests.push(Request::OpenDir(path(alloc, b"/a")?))?;
     let flags = OpenFlags {
         read: true,
         write: false,
@@ -70,31 +79,48 @@ fn one_of_each(alloc: Global) -> Result<Vec<Request>, Fail> {
         truncate: true,
         exclusive: false,
     };
-    Ok(vec![in alloc;
-        Request::Stat(Path::parse(alloc, b"/a/b")?),
-        Request::SetStat(Path::parse(alloc, b"/c")?, ALL),
-        Request::Mkdir(Path::parse(alloc, b"/a/d")?, ALL),
-        Request::Rmdir(Path::parse(alloc, b"/a/d")?),
-        Request::Remove(Path::parse(alloc, b"/")?),
-        Request::OpenDir(Path::parse(alloc, b"/a")?),
-        Request::Open(Path::parse(alloc, b"/a/f")?, flags, NOTHING),
-        Request::Close(1),
-        Request::FStat(2),
-        Request::FSetStat(3, ALL),
-        Request::Read {
-            handle: 4,
-            offset: 5,
-            len: 6,
-        },
-        Request::Write {
-            handle: 7,
-            offset: 8,
-            data: ByteString::from_slice(alloc, b"xyz")?,
-        },
-        Request::ReadDir(9),
-        Request::Rename(Path::parse(alloc, b"/a")?, Path::parse(alloc, b"/b")?),
-        Request::PosixRename(Path::parse(alloc, b"/a")?, Path::parse(alloc, b"/b")?),
-    ]?)
+    requests.push(Request::Open(path(alloc, b"/a/f")?, flags, NOTHING))?;
+    Ok(())
+}
+
+fn add_by_handle(alloc: Global, requests: &mut Vec<Request>) -> Result<(), Fail> {
+    requests.push(Request::Close(1))?;
+    requests.push(Request::FStat(2))?;
+    requests.push(Request::FSetStat(3, ALL))?;
+    requests.push(Request::Read {
+        handle: 4,
+        offset: 5,
+        len: 6,
+    })?;
+    requests.push(Request::Write {
+        handle: 7,
+        offset: 8,
+        data: ByteString::from_slice(alloc, b"xyz")?,
+    })?;
+    requests.push(Request::ReadDir(9))?;
+    Ok(())
+}
+
+fn rename(alloc: Global, old: &[u8], new: &[u8]) -> Result<Request, Fail> {
+    let old = path(alloc, old)?;
+    let new = path(alloc, new)?;
+    Ok(Request::Rename(old, new))
+}
+
+fn posix_rename(alloc: Global, old: &[u8], new: &[u8]) -> Result<Request, Fail> {
+    let old = path(alloc, old)?;
+    let new = path(alloc, new)?;
+    Ok(Request::PosixRename(old, new))
+}
+
+/// One request of each kind. No two fields of one request are alike.
+fn one_of_each(alloc: Global) -> Result<Vec<Request>, Fail> {
+    let mut requests = Vec::new(alloc);
+    add_by_path(alloc, &mut requests)?;
+    add_by_handle(alloc, &mut requests)?;
+    requests.push(rename(alloc, b"/a", b"/b")?)?;
+    requests.push(posix_rename(alloc, b"/a", b"/b")?)?;
+    Ok(requests)
 }
 
 #[test]
@@ -113,11 +139,9 @@ fn copies_of_requests(rt: HostRuntime) -> Result<(), Fail> {
 
 fn is_copied(rt: &impl Abort, alloc: Global, handle: &Handle) -> Result<(), Fail> {
     let copy = handle.try_copy(alloc)?;
-    assert_eq!(rt; (copy.session, copy.label), (handle.session, handle.label));
-    assert_eq!(rt; copy.read, handle.read);
-    assert_eq!(rt; copy.write, handle.write);
-    assert_eq!(rt; copy.append, handle.append);
-    assert_eq!(rt; copy.listed, handle.listed);
+    assert!(rt; copy.session == handle.session && copy.label == handle.label);
+    assert!(rt; copy.read == handle.read && copy.write == handle.write);
+    assert!(rt; copy.append == handle.append && copy.listed == handle.listed);
     Ok(())
 }
 
@@ -170,28 +194,35 @@ fn words_of_faults(rt: HostRuntime) -> Result<(), Fail> {
     Ok(())
 }
 
+fn close_call(number: u64) -> Call {
+    Call {
+        number,
+        session: 1,
+        moment: 100,
+        request: Request::Close(number),
+        stage: Stage::Fresh,
+        copy: None,
+        reply: None,
+    }
+}
+
+fn stands_at(rt: &impl Abort, calls: &Calls, number: u64, want: Stage) {
+    let Some(call) = calls.get(number) else {
+        panic!(rt; "no call {number}");
+    };
+    assert!(rt; call.stage == want);
+    assert!(rt; call.request == Request::Close(number));
+}
+
 #[test]
 fn unanswered_calls(rt: HostRuntime) -> Result<(), Fail> {
     let mut calls = Calls::new(rt.alloc());
-    for number in [7, 5] {
-        let call = Call {
-            number,
-            session: 1,
-            moment: 100,
-            request: Request::Close(number),
-            stage: Stage::Fresh,
-            copy: None,
-            reply: None,
-        };
-        calls.insert(call)?;
-    }
+    calls.insert(close_call(7))?;
+    calls.insert(close_call(5))?;
     let walked = Stage::At { walked: 1, node: 3 };
     calls.set_stage(7, walked);
-    let call = calls.get(7).ok_or("no call 7")?;
-    assert_eq!(rt; call.stage, walked);
-    assert_eq!(rt; call.request, Request::Close(7));
-    let call = calls.get(5).ok_or("no call 5")?;
-    assert_eq!(rt; call.stage, Stage::Fresh);
+    stands_at(&rt, &calls, 7, walked);
+    stands_at(&rt, &calls, 5, Stage::Fresh);
     assert!(rt; calls.remove(5).is_some());
     assert!(rt; calls.get(5).is_none());
     assert!(rt; calls.get(7).is_some());

@@ -1,5 +1,7 @@
 //! Each call of a store with ample memory, with what POSIX says of its like.
 
+ghost use Rattle.std.specs.Prelude.{◌+◌, ◌<◌, ◌^◌, length};
+
 use sf_call::{FileType, Metadata};
 use sf_field::{ByteString, NO_ATTRS, Owner, Times};
 use sf_inode::{Marks, NewNode, NodeId, Store};
@@ -45,31 +47,51 @@ struct Ground {
     alloc: Global,
 }
 
+/// What memory was there for.
+fn given<T>(rt: &impl Abort, found: Result<T, Fail>) -> T {
+    match found {
+        Ok(value) => value,
+        Err(_) => panic!(rt; "not given"),
+    }
+}
+
 impl Ground {
-    fn new(alloc: Global) -> Result<Ground, Fail> {
-        let store = Store::new(alloc)?;
-        Ok(Ground { store, alloc })
+    fn new(rt: &impl Abort, alloc: Global) -> Ground {
+        match Store::new(alloc) {
+            Ok(store) => Ground { store, alloc },
+            Err(_) => panic!(rt; "no memory"),
+        }
     }
 
-    fn makes(&mut self, parent: NodeId, text: &[u8], made: NewNode) -> Result<NodeId, Fail> {
+    fn root(&self) -> NodeId {
+        self.store.root()
+    }
+
+    fn try_insert(&mut self, parent: NodeId, text: &[u8], made: NewNode) -> Result<NodeId, Fail> {
         let name = name(self.alloc, text)?;
         Ok(self.store.insert(parent, name, made)?)
     }
 
-    fn directory(&mut self, parent: NodeId, text: &[u8], label: u64) -> Result<NodeId, Fail> {
-        self.makes(parent, text, made(label, FileType::Directory))
+    fn directory(&mut self, rt: &impl Abort, parent: NodeId, text: &[u8], label: u64) -> NodeId {
+        given(
+            rt,
+            self.try_insert(parent, text, made(label, FileType::Directory)),
+        )
     }
 
-    fn file(&mut self, parent: NodeId, text: &[u8], label: u64) -> Result<NodeId, Fail> {
-        self.makes(parent, text, made(label, FileType::File))
+    fn file(&mut self, rt: &impl Abort, parent: NodeId, text: &[u8], label: u64) -> NodeId {
+        given(
+            rt,
+            self.try_insert(parent, text, made(label, FileType::File)),
+        )
     }
 
-    fn unlink(&mut self, parent: NodeId, text: &[u8]) -> Result<(), Fail> {
-        self.store.unlink(parent, &name(self.alloc, text)?);
-        Ok(())
+    fn unlink(&mut self, rt: &impl Abort, parent: NodeId, text: &[u8]) {
+        self.store
+            .unlink(parent, &given(rt, name(self.alloc, text)));
     }
 
-    fn relink(
+    fn try_relink(
         &mut self,
         parent: NodeId,
         text: &[u8],
@@ -81,8 +103,25 @@ impl Ground {
         Ok(self.store.relink(parent, &old, to, new)?)
     }
 
-    fn open(&mut self, session: u64, number: u64, node: NodeId, read: bool) -> Result<(), Fail> {
-        Ok(self.store.open(session, number, node, marks(read))?)
+    fn relink(
+        &mut self,
+        rt: &impl Abort,
+        parent: NodeId,
+        text: &[u8],
+        to: NodeId,
+        new_text: &[u8],
+    ) {
+        given(rt, self.try_relink(parent, text, to, new_text));
+    }
+
+    fn open(&mut self, rt: &impl Abort, session: u64, number: u64, node: NodeId, read: bool) {
+        let opened = self.store.open(session, number, node, marks(read));
+        assert!(rt; opened.is_ok());
+    }
+
+    fn set_len(&mut self, rt: &impl Abort, node: NodeId, len: u64) {
+        let set = self.store.set_len(node, len);
+        assert!(rt; set.is_ok());
     }
 
     /// Whether a handle was there to be closed.
@@ -94,34 +133,40 @@ impl Ground {
         assert_eq!(rt; self.store.handles(session), want);
     }
 
-    /// The last name that a handle has listed.
-    fn has_listed(
+    /// Notes the last name that a handle has listed.
+    fn lists_to(&mut self, rt: &impl Abort, session: u64, number: u64, text: &[u8]) {
+        let name = given(rt, name(self.alloc, text));
+        let listed = self.store.listed(session, number, &name);
+        assert!(rt; listed.is_ok());
+    }
+
+    /// The node of a handle and its label, and the last name that it has listed.
+    fn has_handle(
         &self,
         rt: &impl Abort,
         session: u64,
         number: u64,
+        (node, label): (NodeId, u64),
         want: &[u8],
-    ) -> Result<(), Fail> {
-        let handle = self.store.handle(session, number).ok_or("no handle")?;
-        let listed = handle.listed.as_ref().ok_or("nothing listed")?;
-        assert_eq!(rt; listed.as_slice(), want);
-        Ok(())
+    ) {
+        let Some(handle) = self.store.handle(session, number) else {
+            panic!(rt; "no handle");
+        };
+        assert!(rt; handle.node == node && handle.label == label);
+        assert!(rt; handle.marks == marks(true));
+        match &handle.listed {
+            Some(listed) => assert!(rt; listed.as_slice() == want),
+            None => panic!(rt; "nothing listed"),
+        }
     }
 
     fn has_no_handle(&self, rt: &impl Abort, session: u64, number: u64) {
         assert!(rt; self.store.handle(session, number).is_none());
     }
 
-    fn finds(
-        &mut self,
-        rt: &impl Abort,
-        parent: NodeId,
-        text: &[u8],
-        want: Option<NodeId>,
-    ) -> Result<(), Fail> {
-        let found = self.store.find(parent, &name(self.alloc, text)?);
-        assert_eq!(rt; found, want);
-        Ok(())
+    fn finds(&mut self, rt: &impl Abort, parent: NodeId, text: &[u8], want: Option<NodeId>) {
+        let found = self.store.find(parent, &given(rt, name(self.alloc, text)));
+        assert!(rt; found == want);
     }
 
     fn is_empty(&self, rt: &impl Abort, node: NodeId, want: bool) {
@@ -133,78 +178,94 @@ impl Ground {
     }
 
     fn is_held(&self, rt: &impl Abort, node: NodeId, want: Option<u64>) {
-        assert_eq!(rt; self.store.holder(node), want);
+        assert!(rt; self.store.holder(node) == want);
     }
 
     fn is_gone(&self, rt: &impl Abort, node: NodeId) {
-        assert_eq!(rt; self.store.attrs(node), None);
+        assert!(rt; self.store.attrs(node).is_none());
     }
 
     /// The size of a node that is there.
     fn has_size(&self, rt: &impl Abort, node: NodeId, want: u64) {
         match self.store.attrs(node) {
-            Some(attrs) => assert_eq!(rt; attrs.size, Some(want)),
+            Some(attrs) => assert!(rt; attrs.size == Some(want)),
             None => panic!(rt; "no node"),
         }
     }
 
     /// The names in the root after one of them, so many at most. Each is found, and leads to the node that stands
     /// beside it.
-    fn lists(
-        &mut self,
-        rt: &impl Abort,
-        after: Option<&[u8]>,
-        most: usize,
-        want: &[&[u8]],
-    ) -> Result<(), Fail> {
-        let root = self.store.root();
+    fn lists(&mut self, rt: &impl Abort, after: Option<&[u8]>, most: usize, want: &[&[u8]]) {
         let last = match after {
-            Some(text) => Some(name(self.alloc, text)?),
+            Some(text) => Some(given(rt, name(self.alloc, text))),
             None => None,
         };
-        let found = self.store.entries_after(root, last.as_ref(), most)?;
-        assert_eq!(rt; found.len(), want.len());
+        let found = self.listed(rt, last.as_ref(), most);
+        let root = self.root();
+        assert!(rt; found.len() == want.len());
         for ((found_name, node), want) in found.iter().zip(want) {
-            assert_eq!(rt; found_name.as_slice(), *want);
-            assert_eq!(rt; self.store.find(root, found_name), Some(*node));
+            assert!(rt; found_name.as_slice() == *want);
+            assert!(rt; self.store.find(root, found_name) == Some(*node));
         }
-        Ok(())
+    }
+
+    fn listed(&self, rt: &impl Abort, after: Option<&Name>, most: usize) -> Vec<(Name, NodeId)> {
+        match self.store.entries_after(self.root(), after, most) {
+            Ok(found) => found,
+            Err(_) => panic!(rt; "no memory"),
+        }
+    }
+
+    fn try_write(&mut self, file: NodeId, offset: u64, bytes: &[u8]) -> Result<(), Fail>
+        requires { offset + length bytes.now < 2 ^ 64 }
+    {
+        let bytes = ByteString::from_slice(self.alloc, bytes)?;
+        Ok(self.store.write(file, offset, &bytes)?)
+    }
+
+    fn write(&mut self, rt: &impl Abort, file: NodeId, offset: u64, bytes: &[u8])
+        requires { offset + length bytes.now < 2 ^ 64 }
+    {
+        given(rt, self.try_write(file, offset, bytes));
     }
 
     /// The first four bytes of a file, or all where it has fewer.
-    fn begins(&self, rt: &impl Abort, node: NodeId, want: &[u8]) -> Result<(), Fail> {
-        let file = self.store.file(node).ok_or("no file")?;
-        assert_eq!(rt; file.read(self.alloc, 0, 4)?.as_slice(), want);
-        Ok(())
+    fn begins(&self, rt: &impl Abort, node: NodeId, want: &[u8]) {
+        let Some(file) = self.store.file(node) else {
+            panic!(rt; "no file");
+        };
+        match file.read(self.alloc, 0, 4) {
+            Ok(bytes) => assert!(rt; bytes.as_slice() == want),
+            Err(_) => panic!(rt; "no memory"),
+        }
     }
 }
 
 #[test]
-fn find_what_was_inserted(rt: HostRuntime) -> Result<(), Fail> {
-    let mut ground = Ground::new(rt.alloc())?;
-    let root = ground.store.root();
+fn find_what_was_inserted(rt: HostRuntime) {
+    let mut ground = Ground::new(&rt, rt.alloc());
+    let root = ground.root();
     ground.is_empty(&rt, root, true);
-    let a = ground.directory(root, b"/a", 1)?;
-    let b = ground.file(a, b"/b", 2)?;
+    let a = ground.directory(&rt, root, b"/a", 1);
+    let b = ground.file(&rt, a, b"/b", 2);
     ground.is_empty(&rt, root, false);
     ground.is_directory(&rt, a, true);
     ground.is_directory(&rt, b, false);
-    ground.finds(&rt, root, b"/a", Some(a))?;
-    ground.finds(&rt, a, b"/b", Some(b))?;
-    ground.finds(&rt, root, b"/b", None)?;
-    assert_eq!(rt; ground.store.look_ups(), 3);
-    ground.unlink(a, b"/b")?;
-    ground.finds(&rt, a, b"/b", None)?;
+    ground.finds(&rt, root, b"/a", Some(a));
+    ground.finds(&rt, a, b"/b", Some(b));
+    ground.finds(&rt, root, b"/b", None);
+    assert!(rt; ground.store.look_ups() == 3);
+    ground.unlink(&rt, a, b"/b");
+    ground.finds(&rt, a, b"/b", None);
     ground.is_gone(&rt, b);
     ground.is_empty(&rt, a, true);
-    Ok(())
 }
 
 #[test]
-fn hold_set_and_touch(rt: HostRuntime) -> Result<(), Fail> {
-    let mut ground = Ground::new(rt.alloc())?;
-    let root = ground.store.root();
-    let a = ground.file(root, b"/a", 1)?;
+fn hold_set_and_touch(rt: HostRuntime) {
+    let mut ground = Ground::new(&rt, rt.alloc());
+    let root = ground.root();
+    let a = ground.file(&rt, root, b"/a", 1);
     ground.store.hold(a, 7);
     ground.is_held(&rt, a, Some(7));
     ground.is_held(&rt, root, None);
@@ -214,181 +275,167 @@ fn hold_set_and_touch(rt: HostRuntime) -> Result<(), Fail> {
     attrs.permissions = Some(0o600);
     ground.store.set(a, &attrs);
     ground.store.touch(a, 9);
-    let attrs = ground.store.attrs(a).ok_or("no attributes")?;
-    assert_eq!(rt; attrs.permissions, Some(0o100600));
-    assert_eq!(rt; attrs.times, Some(Times { atime: 5, mtime: 9 }));
-    Ok(())
+    let Some(attrs) = ground.store.attrs(a) else {
+        panic!(rt; "no attributes");
+    };
+    assert!(rt; attrs.permissions == Some(0o100600));
+    assert!(rt; attrs.times == Some(Times { atime: 5, mtime: 9 }));
 }
 
 #[test]
-fn bytes_outlive_the_name(rt: HostRuntime) -> Result<(), Fail> {
-    let mut ground = Ground::new(rt.alloc())?;
-    let root = ground.store.root();
-    let a = ground.file(root, b"/a", 1)?;
-    ground.store.set_len(a, 2)?;
+fn bytes_outlive_the_name(rt: HostRuntime) {
+    let mut ground = Ground::new(&rt, rt.alloc());
+    let root = ground.root();
+    let a = ground.file(&rt, root, b"/a", 1);
+    ground.set_len(&rt, a, 2);
     ground.has_size(&rt, a, 2);
-    ground.open(3, 10, a, true)?;
-    ground.open(4, 11, a, false)?;
+    ground.open(&rt, 3, 10, a, true);
+    ground.open(&rt, 4, 11, a, false);
     ground.has_handles(&rt, 3, 1);
-    ground.unlink(root, b"/a")?;
-    ground.begins(&rt, a, b"\0\0")?;
+    ground.unlink(&rt, root, b"/a");
+    ground.begins(&rt, a, b"\0\0");
     ground.closes(&rt, 3, 10, true);
     ground.has_size(&rt, a, 2);
     ground.has_handles(&rt, 3, 0);
     ground.store.close_all(4);
     ground.is_gone(&rt, a);
-    Ok(())
 }
 
 /// A file's bytes, with a gap before those that were written.
 #[test]
-fn written_bytes_are_read(rt: HostRuntime) -> Result<(), Fail> {
+fn written_bytes_are_read(rt: HostRuntime) {
     let alloc = rt.alloc();
-    let mut ground = Ground::new(alloc)?;
-    let root = ground.store.root();
-    let a = ground.file(root, b"/a", 1)?;
-    let bytes = ByteString::from_slice(alloc, b"xy")?;
-    ground.store.write(a, 1, &bytes)?;
-    ground.begins(&rt, a, b"\0xy")?;
+    let mut ground = Ground::new(&rt, alloc);
+    let root = ground.root();
+    let a = ground.file(&rt, root, b"/a", 1);
+    ground.write(&rt, a, 1, b"xy");
+    ground.begins(&rt, a, b"\0xy");
     assert!(rt; ground.store.file(root).is_none());
-    ground.store.set_len(a, 2)?;
+    ground.set_len(&rt, a, 2);
     ground.has_size(&rt, a, 2);
     ground.begins(&rt, a, b"\0x")
 }
 
 #[test]
-fn a_named_node_stays_when_closed(rt: HostRuntime) -> Result<(), Fail> {
+fn a_named_node_stays_when_closed(rt: HostRuntime) {
     let alloc = rt.alloc();
-    let mut ground = Ground::new(alloc)?;
-    let root = ground.store.root();
-    let a = ground.directory(root, b"/a", 1)?;
-    ground.open(3, 10, a, true)?;
-    ground.store.listed(3, 10, &name(alloc, b"/k")?)?;
-    ground.has_listed(&rt, 3, 10, b"k")?;
-    let handle = ground.store.handle(3, 10).ok_or("no handle")?;
-    assert_eq!(rt; (handle.node, handle.label), (a, 1));
-    assert_eq!(rt; handle.marks, marks(true));
+    let mut ground = Ground::new(&rt, alloc);
+    let root = ground.root();
+    let a = ground.directory(&rt, root, b"/a", 1);
+    ground.open(&rt, 3, 10, a, true);
+    ground.lists_to(&rt, 3, 10, b"/k");
+    ground.has_handle(&rt, 3, 10, (a, 1), b"k");
     ground.has_no_handle(&rt, 4, 10);
     ground.closes(&rt, 4, 10, false);
     ground.closes(&rt, 3, 10, true);
     ground.has_no_handle(&rt, 3, 10);
     ground.closes(&rt, 3, 10, false);
     ground.has_size(&rt, a, 0);
-    Ok(())
 }
 
 #[test]
-fn rename_with_what_lies_below_and_over_a_file(rt: HostRuntime) -> Result<(), Fail> {
-    let mut ground = Ground::new(rt.alloc())?;
-    let root = ground.store.root();
-    let a = ground.directory(root, b"/a", 1)?;
-    let b = ground.file(a, b"/b", 2)?;
-    ground.relink(root, b"/a", root, b"/c")?;
-    ground.finds(&rt, root, b"/a", None)?;
-    ground.finds(&rt, root, b"/c", Some(a))?;
-    ground.finds(&rt, a, b"/b", Some(b))?;
-    let f = ground.file(root, b"/f", 3)?;
-    ground.relink(a, b"/b", root, b"/f")?;
-    ground.finds(&rt, root, b"/f", Some(b))?;
-    ground.finds(&rt, a, b"/b", None)?;
+fn rename_with_what_lies_below_and_over_a_file(rt: HostRuntime) {
+    let mut ground = Ground::new(&rt, rt.alloc());
+    let root = ground.root();
+    let a = ground.directory(&rt, root, b"/a", 1);
+    let b = ground.file(&rt, a, b"/b", 2);
+    ground.relink(&rt, root, b"/a", root, b"/c");
+    ground.finds(&rt, root, b"/a", None);
+    ground.finds(&rt, root, b"/c", Some(a));
+    ground.finds(&rt, a, b"/b", Some(b));
+    let f = ground.file(&rt, root, b"/f", 3);
+    ground.relink(&rt, a, b"/b", root, b"/f");
+    ground.finds(&rt, root, b"/f", Some(b));
+    ground.finds(&rt, a, b"/b", None);
     ground.is_gone(&rt, f);
-    Ok(())
 }
 
 #[test]
-fn entries_in_the_order_of_their_names(rt: HostRuntime) -> Result<(), Fail> {
+fn entries_in_the_order_of_their_names(rt: HostRuntime) {
     let alloc = rt.alloc();
-    let mut ground = Ground::new(alloc)?;
-    let root = ground.store.root();
+    let mut ground = Ground::new(&rt, alloc);
+    let root = ground.root();
     for (label, text) in [(1, b"/m"), (2, b"/c"), (3, b"/x"), (4, b"/a")] {
-        ground.file(root, text, label)?;
+        ground.file(&rt, root, text, label);
     }
-    ground.lists(&rt, None, 2, &[b"a", b"c"])?;
-    ground.lists(&rt, Some(b"/c"), 9, &[b"m", b"x"])?;
+    ground.lists(&rt, None, 2, &[b"a", b"c"]);
+    ground.lists(&rt, Some(b"/c"), 9, &[b"m", b"x"]);
     ground.lists(&rt, Some(b"/x"), 9, &[])
 }
 
 const MANY: u64 = 1000;
 
 /// The name of a number below `MANY`, so that names stand in the order of their numbers.
-fn numbered(alloc: Global, number: u64) -> Result<Name, Fail> {
-    let text = format!(in alloc; "/{:04}", number)?;
-    name(alloc, text.as_bytes())
+fn numbered(number: u64) -> [u8; 5] {
+    let digit = |place: u64| b'0'.wrapping_add((number / place % 10) as u8);
+    [b'/', digit(1000), digit(100), digit(10), digit(1)]
 }
 
-/// Lists a directory 32 names at a time. Each name and its node are those of the numbers from `first`
-/// on, `step` apart.
-fn assert_listed(
-    rt: &impl Abort,
-    alloc: Global,
-    store: &mut Store,
-    first: u64,
-    step: u64,
-) -> Result<(), Fail> {
-    let root = store.root();
+/// Lists the root 32 names at a time. Each name is that of the next number from `first` on, `step` apart, and is
+/// found where its node is.
+fn lists_all(rt: &impl Abort, ground: &mut Ground, first: u64, step: u64) {
+    let root = ground.root();
     let mut want = first;
     let mut last = None;
     for _ in 0..MANY {
-        let found = store.entries_after(root, last.as_ref(), 32)?;
-        for entry in &found {
-            let named = numbered(alloc, want)?;
-            assert!(rt; entry.0 == named, "{want}");
-            assert_eq!(rt; store.find(root, &named), Some(entry.1), "{want}");
-            want = want.saturating_add(step);
+        let found = ground.listed(rt, last.as_ref(), 32);
+        for (found_name, node) in &found {
+            let named = numbered(want);
+            assert!(rt; found_name.as_slice() == &named[1..], "{want}");
+            ground.finds(rt, root, &named, Some(*node));
+            want = want.wrapping_add(step);
         }
-        match found.last() {
-            Some(entry) => last = Some(entry.0.try_copy(alloc)?),
-            None => {
-                assert!(rt; want >= MANY, "{want}");
-                return Ok(());
-            }
-        }
+        let Some((found_name, _)) = found.last() else {
+            assert!(rt; want >= MANY, "{want}");
+            return;
+        };
+        let copied = found_name.try_copy(ground.alloc);
+        let Ok(copied) = copied else {
+            panic!(rt; "no memory");
+        };
+        last = Some(copied);
     }
     panic!(rt; "no end")
 }
 
 #[test]
-fn many_names_in_any_order(rt: HostRuntime) -> Result<(), Fail> {
-    let alloc = rt.alloc();
+fn many_names_in_any_order(rt: HostRuntime) {
     // Rising, falling, and in no order.
     for factor in [1, MANY - 1, 377] {
-        let mut store = Store::new(alloc)?;
-        let root = store.root();
+        let mut ground = Ground::new(&rt, rt.alloc());
+        let root = ground.root();
         for i in 1..MANY + 1 {
-            let number = i * factor % MANY;
-            store.insert(root, numbered(alloc, number)?, made(i, FileType::File))?;
+            ground.file(&rt, root, &numbered(i * factor % MANY), i);
         }
-        assert_listed(&rt, alloc, &mut store, 0, 1)?;
+        lists_all(&rt, &mut ground, 0, 1);
         for i in 0..MANY / 2 {
-            let number = i * factor * 2 % MANY;
-            store.unlink(root, &numbered(alloc, number)?);
+            ground.unlink(&rt, root, &numbered(i * factor * 2 % MANY));
         }
-        assert_listed(&rt, alloc, &mut store, 1, 2)?;
+        lists_all(&rt, &mut ground, 1, 2);
         for i in 0..MANY / 2 {
-            store.unlink(root, &numbered(alloc, 2 * i + 1)?);
+            ground.unlink(&rt, root, &numbered(2 * i + 1));
         }
-        assert!(rt; store.is_empty(root));
-        assert_eq!(rt; store.entries_after(root, None, 32)?.len(), 0);
+        ground.is_empty(&rt, root, true);
+        ground.lists(&rt, None, 32, &[]);
     }
-    Ok(())
 }
 
 /// Of a chain of directories and a file the file is left, under its number.
 #[test]
-fn trimmed_nodes_stay(rt: HostRuntime) -> Result<(), Fail> {
+fn trimmed_nodes_stay(rt: HostRuntime) {
     let alloc = rt.alloc();
-    let mut ground = Ground::new(alloc)?;
-    let root = ground.store.root();
-    let kept = ground.file(root, b"/k", 1)?;
-    ground.store.set_len(kept, 3)?;
-    let mut chain = Vec::new(alloc);
+    let mut ground = Ground::new(&rt, alloc);
+    let root = ground.root();
+    let kept = ground.file(&rt, root, b"/k", 1);
+    ground.set_len(&rt, kept, 3);
+    let mut chain = [root; 64];
     let mut last = root;
-    for label in 2..66 {
-        chain.push(last)?;
-        last = ground.directory(last, b"/d", label)?;
+    for (above, label) in chain.iter_mut().zip(2..) {
+        *above = last;
+        last = ground.directory(&rt, last, b"/d", label);
     }
     for above in chain.iter().rev() {
-        ground.unlink(*above, b"/d")?;
+        ground.unlink(&rt, *above, b"/d");
         ground.store.trim();
     }
     ground.is_gone(&rt, last);

@@ -1,43 +1,34 @@
-//! The same calls on the store and on the slow tree: each reply of one is that of the other.
+//! The same calls on the slow tree and on the store: each reply of one is that of the other.
 
 use sf_call::{Call, Request, Stage};
+use sf_cases::requests::{
+    close, mkdir, open, open_dir, path, posix_rename, read, read_dir, remove, rename, rmdir,
+    set_handle, set_stat, stat, stat_handle, write,
+};
+use sf_cases::{sized, whole};
+use sf_field::{Attrs, NO_ATTRS, Owner, Times};
 use sf_inode::Store;
 use sf_plain::PlainTree;
-use sf_reply::{Reply, StatusCode};
-use sf_walk::{Walk, advance, decide, from_root};
+use sf_reply::{Entry, Listing, Reply, StatusCode};
+use sf_walk::{Walk, decide, from_root};
 use std::alloc::Global;
 use std::process::Abort;
 use std::test::*;
+use steps::step;
 
 mod calls;
+mod copies;
+mod directories;
 mod drawn;
-mod lists;
+mod files;
+mod handles;
+mod listings;
+mod opening;
+mod renames;
 mod steps;
 
 /// A call makes fewer steps than this.
 const MANY_STEPS: usize = 32;
-
-/// What a reply is, without its contents.
-#[derive(Clone, Copy, Debug, PartialEq, Eq)]
-enum Kind {
-    Status(StatusCode),
-    NoMemory,
-    Handle,
-    Data,
-    Names,
-    Attrs,
-}
-
-fn kind_of(reply: &Reply) -> Kind {
-    match reply {
-        Reply::Status(code) => Kind::Status(*code),
-        Reply::NoMemory => Kind::NoMemory,
-        Reply::Handle(_) => Kind::Handle,
-        Reply::Data(_) => Kind::Data,
-        Reply::Names(_) => Kind::Names,
-        Reply::Attrs(_) => Kind::Attrs,
-    }
-}
 
 fn is_same(reply: &Reply, other: &Reply) -> bool {
     match (reply, other) {
@@ -57,87 +48,139 @@ enum Manner {
     BySteps,
 }
 
-/// The slow tree and a store that get the same calls, numbered from 1 on. The moment of each is its
-/// number.
+/// The slow tree, and a store that gets the same calls, as a rule. They are numbered from 1 on, and the moment
+/// of each is a hundred times its number.
 #[derive(Drop)]
 struct Pair {
     plain: PlainTree,
-    store: Store,
-    number: u32,
+    store: Option<Store>,
     manner: Manner,
+    session: u64,
+    number: u32,
 }
 
 impl Pair {
     /// Whose calls on the store are made from the root.
-    fn new(alloc: Global) -> Result<Pair, Fail> {
-        Pair::in_manner(alloc, Manner::FromRoot)
+    fn new(rt: &impl Abort, alloc: Global) -> Pair {
+        Pair::in_manner(rt, alloc, Manner::FromRoot)
     }
 
-    fn in_manner(alloc: Global, manner: Manner) -> Result<Pair, Fail> {
-        let plain = PlainTree::new(alloc)?;
-        let store = Store::new(alloc)?;
-        Ok(Pair {
+    fn in_manner(rt: &impl Abort, alloc: Global, manner: Manner) -> Pair {
+        let (Ok(plain), Ok(store)) = (PlainTree::new(alloc), Store::new(alloc)) else {
+            panic!(rt; "no memory");
+        };
+        Pair {
             plain,
-            store,
-            number: 0,
+            store: Some(store),
             manner,
-        })
+            session: 1,
+            number: 0,
+        }
     }
 
-    fn of_plain(&mut self, rt: &impl Abort, session: u64, request: &Request) -> Reply {
+    fn of_plain(&mut self, rt: &impl Abort, request: &Request) -> Reply {
         let number = u64::from(self.number);
-        match self.plain.apply(session, number, self.number, request) {
+        let moment = self.number.wrapping_mul(100);
+        match self.plain.apply(self.session, number, moment, request) {
             Ok(reply) => reply,
             Err(_) => panic!(rt; "call {number}: no memory"),
         }
     }
 
-    fn of_store(&mut self, rt: &impl Abort, session: u64, request: Request) -> Reply {
+    fn of_store(&mut self, rt: &impl Abort, request: Request) -> Option<Reply> {
         let mut call = Call {
             number: u64::from(self.number),
-            session,
-            moment: self.number,
+            session: self.session,
+            moment: self.number.wrapping_mul(100),
             request,
             stage: Stage::Fresh,
             copy: None,
             reply: None,
         };
-        match self.manner {
-            Manner::FromRoot => from_root(&mut self.store, &call),
-            Manner::BySteps => by_steps(rt, &mut self.store, &mut call),
-        }
+        let store = self.store.as_mut()?;
+        Some(match self.manner {
+            Manner::FromRoot => from_root(store, &call),
+            Manner::BySteps => by_steps(rt, store, &mut call),
+        })
     }
 
     /// The reply of both.
-    fn ask(&mut self, rt: &impl Abort, session: u64, request: Result<Request, Fail>) -> Reply {
+    fn ask(&mut self, rt: &impl Abort, request: Result<Request, Fail>) -> Reply {
         let Ok(request) = request else {
             panic!(rt; "no request");
         };
         self.number = self.number.wrapping_add(1);
-        let plain = self.of_plain(rt, session, &request);
-        let reply = self.of_store(rt, session, request);
-        assert!(rt;
-            is_same(&plain, &reply),
-            "call {}: {plain:?} of the slow tree, {reply:?} of the store",
-            self.number
-        );
-        reply
+        let plain = self.of_plain(rt, &request);
+        if let Some(reply) = self.of_store(rt, request) {
+            assert!(rt;
+                is_same(&plain, &reply),
+                "call {}: {plain:?} of the slow tree, {reply:?} of the store",
+                self.number
+            );
+        }
+        plain
     }
 
     /// A session leaves both.
     fn leave(&mut self, session: u64) {
         self.plain.leave(session);
-        self.store.close_all(session);
+        if let Some(store) = &mut self.store {
+            store.close_all(session);
+        }
     }
 
-    /// Asserts what the reply of both to a call of session 1 is.
-    fn gives(&mut self, rt: &impl Abort, request: Result<Request, Fail>, want: Kind) {
-        let reply = self.ask(rt, 1, request);
-        assert!(rt; kind_of(&reply) == want, "call {}: {reply:?}", self.number);
+    /// Asserts that the reply to the last call is the wanted one.
+    fn judge(&self, rt: &impl Abort, wanted: bool, reply: &Reply) {
+        assert!(rt; wanted, "call {}: {reply:?}", self.number);
     }
 
     fn status(&mut self, rt: &impl Abort, request: Result<Request, Fail>, want: StatusCode) {
-        self.gives(rt, request, Kind::Status(want));
+        let reply = self.ask(rt, request);
+        let wanted = match &reply {
+            Reply::Status(code) => *code == want,
+            _ => false,
+        };
+        self.judge(rt, wanted, &reply);
+    }
+
+    /// A handle is the number of its call.
+    fn handle(&mut self, rt: &impl Abort, request: Result<Request, Fail>, want: u64) {
+        let reply = self.ask(rt, request);
+        let wanted = match &reply {
+            Reply::Handle(number) => *number == want,
+            _ => false,
+        };
+        self.judge(rt, wanted, &reply);
+    }
+
+    fn attrs(&mut self, rt: &impl Abort, request: Result<Request, Fail>, want: Attrs) {
+        let reply = self.ask(rt, request);
+        let wanted = match &reply {
+            Reply::Attrs(attrs) => *attrs == want,
+            _ => false,
+        };
+        self.judge(rt, wanted, &reply);
+    }
+
+    fn data(&mut self, rt: &impl Abort, request: Result<Request, Fail>, want: &[u8]) {
+        let reply = self.ask(rt, request);
+        let wanted = match &reply {
+            Reply::Data(bytes) => bytes.as_slice() == want,
+            _ => false,
+        };
+        self.judge(rt, wanted, &reply);
+    }
+
+    fn names(&mut self, rt: &impl Abort, request: Result<Request, Fail>) -> Listing {
+        match self.ask(rt, request) {
+            Reply::Names(listing) => listing,
+            reply => panic!(rt; "call {}: {reply:?}", self.number),
+        }
+    }
+
+    /// So many files and directories are there, the root and those that are open alone among them.
+    fn has_objects(&self, rt: &impl Abort, want: usize) {
+        assert!(rt; self.plain.object_count() == want);
     }
 }
 
@@ -146,8 +189,8 @@ fn by_steps(rt: &impl Abort, store: &mut Store, call: &mut Call) -> Reply {
     call.stage = Stage::Fresh;
     assert!(rt; store.is_directory(store.root()));
     for _ in 0..MANY_STEPS {
-        match advance(store, call, call.stage) {
-            Walk::Moved(stage) => call.stage = stage,
+        match step(store, call) {
+            Walk::Moved(_) => {}
             Walk::Blocked(holder) => panic!(rt; "call {holder} still holds a node"),
             Walk::Ready(ways) => {
                 let (reply, _) = decide(store, call, ways);

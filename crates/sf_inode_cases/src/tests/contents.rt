@@ -1,6 +1,6 @@
 //! Each call on small contents and over blocks, with what POSIX says of `pread`, `pwrite` and `ftruncate`.
 
-ghost use Rattle.std.specs.Prelude.{◌≡◌, ◌+◌, ◌<◌, ◌^◌, length, IfOk};
+ghost use Rattle.std.specs.Prelude.{◌≡◌, ◌+◌, ◌<◌, ◌^◌, length};
 
 use sf_block::Contents;
 use sf_field::ByteString;
@@ -8,274 +8,246 @@ use std::alloc::{AllocError, Global};
 use std::process::Abort;
 use std::test::*;
 
-/// The whole contents, and no more of them where more is asked for.
-fn assert_bytes(
-    rt: &impl Abort,
-    alloc: Global,
-    contents: &Contents,
-    want: &[u8],
-) -> Result<(), Fail> {
-    assert_eq!(rt; contents.len(), want.len() as u64);
-    assert_eq!(rt; contents.read(alloc, 0, 200_000)?.as_slice(), want);
-    Ok(())
-}
-
-/// What lies from an offset on.
-fn assert_read(
-    rt: &impl Abort,
-    alloc: Global,
-    contents: &Contents,
-    offset: u64,
-    want: &[u8],
-) -> Result<(), Fail> {
-    let bytes = contents.read(alloc, offset, want.len())?;
-    assert_eq!(rt; bytes.as_slice(), want, "at {offset}");
-    Ok(())
-}
-
 /// The same byte again and again.
-fn many(alloc: Global, n: usize, byte: u8) -> Result<Vec<u8>, AllocError>
-    ensures { IfOk result (λ bytes. length bytes.items ≡ n) }
+fn many(rt: &impl Abort, alloc: Global, n: usize, byte: u8) -> Vec<u8>
+    ensures { length result.items ≡ n }
 {
     let mut bytes = Vec::new(alloc);
-    bytes.resize(n, byte)?;
-    Ok(bytes)
-}
-
-/// Writes a copy of bytes.
-fn write(
-    alloc: Global,
-    contents: &mut Contents,
-    offset: u64,
-    bytes: &[u8],
-) -> Result<(), AllocError>
-    requires { offset + length bytes.now < 2 ^ 64 }
-{
-    contents.write(alloc, offset, &ByteString::from_slice(alloc, bytes)?)
-}
-
-fn set_len(alloc: Global, contents: &mut Contents, n: u64) -> Result<(), AllocError> {
-    contents.set_len(alloc, n)
-}
-
-/// All bytes are this one.
-fn assert_all(
-    rt: &impl Abort,
-    alloc: Global,
-    contents: &Contents,
-    n: usize,
-    byte: u8,
-) -> Result<(), Fail> {
-    assert_bytes(rt, alloc, contents, &many(alloc, n, byte)?)
-}
-
-fn assert_len(rt: &impl Abort, contents: &Contents, n: u64) {
-    assert_eq!(rt; contents.len(), n);
-}
-
-#[test]
-fn write_over_behind_and_past_the_end(rt: HostRuntime) -> Result<(), Fail> {
-    let alloc = rt.alloc();
-    let mut contents = Contents::new(alloc);
-    assert_bytes(&rt, alloc, &contents, b"")?;
-    write(alloc, &mut contents, 3, b"ab")?;
-    assert_bytes(&rt, alloc, &contents, b"\0\0\0ab")?;
-    write(alloc, &mut contents, 1, b"xyz")?;
-    assert_bytes(&rt, alloc, &contents, b"\0xyzb")?;
-    write(alloc, &mut contents, 4, b"123")?;
-    assert_bytes(&rt, alloc, &contents, b"\0xyz123")?;
-    write(alloc, &mut contents, 8, b"")?;
-    assert_bytes(&rt, alloc, &contents, b"\0xyz123\0")?;
-    Ok(())
-}
-
-#[test]
-fn read_from_an_offset(rt: HostRuntime) -> Result<(), Fail> {
-    let alloc = rt.alloc();
-    let mut contents = Contents::new(alloc);
-    write(alloc, &mut contents, 0, b"abcdef")?;
-    let tail: [(u64, &[u8]); 5] = [
-        (0, b"abcd"),
-        (2, b"cdef"),
-        (4, b"ef"),
-        (6, b""),
-        (u64::MAX, b""),
-    ];
-    for (offset, want) in tail {
-        let copy = contents.read(alloc, offset, 4)?;
-        assert_eq!(rt; copy.as_slice(), want, "at {offset}");
+    match bytes.resize(n, byte) {
+        Ok(()) => bytes,
+        Err(_) => panic!(rt; "no memory"),
     }
-    assert_eq!(rt; contents.read(alloc, 1, 0)?.len(), 0);
-    assert_eq!(rt;
-        contents.read(alloc, 5, usize::MAX)?.as_slice(),
-        b"f".as_slice()
-    );
-    Ok(())
+}
+
+/// A file's contents. Its methods compare what they tell with what a test wants.
+#[derive(Drop)]
+struct File {
+    contents: Contents,
+    alloc: Global,
+}
+
+impl File {
+    fn new(alloc: Global) -> File {
+        let contents = Contents::new(alloc);
+        File { contents, alloc }
+    }
+
+    fn try_write(&mut self, offset: u64, bytes: &[u8]) -> Result<(), AllocError>
+        requires { offset + length bytes.now < 2 ^ 64 }
+    {
+        let bytes = ByteString::from_slice(self.alloc, bytes)?;
+        self.contents.write(self.alloc, offset, &bytes)
+    }
+
+    /// Writes a copy of bytes.
+    fn write(&mut self, rt: &impl Abort, offset: u64, bytes: &[u8])
+        requires { offset + length bytes.now < 2 ^ 64 }
+    {
+        assert!(rt; self.try_write(offset, bytes).is_ok());
+    }
+
+    fn set_len(&mut self, rt: &impl Abort, n: u64) {
+        assert!(rt; self.contents.set_len(self.alloc, n).is_ok());
+    }
+
+    fn has_len(&self, rt: &impl Abort, n: u64) {
+        assert_eq!(rt; self.contents.len(), n);
+    }
+
+    /// What so many bytes are from an offset on, or all where there are fewer.
+    fn reads(&self, rt: &impl Abort, offset: u64, len: usize, want: &[u8]) {
+        match self.contents.read(self.alloc, offset, len) {
+            Ok(bytes) => assert!(rt; bytes.as_slice() == want, "at {offset}"),
+            Err(_) => panic!(rt; "no memory"),
+        }
+    }
+
+    /// What lies from an offset on.
+    fn has(&self, rt: &impl Abort, offset: u64, want: &[u8]) {
+        self.reads(rt, offset, want.len(), want);
+    }
+
+    /// The whole contents, and no more of them where more is asked for.
+    fn is(&self, rt: &impl Abort, want: &[u8]) {
+        self.has_len(rt, want.len() as u64);
+        self.reads(rt, 0, 200_000, want);
+    }
 }
 
 #[test]
-fn cut_and_fill_up(rt: HostRuntime) -> Result<(), Fail> {
+fn write_over_behind_and_past_the_end(rt: HostRuntime) {
     let alloc = rt.alloc();
-    let mut contents = Contents::new(alloc);
-    write(alloc, &mut contents, 0, b"abcde")?;
-    set_len(alloc, &mut contents, 2)?;
-    assert_bytes(&rt, alloc, &contents, b"ab")?;
-    set_len(alloc, &mut contents, 4)?;
-    assert_bytes(&rt, alloc, &contents, b"ab\0\0")?;
-    set_len(alloc, &mut contents, 0)?;
-    assert_bytes(&rt, alloc, &contents, b"")?;
-    Ok(())
+    let mut file = File::new(alloc);
+    file.is(&rt, b"");
+    file.write(&rt, 3, b"ab");
+    file.is(&rt, b"\0\0\0ab");
+    file.write(&rt, 1, b"xyz");
+    file.is(&rt, b"\0xyzb");
+    file.write(&rt, 4, b"123");
+    file.is(&rt, b"\0xyz123");
+    file.write(&rt, 8, b"");
+    file.is(&rt, b"\0xyz123\0");
 }
 
 #[test]
-fn more_than_any_memory(rt: HostRuntime) -> Result<(), Fail> {
+fn read_from_an_offset(rt: HostRuntime) {
     let alloc = rt.alloc();
-    let mut contents = Contents::new(alloc);
-    write(alloc, &mut contents, 0, b"ab")?;
-    assert!(rt; set_len(alloc, &mut contents, u64::MAX).is_err());
-    assert!(rt; write(alloc, &mut contents, u64::MAX - 1, b"c").is_err());
-    assert_bytes(&rt, alloc, &contents, b"ab")?;
-    Ok(())
+    let mut file = File::new(alloc);
+    file.write(&rt, 0, b"abcdef");
+    file.reads(&rt, 0, 4, b"abcd");
+    file.reads(&rt, 2, 4, b"cdef");
+    file.reads(&rt, 4, 4, b"ef");
+    file.reads(&rt, 6, 4, b"");
+    file.reads(&rt, u64::MAX, 4, b"");
+    file.reads(&rt, 1, 0, b"");
+    file.reads(&rt, 5, usize::MAX, b"f");
 }
 
 #[test]
-fn write_over_a_seam(rt: HostRuntime) -> Result<(), Fail> {
+fn cut_and_fill_up(rt: HostRuntime) {
     let alloc = rt.alloc();
-    let mut contents = Contents::new(alloc);
-    write(alloc, &mut contents, 0, &many(alloc, 65_536, b'a')?)?;
-    write(alloc, &mut contents, 32_766, b"1234")?;
-    assert_len(&rt, &contents, 65_536);
-    assert_read(&rt, alloc, &contents, 32_764, b"aa1234aa")?;
-    assert_read(&rt, alloc, &contents, 65_534, b"aa")?;
-    Ok(())
+    let mut file = File::new(alloc);
+    file.write(&rt, 0, b"abcde");
+    file.set_len(&rt, 2);
+    file.is(&rt, b"ab");
+    file.set_len(&rt, 4);
+    file.is(&rt, b"ab\0\0");
+    file.set_len(&rt, 0);
+    file.is(&rt, b"");
 }
 
 #[test]
-fn write_of_a_whole_block(rt: HostRuntime) -> Result<(), Fail> {
+fn more_than_any_memory(rt: HostRuntime) {
     let alloc = rt.alloc();
-    let mut contents = Contents::new(alloc);
-    write(alloc, &mut contents, 0, &many(alloc, 32_768, b'a')?)?;
-    write(alloc, &mut contents, 32_768, &many(alloc, 32_768, b'b')?)?;
-    assert_len(&rt, &contents, 65_536);
-    assert_read(&rt, alloc, &contents, 32_766, b"aabb")?;
-    write(alloc, &mut contents, 0, &many(alloc, 32_768, b'c')?)?;
-    assert_read(&rt, alloc, &contents, 0, &many(alloc, 32_768, b'c')?)?;
-    assert_read(&rt, alloc, &contents, 32_766, b"ccbb")?;
+    let mut file = File::new(alloc);
+    file.write(&rt, 0, b"ab");
+    assert!(rt; file.contents.set_len(alloc, u64::MAX).is_err());
+    assert!(rt; file.try_write(u64::MAX - 1, b"c").is_err());
+    file.is(&rt, b"ab");
+}
+
+#[test]
+fn write_over_a_seam(rt: HostRuntime) {
+    let alloc = rt.alloc();
+    let mut file = File::new(alloc);
+    file.write(&rt, 0, &many(&rt, alloc, 65_536, b'a'));
+    file.write(&rt, 32_766, b"1234");
+    file.has_len(&rt, 65_536);
+    file.has(&rt, 32_764, b"aa1234aa");
+    file.has(&rt, 65_534, b"aa");
+}
+
+#[test]
+fn write_of_a_whole_block(rt: HostRuntime) {
+    let alloc = rt.alloc();
+    let mut file = File::new(alloc);
+    file.write(&rt, 0, &many(&rt, alloc, 32_768, b'a'));
+    file.write(&rt, 32_768, &many(&rt, alloc, 32_768, b'b'));
+    file.has_len(&rt, 65_536);
+    file.has(&rt, 32_766, b"aabb");
+    file.write(&rt, 0, &many(&rt, alloc, 32_768, b'c'));
+    file.has(&rt, 0, &many(&rt, alloc, 32_768, b'c'));
+    file.has(&rt, 32_766, b"ccbb");
     // Behind a byte it makes no block.
-    write(alloc, &mut contents, 1, &many(alloc, 32_768, b'd')?)?;
-    assert_read(&rt, alloc, &contents, 0, b"cd")?;
-    assert_read(&rt, alloc, &contents, 32_767, b"ddb")?;
-    assert_len(&rt, &contents, 65_536);
-    Ok(())
+    file.write(&rt, 1, &many(&rt, alloc, 32_768, b'd'));
+    file.has(&rt, 0, b"cd");
+    file.has(&rt, 32_767, b"ddb");
+    file.has_len(&rt, 65_536);
 }
 
 #[test]
 fn what_was_read_stays(rt: HostRuntime) -> Result<(), Fail> {
     let alloc = rt.alloc();
-    let mut contents = Contents::new(alloc);
-    let old = ByteString::from_vec(many(alloc, 32_768, b'a')?)?;
-    contents.write(alloc, 0, &old)?;
-    let whole = contents.read(alloc, 0, 32_768)?;
-    write(alloc, &mut contents, 5, b"xyz")?;
-    assert_eq!(rt; whole.as_slice(), old.as_slice());
-    set_len(alloc, &mut contents, 7)?;
-    assert_eq!(rt; whole.as_slice(), old.as_slice());
-    assert_bytes(&rt, alloc, &contents, b"aaaaaxy")?;
+    let old = ByteString::from_vec(many(&rt, alloc, 32_768, b'a'))?;
+    let mut file = File::new(alloc);
+    file.contents.write(alloc, 0, &old)?;
+    let whole = file.contents.read(alloc, 0, 32_768)?;
+    file.write(&rt, 5, b"xyz");
+    assert!(rt; whole.as_slice() == old.as_slice());
+    file.set_len(&rt, 7);
+    assert!(rt; whole.as_slice() == old.as_slice());
+    file.is(&rt, b"aaaaaxy");
     Ok(())
 }
 
 #[test]
-fn append_makes_a_block_whole(rt: HostRuntime) -> Result<(), Fail> {
+fn append_makes_a_block_whole(rt: HostRuntime) {
     let alloc = rt.alloc();
-    let mut contents = Contents::new(alloc);
-    write(alloc, &mut contents, 0, &many(alloc, 32_766, b'a')?)?;
-    write(alloc, &mut contents, 32_766, b"bb")?;
-    assert_len(&rt, &contents, 32_768);
-    write(alloc, &mut contents, 32_768, b"c")?;
-    assert_len(&rt, &contents, 32_769);
-    assert_read(&rt, alloc, &contents, 32_765, b"abbc")?;
-    Ok(())
+    let mut file = File::new(alloc);
+    file.write(&rt, 0, &many(&rt, alloc, 32_766, b'a'));
+    file.write(&rt, 32_766, b"bb");
+    file.has_len(&rt, 32_768);
+    file.write(&rt, 32_768, b"c");
+    file.has_len(&rt, 32_769);
+    file.has(&rt, 32_765, b"abbc");
 }
 
 #[test]
-fn gap_of_several_blocks(rt: HostRuntime) -> Result<(), Fail> {
+fn gap_of_several_blocks(rt: HostRuntime) {
     let alloc = rt.alloc();
-    let mut contents = Contents::new(alloc);
-    write(alloc, &mut contents, 0, b"ab")?;
-    write(alloc, &mut contents, 100_000, b"yz")?;
-    assert_len(&rt, &contents, 100_002);
-    assert_read(&rt, alloc, &contents, 0, b"ab\0\0")?;
-    assert_read(&rt, alloc, &contents, 2, &many(alloc, 99_998, 0)?)?;
-    assert_read(&rt, alloc, &contents, 99_998, b"\0\0yz")?;
+    let mut file = File::new(alloc);
+    file.write(&rt, 0, b"ab");
+    file.write(&rt, 100_000, b"yz");
+    file.has_len(&rt, 100_002);
+    file.has(&rt, 0, b"ab\0\0");
+    file.has(&rt, 2, &many(&rt, alloc, 99_998, 0));
+    file.has(&rt, 99_998, b"\0\0yz");
     // The blocks of zeros are one, and a write changes none but its own.
-    write(alloc, &mut contents, 40_000, b"x")?;
-    assert_read(&rt, alloc, &contents, 40_000, b"x\0")?;
-    assert_read(&rt, alloc, &contents, 72_768, b"\0\0")?;
-    Ok(())
+    file.write(&rt, 40_000, b"x");
+    file.has(&rt, 40_000, b"x\0");
+    file.has(&rt, 72_768, b"\0\0");
 }
 
 #[test]
-fn cut_within_a_block_and_at_a_seam(rt: HostRuntime) -> Result<(), Fail> {
+fn cut_within_a_block_and_at_a_seam(rt: HostRuntime) {
     let alloc = rt.alloc();
-    let mut contents = Contents::new(alloc);
-    write(alloc, &mut contents, 0, &many(alloc, 70_000, b'a')?)?;
-    set_len(alloc, &mut contents, 40_000)?;
-    assert_all(&rt, alloc, &contents, 40_000, b'a')?;
-    set_len(alloc, &mut contents, 32_768)?;
-    assert_all(&rt, alloc, &contents, 32_768, b'a')?;
-    set_len(alloc, &mut contents, 32_770)?;
-    assert_read(&rt, alloc, &contents, 32_766, b"aa\0\0")?;
-    set_len(alloc, &mut contents, 3)?;
-    assert_bytes(&rt, alloc, &contents, b"aaa")?;
-    set_len(alloc, &mut contents, 65_536)?;
-    assert_len(&rt, &contents, 65_536);
-    assert_read(&rt, alloc, &contents, 3, &many(alloc, 65_533, 0)?)?;
-    Ok(())
+    let mut file = File::new(alloc);
+    file.write(&rt, 0, &many(&rt, alloc, 70_000, b'a'));
+    file.set_len(&rt, 40_000);
+    file.is(&rt, &many(&rt, alloc, 40_000, b'a'));
+    file.set_len(&rt, 32_768);
+    file.is(&rt, &many(&rt, alloc, 32_768, b'a'));
+    file.set_len(&rt, 32_770);
+    file.has(&rt, 32_766, b"aa\0\0");
+    file.set_len(&rt, 3);
+    file.is(&rt, b"aaa");
+    file.set_len(&rt, 65_536);
+    file.has_len(&rt, 65_536);
+    file.has(&rt, 3, &many(&rt, alloc, 65_533, 0));
 }
 
 #[test]
-fn what_was_cut_off_does_not_come_back(rt: HostRuntime) -> Result<(), Fail> {
+fn what_was_cut_off_does_not_come_back(rt: HostRuntime) {
     let alloc = rt.alloc();
-    let mut contents = Contents::new(alloc);
-    write(
-        alloc,
-        &mut contents,
-        0,
-        many(alloc, 70_000, b'a')?.as_slice(),
-    )?;
-    set_len(alloc, &mut contents, 0)?;
-    assert_bytes(&rt, alloc, &contents, b"")?;
-    write(
-        alloc,
-        &mut contents,
-        0,
-        many(alloc, 32_768, b'b')?.as_slice(),
-    )?;
-    assert_len(&rt, &contents, 32_768);
-    assert_read(&rt, alloc, &contents, 32_766, b"bb")?;
-    set_len(alloc, &mut contents, 70_000)?;
-    assert_read(&rt, alloc, &contents, 32_766, b"bb\0\0")?;
-    assert_read(&rt, alloc, &contents, 65_534, b"\0\0\0\0")?;
-    assert_read(&rt, alloc, &contents, 69_998, b"\0\0")?;
-    assert_len(&rt, &contents, 70_000);
-    Ok(())
+    let mut file = File::new(alloc);
+    file.write(&rt, 0, &many(&rt, alloc, 70_000, b'a'));
+    file.set_len(&rt, 0);
+    file.is(&rt, b"");
+    file.write(&rt, 0, &many(&rt, alloc, 32_768, b'b'));
+    file.has_len(&rt, 32_768);
+    file.has(&rt, 32_766, b"bb");
+    file.set_len(&rt, 70_000);
+    file.has(&rt, 32_766, b"bb\0\0");
+    file.has(&rt, 65_534, b"\0\0\0\0");
+    file.has(&rt, 69_998, b"\0\0");
+    file.has_len(&rt, 70_000);
 }
 
 #[test]
 fn read_in_a_block_and_over_three(rt: HostRuntime) -> Result<(), Fail> {
     let alloc = rt.alloc();
-    let mut contents = Contents::new(alloc);
-    let mut all = many(alloc, 32_768, b'a')?;
+    let mut file = File::new(alloc);
+    let mut all = many(&rt, alloc, 32_768, b'a');
     all.resize(65_536, b'b')?;
     all.resize(98_304, b'c')?;
     all.extend_from_slice(b"end")?;
-    write(alloc, &mut contents, 0, &all)?;
-    assert_bytes(&rt, alloc, &contents, &all)?;
-    assert_read(&rt, alloc, &contents, 100, &many(alloc, 20_000, b'a')?)?;
-    assert_read(&rt, alloc, &contents, 32_768, &many(alloc, 32_768, b'b')?)?;
-    assert_read(&rt, alloc, &contents, 32_767, b"ab")?;
-    assert_read(&rt, alloc, &contents, 65_536, b"c")?;
-    assert_read(&rt, alloc, &contents, 98_302, b"ccend")?;
-    assert_eq!(rt; contents.read(alloc, 32_767, 32_770)?.len(), 32_770);
+    file.write(&rt, 0, &all);
+    file.is(&rt, &all);
+    file.has(&rt, 100, &many(&rt, alloc, 20_000, b'a'));
+    file.has(&rt, 32_768, &many(&rt, alloc, 32_768, b'b'));
+    file.has(&rt, 32_767, b"ab");
+    file.has(&rt, 65_536, b"c");
+    file.has(&rt, 98_302, b"ccend");
+    file.has(&rt, 32_767, &all[32_767..65_537]);
     Ok(())
 }

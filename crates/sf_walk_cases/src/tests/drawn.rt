@@ -1,14 +1,35 @@
 //! Pseudo-random calls of two sessions over a few names.
 
 use super::*;
-use sf_cases::requests::path;
-use sf_field::{Attrs, ByteString, OpenFlags, Owner, Times};
+use sf_field::{ByteString, OpenFlags};
 use sf_path::Path;
 
 const CALLS: u32 = 10_000;
 
 /// A session leaves after one of so many calls, by the draws.
 const LEAVING: u64 = 1200;
+
+/// What a reply is, without its contents.
+#[derive(Clone, Copy, Debug, PartialEq, Eq)]
+enum Kind {
+    Status(StatusCode),
+    NoMemory,
+    Handle,
+    Data,
+    Names,
+    Attrs,
+}
+
+fn kind_of(reply: &Reply) -> Kind {
+    match reply {
+        Reply::Status(code) => Kind::Status(*code),
+        Reply::NoMemory => Kind::NoMemory,
+        Reply::Handle(_) => Kind::Handle,
+        Reply::Data(_) => Kind::Data,
+        Reply::Names(_) => Kind::Names,
+        Reply::Attrs(_) => Kind::Attrs,
+    }
+}
 
 const KINDS: [Kind; 9] = [
     Kind::Status(StatusCode::Success),
@@ -282,7 +303,8 @@ fn call(
     let session = draws.below(2).wrapping_add(1);
     let request = request(alloc, draws, handles, session);
     let listing = is_listing(&request);
-    let reply = pair.ask(rt, session, request);
+    pair.session = session;
+    let reply = pair.ask(rt, request);
     if let Reply::Handle(number) = &reply {
         handles.put(session, listing, draws, *number);
     }
@@ -294,7 +316,7 @@ fn call(
 
 /// Draws calls, and makes them from the root, or by their steps.
 fn draw(rt: &impl Abort, alloc: Global, manner: Manner) -> Result<(), Fail> {
-    let mut pair = Pair::in_manner(alloc, manner)?;
+    let mut pair = Pair::in_manner(rt, alloc, manner);
     let mut draws = Draws { state: 1 };
     let mut handles = Handles { numbers: [0; 32] };
     let mut kinds = Vec::new(alloc);

@@ -7,16 +7,12 @@ ghost use Rattle.sf_walk.specs.declared.walking.Walk.TheVariants.{Ready};
 ghost use Rattle.sf_walk.specs.Ways.{path_of, other_of, IsLocated};
 ghost use Rattle.sf_walk.specs.Steps.{Stands};
 
-use super::calls::Client;
-use sf_call::{Call, Reached, Request, Stage};
-use sf_cases::requests::{path, rename};
-use sf_field::{NO_ATTRS, OpenFlags};
-use sf_inode::{NodeId, Store};
-use sf_reply::{Reply, StatusCode};
-use sf_walk::{Located, Walk, Ways, advance, decide, is_move, locate, other_of};
-use std::alloc::Global;
-use std::process::Abort;
-use std::test::*;
+use super::calls::located;
+use super::*;
+use StatusCode::Success;
+use sf_call::Reached;
+use sf_inode::NodeId;
+use sf_walk::{Located, Ways, advance, is_move, other_of, path_of};
 
 /// The number of the call that takes its steps, and that of one that holds a node in its way.
 const NUMBER: u64 = 20;
@@ -24,7 +20,7 @@ const NUMBER: u64 = 20;
 const OTHER: u64 = 9;
 
 /// A call at its beginning.
-fn fresh(request: Request) -> Call
+pub(super) fn fresh(request: Request) -> Call
     ensures { (s : StoreState)
         → Stands s (path_of result.request) (other_of result.request) result.stage }
 {
@@ -40,7 +36,7 @@ fn fresh(request: Request) -> Call
 }
 
 /// Takes a call one step on, and notes where it then stands.
-fn step(store: &mut Store, call: &mut Call) -> Walk
+pub(super) fn step(store: &mut Store, call: &mut Call) -> Walk
     requires root { is_directory_at store.old.nodes store.old.root ≡ true }
     requires stands { Stands store.old (path_of call.old.request) (other_of call.old.request)
         call.old.stage }
@@ -89,64 +85,42 @@ struct Ground {
     f: NodeId,
 }
 
-fn node(rt: &impl Abort, alloc: Global, store: &mut Store, text: &[u8]) -> Result<NodeId, Fail> {
-    match locate(store, &path(alloc, text)?) {
-        Located::At { parent: _, node } => Ok(node),
+fn node(rt: &impl Abort, alloc: Global, store: &mut Store, text: &[u8]) -> NodeId {
+    match located(rt, alloc, store, text) {
+        Located::At { parent: _, node } => node,
         _ => panic!(rt; "nothing is there"),
     }
 }
 
 impl Ground {
-    fn new(rt: &impl Abort, alloc: Global) -> Result<Ground, Fail> {
-        let mut client = Client {
-            store: Store::new(alloc)?,
-            number: 0,
+    fn new(rt: &impl Abort, alloc: Global) -> Ground {
+        let mut pair = Pair::new(rt, alloc);
+        pair.status(rt, mkdir(alloc, b"/d"), Success);
+        pair.status(rt, mkdir(alloc, b"/d/a"), Success);
+        pair.status(rt, mkdir(alloc, b"/d/a/b"), Success);
+        pair.status(rt, mkdir(alloc, b"/d/a/b/x"), Success);
+        pair.status(rt, mkdir(alloc, b"/d/c"), Success);
+        pair.status(rt, mkdir(alloc, b"/d/c/e"), Success);
+        pair.status(rt, mkdir(alloc, b"/d/c/e/y"), Success);
+        pair.handle(rt, open(alloc, b"/d/f", b"c"), 8);
+        let Some(store) = pair.store.take() else {
+            panic!(rt; "no store");
         };
-        let made: [&[u8]; 7] = [
-            b"/d",
-            b"/d/a",
-            b"/d/a/b",
-            b"/d/a/b/x",
-            b"/d/c",
-            b"/d/c/e",
-            b"/d/c/e/y",
-        ];
-        for text in made {
-            let mkdir = Request::Mkdir(path(alloc, text)?, NO_ATTRS);
-            client.status(rt, Ok(mkdir), StatusCode::Success);
-        }
-        let flags = OpenFlags {
-            read: false,
-            write: false,
-            append: false,
-            create: true,
-            truncate: false,
-            exclusive: false,
-        };
-        let open = Request::Open(path(alloc, b"/d/f")?, flags, NO_ATTRS);
-        let Reply::Handle(_) = client.ask(rt, Ok(open)) else {
-            panic!(rt; "no handle");
-        };
-        let mut store = client.store;
-        let d = node(rt, alloc, &mut store, b"/d")?;
-        let a = node(rt, alloc, &mut store, b"/d/a")?;
-        let b = node(rt, alloc, &mut store, b"/d/a/b")?;
-        let x = node(rt, alloc, &mut store, b"/d/a/b/x")?;
-        let c = node(rt, alloc, &mut store, b"/d/c")?;
-        let e = node(rt, alloc, &mut store, b"/d/c/e")?;
-        let y = node(rt, alloc, &mut store, b"/d/c/e/y")?;
-        let f = node(rt, alloc, &mut store, b"/d/f")?;
-        Ok(Ground {
+        Ground::of(rt, alloc, store)
+    }
+
+    fn of(rt: &impl Abort, alloc: Global, mut store: Store) -> Ground {
+        Ground {
+            d: node(rt, alloc, &mut store, b"/d"),
+            a: node(rt, alloc, &mut store, b"/d/a"),
+            b: node(rt, alloc, &mut store, b"/d/a/b"),
+            x: node(rt, alloc, &mut store, b"/d/a/b/x"),
+            c: node(rt, alloc, &mut store, b"/d/c"),
+            e: node(rt, alloc, &mut store, b"/d/c/e"),
+            y: node(rt, alloc, &mut store, b"/d/c/e/y"),
+            f: node(rt, alloc, &mut store, b"/d/f"),
             store,
-            d,
-            a,
-            b,
-            x,
-            c,
-            e,
-            y,
-            f,
-        })
+        }
     }
 
     /// Takes a call through these stages, and one step more.
@@ -180,7 +154,41 @@ impl Ground {
 
     /// Asserts that the steps of a call made so many look-ups.
     fn looked(&self, rt: &impl Abort, before: u64, count: u64) {
-        assert_eq!(rt; self.store.look_ups(), before.wrapping_add(count));
+        assert!(rt; self.store.look_ups() == before.wrapping_add(count));
+    }
+
+    /// Asserts who holds each of these nodes.
+    fn are_held(&self, rt: &impl Abort, nodes: &[NodeId], by: Option<u64>) {
+        for node in nodes {
+            assert!(rt; self.store.holder(*node) == by);
+        }
+    }
+
+    /// Asserts that a call through these stages is then blocked, and how many look-ups it made.
+    fn waits(
+        &mut self,
+        rt: &impl Abort,
+        request: Result<Request, Fail>,
+        stages: &[Stage],
+        count: u64,
+    ) {
+        let before = self.store.look_ups();
+        assert!(rt; self.walks(rt, request, stages) == Walk::Blocked(OTHER));
+        self.looked(rt, before, count);
+    }
+
+    /// Asserts that a call through these stages then ends like this, and how many look-ups it made.
+    fn ends(
+        &mut self,
+        rt: &impl Abort,
+        request: Result<Request, Fail>,
+        stages: &[Stage],
+        walk: Walk,
+        count: u64,
+    ) {
+        let before = self.store.look_ups();
+        assert!(rt; self.walks(rt, request, stages) == walk);
+        self.looked(rt, before, count);
     }
 }
 
@@ -206,105 +214,146 @@ const NOWHERE: Walk = Walk::Ready(Ways {
 });
 
 #[test]
-fn a_rename_walks_with_two_ends(rt: HostRuntime) -> Result<(), Fail> {
+fn a_call_takes_the_root(rt: HostRuntime) {
     let alloc = rt.alloc();
-    let mut ground = Ground::new(&rt, alloc)?;
-    let before = ground.store.look_ups();
-    let rename = rename(alloc, b"/d/a/b/x", b"/d/c/e/z")?;
-    assert!(rt; other_of(&rename).is_some());
-    let mut call = fresh(rename);
+    let mut ground = Ground::new(&rt, alloc);
+    let root = ground.store.root();
+    let taken = Walk::Moved(ground.at_root());
+    assert!(rt; ground.walks(&rt, stat(alloc, b"/d"), &[]) == taken);
+    ground.are_held(&rt, &[root], Some(NUMBER));
+    ground.store.free(root);
+    ground.store.hold(root, OTHER);
+    ground.waits(&rt, stat(alloc, b"/d"), &[], 0);
+}
+
+/// A call that is decided in its first step moves nothing.
+fn moves_nothing(rt: &impl Abort, ground: &mut Ground, request: Request) {
+    let mut call = fresh(request);
     assert!(rt; ground.store.is_directory(ground.store.root()));
-    let stages = ground.both_ways();
-    let Walk::Ready(ways) = steps(&rt, &mut ground.store, &mut call, &stages) else {
+    let Walk::Ready(ways) = steps(rt, &mut ground.store, &mut call, &[]) else {
         panic!(rt; "not ready");
     };
-    let (parent, node) = (ground.b, ground.x);
-    assert_eq!(rt; ways.path, Located::At { parent, node });
-    assert_eq!(rt; ways.new, Located::Missing { parent: ground.e });
-    ground.looked(&rt, before, 7);
-    for held in [ground.d, ground.b, ground.e] {
-        assert_eq!(rt; ground.store.holder(held), Some(NUMBER));
-    }
-    for free in [ground.store.root(), ground.a, ground.c, ground.x] {
-        assert_eq!(rt; ground.store.holder(free), None);
-    }
+    assert!(rt; !is_move(&ground.store, &call, ways));
+}
+
+#[test]
+fn the_root_does_not_move(rt: HostRuntime) -> Result<(), Fail> {
+    let alloc = rt.alloc();
+    let mut ground = Ground::new(&rt, alloc);
+    let before = ground.store.look_ups();
+    let rename = posix_rename(alloc, b"/", b"/b")?;
+    assert!(rt; path_of(&rename).is_none() && other_of(&rename).is_none());
+    moves_nothing(&rt, &mut ground, rename);
+    ground.looked(&rt, before, 0);
+    Ok(())
+}
+
+/// Takes a rename of a node of the ground through these stages, and decides it: it is a move, and succeeds.
+fn moves(rt: &impl Abort, ground: &mut Ground, request: Request, stages: &[Stage], want: Ways) {
+    let mut call = fresh(request);
+    assert!(rt; ground.store.is_directory(ground.store.root()));
+    let Walk::Ready(ways) = steps(rt, &mut ground.store, &mut call, stages) else {
+        panic!(rt; "not ready");
+    };
+    assert!(rt; ways == want);
+    ground.are_held(rt, &[ground.d, ground.b, ground.e], Some(NUMBER));
+    ground.are_held(rt, &[ground.a, ground.c, ground.x], None);
     assert!(rt; is_move(&ground.store, &call, ways));
     match decide(&mut ground.store, &call, ways) {
-        (Reply::Status(StatusCode::Success), Reply::Status(StatusCode::Success)) => Ok(()),
+        (Reply::Status(Success), Reply::Status(Success)) => {}
         replies => panic!(rt; "{replies:?}"),
     }
 }
 
 #[test]
-fn a_rename_in_the_root(rt: HostRuntime) -> Result<(), Fail> {
+fn a_rename_walks_with_two_ends(rt: HostRuntime) -> Result<(), Fail> {
     let alloc = rt.alloc();
-    let mut ground = Ground::new(&rt, alloc)?;
+    let mut ground = Ground::new(&rt, alloc);
+    let before = ground.store.look_ups();
+    let rename = rename(alloc, b"/d/a/b/x", b"/d/c/e/z")?;
+    assert!(rt; other_of(&rename).is_some());
+    let path = Located::At {
+        parent: ground.b,
+        node: ground.x,
+    };
+    let new = Located::Missing { parent: ground.e };
+    let stages = ground.both_ways();
+    moves(&rt, &mut ground, rename, &stages, Ways { path, new });
+    ground.looked(&rt, before, 7);
+    ground.are_held(&rt, &[ground.store.root()], None);
+    Ok(())
+}
+
+#[test]
+fn a_rename_in_the_root(rt: HostRuntime) {
+    let alloc = rt.alloc();
+    let mut ground = Ground::new(&rt, alloc);
     let parent = ground.store.root();
     let root = reached(0, parent);
-    let walk = ground.walks(&rt, rename(alloc, b"/d", b"/z"), &[ends(root, root, root)]);
     let node = ground.d;
-    let found = Located::At { parent, node };
-    assert_eq!(rt; walk, ready(found, Located::Missing { parent }));
-    Ok(())
+    let want = ready(Located::At { parent, node }, Located::Missing { parent });
+    ground.ends(
+        &rt,
+        rename(alloc, b"/d", b"/z"),
+        &[ends(root, root, root)],
+        want,
+        2,
+    );
+}
+
+/// A rename of `/d/a` to this, which the directory's own path begins with, or which begins with it.
+fn does_not_part(rt: &impl Abort, alloc: Global, new: &[u8]) {
+    let mut ground = Ground::new(rt, alloc);
+    let stages = [ground.at_root(), at(1, ground.d)];
+    let (parent, node) = (ground.d, ground.a);
+    let want = ready(Located::At { parent, node }, Located::NoWay);
+    ground.ends(rt, rename(alloc, b"/d/a", new), &stages, want, 2);
+    let mut ground = Ground::new(rt, alloc);
+    ground.store.hold(node, OTHER);
+    ground.waits(rt, rename(alloc, b"/d/a", new), &stages, 2);
 }
 
 #[test]
-fn paths_that_do_not_part(rt: HostRuntime) -> Result<(), Fail> {
+fn paths_that_do_not_part(rt: HostRuntime) {
     let alloc = rt.alloc();
-    for new in [b"/d/a/b".as_slice(), b"/d/a".as_slice()] {
-        let mut ground = Ground::new(&rt, alloc)?;
-        let stages = [ground.at_root(), at(1, ground.d)];
-        let (parent, node) = (ground.d, ground.a);
-        let found = Located::At { parent, node };
-        let walk = ground.walks(&rt, rename(alloc, b"/d/a", new), &stages);
-        assert_eq!(rt; walk, ready(found, Located::NoWay));
-        let mut ground = Ground::new(&rt, alloc)?;
-        ground.store.hold(node, OTHER);
-        let walk = ground.walks(&rt, rename(alloc, b"/d/a", new), &stages);
-        assert_eq!(rt; walk, Walk::Blocked(OTHER));
-    }
-    let mut ground = Ground::new(&rt, alloc)?;
+    does_not_part(&rt, alloc, b"/d/a/b");
+    does_not_part(&rt, alloc, b"/d/a");
+    let mut ground = Ground::new(&rt, alloc);
     let root = ground.store.root();
     ground.store.hold(root, OTHER);
-    assert_eq!(rt; ground.walks(&rt, rename(alloc, b"/d", b"/"), &[]), NOWHERE);
-    assert_eq!(rt; ground.walks(&rt, rename(alloc, b"/", b"/d"), &[]), NOWHERE);
-    assert_eq!(rt;
-        ground.walks(&rt, rename(alloc, b"/z", b"/y"), &[]),
-        Walk::Blocked(OTHER)
-    );
-    Ok(())
+    ground.ends(&rt, rename(alloc, b"/d", b"/"), &[], NOWHERE, 0);
+    ground.ends(&rt, rename(alloc, b"/", b"/d"), &[], NOWHERE, 0);
+    ground.waits(&rt, rename(alloc, b"/z", b"/y"), &[], 0);
+}
+
+/// A rename waits for a node that another call holds, after so many stages and look-ups.
+fn waits_for(rt: &impl Abort, alloc: Global, held: NodeId, count: usize) {
+    let mut ground = Ground::new(rt, alloc);
+    ground.store.hold(held, OTHER);
+    let stages = ground.both_ways();
+    let Some(stages) = stages.get(..count) else {
+        panic!(rt; "too many stages");
+    };
+    let rename = rename(alloc, b"/d/a/b/x", b"/d/c/e/y");
+    ground.waits(rt, rename, stages, u64::try_from(count).unwrap_or(0));
 }
 
 #[test]
-fn a_rename_waits(rt: HostRuntime) -> Result<(), Fail> {
+fn a_rename_waits(rt: HostRuntime) {
     let alloc = rt.alloc();
-    let ground = Ground::new(&rt, alloc)?;
-    let rows = [
-        (ground.d, 1),
-        (ground.a, 2),
-        (ground.b, 3),
-        (ground.c, 4),
-        (ground.e, 5),
-        (ground.y, 6),
-    ];
-    for (held, count) in rows {
-        let mut ground = Ground::new(&rt, alloc)?;
-        ground.store.hold(held, OTHER);
-        let before = ground.store.look_ups();
-        let stages = ground.both_ways();
-        let stages = stages.get(..count).ok_or("too many stages")?;
-        let rename = rename(alloc, b"/d/a/b/x", b"/d/c/e/y");
-        let walk = ground.walks(&rt, rename, stages);
-        assert_eq!(rt; walk, Walk::Blocked(OTHER));
-        ground.looked(&rt, before, u64::try_from(count).unwrap_or(0));
-    }
-    Ok(())
+    let ground = Ground::new(&rt, alloc);
+    waits_for(&rt, alloc, ground.d, 1);
+    waits_for(&rt, alloc, ground.a, 2);
+    waits_for(&rt, alloc, ground.b, 3);
+    waits_for(&rt, alloc, ground.c, 4);
+    waits_for(&rt, alloc, ground.e, 5);
+    waits_for(&rt, alloc, ground.y, 6);
 }
 
 #[test]
-fn a_rename_does_not_wait_for_what_it_moves(rt: HostRuntime) -> Result<(), Fail> {
+fn a_rename_does_not_wait_for_what_it_moves(rt: HostRuntime) {
     let alloc = rt.alloc();
-    let mut ground = Ground::new(&rt, alloc)?;
+    let mut ground = Ground::new(&rt, alloc);
     ground.store.hold(ground.x, OTHER);
     let from = Located::At {
         parent: ground.b,
@@ -315,48 +364,45 @@ fn a_rename_does_not_wait_for_what_it_moves(rt: HostRuntime) -> Result<(), Fail>
         node: ground.y,
     };
     let stages = ground.both_ways();
-    let walk = ground.walks(&rt, rename(alloc, b"/d/a/b/x", b"/d/c/e/y"), &stages);
-    assert_eq!(rt; walk, ready(from, to));
-    Ok(())
+    let rename = rename(alloc, b"/d/a/b/x", b"/d/c/e/y");
+    ground.ends(&rt, rename, &stages, ready(from, to), 7);
+}
+
+/// Nothing leads to the old path, so the new one isn't walked.
+fn has_no_old_way(rt: &impl Abort, alloc: Global, old: &[u8]) {
+    let mut ground = Ground::new(rt, alloc);
+    ground.store.hold(ground.f, OTHER);
+    let d = reached(1, ground.d);
+    let stages = [ground.at_root(), ends(d, d, d)];
+    ground.ends(rt, rename(alloc, old, b"/d/c/z"), &stages, NOWHERE, 2);
+}
+
+/// Nothing leads to the new path, and the old one, in `/d/a`, is looked up.
+fn has_no_new_way(rt: &impl Abort, alloc: Global, old: &[u8], new: &[u8], is_there: bool) {
+    let mut ground = Ground::new(rt, alloc);
+    ground.store.hold(ground.f, OTHER);
+    let d = reached(1, ground.d);
+    let stages = [
+        ground.at_root(),
+        ends(d, d, d),
+        ends(d, reached(2, ground.a), d),
+    ];
+    let (parent, node) = (ground.a, ground.b);
+    let found = if is_there {
+        Located::At { parent, node }
+    } else {
+        Located::Missing { parent }
+    };
+    let want = ready(found, Located::NoWay);
+    ground.ends(rt, rename(alloc, old, new), &stages, want, 4);
 }
 
 #[test]
-fn a_rename_ends_on_its_way(rt: HostRuntime) -> Result<(), Fail> {
+fn a_rename_ends_on_its_way(rt: HostRuntime) {
     let alloc = rt.alloc();
-    for old in [b"/d/no/x".as_slice(), b"/d/f/x".as_slice()] {
-        let mut ground = Ground::new(&rt, alloc)?;
-        ground.store.hold(ground.f, OTHER);
-        let d = reached(1, ground.d);
-        let before = ground.store.look_ups();
-        let stages = [ground.at_root(), ends(d, d, d)];
-        let walk = ground.walks(&rt, rename(alloc, old, b"/d/c/z"), &stages);
-        assert_eq!(rt; walk, NOWHERE);
-        ground.looked(&rt, before, 2);
-    }
-    let rows = [
-        (b"/d/no/z".as_slice(), true),
-        (b"/d/f/z".as_slice(), true),
-        (b"/d/no/z".as_slice(), false),
-    ];
-    for (new, is_there) in rows {
-        let mut ground = Ground::new(&rt, alloc)?;
-        ground.store.hold(ground.f, OTHER);
-        let d = reached(1, ground.d);
-        let stages = [
-            ground.at_root(),
-            ends(d, d, d),
-            ends(d, reached(2, ground.a), d),
-        ];
-        let before = ground.store.look_ups();
-        let (parent, node) = (ground.a, ground.b);
-        let (old, found) = if is_there {
-            (b"/d/a/b".as_slice(), Located::At { parent, node })
-        } else {
-            (b"/d/a/no".as_slice(), Located::Missing { parent })
-        };
-        let walk = ground.walks(&rt, rename(alloc, old, new), &stages);
-        assert_eq!(rt; walk, ready(found, Located::NoWay));
-        ground.looked(&rt, before, 4);
-    }
-    Ok(())
+    has_no_old_way(&rt, alloc, b"/d/no/x");
+    has_no_old_way(&rt, alloc, b"/d/f/x");
+    has_no_new_way(&rt, alloc, b"/d/a/b", b"/d/no/z", true);
+    has_no_new_way(&rt, alloc, b"/d/a/b", b"/d/f/z", true);
+    has_no_new_way(&rt, alloc, b"/d/a/no", b"/d/no/z", false);
 }
