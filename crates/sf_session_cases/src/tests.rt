@@ -1,6 +1,6 @@
 //! A session by its calls.
 
-ghost use Rattle.std.specs.Prelude.{IfOk, IsSome};
+ghost use Rattle.std.specs.Prelude.{◌≡◌, None, IsSome};
 
 use sf_call::{Answer, CoreFault, Request};
 use sf_path::Path;
@@ -24,74 +24,107 @@ const UNSUPPORTED: &[u8] =
 
 const VERSION: &[u8] = b"\0\0\0\x26\x02\0\0\0\x03\0\0\0\x18posix-rename@openssh.com\0\0\0\x011";
 
+fn feeds(rt: &impl Abort, session: &mut Session, bytes: &[u8])
+    ensures { session.new.waiting ≡ session.old.waiting }
+{
+    assert!(rt; session.feed(bytes).is_ok());
+}
+
+/// Less than a packet is unread.
+fn wants_more(rt: &impl Abort, session: &mut Session)
+    requires { session.old.waiting ≡ None }
+    ensures { session.new.waiting ≡ None }
+{
+    match session.next() {
+        Ok(Next::More) => {}
+        _ => panic!(rt; "a packet, or an end"),
+    }
+}
+
+/// The next packet is answered without a call.
+fn answers_itself(rt: &impl Abort, session: &mut Session)
+    requires { session.old.waiting ≡ None }
+    ensures { session.new.waiting ≡ None }
+{
+    match session.next() {
+        Ok(Next::Local) => {}
+        _ => panic!(rt; "no answer of its own"),
+    }
+}
+
+fn has_output(rt: &impl Abort, session: &Session, want: &[u8]) {
+    assert!(rt; session.output() == want);
+}
+
+fn is_drained(rt: &impl Abort, session: &Session, want: bool) {
+    assert!(rt; session.is_drained() == want);
+}
+
 /// A session that was asked STAT of `/a`, and waits.
-fn waiting(rt: &impl Abort, alloc: Global) -> Result<Session, Fail>
-    ensures { IfOk result (λ session. IsSome session.waiting) }
+fn waiting(rt: &impl Abort, alloc: Global) -> Session
+    ensures { IsSome result.waiting }
 {
     let mut session = Session::new(alloc);
-    session.feed(INIT)?;
-    assert!(rt; matches!(session.next()?, Next::Local));
-    assert_eq!(rt; session.take_output().as_slice(), VERSION);
-    session.feed(STAT)?;
-    let Next::Call(Request::Stat(path)) = session.next()? else {
+    feeds(rt, &mut session, INIT);
+    answers_itself(rt, &mut session);
+    assert!(rt; session.take_output().as_slice() == VERSION);
+    feeds(rt, &mut session, STAT);
+    let next = session.next();
+    let Ok(Next::Call(Request::Stat(path))) = next else {
         panic!(rt; "no call");
     };
-    assert_eq!(rt; path, Path::parse(alloc, b"/a")?);
-    Ok(session)
+    assert!(rt; Path::parse(alloc, b"/a") == Ok(path));
+    session
 }
 
 #[test]
-fn bytes_wait_for_a_whole_packet(rt: HostRuntime) -> Result<(), Fail> {
+fn bytes_wait_for_a_whole_packet(rt: HostRuntime) {
     let mut session = Session::new(rt.alloc());
-    session.feed(&INIT[..8])?;
-    assert!(rt; matches!(session.next()?, Next::More));
-    assert!(rt; session.output().is_empty());
-    session.feed(&INIT[8..])?;
-    assert!(rt; matches!(session.next()?, Next::Local));
-    assert_eq!(rt; session.output(), VERSION);
-    assert!(rt; matches!(session.next()?, Next::More));
-    session.feed(READLINK)?;
-    assert!(rt; matches!(session.next()?, Next::Local));
+    feeds(&rt, &mut session, &INIT[..8]);
+    wants_more(&rt, &mut session);
+    has_output(&rt, &session, b"");
+    feeds(&rt, &mut session, &INIT[8..]);
+    answers_itself(&rt, &mut session);
+    has_output(&rt, &session, VERSION);
+    wants_more(&rt, &mut session);
+    feeds(&rt, &mut session, READLINK);
+    answers_itself(&rt, &mut session);
     let output = session.take_output();
-    assert_eq!(rt; &output.as_slice()[VERSION.len()..], UNSUPPORTED);
-    assert!(rt; session.output().is_empty());
-    Ok(())
+    assert!(rt; output.as_slice().get(VERSION.len()..) == Some(UNSUPPORTED));
+    has_output(&rt, &session, b"");
 }
 
 /// A session is drained until a packet is whole, or its length is wrong.
 #[test]
-fn drained_of_packets(rt: HostRuntime) -> Result<(), Fail> {
+fn drained_of_packets(rt: HostRuntime) {
     let mut session = Session::new(rt.alloc());
-    assert!(rt; session.is_drained());
-    session.feed(&INIT[..8])?;
-    assert!(rt; session.is_drained());
-    session.feed(&INIT[8..])?;
-    session.feed(&READLINK[..3])?;
-    assert!(rt; !session.is_drained());
-    assert!(rt; matches!(session.next()?, Next::Local));
-    assert!(rt; session.is_drained());
-    session.feed(&READLINK[3..])?;
-    session.feed(b"\0\0\0\0")?;
-    assert!(rt; !session.is_drained());
-    assert!(rt; matches!(session.next()?, Next::Local));
-    assert!(rt; !session.is_drained());
-    Ok(())
+    is_drained(&rt, &session, true);
+    feeds(&rt, &mut session, &INIT[..8]);
+    is_drained(&rt, &session, true);
+    feeds(&rt, &mut session, &INIT[8..]);
+    feeds(&rt, &mut session, &READLINK[..3]);
+    is_drained(&rt, &session, false);
+    answers_itself(&rt, &mut session);
+    is_drained(&rt, &session, true);
+    feeds(&rt, &mut session, &READLINK[3..]);
+    feeds(&rt, &mut session, b"\0\0\0\0");
+    is_drained(&rt, &session, false);
+    answers_itself(&rt, &mut session);
+    is_drained(&rt, &session, false);
 }
 
 #[test]
 fn an_answer_is_appended(rt: HostRuntime) -> Result<(), Fail> {
-    let mut session = waiting(&rt, rt.alloc())?;
+    let mut session = waiting(&rt, rt.alloc());
     session.answer(&Answer::new(8, 1, Reply::Status(StatusCode::NoSuchFile)))?;
-    assert_eq!(rt;
-        session.output(),
-        b"\0\0\0\x1d\x65\0\0\0\x08\0\0\0\x02\0\0\0\x0cNo such file\0\0\0\0".as_slice()
-    );
-    assert!(rt; matches!(session.next()?, Next::More));
+    let want = b"\0\0\0\x1d\x65\0\0\0\x08\0\0\0\x02\0\0\0\x0cNo such file\0\0\0\0";
+    has_output(&rt, &session, want);
+    wants_more(&rt, &mut session);
     Ok(())
 }
 
 #[test]
-fn refusals(rt: HostRuntime) -> Result<(), Fail> {
+fn refusals(rt: HostRuntime) {
     let no_memory: &[u8] = b"\0\0\0\x1e\x65\0\0\0\x08\0\0\0\x04\0\0\0\x0dOut of memory\0\0\0\0";
     let failure: &[u8] = b"\0\0\0\x18\x65\0\0\0\x08\0\0\0\x04\0\0\0\x07Failure\0\0\0\0";
     for (fault, want) in [
@@ -100,26 +133,34 @@ fn refusals(rt: HostRuntime) -> Result<(), Fail> {
         (CoreFault::NumbersSpent, failure),
         (CoreFault::Stranger, failure),
     ] {
-        let mut session = waiting(&rt, rt.alloc())?;
+        let mut session = waiting(&rt, rt.alloc());
         session.refuse(fault);
-        assert_eq!(rt; session.output(), want);
+        has_output(&rt, &session, want);
     }
-    Ok(())
+}
+
+fn has_ended(rt: &impl Abort, session: &mut Session, want: Cause)
+    requires { session.old.waiting ≡ None }
+    ensures { session.new.waiting ≡ None }
+{
+    match session.next() {
+        Ok(Next::Ended(cause)) => assert!(rt; cause == want),
+        _ => panic!(rt; "not ended"),
+    }
 }
 
 /// An ended session keeps its output and answers its cause again.
 #[test]
-fn an_ended_session(rt: HostRuntime) -> Result<(), Fail> {
+fn an_ended_session(rt: HostRuntime) {
     let mut session = Session::new(rt.alloc());
-    session.feed(INIT)?;
-    session.feed(INIT)?;
-    session.feed(STAT)?;
-    assert!(rt; matches!(session.next()?, Next::Local));
-    assert!(rt; matches!(session.next()?, Next::Ended(Cause::SecondInit)));
-    assert!(rt; matches!(session.next()?, Next::Ended(Cause::SecondInit)));
-    assert_eq!(rt; session.feed(STAT), Err(SessionFault::Ended));
-    assert_eq!(rt; session.output(), VERSION);
-    Ok(())
+    feeds(&rt, &mut session, INIT);
+    feeds(&rt, &mut session, INIT);
+    feeds(&rt, &mut session, STAT);
+    answers_itself(&rt, &mut session);
+    has_ended(&rt, &mut session, Cause::SecondInit);
+    has_ended(&rt, &mut session, Cause::SecondInit);
+    assert!(rt; session.feed(STAT) == Err(SessionFault::Ended));
+    has_output(&rt, &session, VERSION);
 }
 
 #[test]
