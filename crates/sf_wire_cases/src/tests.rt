@@ -1,6 +1,6 @@
 //! What crosses the wire, with the bytes that the draft and OpenSSH's PROTOCOL give.
 
-ghost use Rattle.std.specs.Prelude.{◌≤◌, length, IfOk};
+ghost use Rattle.std.specs.Prelude.{◌≡◌, ◌≤◌, length, IfOk};
 ghost use Rattle.std.specs.List.{flat_map};
 ghost use Rattle.sf_reply.specs.Replies.{entry_text};
 
@@ -34,8 +34,32 @@ const DIRECTORY: Attrs = Attrs {
     }),
 };
 
-fn string(alloc: Global, text: &str) -> Result<ByteString, AllocError> {
-    ByteString::from_slice(alloc, text.as_bytes())
+/// Asserts that these are the bytes.
+fn are(rt: &impl Abort, bytes: &[u8], want: &[u8]) {
+    assert_eq!(rt; bytes, want);
+}
+
+/// The bytes of a text in hexadecimal.
+fn hex(rt: &impl Abort, alloc: Global, text: &str) -> Vec<u8> {
+    let bytes = hex_bytes(alloc, text);
+    let Ok(bytes) = bytes else {
+        panic!(rt; "no bytes");
+    };
+    bytes
+}
+
+/// Asserts that these are the bytes of a text in hexadecimal.
+fn are_hex(rt: &impl Abort, alloc: Global, bytes: &[u8], want: &str) {
+    are(rt, bytes, &hex(rt, alloc, want));
+}
+
+fn string(rt: &impl Abort, alloc: Global, text: &[u8]) -> ByteString
+    ensures { result ≡ text.now }
+{
+    match ByteString::from_slice(alloc, text) {
+        Ok(string) => string,
+        Err(_) => panic!(rt; "no memory"),
+    }
 }
 
 /// The root's one name, as REALPATH answers it.

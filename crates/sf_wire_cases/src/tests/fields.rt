@@ -1,5 +1,7 @@
 //! Single fields.
 
+ghost use Rattle.std.specs.Prelude.{◌≤◌, length};
+
 use super::*;
 use sf_field::{
     attrs_len, attrs_of, bytes_at, put_attrs, put_string, put_u32, u32_at, u64_at, write_attrs,
@@ -8,64 +10,95 @@ use sf_field::{
 
 #[test]
 fn byte_strings(rt: HostRuntime) -> Result<(), Fail> {
-    let alloc = rt.alloc();
-    let bytes = string(alloc, "/a")?;
+    let bytes = string(&rt, rt.alloc(), b"/a");
     let shared = bytes.share()?;
-    assert_eq!(rt; shared, bytes);
+    assert!(rt; shared == bytes);
     drop(bytes);
-    assert_eq!(rt; shared.as_slice(), b"/a".as_slice());
-    assert_eq!(rt; shared.len(), 2);
-    assert!(rt; !shared.is_empty());
+    are(&rt, shared.as_slice(), b"/a");
+    assert!(rt; shared.len() == 2 && !shared.is_empty());
     assert!(rt; ByteString::new().share()?.is_empty());
     Ok(())
+}
+
+/// Asserts what a part is.
+fn has_part(rt: &impl Abort, bytes: &ByteString, start: usize, end: usize, want: &[u8])
+    requires order { start ≤ end }
+    requires end { end ≤ length bytes.now }
+{
+    match bytes.part(start, end) {
+        Ok(part) => are(rt, part.as_slice(), want),
+        Err(_) => panic!(rt; "no memory"),
+    }
 }
 
 #[test]
 fn parts_of_byte_strings(rt: HostRuntime) -> Result<(), Fail> {
     let mut bytes = ByteString::from_slice(rt.alloc(), b"abcdef")?;
+    has_part(&rt, &bytes, 0, 6, b"abcdef");
+    has_part(&rt, &bytes, 6, 6, b"");
     let part = bytes.part(1, 4)?;
-    assert_eq!(rt; part.as_slice(), b"bcd".as_slice());
-    assert_eq!(rt; bytes.part(0, 6)?, bytes);
-    assert!(rt; bytes.part(6, 6)?.is_empty());
+    are(&rt, part.as_slice(), b"bcd");
     bytes.truncate(9);
-    assert_eq!(rt; bytes.as_slice(), b"abcdef".as_slice());
+    are(&rt, bytes.as_slice(), b"abcdef");
     bytes.truncate(2);
-    assert_eq!(rt; bytes.as_slice(), b"ab".as_slice());
-    assert_eq!(rt; part.as_slice(), b"bcd".as_slice());
+    are(&rt, bytes.as_slice(), b"ab");
+    are(&rt, part.as_slice(), b"bcd");
     Ok(())
 }
 
+fn write_fields(out: &mut BytesMut) -> Result<(), Fail> {
+    write_u32(out, 0x0102_0304)?;
+    write_u64(out, 5)?;
+    write_string(out, b"/a")?;
+    write_attrs(out, &DIRECTORY)?;
+    Ok(())
+}
+
+/// A number, a long number, a string and attributes.
+const FIELDS: &str =
+    "01020304 0000000000000005 00000002 2f61 0000000f 0000000000000000 00000000 00000000 000041ed 00000064 00000064";
+
 #[test]
-fn single_fields(rt: HostRuntime) -> Result<(), Fail> {
+fn fields_are_written(rt: HostRuntime) -> Result<(), Fail> {
     let alloc = rt.alloc();
     let mut out = BytesMut::new(alloc);
-    write_u32(&mut out, 0x0102_0304)?;
-    write_u64(&mut out, 5)?;
-    write_string(&mut out, b"/a")?;
-    write_attrs(&mut out, &DIRECTORY)?;
-    let want = hex_bytes(
-        alloc,
-        "01020304 0000000000000005 00000002 2f61 0000000f 0000000000000000 00000000 00000000 000041ed 00000064 00000064",
-    )?;
-    assert_eq!(rt; out.as_slice(), want.as_slice());
-    let Some((number, rest)) = u32_at(&want) else {
-        panic!(rt; "no number");
-    };
-    assert_eq!(rt; number, 0x0102_0304);
-    let Some((number, rest)) = u64_at(rest) else {
-        panic!(rt; "no long number");
-    };
-    assert_eq!(rt; number, 5);
-    let Some((text, rest)) = bytes_at(rest) else {
-        panic!(rt; "no string");
-    };
-    assert_eq!(rt; text, b"/a".as_slice());
-    let Some((attrs, rest)) = attrs_of(rest) else {
-        panic!(rt; "no attributes");
-    };
-    assert_eq!(rt; attrs, DIRECTORY);
-    assert!(rt; rest.is_empty());
+    write_fields(&mut out)?;
+    are_hex(&rt, alloc, out.as_slice(), FIELDS);
     Ok(())
+}
+
+/// The number at the front, and what is behind it.
+fn after_u32<'a>(rt: &impl Abort, bytes: &'a [u8], want: u32) -> &'a [u8] {
+    match u32_at(bytes) {
+        Some((number, rest)) if number == want => rest,
+        _ => panic!(rt; "another number, or none"),
+    }
+}
+
+fn after_u64<'a>(rt: &impl Abort, bytes: &'a [u8], want: u64) -> &'a [u8] {
+    match u64_at(bytes) {
+        Some((number, rest)) if number == want => rest,
+        _ => panic!(rt; "another long number, or none"),
+    }
+}
+
+fn after_bytes<'a>(rt: &impl Abort, bytes: &'a [u8], want: &[u8]) -> &'a [u8] {
+    match bytes_at(bytes) {
+        Some((text, rest)) if text == want => rest,
+        _ => panic!(rt; "another string, or none"),
+    }
+}
+
+#[test]
+fn fields_are_read(rt: HostRuntime) {
+    let bytes = hex(&rt, rt.alloc(), FIELDS);
+    let rest = after_u32(&rt, &bytes, 0x0102_0304);
+    let rest = after_u64(&rt, rest, 5);
+    let rest = after_bytes(&rt, rest, b"/a");
+    match attrs_of(rest) {
+        Some((attrs, [])) => assert!(rt; attrs == DIRECTORY),
+        _ => panic!(rt; "no attributes, or a byte more"),
+    }
 }
 
 /// The same fields, in room that is taken ahead.
@@ -77,11 +110,9 @@ fn fields_in_taken_room(rt: HostRuntime) -> Result<(), Fail> {
     put_u32(&mut out, 0x0102_0304);
     put_string(&mut out, b"/a");
     put_attrs(&mut out, &DIRECTORY);
-    let want = hex_bytes(
-        alloc,
-        "01020304 00000002 2f61 0000000f 0000000000000000 00000000 00000000 000041ed 00000064 00000064",
-    )?;
-    assert_eq!(rt; out.as_slice(), want.as_slice());
+    let want =
+        "01020304 00000002 2f61 0000000f 0000000000000000 00000000 00000000 000041ed 00000064 00000064";
+    are_hex(&rt, alloc, out.as_slice(), want);
     Ok(())
 }
 
@@ -96,5 +127,5 @@ fn bits_of_open(rt: HostRuntime) {
         truncate: true,
         exclusive: false,
     };
-    assert_eq!(rt; OpenFlags::from_bits(0x5b), want);
+    assert!(rt; OpenFlags::from_bits(0x5b) == want);
 }

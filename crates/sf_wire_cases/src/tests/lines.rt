@@ -29,55 +29,59 @@ fn reads<L: Line>(
     buffer: &mut [u8],
     want: Result<usize, LineFault>,
 ) {
-    assert_eq!(rt; line.read(buffer), want);
+    assert!(rt; line.read(buffer) == want);
 }
 
 fn writes<L: Line>(rt: &impl Abort, line: &mut L, bytes: &[u8], want: Result<usize, LineFault>) {
-    assert_eq!(rt; line.write(bytes), want);
+    assert!(rt; line.write(bytes) == want);
 }
 
 fn has_failed<L: Line>(rt: &impl Abort, line: &L, times: u64) {
-    assert_eq!(rt; line.failures(), times);
+    assert!(rt; line.failures() == times);
+}
+
+fn writes_all<L: Line>(rt: &impl Abort, line: &mut L, bytes: &[u8]) {
+    assert!(rt; write_all(line, bytes).is_ok());
+}
+
+/// Asserts how many bytes each read of an echo gave.
+fn echoes<L: Line>(rt: &impl Abort, alloc: Global, line: &mut L, want: &[usize]) {
+    let counts = echo(alloc, line);
+    match counts {
+        Ok(counts) => assert!(rt; counts.as_slice() == want),
+        Err(_) => panic!(rt; "a fault, or no memory"),
+    }
 }
 
 #[test]
-fn memory_line(rt: HostRuntime) -> Result<(), Fail> {
+fn memory_line(rt: HostRuntime) {
     let alloc = rt.alloc();
     let pieces = Pieces::new(1, 3);
     let mut line = MemoryLine::new(alloc, b"abcdefg", pieces, Pieces::new(1, 2));
-    assert_eq!(rt;
-        echo(alloc, &mut line)?.as_slice(),
-        [1usize, 3, 3, 0].as_slice()
-    );
-    assert_eq!(rt; line.output(), b"abcdefg".as_slice());
+    echoes(&rt, alloc, &mut line, &[1, 3, 3, 0]);
+    are(&rt, line.output(), b"abcdefg");
     has_failed(&rt, &line, 0);
-    Ok(())
 }
 
 /// Pieces of a byte and of two bytes.
 #[test]
-fn all_is_written(rt: HostRuntime) -> Result<(), Fail> {
+fn all_is_written(rt: HostRuntime) {
     let pieces = Pieces::new(1, 2);
     let mut line = MemoryLine::new(rt.alloc(), b"", pieces, pieces);
-    write_all(&mut line, b"abcd")?;
-    write_all(&mut line, b"")?;
-    write_all(&mut line, b"e")?;
-    assert_eq!(rt; line.output(), b"abcde".as_slice());
-    Ok(())
+    writes_all(&rt, &mut line, b"abcd");
+    writes_all(&rt, &mut line, b"");
+    writes_all(&rt, &mut line, b"e");
+    are(&rt, line.output(), b"abcde");
 }
 
 #[test]
-fn stream_line(rt: HostRuntime) -> Result<(), Fail> {
+fn stream_line(rt: HostRuntime) {
     let alloc = rt.alloc();
     let mut output: Vec<u8> = Vec::new(alloc);
     let mut line = StreamLine::new(b"abcdefg".as_slice(), &mut output);
-    assert_eq!(rt;
-        echo(alloc, &mut line)?.as_slice(),
-        [4usize, 3, 0].as_slice()
-    );
+    echoes(&rt, alloc, &mut line, &[4, 3, 0]);
     has_failed(&rt, &line, 0);
-    assert_eq!(rt; output.as_slice(), b"abcdefg".as_slice());
-    Ok(())
+    are(&rt, output.as_slice(), b"abcdefg");
 }
 
 /// Is interrupted once, gives one byte, and fails from then on.
@@ -101,19 +105,18 @@ impl Read for Failing {
 }
 
 #[test]
-fn failing_streams(rt: HostRuntime) -> Result<(), Fail> {
+fn failing_streams(rt: HostRuntime) {
     let mut no_room = [0u8; 0];
     let mut line = StreamLine::new(Failing { calls: 0 }, no_room.as_mut_slice());
     let mut buffer = [0u8; 2];
     reads(&rt, &mut line, &mut buffer, Ok(1));
-    assert_eq!(rt; buffer[0], b'x');
+    assert!(rt; buffer[0] == b'x');
     has_failed(&rt, &line, 0);
     reads(&rt, &mut line, &mut buffer, Err(LineFault));
     has_failed(&rt, &line, 1);
     writes(&rt, &mut line, &buffer, Err(LineFault));
     has_failed(&rt, &line, 2);
     writes(&rt, &mut line, &[], Ok(0));
-    Ok(())
 }
 
 /// Bytes one at a time, more than a million.
@@ -133,7 +136,7 @@ fn a_million_reads(rt: HostRuntime) -> Result<(), Fail> {
     reads(&rt, &mut line, &mut buffer, Ok(0));
     reads(&rt, &mut memory_line, &mut buffer, Ok(0));
     has_failed(&rt, &line, 0);
-    assert_eq!(rt; memory_line.calls().len(), 1_100_001);
+    assert!(rt; memory_line.calls().len() == 1_100_001);
     Ok(())
 }
 
@@ -159,26 +162,25 @@ impl Write for FailsOnce {
 
 /// An error that is no interruption is one fault after one call.
 #[test]
-fn a_writer_that_fails_once(rt: HostRuntime) -> Result<(), Fail> {
+fn a_writer_that_fails_once(rt: HostRuntime) {
     let mut writer = FailsOnce { calls: 0 };
     let mut line = StreamLine::new(b"".as_slice(), &mut writer);
     writes(&rt, &mut line, b"ab", Err(LineFault));
     has_failed(&rt, &line, 1);
     writes(&rt, &mut line, b"ab", Ok(2));
     has_failed(&rt, &line, 1);
-    assert_eq!(rt; writer.calls, 2);
-    Ok(())
+    assert!(rt; writer.calls == 2);
 }
 
 /// The calls are told in the order in which they were made.
 #[test]
-fn calls_in_order(rt: HostRuntime) -> Result<(), Fail> {
+fn calls_in_order(rt: HostRuntime) {
     let alloc = rt.alloc();
     let pieces = Pieces::new(2, 3);
     let mut line = MemoryLine::new(alloc, b"abc", pieces, pieces);
     let mut buffer = [0u8; 4];
     reads(&rt, &mut line, &mut buffer, Ok(2));
-    write_all(&mut line, b"vwxyz")?;
+    writes_all(&rt, &mut line, b"vwxyz");
     reads(&rt, &mut line, &mut buffer, Ok(1));
     reads(&rt, &mut line, &mut buffer, Ok(0));
     let want = [
@@ -188,6 +190,5 @@ fn calls_in_order(rt: HostRuntime) -> Result<(), Fail> {
         LineCall::Read(1),
         LineCall::Read(0),
     ];
-    assert_eq!(rt; line.calls(), want.as_slice());
-    Ok(())
+    assert!(rt; line.calls() == want.as_slice());
 }

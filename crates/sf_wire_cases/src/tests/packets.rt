@@ -1,149 +1,105 @@
 //! Packets from their first byte to their last: what is asked and what is answered.
 
+use super::asked::{asked_text, body_asks};
+use super::replies::is_written;
 use super::*;
-use sf_reply::{MAX_PLAIN_REPLY, write_reply, write_version};
-use sf_request::{Asked, ByteStr, WireRequest, read_request};
+use sf_reply::{MAX_PLAIN_REPLY, write_version};
 use sf_wire::{BadCut, Cut, cut};
 
-fn is_cut(rt: &impl Abort, bytes: &[u8], want: Cut) {
+pub(super) fn is_cut(rt: &impl Abort, bytes: &[u8], want: Cut) {
     assert_eq!(rt; cut(bytes), want);
 }
 
 /// A packet is cut after all of its bytes and no sooner.
-fn is_one_packet(rt: &impl Abort, packet: &[u8]) {
+pub(super) fn is_one_packet(rt: &impl Abort, packet: &[u8]) {
     for len in 0..packet.len() {
         is_cut(rt, &packet[..len], Cut::More);
     }
     is_cut(rt, packet, Cut::Whole(packet.len()));
 }
 
-/// What a body asks that has no room for an id, or for INIT's version.
-fn short(body: &[u8]) -> Asked<'_> {
-    match body {
-        [1, ..] => Asked::NoVersion,
-        _ => Asked::NoId,
+/// What the body of a packet asks, once the `fields` bytes of its type, its id and its fields are there.
+pub(super) fn asks(
+    rt: &impl Abort,
+    alloc: Global,
+    packet: &str,
+    fields: usize,
+    want: &str,
+    bad: &str,
+) {
+    let packet = hex(rt, alloc, packet);
+    is_one_packet(rt, &packet);
+    match packet.get(4..) {
+        Some(body) => body_asks(rt, alloc, body, fields, want, bad),
+        None => panic!(rt; "no body"),
     }
-}
-
-/// A body that ends early asks for nothing before it has an id, and has bad fields until the
-/// `fields` bytes of its type, its id and its fields are there.
-fn asks(rt: &impl Abort, packet: &[u8], fields: usize, want: &Asked, bad: &Asked) {
-    is_one_packet(rt, packet);
-    let Some(body) = packet.get(4..) else {
-        panic!(rt; "no body");
-    };
-    for len in 0..=body.len() {
-        let sent = &body[..len];
-        let asked = read_request(sent);
-        if len < 5 {
-            assert_eq!(rt; asked, short(sent));
-        } else if len < fields {
-            assert_eq!(rt; &asked, bad);
-        } else {
-            assert_eq!(rt; &asked, want);
-        }
-    }
-}
-
-fn is_written(rt: &impl Abort, alloc: Global, out: &BytesMut, want: &str) -> Result<(), Fail> {
-    let want = hex_bytes(alloc, want)?;
-    assert_eq!(rt; out.as_slice(), want.as_slice());
-    is_one_packet(rt, out.as_slice());
-    Ok(())
 }
 
 #[test]
 fn version_reply(rt: HostRuntime) -> Result<(), Fail> {
     let alloc = rt.alloc();
-    let sent = hex_bytes(alloc, "00000005 01 00000003")?;
-    asks(&rt, &sent, 5, &Asked::Init(3), &Asked::NoId);
+    asks(&rt, alloc, "00000005 01 00000003", 5, "Init(3)", "NoId");
     let mut out = BytesMut::new(alloc);
     write_version(&mut out)?;
-    is_written(
-        &rt,
-        alloc,
-        &out,
-        "00000026 02 00000003 00000018 706f7369782d72656e616d65406f70656e7373682e636f6d 00000001 31",
-    )
+    let want =
+        "00000026 02 00000003 00000018 706f7369782d72656e616d65406f70656e7373682e636f6d 00000001 31";
+    are_hex(&rt, alloc, out.as_slice(), want);
+    is_one_packet(&rt, out.as_slice());
+    Ok(())
 }
 
 #[test]
-fn mkdir(rt: HostRuntime) -> Result<(), Fail> {
+fn mkdir(rt: HostRuntime) {
     let alloc = rt.alloc();
-    let sent = hex_bytes(alloc, "0000000f 0e 00000007 00000002 2f61 00000000")?;
-    let path = ByteStr::new(b"/a");
-    let want = Asked::Request(
-        7,
-        WireRequest::Mkdir {
-            path,
-            attrs: NO_ATTRS,
-        },
-    );
-    asks(&rt, &sent, 15, &want, &Asked::BadFields(7));
-    let mut out = BytesMut::new(alloc);
-    write_reply(7, &Reply::Status(StatusCode::Success), &mut out)?;
-    is_written(
-        &rt,
-        alloc,
-        &out,
-        "00000018 65 00000007 00000000 00000007 53756363657373 00000000",
-    )?;
-    out.clear();
-    write_reply(7, &Reply::Status(StatusCode::Failure), &mut out)?;
-    is_written(
-        &rt,
-        alloc,
-        &out,
-        "00000018 65 00000007 00000004 00000007 4661696c757265 00000000",
-    )
+    let sent = "0000000f 0e 00000007 00000002 2f61 00000000";
+    let want =
+        "Request(7, Mkdir { path: ByteStr { bytes: [47, 97] }, attrs: Attrs { size: None, owner: None, permissions: None, times: None } })";
+    asks(&rt, alloc, sent, 15, want, "BadFields(7)");
+    let done = Reply::Status(StatusCode::Success);
+    let packet = "00000018 65 00000007 00000000 00000007 53756363657373 00000000";
+    is_written(&rt, alloc, 7, &done, packet);
+    let failed = Reply::Status(StatusCode::Failure);
+    let packet = "00000018 65 00000007 00000004 00000007 4661696c757265 00000000";
+    is_written(&rt, alloc, 7, &failed, packet);
 }
 
 #[test]
-fn stat(rt: HostRuntime) -> Result<(), Fail> {
+fn stat(rt: HostRuntime) {
     let alloc = rt.alloc();
-    let sent = hex_bytes(alloc, "0000000b 11 00000008 00000002 2f61")?;
-    let want = Asked::Request(
-        8,
-        WireRequest::Stat {
-            path: ByteStr::new(b"/a"),
-        },
-    );
-    asks(&rt, &sent, 11, &want, &Asked::BadFields(8));
-    let mut out = BytesMut::new(alloc);
-    write_reply(8, &Reply::Attrs(DIRECTORY), &mut out)?;
-    is_written(
-        &rt,
-        alloc,
-        &out,
-        "00000025 69 00000008 0000000f 0000000000000000 00000000 00000000 000041ed 00000064 00000064",
-    )
+    let sent = "0000000b 11 00000008 00000002 2f61";
+    let want = "Request(8, Stat { path: ByteStr { bytes: [47, 97] } })";
+    asks(&rt, alloc, sent, 11, want, "BadFields(8)");
+    let packet =
+        "00000025 69 00000008 0000000f 0000000000000000 00000000 00000000 000041ed 00000064 00000064";
+    is_written(&rt, alloc, 8, &Reply::Attrs(DIRECTORY), packet);
 }
 
-/// The path is empty, and the body as long as one may be.
+/// The path is empty.
 #[test]
 fn realpath_of_empty_path(rt: HostRuntime) -> Result<(), Fail> {
     let alloc = rt.alloc();
-    let short = hex_bytes(alloc, "00000009 10 00000005 00000000")?;
-    let want = Asked::Request(
-        5,
-        WireRequest::RealPath {
-            path: ByteStr::new(b""),
-        },
-    );
-    asks(&rt, &short, 9, &want, &Asked::BadFields(5));
-    let mut long = hex_bytes(alloc, "00040000 10 00000005 00000000")?;
-    long.extend_from_slice(&vec![in alloc; 0u8; 262135]?)?;
-    assert_eq!(rt; long.len(), 262148);
-    is_one_packet(&rt, &long);
-    assert_eq!(rt; read_request(&long[4..]), want);
-    let mut out = BytesMut::new(alloc);
-    write_reply(5, &Reply::Names(root_listing(alloc)?), &mut out)?;
-    is_written(
-        &rt,
-        alloc,
-        &out,
-        "00000017 68 00000005 00000001 00000001 2f 00000001 2f 00000000",
-    )
+    let sent = "00000009 10 00000005 00000000";
+    asks(&rt, alloc, sent, 9, EMPTY_PATH, "BadFields(5)");
+    let root = Reply::Names(root_listing(alloc)?);
+    let packet = "00000017 68 00000005 00000001 00000001 2f 00000001 2f 00000000";
+    is_written(&rt, alloc, 5, &root, packet);
+    Ok(())
+}
+
+const EMPTY_PATH: &str = "Request(5, RealPath { path: ByteStr { bytes: [] } })";
+
+/// The body is as long as one may be, and what stands behind its fields asks nothing.
+#[test]
+fn longest_body(rt: HostRuntime) -> Result<(), Fail> {
+    let alloc = rt.alloc();
+    let mut packet = hex(&rt, alloc, "00040000 10 00000005 00000000");
+    packet.resize(262148, 0)?;
+    is_one_packet(&rt, &packet);
+    match packet.get(4..) {
+        Some(body) => assert!(rt; asked_text(&rt, alloc, body).as_str() == EMPTY_PATH),
+        None => panic!(rt; "no body"),
+    }
+    Ok(())
 }
 
 /// Four bytes tell a wrong length, and no fewer do.
@@ -165,75 +121,51 @@ fn wrong_lengths(rt: HostRuntime) {
 }
 
 #[test]
-fn pairs_are_ignored(rt: HostRuntime) -> Result<(), Fail> {
+fn pairs_are_ignored(rt: HostRuntime) {
     let alloc = rt.alloc();
-    let without = hex_bytes(
-        alloc,
-        "00000013 0e 00000007 00000002 2f61 80000000 ffffffff",
-    )?;
-    let bad = Asked::BadFields(7);
-    asks(&rt, &without, 20, &bad, &bad);
-    let with_one = hex_bytes(
-        alloc,
-        "0000001b 0e 00000007 00000002 2f61 80000000 00000001 00000000 00000000",
-    )?;
-    let path = ByteStr::new(b"/a");
-    let want = Asked::Request(
-        7,
-        WireRequest::Mkdir {
-            path,
-            attrs: NO_ATTRS,
-        },
-    );
-    asks(&rt, &with_one, 27, &want, &bad);
-    Ok(())
+    let without = "00000013 0e 00000007 00000002 2f61 80000000 ffffffff";
+    asks(&rt, alloc, without, 20, "BadFields(7)", "BadFields(7)");
+    let with_one = "0000001b 0e 00000007 00000002 2f61 80000000 00000001 00000000 00000000";
+    let want =
+        "Request(7, Mkdir { path: ByteStr { bytes: [47, 97] }, attrs: Attrs { size: None, owner: None, permissions: None, times: None } })";
+    asks(&rt, alloc, with_one, 27, want, "BadFields(7)");
 }
 
 /// All parts, a flag of no part, and a pair.
 #[test]
-fn all_attributes(rt: HostRuntime) -> Result<(), Fail> {
-    let alloc = rt.alloc();
-    let sent = hex_bytes(
-        alloc,
-        "00000038 0e 00000001 00000001 61 8000001f 0000000000000000 00000000 00000000 000041ed 00000064 00000064 00000001 00000001 6b 00000001 76",
-    )?;
-    let path = ByteStr::new(b"a");
-    let want = Asked::Request(
-        1,
-        WireRequest::Mkdir {
-            path,
-            attrs: DIRECTORY,
-        },
-    );
-    asks(&rt, &sent, 56, &want, &Asked::BadFields(1));
-    Ok(())
+fn all_attributes(rt: HostRuntime) {
+    let sent =
+        "00000038 0e 00000001 00000001 61 8000001f 0000000000000000 00000000 00000000 000041ed 00000064 00000064 00000001 00000001 6b 00000001 76";
+    let want =
+        "Request(1, Mkdir { path: ByteStr { bytes: [97] }, attrs: Attrs { size: Some(0), owner: Some(Owner { uid: 0, gid: 0 }), permissions: Some(16877), times: Some(Times { atime: 100, mtime: 100 }) } })";
+    asks(&rt, rt.alloc(), sent, 56, want, "BadFields(1)");
 }
 
 #[test]
-fn unknown_types(rt: HostRuntime) -> Result<(), Fail> {
-    let alloc = rt.alloc();
-    for kind in ["00", "02", "13", "ff"] {
-        let mut sent = hex_bytes(alloc, "0000000b")?;
-        sent.extend_from_slice(&hex_bytes(alloc, kind)?)?;
-        sent.extend_from_slice(&hex_bytes(alloc, "00000009 00000002 2f61")?)?;
-        let unknown = Asked::Unknown(9);
-        asks(&rt, &sent, 5, &unknown, &unknown);
+fn unknown_types(rt: HostRuntime) {
+    for sent in [
+        "0000000b 00 00000009 00000002 2f61",
+        "0000000b 02 00000009 00000002 2f61",
+        "0000000b 13 00000009 00000002 2f61",
+        "0000000b 14 00000009 00000002 2f61",
+        "0000000b 63 00000009 00000002 2f61",
+        "0000000b c9 00000009 00000002 2f61",
+        "0000000b ff 00000009 00000002 2f61",
+    ] {
+        asks(&rt, rt.alloc(), sent, 5, "Unknown(9)", "Unknown(9)");
     }
-    Ok(())
 }
 
 /// An extension's name is read first.
 #[test]
-fn unknown_extension(rt: HostRuntime) -> Result<(), Fail> {
-    let alloc = rt.alloc();
-    let sent = hex_bytes(alloc, "0000000b c8 00000009 00000002 2f61")?;
-    asks(&rt, &sent, 11, &Asked::Unknown(9), &Asked::BadFields(9));
-    Ok(())
+fn unknown_extension(rt: HostRuntime) {
+    let sent = "0000000b c8 00000009 00000002 2f61";
+    asks(&rt, rt.alloc(), sent, 11, "Unknown(9)", "BadFields(9)");
 }
 
 /// The codes and the messages of the draft's table, and those of want of memory.
 #[test]
-fn statuses(rt: HostRuntime) -> Result<(), Fail> {
+fn statuses(rt: HostRuntime) {
     let alloc = rt.alloc();
     let mut longest = 0;
     for (id, code, want) in [
@@ -263,18 +195,9 @@ fn statuses(rt: HostRuntime) -> Result<(), Fail> {
             "00000026 65 00000009 00000008 00000015 4f7065726174696f6e20756e737570706f72746564 00000000",
         ),
     ] {
-        let mut out = BytesMut::new(alloc);
-        write_reply(id, &Reply::Status(code), &mut out)?;
-        is_written(&rt, alloc, &out, want)?;
-        longest = out.len().max(longest);
+        longest = is_written(&rt, alloc, id, &Reply::Status(code), want).max(longest);
     }
-    assert_eq!(rt; longest, MAX_PLAIN_REPLY);
-    let mut out = BytesMut::new(alloc);
-    write_reply(3, &Reply::NoMemory, &mut out)?;
-    is_written(
-        &rt,
-        alloc,
-        &out,
-        "0000001e 65 00000003 00000004 0000000d 4f7574206f66206d656d6f7279 00000000",
-    )
+    assert!(rt; longest == MAX_PLAIN_REPLY);
+    let packet = "0000001e 65 00000003 00000004 0000000d 4f7574206f66206d656d6f7279 00000000";
+    is_written(&rt, alloc, 3, &Reply::NoMemory, packet);
 }
