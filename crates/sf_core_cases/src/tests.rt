@@ -49,6 +49,13 @@ fn is_same(reply: &Reply, other: &Reply) -> bool {
     }
 }
 
+fn made(rt: &impl Abort, alloc: Global) -> Core {
+    match Core::new(alloc) {
+        Ok(core) => core,
+        Err(_) => panic!(rt; "no memory"),
+    }
+}
+
 fn join(rt: &impl Abort, core: &mut Core) -> Lane {
     match core.join() {
         Ok(lane) => lane,
@@ -92,6 +99,18 @@ fn step(rt: &impl Abort, core: &mut Core, lane: &mut Lane) -> Told {
     came_of(&core.step(lane))
 }
 
+/// A step comes to this.
+fn steps_to(rt: &impl Abort, core: &mut Core, lane: &mut Lane, want: Told) {
+    let told = step(rt, core, lane);
+    assert!(rt; told == want, "{told:?}, not {want:?}");
+}
+
+/// Steps up to one that doesn't move, and so many at most, come to this.
+fn walks_to(rt: &impl Abort, core: &mut Core, lane: &mut Lane, most: u64, want: Told) {
+    let told = walk(rt, core, lane, most);
+    assert!(rt; told == want, "{told:?}, not {want:?}");
+}
+
 /// Steps up to one that doesn't move, and so many at most.
 fn walk(rt: &impl Abort, core: &mut Core, lane: &mut Lane, most: u64) -> Told {
     assert!(rt; !lane.is_idle());
@@ -125,8 +144,8 @@ fn number_of(record: &Record) -> u64 {
 
 /// Asserts the numbers of the records that are kept, the oldest first.
 fn records_are(rt: &impl Abort, core: &Core, numbers: &[u64]) {
-    assert_eq!(rt; core.history().len(), numbers.len());
+    assert!(rt; core.history().len() == numbers.len());
     for (record, number) in core.history().iter().zip(numbers.iter()) {
-        assert_eq!(rt; number_of(record), *number);
+        assert!(rt; number_of(record) == *number);
     }
 }

@@ -40,13 +40,39 @@ enum Steps {
     Call(u32),
 }
 
-/// The bytes of packets in hexadecimal, one after the other.
-fn packets(alloc: Global, texts: &[&str]) -> Result<Vec<u8>, Fail> {
+fn try_packets(alloc: Global, texts: &[&str]) -> Result<Vec<u8>, Fail> {
     let mut bytes = Vec::new(alloc);
     for text in texts {
         bytes.extend_from_slice(&hex_bytes(alloc, text)?)?;
     }
     Ok(bytes)
+}
+
+/// What memory was there for.
+fn given<T>(rt: &impl Abort, found: Result<T, Fail>) -> T {
+    match found {
+        Ok(value) => value,
+        Err(_) => panic!(rt; "not given"),
+    }
+}
+
+/// The bytes of packets in hexadecimal, one after the other.
+fn packets(rt: &impl Abort, alloc: Global, texts: &[&str]) -> Vec<u8> {
+    given(rt, try_packets(alloc, texts))
+}
+
+/// The bytes of a packet in hexadecimal, and of others behind it.
+fn behind(alloc: Global, front: &str, texts: &[&str]) -> Result<Vec<u8>, Fail> {
+    let mut bytes = hex_bytes(alloc, front)?;
+    bytes.extend_from_slice(&try_packets(alloc, texts)?)?;
+    Ok(bytes)
+}
+
+fn made(rt: &impl Abort, alloc: Global) -> Engine {
+    match Engine::new(alloc) {
+        Ok(engine) => engine,
+        Err(_) => panic!(rt; "no memory"),
+    }
 }
 
 /// An event comes to this.
@@ -76,15 +102,8 @@ fn is_fed(rt: &impl Abort, engine: &mut Engine, session: u64, bytes: Vec<u8>) {
 }
 
 /// A session is fed packets.
-fn feeds(
-    rt: &impl Abort,
-    alloc: Global,
-    engine: &mut Engine,
-    session: u64,
-    texts: &[&str],
-) -> Result<(), Fail> {
-    is_fed(rt, engine, session, packets(alloc, texts)?);
-    Ok(())
+fn feeds(rt: &impl Abort, alloc: Global, engine: &mut Engine, session: u64, texts: &[&str]) {
+    is_fed(rt, engine, session, packets(rt, alloc, texts));
 }
 
 /// The next packet of a session is answered by these turns.
@@ -107,48 +126,43 @@ fn is_sent(rt: &impl Abort, engine: &Engine, session: u64, want: &[u8]) {
 /// The numbers of the records that an engine keeps, 0 where a session left, are these.
 fn records_are(rt: &impl Abort, engine: &Engine, want: &[u64]) {
     let history = engine.core().history();
-    assert_eq!(rt; history.len(), want.len());
+    assert!(rt; history.len() == want.len());
     for (record, want) in history.iter().zip(want.iter()) {
         let number = match record {
             Record::Did { number, .. } => *number,
             Record::Left { session: _ } => 0,
         };
-        assert_eq!(rt; number, *want);
+        assert!(rt; number == *want);
     }
+}
+
+/// Packets of the first session are answered so, and its output is this.
+fn are_answered(rt: &impl Abort, engine: &mut Engine, by: &[Steps], want: &[u8]) {
+    for turns in by {
+        is_answered(rt, engine, 1, *turns);
+    }
+    turns(rt, engine, 1, Happened::Idle);
+    is_sent(rt, engine, 1, want);
 }
 
 /// A session opens on an engine of its own, and is fed these bytes at once. Its packets are answered so, and its output is this.
-fn is_served_whole(
-    rt: &impl Abort,
-    alloc: Global,
-    input: &[u8],
-    by: &[Steps],
-    want: &[u8],
-) -> Result<(), Fail> {
-    let mut engine = Engine::new(alloc)?;
+fn is_served_whole(rt: &impl Abort, alloc: Global, input: Vec<u8>, by: &[Steps], want: &[u8]) {
+    let mut engine = made(rt, alloc);
     opens(rt, &mut engine, 1);
-    is_fed(rt, &mut engine, 1, Vec::from_slice(alloc, input)?);
-    for turns in by {
-        is_answered(rt, &mut engine, 1, *turns);
-    }
-    turns(rt, &mut engine, 1, Happened::Idle);
-    is_sent(rt, &engine, 1, want);
-    Ok(())
+    is_fed(rt, &mut engine, 1, input);
+    are_answered(rt, &mut engine, by, want);
 }
 
 /// The same of packets in hexadecimal, behind INIT.
-fn is_served(
-    rt: &impl Abort,
-    alloc: Global,
-    input: &[&str],
-    by: &[Steps],
-    want: &[&str],
-) -> Result<(), Fail> {
-    let mut bytes = hex_bytes(alloc, INIT)?;
-    bytes.extend_from_slice(&packets(alloc, input)?)?;
-    let mut all = vec![in alloc; Steps::AtOnce]?;
-    all.extend_from_slice(by)?;
-    let mut output = hex_bytes(alloc, VERSION)?;
-    output.extend_from_slice(&packets(alloc, want)?)?;
-    is_served_whole(rt, alloc, &bytes, &all, &output)
+fn is_served(rt: &impl Abort, alloc: Global, input: &[&str], by: &[Steps], want: &[&str]) {
+    let mut engine = made(rt, alloc);
+    opens(rt, &mut engine, 1);
+    is_fed(rt, &mut engine, 1, given(rt, behind(alloc, INIT, input)));
+    is_answered(rt, &mut engine, 1, Steps::AtOnce);
+    are_answered(
+        rt,
+        &mut engine,
+        by,
+        &given(rt, behind(alloc, VERSION, want)),
+    );
 }

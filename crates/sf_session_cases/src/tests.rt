@@ -163,25 +163,31 @@ fn an_ended_session(rt: HostRuntime) {
     has_output(&rt, &session, VERSION);
 }
 
+fn is_cause(rt: &impl Abort, alloc: Global, cause: Cause, want: &str) {
+    assert!(rt; cause.words() == want);
+    match format!(in alloc; "{cause}") {
+        Ok(words) => assert!(rt; words.as_str() == want),
+        Err(_) => panic!(rt; "no memory"),
+    }
+}
+
+fn is_fault(rt: &impl Abort, alloc: Global, fault: SessionFault, want: &str) {
+    match format!(in alloc; "{fault}") {
+        Ok(words) => assert!(rt; words.as_str() == want),
+        Err(_) => panic!(rt; "no memory"),
+    }
+}
+
 #[test]
-fn words_of_causes_and_faults(rt: HostRuntime) -> Result<(), Fail> {
-    for (cause, words) in [
-        (Cause::NotInit, "first packet is not INIT"),
-        (Cause::OldVersion, "client version below 3"),
-        (Cause::SecondInit, "second INIT"),
-        (Cause::ZeroLength, "length 0"),
-        (Cause::TooLong, "length above 262144"),
-        (Cause::NoId, "no room for an id"),
-    ] {
-        assert_eq!(rt; format!(in rt.alloc(); "{cause}")?.as_str(), words);
-        assert_eq!(rt; cause.words(), words);
-    }
-    for (fault, words) in [
-        (SessionFault::OutOfMemory, "out of memory"),
-        (SessionFault::Ended, "the session has ended"),
-    ] {
-        assert_eq!(rt; format!(in rt.alloc(); "{fault}")?.as_str(), words);
-    }
-    assert_eq!(rt; ServeFault::from(AllocError), ServeFault::OutOfMemory);
-    Ok(())
+fn words_of_causes_and_faults(rt: HostRuntime) {
+    let alloc = rt.alloc();
+    is_cause(&rt, alloc, Cause::NotInit, "first packet is not INIT");
+    is_cause(&rt, alloc, Cause::OldVersion, "client version below 3");
+    is_cause(&rt, alloc, Cause::SecondInit, "second INIT");
+    is_cause(&rt, alloc, Cause::ZeroLength, "length 0");
+    is_cause(&rt, alloc, Cause::TooLong, "length above 262144");
+    is_cause(&rt, alloc, Cause::NoId, "no room for an id");
+    is_fault(&rt, alloc, SessionFault::OutOfMemory, "out of memory");
+    is_fault(&rt, alloc, SessionFault::Ended, "the session has ended");
+    assert!(rt; ServeFault::from(AllocError) == ServeFault::OutOfMemory);
 }

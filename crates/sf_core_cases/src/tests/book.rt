@@ -19,13 +19,13 @@ fn close(number: u64) -> Record {
 
 /// The numbers of the calls, and 0 for a leaving.
 fn assert_numbers(rt: &impl Abort, book: &Book, want: &[u64]) {
-    assert_eq!(rt; book.records().len(), want.len());
+    assert!(rt; book.records().len() == want.len());
     for (record, want) in book.records().iter().zip(want) {
         let number = match record {
             Record::Did { number, .. } => *number,
             Record::Left { .. } => 0,
         };
-        assert_eq!(rt; number, *want);
+        assert!(rt; number == *want);
     }
 }
 
@@ -38,7 +38,7 @@ fn all_are_kept(rt: HostRuntime) -> Result<(), Fail> {
         book.put(close(number));
     }
     assert_numbers(&rt, &book, &[1, 2, 3]);
-    assert_eq!(rt; book.folded(), 0);
+    assert!(rt; book.folded() == 0);
     Ok(())
 }
 
@@ -50,14 +50,14 @@ fn the_last_two_are_kept(rt: HostRuntime) -> Result<(), Fail> {
     book.put(close(1));
     book.put(Record::Left { session: 1 });
     assert_numbers(&rt, &book, &[1, 0]);
-    assert_eq!(rt; book.folded(), 0);
+    assert!(rt; book.folded() == 0);
     book.put(close(2));
     assert_numbers(&rt, &book, &[0, 2]);
-    assert_eq!(rt; book.folded(), 1);
+    assert!(rt; book.folded() == 1);
     book.reserve(1)?;
     book.put(close(3));
     assert_numbers(&rt, &book, &[2, 3]);
-    assert_eq!(rt; book.folded(), 1);
+    assert!(rt; book.folded() == 1);
     Ok(())
 }
 
@@ -71,6 +71,6 @@ fn room_stays_small(rt: HostRuntime) -> Result<(), Fail> {
         assert!(rt; book.room() <= 16, "after {number}");
     }
     assert_numbers(&rt, &book, &[998, 999]);
-    assert_eq!(rt; book.folded(), 997);
+    assert!(rt; book.folded() == 997);
     Ok(())
 }

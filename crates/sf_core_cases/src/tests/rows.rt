@@ -3,94 +3,79 @@
 use super::*;
 
 /// A core with the directory `/a`, made by call 1 of session 1.
-fn with_a(rt: &impl Abort, alloc: Global) -> Result<(Core, Lane), Fail> {
-    let mut core = Core::new(alloc)?;
+fn with_a(rt: &impl Abort, alloc: Global) -> (Core, Lane) {
+    let mut core = made(rt, alloc);
     let mut lane = join(rt, &mut core);
     begin(rt, &mut core, &mut lane, mkdir(alloc, b"/a"));
-    assert_eq!(rt; step(rt, &mut core, &mut lane), Told::Moved);
-    assert_eq!(rt;
-        step(rt, &mut core, &mut lane),
-        Told::Status(StatusCode::Success)
-    );
-    Ok((core, lane))
+    steps_to(rt, &mut core, &mut lane, Told::Moved);
+    steps_to(rt, &mut core, &mut lane, Told::Status(StatusCode::Success));
+    (core, lane)
 }
 
 #[test]
-fn removal_waits_for_walker(rt: HostRuntime) -> Result<(), Fail> {
+fn removal_waits_for_walker(rt: HostRuntime) {
     let alloc = rt.alloc();
-    let (mut core, mut a) = with_a(&rt, alloc)?;
+    let (mut core, mut a) = with_a(&rt, alloc);
     let mut b = join(&rt, &mut core);
     begin(&rt, &mut core, &mut a, stat(alloc, b"/a/f"));
     begin(&rt, &mut core, &mut b, rmdir(alloc, b"/a"));
-    assert_eq!(&rt; step(&rt, &mut core, &mut a), Told::Moved);
-    assert_eq!(&rt; step(&rt, &mut core, &mut a), Told::Moved);
-    assert_eq!(&rt; step(&rt, &mut core, &mut b), Told::Moved);
-    assert_eq!(&rt; step(&rt, &mut core, &mut b), Told::Blocked(2));
-    assert_eq!(&rt; core.calls(), 3);
+    steps_to(&rt, &mut core, &mut a, Told::Moved);
+    steps_to(&rt, &mut core, &mut a, Told::Moved);
+    steps_to(&rt, &mut core, &mut b, Told::Moved);
+    steps_to(&rt, &mut core, &mut b, Told::Blocked(2));
+    assert!(&rt; core.calls() == 3);
     records_are(&rt, &core, &[1]);
-    assert_eq!(&rt;
-        step(&rt, &mut core, &mut a),
-        Told::Status(StatusCode::NoSuchFile)
-    );
-    assert_eq!(&rt;
-        step(&rt, &mut core, &mut b),
-        Told::Status(StatusCode::Success)
-    );
+    steps_to(&rt, &mut core, &mut a, Told::Status(StatusCode::NoSuchFile));
+    steps_to(&rt, &mut core, &mut b, Told::Status(StatusCode::Success));
     records_are(&rt, &core, &[1, 2, 3]);
     let share = leave(&rt, &mut core, a).merge(leave(&rt, &mut core, b));
-    assert_eq!(&rt; share.calls(), 3);
+    assert!(&rt; share.calls() == 3);
     records_are(&rt, &core, &[1, 2, 3, 0, 0]);
-    Ok(())
 }
 
 /// Calls walk on at once: so far, to where another one is in the way, or to their end.
 #[test]
-fn many_steps_at_once(rt: HostRuntime) -> Result<(), Fail> {
+fn many_steps_at_once(rt: HostRuntime) {
     let alloc = rt.alloc();
-    let (mut core, mut a) = with_a(&rt, alloc)?;
+    let (mut core, mut a) = with_a(&rt, alloc);
     let mut b = join(&rt, &mut core);
     begin(&rt, &mut core, &mut a, stat(alloc, b"/a/f"));
     begin(&rt, &mut core, &mut b, rmdir(alloc, b"/a"));
     let before = core.look_ups();
-    assert_eq!(&rt; walk(&rt, &mut core, &mut a, 2), Told::Moved);
-    assert_eq!(&rt; core.look_ups(), before.saturating_add(1));
-    assert_eq!(&rt; walk(&rt, &mut core, &mut b, 300), Told::Blocked(2));
+    walks_to(&rt, &mut core, &mut a, 2, Told::Moved);
+    assert!(&rt; core.look_ups() == before.saturating_add(1));
+    walks_to(&rt, &mut core, &mut b, 300, Told::Blocked(2));
     records_are(&rt, &core, &[1]);
-    assert_eq!(&rt;
-        walk(&rt, &mut core, &mut a, 300),
-        Told::Status(StatusCode::NoSuchFile)
+    walks_to(
+        &rt,
+        &mut core,
+        &mut a,
+        300,
+        Told::Status(StatusCode::NoSuchFile),
     );
-    assert_eq!(&rt;
-        walk(&rt, &mut core, &mut b, 1),
-        Told::Status(StatusCode::Success)
-    );
-    assert_eq!(&rt; core.look_ups(), before.saturating_add(4));
+    walks_to(&rt, &mut core, &mut b, 1, Told::Status(StatusCode::Success));
+    assert!(&rt; core.look_ups() == before.saturating_add(4));
     records_are(&rt, &core, &[1, 2, 3]);
     a.abandon();
     b.abandon();
-    Ok(())
 }
 
 #[test]
-fn root_is_waited_for(rt: HostRuntime) -> Result<(), Fail> {
+fn root_is_waited_for(rt: HostRuntime) {
     let alloc = rt.alloc();
-    let (mut core, mut a) = with_a(&rt, alloc)?;
+    let (mut core, mut a) = with_a(&rt, alloc);
     let mut b = join(&rt, &mut core);
     begin(&rt, &mut core, &mut a, stat(alloc, b"/a"));
     begin(&rt, &mut core, &mut b, stat(alloc, b"/b"));
-    assert_eq!(&rt; step(&rt, &mut core, &mut a), Told::Moved);
-    assert_eq!(&rt; step(&rt, &mut core, &mut b), Told::Blocked(2));
+    steps_to(&rt, &mut core, &mut a, Told::Moved);
+    steps_to(&rt, &mut core, &mut b, Told::Blocked(2));
     let before = core.look_ups();
-    assert_eq!(&rt; step(&rt, &mut core, &mut a), Told::Attrs);
-    assert_eq!(&rt; core.look_ups(), before.saturating_add(1));
-    assert_eq!(&rt; step(&rt, &mut core, &mut b), Told::Moved);
-    assert_eq!(&rt;
-        step(&rt, &mut core, &mut b),
-        Told::Status(StatusCode::NoSuchFile)
-    );
+    steps_to(&rt, &mut core, &mut a, Told::Attrs);
+    assert!(&rt; core.look_ups() == before.saturating_add(1));
+    steps_to(&rt, &mut core, &mut b, Told::Moved);
+    steps_to(&rt, &mut core, &mut b, Told::Status(StatusCode::NoSuchFile));
     a.abandon();
     b.abandon();
-    Ok(())
 }
 
 /// What a call does that no other call meets.
@@ -102,13 +87,13 @@ fn comes_to(
     want: Told,
 ) {
     begin(rt, core, lane, request);
-    assert_eq!(rt; finish(rt, core, lane), want);
+    walks_to(rt, core, lane, 300, want);
 }
 
 #[test]
-fn renames(rt: HostRuntime) -> Result<(), Fail> {
+fn renames(rt: HostRuntime) {
     let alloc = rt.alloc();
-    let (mut core, mut a) = with_a(&rt, alloc)?;
+    let (mut core, mut a) = with_a(&rt, alloc);
     let success = Told::Status(StatusCode::Success);
     let failure = Told::Status(StatusCode::Failure);
     let absent = Told::Status(StatusCode::NoSuchFile);
@@ -124,13 +109,12 @@ fn renames(rt: HostRuntime) -> Result<(), Fail> {
     comes_to(&rt, &mut core, &mut a, stat(alloc, b"/z"), absent);
     records_are(&rt, &core, &[1, 2, 3, 4, 5, 6, 7, 8, 9, 10]);
     a.abandon();
-    Ok(())
 }
 
 /// A call makes so many moves.
 fn moves(rt: &impl Abort, core: &mut Core, lane: &mut Lane, count: u32) {
     for _ in 0..count {
-        assert_eq!(rt; step(rt, core, lane), Told::Moved);
+        steps_to(rt, core, lane, Told::Moved);
     }
 }
 
@@ -147,19 +131,19 @@ fn walks(
     begin(rt, core, lane, request);
     let before = core.look_ups();
     for made in 0..count {
-        assert_eq!(rt; step(rt, core, lane), Told::Moved);
-        assert_eq!(rt; core.look_ups(), before.saturating_add(made));
+        steps_to(rt, core, lane, Told::Moved);
+        assert!(rt; core.look_ups() == before.saturating_add(made));
     }
     let last = core.look_ups();
-    assert_eq!(rt; step(rt, core, lane), want);
-    assert_eq!(rt; core.look_ups(), last.saturating_add(look_ups));
+    steps_to(rt, core, lane, want);
+    assert!(rt; core.look_ups() == last.saturating_add(look_ups));
 }
 
 /// Beside `/a` there are `/a/x`, `/b` and `/b/y`.
 #[test]
-fn renames_walk(rt: HostRuntime) -> Result<(), Fail> {
+fn renames_walk(rt: HostRuntime) {
     let alloc = rt.alloc();
-    let (mut core, mut a) = with_a(&rt, alloc)?;
+    let (mut core, mut a) = with_a(&rt, alloc);
     let success = Told::Status(StatusCode::Success);
     let failure = Told::Status(StatusCode::Failure);
     let absent = Told::Status(StatusCode::NoSuchFile);
@@ -180,14 +164,13 @@ fn renames_walk(rt: HostRuntime) -> Result<(), Fail> {
     comes_to(&rt, &mut core, &mut a, stat(alloc, b"/b/y/x"), Told::Attrs);
     comes_to(&rt, &mut core, &mut a, stat(alloc, b"/a/x"), absent);
     a.abandon();
-    Ok(())
 }
 
 /// Call 3, STAT of `/b/f`, stands in `/b`, which the extension is to replace by `/a`.
 #[test]
-fn rename_waits_at_new_path(rt: HostRuntime) -> Result<(), Fail> {
+fn rename_waits_at_new_path(rt: HostRuntime) {
     let alloc = rt.alloc();
-    let (mut core, mut a) = with_a(&rt, alloc)?;
+    let (mut core, mut a) = with_a(&rt, alloc);
     let success = Told::Status(StatusCode::Success);
     let absent = Told::Status(StatusCode::NoSuchFile);
     let mut b = join(&rt, &mut core);
@@ -197,89 +180,86 @@ fn rename_waits_at_new_path(rt: HostRuntime) -> Result<(), Fail> {
     let replacing = posix_rename(alloc, b"/a", b"/b");
     begin(&rt, &mut core, &mut b, replacing);
     moves(&rt, &mut core, &mut b, 1);
-    assert_eq!(&rt; step(&rt, &mut core, &mut b), Told::Blocked(3));
-    assert_eq!(&rt; step(&rt, &mut core, &mut a), absent);
-    assert_eq!(&rt; step(&rt, &mut core, &mut b), success);
+    steps_to(&rt, &mut core, &mut b, Told::Blocked(3));
+    steps_to(&rt, &mut core, &mut a, absent);
+    steps_to(&rt, &mut core, &mut b, success);
     records_are(&rt, &core, &[1, 2, 3, 4]);
     a.abandon();
     b.abandon();
-    Ok(())
 }
 
 /// Calls 2 and 5, STAT of `/a/f`, stand in `/a`. A rename of `/a` to a path below it waits for the
 /// one; a rename to `/z` carries the other out.
 #[test]
-fn rename_at_old_path(rt: HostRuntime) -> Result<(), Fail> {
+fn rename_at_old_path(rt: HostRuntime) {
     let alloc = rt.alloc();
-    let (mut core, mut a) = with_a(&rt, alloc)?;
+    let (mut core, mut a) = with_a(&rt, alloc);
     let mut b = join(&rt, &mut core);
     let mut c = join(&rt, &mut core);
     begin(&rt, &mut core, &mut a, stat(alloc, b"/a/f"));
     moves(&rt, &mut core, &mut a, 2);
     begin(&rt, &mut core, &mut b, rename(alloc, b"/a", b"/a/b"));
     moves(&rt, &mut core, &mut b, 1);
-    assert_eq!(&rt; step(&rt, &mut core, &mut b), Told::Blocked(2));
+    steps_to(&rt, &mut core, &mut b, Told::Blocked(2));
     begin(&rt, &mut core, &mut c, rename(alloc, b"/a", b"/z"));
-    assert_eq!(&rt; step(&rt, &mut core, &mut c), Told::Blocked(3));
+    steps_to(&rt, &mut core, &mut c, Told::Blocked(3));
     records_are(&rt, &core, &[1]);
     let absent = Told::Status(StatusCode::NoSuchFile);
-    assert_eq!(&rt; step(&rt, &mut core, &mut a), absent);
+    steps_to(&rt, &mut core, &mut a, absent);
     let failure = Told::Status(StatusCode::Failure);
-    assert_eq!(&rt; step(&rt, &mut core, &mut b), failure);
+    steps_to(&rt, &mut core, &mut b, failure);
     begin(&rt, &mut core, &mut a, stat(alloc, b"/a/f"));
     moves(&rt, &mut core, &mut a, 2);
     moves(&rt, &mut core, &mut c, 1);
     let before = core.look_ups();
     let success = Told::Status(StatusCode::Success);
-    assert_eq!(&rt; step(&rt, &mut core, &mut c), success);
+    steps_to(&rt, &mut core, &mut c, success);
     assert!(&rt; core.look_ups().saturating_sub(before) <= 4);
     records_are(&rt, &core, &[1, 2, 3, 5, 4]);
-    assert_eq!(&rt; step(&rt, &mut core, &mut a), absent);
+    steps_to(&rt, &mut core, &mut a, absent);
     records_are(&rt, &core, &[1, 2, 3, 5, 4]);
     a.abandon();
     b.abandon();
     c.abandon();
-    Ok(())
 }
 
 #[test]
-fn sessions_are_limited(rt: HostRuntime) -> Result<(), Fail> {
+fn sessions_are_limited(rt: HostRuntime) {
     let alloc = rt.alloc();
-    let mut core = Core::new(alloc)?;
+    let mut core = made(&rt, alloc);
     for _ in 0..256 {
         join(&rt, &mut core).abandon();
     }
-    assert_eq!(&rt; core.join_fault(), Some(CoreFault::Sessions));
+    assert!(&rt; core.join_fault() == Some(CoreFault::Sessions));
     match core.join() {
         Ok(lane) => {
             lane.abandon();
             panic!(&rt; "joined")
         }
-        Err(fault) => assert_eq!(&rt; fault, CoreFault::Sessions),
+        Err(fault) => assert!(&rt; fault == CoreFault::Sessions),
     }
-    assert_eq!(&rt; core.calls(), 0);
+    assert!(&rt; core.calls() == 0);
     records_are(&rt, &core, &[]);
-    Ok(())
 }
 
 #[test]
 fn lane_of_another_core(rt: HostRuntime) -> Result<(), Fail> {
     let alloc = rt.alloc();
-    let mut core = Core::new(alloc)?;
-    let mut other = Core::new(alloc)?;
+    let mut core = made(&rt, alloc);
+    let mut other = made(&rt, alloc);
     let request = Request::Stat(path(alloc, b"/a")?);
     let mut lane = join(&rt, &mut core);
     assert!(&rt; lane.is_idle());
     match other.begin(&mut lane, request, 100) {
         Ok(()) => panic!(&rt; "begun"),
-        Err(fault) => assert_eq!(&rt; fault, CoreFault::Stranger),
+        Err(fault) => assert!(&rt; fault == CoreFault::Stranger),
     }
     assert!(&rt; lane.is_idle());
     match other.leave(lane) {
         Ok(_) => panic!(&rt; "left"),
         Err(back) => {
-            assert_eq!(&rt; back.session(), 1);
-            assert_eq!(&rt; leave(&rt, &mut core, back).calls(), 0);
+            assert!(&rt; back.session() == 1);
+            assert!(&rt; leave(&rt, &mut core, back).calls() == 0);
         }
     }
     records_are(&rt, &other, &[]);

@@ -21,11 +21,10 @@ const EVENTS: u32 = 70_000;
 const SESSIONS: usize = 8;
 
 /// A session opens for a new client, which has its VERSION.
-fn join(rt: &impl Abort, alloc: Global, engine: &mut Engine, session: u64) -> Result<(), Fail> {
+fn join(rt: &impl Abort, alloc: Global, engine: &mut Engine, session: u64) {
     opens(rt, engine, session);
-    feeds(rt, alloc, engine, session, &[INIT])?;
+    feeds(rt, alloc, engine, session, &[INIT]);
     turns(rt, engine, session, Happened::Wrote);
-    Ok(())
 }
 
 /// The handle that the latest record gives.
@@ -312,7 +311,7 @@ fn add_client(
 ) -> Result<usize, Fail> {
     let place = clients.len();
     let session = u64::try_from(place)?.saturating_add(1);
-    join(rt, alloc, engine, session)?;
+    join(rt, alloc, engine, session);
     clients.push(Client::new(alloc, session))?;
     Ok(place)
 }
@@ -365,7 +364,7 @@ fn draw_events(
 #[test]
 fn drawn_events(rt: HostRuntime) -> Result<(), Fail> {
     let alloc = rt.alloc();
-    let mut engine = Engine::new(alloc)?;
+    let mut engine = made(&rt, alloc);
     let mut clients = Vec::new(alloc);
     let tally = draw_events(&rt, alloc, &mut engine, &mut clients)?;
     println!(&rt; "{tally:?}")?;

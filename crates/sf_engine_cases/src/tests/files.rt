@@ -10,14 +10,16 @@ const OPEN: &str = "00000013 03 00000001 00000002 2f66 0000000b 00000000";
 const OPENED: &str = "00000011 66 00000001 00000008 0000000000000001";
 
 /// Calls by these numbers of moves.
-fn calls(alloc: Global, moves: &[u32]) -> Result<Vec<Steps>, Fail> {
-    let calls = moves.iter().map(|n| Steps::Call(*n)).collect(alloc)?;
-    Ok(calls)
+fn calls(rt: &impl Abort, alloc: Global, moves: &[u32]) -> Vec<Steps> {
+    match moves.iter().map(|n| Steps::Call(*n)).collect(alloc) {
+        Ok(calls) => calls,
+        Err(_) => panic!(rt; "no memory"),
+    }
 }
 
 /// The calls of OPEN and WRITE are the first and the second, so that of OPENDIR is the fifth.
 #[test]
-fn write_read_and_list(rt: HostRuntime) -> Result<(), Fail> {
+fn write_read_and_list(rt: HostRuntime) {
     let alloc = rt.alloc();
     is_served(
         &rt,
@@ -35,7 +37,7 @@ fn write_read_and_list(rt: HostRuntime) -> Result<(), Fail> {
             "00000011 08 00000009 00000008 0000000000000001",
             "0000000b 07 00000008 00000002 2f66",
         ],
-        &calls(alloc, &[1, 0, 0, 0, 0, 0, 0, 0, 0, 0, 1])?,
+        &calls(&rt, alloc, &[1, 0, 0, 0, 0, 0, 0, 0, 0, 0, 1]),
         &[
             OPENED,
             OK_2,
@@ -51,11 +53,11 @@ fn write_read_and_list(rt: HostRuntime) -> Result<(), Fail> {
             "00000025 69 00000009 0000000f 0000000000000006 00000000 00000000 000081a4 00000064 00000064",
             "00000025 69 00000008 0000000f 0000000000000006 00000000 00000000 000081a4 00000064 00000064",
         ],
-    )
+    );
 }
 
 #[test]
-fn size_limit(rt: HostRuntime) -> Result<(), Fail> {
+fn size_limit(rt: HostRuntime) {
     let alloc = rt.alloc();
     is_served(
         &rt,
@@ -67,7 +69,7 @@ fn size_limit(rt: HostRuntime) -> Result<(), Fail> {
             "0000001e 06 00000004 00000008 0000000000000001 0000000000ffffff 00000001 78",
             "00000011 08 00000005 00000008 0000000000000001",
         ],
-        &calls(alloc, &[1, 0, 0, 0, 0])?,
+        &calls(&rt, alloc, &[1, 0, 0, 0, 0]),
         &[
             OPENED,
             "00000018 65 00000002 00000004 00000007 4661696c757265 00000000",
@@ -75,11 +77,11 @@ fn size_limit(rt: HostRuntime) -> Result<(), Fail> {
             "00000018 65 00000004 00000000 00000007 53756363657373 00000000",
             "00000025 69 00000005 0000000f 0000000001000000 00000000 00000000 000081a4 00000064 00000064",
         ],
-    )
+    );
 }
 
 #[test]
-fn unlinked_file_stays_readable(rt: HostRuntime) -> Result<(), Fail> {
+fn unlinked_file_stays_readable(rt: HostRuntime) {
     let alloc = rt.alloc();
     is_served(
         &rt,
@@ -93,7 +95,7 @@ fn unlinked_file_stays_readable(rt: HostRuntime) -> Result<(), Fail> {
             "0000001d 05 00000007 00000008 0000000000000001 0000000000000000 00000010",
             "0000000b 11 00000006 00000002 2f66",
         ],
-        &calls(alloc, &[1, 0, 1, 0, 0, 0, 1])?,
+        &calls(&rt, alloc, &[1, 0, 1, 0, 0, 0, 1]),
         &[
             OPENED,
             OK_2,
@@ -103,7 +105,7 @@ fn unlinked_file_stays_readable(rt: HostRuntime) -> Result<(), Fail> {
             "00000018 65 00000007 00000004 00000007 4661696c757265 00000000",
             "0000001d 65 00000006 00000002 0000000c 4e6f20737563682066696c65 00000000",
         ],
-    )
+    );
 }
 
 /// The two digits of a file's number below 100.
@@ -137,7 +139,7 @@ fn put_entry(alloc: Global, want: &mut Vec<u8>, n: u8) -> Result<(), Fail> {
 
 /// What is sent for a listing in two parts, between which the first name goes, and after which the last one goes.
 fn listed(alloc: Global) -> Result<Vec<u8>, Fail> {
-    let mut want = packets(
+    let mut want = try_packets(
         alloc,
         &[
             "00000011 66 00000022 00000008 0000000000000022",
@@ -148,9 +150,9 @@ fn listed(alloc: Global) -> Result<Vec<u8>, Fail> {
         put_entry(alloc, &mut want, n)?;
     }
     let removed = "00000018 65 00000024 00000000 00000007 53756363657373 00000000";
-    want.extend_from_slice(&packets(alloc, &[removed, "0000006e 68 00000025 00000001"])?)?;
+    want.extend_from_slice(&try_packets(alloc, &[removed, "0000006e 68 00000025 00000001"])?)?;
     put_entry(alloc, &mut want, 33)?;
-    want.extend_from_slice(&packets(
+    want.extend_from_slice(&try_packets(
         alloc,
         &[
             "00000018 65 00000026 00000000 00000007 53756363657373 00000000",
@@ -163,9 +165,9 @@ fn listed(alloc: Global) -> Result<Vec<u8>, Fail> {
 #[test]
 fn listing_survives_removals(rt: HostRuntime) -> Result<(), Fail> {
     let alloc = rt.alloc();
-    let mut engine = Engine::new(alloc)?;
+    let mut engine = made(&rt, alloc);
     opens(&rt, &mut engine, 1);
-    feeds(&rt, alloc, &mut engine, 1, &[INIT])?;
+    feeds(&rt, alloc, &mut engine, 1, &[INIT]);
     turns(&rt, &mut engine, 1, Happened::Wrote);
     make_files(&rt, alloc, &mut engine)?;
     let before = output_len(&rt, &engine);
@@ -182,12 +184,12 @@ fn listing_survives_removals(rt: HostRuntime) -> Result<(), Fail> {
             "0000000d 0d 00000026 00000004 2f6e3333",
             "00000011 0c 00000027 00000008 0000000000000022",
         ],
-    )?;
+    );
     for moves in [0, 0, 1, 0, 1, 0] {
         is_answered(&rt, &mut engine, 1, Steps::Call(moves));
     }
     turns(&rt, &mut engine, 1, Happened::Idle);
-    let want = listed(alloc)?;
+    let want = given(&rt, listed(alloc));
     match engine.output(1) {
         Some(output) => assert!(&rt; output.get(before..) == Some(want.as_slice())),
         None => panic!(&rt; "no output"),

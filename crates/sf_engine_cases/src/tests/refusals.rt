@@ -3,14 +3,14 @@
 use super::*;
 
 /// Two sessions of which the first was sent VERSION; the second has left.
-fn with_two_sessions(rt: &impl Abort, alloc: Global) -> Result<Engine, Fail> {
-    let mut engine = Engine::new(alloc)?;
+fn with_two_sessions(rt: &impl Abort, alloc: Global) -> Engine {
+    let mut engine = made(rt, alloc);
     opens(rt, &mut engine, 1);
     opens(rt, &mut engine, 2);
-    feeds(rt, alloc, &mut engine, 1, &[INIT])?;
+    feeds(rt, alloc, &mut engine, 1, &[INIT]);
     turns(rt, &mut engine, 1, Happened::Wrote);
     comes_to(rt, &mut engine, Event::Close(2), Ok(Happened::Closed));
-    Ok(engine)
+    engine
 }
 
 /// The event is refused so, and the outputs of both sessions are what they were.
@@ -20,62 +20,59 @@ fn is_refused(
     engine: &mut Engine,
     event: Event,
     fault: EngineFault,
-) -> Result<(), Fail> {
+) {
     comes_to(rt, engine, event, Err(fault));
-    is_sent(rt, engine, 1, &packets(alloc, &[VERSION])?);
+    is_sent(rt, engine, 1, &packets(rt, alloc, &[VERSION]));
     is_sent(rt, engine, 2, &[]);
-    Ok(())
 }
 
 #[test]
-fn no_such_session(rt: HostRuntime) -> Result<(), Fail> {
+fn no_such_session(rt: HostRuntime) {
     let alloc = rt.alloc();
-    let mut engine = with_two_sessions(&rt, alloc)?;
-    let bytes = packets(alloc, &[INIT])?;
+    let mut engine = with_two_sessions(&rt, alloc);
+    let bytes = packets(&rt, alloc, &[INIT]);
     let unknown = EngineFault::NoSuchSession;
-    is_refused(&rt, alloc, &mut engine, Event::Feed(9, bytes), unknown)?;
-    is_refused(&rt, alloc, &mut engine, Event::Turn(9, 100), unknown)?;
-    is_refused(&rt, alloc, &mut engine, Event::Turn(0, 100), unknown)?;
-    is_refused(&rt, alloc, &mut engine, Event::Close(3), unknown)?;
+    is_refused(&rt, alloc, &mut engine, Event::Feed(9, bytes), unknown);
+    is_refused(&rt, alloc, &mut engine, Event::Turn(9, 100), unknown);
+    is_refused(&rt, alloc, &mut engine, Event::Turn(0, 100), unknown);
+    is_refused(&rt, alloc, &mut engine, Event::Close(3), unknown);
     assert!(&rt; engine.output(3).is_none());
     assert!(&rt; engine.output(0).is_none());
-    Ok(())
 }
 
 #[test]
-fn fed_after_closing(rt: HostRuntime) -> Result<(), Fail> {
+fn fed_after_closing(rt: HostRuntime) {
     let alloc = rt.alloc();
-    let mut engine = with_two_sessions(&rt, alloc)?;
-    let bytes = packets(alloc, &[INIT])?;
+    let mut engine = with_two_sessions(&rt, alloc);
+    let bytes = packets(&rt, alloc, &[INIT]);
     is_refused(
         &rt,
         alloc,
         &mut engine,
         Event::Feed(2, bytes),
         EngineFault::Ended,
-    )
+    );
 }
 
 /// The 257th session at once is refused. A place is free again once a session has left.
 #[test]
-fn sessions_at_once(rt: HostRuntime) -> Result<(), Fail> {
+fn sessions_at_once(rt: HostRuntime) {
     let alloc = rt.alloc();
-    let mut engine = with_two_sessions(&rt, alloc)?;
+    let mut engine = with_two_sessions(&rt, alloc);
     for session in 3..258 {
         opens(&rt, &mut engine, session);
     }
-    is_refused(&rt, alloc, &mut engine, Event::Open, EngineFault::Sessions)?;
+    is_refused(&rt, alloc, &mut engine, Event::Open, EngineFault::Sessions);
     comes_to(&rt, &mut engine, Event::Close(7), Ok(Happened::Closed));
     opens(&rt, &mut engine, 258);
-    Ok(())
 }
 
 /// Events in one go: how many were refused is told.
 #[test]
 fn refused_of_many(rt: HostRuntime) -> Result<(), Fail> {
     let alloc = rt.alloc();
-    let mut engine = Engine::new(alloc)?;
-    let bytes = packets(alloc, &[INIT])?;
+    let mut engine = made(&rt, alloc);
+    let bytes = packets(&rt, alloc, &[INIT]);
     let events = vec![in alloc;
         Event::Turn(1, 100),
         Event::Open,
@@ -84,6 +81,6 @@ fn refused_of_many(rt: HostRuntime) -> Result<(), Fail> {
         Event::Close(0),
     ]?;
     assert_eq!(&rt; engine.run(&events), 2);
-    is_sent(&rt, &engine, 1, &packets(alloc, &[VERSION])?);
+    is_sent(&rt, &engine, 1, &packets(&rt, alloc, &[VERSION]));
     Ok(())
 }

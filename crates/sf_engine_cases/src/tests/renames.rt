@@ -29,18 +29,18 @@ const RENAME: &str = "00000011 12 00000007 00000002 2f61 00000002 2f7a";
 
 /// Four sessions on an engine of their own, each with its VERSION. The third one's calls are these,
 /// with their moves.
-fn four_sessions(rt: &impl Abort, alloc: Global, calls: &[(&str, u32)]) -> Result<Engine, Fail> {
-    let mut engine = Engine::new(alloc)?;
+fn four_sessions(rt: &impl Abort, alloc: Global, calls: &[(&str, u32)]) -> Engine {
+    let mut engine = made(rt, alloc);
     for session in 1..5 {
         opens(rt, &mut engine, session);
-        feeds(rt, alloc, &mut engine, session, &[INIT])?;
+        feeds(rt, alloc, &mut engine, session, &[INIT]);
         turns(rt, &mut engine, session, Happened::Wrote);
     }
     for (text, moves) in calls {
-        feeds(rt, alloc, &mut engine, 3, &[text])?;
+        feeds(rt, alloc, &mut engine, 3, &[text]);
         is_answered(rt, &mut engine, 3, Steps::Call(*moves));
     }
-    Ok(engine)
+    engine
 }
 
 /// A session's call begins, and makes so many moves.
@@ -51,11 +51,10 @@ fn starts(
     session: u64,
     text: &str,
     moves: u32,
-) -> Result<(), Fail> {
-    feeds(rt, alloc, engine, session, &[text])?;
+) {
+    feeds(rt, alloc, engine, session, &[text]);
     turns(rt, engine, session, Happened::Begun);
     goes_on(rt, engine, session, moves);
-    Ok(())
 }
 
 /// A session's call makes so many moves.
@@ -74,24 +73,20 @@ fn ends(rt: &impl Abort, engine: &mut Engine, sessions: &[u64]) {
 }
 
 /// A session was sent these packets behind its VERSION.
-fn was_sent(
-    rt: &impl Abort,
-    alloc: Global,
-    engine: &Engine,
-    session: u64,
-    want: &[&str],
-) -> Result<(), Fail> {
-    let mut bytes = hex_bytes(alloc, VERSION)?;
-    bytes.extend_from_slice(&packets(alloc, want)?)?;
-    is_sent(rt, engine, session, &bytes);
-    Ok(())
+fn was_sent(rt: &impl Abort, alloc: Global, engine: &Engine, session: u64, want: &[&str]) {
+    is_sent(
+        rt,
+        engine,
+        session,
+        &given(rt, behind(alloc, VERSION, want)),
+    );
 }
 
 /// `/a` and `/a/b` are directories, `/f` and `/g` files. With the root as one of its paths a rename
 /// makes no move; where one path begins with the other, those to the old one's parent; else those
 /// to both parents, or to where one is missing.
 #[test]
-fn rename_cases(rt: HostRuntime) -> Result<(), Fail> {
+fn rename_cases(rt: HostRuntime) {
     is_served(
         &rt,
         rt.alloc(),
@@ -146,13 +141,13 @@ fn rename_cases(rt: HostRuntime) -> Result<(), Fail> {
             "0000001d 65 0000000e 00000002 0000000c 4e6f20737563682066696c65 00000000",
             "00000018 65 0000000f 00000000 00000007 53756363657373 00000000",
         ],
-    )
+    );
 }
 
 /// `/a/f` has 3 bytes, and 2 more are written behind them after `/a` went to `/z`. STAT of `/a/f`,
 /// which stood in `/a` before, tells of the 3.
 #[test]
-fn write_during_rename(rt: HostRuntime) -> Result<(), Fail> {
+fn write_during_rename(rt: HostRuntime) {
     let alloc = rt.alloc();
     let mut engine = four_sessions(
         &rt,
@@ -168,17 +163,17 @@ fn write_during_rename(rt: HostRuntime) -> Result<(), Fail> {
                 0,
             ),
         ],
-    )?;
+    );
     let stat = "0000000d 11 00000006 00000004 2f612f66";
-    starts(&rt, alloc, &mut engine, 1, stat, 2)?;
+    starts(&rt, alloc, &mut engine, 1, stat, 2);
     let rename =
         "0000002d c8 00000007 00000018 706f7369782d72656e616d65406f70656e7373682e636f6d 00000002 2f61 00000002 2f7a";
-    starts(&rt, alloc, &mut engine, 2, rename, 1)?;
+    starts(&rt, alloc, &mut engine, 2, rename, 1);
     let before = engine.core().look_ups();
     turns(&rt, &mut engine, 2, Happened::Decided);
     assert!(&rt; engine.core().look_ups().saturating_sub(before) <= 4);
     let write = "0000001f 06 00000008 00000008 0000000000000002 0000000000000003 00000002 6465";
-    starts(&rt, alloc, &mut engine, 3, write, 0)?;
+    starts(&rt, alloc, &mut engine, 3, write, 0);
     ends(&rt, &mut engine, &[3, 1]);
     turns(&rt, &mut engine, 2, Happened::Wrote);
     was_sent(
@@ -189,45 +184,42 @@ fn write_during_rename(rt: HostRuntime) -> Result<(), Fail> {
         &[
             "00000025 69 00000006 0000000f 0000000000000003 00000000 00000000 000081a4 00000064 00000064",
         ],
-    )?;
-    was_sent(&rt, alloc, &engine, 2, &[OK_7])?;
+    );
+    was_sent(&rt, alloc, &engine, 2, &[OK_7]);
     records_are(&rt, &engine, &[1, 2, 3, 4, 5, 6]);
-    Ok(())
 }
 
 /// MKDIR of `/a/b/c` stands in `/a/b` while `/a` goes to `/z`, and then `/z/b/c` is there.
 #[test]
-fn mkdir_below_rename(rt: HostRuntime) -> Result<(), Fail> {
+fn mkdir_below_rename(rt: HostRuntime) {
     let alloc = rt.alloc();
-    let mut engine = four_sessions(&rt, alloc, &[(MAKE_A, 1), (MAKE_A_B, 2)])?;
+    let mut engine = four_sessions(&rt, alloc, &[(MAKE_A, 1), (MAKE_A_B, 2)]);
     let make = "00000013 0e 00000009 00000006 2f612f622f63 00000000";
-    starts(&rt, alloc, &mut engine, 1, make, 3)?;
-    starts(&rt, alloc, &mut engine, 2, RENAME, 1)?;
+    starts(&rt, alloc, &mut engine, 1, make, 3);
+    starts(&rt, alloc, &mut engine, 2, RENAME, 1);
     ends(&rt, &mut engine, &[2]);
     let stat = "0000000f 11 00000008 00000006 2f7a2f622f63";
-    starts(&rt, alloc, &mut engine, 3, stat, 3)?;
+    starts(&rt, alloc, &mut engine, 3, stat, 3);
     ends(&rt, &mut engine, &[3, 1]);
-    was_sent(&rt, alloc, &engine, 1, &[OK_9])?;
-    was_sent(&rt, alloc, &engine, 2, &[OK_7])?;
-    was_sent(&rt, alloc, &engine, 3, &[OK_1, OK_2, ATTRS_A])?;
+    was_sent(&rt, alloc, &engine, 1, &[OK_9]);
+    was_sent(&rt, alloc, &engine, 2, &[OK_7]);
+    was_sent(&rt, alloc, &engine, 3, &[OK_1, OK_2, ATTRS_A]);
     records_are(&rt, &engine, &[1, 2, 3, 4, 5]);
-    Ok(())
 }
 
 /// STAT of `/b/f` stands in `/b` while `/a` goes to `/z`, and is answered by its own turn.
 #[test]
-fn stat_outside_rename(rt: HostRuntime) -> Result<(), Fail> {
+fn stat_outside_rename(rt: HostRuntime) {
     let alloc = rt.alloc();
-    let mut engine = four_sessions(&rt, alloc, &[(MAKE_A, 1), (MAKE_B, 1)])?;
+    let mut engine = four_sessions(&rt, alloc, &[(MAKE_A, 1), (MAKE_B, 1)]);
     let stat = "0000000d 11 00000006 00000004 2f622f66";
-    starts(&rt, alloc, &mut engine, 1, stat, 2)?;
-    starts(&rt, alloc, &mut engine, 2, RENAME, 1)?;
+    starts(&rt, alloc, &mut engine, 1, stat, 2);
+    starts(&rt, alloc, &mut engine, 2, RENAME, 1);
     ends(&rt, &mut engine, &[2, 1]);
     let absent = "0000001d 65 00000006 00000002 0000000c 4e6f20737563682066696c65 00000000";
-    was_sent(&rt, alloc, &engine, 1, &[absent])?;
-    was_sent(&rt, alloc, &engine, 2, &[OK_7])?;
+    was_sent(&rt, alloc, &engine, 1, &[absent]);
+    was_sent(&rt, alloc, &engine, 2, &[OK_7]);
     records_are(&rt, &engine, &[1, 2, 4, 3]);
-    Ok(())
 }
 
 /// `/a`, `/a/b` and `/a/b/d` are calls 1 to 3. Session 1 has RENAME of `/a/b` to `/a/e` and session
@@ -239,32 +231,32 @@ fn overtaken_rename(
     in_order: &[u64],
     renamed: &str,
     removed: &str,
-) -> Result<Engine, Fail> {
+) -> Engine {
     let make = "00000013 0e 00000003 00000006 2f612f622f64 00000000";
     let made = [(MAKE_A, 1), (MAKE_A_B, 2), (make, 3)];
-    let mut engine = four_sessions(rt, alloc, &made)?;
+    let mut engine = four_sessions(rt, alloc, &made);
     for session in in_order {
         let text = match *session {
             1 => "00000015 12 00000007 00000004 2f612f62 00000004 2f612f65",
             _ => "0000000f 0f 00000009 00000006 2f612f622f64",
         };
-        starts(rt, alloc, &mut engine, *session, text, 0)?;
+        starts(rt, alloc, &mut engine, *session, text, 0);
     }
     goes_on(rt, &mut engine, 4, 3);
     goes_on(rt, &mut engine, 1, 2);
-    starts(rt, alloc, &mut engine, 2, RENAME, 1)?;
+    starts(rt, alloc, &mut engine, 2, RENAME, 1);
     ends(rt, &mut engine, &[2]);
     records_are(rt, &engine, &[1, 2, 3, 4, 5, 6]);
     ends(rt, &mut engine, &[1, 4]);
-    was_sent(rt, alloc, &engine, 1, &[renamed])?;
-    was_sent(rt, alloc, &engine, 4, &[removed])?;
-    was_sent(rt, alloc, &engine, 2, &[OK_7])?;
+    was_sent(rt, alloc, &engine, 1, &[renamed]);
+    was_sent(rt, alloc, &engine, 4, &[removed]);
+    was_sent(rt, alloc, &engine, 2, &[OK_7]);
     records_are(rt, &engine, &[1, 2, 3, 4, 5, 6]);
-    Ok(engine)
+    engine
 }
 
 /// STAT of `/z/e` under the id 8 and of `/z/e/d` under the id 9, by session 3.
-fn asks_for_both(rt: &impl Abort, alloc: Global, engine: &mut Engine) -> Result<(), Fail> {
+fn asks_for_both(rt: &impl Abort, alloc: Global, engine: &mut Engine) {
     starts(
         rt,
         alloc,
@@ -272,7 +264,7 @@ fn asks_for_both(rt: &impl Abort, alloc: Global, engine: &mut Engine) -> Result<
         3,
         "0000000d 11 00000008 00000004 2f7a2f65",
         2,
-    )?;
+    );
     ends(rt, engine, &[3]);
     starts(
         rt,
@@ -281,42 +273,41 @@ fn asks_for_both(rt: &impl Abort, alloc: Global, engine: &mut Engine) -> Result<
         3,
         "0000000f 11 00000009 00000006 2f7a2f652f64",
         3,
-    )?;
+    );
     ends(rt, engine, &[3]);
-    Ok(())
 }
 
 /// The inner rename is carried out first: then the RMDIR, which had passed what it moves, finds
 /// nothing.
 #[test]
-fn helped_rename(rt: HostRuntime) -> Result<(), Fail> {
+fn helped_rename(rt: HostRuntime) {
     let alloc = rt.alloc();
-    let mut engine = overtaken_rename(&rt, alloc, &[1, 4], OK_7, ABSENT_9)?;
-    asks_for_both(&rt, alloc, &mut engine)?;
+    let mut engine = overtaken_rename(&rt, alloc, &[1, 4], OK_7, ABSENT_9);
+    asks_for_both(&rt, alloc, &mut engine);
     let there =
         "00000025 69 00000009 0000000f 0000000000000000 00000000 00000000 000041ed 00000064 00000064";
-    was_sent(&rt, alloc, &engine, 3, &[OK_1, OK_2, OK_3, ATTRS_A, there])
+    was_sent(&rt, alloc, &engine, 3, &[OK_1, OK_2, OK_3, ATTRS_A, there]);
 }
 
 /// The RMDIR is carried out first, and then the inner rename.
 #[test]
-fn helped_rename_comes_last(rt: HostRuntime) -> Result<(), Fail> {
+fn helped_rename_comes_last(rt: HostRuntime) {
     let alloc = rt.alloc();
-    let mut engine = overtaken_rename(&rt, alloc, &[4, 1], OK_7, OK_9)?;
-    asks_for_both(&rt, alloc, &mut engine)?;
+    let mut engine = overtaken_rename(&rt, alloc, &[4, 1], OK_7, OK_9);
+    asks_for_both(&rt, alloc, &mut engine);
     was_sent(
         &rt,
         alloc,
         &engine,
         3,
         &[OK_1, OK_2, OK_3, ATTRS_A, ABSENT_9],
-    )
+    );
 }
 
 /// `/a`, `/a/x`, `/b` and `/b/y` are calls 1 to 4. Session 1 has RENAME of `/a/x` to `/b/y/x` (call
 /// 5), session 2 RENAME of `/b/y` to `/a/x/y` (call 6). They take turns, one each, until the call
 /// of that session which is first has decided; the other one waits for the root as long.
-fn cross(rt: &impl Abort, alloc: Global, first: u64, call: u64) -> Result<Engine, Fail> {
+fn cross(rt: &impl Abort, alloc: Global, first: u64, call: u64) -> Engine {
     let mut engine = four_sessions(
         rt,
         alloc,
@@ -326,11 +317,11 @@ fn cross(rt: &impl Abort, alloc: Global, first: u64, call: u64) -> Result<Engine
             ("0000000f 0e 00000003 00000002 2f62 00000000", 1),
             ("00000011 0e 00000004 00000004 2f622f79 00000000", 2),
         ],
-    )?;
+    );
     let to_b = "00000017 12 00000007 00000004 2f612f78 00000006 2f622f792f78";
-    starts(rt, alloc, &mut engine, 1, to_b, 0)?;
+    starts(rt, alloc, &mut engine, 1, to_b, 0);
     let to_a = "00000017 12 00000007 00000004 2f622f79 00000006 2f612f782f79";
-    starts(rt, alloc, &mut engine, 2, to_a, 0)?;
+    starts(rt, alloc, &mut engine, 2, to_a, 0);
     let second = 3_u64.saturating_sub(first);
     for _ in 0..4 {
         turns(rt, &mut engine, first, Happened::Moved);
@@ -340,29 +331,29 @@ fn cross(rt: &impl Abort, alloc: Global, first: u64, call: u64) -> Result<Engine
     goes_on(rt, &mut engine, second, 3);
     ends(rt, &mut engine, &[second]);
     turns(rt, &mut engine, first, Happened::Wrote);
-    was_sent(rt, alloc, &engine, first, &[OK_7])?;
-    was_sent(rt, alloc, &engine, second, &[ABSENT_7])?;
-    Ok(engine)
+    was_sent(rt, alloc, &engine, first, &[OK_7]);
+    was_sent(rt, alloc, &engine, second, &[ABSENT_7]);
+    engine
 }
 
 #[test]
-fn crossing_renames(rt: HostRuntime) -> Result<(), Fail> {
+fn crossing_renames(rt: HostRuntime) {
     let alloc = rt.alloc();
-    let mut engine = cross(&rt, alloc, 1, 5)?;
+    let mut engine = cross(&rt, alloc, 1, 5);
     records_are(&rt, &engine, &[1, 2, 3, 4, 5, 6]);
     let stat = "0000000f 11 00000008 00000006 2f622f792f78";
-    starts(&rt, alloc, &mut engine, 3, stat, 3)?;
+    starts(&rt, alloc, &mut engine, 3, stat, 3);
     ends(&rt, &mut engine, &[3]);
-    was_sent(&rt, alloc, &engine, 3, &[OK_1, OK_2, OK_3, OK_4, ATTRS_A])
+    was_sent(&rt, alloc, &engine, 3, &[OK_1, OK_2, OK_3, OK_4, ATTRS_A]);
 }
 
 #[test]
-fn crossing_renames_the_other_way(rt: HostRuntime) -> Result<(), Fail> {
+fn crossing_renames_the_other_way(rt: HostRuntime) {
     let alloc = rt.alloc();
-    let mut engine = cross(&rt, alloc, 2, 6)?;
+    let mut engine = cross(&rt, alloc, 2, 6);
     records_are(&rt, &engine, &[1, 2, 3, 4, 6, 5]);
     let stat = "0000000f 11 00000008 00000006 2f612f782f79";
-    starts(&rt, alloc, &mut engine, 3, stat, 3)?;
+    starts(&rt, alloc, &mut engine, 3, stat, 3);
     ends(&rt, &mut engine, &[3]);
-    was_sent(&rt, alloc, &engine, 3, &[OK_1, OK_2, OK_3, OK_4, ATTRS_A])
+    was_sent(&rt, alloc, &engine, 3, &[OK_1, OK_2, OK_3, OK_4, ATTRS_A]);
 }

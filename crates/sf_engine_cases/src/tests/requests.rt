@@ -3,16 +3,16 @@
 use super::*;
 
 #[test]
-fn version_reply(rt: HostRuntime) -> Result<(), Fail> {
-    is_served(&rt, rt.alloc(), &[], &[], &[])
+fn version_reply(rt: HostRuntime) {
+    is_served(&rt, rt.alloc(), &[], &[], &[]);
 }
 
 #[test]
 fn bytes_one_at_a_time(rt: HostRuntime) -> Result<(), Fail> {
     let alloc = rt.alloc();
-    let mut engine = Engine::new(alloc)?;
+    let mut engine = made(&rt, alloc);
     opens(&rt, &mut engine, 1);
-    for (at, byte) in packets(alloc, &[INIT])?.iter().enumerate() {
+    for (at, byte) in packets(&rt, alloc, &[INIT]).iter().enumerate() {
         is_fed(&rt, &mut engine, 1, vec![in alloc; *byte]?);
         let want = if at == 8 {
             Happened::Wrote
@@ -21,34 +21,33 @@ fn bytes_one_at_a_time(rt: HostRuntime) -> Result<(), Fail> {
         };
         turns(&rt, &mut engine, 1, want);
     }
-    is_sent(&rt, &engine, 1, &packets(alloc, &[VERSION])?);
+    is_sent(&rt, &engine, 1, &packets(&rt, alloc, &[VERSION]));
     Ok(())
 }
 
 /// A session that is fed this ends at its first turn, and at each turn after it. It is sent nothing.
-fn ends(rt: &impl Abort, alloc: Global, input: &str, cause: Cause) -> Result<(), Fail> {
-    let mut engine = Engine::new(alloc)?;
+fn ends(rt: &impl Abort, alloc: Global, input: &str, cause: Cause) {
+    let mut engine = made(rt, alloc);
     opens(rt, &mut engine, 1);
-    feeds(rt, alloc, &mut engine, 1, &[input])?;
+    feeds(rt, alloc, &mut engine, 1, &[input]);
     turns(rt, &mut engine, 1, Happened::Ended(cause));
     turns(rt, &mut engine, 1, Happened::Ended(cause));
     is_sent(rt, &engine, 1, &[]);
-    Ok(())
 }
 
 #[test]
-fn old_and_new_versions(rt: HostRuntime) -> Result<(), Fail> {
+fn old_and_new_versions(rt: HostRuntime) {
     let alloc = rt.alloc();
-    ends(&rt, alloc, "00000005 01 00000002", Cause::OldVersion)?;
-    ends(&rt, alloc, "00000000", Cause::ZeroLength)?;
-    ends(&rt, alloc, "00040001", Cause::TooLong)?;
-    let newer = packets(alloc, &["00000005 01 00000006"])?;
-    let version = packets(alloc, &[VERSION])?;
-    is_served_whole(&rt, alloc, &newer, &[Steps::AtOnce], &version)
+    ends(&rt, alloc, "00000005 01 00000002", Cause::OldVersion);
+    ends(&rt, alloc, "00000000", Cause::ZeroLength);
+    ends(&rt, alloc, "00040001", Cause::TooLong);
+    let newer = packets(&rt, alloc, &["00000005 01 00000006"]);
+    let version = packets(&rt, alloc, &[VERSION]);
+    is_served_whole(&rt, alloc, newer, &[Steps::AtOnce], &version);
 }
 
 #[test]
-fn mkdir_and_stat(rt: HostRuntime) -> Result<(), Fail> {
+fn mkdir_and_stat(rt: HostRuntime) {
     is_served(
         &rt,
         rt.alloc(),
@@ -59,28 +58,30 @@ fn mkdir_and_stat(rt: HostRuntime) -> Result<(), Fail> {
             "00000018 65 00000007 00000004 00000007 4661696c757265 00000000",
             ATTRS_A,
         ],
-    )
+    );
 }
 
 #[test]
 fn realpath_of_empty_path(rt: HostRuntime) -> Result<(), Fail> {
     let alloc = rt.alloc();
-    let mut input = packets(alloc, &[INIT, "00040000 10 00000005 00000000"])?;
+    let mut input = packets(&rt, alloc, &[INIT, "00040000 10 00000005 00000000"]);
     for _ in 0..262135 {
         input.push(0)?;
     }
     let want = packets(
+        &rt,
         alloc,
         &[
             VERSION,
             "00000017 68 00000005 00000001 00000001 2f 00000001 2f 00000000",
         ],
-    )?;
-    is_served_whole(&rt, alloc, &input, &[Steps::AtOnce, Steps::AtOnce], &want)
+    );
+    is_served_whole(&rt, alloc, input, &[Steps::AtOnce, Steps::AtOnce], &want);
+    Ok(())
 }
 
 #[test]
-fn cut_open_is_bad_message(rt: HostRuntime) -> Result<(), Fail> {
+fn cut_open_is_bad_message(rt: HostRuntime) {
     is_served(
         &rt,
         rt.alloc(),
@@ -95,7 +96,7 @@ fn cut_open_is_bad_message(rt: HostRuntime) -> Result<(), Fail> {
             "00000026 65 00000009 00000008 00000015 4f7065726174696f6e20756e737570706f72746564 00000000",
             "00000025 69 00000003 0000000f 0000000000000000 00000000 00000000 000041ed 00000000 00000000",
         ],
-    )
+    );
 }
 
 /// A packet's fields before and after a run of bytes `x`.
@@ -109,7 +110,7 @@ fn long_name(alloc: Global, front: &str, len: usize, back: &str) -> Result<Vec<u
 }
 
 #[test]
-fn normal_forms(rt: HostRuntime) -> Result<(), Fail> {
+fn normal_forms(rt: HostRuntime) {
     is_served(
         &rt,
         rt.alloc(),
@@ -124,7 +125,7 @@ fn normal_forms(rt: HostRuntime) -> Result<(), Fail> {
             "00000017 68 00000001 00000001 00000001 2f 00000001 2f 00000000",
             "00000019 68 00000002 00000001 00000002 2f78 00000002 2f78 00000000",
         ],
-    )
+    );
 }
 
 /// REALPATH of a name of 255 bytes gives it; of 256 bytes it fails.
@@ -140,5 +141,6 @@ fn long_names(rt: HostRuntime) -> Result<(), Fail> {
     want.extend_from_slice(&long_name(alloc, "00000100 2f", 255, "00000000")?)?;
     let failure = "00000018 65 00000004 00000004 00000007 4661696c757265 00000000";
     want.extend_from_slice(&hex_bytes(alloc, failure)?)?;
-    is_served_whole(&rt, alloc, &input, &[Steps::AtOnce; 3], &want)
+    is_served_whole(&rt, alloc, input, &[Steps::AtOnce; 3], &want);
+    Ok(())
 }
