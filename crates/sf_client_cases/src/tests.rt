@@ -5,8 +5,9 @@
 use sf_cases::{StillClock, hex_bytes, whole};
 use sf_client::{Client, ClientFault};
 use sf_engine::Engine;
+use sf_field::Attrs;
 use sf_line::{MemoryLine, Pieces};
-use sf_reply::StatusCode;
+use sf_reply::{Entry, StatusCode};
 use sf_serving::serve_one;
 use sf_session::Cause;
 use std::alloc::Global;
@@ -18,8 +19,15 @@ mod copies;
 
 const INIT: &str = "00000005 01 00000003";
 
-/// The bytes of packets in hexadecimal, one after the other.
-fn packets(alloc: Global, texts: &[&str]) -> Result<Vec<u8>, Fail> {
+/// What was there, and no fault.
+fn given<T>(rt: &impl Abort, found: Result<T, Fail>) -> T {
+    match found {
+        Ok(value) => value,
+        Err(_) => panic!(rt; "not given"),
+    }
+}
+
+fn try_packets(alloc: Global, texts: &[&str]) -> Result<Vec<u8>, Fail> {
     let mut bytes = Vec::new(alloc);
     for text in texts {
         bytes.extend_from_slice(&hex_bytes(alloc, text)?)?;
@@ -27,21 +35,74 @@ fn packets(alloc: Global, texts: &[&str]) -> Result<Vec<u8>, Fail> {
     Ok(bytes)
 }
 
-/// What the server answers to these requests, at the moment 100.
-fn replies(rt: &impl Abort, alloc: Global, requests: &[u8]) -> Result<Vec<u8>, Fail> {
+/// The bytes of packets in hexadecimal, one after the other.
+fn packets(rt: &impl Abort, alloc: Global, texts: &[&str]) -> Vec<u8> {
+    given(rt, try_packets(alloc, texts))
+}
+
+/// What the server answers to these requests, at the moment 100, and how the session ended.
+fn served(alloc: Global, requests: &[u8]) -> Result<(Cause, Vec<u8>), Fail> {
     let all = Pieces::new(usize::MAX, usize::MAX);
     let mut line = MemoryLine::new(alloc, requests, all, all);
     let mut engine = Engine::new(alloc)?;
     let ended = serve_one(alloc, &mut engine, &mut line, &mut StillClock)?;
-    assert_eq!(rt; ended, Cause::Closed);
-    Ok(Vec::from_slice(alloc, line.output())?)
+    Ok((ended, Vec::from_slice(alloc, line.output())?))
+}
+
+fn replies(rt: &impl Abort, alloc: Global, requests: &[u8]) -> Vec<u8> {
+    let (ended, replies) = given(rt, served(alloc, requests));
+    assert!(rt; ended == Cause::Closed);
+    replies
 }
 
 /// A client whose line gives these replies in small pieces, and takes its requests so.
-fn client(alloc: Global, replies: &[u8]) -> Result<Client<MemoryLine<'_>>, ClientFault> {
+fn client<'a>(rt: &impl Abort, alloc: Global, replies: &'a [u8]) -> Client<MemoryLine<'a>> {
     let reads = Pieces::new(1, 1000);
     let writes = Pieces::new(1, 7);
-    Client::start(alloc, MemoryLine::new(alloc, replies, reads, writes))
+    match Client::start(alloc, MemoryLine::new(alloc, replies, reads, writes)) {
+        Ok(client) => client,
+        Err(_) => panic!(rt; "no client"),
+    }
+}
+
+/// A call without an answer comes to this.
+fn comes_to(rt: &impl Abort, done: Result<(), ClientFault>, want: Result<(), ClientFault>) {
+    assert!(rt; done == want, "{done:?}, not {want:?}");
+}
+
+fn is_done(rt: &impl Abort, done: Result<(), ClientFault>) {
+    comes_to(rt, done, Ok(()));
+}
+
+/// A call for attributes comes to this.
+fn tells(rt: &impl Abort, told: Result<Attrs, ClientFault>, want: Result<Attrs, ClientFault>) {
+    assert!(rt; told == want, "{told:?}, not {want:?}");
+}
+
+/// The names, lines and attributes of a listing are these, again and again.
+fn lists(
+    rt: &impl Abort,
+    listed: Result<Vec<Entry>, ClientFault>,
+    count: usize,
+    (filename, longname, attrs): (&[u8], &[u8], Attrs),
+) {
+    let Ok(entries) = listed else {
+        panic!(rt; "no listing");
+    };
+    assert!(rt; entries.len() == count);
+    for entry in &entries {
+        assert!(rt; entry.filename.as_slice() == filename);
+        assert!(rt; entry.longname.as_slice() == longname);
+        assert!(rt; entry.attrs == attrs);
+    }
+}
+
+/// A file's bytes are these.
+fn gets(rt: &impl Abort, got: Result<Vec<u8>, ClientFault>, want: &[u8]) {
+    match got {
+        Ok(bytes) => assert!(rt; bytes.as_slice() == want),
+        Err(fault) => panic!(rt; "{fault:?}"),
+    }
 }
 
 /// The client sent these requests.
@@ -53,9 +114,10 @@ fn has_sent(rt: &impl Abort, client: Client<MemoryLine<'_>>, requests: &[u8]) {
 /// Directories and files are made, told, listed and removed. The file's six bytes are five zeros
 /// and `x`.
 #[test]
-fn tree(rt: HostRuntime) -> Result<(), Fail> {
+fn tree(rt: HostRuntime) {
     let alloc = rt.alloc();
     let requests = packets(
+        &rt,
         alloc,
         &[
             INIT,
@@ -74,36 +136,30 @@ fn tree(rt: HostRuntime) -> Result<(), Fail> {
             "0000000b 0f 0000000d 00000002 2f61",
             "0000000b 11 0000000e 00000002 2f61",
         ],
-    )?;
-    let replies = replies(&rt, alloc, &requests)?;
-    let mut client = client(alloc, &replies)?;
-    client.mkdir(b"/a")?;
-    client.put(b"/a/f", b"\0\0\0\0\0x")?;
+    );
+    let replies = replies(&rt, alloc, &requests);
+    let mut client = client(&rt, alloc, &replies);
+    is_done(&rt, client.mkdir(b"/a"));
+    is_done(&rt, client.put(b"/a/f", b"\0\0\0\0\0x"));
     let told = whole(6, 0o100644, 100, 100);
-    assert_eq!(rt; client.stat(b"/a/f"), Ok(told));
-    let entries = client.list(b"/a")?;
-    assert_eq!(rt; entries.len(), 1);
-    for entry in &entries {
-        assert_eq!(rt; entry.filename.as_slice(), b"f".as_slice());
-        let line = b"-rw-r--r--   1 0        0               6          100 f";
-        assert_eq!(rt; entry.longname.as_slice(), line.as_slice());
-        assert_eq!(rt; entry.attrs, told);
-    }
+    tells(&rt, client.stat(b"/a/f"), Ok(told));
+    let line = b"-rw-r--r--   1 0        0               6          100 f";
+    lists(&rt, client.list(b"/a"), 1, (b"f", line, told));
     let refused = ClientFault::Status(StatusCode::Failure);
-    assert_eq!(rt; client.rmdir(b"/a"), Err(refused));
-    client.remove(b"/a/f")?;
-    client.rmdir(b"/a")?;
+    comes_to(&rt, client.rmdir(b"/a"), Err(refused));
+    is_done(&rt, client.remove(b"/a/f"));
+    is_done(&rt, client.rmdir(b"/a"));
     let absent = ClientFault::Status(StatusCode::NoSuchFile);
-    assert_eq!(rt; client.stat(b"/a"), Err(absent));
+    tells(&rt, client.stat(b"/a"), Err(absent));
     has_sent(&rt, client, &requests);
-    Ok(())
 }
 
 /// A directory goes to another path and comes back.
 #[test]
-fn renames(rt: HostRuntime) -> Result<(), Fail> {
+fn renames(rt: HostRuntime) {
     let alloc = rt.alloc();
     let requests = packets(
+        &rt,
         alloc,
         &[
             INIT,
@@ -114,16 +170,14 @@ fn renames(rt: HostRuntime) -> Result<(), Fail> {
             "00000011 12 00000004 00000002 2f61 00000002 2f61",
             "0000000b 11 00000005 00000002 2f61",
         ],
-    )?;
-    let replies = replies(&rt, alloc, &requests)?;
-    let mut client = client(alloc, &replies)?;
-    client.mkdir(b"/a")?;
-    client.rename(b"/a", b"/b")?;
-    client.posix_rename(b"/b", b"/a")?;
+    );
+    let replies = replies(&rt, alloc, &requests);
+    let mut client = client(&rt, alloc, &replies);
+    is_done(&rt, client.mkdir(b"/a"));
+    is_done(&rt, client.rename(b"/a", b"/b"));
+    is_done(&rt, client.posix_rename(b"/b", b"/a"));
     let refused = ClientFault::Status(StatusCode::Failure);
-    assert_eq!(rt; client.rename(b"/a", b"/a"), Err(refused));
-    let told = whole(0, 0o40755, 100, 100);
-    assert_eq!(rt; client.stat(b"/a"), Ok(told));
+    comes_to(&rt, client.rename(b"/a", b"/a"), Err(refused));
+    tells(&rt, client.stat(b"/a"), Ok(whole(0, 0o40755, 100, 100)));
     has_sent(&rt, client, &requests);
-    Ok(())
 }

@@ -2,8 +2,9 @@
 
 ghost use Rattle.std.specs.Prelude.{◌≡◌, IfOk};
 
-use super::{INIT, packets};
+use super::{INIT, comes_to, gets, given, has_sent, is_done, lists, packets, tells, try_packets};
 use bytes::BytesMut;
+use sf_cases::sized;
 use sf_client::{Client, ClientFault};
 use sf_field::{Attrs, ByteString, NO_ATTRS};
 use sf_line::{MemoryLine, Pieces};
@@ -16,9 +17,16 @@ mod damaged;
 mod files;
 
 /// A client over these bytes of a server, all of which can be read at once.
-fn client(alloc: Global, input: &[u8]) -> Result<Client<MemoryLine<'_>>, ClientFault> {
+fn try_client(alloc: Global, input: &[u8]) -> Result<Client<MemoryLine<'_>>, ClientFault> {
     let all = Pieces::new(usize::MAX, usize::MAX);
     Client::start(alloc, MemoryLine::new(alloc, input, all, all))
+}
+
+fn client<'a>(rt: &impl Abort, alloc: Global, input: &'a [u8]) -> Client<MemoryLine<'a>> {
+    match try_client(alloc, input) {
+        Ok(client) => client,
+        Err(_) => panic!(rt; "no client"),
+    }
 }
 
 /// VERSION, and these bytes.
@@ -40,44 +48,52 @@ fn string(alloc: Global, bytes: &[u8]) -> Result<ByteString, Fail>
     Ok(ByteString::from_slice(alloc, bytes)?)
 }
 
-/// A refusal leaves the client in step.
-#[test]
-fn refused_and_told(rt: HostRuntime) -> Result<(), Fail> {
-    let alloc = rt.alloc();
+/// Two refusals, and attributes.
+fn refusals(alloc: Global) -> Result<BytesMut, Fail> {
     let mut input = after_version(alloc, b"")?;
     write_reply(1, &Reply::Status(StatusCode::NoSuchFile), &mut input)?;
     write_reply(2, &Reply::NoMemory, &mut input)?;
     write_reply(3, &Reply::Attrs(NO_ATTRS), &mut input)?;
-    let mut client = client(alloc, input.as_slice())?;
-    let refused = ClientFault::Status(StatusCode::NoSuchFile);
-    assert_eq!(rt; client.mkdir(b"/a/b"), Err(refused));
-    let refused = ClientFault::Status(StatusCode::Failure);
-    assert_eq!(rt; client.mkdir(b"/a"), Err(refused));
-    assert_eq!(rt; client.stat(b"/"), Ok(NO_ATTRS));
-    Ok(())
+    Ok(input)
 }
 
-/// The requests of the calls by a path alone, each under the next id.
+/// A refusal leaves the client in step.
 #[test]
-fn calls_of_one_request(rt: HostRuntime) -> Result<(), Fail> {
-    let alloc = rt.alloc();
-    let told = Attrs {
-        size: Some(6),
-        ..NO_ATTRS
-    };
+fn refused_and_told(rt: HostRuntime) {
+    let input = given(&rt, refusals(rt.alloc()));
+    let mut client = client(&rt, rt.alloc(), input.as_slice());
+    let refused = ClientFault::Status(StatusCode::NoSuchFile);
+    comes_to(&rt, client.mkdir(b"/a/b"), Err(refused));
+    let refused = ClientFault::Status(StatusCode::Failure);
+    comes_to(&rt, client.mkdir(b"/a"), Err(refused));
+    tells(&rt, client.stat(b"/"), Ok(NO_ATTRS));
+}
+
+/// Five successes, and these attributes.
+fn successes(alloc: Global, told: Attrs) -> Result<BytesMut, Fail> {
     let mut input = after_version(alloc, b"")?;
     for id in 1..6 {
         put_success(&mut input, id)?;
     }
     write_reply(6, &Reply::Attrs(told), &mut input)?;
-    let mut client = client(alloc, input.as_slice())?;
-    client.mkdir(b"/a")?;
-    client.rename(b"/f", b"/g")?;
-    client.posix_rename(b"/g", b"/h")?;
-    client.remove(b"/h")?;
-    client.rmdir(b"/a")?;
-    assert_eq!(rt; client.stat(b"/f"), Ok(told));
+    Ok(input)
+}
+
+/// The requests of the calls by a path alone, each under the next id.
+#[test]
+fn calls_of_one_request(rt: HostRuntime) {
+    let alloc = rt.alloc();
+    let told = sized(6);
+    let input = given(&rt, successes(alloc, told));
+    let mut client = client(&rt, alloc, input.as_slice());
+    is_done(&rt, client.mkdir(b"/a"));
+    is_done(&rt, client.rename(b"/f", b"/g"));
+    is_done(&rt, client.posix_rename(b"/g", b"/h"));
+    is_done(&rt, client.remove(b"/h"));
+    is_done(&rt, client.rmdir(b"/a"));
+    tells(&rt, client.stat(b"/f"), Ok(told));
     let sent = packets(
+        &rt,
         alloc,
         &[
             INIT,
@@ -89,8 +105,6 @@ fn calls_of_one_request(rt: HostRuntime) -> Result<(), Fail> {
             "0000000b 0f 00000005 00000002 2f61",
             "0000000b 11 00000006 00000002 2f66",
         ],
-    )?;
-    let line = client.into_line();
-    assert_eq!(rt; line.output(), sent.as_slice());
-    Ok(())
+    );
+    has_sent(&rt, client, &sent);
 }

@@ -11,15 +11,8 @@ fn bytes(alloc: Global, len: u32) -> Result<Vec<u8>, Fail> {
     Ok(bytes)
 }
 
-/// A file of 70000 bytes is written in pieces of 32768, 32768 and 4464 bytes, and read in as many.
-#[test]
-fn put_and_get(rt: HostRuntime) -> Result<(), Fail> {
-    let alloc = rt.alloc();
-    let file = bytes(alloc, 70000)?;
-    let mut requests = packets(
-        alloc,
-        &[INIT, "00000013 03 00000001 00000002 2f66 0000001a 00000000"],
-    )?;
+/// What is sent to write a file of 70000 bytes in pieces of 32768, 32768 and 4464 bytes.
+fn put_pieces(alloc: Global, requests: &mut Vec<u8>, file: &[u8]) -> Result<(), Fail> {
     for (header, piece) in [
         (
             "0000801d 06 00000002 00000008 0000000000000001 0000000000000000 00008000",
@@ -34,10 +27,19 @@ fn put_and_get(rt: HostRuntime) -> Result<(), Fail> {
             file.get(65536..),
         ),
     ] {
-        requests.extend_from_slice(&packets(alloc, &[header])?)?;
+        requests.extend_from_slice(&try_packets(alloc, &[header])?)?;
         requests.extend_from_slice(piece.unwrap_or(&[]))?;
     }
-    requests.extend_from_slice(&packets(
+    Ok(())
+}
+
+fn put_and_get_requests(alloc: Global, file: &[u8]) -> Result<Vec<u8>, Fail> {
+    let mut requests = try_packets(
+        alloc,
+        &[INIT, "00000013 03 00000001 00000002 2f66 0000001a 00000000"],
+    )?;
+    put_pieces(alloc, &mut requests, file)?;
+    requests.extend_from_slice(&try_packets(
         alloc,
         &[
             "00000011 04 00000005 00000008 0000000000000001",
@@ -50,20 +52,28 @@ fn put_and_get(rt: HostRuntime) -> Result<(), Fail> {
             "00000011 04 0000000c 00000008 0000000000000006",
         ],
     )?)?;
-    let replies = replies(&rt, alloc, &requests)?;
-    let mut client = client(alloc, &replies)?;
-    client.put(b"/f", &file)?;
-    let got = client.get(b"/f")?;
-    assert!(rt; got == file);
+    Ok(requests)
+}
+
+/// The file is read in as many pieces as it was written in.
+#[test]
+fn put_and_get(rt: HostRuntime) {
+    let alloc = rt.alloc();
+    let file = given(&rt, bytes(alloc, 70000));
+    let requests = given(&rt, put_and_get_requests(alloc, &file));
+    let replies = replies(&rt, alloc, &requests);
+    let mut client = client(&rt, alloc, &replies);
+    is_done(&rt, client.put(b"/f", &file));
+    gets(&rt, client.get(b"/f"), &file);
     has_sent(&rt, client, &requests);
-    Ok(())
 }
 
 /// An empty file is opened and closed, and read once. A file that is there is emptied first.
 #[test]
-fn empty_files(rt: HostRuntime) -> Result<(), Fail> {
+fn empty_files(rt: HostRuntime) {
     let alloc = rt.alloc();
     let requests = packets(
+        &rt,
         alloc,
         &[
             INIT,
@@ -77,13 +87,11 @@ fn empty_files(rt: HostRuntime) -> Result<(), Fail> {
             "0000001d 05 00000008 00000008 0000000000000006 0000000000000000 00008000",
             "00000011 04 00000009 00000008 0000000000000006",
         ],
-    )?;
-    let replies = replies(&rt, alloc, &requests)?;
-    let mut client = client(alloc, &replies)?;
-    client.put(b"/f", b"abc")?;
-    client.put(b"/f", b"")?;
-    let got = client.get(b"/f")?;
-    assert!(rt; got.is_empty());
+    );
+    let replies = replies(&rt, alloc, &requests);
+    let mut client = client(&rt, alloc, &replies);
+    is_done(&rt, client.put(b"/f", b"abc"));
+    is_done(&rt, client.put(b"/f", b""));
+    gets(&rt, client.get(b"/f"), b"");
     has_sent(&rt, client, &requests);
-    Ok(())
 }

@@ -2,19 +2,19 @@
 
 use super::*;
 
-/// A piece of 32768 bytes and one of a byte.
-#[test]
-fn put(rt: HostRuntime) -> Result<(), Fail> {
-    let alloc = rt.alloc();
-    let bytes = vec![in alloc; 7u8; 32769]?;
+/// The replies to an OPEN, to two WRITEs and to a CLOSE.
+fn put_replies(alloc: Global) -> Result<BytesMut, Fail> {
     let mut input = after_version(alloc, b"")?;
     write_reply(1, &Reply::Handle(9), &mut input)?;
     for id in 2..5 {
         put_success(&mut input, id)?;
     }
-    let mut client = client(alloc, input.as_slice())?;
-    client.put(b"/f", bytes.as_slice())?;
-    let mut sent = packets(
+    Ok(input)
+}
+
+/// The requests for a piece of 32768 bytes and one of a byte.
+fn put_requests(alloc: Global) -> Result<Vec<u8>, Fail> {
+    let mut sent = try_packets(
         alloc,
         &[
             INIT,
@@ -22,31 +22,30 @@ fn put(rt: HostRuntime) -> Result<(), Fail> {
             "0000801d 06 00000002 00000008 0000000000000009 0000000000000000 00008000",
         ],
     )?;
-    sent.extend_from_slice(&bytes[..32768])?;
-    sent.extend_from_slice(&packets(
+    sent.extend_from_slice(&[7; 32768])?;
+    sent.extend_from_slice(&try_packets(
         alloc,
         &[
             "0000001e 06 00000003 00000008 0000000000000009 0000000000008000 00000001 07",
             "00000011 04 00000004 00000008 0000000000000009",
         ],
     )?)?;
-    let line = client.into_line();
-    assert!(rt; line.output() == sent.as_slice());
-    Ok(())
+    Ok(sent)
 }
 
-/// FSTAT tells the size; a READ up to it is sent ahead, and after a short piece the others are dropped.
-/// Then a READ that is refused, and CLOSE all the same.
 #[test]
-fn get(rt: HostRuntime) -> Result<(), Fail> {
+fn put(rt: HostRuntime) {
     let alloc = rt.alloc();
-    let told = Attrs {
-        size: Some(32768),
-        ..NO_ATTRS
-    };
+    let input = given(&rt, put_replies(alloc));
+    let mut client = client(&rt, alloc, input.as_slice());
+    is_done(&rt, client.put(b"/f", &[7; 32769]));
+    has_sent(&rt, client, &given(&rt, put_requests(alloc)));
+}
+
+fn get_replies(alloc: Global) -> Result<BytesMut, Fail> {
     let mut input = after_version(alloc, b"")?;
     write_reply(1, &Reply::Handle(1), &mut input)?;
-    write_reply(2, &Reply::Attrs(told), &mut input)?;
+    write_reply(2, &Reply::Attrs(sized(32768)), &mut input)?;
     write_reply(3, &Reply::Data(string(alloc, b"abc")?), &mut input)?;
     write_reply(4, &Reply::Data(string(alloc, b"xyz")?), &mut input)?;
     write_reply(5, &Reply::Data(string(alloc, b"de")?), &mut input)?;
@@ -57,13 +56,22 @@ fn get(rt: HostRuntime) -> Result<(), Fail> {
     write_reply(10, &Reply::Status(StatusCode::PermissionDenied), &mut input)?;
     put_success(&mut input, 11)?;
     put_success(&mut input, 12)?;
-    let mut client = client(alloc, input.as_slice())?;
-    let bytes = client.get(b"/f")?;
-    assert_eq!(rt; bytes.as_slice(), b"abcde".as_slice());
+    Ok(input)
+}
+
+/// FSTAT tells the size; a READ up to it is sent ahead, and after a short piece the others are dropped.
+/// Then a READ that is refused, and CLOSE all the same.
+#[test]
+fn get(rt: HostRuntime) {
+    let alloc = rt.alloc();
+    let input = given(&rt, get_replies(alloc));
+    let mut client = client(&rt, alloc, input.as_slice());
+    gets(&rt, client.get(b"/f"), b"abcde");
     let refused = ClientFault::Status(StatusCode::PermissionDenied);
-    assert_eq!(rt; client.get(b"/g").err(), Some(refused));
-    client.rmdir(b"/a")?;
+    assert!(rt; client.get(b"/g").err() == Some(refused));
+    is_done(&rt, client.rmdir(b"/a"));
     let sent = packets(
+        &rt,
         alloc,
         &[
             INIT,
@@ -80,53 +88,51 @@ fn get(rt: HostRuntime) -> Result<(), Fail> {
             "00000011 04 0000000b 00000008 0000000000000006",
             "0000000b 0f 0000000c 00000002 2f61",
         ],
-    )?;
-    let line = client.into_line();
-    assert_eq!(rt; line.output(), sent.as_slice());
-    Ok(())
+    );
+    has_sent(&rt, client, &sent);
 }
 
-/// The second of 66 WRITEs is refused: those that were on their way are answered too, no other is
+/// The second of 66 WRITEs is refused; CLOSE and an RMDIR are not.
+fn refused_put(alloc: Global) -> Result<BytesMut, Fail> {
+    let mut input = after_version(alloc, b"")?;
+    write_reply(1, &Reply::Handle(9), &mut input)?;
+    put_success(&mut input, 2)?;
+    write_reply(3, &Reply::Status(StatusCode::PermissionDenied), &mut input)?;
+    for id in 4..69 {
+        put_success(&mut input, id)?;
+    }
+    Ok(input)
+}
+
+/// Those that were on their way when one was refused are answered too, no other is
 /// sent, and the client is in step.
 #[test]
 fn put_refused(rt: HostRuntime) -> Result<(), Fail> {
     let alloc = rt.alloc();
     let bytes = vec![in alloc; 7u8; 66 * 32768]?;
-    let mut input = after_version(alloc, b"")?;
-    write_reply(1, &Reply::Handle(9), &mut input)?;
-    put_success(&mut input, 2)?;
-    write_reply(3, &Reply::Status(StatusCode::PermissionDenied), &mut input)?;
-    for id in 4..67 {
-        put_success(&mut input, id)?;
-    }
-    put_success(&mut input, 67)?;
-    put_success(&mut input, 68)?;
-    let mut client = client(alloc, input.as_slice())?;
+    let input = given(&rt, refused_put(alloc));
+    let mut client = client(&rt, alloc, input.as_slice());
     let refused = ClientFault::Status(StatusCode::PermissionDenied);
-    assert_eq!(rt; client.put(b"/f", bytes.as_slice()).err(), Some(refused));
-    client.rmdir(b"/a")?;
+    comes_to(&rt, client.put(b"/f", bytes.as_slice()), Err(refused));
+    is_done(&rt, client.rmdir(b"/a"));
     let line = client.into_line();
     let close = packets(
+        &rt,
         alloc,
         &[
             "00000011 04 00000043 00000008 0000000000000009",
             "0000000b 0f 00000044 00000002 2f61",
         ],
-    )?;
-    assert!(rt; line.output().ends_with(close.as_slice()));
-    assert_eq!(rt;
-        line.output().len(),
-        9 + 23 + 65 * (33 + 32768) + close.len()
     );
+    assert!(rt; line.output().ends_with(close.as_slice()));
+    assert!(rt; line.output().len() == 9 + 23 + 65 * (33 + 32768) + close.len());
     Ok(())
 }
 
-/// NAME twice, and the end of the directory. One READDIR is sent ahead.
-#[test]
-fn list(rt: HostRuntime) -> Result<(), Fail> {
-    let alloc = rt.alloc();
+/// HANDLE, a name twice, the end of the directory twice, and a success.
+fn list_replies(alloc: Global) -> Result<BytesMut, Fail> {
     let name = "00000001 61 00000002 2d61 00000000";
-    let replies = packets(
+    let replies = try_packets(
         alloc,
         &[
             "00000011 66 00000001 00000008 0000000000000001",
@@ -140,15 +146,18 @@ fn list(rt: HostRuntime) -> Result<(), Fail> {
     write_reply(4, &Reply::Status(StatusCode::EndOfFile), &mut input)?;
     write_reply(5, &Reply::Status(StatusCode::EndOfFile), &mut input)?;
     put_success(&mut input, 6)?;
-    let mut client = client(alloc, input.as_slice())?;
-    let entries = client.list(b"/a")?;
-    assert_eq!(rt; entries.len(), 2);
-    for entry in &entries {
-        assert_eq!(rt; entry.filename.as_slice(), b"a".as_slice());
-        assert_eq!(rt; entry.longname.as_slice(), b"-a".as_slice());
-        assert_eq!(rt; entry.attrs, NO_ATTRS);
-    }
+    Ok(input)
+}
+
+/// NAME twice, and the end of the directory. One READDIR is sent ahead.
+#[test]
+fn list(rt: HostRuntime) {
+    let alloc = rt.alloc();
+    let input = given(&rt, list_replies(alloc));
+    let mut client = client(&rt, alloc, input.as_slice());
+    lists(&rt, client.list(b"/a"), 2, (b"a", b"-a", NO_ATTRS));
     let sent = packets(
+        &rt,
         alloc,
         &[
             INIT,
@@ -159,8 +168,6 @@ fn list(rt: HostRuntime) -> Result<(), Fail> {
             "00000011 0c 00000005 00000008 0000000000000001",
             "00000011 04 00000006 00000008 0000000000000001",
         ],
-    )?;
-    let line = client.into_line();
-    assert_eq!(rt; line.output(), sent.as_slice());
-    Ok(())
+    );
+    has_sent(&rt, client, &sent);
 }
