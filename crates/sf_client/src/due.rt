@@ -5,7 +5,7 @@ ghost use Rattle.sf_reply.specs.declared.reply.Reply.{Reply};
 ghost use Rattle.sf_reply.specs.Reading.{reply_of, IsCounted, IsReply};
 ghost use Rattle.sf_client.specs.Dues.{due_of, is_answer, is_refusal, is_due, Refuses};
 
-use sf_reply::{FoundReply, Reply, StatusCode, find_reply, sent_replies};
+use sf_reply::{FoundReply, Reply, StatusCode, find_reply};
 use sf_request::WireRequest;
 
 /// What answers a request that succeeds.
@@ -91,7 +91,6 @@ pub(crate) fn find_due(body: &[u8], id: u32, due: Due) -> Option<FoundReply<'_>>
         × (is_due due (reply_of found) ≡ true)) }
     ensures none { IfNone result ((r : Reply) → IsReply body.now id r → is_due due r ≡ true → ⊥) }
 {
-    sent_replies();
     let (found_id, found) = find_reply(body)?;
     if found_id == id && due.allows(&found) {
         Some(found)

@@ -1,6 +1,6 @@
--- For the crates above: how long replies are, and how a line of a listing ends. They speak of definitions
--- alone. All other files here are private to this crate.
-use Rattle.std.proofs.Common.{◌≡◌, ℕ, ◌+◌, ◌≤◌, List, length, arith}
+-- For the crates above: how long replies are, how a line of a listing ends, and that a body spells one reply. They
+-- speak of definitions alone. All other files here are private to this crate.
+use Rattle.std.proofs.Common.{◌≡◌, ℕ, ◌+◌, ◌≤◌, List, length, sym, ◌∙◌, arith}
 use Rattle.std.specs.List.{flat_map}
 use Rattle.std.proofs.lemmas.Grind.{common_steps}
 use Rattle.sf_field.specs.declared.attrs.Attrs.{Attrs}
@@ -10,7 +10,9 @@ use Rattle.sf_reply.specs.declared.reply.Entry.{Entry}
 use Rattle.sf_reply.specs.declared.reply.Reply.{Reply}
 use Rattle.sf_reply.specs.declared.reply.Reply.TheVariants.{Names}
 use Rattle.sf_reply.specs.declared.reply.TheConstants.{MAX_PLAIN_REPLY}
+use Rattle.sf_reply.specs.Reading.{IsReply}
 use Rattle.sf_reply.specs.Replies.{reply_body, entry_text, IsPlain}
+use Rattle.sf_reply.proofs.OneReply.{one_reply}
 -- an entry, the reply of REALPATH, and the line that describes a file
 pub use Rattle.sf_reply.proofs.Entries.{length-entry, length-one_name}
 pub use Rattle.sf_reply.proofs.LineLengths.{longname_short}
@@ -25,3 +27,9 @@ length-names id es = grind (arith, common_steps)
 
 pub attrs_short : (attrs : Attrs) → length (attrs_text attrs) ≤ 32
 attrs_short attrs = grind (arith, common_steps)
+
+-- a body spells one reply, under one id
+pub one_spelling : (body : List ℕ) (id other_id : ℕ) (reply other : Reply) → IsReply body id reply → IsReply body other_id other
+    → (id ≡ other_id) × (reply ≡ other)
+one_spelling body id other_id reply other is is_other =
+    one_reply id other_id reply other is.id_fits is_other.id_fits is.fits is_other.fits (sym is.parts ∙ is_other.parts)
