@@ -3,7 +3,7 @@
 //!
 //! Start with `requests`: a function for each request, whose contract says which request it makes of the
 //! path that a text stands for. `sized` and `whole` make attributes, `StillClock` tells the moment 100
-//! and `RisingClock` moments that rise, and `hex_bytes` the bytes that texts stand for.
+//! and `RisingClock` moments that rise, and `hex_bytes` and `hex_packets` the bytes that texts stand for.
 #![tactic(auto)]
 
 mod attributes;
@@ -12,4 +12,4 @@ pub mod requests;
 
 pub use attributes::{sized, whole};
 pub use clock::{RisingClock, StillClock};
-pub use sf_hex::hex_bytes;
+pub use sf_hex::{hex_bytes, hex_packets};

@@ -2,7 +2,7 @@
 //! is first given the requests that the client should send, and the client then its replies. What the
 //! client sent is compared with what the server was given.
 
-use sf_cases::{StillClock, hex_bytes, whole};
+use sf_cases::{StillClock, hex_packets, whole};
 use sf_client::{Client, ClientFault};
 use sf_engine::Engine;
 use sf_field::Attrs;
@@ -27,17 +27,9 @@ fn given<T>(rt: &impl Abort, found: Result<T, Fail>) -> T {
     }
 }
 
-fn try_packets(alloc: Global, texts: &[&str]) -> Result<Vec<u8>, Fail> {
-    let mut bytes = Vec::new(alloc);
-    for text in texts {
-        bytes.extend_from_slice(&hex_bytes(alloc, text)?)?;
-    }
-    Ok(bytes)
-}
-
 /// The bytes of packets in hexadecimal, one after the other.
 fn packets(rt: &impl Abort, alloc: Global, texts: &[&str]) -> Vec<u8> {
-    given(rt, try_packets(alloc, texts))
+    given(rt, hex_packets(alloc, texts))
 }
 
 /// What the server answers to these requests, at the moment 100, and how the session ended.

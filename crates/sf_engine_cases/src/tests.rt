@@ -1,7 +1,7 @@
 //! Sessions by events, at the moment 100, with what came of each event.
 
 use sf_call::Record;
-use sf_cases::hex_bytes;
+use sf_cases::{hex_bytes, hex_packets};
 use sf_engine::{Engine, EngineFault, Event, Happened};
 use sf_session::Cause;
 use std::alloc::Global;
@@ -40,14 +40,6 @@ enum Steps {
     Call(u32),
 }
 
-fn try_packets(alloc: Global, texts: &[&str]) -> Result<Vec<u8>, Fail> {
-    let mut bytes = Vec::new(alloc);
-    for text in texts {
-        bytes.extend_from_slice(&hex_bytes(alloc, text)?)?;
-    }
-    Ok(bytes)
-}
-
 /// What memory was there for.
 fn given<T>(rt: &impl Abort, found: Result<T, Fail>) -> T {
     match found {
@@ -58,13 +50,13 @@ fn given<T>(rt: &impl Abort, found: Result<T, Fail>) -> T {
 
 /// The bytes of packets in hexadecimal, one after the other.
 fn packets(rt: &impl Abort, alloc: Global, texts: &[&str]) -> Vec<u8> {
-    given(rt, try_packets(alloc, texts))
+    given(rt, hex_packets(alloc, texts))
 }
 
 /// The bytes of a packet in hexadecimal, and of others behind it.
 fn behind(alloc: Global, front: &str, texts: &[&str]) -> Result<Vec<u8>, Fail> {
     let mut bytes = hex_bytes(alloc, front)?;
-    bytes.extend_from_slice(&try_packets(alloc, texts)?)?;
+    bytes.extend_from_slice(&hex_packets(alloc, texts)?)?;
     Ok(bytes)
 }
 

@@ -1,6 +1,6 @@
 //! Sessions from bytes to bytes, at the moment 100, fed whole, byte by byte and cut at each place.
 
-use sf_cases::{RisingClock, StillClock, hex_bytes};
+use sf_cases::{RisingClock, StillClock, hex_bytes, hex_packets};
 use sf_engine::Engine;
 use sf_line::{Line, MemoryLine, Pieces};
 use sf_serving::serve_one;
@@ -18,15 +18,6 @@ const INIT: &str = "00000005 01 00000003";
 
 const VERSION: &str =
     "00000026 02 00000003 00000018 706f7369782d72656e616d65406f70656e7373682e636f6d 00000001 31";
-
-/// The bytes of packets in hexadecimal, one after the other.
-fn packets(alloc: Global, texts: &[&str]) -> Result<Vec<u8>, Fail> {
-    let mut bytes = Vec::new(alloc);
-    for text in texts {
-        bytes.extend_from_slice(&hex_bytes(alloc, text)?)?;
-    }
-    Ok(bytes)
-}
 
 /// A session by this clock, on an engine of its own that keeps the last 256 records.
 fn serve_at<L: Line, C: Clock>(
@@ -90,8 +81,8 @@ fn is_served(
     want: &[&str],
     cause: Cause,
 ) -> Result<(), Fail> {
-    let input = packets(alloc, input)?;
-    let want = packets(alloc, want)?;
+    let input = hex_packets(alloc, input)?;
+    let want = hex_packets(alloc, want)?;
     is_served_cut(rt, alloc, &input, input.len(), &want, cause)
 }
 
@@ -216,11 +207,11 @@ fn other_requests(rt: HostRuntime) -> Result<(), Fail> {
 #[test]
 fn realpath_of_empty_path(rt: HostRuntime) -> Result<(), Fail> {
     let alloc = rt.alloc();
-    let mut input = packets(alloc, &[INIT, "00040000 10 00000005 00000000"])?;
+    let mut input = hex_packets(alloc, &[INIT, "00040000 10 00000005 00000000"])?;
     for _ in 0..262135 {
         input.push(0)?;
     }
-    let want = packets(
+    let want = hex_packets(
         alloc,
         &[
             VERSION,

@@ -1,7 +1,7 @@
 //! Lines are sent by a channel, and what the workers' sessions were told is compared with the history.
 
 use crossbeam_channel::{Receiver, Sender, unbounded};
-use sf_cases::{StillClock, hex_bytes};
+use sf_cases::{StillClock, hex_packets};
 use sf_core::{Core, Share};
 use sf_line::{MemoryLine, Pieces};
 use sf_pool::{Gate, NoGate, Transcript, audit, gather};
@@ -23,14 +23,6 @@ const MKDIR_B: &str = "0000000f 0e 00000007 00000002 2f62 00000000";
 const STAT_A: &str = "0000000b 11 00000008 00000002 2f61";
 
 const STAT_A_F: &str = "0000000d 11 00000008 00000004 2f612f66";
-
-fn packets(alloc: Global, texts: &[&str]) -> Result<Vec<u8>, Fail> {
-    let mut bytes = Vec::new(alloc);
-    for text in texts {
-        bytes.extend_from_slice(&hex_bytes(alloc, text)?)?;
-    }
-    Ok(bytes)
-}
 
 fn line(alloc: Global, input: &[u8]) -> MemoryLine<'_> {
     let whole = Pieces::new(usize::MAX, usize::MAX);
@@ -194,8 +186,8 @@ fn send_two<'a>(
 #[test]
 fn gate_two_calls(rt: HostRuntime) -> Result<(), Fail> {
     let alloc = rt.alloc();
-    let one = packets(alloc, &[INIT, MKDIR_A, STAT_A_F])?;
-    let two = packets(alloc, &[INIT, MKDIR_B])?;
+    let one = hex_packets(alloc, &[INIT, MKDIR_A, STAT_A_F])?;
+    let two = hex_packets(alloc, &[INIT, MKDIR_B])?;
     let core = Mutex::new(Core::new(alloc)?);
     let happened = Condvar::new();
     let gate = TwoCalls::new();
@@ -225,8 +217,8 @@ fn gate_two_calls(rt: HostRuntime) -> Result<(), Fail> {
 #[test]
 fn waiting_call_is_woken(rt: HostRuntime) -> Result<(), Fail> {
     let alloc = rt.alloc();
-    let one = packets(alloc, &[INIT, MKDIR_A, STAT_A_F])?;
-    let two = packets(alloc, &[INIT, MKDIR_B])?;
+    let one = hex_packets(alloc, &[INIT, MKDIR_A, STAT_A_F])?;
+    let two = hex_packets(alloc, &[INIT, MKDIR_B])?;
     let core = Mutex::new(Core::new(alloc)?);
     let happened = Condvar::new();
     let gate = InTheWay {
@@ -276,7 +268,7 @@ fn serve_inputs<R: Threads + Wait + Abort + Sync>(
 fn same_sessions(alloc: Global, count: usize) -> Result<Vec<Vec<u8>>, Fail> {
     let mut inputs = Vec::new(alloc);
     for _ in 0..count {
-        inputs.push(packets(alloc, &[INIT, MKDIR_A, STAT_A])?)?;
+        inputs.push(hex_packets(alloc, &[INIT, MKDIR_A, STAT_A])?)?;
     }
     Ok(inputs)
 }
@@ -322,7 +314,7 @@ fn nothing_kept(rt: HostRuntime) -> Result<(), Fail> {
 fn two_folded(rt: HostRuntime) -> Result<(), Fail> {
     let alloc = rt.alloc();
     let mut inputs = Vec::new(alloc);
-    inputs.push(packets(alloc, &[INIT, MKDIR_A, MKDIR_B, STAT_A, STAT_A_F])?)?;
+    inputs.push(hex_packets(alloc, &[INIT, MKDIR_A, MKDIR_B, STAT_A, STAT_A_F])?)?;
     let core = Core::with_keep(alloc, 3)?;
     let (core, transcripts, shares) = serve_inputs(&rt, alloc, core, &inputs, 1, true)?;
     assert_eq!(rt; audit(&core, &transcripts), Ok(()));
@@ -337,8 +329,8 @@ fn two_folded(rt: HostRuntime) -> Result<(), Fail> {
 fn bad_session(rt: HostRuntime) -> Result<(), Fail> {
     let alloc = rt.alloc();
     let mut inputs = Vec::new(alloc);
-    inputs.push(packets(alloc, &["00000000"])?)?;
-    inputs.push(packets(alloc, &[INIT, MKDIR_A])?)?;
+    inputs.push(hex_packets(alloc, &["00000000"])?)?;
+    inputs.push(hex_packets(alloc, &[INIT, MKDIR_A])?)?;
     let core = Core::new(alloc)?;
     let (core, transcripts, shares) = serve_inputs(&rt, alloc, core, &inputs, 1, true)?;
     assert_eq!(rt; transcripts.len(), 2);

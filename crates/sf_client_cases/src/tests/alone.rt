@@ -2,7 +2,7 @@
 
 ghost use Rattle.std.specs.Prelude.{◌≡◌, IfOk};
 
-use super::{INIT, comes_to, gets, given, has_sent, is_done, lists, packets, tells, try_packets};
+use super::{INIT, comes_to, gets, given, has_sent, hex_packets, is_done, lists, packets, tells};
 use bytes::BytesMut;
 use sf_cases::sized;
 use sf_client::{Client, ClientFault};

@@ -27,19 +27,19 @@ fn put_pieces(alloc: Global, requests: &mut Vec<u8>, file: &[u8]) -> Result<(), 
             file.get(65536..),
         ),
     ] {
-        requests.extend_from_slice(&try_packets(alloc, &[header])?)?;
+        requests.extend_from_slice(&hex_packets(alloc, &[header])?)?;
         requests.extend_from_slice(piece.unwrap_or(&[]))?;
     }
     Ok(())
 }
 
 fn put_and_get_requests(alloc: Global, file: &[u8]) -> Result<Vec<u8>, Fail> {
-    let mut requests = try_packets(
+    let mut requests = hex_packets(
         alloc,
         &[INIT, "00000013 03 00000001 00000002 2f66 0000001a 00000000"],
     )?;
     put_pieces(alloc, &mut requests, file)?;
-    requests.extend_from_slice(&try_packets(
+    requests.extend_from_slice(&hex_packets(
         alloc,
         &[
             "00000011 04 00000005 00000008 0000000000000001",

@@ -139,7 +139,7 @@ fn put_entry(alloc: Global, want: &mut Vec<u8>, n: u8) -> Result<(), Fail> {
 
 /// What is sent for a listing in two parts, between which the first name goes, and after which the last one goes.
 fn listed(alloc: Global) -> Result<Vec<u8>, Fail> {
-    let mut want = try_packets(
+    let mut want = hex_packets(
         alloc,
         &[
             "00000011 66 00000022 00000008 0000000000000022",
@@ -150,9 +150,9 @@ fn listed(alloc: Global) -> Result<Vec<u8>, Fail> {
         put_entry(alloc, &mut want, n)?;
     }
     let removed = "00000018 65 00000024 00000000 00000007 53756363657373 00000000";
-    want.extend_from_slice(&try_packets(alloc, &[removed, "0000006e 68 00000025 00000001"])?)?;
+    want.extend_from_slice(&hex_packets(alloc, &[removed, "0000006e 68 00000025 00000001"])?)?;
     put_entry(alloc, &mut want, 33)?;
-    want.extend_from_slice(&try_packets(
+    want.extend_from_slice(&hex_packets(
         alloc,
         &[
             "00000018 65 00000026 00000000 00000007 53756363657373 00000000",

@@ -7,7 +7,7 @@ ghost use Rattle.sf_pool.specs.Desks.{New, kept_calls};
 use super::*;
 use sf_call::CoreFault;
 use sf_cases::requests::stat;
-use sf_cases::{RisingClock, StillClock, hex_bytes};
+use sf_cases::{RisingClock, StillClock, hex_packets};
 use sf_line::{LineCall, MemoryLine, Pieces};
 use sf_pool::{Begin, NoGate, Stay, serve};
 use sf_session::ServeFault;
@@ -35,14 +35,6 @@ const REFUSED: &str = "0000001e 65 00000008 00000004 0000000d 4f7574206f66206d65
 /// The attributes of `/a`, under the id 9.
 const TOLD_AGAIN: &str =
     "00000025 69 00000009 0000000f 0000000000000000 00000000 00000000 000041ed 00000064 00000064";
-
-fn packets(alloc: Global, texts: &[&str]) -> Result<Vec<u8>, Fail> {
-    let mut bytes = Vec::new(alloc);
-    for text in texts {
-        bytes.extend_from_slice(&hex_bytes(alloc, text)?)?;
-    }
-    Ok(bytes)
-}
 
 /// A session's calls on a core that nobody else uses.
 #[derive(Drop)]
@@ -191,8 +183,8 @@ fn served(
 #[test]
 fn mkdir_and_stat(rt: HostRuntime) -> Result<(), Fail> {
     let alloc = rt.alloc();
-    let input = packets(alloc, &ASKED)?;
-    let want = packets(alloc, &TOLD)?;
+    let input = hex_packets(alloc, &ASKED)?;
+    let want = hex_packets(alloc, &TOLD)?;
     for size in 1..input.len() {
         let mut core = Core::new(alloc)?;
         let pieces = Pieces::new(size, 1);
@@ -211,8 +203,8 @@ fn mkdir_and_stat(rt: HostRuntime) -> Result<(), Fail> {
 #[test]
 fn second_init(rt: HostRuntime) -> Result<(), Fail> {
     let alloc = rt.alloc();
-    let input = packets(alloc, &[ASKED[0], ASKED[0], ASKED[1]])?;
-    let want = packets(alloc, &[TOLD[0]])?;
+    let input = hex_packets(alloc, &[ASKED[0], ASKED[0], ASKED[1]])?;
+    let want = hex_packets(alloc, &[TOLD[0]])?;
     let mut core = Core::new(alloc)?;
     let whole = Pieces::new(usize::MAX, usize::MAX);
     let (ended, written, share) = served(alloc, &mut core, &input, whole)?;
@@ -226,7 +218,7 @@ fn second_init(rt: HostRuntime) -> Result<(), Fail> {
 #[test]
 fn prompt_replies(rt: HostRuntime) -> Result<(), Fail> {
     let alloc = rt.alloc();
-    let input = packets(alloc, &ASKED)?;
+    let input = hex_packets(alloc, &ASKED)?;
     let mut core = Core::new(alloc)?;
     let mut desk = OwnDesk::new(alloc, &mut core);
     let reads = Pieces::new(9, 19);
@@ -259,8 +251,8 @@ fn prompt_replies(rt: HostRuntime) -> Result<(), Fail> {
 #[test]
 fn begins_and_a_refusal(rt: HostRuntime) -> Result<(), Fail> {
     let alloc = rt.alloc();
-    let input = packets(alloc, &[ASKED[0], ASKED[1], ASKED[2], ASKED_AGAIN])?;
-    let want = packets(alloc, &[TOLD[0], TOLD[1], REFUSED, TOLD_AGAIN])?;
+    let input = hex_packets(alloc, &[ASKED[0], ASKED[1], ASKED[2], ASKED_AGAIN])?;
+    let want = hex_packets(alloc, &[TOLD[0], TOLD[1], REFUSED, TOLD_AGAIN])?;
     let mut core = Core::new(alloc)?;
     let mut desk = TellingDesk::new(&rt, alloc, &mut core);
     let whole = Pieces::new(usize::MAX, usize::MAX);

@@ -135,14 +135,14 @@ fn put_write(alloc: Global, input: &mut Vec<u8>, len: usize) -> Result<(), Fail>
 #[test]
 fn longest_data(rt: HostRuntime) -> Result<(), Fail> {
     let alloc = rt.alloc();
-    let mut input = packets(alloc, &[INIT, OPEN])?;
+    let mut input = hex_packets(alloc, &[INIT, OPEN])?;
     put_write(alloc, &mut input, MOST_DATA)?;
     put_hex(
         alloc,
         &mut input,
         "0000001d 05 00000003 00000008 0000000000000001 0000000000000000 0003fc01",
     )?;
-    let mut want = packets(alloc, &[VERSION, OPENED, "00000018 65 00000002", OK])?;
+    let mut want = hex_packets(alloc, &[VERSION, OPENED, "00000018 65 00000002", OK])?;
     put_hex(alloc, &mut want, "0003fc09 67 00000003 0003fc00")?;
     for _ in 0..MOST_DATA {
         want.push(b'x')?;
@@ -164,7 +164,7 @@ fn longest_data(rt: HostRuntime) -> Result<(), Fail> {
 #[test]
 fn many_long_reads(rt: HostRuntime) -> Result<(), Fail> {
     let alloc = rt.alloc();
-    let mut input = packets(alloc, &[INIT, OPEN])?;
+    let mut input = hex_packets(alloc, &[INIT, OPEN])?;
     put_write(alloc, &mut input, MOST_DATA)?;
     for _ in 0..1900 {
         put_hex(

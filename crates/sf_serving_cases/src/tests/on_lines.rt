@@ -29,7 +29,7 @@ fn each_request_after_the_reply_before_it(rt: HostRuntime) -> Result<(), Fail> {
     for text in [INIT, MKDIR, STAT, REALPATH, UNKNOWN] {
         requests.push(hex_bytes(alloc, text)?)?;
     }
-    let want = packets(alloc, &[VERSION, MADE, TOLD, NAMED, UNSUPPORTED])?;
+    let want = hex_packets(alloc, &[VERSION, MADE, TOLD, NAMED, UNSUPPORTED])?;
     let mut line = AskingLine::new(&requests, Vec::new(alloc));
     assert_eq!(rt; serve(alloc, &mut line)?, Cause::Closed);
     assert_eq!(rt; line.output.as_slice(), want.as_slice());
@@ -40,13 +40,13 @@ fn each_request_after_the_reply_before_it(rt: HostRuntime) -> Result<(), Fail> {
 #[test]
 fn reads_that_fail(rt: HostRuntime) -> Result<(), Fail> {
     let alloc = rt.alloc();
-    let input = packets(alloc, &[INIT, MKDIR, STAT, REALPATH, UNKNOWN])?;
+    let input = hex_packets(alloc, &[INIT, MKDIR, STAT, REALPATH, UNKNOWN])?;
     let replies = [VERSION, MADE, TOLD, NAMED, UNSUPPORTED];
     let ends = [9, 28, 43, 58, 67];
     for reads in 0..7usize {
         let read = 11 * reads;
         let answered = ends.iter().filter(|end| **end <= read).count();
-        let want = packets(alloc, &replies[..answered])?;
+        let want = hex_packets(alloc, &replies[..answered])?;
         let pieces = Pieces::new(11, 11);
         let line = MemoryLine::new(alloc, &input, pieces, pieces);
         let mut line = FailingLine::new(line, reads, usize::MAX);
@@ -60,8 +60,8 @@ fn reads_that_fail(rt: HostRuntime) -> Result<(), Fail> {
 #[test]
 fn writes_that_fail(rt: HostRuntime) -> Result<(), Fail> {
     let alloc = rt.alloc();
-    let input = packets(alloc, &[INIT, MKDIR, STAT])?;
-    let want = packets(alloc, &[VERSION, MADE, TOLD])?;
+    let input = hex_packets(alloc, &[INIT, MKDIR, STAT])?;
+    let want = hex_packets(alloc, &[VERSION, MADE, TOLD])?;
     let all = Pieces::new(usize::MAX, usize::MAX);
     for writes in 0..22usize {
         let line = MemoryLine::new(alloc, &input, all, Pieces::new(5, 5));
@@ -84,7 +84,7 @@ fn moments_at(output: &[u8], at: usize) -> Option<(u32, u32)> {
 #[test]
 fn rising_moments(rt: HostRuntime) -> Result<(), Fail> {
     let alloc = rt.alloc();
-    let input = packets(
+    let input = hex_packets(
         alloc,
         &[
             INIT,

@@ -275,7 +275,7 @@ fn listing_survives_removals(rt: HostRuntime) -> Result<(), Fail> {
         put_open(alloc, &mut input, n)?;
         put_handle(alloc, &mut want, n)?;
     }
-    input.extend_from_slice(&packets(
+    input.extend_from_slice(&hex_packets(
         alloc,
         &[
             "0000000a 0b 00000022 00000001 2f",
@@ -286,7 +286,7 @@ fn listing_survives_removals(rt: HostRuntime) -> Result<(), Fail> {
             "00000011 0c 00000027 00000008 0000000000000022",
         ],
     )?)?;
-    want.extend_from_slice(&packets(
+    want.extend_from_slice(&hex_packets(
         alloc,
         &[
             "00000011 66 00000022 00000008 0000000000000022",
@@ -296,7 +296,7 @@ fn listing_survives_removals(rt: HostRuntime) -> Result<(), Fail> {
     for n in 1..33 {
         put_entry(alloc, &mut want, n)?;
     }
-    want.extend_from_slice(&packets(
+    want.extend_from_slice(&hex_packets(
         alloc,
         &[
             "00000018 65 00000024 00000000 00000007 53756363657373 00000000",
@@ -304,7 +304,7 @@ fn listing_survives_removals(rt: HostRuntime) -> Result<(), Fail> {
         ],
     )?)?;
     put_entry(alloc, &mut want, 33)?;
-    want.extend_from_slice(&packets(
+    want.extend_from_slice(&hex_packets(
         alloc,
         &[
             "00000018 65 00000026 00000000 00000007 53756363657373 00000000",

@@ -8,6 +8,7 @@ use crate::server::{ServerFault, Serving, serve_on};
 use crate::socket_line::SocketLine;
 use crate::totals::tell;
 use crossbeam_channel::bounded;
+use sf_cases::hex_packets;
 use sf_core::Core;
 use sf_line::{Line, write_all};
 use sf_pool::NoGate;
@@ -35,14 +36,6 @@ const OK: &str = "00000018 65 00000007 00000000 00000007 53756363657373 00000000
 
 /// The attributes of a directory of the server, under the id 8, up to its times.
 const DIRECTORY: &str = "00000025 69 00000008 0000000f 0000000000000000 00000000 00000000 000041ed";
-
-fn packets(alloc: Global, texts: &[&str]) -> Result<Vec<u8>, Fail> {
-    let mut bytes = Vec::new(alloc);
-    for text in texts {
-        bytes.extend_from_slice(&hex_bytes(alloc, text)?)?;
-    }
-    Ok(bytes)
-}
 
 /// All replies of a session that sends these bytes, and then ends its input.
 fn session(rt: &HostRuntime, path: &str, input: &[u8]) -> io::Result<Vec<u8>> {
@@ -99,16 +92,16 @@ fn served<T: Threads + Wait + Abort + Sync>(
 fn socket_two_sessions(rt: HostRuntime) -> Result<(), Fail> {
     let alloc = rt.alloc();
     let mut inputs = Vec::new(alloc);
-    inputs.push(packets(alloc, &[INIT, MKDIR_A])?)?;
-    inputs.push(packets(alloc, &[INIT, STAT_A])?)?;
+    inputs.push(hex_packets(alloc, &[INIT, MKDIR_A])?)?;
+    inputs.push(hex_packets(alloc, &[INIT, STAT_A])?)?;
     let (replies, told) = served(&rt, &rt, "two_sessions.socket", 256, &inputs)?;
     assert_eq!(rt;
         told.as_slice(),
         b"sessions 2 calls 2\naudit ok\n".as_slice()
     );
-    let made = packets(alloc, &[VERSION, OK])?;
+    let made = hex_packets(alloc, &[VERSION, OK])?;
     assert!(rt; replies.first().is_some_and(|reply| *reply == made));
-    let found = packets(alloc, &[VERSION, DIRECTORY])?;
+    let found = hex_packets(alloc, &[VERSION, DIRECTORY])?;
     let Some(reply) = replies.last() else {
         panic!(rt; "no reply");
     };
@@ -123,7 +116,7 @@ fn socket_two_sessions(rt: HostRuntime) -> Result<(), Fail> {
 fn folded_calls_are_told(rt: HostRuntime) -> Result<(), Fail> {
     let alloc = rt.alloc();
     let mut inputs = Vec::new(alloc);
-    inputs.push(packets(alloc, &[INIT, MKDIR_A, MKDIR_B, STAT_A, STAT_A])?)?;
+    inputs.push(hex_packets(alloc, &[INIT, MKDIR_A, MKDIR_B, STAT_A, STAT_A])?)?;
     let (_, told) = served(&rt, &rt, "folded.socket", 3, &inputs)?;
     assert_eq!(rt;
         told.as_slice(),
@@ -200,7 +193,7 @@ fn served_in_memory<R: Threads + Wait + Abort + Sync>(
 #[test]
 fn faults_of_totals(rt: HostRuntime) -> Result<(), Fail> {
     let alloc = rt.alloc();
-    let input = packets(alloc, &[INIT, MKDIR_A])?;
+    let input = hex_packets(alloc, &[INIT, MKDIR_A])?;
     let mut told = Vec::new(alloc);
     let (core, all) = served_in_memory(&rt, alloc, &input)?;
     let none = Vec::new(alloc);

@@ -14,7 +14,7 @@ fn no_version(rt: HostRuntime) {
 
 /// VERSION, and these packets.
 fn version_and(alloc: Global, replies: &[&str]) -> Result<BytesMut, Fail> {
-    after_version(alloc, &try_packets(alloc, replies)?)
+    after_version(alloc, &hex_packets(alloc, replies)?)
 }
 
 /// After these bytes a call by a path is refused as having no reply that was due, and the next call

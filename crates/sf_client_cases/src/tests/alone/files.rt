@@ -14,7 +14,7 @@ fn put_replies(alloc: Global) -> Result<BytesMut, Fail> {
 
 /// The requests for a piece of 32768 bytes and one of a byte.
 fn put_requests(alloc: Global) -> Result<Vec<u8>, Fail> {
-    let mut sent = try_packets(
+    let mut sent = hex_packets(
         alloc,
         &[
             INIT,
@@ -23,7 +23,7 @@ fn put_requests(alloc: Global) -> Result<Vec<u8>, Fail> {
         ],
     )?;
     sent.extend_from_slice(&[7; 32768])?;
-    sent.extend_from_slice(&try_packets(
+    sent.extend_from_slice(&hex_packets(
         alloc,
         &[
             "0000001e 06 00000003 00000008 0000000000000009 0000000000008000 00000001 07",
@@ -132,7 +132,7 @@ fn put_refused(rt: HostRuntime) -> Result<(), Fail> {
 /// HANDLE, a name twice, the end of the directory twice, and a success.
 fn list_replies(alloc: Global) -> Result<BytesMut, Fail> {
     let name = "00000001 61 00000002 2d61 00000000";
-    let replies = try_packets(
+    let replies = hex_packets(
         alloc,
         &[
             "00000011 66 00000001 00000008 0000000000000001",
