@@ -54,11 +54,13 @@ LeadsBy old event result new = GoesOnTrace old event result new × OnErr result 
 
 -- so, and what came of it has this number
 abbrev pub Leads : EngineView → Event → ℤ → EngineView → Type 0
-Leads old event n new = (result : Result Happened EngineFault) × LeadsBy old event result new × IsNumber result n
+Leads old event n new =
+    (result : Result Happened EngineFault) × LeadsBy old event result new × IsNumber result n
 
 -- so of the engines that C has
 abbrev pub Answers : Option EngineView → Event → ℤ → Option EngineView → Type 0
-Answers before event n after = (old : EngineView) × (new : EngineView) × (before ≡ Some old) × (after ≡ Some new) × Leads old event n new
+Answers before event n after = (old : EngineView) × (new : EngineView) × (before ≡ Some old)
+    × (after ≡ Some new) × Leads old event n new
 
 -- whether a turn of which this came leads to another one
 abbrev pub leads_on : Result Happened EngineFault → Bool
@@ -82,7 +84,8 @@ HasTurned turn (suc made) old new = (last : EngineView) × (result : Result Happ
     × HasTurned turn made old last × LeadsBy last turn result new × (leads_on result ≡ true)
 
 -- The turns ended by the first that leads to no other, or as many were made as may be.
-abbrev pub Settles : Event → ℕ → EngineView → Option (Result Happened EngineFault) → EngineView → Type 0
+abbrev pub Settles : Event → ℕ → EngineView → Option (Result Happened EngineFault) → EngineView
+    → Type 0
 Settles turn most old None new = HasTurned turn most old new
 Settles turn most old (Some result) new = (made : ℕ) × (last : EngineView) × (made < most)
     × HasTurned turn made old last × LeadsBy last turn result new × (leads_on result ≡ false)
@@ -93,20 +96,24 @@ IsLast None n = n ≡ pos 6
 IsLast (Some result) n = IsNumber result n
 
 abbrev pub SettlesAt : Event → ℕ → EngineView → ℤ → EngineView → Type 0
-SettlesAt turn most old n new = (end : Option (Result Happened EngineFault)) × Settles turn most old end new × IsLast end n
+SettlesAt turn most old n new =
+    (end : Option (Result Happened EngineFault)) × Settles turn most old end new × IsLast end n
 
 -- so of the engines that C has
 abbrev pub AnswersSettled : Option EngineView → Event → ℕ → ℤ → Option EngineView → Type 0
-AnswersSettled before turn most n after = (old : EngineView) × (new : EngineView) × (before ≡ Some old) × (after ≡ Some new)
+AnswersSettled before turn most n after =
+    (old : EngineView) × (new : EngineView) × (before ≡ Some old) × (after ≡ Some new)
     × SettlesAt turn most old n new
 
 -- a new engine keeps so many records, or all for 0
 abbrev pub IsFresh : ℕ → EngineView → Type 0
-IsFresh keep engine = Fits engine [] × (keep ≡ 0 → engine.core.keep ≡ None) × (0 < keep → engine.core.keep ≡ Some keep)
+IsFresh keep engine = Fits engine [] × (keep ≡ 0 → engine.core.keep ≡ None)
+    × (0 < keep → engine.core.keep ≡ Some keep)
 
 -- a new engine was made, or there is none
 abbrev pub IsMade : ℕ → ℤ → Option EngineView → Type 0
-IsMade keep n made = ((n ≡ negsuc 0) × (made ≡ None)) ⊎ ((engine : EngineView) × (n ≡ pos 0) × (made ≡ Some engine) × IsFresh keep engine)
+IsMade keep n made = ((n ≡ negsuc 0) × (made ≡ None))
+    ⊎ ((engine : EngineView) × (n ≡ pos 0) × (made ≡ Some engine) × IsFresh keep engine)
 
 -- Bytes were fed, or there was no room to copy them.
 abbrev pub Feeds : Option EngineView → ℕ → List ℕ → ℤ → Option EngineView → Type 0
@@ -115,7 +122,8 @@ Feeds before session bytes n after = ((n ≡ negsuc 0) × (after ≡ before))
 
 -- the output as far as there is room, and how long it is
 abbrev pub IsCopied : EngineView → ℕ → List ℕ → ℤ → List ℕ → Type 0
-IsCopied engine session old n new = (output : List ℕ) × IsSentBy engine session output × (n ≡ pos (length output))
+IsCopied engine session old n new =
+    (output : List ℕ) × IsSentBy engine session output × (n ≡ pos (length output))
     × (new ≡ take (length old) output ++ drop (length output) old)
 
 -- a session's output was copied, or there is no such session

@@ -110,7 +110,8 @@ pub extern "C" fn lucernetick_settle(
     most: u64,
 ) -> i64
     requires { IsSome held.old.engine }
-    ensures { AnswersSettled held.old.engine (Event.Turn session moment) most result held.new.engine }
+    ensures { AnswersSettled held.old.engine (Event.Turn session moment) most result
+        held.new.engine }
 {
     let mut engine = held.take(alloc);
     let number = settle(&mut engine, session, moment, most);

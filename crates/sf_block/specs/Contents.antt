@@ -7,8 +7,10 @@ resized contents size = take size contents ++ replicate (size - length contents)
 
 -- Bytes are replaced from the start on; a gap before them is filled with zeros (POSIX, write).
 abbrev pub written : List ℕ → ℕ → List ℕ → List ℕ
-written contents start bytes = resized contents start ++ bytes ++ drop (start + length bytes) contents
+written contents start bytes =
+    resized contents start ++ bytes ++ drop (start + length bytes) contents
 
 -- zeros were appended, or none
 abbrev pub IsGrown : List ℕ → List ℕ → Type 0
-IsGrown contents grown = (length contents ≤ length grown) × (grown ≡ resized contents (length grown))
+IsGrown contents grown =
+    (length contents ≤ length grown) × (grown ≡ resized contents (length grown))

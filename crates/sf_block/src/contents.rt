@@ -337,7 +337,8 @@ impl Contents {
         requires place { length self.now < at → at % 32768 ≡ 0 }
         requires fits { at % 32768 + n ≤ 32768 }
         ensures { IfOk result (λ block. block
-            ≡ written (block_of (at / 32768) self.now) (at % 32768) (take n (drop done bytes.now))) }
+            ≡ written (block_of (at / 32768) self.now) (at % 32768)
+            (take n (drop done bytes.now))) }
     {
         let all = bytes.len();
         if n == BLOCK && all == BLOCK {

@@ -24,7 +24,10 @@ impl Model for Row {
 
     ghost Value = { RowView };
 
-    ghost view = { λ blocks. record { items = take blocks.count blocks.list.items; room = vec_capacity blocks.list - blocks.count } };
+    ghost view = { λ blocks. record {
+      items = take blocks.count blocks.list.items;
+      room = vec_capacity blocks.list - blocks.count;
+    } };
 
     ghost invariant = { λ blocks. blocks.count ≤ length blocks.list.items };
 }

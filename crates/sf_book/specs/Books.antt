@@ -34,5 +34,6 @@ put b entry = record {
   records = kept_of b.keep (b.records ++ entry ∷ []);
   room = b.room - 1;
   keep = b.keep;
-  folded = min (b.folded + count_by is_deed (gone_of b.keep (b.records ++ entry ∷ []))) (2 ^ 64 - 1);
+  folded =
+      min (b.folded + count_by is_deed (gone_of b.keep (b.records ++ entry ∷ []))) (2 ^ 64 - 1);
 }

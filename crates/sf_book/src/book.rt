@@ -27,9 +27,15 @@ impl Model for Book {
 
     ghost Value = { BookView };
 
-    ghost view = { λ b. record { records = drop b.gone b.entries.items; room = vec_capacity b.entries - vec_len b.entries; keep = b.keep; folded = b.folded } };
+    ghost view = { λ b. record {
+      records = drop b.gone b.entries.items;
+      room = vec_capacity b.entries - vec_len b.entries;
+      keep = b.keep;
+      folded = b.folded;
+    } };
 
-    ghost invariant = { λ b. (b.gone ≤ length b.entries.items) × IfSome b.keep (λ n. (0 < n) × (length b.entries.items ≤ b.gone + n)) };
+    ghost invariant = { λ b. (b.gone ≤ length b.entries.items)
+        × IfSome b.keep (λ n. (0 < n) × (length b.entries.items ≤ b.gone + n)) };
 }
 
 impl Book {

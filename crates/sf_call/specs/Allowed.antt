@@ -15,7 +15,8 @@ kind_of (File m contents) = file_type.File
 
 -- an object stays of its kind
 abbrev pub IsSetRightly : Tree → ℕ → Object → Type 0
-IsSetRightly tree label object = option_map kind_of (object_of tree.objects label) ≡ Some (kind_of object)
+IsSetRightly tree label object =
+    option_map kind_of (object_of tree.objects label) ≡ Some (kind_of object)
 
 -- a new path was free, its way was open, and its label is the call's number, which no path and no object had
 pub record IsNewPath (number : ℕ) (tree : Tree) (path : Path) (label : ℕ) : Type 0 where
@@ -39,29 +40,37 @@ pub record IsMove (tree : Tree) (old new : Path) : Type 0 where
   pub not_around : after_front new old ≡ None
   pub way : is_faulty_way tree new ≡ false
   pub bare : (name : Name) (rest : Path) → label_at tree.names (new ++ name ∷ rest) ≡ None
-  pub alike : (replaced : ℕ) → label_at tree.names new ≡ Some replaced → option_map kind_of (object_of tree.objects replaced) ≡ option_map kind_of (object_of tree.objects label)
+  pub alike : (replaced : ℕ) → label_at tree.names new ≡ Some replaced
+      → option_map kind_of (object_of tree.objects replaced)
+      ≡ option_map kind_of (object_of tree.objects label)
 
 -- What a change of the call with this number asks of the tree before it. A path that goes has nothing below it, and a
 -- handle stays with its object.
 abbrev pub MayChange : ℕ → Tree → Change → Type 0
 MayChange number tree (SetObject label object) = IsSetRightly tree label object
 MayChange number tree (NewPath path label object) = IsNewPath number tree path label
-MayChange number tree (GonePath path) = (name : Name) (rest : Path) → label_at tree.names (path ++ name ∷ rest) ≡ None
+MayChange number tree (GonePath path) =
+    (name : Name) (rest : Path) → label_at tree.names (path ++ name ∷ rest) ≡ None
 MayChange number tree (Move old new) = IsMove tree old new
 MayChange number tree (OpenHandle handle opened) = IsNewHandle number tree handle
-MayChange number tree (SetHandle handle opened) = (before : Handle) × (handle_of tree.handles handle ≡ Some before) × (before.label ≡ opened.label)
+MayChange number tree (SetHandle handle opened) = (before : Handle)
+    × (handle_of tree.handles handle ≡ Some before) × (before.label ≡ opened.label)
 MayChange number tree (CloseHandle handle) = Unit {0}
 
 -- each of the changes may be made after those before it
 abbrev pub AreAllowed : ℕ → Tree → List Change → Type 0
 AreAllowed number tree [] = Unit {0}
-AreAllowed number tree (change ∷ changes) = MayChange number tree change × AreAllowed number (changed tree change) changes
+AreAllowed number tree (change ∷ changes) =
+    MayChange number tree change × AreAllowed number (changed tree change) changes
 
 -- What holds of the tree after a legal history, and still holds after changes that are allowed: each path that is named
 -- leads over directories to an object, one path at most has a label, and each object is named or open.
 pub record IsWellFormed (tree : Tree) : Type 0 where
   pub ordered : IsOrderedTree tree
-  pub object : (path : Path) (label : ℕ) → label_at tree.names path ≡ Some label → IsSome (object_of tree.objects label)
-  pub way : (path : Path) (label : ℕ) → label_at tree.names path ≡ Some label → is_faulty_way tree path ≡ false
-  pub one_path : (path other : Path) (label : ℕ) → label_at tree.names path ≡ Some label → label_at tree.names other ≡ Some label → path ≡ other
+  pub object : (path : Path) (label : ℕ) → label_at tree.names path ≡ Some label
+      → IsSome (object_of tree.objects label)
+  pub way : (path : Path) (label : ℕ) → label_at tree.names path ≡ Some label
+      → is_faulty_way tree path ≡ false
+  pub one_path : (path other : Path) (label : ℕ) → label_at tree.names path ≡ Some label
+      → label_at tree.names other ≡ Some label → path ≡ other
   pub used : kept tree ≡ tree

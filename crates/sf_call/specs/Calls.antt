@@ -57,14 +57,17 @@ refuses_size (File m contents) (Some size) = nat_lt MAX_FILE_SIZE size
 -- A file's size is set first, and the file is modified at the moment; then the other parts (POSIX, ftruncate).
 abbrev pub with_size : ℕ → Attrs → Option ℕ → Metadata → List ℕ → Object
 with_size moment attrs None m contents = File (with_parts m attrs) contents
-with_size moment attrs (Some size) m contents = let cut = resized contents size in File (with_parts (modified_at moment m) attrs) cut
+with_size moment attrs (Some size) m contents =
+    let cut = resized contents size in File (with_parts (modified_at moment m) attrs) cut
 
 abbrev pub with_attrs : ℕ → Attrs → Object → Object
 with_attrs moment attrs (Directory m) = Directory (with_parts m attrs)
 with_attrs moment attrs (File m contents) = with_size moment attrs attrs.size m contents
 
 abbrev pub sets : ℕ → ℕ → Attrs → Object → Answer
-sets moment label attrs object = if refuses_size object attrs.size then refuses Failure else succeeds (SetObject label (with_attrs moment attrs object) ∷ [])
+sets moment label attrs object =
+    if refuses_size object attrs.size then refuses Failure
+    else succeeds (SetObject label (with_attrs moment attrs object) ∷ [])
 
 -- SETSTAT (draft, section 6.9)
 abbrev pub set_stat : ℕ → Attrs → Found → Answer
@@ -86,7 +89,8 @@ abbrev pub make_directory : Tree → Stamp → Path → Attrs → Place → Answ
 make_directory tree call path attrs NoWay = refuses NoSuchFile
 make_directory tree call path attrs (At label) = refuses Failure
 make_directory tree call path attrs Absent =
-    succeeds (NewPath path call.number (Directory (new_metadata 0o755 call.moment attrs)) ∷ touched tree call.moment (parent path))
+    succeeds (NewPath path call.number (Directory (new_metadata 0o755 call.moment attrs))
+    ∷ touched tree call.moment (parent path))
 
 -- a path is gone; its parent is modified
 abbrev pub goes : Tree → ℕ → Path → Answer
@@ -97,7 +101,8 @@ abbrev pub remove_directory : Tree → ℕ → Path → Found → Answer
 remove_directory tree moment path Nowhere = refuses NoSuchFile
 remove_directory tree moment path Nothing = refuses NoSuchFile
 remove_directory tree moment path (FileAt label m contents) = refuses Failure
-remove_directory tree moment path (DirectoryAt label m) = if is_empty tree.names path then goes tree moment path else refuses Failure
+remove_directory tree moment path (DirectoryAt label m) =
+    if is_empty tree.names path then goes tree moment path else refuses Failure
 
 -- REMOVE (draft, section 6.5; POSIX, unlink)
 abbrev pub remove_file : Tree → ℕ → Path → Found → Answer
@@ -108,20 +113,36 @@ remove_file tree moment path (FileAt label m contents) = goes tree moment path
 
 -- whether a session has as many handles open as it may
 abbrev pub has_all_handles : Tree → ℕ → Bool
-has_all_handles tree session = nat_le MAX_HANDLES (count_by (λ e. nat_eq e.1.session session) tree.handles)
+has_all_handles tree session =
+    nat_le MAX_HANDLES (count_by (λ e. nat_eq e.1.session session) tree.handles)
 
 -- a handle has the number of the call that opens it
 abbrev pub opens : ℕ → Handle → List Change → Answer
-opens number handle changes = record { reply = reply.Handle number; changes = OpenHandle number handle ∷ changes }
+opens number handle changes =
+    record { reply = reply.Handle number; changes = OpenHandle number handle ∷ changes }
 
 -- a directory's handle has no marks
 abbrev pub directory_handle : ℕ → ℕ → Handle
-directory_handle session label = record { session = session; label = label; read = false; write = false; append = false; listed = None }
+directory_handle session label = record {
+  session = session;
+  label = label;
+  read = false;
+  write = false;
+  append = false;
+  listed = None;
+}
 
 -- with neither READ nor WRITE a handle reads
 abbrev pub file_handle : ℕ → ℕ → OpenFlags → Handle
 file_handle session label flags =
-    record { session = session; label = label; read = flags.read || not flags.write; write = flags.write; append = flags.append; listed = None }
+    record {
+      session = session;
+      label = label;
+      read = flags.read || not flags.write;
+      write = flags.write;
+      append = flags.append;
+      listed = None;
+    }
 
 -- OPENDIR (draft, section 6.7)
 abbrev pub open_directory : Tree → ℕ → ℕ → Found → Answer
@@ -129,7 +150,8 @@ open_directory tree session number Nowhere = refuses NoSuchFile
 open_directory tree session number Nothing = refuses NoSuchFile
 open_directory tree session number (FileAt label m contents) = refuses Failure
 open_directory tree session number (DirectoryAt label m) =
-    if has_all_handles tree session then refuses Failure else opens number (directory_handle session label) []
+    if has_all_handles tree session then refuses Failure
+    else opens number (directory_handle session label) []
 
 -- OPEN of a file that is there: TRUNC with WRITE cuts it
 abbrev pub open_present : Tree → ℕ → Stamp → OpenFlags → Found → Answer
@@ -138,7 +160,8 @@ open_present tree session call flags Nothing = refuses NoSuchFile
 open_present tree session call flags (DirectoryAt label m) = refuses Failure
 open_present tree session call flags (FileAt label m contents) =
     if has_all_handles tree session then refuses Failure
-    else if flags.truncate && flags.write then opens call.number (file_handle session label flags) (SetObject label (File (modified_at call.moment m) []) ∷ [])
+    else if flags.truncate && flags.write then opens call.number (file_handle session label flags)
+    (SetObject label (File (modified_at call.moment m) []) ∷ [])
     else opens call.number (file_handle session label flags) []
 
 -- What is to be opened, and how.
@@ -155,22 +178,27 @@ abbrev pub open_file : Tree → ℕ → Stamp → Opening → Place → Answer
 open_file tree session call asked NoWay = refuses NoSuchFile
 open_file tree session call asked (At label) =
     if asked.flags.create && asked.flags.exclusive then refuses Failure
-    else open_present tree session call asked.flags (found_object label (object_of tree.objects label))
+    else open_present tree session call asked.flags
+    (found_object label (object_of tree.objects label))
 open_file tree session call asked Absent =
     if not asked.flags.create then refuses NoSuchFile
     else if has_all_handles tree session then refuses Failure
     else opens call.number (file_handle session call.number asked.flags)
-    (NewPath asked.path call.number (File (new_metadata 0o644 call.moment asked.attrs) []) ∷ touched tree call.moment (parent asked.path))
+    (NewPath asked.path call.number (File (new_metadata 0o644 call.moment asked.attrs) [])
+    ∷ touched tree call.moment (parent asked.path))
 
 -- ---- renames
 
 -- what began with old begins with new; both parents are modified
 abbrev pub moves : Tree → ℕ → Path → Path → Answer
-moves tree moment old new = succeeds (Move old new ∷ (touched tree moment (parent old) ++ touched tree moment (parent new)))
+moves tree moment old new =
+    succeeds (Move old new ∷ (touched tree moment (parent old) ++ touched tree moment (parent new)))
 
 -- no path is moved into itself or over what it stands in
 abbrev pub unless_nested : Path → Path → Answer → Answer
-unless_nested old new answer = if is_some (after_front old new) || is_some (after_front new old) then refuses Failure else answer
+unless_nested old new answer =
+    if is_some (after_front old new) || is_some (after_front new old) then refuses Failure
+    else answer
 
 -- RENAME (draft, section 6.5): to a path where nothing stands
 abbrev pub rename_to : Tree → ℕ → Path → Path → Place → Answer
@@ -181,21 +209,25 @@ rename_to tree moment old new Absent = moves tree moment old new
 abbrev pub rename : Tree → ℕ → Path → Path → Place → Answer
 rename tree moment old new NoWay = refuses NoSuchFile
 rename tree moment old new Absent = refuses NoSuchFile
-rename tree moment old new (At label) = unless_nested old new (rename_to tree moment old new (place_at tree new))
+rename tree moment old new (At label) =
+    unless_nested old new (rename_to tree moment old new (place_at tree new))
 
 -- the extension posix-rename (POSIX, rename): a file also takes a file's place, and a directory an empty directory's
 abbrev pub replace_by : Tree → ℕ → Path → Path → Found → Answer
 replace_by tree moment old new Nowhere = refuses NoSuchFile
 replace_by tree moment old new Nothing = moves tree moment old new
 replace_by tree moment old new (DirectoryAt label m) =
-    if is_directory tree old && is_empty tree.names new then moves tree moment old new else refuses Failure
-replace_by tree moment old new (FileAt label m contents) = if is_directory tree old then refuses Failure else moves tree moment old new
+    if is_directory tree old && is_empty tree.names new then moves tree moment old new
+    else refuses Failure
+replace_by tree moment old new (FileAt label m contents) =
+    if is_directory tree old then refuses Failure else moves tree moment old new
 
 abbrev pub posix_rename : Tree → ℕ → Path → Path → Place → Answer
 posix_rename tree moment old new NoWay = refuses NoSuchFile
 posix_rename tree moment old new Absent = refuses NoSuchFile
 posix_rename tree moment old new (At label) =
-    if same_path old new then succeeds [] else unless_nested old new (replace_by tree moment old new (found_at tree new))
+    if same_path old new then succeeds []
+    else unless_nested old new (replace_by tree moment old new (found_at tree new))
 
 -- ---- calls by handle
 
@@ -213,9 +245,11 @@ stat_opened (OpenFile handle m contents) = tells (reply.Attrs (attrs_of (File m 
 -- FSETSTAT (draft, section 6.9): not of the root, and a size with the mark WRITE alone
 abbrev pub set_opened : ℕ → Attrs → Opened → Answer
 set_opened moment attrs NotOpen = refuses Failure
-set_opened moment attrs (OpenDirectory handle m) = if nat_eq handle.label 0 then refuses Failure else sets moment handle.label attrs (Directory m)
+set_opened moment attrs (OpenDirectory handle m) =
+    if nat_eq handle.label 0 then refuses Failure else sets moment handle.label attrs (Directory m)
 set_opened moment attrs (OpenFile handle m contents) =
-    if is_some attrs.size && not handle.write then refuses PermissionDenied else sets moment handle.label attrs (File m contents)
+    if is_some attrs.size && not handle.write then refuses PermissionDenied
+    else sets moment handle.label attrs (File m contents)
 
 -- READ (draft, section 6.4; POSIX, pread)
 abbrev pub read : ℕ → ℕ → Opened → Answer
@@ -237,8 +271,10 @@ write moment offset bytes (OpenDirectory handle m) = refuses Failure
 write moment offset bytes (OpenFile handle m contents) =
     if not handle.write then refuses PermissionDenied
     else if is_nil bytes then succeeds []
-    else if nat_lt MAX_FILE_SIZE (start_of handle contents offset + length bytes) then refuses Failure
-    else (let after = written contents (start_of handle contents offset) bytes in succeeds (SetObject handle.label (File (modified_at moment m) after) ∷ []))
+    else if nat_lt MAX_FILE_SIZE (start_of handle contents offset + length bytes)
+    then refuses Failure
+    else (let after = written contents (start_of handle contents offset) bytes in
+    succeeds (SetObject handle.label (File (modified_at moment m) after) ∷ []))
 
 -- READDIR (draft, section 6.7): the names that come next, of which the last is remembered
 abbrev pub lists : ℕ → Handle → List Entry → Answer
@@ -251,7 +287,8 @@ lists number handle (e ∷ es) = record {
 abbrev pub read_directory : Tree → ℕ → Opened → Answer
 read_directory tree number NotOpen = refuses Failure
 read_directory tree number (OpenFile handle m contents) = refuses Failure
-read_directory tree number (OpenDirectory handle m) = lists number handle (listing_of tree handle.listed (path_of tree.names handle.label))
+read_directory tree number (OpenDirectory handle m) =
+    lists number handle (listing_of tree handle.listed (path_of tree.names handle.label))
 
 -- ---- all calls
 
@@ -263,20 +300,33 @@ unless_root (name ∷ path) answer = answer
 -- the answer to a request: of this session, by this call number, at this moment
 abbrev pub answer_to : Tree → ℕ → ℕ → ℕ → Request → Answer
 answer_to tree session number moment (Stat path) = stat (found_at tree path)
-answer_to tree session number moment (SetStat path attrs) = unless_root path (set_stat moment attrs (found_at tree path))
-answer_to tree session number moment (Mkdir path attrs) = unless_root path (make_directory tree (stamp number moment) path attrs (place_at tree path))
-answer_to tree session number moment (Rmdir path) = unless_root path (remove_directory tree moment path (found_at tree path))
-answer_to tree session number moment (Remove path) = unless_root path (remove_file tree moment path (found_at tree path))
-answer_to tree session number moment (OpenDir path) = open_directory tree session number (found_at tree path)
-answer_to tree session number moment (Open path flags attrs) = unless_root path (open_file tree session (stamp number moment) (opening path flags attrs) (place_at tree path))
+answer_to tree session number moment (SetStat path attrs) =
+    unless_root path (set_stat moment attrs (found_at tree path))
+answer_to tree session number moment (Mkdir path attrs) =
+    unless_root path (make_directory tree (stamp number moment) path attrs (place_at tree path))
+answer_to tree session number moment (Rmdir path) =
+    unless_root path (remove_directory tree moment path (found_at tree path))
+answer_to tree session number moment (Remove path) =
+    unless_root path (remove_file tree moment path (found_at tree path))
+answer_to tree session number moment (OpenDir path) =
+    open_directory tree session number (found_at tree path)
+answer_to tree session number moment (Open path flags attrs) =
+    unless_root path (open_file tree session (stamp number moment) (opening path flags attrs)
+    (place_at tree path))
 answer_to tree session number moment (Close handle) = close handle (handle_in tree session handle)
 answer_to tree session number moment (FStat handle) = stat_opened (opened tree session handle)
-answer_to tree session number moment (FSetStat handle attrs) = set_opened moment attrs (opened tree session handle)
-answer_to tree session number moment (Read handle offset len) = read offset len (opened tree session handle)
-answer_to tree session number moment (Write handle offset bytes) = write moment offset bytes (opened tree session handle)
-answer_to tree session number moment (ReadDir handle) = read_directory tree handle (opened tree session handle)
-answer_to tree session number moment (Rename old new) = unless_root old (unless_root new (rename tree moment old new (place_at tree old)))
-answer_to tree session number moment (PosixRename old new) = unless_root old (unless_root new (posix_rename tree moment old new (place_at tree old)))
+answer_to tree session number moment (FSetStat handle attrs) =
+    set_opened moment attrs (opened tree session handle)
+answer_to tree session number moment (Read handle offset len) =
+    read offset len (opened tree session handle)
+answer_to tree session number moment (Write handle offset bytes) =
+    write moment offset bytes (opened tree session handle)
+answer_to tree session number moment (ReadDir handle) =
+    read_directory tree handle (opened tree session handle)
+answer_to tree session number moment (Rename old new) =
+    unless_root old (unless_root new (rename tree moment old new (place_at tree old)))
+answer_to tree session number moment (PosixRename old new) =
+    unless_root old (unless_root new (posix_rename tree moment old new (place_at tree old)))
 
 -- the reply, and the tree after it
 pub record Applied : Type 0 where
@@ -287,8 +337,10 @@ abbrev pub carry_out : Tree → Answer → Applied
 carry_out tree answer = record { reply = answer.reply; tree = done tree answer.changes }
 
 abbrev pub apply : Tree → ℕ → ℕ → ℕ → Request → Applied
-apply tree session number moment request = carry_out tree (answer_to tree session number moment request)
+apply tree session number moment request =
+    carry_out tree (answer_to tree session number moment request)
 
 -- the tree after a session left: its handles are closed
 abbrev pub leave : Tree → ℕ → Tree
-leave tree session = kept (with_handles tree (filter (λ e. not (nat_eq e.1.session session)) tree.handles))
+leave tree session =
+    kept (with_handles tree (filter (λ e. not (nat_eq e.1.session session)) tree.handles))

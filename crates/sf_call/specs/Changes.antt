@@ -23,14 +23,20 @@ pub data Change : Type 0 where
 
 -- Where a name or a handle goes, the objects go that nothing names or opens any more.
 abbrev pub changed : Tree → Change → Tree
-changed tree (SetObject label object) = with_objects tree (set_value (is_at (nat_cmp label)) tree.objects object)
+changed tree (SetObject label object) =
+    with_objects tree (set_value (is_at (nat_cmp label)) tree.objects object)
 changed tree (NewPath path label object) =
-    with_objects (with_names tree (insert_entry path_cmp tree.names path label)) (insert_entry nat_cmp tree.objects label object)
-changed tree (GonePath path) = kept (with_names tree (remove_entry (is_at (path_cmp path)) tree.names))
+    with_objects (with_names tree (insert_entry path_cmp tree.names path label))
+    (insert_entry nat_cmp tree.objects label object)
+changed tree (GonePath path) =
+    kept (with_names tree (remove_entry (is_at (path_cmp path)) tree.names))
 changed tree (Move old new) = kept (with_names tree (moved tree.names old new))
-changed tree (OpenHandle number handle) = with_handles tree (insert_entry nat_cmp tree.handles number handle)
-changed tree (SetHandle number handle) = with_handles tree (set_value (is_at (nat_cmp number)) tree.handles handle)
-changed tree (CloseHandle number) = kept (with_handles tree (remove_entry (is_at (nat_cmp number)) tree.handles))
+changed tree (OpenHandle number handle) =
+    with_handles tree (insert_entry nat_cmp tree.handles number handle)
+changed tree (SetHandle number handle) =
+    with_handles tree (set_value (is_at (nat_cmp number)) tree.handles handle)
+changed tree (CloseHandle number) =
+    kept (with_handles tree (remove_entry (is_at (nat_cmp number)) tree.handles))
 
 -- the tree after all of them
 abbrev pub done : Tree → List Change → Tree

@@ -17,7 +17,8 @@ after_reply tree next given = next
 
 -- the tree after a record
 abbrev pub after : Tree → Record → Tree
-after tree (Did number session moment request given) = after_reply tree (apply tree session number moment request).tree given
+after tree (Did number session moment request given) =
+    after_reply tree (apply tree session number moment request).tree given
 after tree (Left session) = leave tree session
 
 -- the tree at the end of a history
@@ -44,16 +45,19 @@ IsPresent session history = AllByRecursion (IsNoLeaving session) history
 
 -- a call may come next: its parts are values of their types, its number is above 0 and new, its session has not left, and
 -- its reply is the tree's or want of memory
-pub record CallMayFollow (history : List Record) (number session moment : ℕ) (request : Request) (given : Reply) : Type 0 where
+pub record CallMayFollow (history : List Record) (number session moment : ℕ) (request : Request)
+    (given : Reply) : Type 0 where
   pub is_call : IsCall number session moment request
   pub above_zero : 0 < number
   pub new_number : IsNewNumber number history
   pub present : IsPresent session history
-  pub answered : (given ≡ (apply (replay history) session number moment request).reply) ⊎ (given ≡ reply.NoMemory)
+  pub answered : (given ≡ (apply (replay history) session number moment request).reply)
+      ⊎ (given ≡ reply.NoMemory)
 
 -- a record may come next; nothing of a session follows its leaving
 abbrev pub MayFollow : List Record → Record → Type 0
-MayFollow history (Did number session moment request given) = CallMayFollow history number session moment request given
+MayFollow history (Did number session moment request given) =
+    CallMayFollow history number session moment request given
 MayFollow history (Left session) = IsPresent session history
 
 -- each of the records may follow those before it
@@ -71,7 +75,8 @@ IsAmong record' (r ∷ rs) = (r ≡ record') ⊎ IsAmong record' rs
 
 -- after some legal history a record of this call, with this reply, may come
 abbrev pub IsGiven : ℕ → ℕ → Reply → Type 0
-IsGiven number session given = (before : List Record) × (moment : ℕ) × (request : Request) × IsLegal before × CallMayFollow before number session moment request given
+IsGiven number session given = (before : List Record) × (moment : ℕ) × (request : Request)
+    × IsLegal before × CallMayFollow before number session moment request given
 
 -- whether the record is of the call with this number, and the first such record
 abbrev pub is_of : ℕ → Record → Bool

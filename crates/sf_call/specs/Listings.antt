@@ -21,7 +21,8 @@ is_past (Some last) name = is_lt (name_cmp last name)
 
 -- the name of a directory's entry, if it comes after that one
 abbrev pub name_past : Path → Option Name → Path → Option Name
-name_past directory last path = option_and_then (λ name. if is_past last name then Some name else None) (only_name (after_front directory path))
+name_past directory last path = option_and_then (λ name. if is_past last name then Some name
+    else None) (only_name (after_front directory path))
 
 -- as it is listed, with the attributes that it has and one link
 abbrev pub entry_of : Name → Object → Entry
@@ -33,11 +34,13 @@ entry_of name object = record {
 
 abbrev pub listed_entry : Tree → Path → Option Name → Path × ℕ → Option Entry
 listed_entry tree directory last e =
-    option_and_then (λ name. option_map (entry_of name) (object_of tree.objects e.1)) (name_past directory last e.0)
+    option_and_then (λ name. option_map (entry_of name) (object_of tree.objects e.1))
+    (name_past directory last e.0)
 
 -- the first 32 entries of a directory, in the order of their names, after the last one that was given
 abbrev pub listing : Tree → Option Name → Path → List Entry
-listing tree last directory = take MAX_ENTRIES (filter_map (listed_entry tree directory last) tree.names)
+listing tree last directory =
+    take MAX_ENTRIES (filter_map (listed_entry tree directory last) tree.names)
 
 abbrev pub listing_of : Tree → Option Name → Option Path → List Entry
 listing_of tree last None = []

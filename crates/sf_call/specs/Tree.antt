@@ -55,7 +55,8 @@ directory_metadata (File m contents) = None
 -- the label of the directory that a path names, and its metadata
 abbrev pub directory_at : Tree → Path → Option (ℕ × Metadata)
 directory_at tree path =
-    option_and_then (λ label. option_map (λ m. (label, m)) (option_and_then directory_metadata (object_of tree.objects label))) (label_at tree.names path)
+    option_and_then (λ label. option_map (λ m. (label, m)) (option_and_then directory_metadata
+    (object_of tree.objects label))) (label_at tree.names path)
 
 abbrev pub is_directory : Tree → Path → Bool
 is_directory tree path = is_some (directory_at tree path)
@@ -123,7 +124,8 @@ is_empty names path = is_nil (children names path)
 
 -- whether a path names the object of a label or a handle opens it
 abbrev pub is_used : List (Path × ℕ) → List (ℕ × Handle) → ℕ → Bool
-is_used names handles label = list_any (λ e. nat_eq e.1 label) names || list_any (λ e. nat_eq e.1.label label) handles
+is_used names handles label =
+    list_any (λ e. nat_eq e.1 label) names || list_any (λ e. nat_eq e.1.label label) handles
 
 -- without the objects that no path names and no handle opens (POSIX, unlink: what no link and no process refers to is let go)
 abbrev pub kept : Tree → Tree

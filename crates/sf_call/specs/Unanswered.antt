@@ -13,7 +13,8 @@ at_stage stage call = record call { stage = stage }
 
 abbrev pub staged_by : List (ℕ × Call) → ℕ → Stage → Option Call → List (ℕ × Call)
 staged_by calls number stage None = calls
-staged_by calls number stage (Some call) = set_value (is_at (nat_cmp number)) calls (at_stage stage call)
+staged_by calls number stage (Some call) =
+    set_value (is_at (nat_cmp number)) calls (at_stage stage call)
 
 -- the calls, the one of the number at a stage
 abbrev pub staged : List (ℕ × Call) → ℕ → Stage → List (ℕ × Call)
@@ -25,7 +26,8 @@ with_reply given call = record call { reply = Some given; copy = None }
 
 abbrev pub answered_by : List (ℕ × Call) → ℕ → Reply → Option Call → List (ℕ × Call)
 answered_by calls number given None = calls
-answered_by calls number given (Some call) = set_value (is_at (nat_cmp number)) calls (with_reply given call)
+answered_by calls number given (Some call) =
+    set_value (is_at (nat_cmp number)) calls (with_reply given call)
 
 -- the calls, the one of the number with its reply
 abbrev pub answered : List (ℕ × Call) → ℕ → Reply → List (ℕ × Call)

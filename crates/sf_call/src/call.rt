@@ -196,7 +196,8 @@ impl Calls {
     pub fn set_reply(&mut self, number: u64, reply: Reply) -> Option<Request>
         ensures calls { self.new ≡ answered self.old number reply }
         ensures copy { result
-            ≡ option_and_then (λ (call : Call). call.copy) (lookup (is_at (nat_cmp number)) self.old) }
+            ≡ option_and_then (λ (call : Call). call.copy)
+            (lookup (is_at (nat_cmp number)) self.old) }
     {
         let placed = self.calls.get_mut(&number)?;
         placed.call.reply = Some(reply);
@@ -206,7 +207,8 @@ impl Calls {
     /// Takes out the call of a number, if its reply waits.
     pub fn take_reply(&mut self, number: u64) -> Option<Reply>
         ensures reply { result
-            ≡ option_and_then (λ (call : Call). call.reply) (lookup (is_at (nat_cmp number)) self.old) }
+            ≡ option_and_then (λ (call : Call). call.reply)
+            (lookup (is_at (nat_cmp number)) self.old) }
         ensures rest { self.new ≡ gone_where_answered self.old number result }
     {
         let waits = self.get(number)?.reply.is_some();
@@ -221,7 +223,8 @@ impl Calls {
     #[inline(never)]
     fn remove_reply(&mut self, number: u64) -> Option<Reply>
         ensures reply { result
-            ≡ option_and_then (λ (call : Call). call.reply) (lookup (is_at (nat_cmp number)) self.old) }
+            ≡ option_and_then (λ (call : Call). call.reply)
+            (lookup (is_at (nat_cmp number)) self.old) }
         ensures rest { self.new ≡ remove_entry (is_at (nat_cmp number)) self.old }
     {
         self.remove(number)?.into_reply()

@@ -24,14 +24,16 @@ pub fn one_record_more()
 
 /// The reply of a call in a legal history is given by some legal history before it.
 pub fn given_by_history()
-    ensures { (number session moment : ℕ) (request : Request) (reply : Reply) (history : List Record)
+    ensures { (number session moment : ℕ) (request : Request) (reply : Reply)
+        (history : List Record)
         → IsLegal history → IsAmong (Did number session moment request reply) history
         → IsGiven number session reply }
 {}
 
 /// In a legal history a call's number leads to its record.
 pub fn found_by_number()
-    ensures { (number session moment : ℕ) (request : Request) (reply : Reply) (history : List Record)
+    ensures { (number session moment : ℕ) (request : Request) (reply : Reply)
+        (history : List Record)
         → IsLegal history → IsAmong (Did number session moment request reply) history
         → record_of number history ≡ Some (Did number session moment request reply) }
 {}
@@ -65,7 +67,8 @@ pub fn ways_of_paths()
 pub fn allowed_changes()
     ensures request { (history : List Record) (number session moment : ℕ) (request : Request)
         → IsLegal history → 0 < number → IsNewNumber number history
-        → AreAllowed number (replay history) (answer_to (replay history) session number moment request).changes }
+        → AreAllowed number (replay history)
+        (answer_to (replay history) session number moment request).changes }
     ensures kept { (history : List Record) (number : ℕ) (changes : List Change) → IsLegal history
         → AreAllowed number (replay history) changes
         → IsWellFormed (done (replay history) changes) }

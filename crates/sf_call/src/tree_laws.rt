@@ -59,7 +59,9 @@ pub fn kinds_of_replies()
 /// A record with the tree's own reply leads to the tree after it.
 pub fn told_replies()
     ensures { (tree : Tree) (session number moment : ℕ) (request : Request)
-        → after tree (Did number session moment request (apply tree session number moment request).reply) ≡ (apply tree session number moment request).tree }
+        → after tree (Did number session moment request
+        (apply tree session number moment request).reply)
+        ≡ (apply tree session number moment request).tree }
 {}
 
 /// The attributes that a listing shows of an object have all parts, and its type among the permissions, so that its line

@@ -27,12 +27,18 @@ EndsBy r fault.Failed = ⊥
 
 -- A reply came and was dropped; or nothing was to be dropped, and this fault stops the sending.
 abbrev pub Misses : ClientFault → Ahead → Ahead → Type 0
-Misses f a b = ((0 < a.dropped) × (b ≡ record a { waiting = a.waiting - 1; dropped = a.dropped - 1 }))
-    ⊎ ((a.dropped ≡ 0) × (b ≡ record a { waiting = a.waiting - 1; dropped = a.waiting - 1; stopped = Some f }))
+Misses f a b =
+    ((0 < a.dropped) × (b ≡ record a { waiting = a.waiting - 1; dropped = a.dropped - 1 }))
+    ⊎ ((a.dropped ≡ 0) × (b ≡ record a {
+      waiting = a.waiting - 1;
+      dropped = a.waiting - 1;
+      stopped = Some f;
+    }))
 
 -- what is made of a reply that came
 abbrev pub Keeps : Ahead → Reply → Option Reply → Ahead → Type 0
-Keeps a r (Some x) b = (x ≡ r) × (is_refusal r ≡ false) × (a.dropped ≡ 0) × (b ≡ record a { waiting = a.waiting - 1 })
+Keeps a r (Some x) b =
+    (x ≡ r) × (is_refusal r ≡ false) × (a.dropped ≡ 0) × (b ≡ record a { waiting = a.waiting - 1 })
 Keeps a r None b = (f : ClientFault) × ((a.dropped ≡ 0) → EndsBy r f) × Misses f a b
 
 -- A client, and what it has sent ahead.
@@ -53,12 +59,15 @@ SendsOn x q (Err f) y = (f ≡ fault.Stream) × Broke x.client y.client
 
 -- what came of taking the first of the replies that are due
 abbrev pub TakesOn : Sender → Due → Result (Option Reply) ClientFault → Sender → Type 0
-TakesOn x d (Ok (Some r)) y = (is_answer d r ≡ true) × (x.ahead.dropped ≡ 0) × Took x.client r y.client
+TakesOn x d (Ok (Some r)) y =
+    (is_answer d r ≡ true) × (x.ahead.dropped ≡ 0) × Took x.client r y.client
     × (y.ahead ≡ record x.ahead { waiting = x.ahead.waiting - 1 })
-TakesOn x d (Ok None) y = (r : Reply) × (f : ClientFault) × (is_due d r ≡ true) × Took x.client r y.client
+TakesOn x d (Ok None) y =
+    (r : Reply) × (f : ClientFault) × (is_due d r ≡ true) × Took x.client r y.client
     × ((x.ahead.dropped ≡ 0) → EndsBy r f) × Misses f x.ahead y.ahead
 TakesOn x d (Err fault.Stream) y = Broke x.client y.client
-TakesOn x d (Err fault.Protocol) y = (y.client.failed ≡ true) × (y.client.outgoing ≡ x.client.outgoing)
+TakesOn x d (Err fault.Protocol) y =
+    (y.client.failed ≡ true) × (y.client.outgoing ≡ x.client.outgoing)
     × HasNoReply x.client.incoming x.client.next d
 TakesOn x d (Err (fault.Status code)) y = ⊥
 TakesOn x d (Err fault.OutOfMemory) y = ⊥
@@ -70,7 +79,9 @@ RunsShort a b = b ≡ record a { dropped = a.waiting; stopped = Some fault.OutOf
 
 -- A piece was gathered. After a short one the replies that are still due are dropped.
 abbrev pub GathersPiece : List ℕ → List ℕ → List ℕ → Ahead → Ahead → Type 0
-GathersPiece old piece now a b = ((now ≡ old ++ piece) × (((length piece < 32768) × (b ≡ record a { dropped = a.waiting })) ⊎ ((32768 ≤ length piece) × (b ≡ a)))) ⊎ RunsShort a b
+GathersPiece old piece now a b = ((now ≡ old ++ piece)
+    × (((length piece < 32768) × (b ≡ record a { dropped = a.waiting }))
+    ⊎ ((32768 ≤ length piece) × (b ≡ a)))) ⊎ RunsShort a b
 
 abbrev pub GathersNames : List Entry → List Entry → List Entry → Ahead → Ahead → Type 0
 GathersNames old part now a b = ((now ≡ old ++ part) × (b ≡ a)) ⊎ RunsShort a b

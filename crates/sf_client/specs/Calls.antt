@@ -20,37 +20,62 @@ use Rattle.sf_client.specs.Ahead.{EndsBy}
 
 -- What came of a call whose exchanges are told by a script: it made them, in step; or the line
 -- failed; or after some exchanges no due reply came for the next request.
-abbrev pub Does : {X : Type 0} → (List Exchange → Result X ClientFault → Type 0) → ClientView → Result X ClientFault → ClientView → Type 0
+abbrev pub Does : {X : Type 0} → (List Exchange → Result X ClientFault → Type 0) → ClientView
+    → Result X ClientFault → ClientView → Type 0
 Does Script v (Ok x) w = (xs : List Exchange) × Script xs (Ok x) × Exchanged v xs w
 Does Script v (Err fault.Stream) w = Broke v w
-Does Script v (Err fault.Protocol) w = (xs : List Exchange) × (q : WireRequest) × (later : List WireRequest) × Unanswered v xs q later w
-Does Script v (Err (fault.Status code)) w = (xs : List Exchange) × Script xs (Err (fault.Status code)) × Exchanged v xs w
-Does Script v (Err fault.OutOfMemory) w = (xs : List Exchange) × Script xs (Err fault.OutOfMemory) × Exchanged v xs w
+Does Script v (Err fault.Protocol) w = (xs : List Exchange) × (q : WireRequest)
+    × (later : List WireRequest) × Unanswered v xs q later w
+Does Script v (Err (fault.Status code)) w =
+    (xs : List Exchange) × Script xs (Err (fault.Status code)) × Exchanged v xs w
+Does Script v (Err fault.OutOfMemory) w =
+    (xs : List Exchange) × Script xs (Err fault.OutOfMemory) × Exchanged v xs w
 Does Script v (Err fault.Failed) w = (v.failed ≡ true) × (w ≡ v)
 
 -- The last request ended the call by this fault; or it wasn't sent, for want of memory.
 abbrev pub IsLast : WireRequest → List Exchange → ClientFault → Type 0
-IsLast q last f = ((last ≡ []) × (f ≡ fault.OutOfMemory)) ⊎ ((r : Reply) × (last ≡ asked q r ∷ []) × EndsBy r f)
+IsLast q last f =
+    ((last ≡ []) × (f ≡ fault.OutOfMemory)) ⊎ ((r : Reply) × (last ≡ asked q r ∷ []) × EndsBy r f)
 
 -- What is done by a handle, and then CLOSE. Where that was well, CLOSE may end the call by a fault.
-abbrev pub Closes : {X : Type 0} → (List Exchange → Result X ClientFault → Type 0) → ℕ → List Exchange → Result X ClientFault → Type 0
-Closes {X} Script n xs (Ok x) = (ys : List Exchange) × Script ys (Ok x) × (xs ≡ ys ++ asked (request.Close (be64 n)) (reply.Status Success) ∷ [])
-Closes {X} Script n xs (Err f) = (ys : List Exchange) × (r : Reply) × (Script ys (Err f) ⊎ ((x : X) × Script ys (Ok x) × EndsBy r f))
+abbrev pub Closes : {X : Type 0} → (List Exchange → Result X ClientFault → Type 0) → ℕ
+    → List Exchange → Result X ClientFault → Type 0
+Closes {X} Script n xs (Ok x) = (ys : List Exchange) × Script ys (Ok x)
+    × (xs ≡ ys ++ asked (request.Close (be64 n)) (reply.Status Success) ∷ [])
+Closes {X} Script n xs (Err f) = (ys : List Exchange) × (r : Reply)
+    × (Script ys (Err f) ⊎ ((x : X) × Script ys (Ok x) × EndsBy r f))
     × (xs ≡ ys ++ asked (request.Close (be64 n)) r ∷ [])
 
 -- A request that opens a handle, what is done by it, and CLOSE. There is no CLOSE only where no handle was opened.
-abbrev pub ByHandle : {X : Type 0} → WireRequest → (ℕ → List Exchange → Result X ClientFault → Type 0) → List Exchange → Result X ClientFault → Type 0
-ByHandle opening Script xs (Ok x) = (n : ℕ) × (ys : List Exchange) × Closes (Script n) n ys (Ok x) × (xs ≡ asked opening (reply.Handle n) ∷ ys)
+abbrev pub ByHandle : {X : Type 0} → WireRequest → (ℕ → List Exchange → Result X ClientFault
+    → Type 0) → List Exchange → Result X ClientFault → Type 0
+ByHandle opening Script xs (Ok x) = (n : ℕ) × (ys : List Exchange) × Closes (Script n) n ys (Ok x)
+    × (xs ≡ asked opening (reply.Handle n) ∷ ys)
 ByHandle opening Script xs (Err f) = IsLast opening xs f
-    ⊎ ((n : ℕ) × (ys : List Exchange) × Closes (Script n) n ys (Err f) × (xs ≡ asked opening (reply.Handle n) ∷ ys))
+    ⊎ ((n : ℕ) × (ys : List Exchange) × Closes (Script n) n ys (Err f)
+    × (xs ≡ asked opening (reply.Handle n) ∷ ys))
 
 -- to read: READ alone
 abbrev pub to_read : OpenFlags
-to_read = record { read = true; write = false; append = false; create = false; truncate = false; exclusive = false }
+to_read = record {
+  read = true;
+  write = false;
+  append = false;
+  create = false;
+  truncate = false;
+  exclusive = false;
+}
 
 -- to write anew: WRITE, CREAT and TRUNC
 abbrev pub to_write : OpenFlags
-to_write = record { read = false; write = true; append = false; create = true; truncate = true; exclusive = false }
+to_write = record {
+  read = false;
+  write = true;
+  append = false;
+  create = true;
+  truncate = true;
+  exclusive = false;
+}
 
 -- reads of 32768 bytes, each from where the one before ended
 abbrev pub read_from : ℕ → ℕ → WireRequest
@@ -58,12 +83,15 @@ read_from n offset = request.Read (be64 n) offset 32768
 
 unfoldable pub reads : ℕ → ℕ → List (List ℕ) → List Exchange
 reads n offset [] = []
-reads n offset (piece ∷ pieces) = asked (read_from n offset) (reply.Data piece) ∷ reads n (offset + length piece) pieces
+reads n offset (piece ∷ pieces) =
+    asked (read_from n offset) (reply.Data piece) ∷ reads n (offset + length piece) pieces
 
 -- a file's bytes were read to the end, each READ from where the one before ended
 abbrev pub ReadsOn : ℕ → List Exchange → Result (List ℕ) ClientFault → Type 0
-ReadsOn n xs (Ok bytes) = (pieces : List (List ℕ)) × (bytes ≡ concat pieces) × (xs ≡ reads n 0 pieces ++ asked (read_from n (length bytes)) (reply.Status EndOfFile) ∷ [])
-ReadsOn n xs (Err f) = (pieces : List (List ℕ)) × (last : List Exchange) × IsLast (read_from n (length (concat pieces))) last f × (xs ≡ reads n 0 pieces ++ last)
+ReadsOn n xs (Ok bytes) = (pieces : List (List ℕ)) × (bytes ≡ concat pieces)
+    × (xs ≡ reads n 0 pieces ++ asked (read_from n (length bytes)) (reply.Status EndOfFile) ∷ [])
+ReadsOn n xs (Err f) = (pieces : List (List ℕ)) × (last : List Exchange)
+    × IsLast (read_from n (length (concat pieces))) last f × (xs ≡ reads n 0 pieces ++ last)
 
 abbrev pub IsReadOf : ℕ → WireRequest → Type 0
 IsReadOf n q = (offset : ℕ) × (q ≡ read_from n offset)
@@ -71,7 +99,9 @@ IsReadOf n q = (offset : ℕ) × (q ≡ read_from n offset)
 -- These are READs. Some are kept, in their order; the replies of the others were dropped.
 unfoldable pub KeepsSome : ℕ → List Exchange → List Exchange → Type 0
 KeepsSome n [] kept = kept ≡ []
-KeepsSome n (x ∷ xs) kept = IsReadOf n x.request × (((others : List Exchange) × (kept ≡ x ∷ others) × KeepsSome n xs others) ⊎ KeepsSome n xs kept)
+KeepsSome n (x ∷ xs) kept = IsReadOf n x.request
+    × (((others : List Exchange) × (kept ≡ x ∷ others) × KeepsSome n xs others)
+    ⊎ KeepsSome n xs kept)
 
 -- READs that were sent ahead: those that are kept read the file.
 abbrev pub Reads : ℕ → List Exchange → Result (List ℕ) ClientFault → Type 0
@@ -84,14 +114,18 @@ size_of _ = 0
 
 -- what came of FSTAT: a refusal tells 0
 abbrev pub AsksSize : ℕ → ClientView → Result ℕ ClientFault → ClientView → Type 0
-AsksSize n v (Ok size) w = (r : Reply) × (size ≡ size_of r) × Exchanged v (asked (request.FStat (be64 n)) r ∷ []) w
-AsksSize n v (Err f) w = ((code : StatusCode) → f ≢ fault.Status code) × Comes reply.Attrs v (request.FStat (be64 n)) (Err f) w
+AsksSize n v (Ok size) w =
+    (r : Reply) × (size ≡ size_of r) × Exchanged v (asked (request.FStat (be64 n)) r ∷ []) w
+AsksSize n v (Err f) w = ((code : StatusCode) → f ≢ fault.Status code)
+    × Comes reply.Attrs v (request.FStat (be64 n)) (Err f) w
 
 -- FSTAT, whatever it told, and the file's READs
 abbrev pub ReadsAll : ℕ → List Exchange → Result (List ℕ) ClientFault → Type 0
-ReadsAll n xs (Ok bytes) = (r : Reply) × (ys : List Exchange) × Reads n ys (Ok bytes) × (xs ≡ asked (request.FStat (be64 n)) r ∷ ys)
+ReadsAll n xs (Ok bytes) = (r : Reply) × (ys : List Exchange) × Reads n ys (Ok bytes)
+    × (xs ≡ asked (request.FStat (be64 n)) r ∷ ys)
 ReadsAll n xs (Err f) = (IsLast (request.FStat (be64 n)) xs f × (f ≡ fault.OutOfMemory))
-    ⊎ ((r : Reply) × (ys : List Exchange) × Reads n ys (Err f) × (xs ≡ asked (request.FStat (be64 n)) r ∷ ys))
+    ⊎ ((r : Reply) × (ys : List Exchange) × Reads n ys (Err f)
+    × (xs ≡ asked (request.FStat (be64 n)) r ∷ ys))
 
 -- the bytes in pieces of 32768, the last one shorter: how many, and the k-th
 abbrev pub count_of_pieces : List ℕ → ℕ
@@ -112,33 +146,40 @@ IsDone x = x.reply ≡ reply.Status Success
 abbrev pub Stops : List Exchange → ClientFault → Type 0
 Stops xs fault.Stream = ⊥
 Stops xs fault.Protocol = ⊥
-Stops xs (fault.Status code) = (before : List Exchange) × (x : Exchange) × (after : List Exchange) × AllByRecursion IsDone before × Refuses x.reply code × (xs ≡ before ++ x ∷ after)
+Stops xs (fault.Status code) = (before : List Exchange) × (x : Exchange) × (after : List Exchange)
+    × AllByRecursion IsDone before × Refuses x.reply code × (xs ≡ before ++ x ∷ after)
 Stops xs fault.OutOfMemory = Unit {0}
 Stops xs fault.Failed = ⊥
 
 -- All pieces were written, in order; or only some, where a WRITE was refused or memory was wanting.
 abbrev pub WritesAll : List ℕ → ℕ → List Exchange → Result (Unit {0}) ClientFault → Type 0
-WritesAll bytes n xs (Ok x) = (requests_of xs ≡ writes n bytes (count_of_pieces bytes)) × AllByRecursion IsDone xs
-WritesAll bytes n xs (Err f) = (k : ℕ) × (k ≤ count_of_pieces bytes) × (requests_of xs ≡ writes n bytes k) × Stops xs f
+WritesAll bytes n xs (Ok x) =
+    (requests_of xs ≡ writes n bytes (count_of_pieces bytes)) × AllByRecursion IsDone xs
+WritesAll bytes n xs (Err f) =
+    (k : ℕ) × (k ≤ count_of_pieces bytes) × (requests_of xs ≡ writes n bytes k) × Stops xs f
 
 -- a directory's names were listed to the end
 unfoldable pub listings : ℕ → List (List Entry) → List Exchange
 listings n [] = []
-listings n (entries ∷ others) = asked (request.ReadDir (be64 n)) (reply.Names entries) ∷ listings n others
+listings n (entries ∷ others) =
+    asked (request.ReadDir (be64 n)) (reply.Names entries) ∷ listings n others
 
 abbrev pub all_entries : List (List Entry) → List Entry
 all_entries parts = flat_map (λ (entries : List Entry). entries) parts
 
 abbrev pub ListsOn : ℕ → List Exchange → Result (List Entry) ClientFault → Type 0
-ListsOn n xs (Ok entries) = (parts : List (List Entry)) × (entries ≡ all_entries parts) × (xs ≡ listings n parts ++ asked (request.ReadDir (be64 n)) (reply.Status EndOfFile) ∷ [])
-ListsOn n xs (Err f) = (parts : List (List Entry)) × (last : List Exchange) × IsLast (request.ReadDir (be64 n)) last f × (xs ≡ listings n parts ++ last)
+ListsOn n xs (Ok entries) = (parts : List (List Entry)) × (entries ≡ all_entries parts)
+    × (xs ≡ listings n parts ++ asked (request.ReadDir (be64 n)) (reply.Status EndOfFile) ∷ [])
+ListsOn n xs (Err f) = (parts : List (List Entry)) × (last : List Exchange)
+    × IsLast (request.ReadDir (be64 n)) last f × (xs ≡ listings n parts ++ last)
 
 abbrev pub IsListing : ℕ → Exchange → Type 0
 IsListing n x = x.request ≡ request.ReadDir (be64 n)
 
 -- READDIRs that were sent ahead: the replies after the last that counts were dropped.
 abbrev pub ListsAll : ℕ → List Exchange → Result (List Entry) ClientFault → Type 0
-ListsAll n xs r = (kept : List Exchange) × (after : List Exchange) × ListsOn n kept r × AllByRecursion (IsListing n) after × (xs ≡ kept ++ after)
+ListsAll n xs r = (kept : List Exchange) × (after : List Exchange) × ListsOn n kept r
+    × AllByRecursion (IsListing n) after × (xs ≡ kept ++ after)
 
 -- a vector's items, where there is one
 abbrev pub items_of : {X : Type 0} → Result (Vec X) ClientFault → Result (List X) ClientFault
@@ -147,13 +188,18 @@ items_of (Err f) = Err f
 
 -- CLOSE was sent after a fault, which is told unless the client fails here.
 abbrev pub EndsAfter : ℕ → ClientFault → ClientView → ClientFault → ClientView → Type 0
-EndsAfter n first v f w = ((f ≡ first) × ((r : Reply) × Exchanged v (asked (request.Close (be64 n)) r ∷ []) w))
-    ⊎ (((f ≡ fault.Stream) × Broke v w) ⊎ ((f ≡ fault.Protocol) × Unanswered v [] (request.Close (be64 n)) [] w))
+EndsAfter n first v f w =
+    ((f ≡ first) × ((r : Reply) × Exchanged v (asked (request.Close (be64 n)) r ∷ []) w))
+    ⊎ (((f ≡ fault.Stream) × Broke v w) ⊎ ((f ≡ fault.Protocol)
+    × Unanswered v [] (request.Close (be64 n)) [] w))
 
 -- What CLOSE did to what came of a call by a handle. After a fault of the line or of the protocol it isn't sent.
-abbrev pub ClosesAfter : {X : Type 0} → ℕ → Result X ClientFault → ClientView → Result X ClientFault → ClientView → Type 0
-ClosesAfter n (Ok x) v (Ok y) w = (y ≡ x) × Exchanged v (asked (request.Close (be64 n)) (reply.Status Success) ∷ []) w
-ClosesAfter n (Ok x) v (Err f) w = Settles {X = Unit {0}} (λ _. reply.Status Success) v (request.Close (be64 n)) (Err f) w
+abbrev pub ClosesAfter : {X : Type 0} → ℕ → Result X ClientFault → ClientView → Result X ClientFault
+    → ClientView → Type 0
+ClosesAfter n (Ok x) v (Ok y) w =
+    (y ≡ x) × Exchanged v (asked (request.Close (be64 n)) (reply.Status Success) ∷ []) w
+ClosesAfter n (Ok x) v (Err f) w =
+    Settles {X = Unit {0}} (λ _. reply.Status Success) v (request.Close (be64 n)) (Err f) w
 ClosesAfter n (Err f) v (Ok y) w = ⊥
 ClosesAfter n (Err fault.Stream) v (Err f) w = (f ≡ fault.Stream) × (w ≡ v)
 ClosesAfter n (Err fault.Protocol) v (Err f) w = (f ≡ fault.Protocol) × (w ≡ v)
@@ -186,7 +232,8 @@ ended_by (Some f) x = Err f
 ended_by None x = Ok x
 
 -- the replies that data, and names, tell
-abbrev pub told_by : {X : Type 0} → (X → Reply) → Result (Option X) ClientFault → Result (Option Reply) ClientFault
+abbrev pub told_by : {X : Type 0} → (X → Reply) → Result (Option X) ClientFault
+    → Result (Option Reply) ClientFault
 told_by told (Ok (Some x)) = Ok (Some (told x))
 told_by told (Ok None) = Ok None
 told_by told (Err f) = Err f

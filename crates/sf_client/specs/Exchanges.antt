@@ -50,7 +50,8 @@ IsDue x = is_due (due_of x.request) x.reply ≡ true
 
 -- The client sent these requests, in order, and took their replies. It has sent some later requests
 -- too, whose replies are due.
-pub record SentAhead (v : ClientView) (xs : List Exchange) (later : List WireRequest) (w : ClientView) : Type 0 where
+pub record SentAhead (v : ClientView) (xs : List Exchange) (later : List WireRequest)
+    (w : ClientView) : Type 0 where
   pub began : v.failed ≡ false
   pub going : w.failed ≡ false
   pub next : w.next ≡ last_id v.next xs
@@ -65,7 +66,8 @@ Exchanged v xs w = SentAhead v xs [] w
 
 -- No due reply under this id stands at the front of the input.
 abbrev pub HasNoReply : Option (List ℕ) → ℕ → Due → Type 0
-HasNoReply incoming id d = IfSome incoming (λ input. (r : Reply) (rest : List ℕ) → ReplyFits r → is_due d r ≡ true → length (reply_body id r) ≤ max_body
+HasNoReply incoming id d = IfSome incoming (λ input. (r : Reply) (rest : List ℕ) → ReplyFits r
+    → is_due d r ≡ true → length (reply_body id r) ≤ max_body
     → input ≡ packet (reply_body id r) ++ rest → ⊥)
 
 -- No due reply to a request that was sent stood where it had to. The client has failed.
@@ -75,7 +77,8 @@ pub record Spoilt (v : ClientView) (q : WireRequest) (w : ClientView) : Type 0 w
   pub none : HasNoReply v.incoming v.next (due_of q)
 
 -- After these exchanges a request was sent, and maybe later ones, and no due reply came for it.
-abbrev pub Unanswered : ClientView → List Exchange → WireRequest → List WireRequest → ClientView → Type 0
+abbrev pub Unanswered : ClientView → List Exchange → WireRequest → List WireRequest → ClientView
+    → Type 0
 Unanswered v xs q later w = (u : ClientView) × SentAhead v xs (q ∷ later) u × Spoilt u q w
 
 -- These bytes were sent.
@@ -105,4 +108,5 @@ pub record IsStarted (incoming outgoing : Option (List ℕ)) (v : ClientView) : 
 
 -- VERSION doesn't stand at the front of the input
 abbrev pub HasNoVersion : Option (List ℕ) → Type 0
-HasNoVersion incoming = IfSome incoming (λ input. (rest : List ℕ) → input ≡ packet version_body ++ rest → ⊥)
+HasNoVersion incoming =
+    IfSome incoming (λ input. (rest : List ℕ) → input ≡ packet version_body ++ rest → ⊥)

@@ -24,20 +24,25 @@ pub record Broke (v w : ClientView) : Type 0 where
 
 -- What came of one request: its one reply was taken, which told this, or refused it; the line failed; no due reply came;
 -- or memory was wanting, before anything was sent or once the reply was taken. A client that failed before does nothing.
-abbrev pub Comes : {X : Type 0} → (X → Reply) → ClientView → WireRequest → Result X ClientFault → ClientView → Type 0
+abbrev pub Comes : {X : Type 0} → (X → Reply) → ClientView → WireRequest → Result X ClientFault
+    → ClientView → Type 0
 Comes told v q (Ok x) w = Exchanged v (asked q (told x) ∷ []) w
 Comes told v q (Err fault.Stream) w = Broke v w
 Comes told v q (Err fault.Protocol) w = Unanswered v [] q [] w
-Comes told v q (Err (fault.Status code)) w = (r : Reply) × Refuses r code × Exchanged v (asked q r ∷ []) w
-Comes told v q (Err fault.OutOfMemory) w = (v.failed ≡ false) × ((w ≡ v) ⊎ ((r : Reply) × Exchanged v (asked q r ∷ []) w))
+Comes told v q (Err (fault.Status code)) w =
+    (r : Reply) × Refuses r code × Exchanged v (asked q r ∷ []) w
+Comes told v q (Err fault.OutOfMemory) w =
+    (v.failed ≡ false) × ((w ≡ v) ⊎ ((r : Reply) × Exchanged v (asked q r ∷ []) w))
 Comes told v q (Err fault.Failed) w = (v.failed ≡ true) × (w ≡ v)
 
 -- The same of a request that was sent without memory: its one reply was taken in any case.
-abbrev pub Settles : {X : Type 0} → (X → Reply) → ClientView → WireRequest → Result X ClientFault → ClientView → Type 0
+abbrev pub Settles : {X : Type 0} → (X → Reply) → ClientView → WireRequest → Result X ClientFault
+    → ClientView → Type 0
 Settles told v q (Ok x) w = Exchanged v (asked q (told x) ∷ []) w
 Settles told v q (Err fault.Stream) w = Broke v w
 Settles told v q (Err fault.Protocol) w = Unanswered v [] q [] w
-Settles told v q (Err (fault.Status code)) w = (r : Reply) × Refuses r code × Exchanged v (asked q r ∷ []) w
+Settles told v q (Err (fault.Status code)) w =
+    (r : Reply) × Refuses r code × Exchanged v (asked q r ∷ []) w
 Settles told v q (Err fault.OutOfMemory) w = (r : Reply) × Exchanged v (asked q r ∷ []) w
 Settles told v q (Err fault.Failed) w = ⊥
 
@@ -45,13 +50,15 @@ Settles told v q (Err fault.Failed) w = ⊥
 abbrev pub Takes : ClientView → Due → Result Reply ClientFault → ClientView → Type 0
 Takes v d (Ok r) w = (is_due d r ≡ true) × Took v r w
 Takes v d (Err fault.Stream) w = Broke v w
-Takes v d (Err fault.Protocol) w = (w.failed ≡ true) × (w.outgoing ≡ v.outgoing) × HasNoReply v.incoming v.next d
+Takes v d (Err fault.Protocol) w =
+    (w.failed ≡ true) × (w.outgoing ≡ v.outgoing) × HasNoReply v.incoming v.next d
 Takes v d (Err (fault.Status code)) w = ⊥
 Takes v d (Err fault.OutOfMemory) w = (r : Reply) × (is_due d r ≡ true) × Took v r w
 Takes v d (Err fault.Failed) w = ⊥
 
 -- what came of sending a request under an id, with no wait for its reply
-abbrev pub Sends : ClientView → ℕ → WireRequest → Result (Unit {0}) ClientFault → ClientView → Type 0
+abbrev pub Sends : ClientView → ℕ → WireRequest → Result (Unit {0}) ClientFault → ClientView
+    → Type 0
 Sends v id q (Ok x) w = Sent v (packet (request_body id q)) w
 Sends v id q (Err fault.Stream) w = Broke v w
 Sends v id q (Err fault.Protocol) w = ⊥
@@ -60,10 +67,13 @@ Sends v id q (Err fault.OutOfMemory) w = w ≡ v
 Sends v id q (Err fault.Failed) w = ⊥
 
 -- what came of reading a reply, under an id
-abbrev pub ReadsDue : Option (List ℕ) → Option (List ℕ) → ℕ → Due → Result Reply ClientFault → Type 0
-ReadsDue incoming incoming' id d (Ok r) = (is_due d r ≡ true) × Consumes incoming incoming' (packet (reply_body id r))
+abbrev pub ReadsDue : Option (List ℕ) → Option (List ℕ) → ℕ → Due → Result Reply ClientFault
+    → Type 0
+ReadsDue incoming incoming' id d (Ok r) =
+    (is_due d r ≡ true) × Consumes incoming incoming' (packet (reply_body id r))
 ReadsDue incoming incoming' id d (Err fault.Stream) = Unit {0}
 ReadsDue incoming incoming' id d (Err fault.Protocol) = HasNoReply incoming id d
 ReadsDue incoming incoming' id d (Err (fault.Status code)) = ⊥
-ReadsDue incoming incoming' id d (Err fault.OutOfMemory) = (r : Reply) × (is_due d r ≡ true) × Consumes incoming incoming' (packet (reply_body id r))
+ReadsDue incoming incoming' id d (Err fault.OutOfMemory) =
+    (r : Reply) × (is_due d r ≡ true) × Consumes incoming incoming' (packet (reply_body id r))
 ReadsDue incoming incoming' id d (Err fault.Failed) = ⊥

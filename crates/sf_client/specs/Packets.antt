@@ -9,4 +9,5 @@ Ends incoming n = IfSome incoming (λ input. length input < n)
 
 -- no packet stands at the front of the input
 abbrev pub HasNoPacket : Option (List ℕ) → Type 0
-HasNoPacket incoming = IfSome incoming (λ input. (body rest : List ℕ) → IsBody body → input ≡ packet body ++ rest → ⊥)
+HasNoPacket incoming =
+    IfSome incoming (λ input. (body rest : List ℕ) → IsBody body → input ≡ packet body ++ rest → ⊥)

@@ -131,7 +131,8 @@ impl<L: Line + Drop> Client<L> {
     ) -> Result<bool, ClientFault>
         requires short { length (request_body ahead.old.id request.now) < 2 ^ 32 }
         requires room { ahead.old.waiting < most_ahead }
-        ensures { SendsOn (sender self.old ahead.old) request.now result (sender self.new ahead.new) }
+        ensures { SendsOn (sender self.old ahead.old) request.now result
+            (sender self.new ahead.new) }
     {
         match self.send_request(ahead.id, request) {
             Ok(()) => {

@@ -46,7 +46,8 @@ impl<L: Line + Drop> Client<L> {
     /// Makes a directory.
     pub fn mkdir(&mut self, path: &[u8]) -> Result<(), ClientFault>
         requires { length path.now < 2 ^ 31 }
-        ensures { Comes (λ _. reply.Status Success) self.old (request.Mkdir path.now no_attrs) result self.new }
+        ensures { Comes (λ _. reply.Status Success) self.old
+            (request.Mkdir path.now no_attrs) result self.new }
     {
         let path = ByteStr::new(path);
         self.done(&WireRequest::Mkdir {
@@ -58,7 +59,8 @@ impl<L: Line + Drop> Client<L> {
     /// Removes an empty directory.
     pub fn rmdir(&mut self, path: &[u8]) -> Result<(), ClientFault>
         requires { length path.now < 2 ^ 31 }
-        ensures { Comes (λ _. reply.Status Success) self.old (request.Rmdir path.now) result self.new }
+        ensures { Comes (λ _. reply.Status Success) self.old
+            (request.Rmdir path.now) result self.new }
     {
         let path = ByteStr::new(path);
         self.done(&WireRequest::Rmdir { path })
@@ -67,7 +69,8 @@ impl<L: Line + Drop> Client<L> {
     /// Removes a file.
     pub fn remove(&mut self, path: &[u8]) -> Result<(), ClientFault>
         requires { length path.now < 2 ^ 31 }
-        ensures { Comes (λ _. reply.Status Success) self.old (request.Remove path.now) result self.new }
+        ensures { Comes (λ _. reply.Status Success) self.old
+            (request.Remove path.now) result self.new }
     {
         let path = ByteStr::new(path);
         self.done(&WireRequest::Remove { path })
@@ -76,7 +79,8 @@ impl<L: Line + Drop> Client<L> {
     /// Renames, which fails where `new` is there.
     pub fn rename(&mut self, old: &[u8], new: &[u8]) -> Result<(), ClientFault>
         requires { length old.now + length new.now < 2 ^ 31 }
-        ensures { Comes (λ _. reply.Status Success) self.old (request.Rename old.now new.now) result self.new }
+        ensures { Comes (λ _. reply.Status Success) self.old
+            (request.Rename old.now new.now) result self.new }
     {
         let old = ByteStr::new(old);
         let new = ByteStr::new(new);
@@ -86,7 +90,8 @@ impl<L: Line + Drop> Client<L> {
     /// Renames, in the place of what `new` names, as POSIX's `rename`.
     pub fn posix_rename(&mut self, old: &[u8], new: &[u8]) -> Result<(), ClientFault>
         requires { length old.now + length new.now < 2 ^ 31 }
-        ensures { Comes (λ _. reply.Status Success) self.old (request.PosixRename old.now new.now) result self.new }
+        ensures { Comes (λ _. reply.Status Success) self.old
+            (request.PosixRename old.now new.now) result self.new }
     {
         let old = ByteStr::new(old);
         let new = ByteStr::new(new);

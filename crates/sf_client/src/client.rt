@@ -79,7 +79,8 @@ fn zeros(alloc: Global, len: usize) -> Result<Vec<u8>, AllocError>
 /// Sends INIT, and takes VERSION.
 fn greet<L: Line>(line: &mut L, buffer: &mut [u8]) -> Result<(), ClientFault>
     requires { length buffer.old ≡ MAX_BODY }
-    ensures ok { OnOk result (IsGreeted (L.incoming line.old) (L.outgoing line.old) (L.incoming line.new) (L.outgoing line.new)) }
+    ensures ok { OnOk result (IsGreeted (L.incoming line.old) (L.outgoing line.old)
+        (L.incoming line.new) (L.outgoing line.new)) }
     ensures refused { result ≡ Err ClientFault.Protocol → HasNoVersion (L.incoming line.old) }
     ensures fault { IfErr result (λ fault. (fault ≡ ClientFault.Stream)
         ⊎ (fault ≡ ClientFault.Protocol)) }
@@ -120,7 +121,13 @@ impl<L: Line + Drop> Model for Client<L> {
 
     ghost Value = { ClientView };
 
-    ghost view = { λ c. record { next = c.next; failed = c.failed; incoming = L.incoming c.line; outgoing = L.outgoing c.line; failures = L.failed c.line } };
+    ghost view = { λ c. record {
+      next = c.next;
+      failed = c.failed;
+      incoming = L.incoming c.line;
+      outgoing = L.outgoing c.line;
+      failures = L.failed c.line;
+    } };
 
     ghost invariant = { λ c. length c.body.items ≡ max_body };
 }

@@ -171,7 +171,8 @@ impl<L: Line + Drop> Client<L> {
         offset: u64,
     ) -> Result<bool, ClientFault>
         requires { ahead.old.waiting < most_ahead }
-        ensures { SendsOn (sender self.old ahead.old) (read_from handle offset) result (sender self.new ahead.new) }
+        ensures { SendsOn (sender self.old ahead.old) (read_from handle offset) result
+            (sender self.new ahead.new) }
     {
         let number = handle.to_be_bytes();
         let handle = ByteStr::new(&number);
@@ -186,7 +187,8 @@ impl<L: Line + Drop> Client<L> {
     /// Takes the bytes of a READ.
     fn take_piece(&mut self, ahead: &mut Ahead) -> Result<Option<ByteString>, ClientFault>
         requires { 0 < ahead.old.waiting }
-        ensures { TakesOn (sender self.old ahead.old) (Due.Data 32768) (told_by reply.Data result) (sender self.new ahead.new) }
+        ensures { TakesOn (sender self.old ahead.old) (Due.Data 32768) (told_by reply.Data result)
+            (sender self.new ahead.new) }
     {
         match self.take_on(ahead, Due::Data(32768)) {
             Ok(Some(Reply::Data(bytes))) => Ok(Some(bytes)),
@@ -249,7 +251,8 @@ impl<L: Line + Drop> Client<L> {
     ) -> Result<bool, ClientFault>
         requires short { length piece.now ≤ PIECE }
         requires room { ahead.old.waiting < most_ahead }
-        ensures { SendsOn (sender self.old ahead.old) (request.Write (be64 handle) offset piece.now) result (sender self.new ahead.new) }
+        ensures { SendsOn (sender self.old ahead.old)
+            (request.Write (be64 handle) offset piece.now) result (sender self.new ahead.new) }
     {
         let number = handle.to_be_bytes();
         let request = WireRequest::Write {
@@ -263,7 +266,8 @@ impl<L: Line + Drop> Client<L> {
     /// Takes the STATUS OK of a WRITE.
     fn take_success(&mut self, ahead: &mut Ahead) -> Result<Option<()>, ClientFault>
         requires { 0 < ahead.old.waiting }
-        ensures { TakesOn (sender self.old ahead.old) Due.Success (told_by (λ _. reply.Status Success) result) (sender self.new ahead.new) }
+        ensures { TakesOn (sender self.old ahead.old) Due.Success
+            (told_by (λ _. reply.Status Success) result) (sender self.new ahead.new) }
     {
         match self.take_on(ahead, Due::Success) {
             Ok(Some(_reply)) => Ok(Some(())),
@@ -308,7 +312,8 @@ impl<L: Line + Drop> Client<L> {
     /// Sends a READDIR.
     fn ask_names(&mut self, ahead: &mut Ahead, handle: u64) -> Result<bool, ClientFault>
         requires { ahead.old.waiting < most_ahead }
-        ensures { SendsOn (sender self.old ahead.old) (request.ReadDir (be64 handle)) result (sender self.new ahead.new) }
+        ensures { SendsOn (sender self.old ahead.old) (request.ReadDir (be64 handle)) result
+            (sender self.new ahead.new) }
     {
         let number = handle.to_be_bytes();
         let handle = ByteStr::new(&number);
@@ -318,7 +323,8 @@ impl<L: Line + Drop> Client<L> {
     /// Takes the names of a READDIR.
     fn take_names(&mut self, ahead: &mut Ahead) -> Result<Option<Listing>, ClientFault>
         requires { 0 < ahead.old.waiting }
-        ensures { TakesOn (sender self.old ahead.old) Due.Names (told_by reply.Names result) (sender self.new ahead.new) }
+        ensures { TakesOn (sender self.old ahead.old) Due.Names (told_by reply.Names result)
+            (sender self.new ahead.new) }
     {
         match self.take_on(ahead, Due::Names) {
             Ok(Some(Reply::Names(entries))) => Ok(Some(entries)),
@@ -356,7 +362,8 @@ impl<L: Line + Drop> Client<L> {
     /// Opens a file.
     fn open_file(&mut self, path: &[u8], flags: OpenFlags) -> Result<u64, ClientFault>
         requires { length path.now < 2 ^ 31 }
-        ensures { Comes reply.Handle self.old (request.Open path.now flags no_attrs) result self.new }
+        ensures { Comes reply.Handle self.old (request.Open path.now flags no_attrs) result
+            self.new }
     {
         let filename = ByteStr::new(path);
         self.open(&WireRequest::Open {
@@ -377,7 +384,8 @@ impl<L: Line + Drop> Client<L> {
 
     fn get_all(&mut self, path: &[u8]) -> Result<Gathered<u8>, ClientFault>
         requires { length path.now < 2 ^ 31 }
-        ensures { Does (ByHandle (request.Open path.now to_read no_attrs) ReadsAll) self.old result self.new }
+        ensures { Does (ByHandle (request.Open path.now to_read no_attrs) ReadsAll) self.old result
+            self.new }
     {
         let handle = match self.open_file(path, TO_READ) {
             Ok(handle) => handle,
@@ -402,7 +410,8 @@ impl<L: Line + Drop> Client<L> {
     /// The bytes of a file.
     pub fn get(&mut self, path: &[u8]) -> Result<Vec<u8>, ClientFault>
         requires { length path.now < 2 ^ 31 }
-        ensures { Does (ByHandle (request.Open path.now to_read no_attrs) ReadsAll) self.old (items_of result) self.new }
+        ensures { Does (ByHandle (request.Open path.now to_read no_attrs) ReadsAll) self.old
+            (items_of result) self.new }
     {
         match self.get_all(path) {
             Ok(bytes) => Ok(bytes.into_vec()),
@@ -413,7 +422,8 @@ impl<L: Line + Drop> Client<L> {
     /// Makes a file of these bytes, or empties the one that is there and writes them.
     pub fn put(&mut self, path: &[u8], bytes: &[u8]) -> Result<(), ClientFault>
         requires { length path.now < 2 ^ 31 }
-        ensures { Does (ByHandle (request.Open path.now to_write no_attrs) (WritesAll bytes.now)) self.old result self.new }
+        ensures { Does (ByHandle (request.Open path.now to_write no_attrs) (WritesAll bytes.now))
+            self.old result self.new }
     {
         let handle = match self.open_file(path, TO_WRITE) {
             Ok(handle) => handle,
@@ -426,7 +436,8 @@ impl<L: Line + Drop> Client<L> {
     /// The names of a directory.
     pub fn list(&mut self, path: &[u8]) -> Result<Vec<Entry>, ClientFault>
         requires { length path.now < 2 ^ 31 }
-        ensures { Does (ByHandle (request.OpenDir path.now) ListsAll) self.old (items_of result) self.new }
+        ensures { Does (ByHandle (request.OpenDir path.now) ListsAll) self.old
+            (items_of result) self.new }
     {
         match self.list_names(path) {
             Ok(entries) => Ok(entries.into_vec()),

@@ -50,7 +50,8 @@ pub(crate) fn read_packet<L: Line>(
 ) -> Result<Option<usize>, LineFault>
     requires { length buffer.old ≡ MAX_BODY }
     ensures within { IfOk result (λ found. IfSome found (λ n. n ≤ length buffer.new)) }
-    ensures read { IfOk result (λ found. IfSome found (λ n. Consumes (L.incoming line.old) (L.incoming line.new) (packet (take n buffer.new)))) }
+    ensures read { IfOk result (λ found. IfSome found
+        (λ n. Consumes (L.incoming line.old) (L.incoming line.new) (packet (take n buffer.new)))) }
     ensures none { IfOk result (λ found. IfNone found (HasNoPacket (L.incoming line.old))) }
     ensures outgoing { L.outgoing line.new ≡ L.outgoing line.old }
     ensures failures { L.failed line.old ≤ L.failed line.new }

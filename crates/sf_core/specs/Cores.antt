@@ -60,4 +60,14 @@ abbrev pub most_sessions : ℕ
 most_sessions = 256
 
 abbrev pub new_core : Option ℕ → StoreState → CoreView
-new_core keep store = record { records = []; keep = keep; folded = 0; drawn = 0; joins = 0; sessions = []; calls = []; look_ups = 0; store = store }
+new_core keep store = record {
+  records = [];
+  keep = keep;
+  folded = 0;
+  drawn = 0;
+  joins = 0;
+  sessions = [];
+  calls = [];
+  look_ups = 0;
+  store = store;
+}

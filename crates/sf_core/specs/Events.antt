@@ -121,17 +121,22 @@ unfoldable pub AreRecordsOf : List (ℕ × Call) → List ℕ → List Record �
 AreRecordsOf calls [] [] = Unit {0}
 AreRecordsOf calls [] (r ∷ rs) = ⊥
 AreRecordsOf calls (n ∷ ns) [] = ⊥
-AreRecordsOf calls (n ∷ ns) (r ∷ rs) = ((c : Call) × (given : Reply) × (call_at calls n ≡ Some c) × (reply_of c ≡ None) × (r ≡ did c given)) × AreRecordsOf calls ns rs
+AreRecordsOf calls (n ∷ ns) (r ∷ rs) = ((c : Call) × (given : Reply) × (call_at calls n ≡ Some c)
+    × (reply_of c ≡ None) × (r ≡ did c given)) × AreRecordsOf calls ns rs
 
 -- Who is helped by a decision: where its case is the move, each other undecided call that has passed the old path, in the order
 -- of their numbers; else nobody.
-pub record HelpsInOrder (v : CoreView) (h : List Record) (c : Call) (helped : List Record) : Type 0 where
-  pub records : AreRecordsOf v.calls (overtaken v.calls c.number (moved_by (answer_to (replay h) c.session c.number c.moment c.request).changes)) helped
+pub record HelpsInOrder (v : CoreView) (h : List Record) (c : Call)
+    (helped : List Record) : Type 0 where
+  pub records : AreRecordsOf v.calls (overtaken v.calls c.number
+      (moved_by (answer_to (replay h) c.session c.number c.moment c.request).changes)) helped
   pub rising : IsStrictlySortedBy nat_cmp (filter_map number_at helped)
 
 -- the record is of another session's undecided call
 abbrev pub IsOfOther : CoreView → ℕ → Record → Type 0
-IsOfOther v session (Did number s moment request given) = (c : Call) × (s ≢ session) × (slot_of v s ≡ Busy c) × (reply_of c ≡ None) × (Did number s moment request given ≡ did c given)
+IsOfOther v session (Did number s moment request given) = (c : Call) × (s ≢ session)
+    × (slot_of v s ≡ Busy c) × (reply_of c ≡ None)
+    × (Did number s moment request given ≡ did c given)
 IsOfOther v session (Left s) = ⊥
 
 -- The call is decided: its record is the last of those added. Want of memory is told in place of a reply of the tree, after the
@@ -148,7 +153,8 @@ pub record Decides (b : Before) (a : After) (c : Call) (given : Reply) : Type 0 
   pub records : a.added ≡ helped ++ did c given ∷ []
   pub keep : a.core.keep ≡ b.core.keep
   pub slot : slot_of a.core b.lane.session ≡ Idle
-  pub others : (s : ℕ) → s ≢ b.lane.session → (slot_of a.core s ≡ slot_of b.core s) ⊎ IsHelped b.core a.core s helped
+  pub others : (s : ℕ) → s ≢ b.lane.session → (slot_of a.core s ≡ slot_of b.core s)
+      ⊎ IsHelped b.core a.core s helped
   pub joined : joined a.core ≡ joined b.core
   pub drawn : a.core.drawn ≡ b.core.drawn
   pub joins : a.core.joins ≡ b.core.joins
@@ -169,14 +175,22 @@ pub record Answers (b : Before) (given : Answer) (a : After) : Type 0 where
 -- what a step does to a core and to the lane, and the records that it adds
 abbrev pub Steps : Before → Step → After → Type 0
 Steps b Moved a = ((c : Call) × (d : Call) × Goes b.core a.core b.lane c d) × AddsNothing b a
-Steps b (Blocked holder) a = ((c : Call) × IsBlocked b.core a.core b.lane c holder) × AddsNothing b a
-Steps b (Answered given) a = ((c : Call) × (Fetches b a c given.reply ⊎ Decides b a c given.reply)) × Answers b given a
-Steps b Stranger a = ((c : Call) → OwnCall b.core b.lane c → ⊥) × (a.core ≡ b.core) × AddsNothing b a
+Steps b (Blocked holder) a =
+    ((c : Call) × IsBlocked b.core a.core b.lane c holder) × AddsNothing b a
+Steps b (Answered given) a =
+    ((c : Call) × (Fetches b a c given.reply ⊎ Decides b a c given.reply)) × Answers b given a
+Steps b Stranger a =
+    ((c : Call) → OwnCall b.core b.lane c → ⊥) × (a.core ≡ b.core) × AddsNothing b a
 
 -- a step, whatever the history was: it adds records to it so
 abbrev pub StepsOn : CoreView → LaneView → Step → CoreView → LaneView → Type 0
-StepsOn v lane s w lane' = (h : List Record) → IsHistory v h → (added : List Record) × IsHistory w (h ++ added)
-    × Steps (record { core = v; history = h; lane = lane }) s (record { core = w; added = added; lane = lane' })
+StepsOn v lane s w lane' =
+    (h : List Record) → IsHistory v h → (added : List Record) × IsHistory w (h ++ added)
+    × Steps (record { core = v; history = h; lane = lane }) s (record {
+      core = w;
+      added = added;
+      lane = lane';
+    })
 
 -- so many steps, one after the other, each of which moved
 unfoldable pub Moves : ℕ → CoreView → LaneView → CoreView → Type 0
@@ -184,7 +198,8 @@ Moves zero v lane w = w ≡ v
 Moves (suc n) v lane w = (mid : CoreView) × Moves n v lane mid × StepsOn mid lane Moved w lane
 
 -- Walking on, by so many steps at most: all moved but the last, and this one too only where no more were to be made.
-pub record Walks (v : CoreView) (lane : LaneView) (most : ℕ) (s : Step) (w : CoreView) (lane' : LaneView) : Type 0 where
+pub record Walks (v : CoreView) (lane : LaneView) (most : ℕ) (s : Step) (w : CoreView)
+    (lane' : LaneView) : Type 0 where
   pub moves : ℕ
   pub mid : CoreView
   pub few : moves < most
@@ -216,7 +231,8 @@ pub record Begins (v w : CoreView) (lane : LaneView) (request : Request) (moment
   pub idle : slot_of v lane.session ≡ Idle
   pub unspent : v.drawn < last_number
   pub own : slot_of w lane.session ≡ Busy (new_call (v.drawn + 1) lane.session moment request)
-  pub fresh : (reply_of (new_call (v.drawn + 1) lane.session moment request) ≡ None) × (left_of (new_call (v.drawn + 1) lane.session moment request) ≡ bound_of request)
+  pub fresh : (reply_of (new_call (v.drawn + 1) lane.session moment request) ≡ None)
+      × (left_of (new_call (v.drawn + 1) lane.session moment request) ≡ bound_of request)
   pub others : (s : ℕ) → s ≢ lane.session → slot_of w s ≡ slot_of v s
   pub joined : joined w ≡ joined v
   pub drawn : w.drawn ≡ v.drawn + 1
@@ -226,7 +242,8 @@ pub record Begins (v w : CoreView) (lane : LaneView) (request : Request) (moment
 
 -- the lane with the call of a number
 abbrev pub begun : LaneView → ℕ → LaneView
-begun lane number = record { session = lane.session; call = Some number; begun = min (lane.begun + 1) (2 ^ 64 - 1) }
+begun lane number =
+    record { session = lane.session; call = Some number; begun = min (lane.begun + 1) (2 ^ 64 - 1) }
 
 abbrev pub RefusesBegin : CoreView → LaneView → CoreFault → Type 0
 RefusesBegin v lane fault.OutOfMemory = (slot_of v lane.session ≡ Idle) × (v.drawn < last_number)

@@ -20,8 +20,11 @@ pub record IsHistory (v : CoreView) (h : List Record) : Type 0 where
   pub folded : v.folded ≡ count_by is_deed (gone_of v.keep h)
   pub tree : Keeps v.store (replay h)
   pub counted : v.drawn ≡ count_by is_deed h + undecided_in v.calls
-  pub undecided : (number : ℕ) (c : Call) → call_at v.calls number ≡ Some c → reply_of c ≡ None → IsNewNumber number h
-  pub decided : (number : ℕ) (c : Call) (given : Reply) → call_at v.calls number ≡ Some c → reply_of c ≡ Some given → IsAmong (did c given) h
+  pub undecided : (number : ℕ) (c : Call) → call_at v.calls number ≡ Some c → reply_of c ≡ None
+      → IsNewNumber number h
+  pub decided : (number : ℕ) (c : Call) (given : Reply) → call_at v.calls number ≡ Some c
+      → reply_of c ≡ Some given → IsAmong (did c given) h
   pub later : (number : ℕ) → v.drawn < number → IsNewNumber number h
-  pub sessions : (session : ℕ) (number : Option ℕ) → session_at v.sessions session ≡ Some number → IsPresent session h
+  pub sessions : (session : ℕ) (number : Option ℕ) → session_at v.sessions session ≡ Some number
+      → IsPresent session h
   pub newcomers : (session : ℕ) → v.joins < session → IsPresent session h

@@ -42,7 +42,8 @@ abbrev pub depth_at : Option Path → Stage → ℕ
 depth_at path stage.Fresh = 0
 depth_at path (stage.At walked node) = walked + 1
 depth_at None (stage.Ends common old new) = 0
-depth_at (Some path) (stage.Ends common old new) = if nat_le (length path) (old.walked + 1) then new.walked + 1 else old.walked + 1
+depth_at (Some path) (stage.Ends common old new) =
+    if nat_le (length path) (old.walked + 1) then new.walked + 1 else old.walked + 1
 
 abbrev pub depth_of : Call → ℕ
 depth_of c = depth_at (path_of c.request) c.stage
@@ -51,16 +52,20 @@ depth_of c = depth_at (path_of c.request) c.stage
 -- both ends, and then one of them goes on.
 abbrev pub WalksOn : Stage → Stage → Type 0
 WalksOn stage.Fresh (stage.At walked node) = walked ≡ 0
-WalksOn stage.Fresh (stage.Ends common old new) = (common.walked ≡ 0) × (old ≡ common) × (new ≡ common)
+WalksOn stage.Fresh (stage.Ends common old new) =
+    (common.walked ≡ 0) × (old ≡ common) × (new ≡ common)
 WalksOn (stage.At walked node) (stage.At more child) = more ≡ walked + 1
-WalksOn (stage.At walked node) (stage.Ends common old new) = (common.walked ≡ walked + 1) × (old ≡ common) × (new ≡ common)
+WalksOn (stage.At walked node) (stage.Ends common old new) =
+    (common.walked ≡ walked + 1) × (old ≡ common) × (new ≡ common)
 WalksOn (stage.Ends common old new) (stage.Ends same older newer) =
-    (same ≡ common) × (((older.walked ≡ old.walked + 1) × (newer ≡ new)) ⊎ ((older ≡ old) × (newer.walked ≡ new.walked + 1)))
+    (same ≡ common) × (((older.walked ≡ old.walked + 1) × (newer ≡ new))
+    ⊎ ((older ≡ old) × (newer.walked ≡ new.walked + 1)))
 WalksOn at before = ⊥
 
 -- all names but the last are walked, or all up to the one that is missing or no directory
 abbrev pub EndsWalk : Tree → Path → ℕ → Type 0
-EndsWalk tree path walked = (walked + 1 ≡ length path) ⊎ ((walked + 1 < length path) × (is_directory tree (take (walked + 1) path) ≡ false))
+EndsWalk tree path walked = (walked + 1 ≡ length path)
+    ⊎ ((walked + 1 < length path) × (is_directory tree (take (walked + 1) path) ≡ false))
 
 -- Where a call may decide: at once, if it walks no path or the root's; else where its walk ends. A
 -- rename whose paths part does so where the old path's walk ends before its parent, the other end
@@ -70,12 +75,15 @@ MayDecideBy tree None other at = at ≡ stage.Fresh
 MayDecideBy tree (Some path) None stage.Fresh = path ≡ []
 MayDecideBy tree (Some path) (Some other) stage.Fresh = ⊥
 MayDecideBy tree (Some path) None (stage.At walked node) = EndsWalk tree path walked
-MayDecideBy tree (Some path) (Some other) (stage.At walked node) = (walked + 1 < length path) × (is_directory tree (take (walked + 1) path) ≡ false)
+MayDecideBy tree (Some path) (Some other) (stage.At walked node) =
+    (walked + 1 < length path) × (is_directory tree (take (walked + 1) path) ≡ false)
 MayDecideBy tree (Some path) None (stage.Ends common old new) = ⊥
 MayDecideBy tree (Some path) (Some other) (stage.Ends common old new) =
     PartAt path other common.walked
-    × (((old.walked + 1 < length path) × (new.walked ≡ common.walked) × (is_directory tree (take (old.walked + 1) path) ≡ false))
-    ⊎ ((old.walked + 1 ≡ length path) × (common.walked ≤ new.walked) × EndsWalk tree other new.walked))
+    × (((old.walked + 1 < length path) × (new.walked ≡ common.walked)
+    × (is_directory tree (take (old.walked + 1) path) ≡ false))
+    ⊎ ((old.walked + 1 ≡ length path) × (common.walked ≤ new.walked)
+    × EndsWalk tree other new.walked))
 
 abbrev pub MayDecide : Tree → Request → Stage → Type 0
 MayDecide tree request at = MayDecideBy tree (path_of request) (other_of request) at
@@ -116,7 +124,8 @@ is_past (Some path) walked old = nat_le (length old) walked && is_some (after_fr
 abbrev pub has_passed_by : Option Path → Option Path → Stage → Path → Bool
 has_passed_by path other stage.Fresh front = false
 has_passed_by path other (stage.At walked node) front = is_past path walked front
-has_passed_by path other (stage.Ends common old new) front = is_past path old.walked front || is_past other new.walked front
+has_passed_by path other (stage.Ends common old new) front =
+    is_past path old.walked front || is_past other new.walked front
 
 abbrev pub has_passed : Call → Path → Bool
 has_passed c front = has_passed_by (path_of c.request) (other_of c.request) c.stage front
@@ -130,7 +139,8 @@ old_at (OnPaths old new) = Some old
 -- the numbers of the undecided calls, but for one, that have passed a path
 abbrev pub overtaken : List (ℕ × Call) → ℕ → Option Path → List ℕ
 overtaken calls number None = []
-overtaken calls number (Some old) = map (λ e. e.0) (filter (λ e. not (nat_eq e.0 number) && is_none (reply_of e.1) && has_passed e.1 old) calls)
+overtaken calls number (Some old) = map (λ e. e.0) (filter (λ e. not (nat_eq e.0 number)
+    && is_none (reply_of e.1) && has_passed e.1 old) calls)
 
 -- how many calls have no record
 abbrev pub undecided_in : List (ℕ × Call) → ℕ

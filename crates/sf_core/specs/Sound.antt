@@ -25,7 +25,10 @@ use Rattle.sf_core.specs.Parts.{PartsView}
 
 -- where paths lead in a store
 abbrev pub terrain : StoreState → Terrain
-terrain s = record { leads = λ path. walk (entry_of s.nodes) s.root path; is_directory = is_directory_at s.nodes }
+terrain s = record {
+  leads = λ path. walk (entry_of s.nodes) s.root path;
+  is_directory = is_directory_at s.nodes;
+}
 
 -- so many names of a path lead to the node
 abbrev pub spot_on : Option Path → ℕ → ℕ → Spot
@@ -37,7 +40,8 @@ abbrev pub standing_at : Option Path → Option Path → Stage → Standing
 standing_at path other stage.Fresh = Fresh
 standing_at path other (stage.At walked node) = At (spot_on path walked node)
 standing_at path other (stage.Ends common old new) =
-    Ends (spot_on path common.walked common.node) (spot_on path old.walked old.node) (spot_on other new.walked new.node)
+    Ends (spot_on path common.walked common.node) (spot_on path old.walked old.node)
+    (spot_on other new.walked new.node)
 
 abbrev pub standing_of : Call → Standing
 standing_of c = standing_at (path_of c.request) (other_of c.request) c.stage
@@ -50,17 +54,21 @@ pub record CallSound (p : PartsView) (h : List Record) (number : ℕ) (c : Call)
   pub above : 0 < number
   pub most : number ≤ p.drawn
   pub new_number : reply_of c ≡ None → IsNewNumber number h
-  pub copied : (path : Path) → path_of c.request ≡ Some path → reply_of c ≡ None → c.copy ≡ Some c.request
-  pub recorded : (given : Reply) → reply_of c ≡ Some given → (c.stage ≡ stage.Fresh) × IsAmong (did c given) h
+  pub copied : (path : Path) → path_of c.request ≡ Some path → reply_of c ≡ None
+      → c.copy ≡ Some c.request
+  pub recorded : (given : Reply) → reply_of c ≡ Some given
+      → (c.stage ≡ stage.Fresh) × IsAmong (did c given) h
   pub is_call : IsCall number c.session c.moment c.request
   pub session : session_at p.sessions c.session ≡ Some (Some number)
   pub short : IsShort (path_of c.request) (other_of c.request) c.stage
 
-pub record SessionSound (p : PartsView) (h : List Record) (session : ℕ) (number : Option ℕ) : Type 0 where
+pub record SessionSound (p : PartsView) (h : List Record) (session : ℕ)
+    (number : Option ℕ) : Type 0 where
   pub above : 0 < session
   pub most : session ≤ p.joins
   pub present : IsPresent session h
-  pub busy : (n : ℕ) → number ≡ Some n → (c : Call) × (call_at p.calls n ≡ Some c) × (c.session ≡ session)
+  pub busy : (n : ℕ) → number ≡ Some n → (c : Call) × (call_at p.calls n ≡ Some c)
+      × (c.session ≡ session)
 
 -- Where h is the whole history: it is legal and the store keeps its tree; what calls have walked leads to what they hold, and
 -- nothing else is held; each call is a session's, and each session's call is there; numbers to come are new, and so are sessions
@@ -71,7 +79,8 @@ pub record Sound (p : PartsView) (h : List Record) : Type 0 where
   pub keeps : Keeps p.store (replay h)
   pub walks : AreWalks (scene (terrain p.store) (standings p.calls) (holder_of p.store.nodes))
   pub calls : (number : ℕ) (c : Call) → call_at p.calls number ≡ Some c → CallSound p h number c
-  pub sessions : (session : ℕ) (number : Option ℕ) → session_at p.sessions session ≡ Some number → SessionSound p h session number
+  pub sessions : (session : ℕ) (number : Option ℕ) → session_at p.sessions session ≡ Some number
+      → SessionSound p h session number
   pub later : (number : ℕ) → p.drawn < number → IsNewNumber number h
   pub newcomers : (session : ℕ) → p.joins < session → IsPresent session h
   pub room : undecided_in p.calls + length p.sessions ≤ p.book.room

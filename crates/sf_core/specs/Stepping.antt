@@ -31,12 +31,15 @@ use Rattle.sf_core.specs.Parts.{PartsView}
 use Rattle.sf_core.specs.Sound.{IsCore}
 
 -- a session has this call, or none, if it is joined
-abbrev pub session_set_by : List (ℕ × Option ℕ) → ℕ → Option ℕ → Option (Option ℕ) → List (ℕ × Option ℕ)
+abbrev pub session_set_by : List (ℕ × Option ℕ) → ℕ → Option ℕ → Option (Option ℕ)
+    → List (ℕ × Option ℕ)
 session_set_by sessions session number None = sessions
-session_set_by sessions session number (Some before) = set_value (is_at (nat_cmp session)) sessions number
+session_set_by sessions session number (Some before) =
+    set_value (is_at (nat_cmp session)) sessions number
 
 abbrev pub session_set : List (ℕ × Option ℕ) → ℕ → Option ℕ → List (ℕ × Option ℕ)
-session_set sessions session number = session_set_by sessions session number (session_at sessions session)
+session_set sessions session number =
+    session_set_by sessions session number (session_at sessions session)
 
 -- a new store, and nothing else
 pub record IsNewParts (p : PartsView) : Type 0 where
@@ -75,7 +78,8 @@ pub record Begun (p q : PartsView) (session : ℕ) (request : Request) (moment :
   pub book : q.book ≡ record p.book { room = q.book.room }
   pub room : length p.calls + length p.sessions + 1 ≤ q.book.room
   pub sessions : q.sessions ≡ session_set p.sessions session (Some (p.drawn + 1))
-  pub calls : q.calls ≡ insert_entry nat_cmp p.calls (p.drawn + 1) (new_call (p.drawn + 1) session moment request)
+  pub calls : q.calls ≡ insert_entry nat_cmp p.calls (p.drawn + 1)
+      (new_call (p.drawn + 1) session moment request)
   pub drawn : q.drawn ≡ p.drawn + 1
   pub joins : q.joins ≡ p.joins
   pub is_call : IsCall (p.drawn + 1) session moment request
@@ -96,9 +100,12 @@ pub record Walked (p q : PartsView) (c : Call) (number : ℕ) (step : Walk) : Ty
 
 -- A session's call was to go on: it is none of the session's, or its reply waits, or it made a step.
 abbrev pub ComesTo : PartsView → PartsView → ℕ → ℕ → Outcome → Type 0
-ComesTo p q session number outcome.Foreign = (q ≡ p) × ((c : Call) → call_at p.calls number ≡ Some c → c.session ≡ session → ⊥)
-ComesTo p q session number outcome.Waits = (q ≡ p) × (c : Call) × (call_at p.calls number ≡ Some c) × (c.session ≡ session) × IsSome c.reply
-ComesTo p q session number (outcome.Walked step) = (c : Call) × (call_at p.calls number ≡ Some c) × (c.session ≡ session) × (c.reply ≡ None) × Walked p q c number step
+ComesTo p q session number outcome.Foreign =
+    (q ≡ p) × ((c : Call) → call_at p.calls number ≡ Some c → c.session ≡ session → ⊥)
+ComesTo p q session number outcome.Waits = (q ≡ p) × (c : Call) × (call_at p.calls number ≡ Some c)
+    × (c.session ≡ session) × IsSome c.reply
+ComesTo p q session number (outcome.Walked step) = (c : Call) × (call_at p.calls number ≡ Some c)
+    × (c.session ≡ session) × (c.reply ≡ None) × Walked p q c number step
 
 -- the stage after a step
 abbrev pub stage_after : Walk → Stage → Stage
@@ -107,7 +114,8 @@ stage_after (walk.Blocked holder) at = at
 stage_after (walk.Ready found) at = at
 
 -- a sound core on this store, where the call of the number is under way and has come to this stage
-pub record IsUnderWay (p : PartsView) (number : ℕ) (s : StoreState) (c : Call) (at : Stage) : Type 0 where
+pub record IsUnderWay (p : PartsView) (number : ℕ) (s : StoreState) (c : Call)
+    (at : Stage) : Type 0 where
   pub core : IsCore p
   pub store : p.store ≡ s
   pub call : call_at p.calls number ≡ Some (at_stage at c)
@@ -123,7 +131,8 @@ is_move (outcome.Walked (walk.Moved after)) = true
 is_move _ = false
 
 -- a step of a session's call
-pub record Stepped (p : PartsView) (session number : ℕ) (result : Outcome) (q : PartsView) : Type 0 where
+pub record Stepped (p : PartsView) (session number : ℕ) (result : Outcome)
+    (q : PartsView) : Type 0 where
   pub core : IsCore p
   pub fits : p.store.look_ups < 2 ^ 64
   pub comes : ComesTo p q session number result
@@ -131,10 +140,12 @@ pub record Stepped (p : PartsView) (session number : ℕ) (result : Outcome) (q 
 -- so many steps, one after the other, each of which moved
 unfoldable pub Moved : ℕ → PartsView → ℕ → ℕ → PartsView → Type 0
 Moved zero p session number q = q ≡ p
-Moved (suc n) p session number q = (mid : PartsView) × Moved n p session number mid × ((after : Stage) × Stepped mid session number (outcome.Walked (walk.Moved after)) q)
+Moved (suc n) p session number q = (mid : PartsView) × Moved n p session number mid
+    × ((after : Stage) × Stepped mid session number (outcome.Walked (walk.Moved after)) q)
 
 -- Walking on, by so many steps at most: all moved but the last, and this one too only where no more were to be made.
-pub record WalksOn (p : PartsView) (session number most : ℕ) (result : Outcome) (q : PartsView) : Type 0 where
+pub record WalksOn (p : PartsView) (session number most : ℕ) (result : Outcome)
+    (q : PartsView) : Type 0 where
   pub moves : ℕ
   pub mid : PartsView
   pub few : moves < most
@@ -146,12 +157,15 @@ pub record WalksOn (p : PartsView) (session number most : ℕ) (result : Outcome
 abbrev pub freed : Stage → StoreState → StoreState
 freed stage.Fresh s = s
 freed (stage.At walked node) s = edited (with_holder None) s node
-freed (stage.Ends common old new) s = edited (with_holder None) (edited (with_holder None) (edited (with_holder None) s common.node) old.node) new.node
+freed (stage.Ends common old new) s = edited (with_holder None)
+    (edited (with_holder None) (edited (with_holder None) s common.node) old.node) new.node
 
 -- a call was answered on the store
 pub record Serves (old new : StoreState) (c : Call) (given : Reply) : Type 0 where
-  pub served : (t : Tree) → Keeps old t → IsUnused t c.number → IsRefused old new t given ⊎ IsCarriedOut new t (answer_to t c.session c.number c.moment c.request) given
-  pub sure : (t : Tree) → Keeps old t → IsUnused t c.number → may_want_memory c.request (answer_to t c.session c.number c.moment c.request).reply ≡ false
+  pub served : (t : Tree) → Keeps old t → IsUnused t c.number → IsRefused old new t given
+      ⊎ IsCarriedOut new t (answer_to t c.session c.number c.moment c.request) given
+  pub sure : (t : Tree) → Keeps old t → IsUnused t c.number
+      → may_want_memory c.request (answer_to t c.session c.number c.moment c.request).reply ≡ false
       → IsCarriedOut new t (answer_to t c.session c.number c.moment c.request) given
   pub nodes : NodesStay c.number old new
 
@@ -170,7 +184,8 @@ pub record Finished (p q : PartsView) (c : Call) (number : ℕ) (given : Reply) 
 -- a call was set back: it holds nothing, and has walked nothing
 abbrev pub set_back_by : PartsView → ℕ → Option Call → PartsView
 set_back_by p number None = p
-set_back_by p number (Some c) = record p { store = freed c.stage p.store; calls = staged p.calls number stage.Fresh }
+set_back_by p number (Some c) =
+    record p { store = freed c.stage p.store; calls = staged p.calls number stage.Fresh }
 
 abbrev pub set_back : PartsView → ℕ → PartsView
 set_back p number = set_back_by p number (call_at p.calls number)
@@ -191,7 +206,8 @@ pub record Helped (p q : PartsView) (c : Call) (number : ℕ) (given : Reply) : 
 
 -- so was the call of a number, if its request is there twice
 abbrev pub Helps : PartsView → PartsView → ℕ → Type 0
-Helps p q number = (c : Call) → call_at p.calls number ≡ Some c → c.copy ≡ Some c.request → (given : Reply) × Helped p q c number given
+Helps p q number = (c : Call) → call_at p.calls number ≡ Some c → c.copy ≡ Some c.request
+    → (given : Reply) × Helped p q c number given
 
 -- so were the calls of all these numbers, one after the other
 abbrev pub HelpsAll : PartsView → List ℕ → PartsView → Type 0
@@ -201,7 +217,8 @@ HelpsAll p (number ∷ numbers) q = (mid : PartsView) × Helps p mid number × H
 -- before a call is decided: where its case is a move, the calls that it overtakes were set back, and then carried out
 abbrev pub Overtakes : PartsView → PartsView → Call → Type 0
 Overtakes p q c = (t : Tree) → Keeps p.store t → (numbers : List ℕ)
-    × (numbers ≡ overtaken p.calls c.number (moved_by (answer_to t c.session c.number c.moment c.request).changes))
+    × (numbers ≡ overtaken p.calls c.number
+    (moved_by (answer_to t c.session c.number c.moment c.request).changes))
     × HelpsAll (all_set_back p numbers) numbers q
 
 -- a reply that waited was fetched

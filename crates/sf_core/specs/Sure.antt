@@ -10,7 +10,8 @@ use Rattle.sf_walk.specs.Served.{may_want_memory}
 -- Want of memory is told in place of the tree's reply only where the call takes memory.
 abbrev pub IsSure : List Record → Record → Type 0
 IsSure before (Did number session moment request given) =
-    may_want_memory request (answer_to (replay before) session number moment request).reply ≡ false → given ≢ reply.NoMemory
+    may_want_memory request (answer_to (replay before) session number moment request).reply ≡ false
+    → given ≢ reply.NoMemory
 IsSure before (Left session) = Unit {0}
 
 -- so it is of each of the records, after those before it

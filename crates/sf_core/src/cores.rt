@@ -52,7 +52,8 @@ impl Model for Core {
 
     ghost view = { λ core. seen core.parts };
 
-    ghost invariant = { λ core. IsCore core.parts × (undecided_in core.parts.calls ≤ vec_capacity core.overtaken) };
+    ghost invariant = { λ core. IsCore core.parts
+        × (undecided_in core.parts.calls ≤ vec_capacity core.overtaken) };
 }
 
 impl Core {

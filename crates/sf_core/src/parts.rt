@@ -53,7 +53,14 @@ impl Model for Parts {
 
     ghost Value = { PartsView };
 
-    ghost view = { λ p. record { store = p.store; book = p.book; sessions = p.sessions; calls = p.calls; drawn = p.drawn; joins = p.joins } };
+    ghost view = { λ p. record {
+      store = p.store;
+      book = p.book;
+      sessions = p.sessions;
+      calls = p.calls;
+      drawn = p.drawn;
+      joins = p.joins;
+    } };
 }
 
 impl Parts {
@@ -137,7 +144,8 @@ impl Parts {
     /// Makes room for one more record than calls and sessions may still bring.
     fn make_room(&mut self) -> Result<(), AllocError>
         ensures same { SameButRoom self.old self.new }
-        ensures room { OnOk result (length self.old.calls + length self.old.sessions + 1 ≤ self.new.book.room) }
+        ensures room { OnOk result (length self.old.calls + length self.old.sessions + 1
+            ≤ self.new.book.room) }
     {
         self.book
             .reserve(self.calls.len() + self.sessions.len() + 1)
@@ -345,10 +353,12 @@ impl Parts {
 /// Takes a call on from a stage, up to a step that doesn't move it, by so many steps at most: what came of
 /// the last one is told.
 fn go_on(store: &mut Store, call: &Call, stage: &mut Stage, most: u64) -> Walk
-    requires core { (p : PartsView) × (number : ℕ) × IsUnderWay p number store.old call.now stage.old }
+    requires core { (p : PartsView) × (number : ℕ)
+        × IsUnderWay p number store.old call.now stage.old }
     requires some { 0 < most }
     ensures { (p : PartsView) (number : ℕ) → IsUnderWay p number store.old call.now stage.old
-        → WalksOn p call.now.session number most (outcome.Walked result) (come_to p number store.new stage.new) }
+        → WalksOn p call.now.session number most (outcome.Walked result)
+        (come_to p number store.new stage.new) }
 {
     let mut walk = step(store, call, stage);
     for _ in 1..most {
@@ -363,7 +373,8 @@ fn go_on(store: &mut Store, call: &Call, stage: &mut Stage, most: u64) -> Walk
 /// Takes a call one step on from a stage.
 fn step(store: &mut Store, call: &Call, stage: &mut Stage) -> Walk
     requires root { is_directory_at store.old.nodes store.old.root ≡ true }
-    requires stands { Stands store.old (path_of call.now.request) (other_of call.now.request) stage.old }
+    requires stands { Stands store.old (path_of call.now.request)
+        (other_of call.now.request) stage.old }
     ensures advances { Advances store.old store.new (at_stage stage.old call.now) result }
     ensures stage { stage.new ≡ stage_after result stage.old }
     ensures fits { store.old.look_ups < 2 ^ 64 }
@@ -422,7 +433,8 @@ fn overtaken(calls: &Calls, number: u64, old: &Path, numbers: &mut Vec<u64>)
 #[tactic(auto, using(crate::proofs::Sounds::reply_is))]
 fn is_overtaken(call: &Call, other: u64, number: u64, old: &Path) -> bool
     ensures { result
-        ≡ (not (nat_eq other number) && is_none (reply_of call.now) && has_passed call.now old.now) }
+        ≡ (not (nat_eq other number) && is_none (reply_of call.now)
+        && has_passed call.now old.now) }
 {
     other != number && call.reply.is_none() && has_passed(call, old)
 }

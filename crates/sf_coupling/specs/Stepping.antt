@@ -28,7 +28,8 @@ pub record EndStep : Type 0 where
 -- else is held otherwise. (Two ends are one directory only at the common one.)
 pub record EndMoves (holder holder' : ℕ → Option ℕ) (n : ℕ) (to : EndStep) : Type 0 where
   pub held : (l : ℕ) → (l ≡ to.common) ⊎ ((l ≡ to.left) ⊎ (l ≡ to.other)) → holder l ≡ Some n
-  pub nothing_else : (l : ℕ) → holder l ≡ Some n → (l ≡ to.common) ⊎ ((l ≡ to.left) ⊎ (l ≡ to.other))
+  pub nothing_else : (l : ℕ) → holder l ≡ Some n → (l ≡ to.common)
+      ⊎ ((l ≡ to.left) ⊎ (l ≡ to.other))
   pub is_free : IsFree holder n to.next
   pub split : to.left ≡ to.other → to.left ≡ to.common
   pub here : holder' to.next ≡ Some n

@@ -62,19 +62,25 @@ pub record Scene : Type 0 where
   pub holder : ℕ → Option ℕ
 
 abbrev pub scene : Terrain → (ℕ → Option Standing) → (ℕ → Option ℕ) → Scene
-scene terrain standing_of holder = record { terrain = terrain; standing_of = standing_of; holder = holder }
+scene terrain standing_of holder =
+    record { terrain = terrain; standing_of = standing_of; holder = holder }
 
 -- Walks are coupled: what a call has walked leads to what it holds, nothing else is held, and no other call holds a directory
 -- between a rename's common directory and its ends.
 pub record AreWalks (s : Scene) : Type 0 where
   pub shaped : (n : ℕ) (g : Standing) → s.standing_of n ≡ Some g → IsShaped g
-  pub leads : (n : ℕ) (g : Standing) (at : Spot) → s.standing_of n ≡ Some g → Holds g at → LeadsTo s.terrain at
-  pub held : (n : ℕ) (g : Standing) (at : Spot) → s.standing_of n ≡ Some g → Holds g at → s.holder at.node ≡ Some n
-  pub holds : (l n : ℕ) → s.holder l ≡ Some n → (g : Standing) × (at : Spot) × (s.standing_of n ≡ Some g) × Holds g at × (at.node ≡ l)
-  pub apart : (n m : ℕ) (g h : Standing) (at : Spot) → n ≢ m → s.standing_of n ≡ Some g → s.standing_of m ≡ Some h → Holds h at → Between g at.path → ⊥
+  pub leads : (n : ℕ) (g : Standing) (at : Spot) → s.standing_of n ≡ Some g → Holds g at
+      → LeadsTo s.terrain at
+  pub held : (n : ℕ) (g : Standing) (at : Spot) → s.standing_of n ≡ Some g → Holds g at
+      → s.holder at.node ≡ Some n
+  pub holds : (l n : ℕ) → s.holder l ≡ Some n → (g : Standing) × (at : Spot)
+      × (s.standing_of n ≡ Some g) × Holds g at × (at.node ≡ l)
+  pub apart : (n m : ℕ) (g h : Standing) (at : Spot) → n ≢ m → s.standing_of n ≡ Some g
+      → s.standing_of m ≡ Some h → Holds h at → Between g at.path → ⊥
 
 -- the call n holds what its new stage says, and other calls hold what they held
-pub record HoldsInstead (holder holder' : ℕ → Option ℕ) (n : ℕ) (now : Option Standing) : Type 0 where
+pub record HoldsInstead (holder holder' : ℕ
+    → Option ℕ) (n : ℕ) (now : Option Standing) : Type 0 where
   pub own : (s : Spot) → HoldsIn now s → holder' s.node ≡ Some n
   pub only : (l : ℕ) → holder' l ≡ Some n → (s : Spot) × HoldsIn now s × (s.node ≡ l)
   pub others : (l m : ℕ) → n ≢ m → holder l ≡ Some m → holder' l ≡ Some m
@@ -87,7 +93,10 @@ pub record GoesOn (old new : Scene) (n : ℕ) (now : Option Standing) : Type 0 w
   pub same : (m : ℕ) → n ≢ m → new.standing_of m ≡ old.standing_of m
   pub holders : HoldsInstead old.holder new.holder n now
   pub shaped : IsShapedIn now
-  pub spared : (m : ℕ) (h : Standing) (s : Spot) → n ≢ m → old.standing_of m ≡ Some h → Holds h s → LeadsTo old.terrain s → LeadsTo new.terrain s
+  pub spared : (m : ℕ) (h : Standing) (s : Spot) → n ≢ m → old.standing_of m ≡ Some h → Holds h s
+      → LeadsTo old.terrain s → LeadsTo new.terrain s
   pub leads : (s : Spot) → HoldsIn now s → LeadsTo new.terrain s
-  pub apart : (m : ℕ) (h : Standing) (s : Spot) → n ≢ m → old.standing_of m ≡ Some h → Holds h s → BetweenIn now s.path → ⊥
-  pub aside : (m : ℕ) (h : Standing) (s : Spot) → n ≢ m → old.standing_of m ≡ Some h → HoldsIn now s → Between h s.path → ⊥
+  pub apart : (m : ℕ) (h : Standing) (s : Spot) → n ≢ m → old.standing_of m ≡ Some h → Holds h s
+      → BetweenIn now s.path → ⊥
+  pub aside : (m : ℕ) (h : Standing) (s : Spot) → n ≢ m → old.standing_of m ≡ Some h → HoldsIn now s
+      → Between h s.path → ⊥

@@ -11,7 +11,8 @@ unfoldable pub use Rattle.sf_core.specs.Sure.{AreSure}
 
 -- the names that so many moves walked lead to no directory, and are fewer than the path's
 abbrev pub StopsEarly : Tree → Path → ℕ → Type 0
-StopsEarly tree path moves = (0 < moves) × (moves < length path) × (is_directory tree (take moves path) ≡ false)
+StopsEarly tree path moves =
+    (0 < moves) × (moves < length path) × (is_directory tree (take moves path) ≡ false)
 
 -- After how many moves a call stops. The first takes the root, each further one walks a name: a
 -- call without a path stops at once; one on a path where all its names but the last are walked, or
@@ -23,9 +24,11 @@ Stops tree None other moves = moves ≡ 0
 Stops tree (Some path) None moves = (moves ≡ length path) ⊎ StopsEarly tree path moves
 Stops tree (Some path) (Some other) moves =
     StopsEarly tree path moves
-    ⊎ ((count : ℕ) × PartAt path other count × ((walked : ℕ) × (count ≤ walked) × (moves + count ≡ length path + walked) × EndsWalk tree other walked))
+    ⊎ ((count : ℕ) × PartAt path other count × ((walked : ℕ) × (count ≤ walked)
+    × (moves + count ≡ length path + walked) × EndsWalk tree other walked))
 
 -- so does the call of a record
 abbrev pub HasStopped : Tree → ℕ → Record → Type 0
-HasStopped tree moves (Did number session moment request given) = Stops tree (path_of request) (other_of request) moves
+HasStopped tree moves (Did number session moment request given) =
+    Stops tree (path_of request) (other_of request) moves
 HasStopped tree moves (Left session) = ⊥

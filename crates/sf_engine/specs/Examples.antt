@@ -39,7 +39,8 @@ abbrev pub found : Record
 found = Did 2 2 101 stat (reply.Attrs (all_attrs 0 0 0 0o40755 100 100))
 
 abbrev pub turn : ℕ → ℕ → Happened → List Record → Entry
-turn session moment result added = record { event = event.Turn session moment; result = Ok result; added = added }
+turn session moment result added =
+    record { event = event.Turn session moment; result = Ok result; added = added }
 
 -- what happens, where these are the streams of both sessions
 abbrev pub example : Vec ℕ Global → Vec ℕ Global → List Entry
@@ -63,11 +64,13 @@ example first second =
 
 -- VERSION, with its one extension
 abbrev pub version_packet : List ℕ
-version_packet = (0 ∷ 0 ∷ 0 ∷ 38 ∷ 2 ∷ 0 ∷ 0 ∷ 0 ∷ 3 ∷ 0 ∷ 0 ∷ 0 ∷ 24 ∷ codes "posix-rename@openssh.com") ++ (0 ∷ 0 ∷ 0 ∷ 1 ∷ 49 ∷ [])
+version_packet = (0 ∷ 0 ∷ 0 ∷ 38 ∷ 2 ∷ 0 ∷ 0 ∷ 0 ∷ 3 ∷ 0 ∷ 0 ∷ 0 ∷ 24
+    ∷ codes "posix-rename@openssh.com") ++ (0 ∷ 0 ∷ 0 ∷ 1 ∷ 49 ∷ [])
 
 -- STATUS of the id 7: OK
 abbrev pub ok_packet : List ℕ
-ok_packet = (0 ∷ 0 ∷ 0 ∷ 24 ∷ 101 ∷ 0 ∷ 0 ∷ 0 ∷ 7 ∷ 0 ∷ 0 ∷ 0 ∷ 0 ∷ 0 ∷ 0 ∷ 0 ∷ 7 ∷ codes "Success") ++ (0 ∷ 0 ∷ 0 ∷ 0 ∷ [])
+ok_packet = (0 ∷ 0 ∷ 0 ∷ 24 ∷ 101 ∷ 0 ∷ 0 ∷ 0 ∷ 7 ∷ 0 ∷ 0 ∷ 0 ∷ 0 ∷ 0 ∷ 0 ∷ 0 ∷ 7 ∷ codes "Success")
+    ++ (0 ∷ 0 ∷ 0 ∷ 0 ∷ [])
 
 -- ATTRS of the id 8: no size, nobody's, a directory with 0755, made at 100
 abbrev pub attrs_packet : List ℕ

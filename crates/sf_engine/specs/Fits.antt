@@ -46,21 +46,24 @@ HasMoved (stage.At walked node) moves = moves ≡ walked + 1
 HasMoved (stage.Ends common old new) moves = moves + common.walked ≡ old.walked + new.walked + 1
 
 -- A session whose call is under way: the core has the call, and so many steps are left to it at most.
-pub record IsGoing (v : CoreView) (s : ℕ) (x : SessionView) (id number moment : ℕ) (request : Request) (moves : ℕ) (p : Place) : Type 0 where
+pub record IsGoing (v : CoreView) (s : ℕ) (x : SessionView) (id number moment : ℕ)
+    (request : Request) (moves : ℕ) (p : Place) : Type 0 where
   pub lane : LaneView
   pub call : Call
   pub session : lane.session ≡ s
   pub number_is : lane.call ≡ Some number
   pub place_is : p ≡ place.UnderWay lane
   pub slot : slot_of v s ≡ Busy call
-  pub own : (call.session ≡ s) × (call.number ≡ number) × (call.moment ≡ moment) × (call.request ≡ request)
+  pub own : (call.session ≡ s) × (call.number ≡ number) × (call.moment ≡ moment)
+      × (call.request ≡ request)
   pub few : moves + left_of call ≤ bound_of request
   pub walked : reply_of call ≡ None → HasMoved call.stage moves
   pub waiting : x.waiting ≡ Some id
   pub ended : x.ended ≡ None
 
 -- a session whose answer waits
-pub record IsAnswered (v : CoreView) (s : ℕ) (x : SessionView) (id : ℕ) (given : Reply) (p : Place) : Type 0 where
+pub record IsAnswered (v : CoreView) (s : ℕ) (x : SessionView) (id : ℕ) (given : Reply)
+    (p : Place) : Type 0 where
   pub lane : LaneView
   pub answer : Answer
   pub session : lane.session ≡ s
@@ -74,7 +77,8 @@ pub record IsAnswered (v : CoreView) (s : ℕ) (x : SessionView) (id : ℕ) (giv
 -- what an engine has for a session is as far as a trace tells
 abbrev pub PlaceAgrees : CoreView → ℕ → SessionView → Phase → Place → Type 0
 PlaceAgrees v s x Resting p = IsResting v s x p
-PlaceAgrees v s x (UnderWay id number moment request moves) p = IsGoing v s x id number moment request moves p
+PlaceAgrees v s x (UnderWay id number moment request moves) p =
+    IsGoing v s x id number moment request moves p
 PlaceAgrees v s x (Decided id number request reply) p = IsAnswered v s x id reply p
 PlaceAgrees v s x (left cause) p = (p ≡ place.Left cause) × (slot_of v s ≡ Gone) × (x.ended ≢ None)
 
@@ -92,7 +96,8 @@ pub record Agrees (w : World) (e : EngineView) : Type 0 where
   pub opened : e.core.joins ≡ length w.sessions
   pub here : joined e.core ≡ here w
   pub count : length e.seats ≡ length w.sessions
-  pub each : (i : ℕ) (t : Told) (p : Seat) → slice_get w.sessions i ≡ Some t → slice_get e.seats i ≡ Some p
+  pub each : (i : ℕ) (t : Told) (p : Seat) → slice_get w.sessions i ≡ Some t
+      → slice_get e.seats i ≡ Some p
       → SeatAgrees e.core (i + 1) t p
   pub nobody : (s : ℕ) → (s ≡ 0) ⊎ (length w.sessions < s) → slot_of e.core s ≡ Gone
 
@@ -113,7 +118,8 @@ IsEngine core seats = (w : World) × Agrees w (record { core = core; seats = sea
 
 -- from an engine that fits a trace to another, which added records
 abbrev pub passage : EngineView → List Record → List Record → EngineView → Passage
-passage old history added new = record { old = old.core; history = history; added = added; new = new.core }
+passage old history added new =
+    record { old = old.core; history = history; added = added; new = new.core }
 
 -- The engine fits each trace that it fitted, followed by the event's entry, which leads on from where the trace led. What the event did
 -- to the core is the step of the session's call, and so much work at most.
@@ -128,7 +134,8 @@ GoesOnTrace old event result new = (trace : List Entry) → (fits : Fits old tra
 -- Turns of a session at a moment: so many that go on, one after the other, and a last one that came to this. Refused, it changes nothing.
 unfoldable pub HasTurns : ℕ → EngineView → ℕ → ℕ → Result Happened EngineFault → EngineView → Type 0
 HasTurns zero e s m r e' = GoesOnTrace e (event.Turn s m) r e' × OnErr r (e' ≡ e)
-HasTurns (suc n) e s m r e' = (mid : EngineView) × (h : Happened) × GoesOnTrace e (event.Turn s m) (Ok h) mid × (goes_on h ≡ true) × HasTurns n mid s m r e'
+HasTurns (suc n) e s m r e' = (mid : EngineView) × (h : Happened)
+    × GoesOnTrace e (event.Turn s m) (Ok h) mid × (goes_on h ≡ true) × HasTurns n mid s m r e'
 
 -- The engine fits each trace that it fitted, followed by one entry for each event, so many of them refused.
 abbrev pub RunsTrace : EngineView → List Event → ℕ → EngineView → Type 0

@@ -28,7 +28,8 @@ use Rattle.sf_engine.specs.Traces.{goes_on, goes_on_at}
 
 -- whatever the history was, records are added to it so
 abbrev pub Gives : CoreView → CoreView → (List Record → List Record → Type 0) → Type 0
-Gives v w R = (h : List Record) → IsHistory v h → (added : List Record) × IsHistory w (h ++ added) × R h added
+Gives v w R =
+    (h : List Record) → IsHistory v h → (added : List Record) × IsHistory w (h ++ added) × R h added
 
 -- a core, and a session with its lane
 pub record Seated : Type 0 where
@@ -67,24 +68,34 @@ after w added lane = record { core = w; added = added; lane = lane }
 
 -- the step of a call under way
 abbrev pub GoesOn : Before → Happened → After → Place → Type 0
-GoesOn b happened.Moved a p = ((c : Call) × (d : Call) × Goes b.core a.core b.lane c d) × AddsNothing b a × (p ≡ place.UnderWay a.lane)
-GoesOn b (happened.Blocked holder) a p = ((c : Call) × IsBlocked b.core a.core b.lane c holder) × AddsNothing b a × (p ≡ place.UnderWay a.lane)
+GoesOn b happened.Moved a p = ((c : Call) × (d : Call) × Goes b.core a.core b.lane c d)
+    × AddsNothing b a × (p ≡ place.UnderWay a.lane)
+GoesOn b (happened.Blocked holder) a p = ((c : Call) × IsBlocked b.core a.core b.lane c holder)
+    × AddsNothing b a × (p ≡ place.UnderWay a.lane)
 GoesOn b happened.Decided a p =
-    (given : Answer) × ((c : Call) × (Fetches b a c given.reply ⊎ Decides b a c given.reply)) × Answers b given a × (p ≡ place.Answered a.lane given)
+    (given : Answer) × ((c : Call) × (Fetches b a c given.reply ⊎ Decides b a c given.reply))
+    × Answers b given a × (p ≡ place.Answered a.lane given)
 GoesOn b _ a p = ⊥
 
 -- a packet was answered with no call: by the session alone, or since the call could not begin
 abbrev pub WritesAtOnce : Seated → SessionView → Type 0
 WritesAtOnce b y = NextGives b.session next.Local y
-    ⊎ ((request : Request) × (mid : SessionView) × (fault : CoreFault) × NextGives b.session (next.Call request) mid × RefusesBegin b.core b.lane fault
-    × IfSome mid.waiting (λ id. y ≡ record mid { output = mid.output ++ packet (reply_body id (refusal_of fault)); waiting = None }))
+    ⊎ ((request : Request) × (mid : SessionView) × (fault : CoreFault)
+    × NextGives b.session (next.Call request) mid × RefusesBegin b.core b.lane fault
+    × IfSome mid.waiting (λ id. y ≡ record mid {
+      output = mid.output ++ packet (reply_body id (refusal_of fault));
+      waiting = None;
+    }))
 
 -- what stood at the front of a resting session's bytes
 abbrev pub Reads : Seated → ℕ → Happened → NewPart → Type 0
-Reads b m happened.Idle a = NextGives b.session next.More a.session × (a.core ≡ b.core) × (a.added ≡ []) × (a.place ≡ place.Resting b.lane)
-Reads b m happened.Wrote a = WritesAtOnce b a.session × (a.core ≡ b.core) × (a.added ≡ []) × (a.place ≡ place.Resting b.lane)
+Reads b m happened.Idle a = NextGives b.session next.More a.session × (a.core ≡ b.core)
+    × (a.added ≡ []) × (a.place ≡ place.Resting b.lane)
+Reads b m happened.Wrote a =
+    WritesAtOnce b a.session × (a.core ≡ b.core) × (a.added ≡ []) × (a.place ≡ place.Resting b.lane)
 Reads b m happened.Begun a =
-    (request : Request) × NextGives b.session (next.Call request) a.session × Begins b.core a.core b.lane request m
+    (request : Request) × NextGives b.session (next.Call request) a.session
+    × Begins b.core a.core b.lane request m
     × (a.added ≡ []) × (a.place ≡ place.UnderWay (begun b.lane a.core.drawn))
 Reads b m (happened.Ended cause) a =
     NextGives b.session (next.Ended cause) a.session × Leaves b.core a.core b.lane.session
@@ -93,22 +104,30 @@ Reads b m _ a = ⊥
 
 -- after a reply: the session rests, or leaves since it was closed
 abbrev pub Settles : Seated → Bool → NewPart → Type 0
-Settles b false a = (a.core ≡ b.core) × (a.added ≡ []) × (a.session ≡ b.session) × (a.place ≡ place.Resting b.lane)
+Settles b false a =
+    (a.core ≡ b.core) × (a.added ≡ []) × (a.session ≡ b.session) × (a.place ≡ place.Resting b.lane)
 Settles b true a =
     Leaves b.core a.core b.lane.session × (a.added ≡ Left b.lane.session ∷ [])
-    × (a.session ≡ record b.session { unread = []; ended = Some Closed }) × (a.place ≡ place.Left Closed)
+    × (a.session ≡ record b.session { unread = []; ended = Some Closed })
+    × (a.place ≡ place.Left Closed)
 
 -- the answer that waited was written
 abbrev pub Writes : Seated → Answer → Bool → NewPart → Type 0
 Writes b given closed a = (mid : SessionView)
-    × IfSome b.session.waiting (λ id. mid ≡ record b.session { output = b.session.output ++ packet (reply_body id given.reply); waiting = None })
+    × IfSome b.session.waiting (λ id. mid ≡ record b.session {
+      output = b.session.output ++ packet (reply_body id given.reply);
+      waiting = None;
+    })
     × Settles (record b { session = mid }) closed a
 
 -- what a session's place asks of the core and of the session
 abbrev pub IsPlaced : CoreView → SessionView → Place → Type 0
-IsPlaced v x (place.Resting lane) = (lane.call ≡ None) × (slot_of v lane.session ≡ Idle) × (x.waiting ≡ None)
-IsPlaced v x (place.UnderWay lane) = (h : List Record) × (c : Call) × IsHistory v h × OwnCall v lane c
-IsPlaced v x (place.Answered lane a) = (lane.call ≡ None) × (slot_of v lane.session ≡ Idle) × IsSome x.waiting
+IsPlaced v x (place.Resting lane) =
+    (lane.call ≡ None) × (slot_of v lane.session ≡ Idle) × (x.waiting ≡ None)
+IsPlaced v x (place.UnderWay lane) =
+    (h : List Record) × (c : Call) × IsHistory v h × OwnCall v lane c
+IsPlaced v x (place.Answered lane a) =
+    (lane.call ≡ None) × (slot_of v lane.session ≡ Idle) × IsSome x.waiting
 IsPlaced v x (place.Left cause) = Unit {0}
 
 -- whether a session's call goes on: it is under way, or its answer waits
@@ -145,10 +164,13 @@ IsLaneOf (place.Left cause) lane = ⊥
 abbrev pub PlaceGives : Part → Place → ℕ → Happened → NewPart → Type 0
 PlaceGives b (place.Resting lane) m r a = Reads (seated b.core b.session lane) m r a
 PlaceGives b (place.UnderWay lane) m r a =
-    ((lane' : LaneView) × GoesOn (before b.core b.history lane) r (after a.core a.added lane') a.place) × (a.session ≡ b.session)
-PlaceGives b (place.Answered lane given) m r a = (r ≡ happened.Wrote) × Writes (seated b.core b.session lane) given b.closed a
+    ((lane' : LaneView) × GoesOn (before b.core b.history lane) r
+    (after a.core a.added lane') a.place) × (a.session ≡ b.session)
+PlaceGives b (place.Answered lane given) m r a =
+    (r ≡ happened.Wrote) × Writes (seated b.core b.session lane) given b.closed a
 PlaceGives b (place.Left cause) m r a =
-    (r ≡ happened.Ended cause) × (a.core ≡ b.core) × (a.added ≡ []) × (a.session ≡ b.session) × (a.place ≡ place.Left cause)
+    (r ≡ happened.Ended cause) × (a.core ≡ b.core) × (a.added ≡ []) × (a.session ≡ b.session)
+    × (a.place ≡ place.Left cause)
 
 -- nothing changes but that it is told whether the session goes on to its answer first
 abbrev pub StaysAs : CoreView → SessionView → Place → NewPart → Type 0
@@ -157,8 +179,10 @@ StaysAs v x p a = (a.core ≡ v) × (a.added ≡ []) × (a.session ≡ x) × (a.
 -- what closing gives
 abbrev pub CloseGives : CoreView → SessionView → Place → NewPart → Bool → Type 0
 CloseGives v x (place.Resting lane) a goes_on = Settles (seated v x lane) true a × (goes_on ≡ false)
-CloseGives v x (place.UnderWay lane) a goes_on = StaysAs v x (place.UnderWay lane) a × (goes_on ≡ true)
-CloseGives v x (place.Answered lane given) a goes_on = StaysAs v x (place.Answered lane given) a × (goes_on ≡ true)
+CloseGives v x (place.UnderWay lane) a goes_on =
+    StaysAs v x (place.UnderWay lane) a × (goes_on ≡ true)
+CloseGives v x (place.Answered lane given) a goes_on =
+    StaysAs v x (place.Answered lane given) a × (goes_on ≡ true)
 CloseGives v x (place.Left cause) a goes_on = StaysAs v x (place.Left cause) a × (goes_on ≡ false)
 
 -- bytes were fed
@@ -184,10 +208,15 @@ SentFault p n fault.NotSent = length p.session.output < n
 SentFault p n _ = ⊥
 
 -- a session joined, and has the next seat
-pub record OpenGives (v : CoreView) (seats : List Seat) (r : Happened) (w : CoreView) (seats' : List Seat) : Type 0 where
+pub record OpenGives (v : CoreView) (seats : List Seat) (r : Happened) (w : CoreView)
+    (seats' : List Seat) : Type 0 where
   pub opened : r ≡ happened.Opened (v.joins + 1)
   pub core : Joins v w
-  pub added : seats' ≡ seats ++ record { session = new_session; place = place.Resting (record { session = v.joins + 1; call = None; begun = 0 }); closed = false } ∷ []
+  pub added : seats' ≡ seats ++ record {
+    session = new_session;
+    place = place.Resting (record { session = v.joins + 1; call = None; begun = 0 });
+    closed = false;
+  } ∷ []
 
 abbrev pub OpenFault : CoreView → EngineFault → Type 0
 OpenFault v fault.OutOfMemory = (joined v < most_sessions) × (v.joins < last_number)
@@ -220,16 +249,20 @@ pub record IsReady (a : Stand) : Type 0 where
 
 -- a turn of a session that was closed or not, at a moment
 abbrev pub TurnGives : Stand → Bool → ℕ → Happened → Stand → Type 0
-TurnGives a closed m r b = Gives a.core b.core (λ h added. PlaceGives (part a.core h a.session closed) a.place m r (new_part b.core added b.session b.place))
+TurnGives a closed m r b =
+    Gives a.core b.core (λ h added. PlaceGives (part a.core h a.session closed) a.place m r
+    (new_part b.core added b.session b.place))
 
 -- Turns, one after the other: so many after which the call goes on, and a last one that came to this. Refused, it changes nothing.
 unfoldable pub TurnsGive : ℕ → Stand → Bool → ℕ → Result Happened EngineFault → Stand → Type 0
 TurnsGive zero a closed m (Ok r) b = TurnGives a closed m r b
 TurnsGive zero a closed m (Err f) b = (b ≡ a) × (f ≡ fault.OutOfMemory) × MayRefuseTurn a.place
-TurnsGive (suc n) a closed m r b = (h : Happened) × (mid : Stand) × (goes_on h ≡ true) × TurnGives a closed m h mid × TurnsGive n mid closed m r b
+TurnsGive (suc n) a closed m r b = (h : Happened) × (mid : Stand) × (goes_on h ≡ true)
+    × TurnGives a closed m h mid × TurnsGive n mid closed m r b
 
 -- turns up to one after which the call doesn't go on, unless very many were made
-pub record GoesFar (a : Stand) (closed : Bool) (m : ℕ) (r : Result Happened EngineFault) (b : Stand) : Type 0 where
+pub record GoesFar (a : Stand) (closed : Bool) (m : ℕ) (r : Result Happened EngineFault)
+    (b : Stand) : Type 0 where
   pub turns : ℕ
   pub give : TurnsGive turns a closed m r b
   pub far : goes_on_at r ≡ true → 2 ^ 64 - 2 ≤ turns

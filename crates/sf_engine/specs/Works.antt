@@ -32,7 +32,8 @@ names_helped s added = names_of (filter (is_of_other s) added)
 -- By how much look-ups rise: by two at most for a turn's step, and by the names of the paths of
 -- other sessions' calls that it carried out. No other event makes any.
 abbrev pub IsWork : Event → Passage → Type 0
-IsWork (event.Turn s m) p = (p.old.look_ups ≤ p.new.look_ups) × (p.new.look_ups ≤ p.old.look_ups + (2 + names_helped s p.added))
+IsWork (event.Turn s m) p = (p.old.look_ups ≤ p.new.look_ups)
+    × (p.new.look_ups ≤ p.old.look_ups + (2 + names_helped s p.added))
 IsWork _ p = p.new.look_ups ≡ p.old.look_ups
 
 -- A step of a lane's call: it walks one name; or another call that looks further down holds what it wants; or its record was there; or
@@ -40,11 +41,16 @@ IsWork _ p = p.new.look_ups ≡ p.old.look_ups
 abbrev pub StepsTo : Before → Happened → After → Type 0
 StepsTo b happened.Moved a = (c : Call) × (d : Call) × Goes b.core a.core b.lane c d
 StepsTo b (happened.Blocked holder) a = (c : Call) × IsBlocked b.core a.core b.lane c holder
-StepsTo b happened.Decided a = (c : Call) × (given : Reply) × (Fetches b a c given ⊎ Decides b a c given)
+StepsTo b happened.Decided a =
+    (c : Call) × (given : Reply) × (Fetches b a c given ⊎ Decides b a c given)
 StepsTo b _ a = Unit {0}
 
 -- a turn's step is one of the session's lane
 abbrev pub IsStep : Event → Result Happened EngineFault → Passage → Type 0
 IsStep (event.Turn s m) (Ok r) p = (lane : LaneView) × (lane' : LaneView) × (lane.session ≡ s)
-    × StepsTo (record { core = p.old; history = p.history; lane = lane }) r (record { core = p.new; added = p.added; lane = lane' })
+    × StepsTo (record { core = p.old; history = p.history; lane = lane }) r (record {
+      core = p.new;
+      added = p.added;
+      lane = lane';
+    })
 IsStep _ _ p = Unit {0}

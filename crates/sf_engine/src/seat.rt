@@ -59,7 +59,8 @@ fn leave(core: &mut Core, lane: Lane)
     requires idle { lane.call ≡ None }
     requires slot { slot_of core.old lane.session ≡ Idle }
     ensures left { Leaves core.old core.new lane.session }
-    ensures history { (h : List Record) → IsHistory core.old h → IsHistory core.new (h ++ Left lane.session ∷ []) }
+    ensures history { (h : List Record) → IsHistory core.old h
+        → IsHistory core.new (h ++ Left lane.session ∷ []) }
 {
     match core.leave(lane) {
         Ok(_share) => {}
@@ -76,7 +77,8 @@ fn settle(core: &mut Core, session: &mut Session, lane: Lane, closed: bool) -> P
     requires slot { slot_of core.old lane.session ≡ Idle }
     requires waiting { session.old.waiting ≡ None }
     ensures { Gives core.old core.new (λ h added.
-        Settles (seated core.old session.old lane) closed (new_part core.new added session.new result)) }
+        Settles (seated core.old session.old lane) closed
+        (new_part core.new added session.new result)) }
 {
     if !closed {
         return Place::Resting(lane);
@@ -128,8 +130,10 @@ impl Place {
         requires resting { is_resting self.old ≡ true }
         requires placed { IsPlaced core.old session.old self.old }
         ensures ok { IfOk result (λ r. Gives core.old core.new (λ h added.
-            PlaceGives (part core.old h session.old false) self.old moment r (new_part core.new added session.new self.new))) }
-        ensures err { OnErr result ((self.new ≡ self.old) × (core.new ≡ core.old) × (session.new ≡ session.old)) }
+            PlaceGives (part core.old h session.old false) self.old moment r
+            (new_part core.new added session.new self.new))) }
+        ensures err { OnErr result ((self.new ≡ self.old) × (core.new ≡ core.old)
+            × (session.new ≡ session.old)) }
         ensures fault { IfErr result (λ fault. fault ≡ EngineFault.OutOfMemory) }
     {
         let Place::Resting(lane) = self else {
@@ -167,9 +171,12 @@ impl Place {
     ) -> Result<Happened, EngineFault>
         requires { IsPlaced core.old session.old self.old }
         ensures ok { IfOk result (λ r. Gives core.old core.new (λ h added.
-            PlaceGives (part core.old h session.old closed) self.old moment r (new_part core.new added session.new self.new))) }
-        ensures err { OnErr result ((self.new ≡ self.old) × (core.new ≡ core.old) × (session.new ≡ session.old)) }
-        ensures fault { IfErr result (λ fault. (fault ≡ EngineFault.OutOfMemory) × MayRefuseTurn self.old) }
+            PlaceGives (part core.old h session.old closed) self.old moment r
+            (new_part core.new added session.new self.new))) }
+        ensures err { OnErr result ((self.new ≡ self.old) × (core.new ≡ core.old)
+            × (session.new ≡ session.old)) }
+        ensures fault { IfErr result (λ fault. (fault ≡ EngineFault.OutOfMemory)
+            × MayRefuseTurn self.old) }
     {
         match self {
             Place::Resting(_) => self.read(core, session, moment),
@@ -203,7 +210,8 @@ impl Place {
         moment: u32,
     ) -> Result<Happened, EngineFault>
         requires { IsReady (stand core.old session.old self.old) }
-        ensures { GoesFar (stand core.old session.old self.old) closed moment result (stand core.new session.new self.new) }
+        ensures { GoesFar (stand core.old session.old self.old) closed moment result
+            (stand core.new session.new self.new) }
     {
         match self {
             Place::Resting(_) => self.read_on(core, session, closed, moment),
@@ -224,7 +232,8 @@ impl Place {
     ) -> Result<Happened, EngineFault>
         requires resting { is_resting self.old ≡ true }
         requires ready { IsReady (stand core.old session.old self.old) }
-        ensures { GoesFar (stand core.old session.old self.old) closed moment result (stand core.new session.new self.new) }
+        ensures { GoesFar (stand core.old session.old self.old) closed moment result
+            (stand core.new session.new self.new) }
     {
         match self.read(core, session, moment)? {
             Happened::Begun => self.walk_on(core, session, closed),
@@ -242,7 +251,9 @@ impl Place {
     ) -> Result<Happened, EngineFault>
         requires under_way { is_under_way self.old ≡ true }
         requires ready { IsReady (stand core.old session.old self.old) }
-        ensures { (moment : ℕ) → GoesFar (stand core.old session.old self.old) closed moment result (stand core.new session.new self.new) }
+        ensures { (moment : ℕ)
+            → GoesFar (stand core.old session.old self.old) closed moment result
+            (stand core.new session.new self.new) }
     {
         let Place::UnderWay(lane) = self else {
             unreachable!();
@@ -265,9 +276,11 @@ impl Place {
         answer: Answer,
     ) -> Result<Happened, EngineFault>
         requires under_way { is_under_way self.old ≡ true }
-        requires placed { (lane : LaneView) → IsLaneOf self.old lane → IsPlaced core.old session.old (Place.Answered lane answer) }
+        requires placed { (lane : LaneView) → IsLaneOf self.old lane
+            → IsPlaced core.old session.old (Place.Answered lane answer) }
         ensures { (lane : LaneView) → IsLaneOf self.old lane → (moment : ℕ)
-            → TurnsGive 0 (stand core.old session.old (Place.Answered lane answer)) closed moment result (stand core.new session.new self.new)
+            → TurnsGive 0 (stand core.old session.old (Place.Answered lane answer)) closed moment
+            result (stand core.new session.new self.new)
             × (goes_on_at result ≡ false) }
     {
         let lane = self.take_lane();
@@ -287,7 +300,8 @@ impl Place {
     fn close(self, core: &mut Core, session: &mut Session) -> (Place, bool)
         requires { IsPlaced core.old session.old self }
         ensures { Gives core.old core.new (λ h added.
-            CloseGives core.old session.old self (new_part core.new added session.new result.0) result.1) }
+            CloseGives core.old session.old self (new_part core.new added session.new result.0)
+            result.1) }
     {
         match self {
             Place::Resting(lane) => (settle(core, session, lane, true), false),
@@ -310,7 +324,8 @@ pub(crate) fn turn_seat(
         (new_part core.new added seat.new.session seat.new.place)
         × (seat.new.closed ≡ seat.old.closed))) }
     ensures err { OnErr result ((core.new ≡ core.old) × (seat.new ≡ seat.old)) }
-    ensures fault { IfErr result (λ fault. (fault ≡ EngineFault.OutOfMemory) × MayRefuseTurn seat.old.place) }
+    ensures fault { IfErr result (λ fault. (fault ≡ EngineFault.OutOfMemory)
+        × MayRefuseTurn seat.old.place) }
 {
     seat.place
         .turn(core, &mut seat.session, seat.closed, moment)
@@ -324,7 +339,8 @@ pub(crate) fn turns_seat(
     moment: u32,
 ) -> Result<Happened, EngineFault>
     requires { IsReady (stand core.old seat.old.session seat.old.place) }
-    ensures turns { GoesFar (stand core.old seat.old.session seat.old.place) seat.old.closed moment result
+    ensures turns { GoesFar (stand core.old seat.old.session seat.old.place) seat.old.closed moment
+        result
         (stand core.new seat.new.session seat.new.place) }
     ensures closed { seat.new.closed ≡ seat.old.closed }
 {
@@ -334,7 +350,8 @@ pub(crate) fn turns_seat(
 
 /// Whether a session rests, with no whole packet unread.
 pub(crate) fn wants_bytes(seat: &Seat) -> bool
-    ensures { IsTrue result ↔ (is_resting seat.now.place ≡ true) × IsCut seat.now.session.unread More }
+    ensures { IsTrue result ↔ (is_resting seat.now.place ≡ true)
+        × IsCut seat.now.session.unread More }
 {
     match seat.place {
         Place::Resting(_) => seat.session.is_drained(),
@@ -399,7 +416,8 @@ pub(crate) fn open_seat(
     seats: &mut Vec<Seat>,
 ) -> Result<Happened, EngineFault>
     ensures ok { IfOk result (λ r. OpenGives core.old seats.old.items r core.new seats.new.items) }
-    ensures history { OnOk result ((h : List Record) → IsHistory core.old h → IsHistory core.new h) }
+    ensures history { OnOk result ((h : List Record) → IsHistory core.old h
+        → IsHistory core.new h) }
     ensures err { OnErr result ((core.new ≡ core.old) × (seats.new.items ≡ seats.old.items)) }
     ensures fault { IfErr result (λ fault. OpenFault core.old fault) }
 {

@@ -23,5 +23,6 @@ bit_of flag false = 0
 
 abbrev pub bits_of : OpenFlags → ℕ
 bits_of flags =
-    bit_of 0x1 flags.read + bit_of 0x2 flags.write + bit_of 0x4 flags.append + bit_of 0x8 flags.create
+    bit_of 0x1 flags.read + bit_of 0x2 flags.write + bit_of 0x4 flags.append
+    + bit_of 0x8 flags.create
     + bit_of 0x10 flags.truncate + bit_of 0x20 flags.exclusive

@@ -20,7 +20,9 @@ Gives view None read = read ≡ None
 
 -- A field is a value and the bytes after it.
 unfoldable pub number_at : Width → List ℕ → Option (ℕ × List ℕ)
-number_at w bytes = if nat_lt (length bytes) (byte_len w) then None else Some (from_be_bytes w (take (byte_len w) bytes), drop (byte_len w) bytes)
+number_at w bytes =
+    if nat_lt (length bytes) (byte_len w) then None
+    else Some (from_be_bytes w (take (byte_len w) bytes), drop (byte_len w) bytes)
 
 unfoldable pub string_at : List ℕ → Option (List ℕ × List ℕ)
 string_at bytes = do
@@ -40,7 +42,8 @@ times_at bytes = do
   Some (record { atime = atime.0; mtime = mtime.0 }, mtime.1)
 
 -- a part that may be missing
-abbrev pub part_at : {A : Type 0} → Bool → (List ℕ → Option (A × List ℕ)) → List ℕ → Option (Option A × List ℕ)
+abbrev pub part_at : {A : Type 0} → Bool → (List ℕ → Option (A × List ℕ)) → List ℕ
+    → Option (Option A × List ℕ)
 part_at true read bytes = Some (None, bytes)
 part_at false read bytes = read bytes >>= λ x. Some (Some x.0, x.1)
 
@@ -68,7 +71,15 @@ attrs_at bytes = do
   permissions ← part_at (lacks flags.0 0x4) (number_at w32) owner.1
   times ← part_at (lacks flags.0 0x8) times_at permissions.1
   rest ← after_extended (lacks flags.0 0x80000000) times.1
-  Some (record { size = size.0; owner = owner.0; permissions = permissions.0; times = times.0 }, rest)
+  Some (
+    record {
+      size = size.0;
+      owner = owner.0;
+      permissions = permissions.0;
+      times = times.0;
+    },
+    rest,
+  )
 
 unfoldable pub flags_at : List ℕ → Option (OpenFlags × List ℕ)
 flags_at bytes = number_at w32 bytes >>= λ bits. Some (open_flags bits.0, bits.1)

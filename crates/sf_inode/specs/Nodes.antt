@@ -64,12 +64,20 @@ new_content file_type.File = content.File []
 
 -- a node with one name, which nothing holds and no handle opens
 abbrev pub new_node : NewNode → Node
-new_node made = record { label = made.label; metadata = made.metadata; content = new_content made.file_type; holder = None; names = 1; opens = 0 }
+new_node made = record {
+  label = made.label;
+  metadata = made.metadata;
+  content = new_content made.file_type;
+  holder = None;
+  names = 1;
+  opens = 0;
+}
 
 -- ---- changes of a directory's entries; a file stays
 -- a name leads to a node, whether it is there or not
 abbrev pub more_content : Name → ℕ → Content → Content
-more_content n id (content.Directory entries) = content.Directory (insert_entry name_cmp entries n id)
+more_content n id (content.Directory entries) =
+    content.Directory (insert_entry name_cmp entries n id)
 more_content n id (content.File contents) = content.File contents
 
 -- without a name

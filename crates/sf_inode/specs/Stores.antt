@@ -37,10 +37,18 @@ holder_of nodes id = option_and_then (λ node. node.holder) (node_in nodes id)
 
 -- a session's handle of a number
 abbrev pub handle_at : StoreState → ℕ → ℕ → Option OpenHandle
-handle_at s session number = option_and_then (λ handles. lookup (is_at (nat_cmp number)) handles) (lookup (is_at (nat_cmp session)) s.sessions)
+handle_at s session number = option_and_then (λ handles. lookup (is_at (nat_cmp number)) handles)
+    (lookup (is_at (nat_cmp session)) s.sessions)
 
 abbrev pub shown_handle : ℕ → OpenHandle → Handle
-shown_handle session h = record { session = session; label = h.label; read = h.marks.read; write = h.marks.write; append = h.marks.append; listed = h.listed }
+shown_handle session h = record {
+  session = session;
+  label = h.label;
+  read = h.marks.read;
+  write = h.marks.write;
+  append = h.marks.append;
+  listed = h.listed;
+}
 
 abbrev pub with_nodes : StoreState → List (Option Node) → StoreState
 with_nodes s nodes = record s { nodes = nodes }
@@ -65,7 +73,8 @@ entry_put s dir n id = edited (with_content (more_content n id)) s dir
 -- without a node that no name and no handle leads to
 abbrev pub released_if : StoreState → ℕ → Option Node → StoreState
 released_if s id None = s
-released_if s id (Some node) = if is_unused node then with_nodes s (slice_set s.nodes id None) else s
+released_if s id (Some node) =
+    if is_unused node then with_nodes s (slice_set s.nodes id None) else s
 
 abbrev pub released : StoreState → ℕ → StoreState
 released s id = released_if s id (node_in s.nodes id)
@@ -105,7 +114,8 @@ relinked_from s old new (Some id) (Some target) = forgotten (moved_entry s old n
 
 abbrev pub relinked : StoreState → ℕ → Name → ℕ → Name → StoreState
 relinked s old_dir old_name new_dir new_name =
-    relinked_from s (spot old_dir old_name) (spot new_dir new_name) (entry_of s.nodes old_dir old_name) (entry_of s.nodes new_dir new_name)
+    relinked_from s (spot old_dir old_name) (spot new_dir new_name)
+    (entry_of s.nodes old_dir old_name) (entry_of s.nodes new_dir new_name)
 
 -- a node's bytes, if it is a file
 abbrev pub bytes_of : List (Option Node) → ℕ → List ℕ
@@ -123,7 +133,8 @@ abbrev pub file_size : List (Option Node) → ℕ → Option ℕ
 file_size nodes id = if is_file_at nodes id then Some (length (bytes_of nodes id)) else None
 
 abbrev pub is_directory_at : List (Option Node) → ℕ → Bool
-is_directory_at nodes id = option_map_or (λ node. is_directory_content node.content) (node_in nodes id) false
+is_directory_at nodes id =
+    option_map_or (λ node. is_directory_content node.content) (node_in nodes id) false
 
 -- a file or an empty directory
 abbrev pub is_bare_at : List (Option Node) → ℕ → Bool
@@ -140,9 +151,13 @@ with_sessions s sessions = record s { sessions = sessions }
 abbrev pub handles_of : StoreState → ℕ → Option (List (ℕ × OpenHandle))
 handles_of s session = lookup (is_at (nat_cmp session)) s.sessions
 
-abbrev pub handles_put : StoreState → ℕ → ℕ → OpenHandle → Option (List (ℕ × OpenHandle)) → StoreState
-handles_put s session number h None = with_sessions s (insert_entry nat_cmp s.sessions session ((number, h) ∷ []))
-handles_put s session number h (Some handles) = with_sessions s (set_value (is_at (nat_cmp session)) s.sessions (insert_entry nat_cmp handles number h))
+abbrev pub handles_put : StoreState → ℕ → ℕ → OpenHandle → Option (List (ℕ × OpenHandle))
+    → StoreState
+handles_put s session number h None =
+    with_sessions s (insert_entry nat_cmp s.sessions session ((number, h) ∷ []))
+handles_put s session number h (Some handles) =
+    with_sessions s (set_value (is_at (nat_cmp session)) s.sessions
+    (insert_entry nat_cmp handles number h))
 
 -- with a session's handle of a number
 abbrev pub handle_put : StoreState → ℕ → ℕ → OpenHandle → StoreState
@@ -153,11 +168,14 @@ abbrev pub new_handle : ℕ → Marks → Node → OpenHandle
 new_handle id marks node = record { node = id; label = node.label; marks = marks; listed = None }
 
 abbrev pub opened_by : StoreState → ℕ → ℕ → OpenHandle → StoreState
-opened_by s session number h = edited (λ it. with_opened (min (it.opens + 1) (2 ^ 64 - 1)) it) (handle_put s session number h) h.node
+opened_by s session number h = edited (λ it. with_opened (min (it.opens + 1) (2 ^ 64 - 1)) it)
+    (handle_put s session number h) h.node
 
 -- a handle opens a node, if it is there
 abbrev pub opened : StoreState → ℕ → ℕ → ℕ → Marks → StoreState
-opened s session number id marks = option_map_or (λ node. opened_by s session number (new_handle id marks node)) (node_in s.nodes id) s
+opened s session number id marks =
+    option_map_or (λ node. opened_by s session number (new_handle id marks node))
+    (node_in s.nodes id) s
 
 -- with the last name that a listing gave
 abbrev pub with_last : Name → OpenHandle → OpenHandle
@@ -165,21 +183,26 @@ with_last name h = record h { listed = Some name }
 
 abbrev pub listed_by : ℕ → Name → List (ℕ × OpenHandle) → Option OpenHandle → List (ℕ × OpenHandle)
 listed_by number name handles None = handles
-listed_by number name handles (Some h) = set_value (is_at (nat_cmp number)) handles (with_last name h)
+listed_by number name handles (Some h) =
+    set_value (is_at (nat_cmp number)) handles (with_last name h)
 
 abbrev pub listed_of : ℕ → Name → List (ℕ × OpenHandle) → List (ℕ × OpenHandle)
-listed_of number name handles = listed_by number name handles (lookup (is_at (nat_cmp number)) handles)
+listed_of number name handles =
+    listed_by number name handles (lookup (is_at (nat_cmp number)) handles)
 
 abbrev pub listed_at : StoreState → ℕ → ℕ → Name → Option (List (ℕ × OpenHandle)) → StoreState
 listed_at s session number name None = s
-listed_at s session number name (Some handles) = with_sessions s (set_value (is_at (nat_cmp session)) s.sessions (listed_of number name handles))
+listed_at s session number name (Some handles) =
+    with_sessions s (set_value (is_at (nat_cmp session)) s.sessions (listed_of number name handles))
 
 abbrev pub handle_listed : StoreState → ℕ → ℕ → Name → StoreState
 handle_listed s session number name = listed_at s session number name (handles_of s session)
 
 abbrev pub handle_dropped : StoreState → ℕ → ℕ → Option (List (ℕ × OpenHandle)) → StoreState
 handle_dropped s session number None = s
-handle_dropped s session number (Some handles) = with_sessions s (set_value (is_at (nat_cmp session)) s.sessions (remove_entry (is_at (nat_cmp number)) handles))
+handle_dropped s session number (Some handles) =
+    with_sessions s (set_value (is_at (nat_cmp session)) s.sessions
+    (remove_entry (is_at (nat_cmp number)) handles))
 
 abbrev pub closed_by : StoreState → Option OpenHandle → StoreState
 closed_by s None = s
@@ -187,7 +210,8 @@ closed_by s (Some h) = let_go s h.node
 
 -- a handle is closed, and its node goes if nothing else names it
 abbrev pub closed : StoreState → ℕ → ℕ → StoreState
-closed s session number = closed_by (handle_dropped s session number (handles_of s session)) (handle_at s session number)
+closed s session number =
+    closed_by (handle_dropped s session number (handles_of s session)) (handle_at s session number)
 
 -- the nodes of handles are let go of
 abbrev pub each_let_go : StoreState → List (ℕ × OpenHandle) → StoreState
@@ -195,7 +219,8 @@ each_let_go s handles = fold (λ after e. let_go after e.1.node) s handles
 
 abbrev pub closed_each : StoreState → ℕ → Option (List (ℕ × OpenHandle)) → StoreState
 closed_each s session None = s
-closed_each s session (Some handles) = each_let_go (with_sessions s (remove_entry (is_at (nat_cmp session)) s.sessions)) handles
+closed_each s session (Some handles) =
+    each_let_go (with_sessions s (remove_entry (is_at (nat_cmp session)) s.sessions)) handles
 
 -- all handles of a session are closed
 abbrev pub closed_all : StoreState → ℕ → StoreState
@@ -203,7 +228,8 @@ closed_all s session = closed_each s session (handles_of s session)
 
 -- ---- new nodes
 -- a new node with its entry
-pub record Inserted (old new : StoreState) (dir : ℕ) (n : Name) (id : ℕ) (node : Node) : Type 0 where
+pub record Inserted (old new : StoreState) (dir : ℕ) (n : Name) (id : ℕ)
+    (node : Node) : Type 0 where
   pub fresh : node_in old.nodes id ≡ None
   pub at : node_in new.nodes id ≡ Some node
   pub others : (i : ℕ) → i ≢ id → node_in new.nodes i ≡ node_in (entry_put old dir n id).nodes i
@@ -213,7 +239,14 @@ pub record Inserted (old new : StoreState) (dir : ℕ) (n : Name) (id : ℕ) (no
 
 -- the root alone: label 0, permissions 0o755, and 0 for its owner and its times
 pub record IsFirst (s : StoreState) : Type 0 where
-  pub root : node_in s.nodes s.root ≡ Some (record { label = 0; metadata = made_at 0o755 0; content = content.Directory []; holder = None; names = 1; opens = 0 })
+  pub root : node_in s.nodes s.root ≡ Some (record {
+    label = 0;
+    metadata = made_at 0o755 0;
+    content = content.Directory [];
+    holder = None;
+    names = 1;
+    opens = 0;
+  })
   pub others : (i : ℕ) → i ≢ s.root → node_in s.nodes i ≡ None
   pub sessions : s.sessions ≡ []
   pub look_ups : s.look_ups ≡ 0

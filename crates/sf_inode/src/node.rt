@@ -175,7 +175,8 @@ impl Node {
     ) -> Result<(), AllocError>
         requires { offset + length bytes.now < 2 ^ 64 }
         ensures ok { OnOk result (self.new
-            ≡ with_content (with_bytes (written (bytes_in self.old.content) offset bytes.now)) self.old) }
+            ≡ with_content (with_bytes (written (bytes_in self.old.content) offset bytes.now))
+            self.old) }
         ensures err { OnErr result (self.new ≡ self.old) }
     {
         match &mut self.content {

@@ -42,7 +42,12 @@ impl Model for Store {
 
     ghost Value = { StoreState };
 
-    ghost view = { λ store. record { nodes = store.nodes.slots; root = store.root; sessions = store.sessions.entries; look_ups = store.look_ups } };
+    ghost view = { λ store. record {
+      nodes = store.nodes.slots;
+      root = store.root;
+      sessions = store.sessions.entries;
+      look_ups = store.look_ups;
+    } };
 }
 
 impl Store {
@@ -135,7 +140,8 @@ impl Store {
     /// The attributes of a node, as they are sent.
     pub fn attrs(&self, node: NodeId) -> Option<Attrs>
         ensures { result
-            ≡ option_map (λ it. attrs_of (object_in it.metadata it.content)) (node_in self.now.nodes node) }
+            ≡ option_map (λ it. attrs_of (object_in it.metadata it.content))
+            (node_in self.now.nodes node) }
     {
         match self.nodes.get(node) {
             Some(it) => Some(it.attrs()),

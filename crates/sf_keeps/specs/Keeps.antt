@@ -38,21 +38,30 @@ pub record IsUnlinked (s : StoreState) (id : ℕ) : Type 0 where
 pub record Keeps (s : StoreState) (t : Tree) : Type 0 where
   pub shows : Shows (view_of s) t
   pub entries : (id : ℕ) → T (is_sorted name_cmp (entries_at s.nodes id))
-  pub single : (x y id : ℕ) (n m : Name) → entry_of s.nodes x n ≡ Some id → entry_of s.nodes y m ≡ Some id → (x ≡ y) × (n ≡ m)
-  pub unlinked : (id : ℕ) (node : Node) → node_in s.nodes id ≡ Some node → node.names ≡ 0 → IsUnlinked s id
-  pub named : (id : ℕ) (node : Node) → node_in s.nodes id ≡ Some node → node.names ≡ 1 → (path : Path) × (walk (entry_of s.nodes) s.root path ≡ Some id)
+  pub single : (x y id : ℕ) (n m : Name) → entry_of s.nodes x n ≡ Some id
+      → entry_of s.nodes y m ≡ Some id → (x ≡ y) × (n ≡ m)
+  pub unlinked : (id : ℕ) (node : Node) → node_in s.nodes id ≡ Some node → node.names ≡ 0
+      → IsUnlinked s id
+  pub named : (id : ℕ) (node : Node) → node_in s.nodes id ≡ Some node → node.names ≡ 1
+      → (path : Path) × (walk (entry_of s.nodes) s.root path ≡ Some id)
   pub once : (id : ℕ) (node : Node) → node_in s.nodes id ≡ Some node → node.names ≤ 1
-  pub counted : (id : ℕ) (node : Node) → node_in s.nodes id ≡ Some node → node.opens ≡ times_open t node.label
-  pub led : (session number : ℕ) (h : OpenHandle) → handle_at s session number ≡ Some h → (node : Node) × ((node_in s.nodes h.node ≡ Some node) × (node.label ≡ h.label))
+  pub counted : (id : ℕ) (node : Node) → node_in s.nodes id ≡ Some node
+      → node.opens ≡ times_open t node.label
+  pub led : (session number : ℕ) (h : OpenHandle) → handle_at s session number ≡ Some h
+      → (node : Node) × ((node_in s.nodes h.node ≡ Some node) × (node.label ≡ h.label))
   pub sessions : T (is_sorted nat_cmp s.sessions)
-  pub handles : (session : ℕ) (handles : List (ℕ × OpenHandle)) → handles_of s session ≡ Some handles → T (is_sorted nat_cmp handles)
-  pub numbers : (number : ℕ) (h : Handle) → handle_of t.handles number ≡ Some h → (0 < number) × (number < 2 ^ 64)
+  pub handles : (session : ℕ) (handles : List (ℕ × OpenHandle))
+      → handles_of s session ≡ Some handles → T (is_sorted nat_cmp handles)
+  pub numbers : (number : ℕ) (h : Handle) → handle_of t.handles number ≡ Some h
+      → (0 < number) × (number < 2 ^ 64)
 
 -- a node that is there was there, with the same holder, label and content
 abbrev pub WasThere : Option Node → Node → Type 0
 WasThere None node = ⊥
-WasThere (Some was) node = (node.holder ≡ was.holder) × (node.label ≡ was.label) × (node.content ≡ was.content)
+WasThere (Some was) node =
+    (node.holder ≡ was.holder) × (node.label ≡ was.label) × (node.content ≡ was.content)
 
 -- no node is new or another one, but nodes may be gone
 pub record KeepsNodes (old new : StoreState) : Type 0 where
-  pub node : (id : ℕ) (node : Node) → node_in new.nodes id ≡ Some node → WasThere (node_in old.nodes id) node
+  pub node : (id : ℕ) (node : Node) → node_in new.nodes id ≡ Some node
+      → WasThere (node_in old.nodes id) node

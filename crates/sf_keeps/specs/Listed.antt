@@ -9,4 +9,5 @@ use Rattle.sf_inode.specs.Stores.{node_in}
 
 -- a name with what its node shows
 abbrev pub listed_entry : List (Option Node) → Name × ℕ → Option Entry
-listed_entry nodes e = option_map (λ node. listings.entry_of e.0 (object_in node.metadata node.content)) (node_in nodes e.1)
+listed_entry nodes e = option_map (λ node. listings.entry_of e.0
+    (object_in node.metadata node.content)) (node_in nodes e.1)

@@ -28,8 +28,10 @@ changed_shown shown c r i = if nat_eq c i then r else shown i
 -- Labels differ, entries lead from directories to nodes that are there, and one entry at most leads to a directory, none to
 -- the root. A file may have several entries.
 pub record IsSound (step : Steps) (shown : Shown) (root : ℕ) : Type 0 where
-  pub labels : (i j label : ℕ) (o u : Object) → shown i ≡ Some (label, o) → shown j ≡ Some (label, u) → i ≡ j
-  pub one : (x y c : ℕ) (n m : Name) → is_directory_by shown c ≡ true → step x n ≡ Some c → step y m ≡ Some c → (x ≡ y) × (n ≡ m)
+  pub labels : (i j label : ℕ) (o u : Object) → shown i ≡ Some (label, o)
+      → shown j ≡ Some (label, u) → i ≡ j
+  pub one : (x y c : ℕ) (n m : Name) → is_directory_by shown c ≡ true → step x n ≡ Some c
+      → step y m ≡ Some c → (x ≡ y) × (n ≡ m)
   pub top : (x : ℕ) (n : Name) → step x n ≡ Some root → ⊥
   pub owns : (x c : ℕ) (n : Name) → step x n ≡ Some c → is_directory_by shown x ≡ true
   pub to : (x c : ℕ) (n : Name) → step x n ≡ Some c → shown c ≡ None → ⊥
@@ -37,7 +39,8 @@ pub record IsSound (step : Steps) (shown : Shown) (root : ℕ) : Type 0 where
 
 -- each object is named or open
 abbrev pub AllUsed : Tree → Type 0
-AllUsed t = (label : ℕ) (o : Object) → object_of t.objects label ≡ Some o → is_used t.names t.handles label ≡ true
+AllUsed t = (label : ℕ) (o : Object) → object_of t.objects label ≡ Some o
+    → is_used t.names t.handles label ≡ true
 
 -- what of a store can be seen: where entries lead, what nodes are, and what is open
 pub record View : Type 0 where
@@ -48,9 +51,12 @@ pub record View : Type 0 where
 
 -- Each path has the label of the node that it leads to, the objects are those of the nodes, and the handles are the open ones.
 pub record ShowsBy (view : View) (t : Tree) : Type 0 where
-  pub names : (path : Path) → label_at t.names path ≡ option_and_then (label_by view.shown) (walk view.step view.root path)
-  pub objects : (id label : ℕ) (o : Object) → view.shown id ≡ Some (label, o) → object_of t.objects label ≡ Some o
-  pub found : (label : ℕ) (o : Object) → object_of t.objects label ≡ Some o → (id : ℕ) × (view.shown id ≡ Some (label, o))
+  pub names : (path : Path) → label_at t.names path
+      ≡ option_and_then (label_by view.shown) (walk view.step view.root path)
+  pub objects : (id label : ℕ) (o : Object) → view.shown id ≡ Some (label, o)
+      → object_of t.objects label ≡ Some o
+  pub found : (label : ℕ) (o : Object) → object_of t.objects label ≡ Some o
+      → (id : ℕ) × (view.shown id ≡ Some (label, o))
   pub handles : (session number : ℕ) → handle_in t session number ≡ view.opens session number
   pub sound : IsSound view.step view.shown view.root
 
@@ -62,13 +68,29 @@ pub record Shows (view : View) (t : Tree) : Type 0 where
 
 -- with another step, another node, or another handle
 abbrev pub with_step : View → ℕ → Name → Option ℕ → View
-with_step view d n r = record { step = changed_step view.step d n r; shown = view.shown; root = view.root; opens = view.opens }
+with_step view d n r = record {
+  step = changed_step view.step d n r;
+  shown = view.shown;
+  root = view.root;
+  opens = view.opens;
+}
 
 abbrev pub with_shown : View → ℕ → Option (ℕ × Object) → View
-with_shown view c r = record { step = view.step; shown = changed_shown view.shown c r; root = view.root; opens = view.opens }
+with_shown view c r = record {
+  step = view.step;
+  shown = changed_shown view.shown c r;
+  root = view.root;
+  opens = view.opens;
+}
 
 abbrev pub changed_opens : Opens → ℕ → ℕ → Option Handle → Opens
-changed_opens opens session number r a b = if nat_eq session a && nat_eq number b then r else opens a b
+changed_opens opens session number r a b =
+    if nat_eq session a && nat_eq number b then r else opens a b
 
 abbrev pub with_opens : View → ℕ → ℕ → Option Handle → View
-with_opens view session number r = record { step = view.step; shown = view.shown; root = view.root; opens = changed_opens view.opens session number r }
+with_opens view session number r = record {
+  step = view.step;
+  shown = view.shown;
+  root = view.root;
+  opens = changed_opens view.opens session number r;
+}

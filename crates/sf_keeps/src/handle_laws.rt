@@ -46,14 +46,21 @@ pub fn opened_handles()
     ensures { (s : StoreState) (t : Tree) (session number id : ℕ) (marks : Marks) (node : Node)
         → Keeps s t → 0 < number → number < 2 ^ 64 → handle_of t.handles number ≡ None
         → node_in s.nodes id ≡ Some node
-        → Keeps (opened s session number id marks) (changed t (change.OpenHandle number (shown_handle session (record { node = id; label = node.label; marks = marks; listed = None })))) }
+        → Keeps (opened s session number id marks)
+        (changed t (change.OpenHandle number (shown_handle session (record {
+          node = id;
+          label = node.label;
+          marks = marks;
+          listed = None;
+        })))) }
 {}
 
 /// A handle has the last name of a listing.
 pub fn listed_handles()
     ensures { (s : StoreState) (t : Tree) (session number : ℕ) (name : Name) (h : OpenHandle)
         → Keeps s t → handle_at s session number ≡ Some h
-        → Keeps (handle_listed s session number name) (changed t (change.SetHandle number (with_listed (shown_handle session h) (Some name)))) }
+        → Keeps (handle_listed s session number name) (changed t
+        (change.SetHandle number (with_listed (shown_handle session h) (Some name)))) }
 {}
 
 /// A handle is closed, or all of a session. What nothing names or opens any more is gone from the store as from the tree, and
@@ -78,11 +85,14 @@ pub fn listed_entries()
     ensures listing { (s : StoreState) (t : Tree) (dir : ℕ) (node : Node) (last : Option Name)
         → Keeps s t → node_in s.nodes dir ≡ Some node → is_directory_at s.nodes dir ≡ true
         → listing_of t last (path_of t.names node.label)
-        ≡ filter_map (listed_entry s.nodes) (take MAX_ENTRIES (entries_past last (entries_at s.nodes dir))) }
+        ≡ filter_map (listed_entry s.nodes) (take MAX_ENTRIES
+        (entries_past last (entries_at s.nodes dir))) }
     ensures nodes { (s : StoreState) (t : Tree) (dir : ℕ) (last : Option Name) → Keeps s t
         → All (λ e. (node : Node)
         × (node_in s.nodes e.1
         ≡ Some node)) (take MAX_ENTRIES (entries_past last (entries_at s.nodes dir))) }
     ensures names { (s : StoreState) (t : Tree) (dir : ℕ) (last : Option Name) → Keeps s t
-        → names_of (filter_map (listed_entry s.nodes) (take MAX_ENTRIES (entries_past last (entries_at s.nodes dir)))) ≡ map (λ e. e.0) (take MAX_ENTRIES (entries_past last (entries_at s.nodes dir))) }
+        → names_of (filter_map (listed_entry s.nodes)
+        (take MAX_ENTRIES (entries_past last (entries_at s.nodes dir))))
+        ≡ map (λ e. e.0) (take MAX_ENTRIES (entries_past last (entries_at s.nodes dir))) }
 {}

@@ -80,7 +80,8 @@ pub fn found_paths()
         → walk (entry_of s.nodes) s.root (p ++ n ∷ []) ≡ entry_of s.nodes dir n }
     ensures label { (s : StoreState) (t : Tree) (p : Path) → Keeps s t
         → label_at t.names p
-        ≡ option_map (λ node. node.label) (option_and_then (node_in s.nodes) (walk (entry_of s.nodes) s.root p)) }
+        ≡ option_map (λ node. node.label) (option_and_then (node_in s.nodes)
+        (walk (entry_of s.nodes) s.root p)) }
     ensures way { (s : StoreState) (t : Tree) (p : Path) (dir : ℕ) (n : Name) → Keeps s t
         → walk (entry_of s.nodes) s.root p ≡ Some dir → is_directory_at s.nodes dir ≡ true
         → is_faulty_way t (p ++ n ∷ []) ≡ false }
@@ -119,7 +120,8 @@ pub fn same_tree()
 pub fn changed_object()
     ensures metadata { (f : Metadata → Metadata) (s : StoreState) (t : Tree) (id : ℕ) (node : Node)
         → Keeps s t → node_in s.nodes id ≡ Some node
-        → Keeps (edited (with_metadata f) s id) (changed t (SetObject node.label (object_in (f node.metadata) node.content))) }
+        → Keeps (edited (with_metadata f) s id)
+        (changed t (SetObject node.label (object_in (f node.metadata) node.content))) }
     ensures bytes { (new : List ℕ) (s : StoreState) (t : Tree) (id : ℕ) (node : Node) → Keeps s t
         → node_in s.nodes id ≡ Some node → is_file_at s.nodes id ≡ true
         → Keeps (bytes_set s id new) (changed t (SetObject node.label (File node.metadata new))) }
@@ -131,7 +133,8 @@ pub fn changed_object()
         → Metadata) (s : StoreState) (t : Tree) (id label : ℕ) (m : Metadata) (bytes : List ℕ)
         → Keeps s t → shown_of s.nodes id ≡ Some (label, File m bytes)
         → Keeps (edited (with_metadata f) s id) (changed t (SetObject label (File (f m) bytes))) }
-    ensures contents { (new : List ℕ) (s : StoreState) (t : Tree) (id label : ℕ) (m : Metadata) (old : List ℕ) → Keeps s t → shown_of s.nodes id ≡ Some (label, File m old)
+    ensures contents { (new : List ℕ) (s : StoreState) (t : Tree) (id label : ℕ) (m : Metadata)
+        (old : List ℕ) → Keeps s t → shown_of s.nodes id ≡ Some (label, File m old)
         → Keeps (bytes_set s id new) (changed t (SetObject label (File m new))) }
     ensures again { (t : Tree) (label : ℕ) (o u : Object)
         → changed (changed t (SetObject label o)) (SetObject label u)
@@ -141,10 +144,12 @@ pub fn changed_object()
 /// A new node in a directory, under a name that it has not and with a label that is no object's, is a
 /// new path with its object.
 pub fn new_path()
-    ensures { (old new : StoreState) (t : Tree) (p : Path) (dir : ℕ) (n : Name) (id : ℕ) (made : NewNode) → Keeps old t → Inserted old new dir n id (new_node made)
+    ensures { (old new : StoreState) (t : Tree) (p : Path) (dir : ℕ) (n : Name) (id : ℕ)
+        (made : NewNode) → Keeps old t → Inserted old new dir n id (new_node made)
         → walk (entry_of old.nodes) old.root p ≡ Some dir → is_directory_at old.nodes dir ≡ true
         → entry_of old.nodes dir n ≡ None → object_of t.objects made.label ≡ None
-        → Keeps new (changed t (NewPath (p ++ n ∷ []) made.label (object_in made.metadata (new_content made.file_type)))) }
+        → Keeps new (changed t (NewPath (p ++ n ∷ []) made.label
+        (object_in made.metadata (new_content made.file_type)))) }
 {}
 
 /// A file or an empty directory taken out of its directory is a path less. Its object goes unless a
@@ -160,11 +165,15 @@ pub fn gone_path()
 /// below it: onto nothing, or in the place of a file or an empty directory, whose object goes unless a
 /// handle opens it.
 pub fn moved_path()
-    ensures to_nothing { (s : StoreState) (t : Tree) (p : Path) (dir : ℕ) (n : Name) (id : ℕ) (q : Path) (to : ℕ) (m : Name) → Keeps s t → walk (entry_of s.nodes) s.root p ≡ Some dir → entry_of s.nodes dir n ≡ Some id
+    ensures to_nothing { (s : StoreState) (t : Tree) (p : Path) (dir : ℕ) (n : Name) (id : ℕ)
+        (q : Path) (to : ℕ) (m : Name) → Keeps s t → walk (entry_of s.nodes) s.root p ≡ Some dir
+        → entry_of s.nodes dir n ≡ Some id
         → walk (entry_of s.nodes) s.root q ≡ Some to → is_directory_at s.nodes to ≡ true
         → after_front (p ++ n ∷ []) (q ++ m ∷ []) ≡ None → entry_of s.nodes to m ≡ None
         → Keeps (relinked s dir n to m) (changed t (Move (p ++ n ∷ []) (q ++ m ∷ []))) }
-    ensures in_place { (s : StoreState) (t : Tree) (p : Path) (dir : ℕ) (n : Name) (id : ℕ) (q : Path) (to : ℕ) (m : Name) (target : ℕ) → Keeps s t → walk (entry_of s.nodes) s.root p ≡ Some dir → entry_of s.nodes dir n ≡ Some id
+    ensures in_place { (s : StoreState) (t : Tree) (p : Path) (dir : ℕ) (n : Name) (id : ℕ)
+        (q : Path) (to : ℕ) (m : Name) (target : ℕ) → Keeps s t
+        → walk (entry_of s.nodes) s.root p ≡ Some dir → entry_of s.nodes dir n ≡ Some id
         → walk (entry_of s.nodes) s.root q ≡ Some to → is_directory_at s.nodes to ≡ true
         → after_front (p ++ n ∷ []) (q ++ m ∷ []) ≡ None → entry_of s.nodes to m ≡ Some target
         → is_bare_at s.nodes target ≡ true

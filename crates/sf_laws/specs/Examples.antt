@@ -52,7 +52,11 @@ with_directory = tree_with (Directory (metadata 0 0 0o755 100 100))
 
 -- the root alone, modified at the moment 300
 abbrev pub touched_root : Tree
-touched_root = record { names = ([], 0) ∷ []; objects = (0, Directory (metadata 0 0 0o755 0 300)) ∷ []; handles = [] }
+touched_root = record {
+  names = ([], 0) ∷ [];
+  objects = (0, Directory (metadata 0 0 0o755 0 300)) ∷ [];
+  handles = [];
+}
 
 -- the tree with a file `/a` of three bytes
 abbrev pub with_file : Tree
@@ -75,13 +79,15 @@ told tree attrs = record { reply = reply.Attrs attrs; tree = tree }
 -- a directory is made, another one not for want of memory and then not found, and the session leaves
 abbrev pub history : List Record
 history =
-    Did 7 1 100 (Mkdir (a ∷ []) no_attrs) (reply.Status Success) ∷ Did 9 1 200 (Mkdir (b ∷ []) no_attrs) reply.NoMemory
+    Did 7 1 100 (Mkdir (a ∷ []) no_attrs) (reply.Status Success)
+    ∷ Did 9 1 200 (Mkdir (b ∷ []) no_attrs) reply.NoMemory
     ∷ Did 8 1 300 (Stat (b ∷ [])) (reply.Status NoSuchFile) ∷ Left 1 ∷ []
 
 -- the replies to these requests of session 1, in turn, the first numbered so, at the moment 100
 abbrev pub replies_from : Tree → ℕ → List Request → List Reply
 replies_from tree number [] = []
-replies_from tree number (r ∷ rs) = let done = apply tree 1 number 100 r in done.reply ∷ replies_from done.tree (number + 1) rs
+replies_from tree number (r ∷ rs) =
+    let done = apply tree 1 number 100 r in done.reply ∷ replies_from done.tree (number + 1) rs
 
 -- the tree after them
 abbrev pub tree_after : Tree → ℕ → List Request → Tree
@@ -106,7 +112,14 @@ sized size = record { size = Some size; owner = None; permissions = None; times 
 
 -- READ, WRITE, APPEND, CREAT; neither TRUNC nor EXCL
 abbrev pub flags : Bool → Bool → Bool → Bool → OpenFlags
-flags read write append create = record { read = read; write = write; append = append; create = create; truncate = false; exclusive = false }
+flags read write append create = record {
+  read = read;
+  write = write;
+  append = append;
+  create = create;
+  truncate = false;
+  exclusive = false;
+}
 
 -- and TRUNC, or EXCL
 abbrev pub truncating : OpenFlags → OpenFlags
@@ -140,11 +153,13 @@ new_file name = Open (name ∷ []) (flags true true false true) no_attrs
 
 -- the directories `/a`, `/a/b` and `/b` and the open files `/f` and `/g`, made by calls 1 to 5
 abbrev pub of_five : Tree
-of_five = tree_after empty_tree 1 (Mkdir (a ∷ []) no_attrs ∷ Mkdir (a ∷ b ∷ []) no_attrs ∷ Mkdir (b ∷ []) no_attrs ∷ new_file f ∷ new_file g ∷ [])
+of_five = tree_after empty_tree 1 (Mkdir (a ∷ []) no_attrs ∷ Mkdir (a ∷ b ∷ []) no_attrs
+    ∷ Mkdir (b ∷ []) no_attrs ∷ new_file f ∷ new_file g ∷ [])
 
 -- the replies to the plain rename and to the posix one there, each alone
 abbrev pub renames : Path → Path → List Reply
-renames old new = (call of_five (Rename old new)).reply ∷ (call of_five (PosixRename old new)).reply ∷ []
+renames old new =
+    (call of_five (Rename old new)).reply ∷ (call of_five (PosixRename old new)).reply ∷ []
 
 -- a file's attributes as it was made and modified at the moment 100
 abbrev pub file_attrs : ℕ → Attrs
@@ -155,7 +170,8 @@ abbrev pub numbered : ℕ → Name
 numbered k = 110 ∷ (48 + k / 10) ∷ (48 + k % 10) ∷ []
 
 abbrev pub up_to_32 : List ℕ
-up_to_32 = 1 ∷ 2 ∷ 3 ∷ 4 ∷ 5 ∷ 6 ∷ 7 ∷ 8 ∷ 9 ∷ 10 ∷ 11 ∷ 12 ∷ 13 ∷ 14 ∷ 15 ∷ 16 ∷ 17 ∷ 18 ∷ 19 ∷ 20 ∷ 21 ∷ 22 ∷ 23 ∷ 24 ∷ 25 ∷ 26 ∷ 27 ∷ 28 ∷ 29 ∷ 30 ∷ 31 ∷ 32 ∷ []
+up_to_32 = 1 ∷ 2 ∷ 3 ∷ 4 ∷ 5 ∷ 6 ∷ 7 ∷ 8 ∷ 9 ∷ 10 ∷ 11 ∷ 12 ∷ 13 ∷ 14 ∷ 15 ∷ 16 ∷ 17 ∷ 18 ∷ 19 ∷ 20
+    ∷ 21 ∷ 22 ∷ 23 ∷ 24 ∷ 25 ∷ 26 ∷ 27 ∷ 28 ∷ 29 ∷ 30 ∷ 31 ∷ 32 ∷ []
 
 abbrev pub names_in : Reply → List Name
 names_in (reply.Status code) = []

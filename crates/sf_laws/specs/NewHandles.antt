@@ -6,7 +6,8 @@ use Rattle.sf_call.specs.Tree.{Tree, label_at}
 use Rattle.sf_call.specs.Handles.{handle_in}
 
 -- the session has a handle with this number, to what the path names, with these marks, and nothing is listed by it yet
-pub record IsJustOpened (tree : Tree) (session number : ℕ) (path : Path) (read write append : Bool) : Type 0 where
+pub record IsJustOpened (tree : Tree) (session number : ℕ) (path : Path)
+    (read write append : Bool) : Type 0 where
   pub handle : Handle
   pub is_open : handle_in tree session number ≡ Some handle
   pub of_session : handle.session ≡ session

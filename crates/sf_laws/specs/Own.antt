@@ -30,7 +30,8 @@ abbrev pub IsAt : Tree → Path → ℕ → Type 0
 IsAt tree path label = label_at tree.names path ≡ Some label
 
 abbrev pub IsOpened : Tree → ℕ → ℕ → ℕ → Type 0
-IsOpened tree session number label = (handle : Handle) × (handle_in tree session number ≡ Some handle) × (handle.label ≡ label)
+IsOpened tree session number label =
+    (handle : Handle) × (handle_in tree session number ≡ Some handle) × (handle.label ≡ label)
 
 -- the labels whose objects it sets: the path's, its parent's or both parents', or the handle's
 abbrev pub IsOwnObject : Tree → ℕ → Request → ℕ → Type 0
@@ -38,19 +39,24 @@ IsOwnObject tree session (SetStat path attrs) label = IsAt tree path label
 IsOwnObject tree session (Mkdir path attrs) label = IsAt tree (parent path) label
 IsOwnObject tree session (Rmdir path) label = IsAt tree (parent path) label
 IsOwnObject tree session (Remove path) label = IsAt tree (parent path) label
-IsOwnObject tree session (Open path flags attrs) label = IsAt tree path label ⊎ IsAt tree (parent path) label
+IsOwnObject tree session (Open path flags attrs) label =
+    IsAt tree path label ⊎ IsAt tree (parent path) label
 IsOwnObject tree session (FSetStat handle attrs) label = IsOpened tree session handle label
 IsOwnObject tree session (Write handle offset bytes) label = IsOpened tree session handle label
-IsOwnObject tree session (Rename old new) label = IsAt tree (parent old) label ⊎ IsAt tree (parent new) label
-IsOwnObject tree session (PosixRename old new) label = IsAt tree (parent old) label ⊎ IsAt tree (parent new) label
+IsOwnObject tree session (Rename old new) label =
+    IsAt tree (parent old) label ⊎ IsAt tree (parent new) label
+IsOwnObject tree session (PosixRename old new) label =
+    IsAt tree (parent old) label ⊎ IsAt tree (parent new) label
 IsOwnObject tree session request label = ⊥
 
 -- the handle that the call with this number opens, or one of the session that it closes or lists by
 abbrev pub IsOwnHandle : Tree → ℕ → ℕ → Request → ℕ → Type 0
 IsOwnHandle tree session number (OpenDir path) handle = handle ≡ number
 IsOwnHandle tree session number (Open path flags attrs) handle = handle ≡ number
-IsOwnHandle tree session number (Close asked) handle = (handle ≡ asked) × IsSome (handle_in tree session asked)
-IsOwnHandle tree session number (ReadDir asked) handle = (handle ≡ asked) × IsSome (handle_in tree session asked)
+IsOwnHandle tree session number (Close asked) handle =
+    (handle ≡ asked) × IsSome (handle_in tree session asked)
+IsOwnHandle tree session number (ReadDir asked) handle =
+    (handle ≡ asked) × IsSome (handle_in tree session asked)
 IsOwnHandle tree session number request handle = ⊥
 
 -- the object is there, and is one of these two

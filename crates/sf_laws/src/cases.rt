@@ -25,7 +25,10 @@ pub fn mkdir_cases()
     ensures made { apply empty_tree 1 7 100 (Mkdir (a ∷ []) no_attrs)
         ≡ record { reply = reply.Status Success; tree = with_directory } }
     ensures asked { apply empty_tree 1 7 100 (Mkdir (a ∷ []) (all_attrs 9 5 6 0o177777 1 2))
-        ≡ record { reply = reply.Status Success; tree = tree_with (Directory (metadata 5 6 0o7777 1 2)) } }
+        ≡ record {
+          reply = reply.Status Success;
+          tree = tree_with (Directory (metadata 5 6 0o7777 1 2));
+        } }
     ensures root { call with_directory (Mkdir [] no_attrs) ≡ refused with_directory Failure }
     ensures present { call with_directory (Mkdir (a ∷ []) no_attrs)
         ≡ refused with_directory Failure }
@@ -53,27 +56,43 @@ pub fn history_cases()
 
 /// Files by their handles, at the moment 100.
 pub fn file_cases()
-    ensures written { replies (new_file f ∷ Write 1 5 (codes "x") ∷ Read 1 0 261121 ∷ Read 1 6 1 ∷ FSetStat 1 (sized 7) ∷ FSetStat 1 (sized 6) ∷ FStat 1 ∷ Stat (f ∷ []) ∷ [])
-        ≡ reply.Handle 1 ∷ ok ∷ reply.Data (0 ∷ 0 ∷ 0 ∷ 0 ∷ 0 ∷ 120 ∷ []) ∷ reply.Status EndOfFile ∷ ok ∷ ok ∷ reply.Attrs (file_attrs 6) ∷ reply.Attrs (file_attrs 6) ∷ [] }
-    ensures listed { replies (new_file f ∷ Write 1 5 (codes "x") ∷ OpenDir [] ∷ ReadDir 3 ∷ ReadDir 3 ∷ [])
-        ≡ reply.Handle 1 ∷ ok ∷ reply.Handle 3 ∷ reply.Names (entry_of f (File (metadata 0 0 0o644 100 100) (0 ∷ 0 ∷ 0 ∷ 0 ∷ 0 ∷ 120 ∷ [])) ∷ []) ∷ reply.Status EndOfFile ∷ [] }
-    ensures past_limit { replies (new_file f ∷ Write 1 16777216 (codes "x") ∷ Write 1 18446744073709551615 (codes "x") ∷ SetStat (f ∷ []) (sized 16777217) ∷ SetStat (f ∷ []) (sized 18446744073709551615) ∷ FSetStat 1 (sized 18446744073709551615)
+    ensures written { replies (new_file f ∷ Write 1 5 (codes "x") ∷ Read 1 0 261121 ∷ Read 1 6 1
+        ∷ FSetStat 1 (sized 7) ∷ FSetStat 1 (sized 6) ∷ FStat 1 ∷ Stat (f ∷ []) ∷ [])
+        ≡ reply.Handle 1 ∷ ok ∷ reply.Data (0 ∷ 0 ∷ 0 ∷ 0 ∷ 0 ∷ 120 ∷ []) ∷ reply.Status EndOfFile
+        ∷ ok ∷ ok ∷ reply.Attrs (file_attrs 6) ∷ reply.Attrs (file_attrs 6) ∷ [] }
+    ensures listed { replies (new_file f ∷ Write 1 5 (codes "x") ∷ OpenDir [] ∷ ReadDir 3
+        ∷ ReadDir 3 ∷ [])
+        ≡ reply.Handle 1 ∷ ok ∷ reply.Handle 3 ∷ reply.Names
+        (entry_of f (File (metadata 0 0 0o644 100 100) (0 ∷ 0 ∷ 0 ∷ 0 ∷ 0 ∷ 120 ∷ [])) ∷ [])
+        ∷ reply.Status EndOfFile ∷ [] }
+    ensures past_limit { replies (new_file f ∷ Write 1 16777216 (codes "x")
+        ∷ Write 1 18446744073709551615 (codes "x") ∷ SetStat (f ∷ []) (sized 16777217)
+        ∷ SetStat (f ∷ []) (sized 18446744073709551615) ∷ FSetStat 1 (sized 18446744073709551615)
         ∷ Read 1 18446744073709551615 4294967295 ∷ Stat (f ∷ []) ∷ [])
-        ≡ reply.Handle 1 ∷ reply.Status Failure ∷ reply.Status Failure ∷ reply.Status Failure ∷ reply.Status Failure ∷ reply.Status Failure ∷ reply.Status EndOfFile ∷ reply.Attrs (file_attrs 0) ∷ [] }
-    ensures denied { replies (Open (f ∷ []) (flags true false false true) no_attrs ∷ Write 1 0 (codes "x") ∷ FSetStat 1 (sized 3) ∷ FStat 1 ∷ [])
-        ≡ reply.Handle 1 ∷ reply.Status PermissionDenied ∷ reply.Status PermissionDenied ∷ reply.Attrs (file_attrs 0) ∷ [] }
-    ensures unlinked { replies (new_file f ∷ Write 1 0 (codes "abc") ∷ Remove (f ∷ []) ∷ Read 1 0 10 ∷ Stat (f ∷ []) ∷ Close 1 ∷ Read 1 0 10 ∷ Close 1 ∷ [])
-        ≡ reply.Handle 1 ∷ ok ∷ ok ∷ reply.Data (codes "abc") ∷ reply.Status NoSuchFile ∷ ok ∷ reply.Status Failure ∷ reply.Status Failure ∷ [] }
-    ensures appended { replies (Open (f ∷ []) (flags true true true true) no_attrs ∷ Write 1 7 (codes "ab") ∷ Write 1 0 (codes "c") ∷ Read 1 0 10 ∷ [])
+        ≡ reply.Handle 1 ∷ reply.Status Failure ∷ reply.Status Failure ∷ reply.Status Failure
+        ∷ reply.Status Failure ∷ reply.Status Failure ∷ reply.Status EndOfFile
+        ∷ reply.Attrs (file_attrs 0) ∷ [] }
+    ensures denied { replies (Open (f ∷ []) (flags true false false true) no_attrs
+        ∷ Write 1 0 (codes "x") ∷ FSetStat 1 (sized 3) ∷ FStat 1 ∷ [])
+        ≡ reply.Handle 1 ∷ reply.Status PermissionDenied ∷ reply.Status PermissionDenied
+        ∷ reply.Attrs (file_attrs 0) ∷ [] }
+    ensures unlinked { replies (new_file f ∷ Write 1 0 (codes "abc") ∷ Remove (f ∷ []) ∷ Read 1 0 10
+        ∷ Stat (f ∷ []) ∷ Close 1 ∷ Read 1 0 10 ∷ Close 1 ∷ [])
+        ≡ reply.Handle 1 ∷ ok ∷ ok ∷ reply.Data (codes "abc") ∷ reply.Status NoSuchFile ∷ ok
+        ∷ reply.Status Failure ∷ reply.Status Failure ∷ [] }
+    ensures appended { replies (Open (f ∷ []) (flags true true true true) no_attrs
+        ∷ Write 1 7 (codes "ab") ∷ Write 1 0 (codes "c") ∷ Read 1 0 10 ∷ [])
         ≡ reply.Handle 1 ∷ ok ∷ ok ∷ reply.Data (codes "abc") ∷ [] }
-    ensures gap_of_zeros { replies (new_file f ∷ Write 1 0 (codes "abc") ∷ FSetStat 1 (sized 0) ∷ Write 1 3 (codes "x") ∷ Read 1 0 10 ∷ [])
+    ensures gap_of_zeros { replies (new_file f ∷ Write 1 0 (codes "abc") ∷ FSetStat 1 (sized 0)
+        ∷ Write 1 3 (codes "x") ∷ Read 1 0 10 ∷ [])
         ≡ reply.Handle 1 ∷ ok ∷ ok ∷ ok ∷ reply.Data (0 ∷ 0 ∷ 0 ∷ 120 ∷ []) ∷ [] }
 {}
 
 /// 33 files are listed while names go.
 pub fn listing_cases()
     ensures { map names_in (drop 33 (replies (map (λ k. new_file (numbered k)) (up_to_32 ++ 33 ∷ [])
-        ++ OpenDir [] ∷ ReadDir 34 ∷ Remove (numbered 1 ∷ []) ∷ ReadDir 34 ∷ Remove (numbered 33 ∷ []) ∷ ReadDir 34 ∷ [])))
+        ++ OpenDir [] ∷ ReadDir 34 ∷ Remove (numbered 1 ∷ []) ∷ ReadDir 34
+        ∷ Remove (numbered 33 ∷ []) ∷ ReadDir 34 ∷ [])))
         ≡ [] ∷ map numbered up_to_32 ∷ [] ∷ (numbered 33 ∷ []) ∷ [] ∷ [] ∷ [] }
 {}
 
@@ -85,10 +104,12 @@ pub fn rmdir_cases()
     ensures absent { call with_directory (Rmdir (b ∷ [])) ≡ refused with_directory NoSuchFile }
     ensures below_file { call with_file (Rmdir (a ∷ b ∷ [])) ≡ refused with_file NoSuchFile }
     ensures file { call with_file (Rmdir (a ∷ [])) ≡ refused with_file Failure }
-    ensures full { replies (Mkdir (a ∷ []) no_attrs ∷ Mkdir (a ∷ b ∷ []) no_attrs ∷ Rmdir (a ∷ []) ∷ Rmdir (a ∷ b ∷ []) ∷ Rmdir (a ∷ []) ∷ [])
+    ensures full { replies (Mkdir (a ∷ []) no_attrs ∷ Mkdir (a ∷ b ∷ []) no_attrs ∷ Rmdir (a ∷ [])
+        ∷ Rmdir (a ∷ b ∷ []) ∷ Rmdir (a ∷ []) ∷ [])
         ≡ ok ∷ ok ∷ reply.Status Failure ∷ ok ∷ ok ∷ [] }
     // A removed directory that is open lists nothing.
-    ensures open { replies (Mkdir (a ∷ []) no_attrs ∷ OpenDir (a ∷ []) ∷ Rmdir (a ∷ []) ∷ ReadDir 2 ∷ Close 2 ∷ [])
+    ensures open { replies (Mkdir (a ∷ []) no_attrs ∷ OpenDir (a ∷ []) ∷ Rmdir (a ∷ []) ∷ ReadDir 2
+        ∷ Close 2 ∷ [])
         ≡ ok ∷ reply.Handle 2 ∷ ok ∷ reply.Status EndOfFile ∷ ok ∷ [] }
 {}
 
@@ -96,30 +117,46 @@ pub fn rmdir_cases()
 pub fn open_cases()
     ensures absent { replies (Open (f ∷ []) (flags true true false false) no_attrs ∷ [])
         ≡ reply.Status NoSuchFile ∷ [] }
-    ensures directory { replies (Mkdir (a ∷ []) no_attrs ∷ Open (a ∷ []) (flags true false false true) no_attrs ∷ []) ≡ ok ∷ reply.Status Failure ∷ [] }
+    ensures directory { replies (Mkdir (a ∷ []) no_attrs ∷ Open (a ∷ [])
+        (flags true false false true) no_attrs ∷ []) ≡ ok ∷ reply.Status Failure ∷ [] }
     // EXCL counts with CREAT alone.
-    ensures exclusive { replies (map (λ marks. Open (f ∷ []) marks no_attrs) (exclusively (flags true true false true) ∷ exclusively (flags true true false true) ∷ exclusively (flags true true false false) ∷ flags true true false true ∷ []))
+    ensures exclusive { replies (map (λ marks. Open (f ∷ []) marks no_attrs)
+        (exclusively (flags true true false true) ∷ exclusively (flags true true false true)
+        ∷ exclusively (flags true true false false) ∷ flags true true false true ∷ []))
         ≡ reply.Handle 1 ∷ reply.Status Failure ∷ reply.Handle 3 ∷ reply.Handle 4 ∷ [] }
     // TRUNC counts with WRITE alone.
-    ensures truncated { replies (new_file f ∷ Write 1 0 (codes "abc") ∷ Open (f ∷ []) (truncating (flags true false false false)) no_attrs ∷ FStat 1 ∷ Open (f ∷ []) (truncating (flags false true false false)) no_attrs ∷ FStat 1 ∷ Read 1 0 10 ∷ [])
-        ≡ reply.Handle 1 ∷ ok ∷ reply.Handle 3 ∷ reply.Attrs (file_attrs 3) ∷ reply.Handle 5 ∷ reply.Attrs (file_attrs 0) ∷ reply.Status EndOfFile ∷ [] }
+    ensures truncated { replies (new_file f ∷ Write 1 0 (codes "abc")
+        ∷ Open (f ∷ []) (truncating (flags true false false false)) no_attrs ∷ FStat 1 ∷ Open
+        (f ∷ []) (truncating (flags false true false false)) no_attrs ∷ FStat 1 ∷ Read 1 0 10
+        ∷ [])
+        ≡ reply.Handle 1 ∷ ok ∷ reply.Handle 3 ∷ reply.Attrs (file_attrs 3) ∷ reply.Handle 5
+        ∷ reply.Attrs (file_attrs 0) ∷ reply.Status EndOfFile ∷ [] }
     // Attributes count for a new file alone, and its size is 0.
-    ensures attributes { replies (Open (f ∷ []) (flags true true false true) (all_attrs 9 5 6 0o177777 1 2) ∷ Open (f ∷ []) (flags true true false true) (all_attrs 4 7 8 0o600 3 4) ∷ FStat 1 ∷ [])
+    ensures attributes { replies (Open (f ∷ []) (flags true true false true)
+        (all_attrs 9 5 6 0o177777 1 2) ∷ Open (f ∷ []) (flags true true false true)
+        (all_attrs 4 7 8 0o600 3 4) ∷ FStat 1 ∷ [])
         ≡ reply.Handle 1 ∷ reply.Handle 2 ∷ reply.Attrs (all_attrs 0 5 6 0o107777 1 2) ∷ [] }
     // With neither READ nor WRITE a handle reads.
-    ensures no_marks { replies (new_file f ∷ Write 1 0 (codes "abc") ∷ Open (f ∷ []) (flags false false false false) no_attrs ∷ Read 3 0 10 ∷ Write 3 0 (codes "x") ∷ [])
-        ≡ reply.Handle 1 ∷ ok ∷ reply.Handle 3 ∷ reply.Data (codes "abc") ∷ reply.Status PermissionDenied ∷ [] }
+    ensures no_marks { replies (new_file f ∷ Write 1 0 (codes "abc") ∷ Open (f ∷ [])
+        (flags false false false false) no_attrs ∷ Read 3 0 10 ∷ Write 3 0 (codes "x") ∷ [])
+        ≡ reply.Handle 1 ∷ ok ∷ reply.Handle 3 ∷ reply.Data (codes "abc")
+        ∷ reply.Status PermissionDenied ∷ [] }
 {}
 
 /// Handles: whose they are, and how many.
 pub fn handle_cases()
     // Another session's handle is none.
-    ensures another { replies_of_another (tree_after empty_tree 1 (new_file f ∷ OpenDir [] ∷ [])) (FStat 1 ∷ FSetStat 1 no_attrs ∷ Read 1 0 10 ∷ Write 1 0 [] ∷ ReadDir 2 ∷ Close 1 ∷ Close 2 ∷ [])
+    ensures another { replies_of_another (tree_after empty_tree 1 (new_file f ∷ OpenDir [] ∷ []))
+        (FStat 1 ∷ FSetStat 1 no_attrs ∷ Read 1 0 10 ∷ Write 1 0 [] ∷ ReadDir 2 ∷ Close 1 ∷ Close 2
+        ∷ [])
         ≡ replicate 7 (reply.Status Failure) }
     // A session has 128 handles open; the next one is refused until one is closed, and another session has 128 of its own.
-    ensures most { drop 127 (replies (replicate 128 (OpenDir []) ++ OpenDir [] ∷ new_file f ∷ Close 1 ∷ OpenDir [] ∷ []))
-        ≡ reply.Handle 128 ∷ reply.Status Failure ∷ reply.Status Failure ∷ ok ∷ reply.Handle 132 ∷ [] }
-    ensures most_of_each { replies_of_another (tree_after empty_tree 1 (replicate 128 (OpenDir []))) (OpenDir [] ∷ []) ≡ reply.Handle 1000 ∷ [] }
+    ensures most { drop 127 (replies (replicate 128 (OpenDir [])
+        ++ OpenDir [] ∷ new_file f ∷ Close 1 ∷ OpenDir [] ∷ []))
+        ≡ reply.Handle 128 ∷ reply.Status Failure ∷ reply.Status Failure ∷ ok ∷ reply.Handle 132
+        ∷ [] }
+    ensures most_of_each { replies_of_another (tree_after empty_tree 1 (replicate 128 (OpenDir [])))
+        (OpenDir [] ∷ []) ≡ reply.Handle 1000 ∷ [] }
     // The root is not set, neither by its path nor by a handle.
     ensures root { replies (OpenDir [] ∷ FSetStat 1 no_attrs ∷ SetStat [] no_attrs ∷ [])
         ≡ reply.Handle 1 ∷ reply.Status Failure ∷ reply.Status Failure ∷ [] }
@@ -184,7 +221,8 @@ pub fn move_cases()
     ensures parents { (call of_five (Rename (a ∷ b ∷ []) (b ∷ a ∷ []))).tree.objects
         ≡ (0, Directory (metadata 0 0 0o755 0 100)) ∷ (1, Directory (metadata 0 0 0o755 100 300))
         ∷ (2, Directory (metadata 0 0 0o755 100 100)) ∷ (3, Directory (metadata 0 0 0o755 100 300))
-        ∷ (4, File (metadata 0 0 0o644 100 100) []) ∷ (5, File (metadata 0 0 0o644 100 100) []) ∷ [] }
+        ∷ (4, File (metadata 0 0 0o644 100 100) []) ∷ (5, File (metadata 0 0 0o644 100 100) [])
+        ∷ [] }
     // A replaced file is read by its handle, a moved one too.
     ensures replaced { replies (new_file f ∷ Write 1 0 (codes "abc") ∷ new_file a
         ∷ PosixRename (a ∷ []) (f ∷ []) ∷ Write 3 0 (codes "x") ∷ Read 1 0 10 ∷ Read 3 0 10

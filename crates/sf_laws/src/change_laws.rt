@@ -60,7 +60,8 @@ pub fn parents_stay()
         (m : Metadata) → IsEntryOf request path → label ≢ number
         → label_at tree.names (parent path) ≡ Some label
         → object_of tree.objects label ≡ Some (Directory m)
-        → IsOneOf (Directory m) (Directory (modified_at moment m)) (object_of (apply tree session number moment request).tree.objects label) }
+        → IsOneOf (Directory m) (Directory (modified_at moment m))
+        (object_of (apply tree session number moment request).tree.objects label) }
 {}
 
 /// A refused call leaves the tree as it was: a status other than OK comes with no change.
@@ -88,7 +89,8 @@ pub fn idle_calls()
 
 /// What was a directory stays one, and what was a file: a request that may come next changes no object's kind.
 pub fn kinds_stay()
-    ensures { (history : List Record) (number session moment label : ℕ) (request : Request) (before after : Object) → IsLegal history → 0 < number → IsNewNumber number history
+    ensures { (history : List Record) (number session moment label : ℕ) (request : Request)
+        (before after : Object) → IsLegal history → 0 < number → IsNewNumber number history
         → object_of (replay history).objects label ≡ Some before
         → object_of (apply (replay history) session number moment request).tree.objects label
         ≡ Some after
@@ -119,7 +121,8 @@ pub fn moving_renames()
 
 /// Where a move may be made, it may be made after a request whose own paths all lie below the old one.
 pub fn still_moves()
-    ensures { (history : List Record) (number session moment : ℕ) (request : Request) (old new : Path)
+    ensures { (history : List Record) (number session moment : ℕ) (request : Request)
+        (old new : Path)
         → IsLegal history → 0 < number → IsNewNumber number history
         → ((path : Path) → IsOwnPath request path
         → (name : Name) × (rest : Path) × (after_front old path ≡ Some (name ∷ rest)))

@@ -19,10 +19,13 @@ ghost use Rattle.sf_reply.specs.declared.reply.Reply.TheVariants.{Handle};
 pub fn new_handles()
     ensures directory { (tree : Tree) (session number moment given : ℕ) (path : Path)
         → (apply tree session number moment (OpenDir path)).reply ≡ Handle given
-        → IsJustOpened (apply tree session number moment (OpenDir path)).tree session given path false false false }
-    ensures file { (tree : Tree) (session number moment given : ℕ) (path : Path) (flags : OpenFlags) (attrs : Attrs)
+        → IsJustOpened (apply tree session number moment (OpenDir path)).tree session given path
+        false false false }
+    ensures file { (tree : Tree) (session number moment given : ℕ) (path : Path) (flags : OpenFlags)
+        (attrs : Attrs)
         → (apply tree session number moment (Open path flags attrs)).reply ≡ Handle given
-        → IsJustOpened (apply tree session number moment (Open path flags attrs)).tree session given path (flags.read || not flags.write) flags.write flags.append }
+        → IsJustOpened (apply tree session number moment (Open path flags attrs)).tree session given
+        path (flags.read || not flags.write) flags.write flags.append }
 {}
 
 /// After a legal history each open handle leads to an object.

@@ -24,11 +24,14 @@ pub fn listed_in_order()
 /// A listing leaves nothing out: what stands in the directory after the last name that was given is listed as its object
 /// is, or the listing is full of names that come before. And what is listed stands there.
 pub fn listed_all()
-    ensures complete { (tree : Tree) (last : Option Name) (directory : Path) (name : Name) (label : ℕ) (object : Object) → IsOrderedTree tree
+    ensures complete { (tree : Tree) (last : Option Name) (directory : Path) (name : Name)
+        (label : ℕ) (object : Object) → IsOrderedTree tree
         → label_at tree.names (directory ++ name ∷ []) ≡ Some label
         → object_of tree.objects label ≡ Some object → is_past last name ≡ true
         → Contains (listing tree last directory) (entry_of name object)
-        ⊎ ((length (listing tree last directory) ≡ MAX_ENTRIES) × AllByRecursion (λ listed. is_lt (name_cmp listed name) ≡ true) (names_of (listing tree last directory))) }
+        ⊎ ((length (listing tree last directory) ≡ MAX_ENTRIES)
+        × AllByRecursion (λ listed. is_lt (name_cmp listed name)
+        ≡ true) (names_of (listing tree last directory))) }
     ensures there { (tree : Tree) (last : Option Name) (directory : Path) → IsOrderedTree tree
         → AllByRecursion (λ entry. (label : ℕ) × (object : Object)
         × (label_at tree.names (directory ++ entry.filename ∷ []) ≡ Some label)

@@ -12,7 +12,8 @@ const TRIES: u32 = 1024;
 /// One read, made again where a signal interrupted it.
 fn read_some<R: Read>(reader: &mut R, buffer: &mut [u8]) -> Option<usize>
     ensures within { IfSome result (λ n. n ≤ length buffer.new) }
-    ensures taken { IfSome result (λ n. Consumes (R.remaining reader.old) (R.remaining reader.new) (take n buffer.new)) }
+    ensures taken { IfSome result (λ n. Consumes (R.remaining reader.old) (R.remaining reader.new)
+        (take n buffer.new)) }
     ensures ended { IfSome result (λ n. n ≡ 0 → 0 < length buffer.new
         → IsAtEnd (R.remaining reader.new)) }
     ensures none { IfNone result (Keeps (R.remaining reader.old) (R.remaining reader.new)) }
@@ -30,7 +31,8 @@ fn read_some<R: Read>(reader: &mut R, buffer: &mut [u8]) -> Option<usize>
 /// One write, made again where a signal interrupted it.
 fn write_some<W: Write>(writer: &mut W, bytes: &[u8]) -> Option<usize>
     ensures within { IfSome result (λ n. n ≤ length bytes.now) }
-    ensures added { IfSome result (λ n. Appends (W.contents writer.old) (W.contents writer.new) (take n bytes.now)) }
+    ensures added { IfSome result (λ n. Appends (W.contents writer.old) (W.contents writer.new)
+        (take n bytes.now)) }
     ensures none { IfNone result (Keeps (W.contents writer.old) (W.contents writer.new)) }
 {
     for _ in 0..TRIES {

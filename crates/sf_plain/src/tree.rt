@@ -40,7 +40,11 @@ impl Model for PlainTree {
 
     ghost Value = { Tree };
 
-    ghost view = { λ tree. record { names = tree.names.entries; objects = tree.objects.entries; handles = tree.handles.entries } };
+    ghost view = { λ tree. record {
+      names = tree.names.entries;
+      objects = tree.objects.entries;
+      handles = tree.handles.entries;
+    } };
 }
 
 impl PlainTree {

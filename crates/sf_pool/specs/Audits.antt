@@ -23,7 +23,9 @@ told e = record { number = e.answer.number; request = e.request; reply = e.answe
 
 -- the record's call, if it is the session's
 abbrev pub deed_of : ℕ → Record → Option Deed
-deed_of session (Did number s moment request given) = if nat_eq s session then Some (record { number = number; request = request; reply = given }) else None
+deed_of session (Did number s moment request given) =
+    if nat_eq s session then Some (record { number = number; request = request; reply = given })
+    else None
 deed_of session (Left s) = None
 
 -- the session's calls among the records, in their order
@@ -73,12 +75,15 @@ AreKept records t = AllByRecursion (IsIn (deeds t.session records)) (rest record
 -- all are, in another order; or the records have further calls of its session.
 abbrev pub IsFaultOf : List Record → Transcript → AuditFault → Type 0
 IsFaultOf records t NotInHistory = ¬ AreKept records t
-IsFaultOf records t OutOfOrder = AreKept records t × ¬ IsWithin (rest records t) (deeds t.session records)
-IsFaultOf records t Missing = IsWithin (rest records t) (deeds t.session records) × (rest records t ≢ deeds t.session records)
+IsFaultOf records t OutOfOrder =
+    AreKept records t × ¬ IsWithin (rest records t) (deeds t.session records)
+IsFaultOf records t Missing =
+    IsWithin (rest records t) (deeds t.session records) × (rest records t ≢ deeds t.session records)
 IsFaultOf records t FoldedCount = ⊥
 
 -- the first transcript that doesn't follow the records has this fault
-pub record IsFirstFault (records : List Record) (ts : List Transcript) (fault : AuditFault) : Type 0 where
+pub record IsFirstFault (records : List Record) (ts : List Transcript)
+    (fault : AuditFault) : Type 0 where
   pub before : List Transcript
   pub faulty : Transcript
   pub later : List Transcript

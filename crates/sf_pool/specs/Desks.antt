@@ -53,7 +53,8 @@ pub record DeskView : Type 0 where
 -- the call under way was answered
 abbrev pub Answers : Place → Option (List Deed) → DeskView → Type 0
 Answers (UnderWay number request) calls after =
-    (reply : Reply) × (after.place ≡ Resting (Some (record { number = number; request = request; reply = reply })))
+    (reply : Reply) × (after.place
+    ≡ Resting (Some (record { number = number; request = request; reply = reply })))
     × Notes calls after.calls (record { number = number; request = request; reply = reply } ∷ [])
 Answers _ calls after = ⊥
 

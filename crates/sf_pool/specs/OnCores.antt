@@ -30,22 +30,29 @@ BeginsAt d v w request moment = (lane : LaneView) × IsLaneAt d lane × Begins v
 
 -- memory was wanting, or the core refuses the session's call
 abbrev pub RefusesAt : DeskView → CoreView → CoreFault → Type 0
-RefusesAt d v fault = (fault ≡ OutOfMemory) ⊎ ((lane : LaneView) × IsLaneAt d lane × RefusesBegin v lane fault)
+RefusesAt d v fault =
+    (fault ≡ OutOfMemory) ⊎ ((lane : LaneView) × IsLaneAt d lane × RefusesBegin v lane fault)
 
 -- what is told of a step of the core: whether its call was answered, and how; and whether it was blocked
 abbrev pub TellsOf : Step → Stepped → Place → Type 0
 TellsOf step.Moved s place = (s.told ≡ told.Going) × (s.blocked ≡ false)
 TellsOf (step.Blocked holder) s place = (s.told ≡ told.Going) × (s.blocked ≡ true)
-TellsOf (step.Answered answer) s place = (s.told ≡ told.Answered) × (s.blocked ≡ false) × IsLast place answer.number answer.reply
+TellsOf (step.Answered answer) s place =
+    (s.told ≡ told.Answered) × (s.blocked ≡ false) × IsLast place answer.number answer.reply
 TellsOf step.Stranger s place = (s.told ≡ told.Stranger) × (s.blocked ≡ false)
 
 -- the session's call makes one step on the core, whose history then is this
-pub record StepsAt (d : DeskView) (v : CoreView) (h : List Record) (s : Stepped) (d' : DeskView) (w : CoreView) : Type 0 where
+pub record StepsAt (d : DeskView) (v : CoreView) (h : List Record) (s : Stepped) (d' : DeskView)
+    (w : CoreView) : Type 0 where
   pub lane : LaneView
   pub after : LaneView
   pub added : List Record
   pub came : Step
   pub own : IsLaneAt d lane
   pub history : IsHistory w (h ++ added)
-  pub steps : Steps (record { core = v; history = h; lane = lane }) came (record { core = w; added = added; lane = after })
+  pub steps : Steps (record { core = v; history = h; lane = lane }) came (record {
+    core = w;
+    added = added;
+    lane = after;
+  })
   pub tells : TellsOf came s d'.place

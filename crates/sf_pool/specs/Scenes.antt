@@ -28,21 +28,31 @@ pub record Scene : Type 0 where
   pub begins : Option (List Begin)
   pub desk : DeskView
 
-abbrev pub scene : Option (List ℕ) → Option (List ℕ) → Option (List LineCall) → Option (List ℕ) → Option (List Begin) → DeskView → Scene
-scene incoming outgoing calls told begins desk = record { incoming = incoming; outgoing = outgoing; calls = calls; told = told; begins = begins; desk = desk }
+abbrev pub scene : Option (List ℕ) → Option (List ℕ) → Option (List LineCall) → Option (List ℕ)
+    → Option (List Begin) → DeskView → Scene
+scene incoming outgoing calls told begins desk = record {
+  incoming = incoming;
+  outgoing = outgoing;
+  calls = calls;
+  told = told;
+  begins = begins;
+  desk = desk;
+}
 
 -- the call that was answered so, unless it was refused
 abbrev pub answer_deeds : Answered → List Deed
 answer_deeds Version = []
 answer_deeds (Locally id reply) = []
-answer_deeds (ByCall id number request reply) = record { number = number; request = request; reply = reply } ∷ []
+answer_deeds (ByCall id number request reply) =
+    record { number = number; request = request; reply = reply } ∷ []
 answer_deeds (Refused id request refusal) = []
 
 -- the call whose answer waits
 abbrev pub phase_deeds : Phase → List Deed
 phase_deeds AtRest = []
 phase_deeds (InCall id number moment request moves) = []
-phase_deeds (Decided id number request reply) = record { number = number; request = request; reply = reply } ∷ []
+phase_deeds (Decided id number request reply) =
+    record { number = number; request = request; reply = reply } ∷ []
 phase_deeds (Left cause) = []
 
 -- the calls that a session was answered
@@ -79,9 +89,11 @@ abbrev pub attempts_told : Told → List Attempt
 attempts_told t = flat_map answer_attempts t.answers ++ phase_attempts t.phase
 
 -- The desk was asked to begin these calls, and no others, each at the moment that the clock told for it.
-abbrev pub Begins : Option (List ℕ) → Option (List ℕ) → Option (List Begin) → Option (List Begin) → List Attempt → Type 0
+abbrev pub Begins : Option (List ℕ) → Option (List ℕ) → Option (List Begin) → Option (List Begin)
+    → List Attempt → Type 0
 Begins told told' begins begins' attempts =
-    (more : List Begin) × Notes begins begins' more × Appends told told' (map (λ b. b.moment) more) × (map attempt_of more ≡ attempts)
+    (more : List Begin) × Notes begins begins' more × Appends told told' (map (λ b. b.moment) more)
+    × (map attempt_of more ≡ attempts)
 
 -- Since the start a session was served so: its stream is what was read, and each body that was read asks for its answer. What was
 -- written is the beginning of its transcript, and was written promptly. The desk noted the calls that it was answered, and no
@@ -109,7 +121,8 @@ HasSentAll t = t.sent ≡ transcript t.answers
 
 -- it was served to the end of the input, or to where what was read ends by a cause
 abbrev pub IsServed : Option (List ℕ) → Told → Type 0
-IsServed incoming t = (cause : Cause) × IsWhole t cause × HasSentAll t × (cause ≡ Closed → IsAtEnd incoming)
+IsServed incoming t =
+    (cause : Cause) × IsWhole t cause × HasSentAll t × (cause ≡ Closed → IsAtEnd incoming)
 
 -- the desk's calls were added to a share, up to 2^64 - 1
 abbrev pub IsShared : DeskView → ℕ → ℕ → Type 0
@@ -119,15 +132,18 @@ IsShared desk old new = (n : ℕ) × Counts desk.calls n × (new ≡ min (old + 
 -- line failed, all that it was answered was written.
 abbrev pub StopsEarly : Scene → Scene → ServeFault → ℕ → ℕ → Type 0
 StopsEarly start now f failed failed' =
-    (now ≡ start) ⊎ ((f ≢ fault.Sessions) × Serves start now (λ t. Rose failed failed' ⊎ HasSentAll t))
+    (now ≡ start) ⊎ ((f ≢ fault.Sessions) × Serves start now (λ t. Rose failed failed'
+    ⊎ HasSentAll t))
 
 -- How the desk is left: the session never joined; or the core doesn't know it; or it has left, and its calls are shared; or its
 -- call is under way still.
 abbrev pub LeavesDesk : DeskView → DeskView → ServeFault → ℕ → ℕ → Type 0
 LeavesDesk start now fault.Stranger old new = ((now ≡ start) ⊎ (now.place ≡ Gone)) × (new ≡ old)
 LeavesDesk start now fault.NumbersSpent old new =
-    (((now ≡ start) ⊎ IsUnderWay now.place) × (new ≡ old)) ⊎ ((now.place ≡ Gone) × IsShared now old new)
-LeavesDesk start now f old new = ((now ≡ start) × (new ≡ old)) ⊎ ((now.place ≡ Gone) × IsShared now old new)
+    (((now ≡ start) ⊎ IsUnderWay now.place) × (new ≡ old))
+    ⊎ ((now.place ≡ Gone) × IsShared now old new)
+LeavesDesk start now f old new =
+    ((now ≡ start) × (new ≡ old)) ⊎ ((now.place ≡ Gone) × IsShared now old new)
 
 -- the line is told to have failed only where it did
 abbrev pub IsFault : ServeFault → ℕ → ℕ → Type 0

@@ -58,9 +58,11 @@ talk desk session = record { desk = desk; session = session }
 
 -- The session's call was made, or refused by the desk: its reply is appended to the output. The desk was asked for it alone.
 abbrev pub MakesCall : Request → (List Attempt → Type 0) → Talk → Talk → Type 0
-MakesCall request Asked x y = IfSome x.session.waiting (λ id. (a : Answered) × (asked_by a ≡ ask.Call id request)
+MakesCall request Asked x y =
+    IfSome x.session.waiting (λ id. (a : Answered) × (asked_by a ≡ ask.Call id request)
     × (y.session ≡ record x.session { output = x.session.output ++ packet_for a; waiting = None })
-    × IsResting y.desk.place × Notes x.desk.calls y.desk.calls (answer_deeds a) × Asked (answer_attempts a))
+    × IsResting y.desk.place × Notes x.desk.calls y.desk.calls (answer_deeds a)
+    × Asked (answer_attempts a))
 
 -- The steps stop with no answer.
 abbrev pub FailsSteps : Stop → DeskView → DeskView → Type 0
@@ -78,10 +80,12 @@ LacksReply request number _ d d' = ⊥
 
 -- The session's call began, and has no reply. The desk was asked for it alone.
 abbrev pub FailsCall : Request → Stop → (List Attempt → Type 0) → DeskView → DeskView → Type 0
-FailsCall request stop Asked d d' = (number : ℕ) × LacksReply request number stop d d' × Asked (attempt request (Ok number) ∷ [])
+FailsCall request stop Asked d d' =
+    (number : ℕ) × LacksReply request number stop d d' × Asked (attempt request (Ok number) ∷ [])
 
 -- The line took the front of the output, by writes alone, and that was taken off.
-pub record SendsPart (outgoing outgoing' : Option (List ℕ)) (calls calls' : Option (List LineCall)) (v w : SessionView) : Type 0 where
+pub record SendsPart (outgoing outgoing' : Option (List ℕ)) (calls calls' : Option (List LineCall))
+    (v w : SessionView) : Type 0 where
   pub sent : List ℕ
   pub whole : v.output ≡ sent ++ w.output
   pub now : w ≡ record v { output = w.output }

@@ -117,8 +117,10 @@ fn are_told(records: &[Record], session: u64, calls: &[Exchange]) -> bool
 
 /// The calls that are left where the record comes, if it is another session's or tells of the first.
 fn after_record<'a>(entry: &Record, session: u64, calls: &'a [Exchange]) -> Option<&'a [Exchange]>
-    ensures { (later : List Record) → MatchOption result (map told calls.now ≢ deeds session (entry.now ∷ later))
-        (λ left. (map told calls.now ≡ deeds session (entry.now ∷ later)) ↔ (map told left.now ≡ deeds session later)) }
+    ensures { (later : List Record)
+        → MatchOption result (map told calls.now ≢ deeds session (entry.now ∷ later))
+        (λ left. (map told calls.now ≡ deeds session (entry.now ∷ later))
+        ↔ (map told left.now ≡ deeds session later)) }
 {
     if !is_deed(entry, session) {
         return Some(calls);
@@ -146,7 +148,8 @@ fn are_deeds(records: &[Record], session: u64, calls: &[Exchange]) -> bool
 
 /// The calls that are left where the record comes, which tells of the first or is passed over.
 fn past_record<'a>(entry: &Record, session: u64, calls: &'a [Exchange]) -> &'a [Exchange]
-    ensures { (later : List Record) → IsWithin (map told calls.now) (deeds session (entry.now ∷ later))
+    ensures { (later : List Record)
+        → IsWithin (map told calls.now) (deeds session (entry.now ∷ later))
         ↔ IsWithin (map told result.now) (deeds session later) }
 {
     let Some((call, left)) = calls.split_first() else {

@@ -26,7 +26,8 @@ pub(crate) enum Stop {
 /// Makes steps until the call is answered.
 fn finish<D: Desk, G: Gate>(desk: &mut D, gate: &G, session: u64, number: u64) -> Result<(), Stop>
     requires { IsUnderWay (D.at desk.old).place }
-    ensures answered { OnOk result (Answers (D.at desk.old).place (D.at desk.old).calls (D.at desk.new)) }
+    ensures answered { OnOk result (Answers (D.at desk.old).place (D.at desk.old).calls
+        (D.at desk.new)) }
     ensures fails { IfErr result (λ stop. FailsSteps stop (D.at desk.old) (D.at desk.new)) }
     ensures begins { D.begins desk.new ≡ D.begins desk.old }
 {
@@ -53,8 +54,12 @@ pub(crate) fn make_call<D: Desk, C: Clock, G: Gate>(
 ) -> Result<(), Stop>
     requires waiting { IsSome session.old.waiting }
     requires resting { IsResting (D.at desk.old).place }
-    ensures made { OnOk result (MakesCall request (Begins (C.told clock.old) (C.told clock.new) (D.begins desk.old) (D.begins desk.new)) (talk (D.at desk.old) session.old) (talk (D.at desk.new) session.new)) }
-    ensures fails { IfErr result (λ stop. FailsCall request stop (Begins (C.told clock.old) (C.told clock.new) (D.begins desk.old) (D.begins desk.new)) (D.at desk.old) (D.at desk.new)) }
+    ensures made { OnOk result (MakesCall request
+        (Begins (C.told clock.old) (C.told clock.new) (D.begins desk.old) (D.begins desk.new))
+        (talk (D.at desk.old) session.old) (talk (D.at desk.new) session.new)) }
+    ensures fails { IfErr result (λ stop. FailsCall request stop
+        (Begins (C.told clock.old) (C.told clock.new) (D.begins desk.old) (D.begins desk.new))
+        (D.at desk.old) (D.at desk.new)) }
 {
     let moment = clock.now();
     let call = match desk.begin(request, moment) {

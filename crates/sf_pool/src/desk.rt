@@ -58,7 +58,11 @@ pub trait Desk {
         ensures session { (at self.new).session ≡ (at self.old).session }
         ensures err { OnErr result (at self.new ≡ at self.old) }
         ensures calls { (at self.new).calls ≡ (at self.old).calls }
-        ensures asked { Notes (begins self.old) (begins self.new) (record { request = request; moment = moment; outcome = result } ∷ []) };
+        ensures asked { Notes (begins self.old) (begins self.new) (record {
+          request = request;
+          moment = moment;
+          outcome = result;
+        } ∷ []) };
 
     /// One step of the call. Where it is answered the answer is noted.
     fn step(&mut self) -> Told
@@ -85,5 +89,6 @@ pub trait Desk {
     /// What the session was told.
     fn transcript(&self) -> &Transcript
         ensures session { result.now.session ≡ (at self.now).session }
-        ensures calls { IfSome (at self.now).calls (λ calls. map told result.now.calls.items ≡ calls) };
+        ensures calls { IfSome (at self.now).calls (λ calls. map told result.now.calls.items
+            ≡ calls) };
 }

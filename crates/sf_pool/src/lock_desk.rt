@@ -57,7 +57,8 @@ impl<'a, R: Wait> LockDesk<'a, R> {
     /// What the session was told. A session that hasn't left is given up.
     pub fn into_transcript(self) -> Transcript
         ensures session { result.session ≡ self.entry.stay.session }
-        ensures calls { IfSome self.entry.stay.calls (λ calls. map told result.calls.items ≡ calls) }
+        ensures calls { IfSome self.entry.stay.calls (λ calls. map told result.calls.items
+            ≡ calls) }
     {
         let LockDesk {
             rt: _,

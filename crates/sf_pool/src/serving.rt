@@ -46,8 +46,10 @@ fn fault_of(stop: Stop) -> ServeFault
 
 /// Writes a piece of what waits.
 fn write_piece<L: Line>(line: &mut L, session: &mut Session) -> Result<(), LineFault>
-    ensures front { SendsPart (L.outgoing line.old) (L.outgoing line.new) (L.calls line.old) (L.calls line.new) session.old session.new }
-    ensures less { 0 < length session.old.output → OnOk result (length session.new.output < length session.old.output) }
+    ensures front { SendsPart (L.outgoing line.old) (L.outgoing line.new) (L.calls line.old)
+        (L.calls line.new) session.old session.new }
+    ensures less { 0 < length session.old.output
+        → OnOk result (length session.new.output < length session.old.output) }
     ensures incoming { L.incoming line.new ≡ L.incoming line.old }
     ensures failures { L.failed line.old ≤ L.failed line.new }
     ensures fault { OnErr result (Rose (L.failed line.old) (L.failed line.new)) }
@@ -60,11 +62,13 @@ fn write_piece<L: Line>(line: &mut L, session: &mut Session) -> Result<(), LineF
 
 /// Writes what waits, and takes off what the line took.
 fn send<L: Line>(line: &mut L, session: &mut Session) -> Result<(), Stop>
-    ensures front { SendsPart (L.outgoing line.old) (L.outgoing line.new) (L.calls line.old) (L.calls line.new) session.old session.new }
+    ensures front { SendsPart (L.outgoing line.old) (L.outgoing line.new) (L.calls line.old)
+        (L.calls line.new) session.old session.new }
     ensures all { OnOk result (session.new.output ≡ []) }
     ensures incoming { L.incoming line.new ≡ L.incoming line.old }
     ensures failures { L.failed line.old ≤ L.failed line.new }
-    ensures fault { IfErr result (λ stop. (stop ≡ Stop.Line) × Rose (L.failed line.old) (L.failed line.new)) }
+    ensures fault { IfErr result (λ stop. (stop ≡ Stop.Line)
+        × Rose (L.failed line.old) (L.failed line.new)) }
 {
     while !session.output().is_empty() {
         if write_piece(line, session).is_err() {
@@ -86,12 +90,17 @@ fn drain<D: Desk, L: Line, C: Clock, G: Gate>(
 ) -> Result<bool, Stop>
     requires { IsReady session.old (D.at desk.old).place }
     ensures drained { IfOk result (λ ended. (start : Scene)
-        → Serves start (scene (L.incoming line.old) (L.outgoing line.old) (L.calls line.old) (C.told clock.old) (D.begins desk.old) (D.at desk.old)) (Goes session.old)
-        → Serves start (scene (L.incoming line.new) (L.outgoing line.new) (L.calls line.new) (C.told clock.new) (D.begins desk.new) (D.at desk.new)) (IsDrained ended (L.incoming line.new) session.new)) }
+        → Serves start (scene (L.incoming line.old) (L.outgoing line.old) (L.calls line.old)
+        (C.told clock.old) (D.begins desk.old) (D.at desk.old)) (Goes session.old)
+        → Serves start (scene (L.incoming line.new) (L.outgoing line.new) (L.calls line.new)
+        (C.told clock.new) (D.begins desk.new) (D.at desk.new))
+        (IsDrained ended (L.incoming line.new) session.new)) }
     ensures ready { OnOk result (IsReady session.new (D.at desk.new).place) }
     ensures stops { IfErr result (λ stop. (start : Scene)
-        → Serves start (scene (L.incoming line.old) (L.outgoing line.old) (L.calls line.old) (C.told clock.old) (D.begins desk.old) (D.at desk.old)) (Goes session.old)
-        → Serves start (scene (L.incoming line.new) (L.outgoing line.new) (L.calls line.new) (C.told clock.new) (D.begins desk.new) (D.at desk.new)) (HasSentFor stop)) }
+        → Serves start (scene (L.incoming line.old) (L.outgoing line.old) (L.calls line.old)
+        (C.told clock.old) (D.begins desk.old) (D.at desk.old)) (Goes session.old)
+        → Serves start (scene (L.incoming line.new) (L.outgoing line.new) (L.calls line.new)
+        (C.told clock.new) (D.begins desk.new) (D.at desk.new)) (HasSentFor stop)) }
     ensures place { IfErr result (λ stop. StopsAt stop (D.at desk.new).place) }
     ensures failures { L.failed line.old ≤ L.failed line.new }
     ensures fault { IfErr result (λ stop. IsStop stop (L.failed line.old) (L.failed line.new)) }
@@ -114,12 +123,18 @@ fn drain<D: Desk, L: Line, C: Clock, G: Gate>(
 /// Reads a piece to the session. Tells whether the input is at its end.
 fn read_piece<L: Line>(line: &mut L, session: &mut Session, piece: &mut [u8]) -> Result<bool, Stop>
     requires { 0 < length piece.old }
-    ensures read { IfOk result (λ ended. (start : Scene) (told : Option (List ℕ)) (begins : Option (List Begin)) (desk : DeskView)
-        → Serves start (scene (L.incoming line.old) (L.outgoing line.old) (L.calls line.old) told begins desk) (Rests session.old)
-        → Serves start (scene (L.incoming line.new) (L.outgoing line.new) (L.calls line.new) told begins desk) (HasRead ended (L.incoming line.new) session.new)) }
-    ensures stops { OnErr result ((start : Scene) (told : Option (List ℕ)) (begins : Option (List Begin)) (desk : DeskView)
-        → Serves start (scene (L.incoming line.old) (L.outgoing line.old) (L.calls line.old) told begins desk) (Rests session.old)
-        → Serves start (scene (L.incoming line.new) (L.outgoing line.new) (L.calls line.new) told begins desk) HasSentAll) }
+    ensures read { IfOk result (λ ended. (start : Scene) (told : Option (List ℕ))
+        (begins : Option (List Begin)) (desk : DeskView)
+        → Serves start (scene (L.incoming line.old) (L.outgoing line.old)
+        (L.calls line.old) told begins desk) (Rests session.old)
+        → Serves start (scene (L.incoming line.new) (L.outgoing line.new) (L.calls line.new) told
+        begins desk) (HasRead ended (L.incoming line.new) session.new)) }
+    ensures stops { OnErr result ((start : Scene) (told : Option (List ℕ))
+        (begins : Option (List Begin)) (desk : DeskView)
+        → Serves start (scene (L.incoming line.old) (L.outgoing line.old)
+        (L.calls line.old) told begins desk) (Rests session.old)
+        → Serves start (scene (L.incoming line.new) (L.outgoing line.new)
+        (L.calls line.new) told begins desk) HasSentAll) }
     ensures waiting { session.new.waiting ≡ session.old.waiting }
     ensures output { session.new.output ≡ session.old.output }
     ensures room { length piece.new ≡ length piece.old }
@@ -151,12 +166,17 @@ fn rounds<D: Desk, L: Line, C: Clock, G: Gate>(
     requires room { 0 < length piece.old }
     requires ready { IsReady session.old (D.at desk.old).place }
     ensures served { OnOk result ((start : Scene)
-        → Serves start (scene (L.incoming line.old) (L.outgoing line.old) (L.calls line.old) (C.told clock.old) (D.begins desk.old) (D.at desk.old)) (Rests session.old)
-        → Serves start (scene (L.incoming line.new) (L.outgoing line.new) (L.calls line.new) (C.told clock.new) (D.begins desk.new) (D.at desk.new)) (IsServed (L.incoming line.new))) }
+        → Serves start (scene (L.incoming line.old) (L.outgoing line.old) (L.calls line.old)
+        (C.told clock.old) (D.begins desk.old) (D.at desk.old)) (Rests session.old)
+        → Serves start (scene (L.incoming line.new) (L.outgoing line.new) (L.calls line.new)
+        (C.told clock.new) (D.begins desk.new) (D.at desk.new))
+        (IsServed (L.incoming line.new))) }
     ensures resting { OnOk result (IsResting (D.at desk.new).place) }
     ensures stops { IfErr result (λ stop. (start : Scene)
-        → Serves start (scene (L.incoming line.old) (L.outgoing line.old) (L.calls line.old) (C.told clock.old) (D.begins desk.old) (D.at desk.old)) (Rests session.old)
-        → Serves start (scene (L.incoming line.new) (L.outgoing line.new) (L.calls line.new) (C.told clock.new) (D.begins desk.new) (D.at desk.new)) (HasSentFor stop)) }
+        → Serves start (scene (L.incoming line.old) (L.outgoing line.old) (L.calls line.old)
+        (C.told clock.old) (D.begins desk.old) (D.at desk.old)) (Rests session.old)
+        → Serves start (scene (L.incoming line.new) (L.outgoing line.new) (L.calls line.new)
+        (C.told clock.new) (D.begins desk.new) (D.at desk.new)) (HasSentFor stop)) }
     ensures place { IfErr result (λ stop. StopsAt stop (D.at desk.new).place) }
     ensures failures { L.failed line.old ≤ L.failed line.new }
     ensures fault { IfErr result (λ stop. IsStop stop (L.failed line.old) (L.failed line.new)) }
@@ -178,7 +198,8 @@ fn leave<D: Desk>(desk: &mut D, share: &mut Share) -> Result<(), ServeFault>
     ensures place { (D.at desk.new).place ≡ Gone }
     ensures calls { (D.at desk.new).calls ≡ (D.at desk.old).calls }
     ensures share { OnOk result (IsShared (D.at desk.new) share.old share.new) }
-    ensures stranger { IfErr result (λ fault. (fault ≡ ServeFault.Stranger) × (share.new ≡ share.old)) }
+    ensures stranger { IfErr result (λ fault. (fault ≡ ServeFault.Stranger)
+        × (share.new ≡ share.old)) }
     ensures begins { D.begins desk.new ≡ D.begins desk.old }
 {
     let Some(own) = desk.leave() else {
@@ -194,7 +215,8 @@ fn stop<D: Desk>(desk: &mut D, share: &mut Share, stop: Stop) -> ServeFault
     requires { StopsAt stop (D.at desk.old).place }
     ensures calls { (D.at desk.new).calls ≡ (D.at desk.old).calls }
     ensures fault { (result ≡ fault_of stop) ⊎ (result ≡ ServeFault.Stranger) }
-    ensures left { (start : DeskView) → LeavesDesk start (D.at desk.new) result share.old share.new }
+    ensures left { (start : DeskView)
+        → LeavesDesk start (D.at desk.new) result share.old share.new }
     ensures begins { D.begins desk.new ≡ D.begins desk.old }
 {
     match stop {
@@ -227,13 +249,19 @@ pub fn serve<D: Desk, L: Line, C: Clock, G: Gate>(
 ) -> Result<(), ServeFault>
     requires { (D.at desk.old).place ≡ New }
     ensures served { OnOk result (Serves
-        (scene (L.incoming line.old) (L.outgoing line.old) (L.calls line.old) (C.told clock.old) (D.begins desk.old) (D.at desk.old))
-        (scene (L.incoming line.new) (L.outgoing line.new) (L.calls line.new) (C.told clock.new) (D.begins desk.new) (D.at desk.new)) (IsServed (L.incoming line.new))) }
-    ensures shared { OnOk result (((D.at desk.new).place ≡ Gone) × IsShared (D.at desk.new) share.old share.new) }
+        (scene (L.incoming line.old) (L.outgoing line.old) (L.calls line.old) (C.told clock.old)
+        (D.begins desk.old) (D.at desk.old))
+        (scene (L.incoming line.new) (L.outgoing line.new) (L.calls line.new) (C.told clock.new)
+        (D.begins desk.new) (D.at desk.new)) (IsServed (L.incoming line.new))) }
+    ensures shared { OnOk result (((D.at desk.new).place ≡ Gone)
+        × IsShared (D.at desk.new) share.old share.new) }
     ensures stopped { IfErr result (λ fault. StopsEarly
-        (scene (L.incoming line.old) (L.outgoing line.old) (L.calls line.old) (C.told clock.old) (D.begins desk.old) (D.at desk.old))
-        (scene (L.incoming line.new) (L.outgoing line.new) (L.calls line.new) (C.told clock.new) (D.begins desk.new) (D.at desk.new)) fault (L.failed line.old) (L.failed line.new)) }
-    ensures left { IfErr result (λ fault. LeavesDesk (D.at desk.old) (D.at desk.new) fault share.old share.new) }
+        (scene (L.incoming line.old) (L.outgoing line.old) (L.calls line.old) (C.told clock.old)
+        (D.begins desk.old) (D.at desk.old))
+        (scene (L.incoming line.new) (L.outgoing line.new) (L.calls line.new) (C.told clock.new)
+        (D.begins desk.new) (D.at desk.new)) fault (L.failed line.old) (L.failed line.new)) }
+    ensures left { IfErr result (λ fault. LeavesDesk (D.at desk.old)
+        (D.at desk.new) fault share.old share.new) }
     ensures fault { IfErr result (λ fault. IsFault fault (L.failed line.old) (L.failed line.new)) }
 {
     let mut piece = zeros(alloc, PIECE)?;

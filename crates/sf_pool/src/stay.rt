@@ -39,7 +39,11 @@ impl Model for Stay {
 
     ghost Value = { DeskView };
 
-    ghost view = { λ s. record { session = s.transcript.session; place = lane_place s.lane s.transcript.session s.asked (map told s.transcript.calls.items); calls = kept_calls s.keeps s.transcript.calls.items } };
+    ghost view = { λ s. record {
+      session = s.transcript.session;
+      place = lane_place s.lane s.transcript.session s.asked (map told s.transcript.calls.items);
+      calls = kept_calls s.keeps s.transcript.calls.items;
+    } };
 
     ghost use Rattle.sf_pool.specs.Stays.{IsStay};
 
@@ -254,7 +258,8 @@ impl Stay {
 fn note(transcript: &mut Transcript, keeps: bool, request: Request, answer: Answer)
     requires { vec_len transcript.old.calls < vec_capacity transcript.old.calls }
     ensures session { transcript.new.session ≡ transcript.old.session }
-    ensures calls { map told transcript.new.calls.items ≡ map told (if keeps then transcript.old.calls.items else [])
+    ensures calls { map told transcript.new.calls.items
+        ≡ map told (if keeps then transcript.old.calls.items else [])
         ++ record { number = answer.number; request = request; reply = answer.reply } ∷ [] }
 {
     if !keeps {

@@ -37,10 +37,13 @@ code_of number =
 -- a code and a message are those of one status
 abbrev pub status_with : Option StatusCode → List ℕ → Option Reply
 status_with None message = None
-status_with (Some code) message = if bytes_eq message (message_of code) then Some (reply.Status code) else None
+status_with (Some code) message =
+    if bytes_eq message (message_of code) then Some (reply.Status code) else None
 
 abbrev pub status_of : ℕ → List ℕ → Option Reply
-status_of number message = if number == 4 && bytes_eq message (codes "Out of memory") then Some reply.NoMemory else status_with (code_of number) message
+status_of number message =
+    if number == 4 && bytes_eq message (codes "Out of memory") then Some reply.NoMemory
+    else status_with (code_of number) message
 
 unfoldable pub status_at : List ℕ → Option Reply
 status_at bytes = do

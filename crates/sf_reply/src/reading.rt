@@ -111,7 +111,14 @@ fn last_attrs(bytes: &[u8]) -> Option<Attrs>
 /// A name, its line and its attributes, and the bytes after them.
 #[tactic(auto, unfolding(crate::specs::Reading::entry_at))]
 fn entry_of(bytes: &[u8]) -> Option<(&[u8], &[u8], Attrs, &[u8])>
-    ensures { Gives (λ x. (record { filename = x.0.now; longname = x.1.now; attrs = x.2 }, x.3.now)) result (entry_at bytes.now) }
+    ensures { Gives (λ x. (
+      record {
+        filename = x.0.now;
+        longname = x.1.now;
+        attrs = x.2;
+      },
+      x.3.now,
+    )) result (entry_at bytes.now) }
 {
     let (filename, rest) = bytes_at(bytes)?;
     let (longname, rest) = bytes_at(rest)?;

@@ -153,7 +153,8 @@ pub fn write_reply(id: u32, reply: &Reply, out: &mut BytesMut) -> Result<(), All
     requires { length (reply_body id reply.now) ≤ max_body }
     ensures ok { OnOk result (out.new.items ≡ out.old.items ++ packet (reply_body id reply.now)) }
     ensures err { OnErr result (out.new.items ≡ out.old.items) }
-    ensures spare { UsesSpare result out.old.spare out.new.spare (length (packet (reply_body id reply.now))) }
+    ensures spare { UsesSpare result out.old.spare out.new.spare
+        (length (packet (reply_body id reply.now))) }
     ensures enough { length (packet (reply_body id reply.now)) ≤ out.old.spare → IsOk result }
 {
     let len = 5 + fields_len(reply);

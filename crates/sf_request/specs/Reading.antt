@@ -11,7 +11,8 @@ use Rattle.sf_request.specs.Requests.{is_request, posix_rename}
 use Rattle.sf_field.specs.Reading.{◌>>=◌, number_at, string_at, attrs_at, flags_at}
 
 -- one field after another
-abbrev pub both_at : {A B : Type 0} → (List ℕ → Option (A × List ℕ)) → (List ℕ → Option (B × List ℕ)) → List ℕ → Option ((A × B) × List ℕ)
+abbrev pub both_at : {A B : Type 0} → (List ℕ → Option (A × List ℕ))
+    → (List ℕ → Option (B × List ℕ)) → List ℕ → Option ((A × B) × List ℕ)
 both_at first second bytes = do
   a ← first bytes
   b ← second a.1
@@ -25,19 +26,23 @@ abbrev pub two_strings_at : List ℕ → Option (List ℕ × List ℕ)
 two_strings_at bytes = fields (both_at string_at string_at) bytes
 
 abbrev pub open_at : List ℕ → Option WireRequest
-open_at bytes = option_map (λ x. request.Open x.0 x.1.0 x.1.1) (fields (both_at string_at (both_at flags_at attrs_at)) bytes)
+open_at bytes = option_map (λ x. request.Open x.0 x.1.0 x.1.1)
+    (fields (both_at string_at (both_at flags_at attrs_at)) bytes)
 
 abbrev pub read_at : List ℕ → Option WireRequest
-read_at bytes = option_map (λ x. request.Read x.0 x.1.0 x.1.1) (fields (both_at string_at (both_at (number_at w64) (number_at w32))) bytes)
+read_at bytes = option_map (λ x. request.Read x.0 x.1.0 x.1.1)
+    (fields (both_at string_at (both_at (number_at w64) (number_at w32))) bytes)
 
 abbrev pub write_at : List ℕ → Option WireRequest
-write_at bytes = option_map (λ x. request.Write x.0 x.1.0 x.1.1) (fields (both_at string_at (both_at (number_at w64) string_at)) bytes)
+write_at bytes = option_map (λ x. request.Write x.0 x.1.0 x.1.1)
+    (fields (both_at string_at (both_at (number_at w64) string_at)) bytes)
 
 abbrev pub string_request_at : (List ℕ → WireRequest) → List ℕ → Option WireRequest
 string_request_at make bytes = option_map make (fields string_at bytes)
 
 abbrev pub attrs_request_at : (List ℕ → Attrs → WireRequest) → List ℕ → Option WireRequest
-attrs_request_at make bytes = option_map (λ x. make x.0 x.1) (fields (both_at string_at attrs_at) bytes)
+attrs_request_at make bytes =
+    option_map (λ x. make x.0 x.1) (fields (both_at string_at attrs_at) bytes)
 
 abbrev pub rename_at : (List ℕ → List ℕ → WireRequest) → List ℕ → Option WireRequest
 rename_at make bytes = option_map (λ x. make x.0 x.1) (two_strings_at bytes)
@@ -49,7 +54,8 @@ other_name (Some name) = not (bytes_eq name.0 posix_rename)
 
 abbrev pub extended_by : Option (List ℕ × List ℕ) → Option WireRequest
 extended_by None = None
-extended_by (Some name) = if bytes_eq name.0 posix_rename then rename_at request.PosixRename name.1 else None
+extended_by (Some name) =
+    if bytes_eq name.0 posix_rename then rename_at request.PosixRename name.1 else None
 
 abbrev pub extended_at : List ℕ → Option WireRequest
 extended_at bytes = extended_by (string_at bytes)
@@ -63,7 +69,8 @@ readers =
     ∷ (11, string_request_at request.OpenDir) ∷ (12, string_request_at request.ReadDir)
     ∷ (13, string_request_at request.Remove) ∷ (14, attrs_request_at request.Mkdir)
     ∷ (15, string_request_at request.Rmdir) ∷ (16, string_request_at request.RealPath)
-    ∷ (17, string_request_at request.Stat) ∷ (18, rename_at request.Rename) ∷ (200, extended_at) ∷ []
+    ∷ (17, string_request_at request.Stat) ∷ (18, rename_at request.Rename) ∷ (200, extended_at)
+    ∷ []
 
 abbrev pub by_kind : List (ℕ × (List ℕ → Option WireRequest)) → ℕ → List ℕ → Option WireRequest
 by_kind [] kind bytes = None

@@ -70,10 +70,13 @@ pub record ◌⨾◌ (First Second : List ℕ → Type 0) (text : List ℕ) : Ty
 
 -- the fields after the id
 abbrev pub SpellsFields : List ℕ → WireRequest → Type 0
-SpellsFields text (request.Open filename flags attrs) = (IsString filename ⨾ IsFlags flags ⨾ IsAttrs attrs) text
+SpellsFields text (request.Open filename flags attrs) =
+    (IsString filename ⨾ IsFlags flags ⨾ IsAttrs attrs) text
 SpellsFields text (request.Close handle) = IsString handle text
-SpellsFields text (request.Read handle offset len) = (IsString handle ⨾ IsU64 offset ⨾ IsU32 len) text
-SpellsFields text (request.Write handle offset bytes) = (IsString handle ⨾ IsU64 offset ⨾ IsString bytes) text
+SpellsFields text (request.Read handle offset len) =
+    (IsString handle ⨾ IsU64 offset ⨾ IsU32 len) text
+SpellsFields text (request.Write handle offset bytes) =
+    (IsString handle ⨾ IsU64 offset ⨾ IsString bytes) text
 SpellsFields text (request.LStat path) = IsString path text
 SpellsFields text (request.FStat handle) = IsString handle text
 SpellsFields text (request.SetStat path attrs) = (IsString path ⨾ IsAttrs attrs) text
@@ -86,7 +89,8 @@ SpellsFields text (request.Rmdir path) = IsString path text
 SpellsFields text (request.RealPath path) = IsString path text
 SpellsFields text (request.Stat path) = IsString path text
 SpellsFields text (request.Rename old new) = (IsString old ⨾ IsString new) text
-SpellsFields text (request.PosixRename old new) = (IsString posix_rename ⨾ IsString old ⨾ IsString new) text
+SpellsFields text (request.PosixRename old new) =
+    (IsString posix_rename ⨾ IsString old ⨾ IsString new) text
 
 -- the body of a packet, with its type and its id
 pub record HasId (body : List ℕ) (kind id : ℕ) (rest : List ℕ) : Type 0 where
@@ -110,16 +114,21 @@ BeginsInit body = (rest : List ℕ) × (body ≡ 1 ∷ rest)
 -- What a body asks. Bytes may follow the fields.
 abbrev pub Asks : List ℕ → Asked → Type 0
 Asks body (Init version) = (more : List ℕ) × HasId body 1 version more
-Asks body (Request id request) = (text more : List ℕ) × HasId body (kind_of request) id (text ++ more) × SpellsFields text request
-Asks body (BadFields id) = (kind : ℕ) × (rest : List ℕ) × HasId body kind id rest × (is_request kind ≡ true) × (IsUnknown kind rest → ⊥)
-    × ((request : WireRequest) (text more : List ℕ) → kind_of request ≡ kind → SpellsFields text request → rest ≡ text ++ more → ⊥)
-Asks body (Unknown id) = (kind : ℕ) × (rest : List ℕ) × HasId body kind id rest × IsUnknown kind rest
+Asks body (Request id request) = (text more : List ℕ)
+    × HasId body (kind_of request) id (text ++ more) × SpellsFields text request
+Asks body (BadFields id) = (kind : ℕ) × (rest : List ℕ) × HasId body kind id rest
+    × (is_request kind ≡ true) × (IsUnknown kind rest → ⊥)
+    × ((request : WireRequest) (text more : List ℕ) → kind_of request ≡ kind
+    → SpellsFields text request → rest ≡ text ++ more → ⊥)
+Asks body (Unknown id) =
+    (kind : ℕ) × (rest : List ℕ) × HasId body kind id rest × IsUnknown kind rest
 Asks body NoVersion = (length body < 5) × BeginsInit body
 Asks body NoId = (length body < 5) × (BeginsInit body → ⊥)
 
 -- The spelling that is sent: the bits of the flags that are set, and no other; attributes without other flags and pairs.
 abbrev pub fields_text : WireRequest → List ℕ
-fields_text (request.Open filename flags attrs) = string filename ++ be32 (bits_of flags) ++ attrs_text attrs
+fields_text (request.Open filename flags attrs) =
+    string filename ++ be32 (bits_of flags) ++ attrs_text attrs
 fields_text (request.Close handle) = string handle
 fields_text (request.Read handle offset len) = string handle ++ be64 offset ++ be32 len
 fields_text (request.Write handle offset bytes) = string handle ++ be64 offset ++ string bytes

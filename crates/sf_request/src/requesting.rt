@@ -163,7 +163,8 @@ pub fn write_request(id: u32, request: &WireRequest, out: &mut BytesMut) -> Resu
     ensures ok { OnOk result (out.new.items
         ≡ out.old.items ++ packet (request_body id request.now)) }
     ensures err { OnErr result (out.new.items ≡ out.old.items) }
-    ensures spare { UsesSpare result out.old.spare out.new.spare (length (packet (request_body id request.now))) }
+    ensures spare { UsesSpare result out.old.spare out.new.spare
+        (length (packet (request_body id request.now))) }
     ensures enough { length (packet (request_body id request.now)) ≤ out.old.spare → IsOk result }
 {
     let len = 5 + fields_len(request);

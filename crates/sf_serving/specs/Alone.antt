@@ -29,15 +29,19 @@ use Rattle.sf_serving.specs.Serving.{Scene, moment_of, IsEntryOf, IsFront, Progr
 -- left, there are no more answers.
 unfoldable pub answers_from : Tree → (begun : ℕ) → (moments : List ℕ) → List Ask → List Answered
 answers_from tree begun moments [] = []
-answers_from tree begun moments (ask.Version ∷ asks) = Version ∷ answers_from tree begun moments asks
-answers_from tree begun moments (ask.Local id reply ∷ asks) = Locally id reply ∷ answers_from tree begun moments asks
+answers_from tree begun moments (ask.Version ∷ asks) =
+    Version ∷ answers_from tree begun moments asks
+answers_from tree begun moments (ask.Local id reply ∷ asks) =
+    Locally id reply ∷ answers_from tree begun moments asks
 answers_from tree begun moments (ask.End cause ∷ asks) = []
 answers_from tree begun [] (ask.Call id request ∷ asks) =
-    if nat_eq begun last_number then Refused id request core.NumbersSpent ∷ answers_from tree begun [] asks else []
+    if nat_eq begun last_number then Refused id request core.NumbersSpent
+    ∷ answers_from tree begun [] asks else []
 answers_from tree begun (moment ∷ moments) (ask.Call id request ∷ asks) =
     if nat_eq begun last_number
     then Refused id request core.NumbersSpent ∷ answers_from tree begun (moment ∷ moments) asks
-    else let call = apply tree 1 (begun + 1) moment request in ByCall id (begun + 1) request call.reply ∷ answers_from call.tree (begun + 1) moments asks
+    else let call = apply tree 1 (begun + 1) moment request in
+    ByCall id (begun + 1) request call.reply ∷ answers_from call.tree (begun + 1) moments asks
 
 -- from the empty tree
 abbrev pub answers_alone : (moments : List ℕ) → List Ask → List Answered
@@ -82,7 +86,8 @@ pub record TellsAlone (trace : List Entry) (w : World) (t : Told) : Type 0 where
 
 -- Of the input so much was fed that the session has left for this cause: all of it where the session was closed. Its calls began at
 -- these moments.
-pub record EndsAlone (trace : List Entry) (w : World) (t : Told) (input moments : List ℕ) (cause : Cause) : Type 0 where
+pub record EndsAlone (trace : List Entry) (w : World) (t : Told) (input moments : List ℕ)
+    (cause : Cause) : Type 0 where
   pub tells : TellsAlone trace w t
   pub begun : moments_begun trace ≡ moments
   pub whole : IsWhole t cause
@@ -91,7 +96,8 @@ pub record EndsAlone (trace : List Entry) (w : World) (t : Told) (input moments 
 
 -- A new engine served a line whose bytes are this input, and nothing else, until the session left for this cause. Its calls began at
 -- these moments, and memory was never wanting for them.
-pub record ServesAlone (start now : Scene) (input moments : List ℕ) (cause : Cause) (p : Progress) : Type 0 where
+pub record ServesAlone (start now : Scene) (input moments : List ℕ) (cause : Cause)
+    (p : Progress) : Type 0 where
   pub fits : Fits start.engine []
   pub served : Served start now [] fits p
   pub incoming : start.incoming ≡ Some input

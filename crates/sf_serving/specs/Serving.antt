@@ -34,8 +34,10 @@ pub record Scene : Type 0 where
   pub told : Option (List ℕ)
   pub engine : EngineView
 
-abbrev pub scene : Option (List ℕ) → Option (List ℕ) → Option (List LineCall) → Option (List ℕ) → EngineView → Scene
-scene incoming outgoing calls told engine = record { incoming = incoming; outgoing = outgoing; calls = calls; told = told; engine = engine }
+abbrev pub scene : Option (List ℕ) → Option (List ℕ) → Option (List LineCall) → Option (List ℕ)
+    → EngineView → Scene
+scene incoming outgoing calls told engine =
+    record { incoming = incoming; outgoing = outgoing; calls = calls; told = told; engine = engine }
 
 -- the entry is of the session: it opens, is fed, has a turn, is closed, or is told what was sent
 abbrev pub IsOf : ℕ → Event → Result Happened EngineFault → Type 0
@@ -58,12 +60,14 @@ moment_of (event.Sent s n) = []
 
 -- for an event that came to this, the clock told its moment; or it told none, and no call began
 abbrev pub IsTimed : Event → Result Happened EngineFault → List ℕ → Type 0
-IsTimed ev result moments = (moments ≡ moment_of ev) ⊎ ((moments ≡ []) × (result ≢ Ok happened.Begun))
+IsTimed ev result moments =
+    (moments ≡ moment_of ev) ⊎ ((moments ≡ []) × (result ≢ Ok happened.Begun))
 
 -- The clock told these moments for the entries, in their order: so a call that began has a moment of its own.
 unfoldable pub AreTimed : List Entry → List ℕ → Type 0
 AreTimed [] moments = moments ≡ []
-AreTimed (e ∷ entries) moments = (now : List ℕ) × (later : List ℕ) × (moments ≡ now ++ later) × IsTimed e.event e.result now × AreTimed entries later
+AreTimed (e ∷ entries) moments = (now : List ℕ) × (later : List ℕ) × (moments ≡ now ++ later)
+    × IsTimed e.event e.result now × AreTimed entries later
 
 -- A session's next turn may begin a call, or it may not: then the session doesn't rest.
 abbrev pub MayBegin : Bool → Phase → Type 0
@@ -94,7 +98,8 @@ IsLowAt w session _ = Unit {0}
 -- wait to be sent, so no more than these and one reply wait at any time.
 unfoldable pub RunsLow : ℕ → World → List Entry → World → Type 0
 RunsLow session w [] w' = w' ≡ w
-RunsLow session w (e ∷ entries) w' = (mid : World) × IsLowAt w session e.event × Leads w e mid × RunsLow session mid entries w'
+RunsLow session w (e ∷ entries) w' =
+    (mid : World) × IsLowAt w session e.event × Leads w e mid × RunsLow session mid entries w'
 
 abbrev pub IsFront : {A : Type 0} → List A → List A → Type 0
 IsFront {A} front whole = (rest : List A) × (whole ≡ front ++ rest)
@@ -107,7 +112,8 @@ pub record Progress : Type 0 where
   pub written : List ℕ
 
 abbrev pub progress : ℕ → Told → List ℕ → List ℕ → Progress
-progress session told unfed written = record { session = session; told = told; unfed = unfed; written = written }
+progress session told unfed written =
+    record { session = session; told = told; unfed = unfed; written = written }
 
 -- By these calls whole packets were read, and less than one more; the packets' replies were written, and no more.
 pub record IsPromptAt (p : Progress) (calls : List LineCall) : Type 0 where
@@ -126,12 +132,14 @@ pub record IsPromptAt (p : Progress) (calls : List LineCall) : Type 0 where
 
 -- so it is before each read
 abbrev pub IsPrompt : Progress → List LineCall → Type 0
-IsPrompt p calls = (before later : List LineCall) (n : ℕ) → calls ≡ before ++ Read n ∷ later → IsPromptAt p before
+IsPrompt p calls =
+    (before later : List LineCall) (n : ℕ) → calls ≡ before ++ Read n ∷ later → IsPromptAt p before
 
 -- Since the engine fitted this trace, a session was served so. Each entry since then is the session's, and before its turns
 -- less than 64 KiB waited; it was fed what was read since the start, but what is not fed yet; its calls began at the moments
 -- that were told; and what was written since then is the beginning of its transcript, and was written promptly.
-pub record Served (start now : Scene) (trace : List Entry) (fits : Fits start.engine trace) (p : Progress) : Type 0 where
+pub record Served (start now : Scene) (trace : List Entry) (fits : Fits start.engine trace)
+    (p : Progress) : Type 0 where
   pub entries : List Entry
   pub fit : Fits now.engine (trace ++ entries)
   pub own : AllByRecursion (IsEntryOf p.session) entries
@@ -151,7 +159,8 @@ pub record Served (start now : Scene) (trace : List Entry) (fits : Fits start.en
 
 -- whatever trace the engine fitted at the start, a session was served, and is so far
 abbrev pub Serves : Scene → Scene → (Progress → Type 0) → Type 0
-Serves start now P = (trace : List Entry) → (fits : Fits start.engine trace) → (p : Progress) × Served start now trace fits p × P p
+Serves start now P = (trace : List Entry) → (fits : Fits start.engine trace)
+    → (p : Progress) × Served start now trace fits p × P p
 
 -- all that was written was told to the engine as sent
 abbrev pub IsInStep : ℕ → Progress → Type 0
@@ -179,7 +188,8 @@ IsIdle session p = GoesOn session p × (p.told.phase ≡ Resting) × IsCut p.tol
 -- after a turn: the session goes on, waits for bytes, or has left; where no reply was written, no more waits to be sent
 abbrev pub HasTurned : ℕ → Result Happened EngineFault → Progress → Type 0
 HasTurned session (Ok happened.Idle) p = IsIdle session p
-HasTurned session (Ok (happened.Ended cause)) p = IsInStep session p × (p.unfed ≡ []) × (p.told.phase ≡ Gone cause) × (cause ≢ Closed)
+HasTurned session (Ok (happened.Ended cause)) p =
+    IsInStep session p × (p.unfed ≡ []) × (p.told.phase ≡ Gone cause) × (cause ≢ Closed)
 HasTurned session (Ok happened.Wrote) p = GoesOn session p
 HasTurned session (Ok r) p = HasTurnBy session (may_begin_after r) p
 HasTurned session (Err fault) p = GoesOn session p
@@ -203,7 +213,8 @@ Rests session p = IsIdle session p × HasSentAll p
 -- after a round
 abbrev pub IsRounded : ℕ → Option (List ℕ) → Option Cause → Progress → Type 0
 IsRounded session incoming None p = Rests session p
-IsRounded session incoming (Some cause) p = HasLeft session cause p × HasSentAll p × (cause ≡ Closed → IsAtEnd incoming)
+IsRounded session incoming (Some cause) p =
+    HasLeft session cause p × HasSentAll p × (cause ≡ Closed → IsAtEnd incoming)
 
 -- serving stops: unless the line failed, all that was written was told as sent
 abbrev pub Stops : ℕ → ServeFault → Progress → Type 0
@@ -211,7 +222,8 @@ Stops session f p = (p.session ≡ session) × (f ≢ fault.Line → p.written �
 
 -- unless the line failed, all that was answered was written, and told as sent
 abbrev pub HasSentFor : ℕ → ServeFault → Progress → Type 0
-HasSentFor session f p = (p.session ≡ session) × (f ≢ fault.Line → HasSentAll p × (p.written ≡ p.told.sent))
+HasSentFor session f p =
+    (p.session ≡ session) × (f ≢ fault.Line → HasSentAll p × (p.written ≡ p.told.sent))
 
 -- Serving has stopped: unless the line failed, all that was answered was written. The session is closed.
 abbrev pub HasStopped : ServeFault → Progress → Type 0
@@ -219,7 +231,8 @@ HasStopped f p = (f ≢ fault.Line → HasSentAll p × (p.written ≡ p.told.sen
 
 -- the session was fed these bytes
 abbrev pub Feeds : EngineView → ℕ → List ℕ → EngineView → Type 0
-Feeds e session bytes e' = (fed : Vec ℕ) × (fed.items ≡ bytes) × (r : Happened) × GoesOnTrace e (event.Feed session fed) (Ok r) e'
+Feeds e session bytes e' = (fed : Vec ℕ) × (fed.items ≡ bytes) × (r : Happened)
+    × GoesOnTrace e (event.Feed session fed) (Ok r) e'
 
 -- the event was applied, or refused
 abbrev pub Applies : EngineView → Event → EngineView → Type 0
@@ -227,30 +240,37 @@ Applies e ev e' = (r : Result Happened EngineFault) × GoesOnTrace e ev r e'
 
 -- what waits to be sent
 abbrev pub Waits : EngineView → ℕ → List ℕ → Type 0
-Waits e session output = (trace : List Entry) → (fits : Fits e trace) → (t : Told) → IsSession fits.world session t → transcript t.answers ≡ t.sent ++ output
+Waits e session output = (trace : List Entry) → (fits : Fits e trace) → (t : Told)
+    → IsSession fits.world session t → transcript t.answers ≡ t.sent ++ output
 
 -- after what waited was written, and told as sent
 abbrev pub all_sent : Progress → Progress
-all_sent p = progress p.session (record p.told { sent = transcript p.told.answers }) p.unfed (transcript p.told.answers)
+all_sent p = progress p.session (record p.told { sent = transcript p.told.answers }) p.unfed
+    (transcript p.told.answers)
 
 abbrev pub SendsAll : ℕ → Scene → Scene → Type 0
-SendsAll session old new = (start : Scene) (trace : List Entry) (fits : Fits start.engine trace) (p : Progress)
+SendsAll session old new =
+    (start : Scene) (trace : List Entry) (fits : Fits start.engine trace) (p : Progress)
     → IsInStep session p → Served start old trace fits p → Served start new trace fits (all_sent p)
 
 -- after a beginning of it was written, and not told
 abbrev pub SendsSome : ℕ → Scene → Scene → Type 0
-SendsSome session old new = (start : Scene) (trace : List Entry) (fits : Fits start.engine trace) (p : Progress)
-    → IsInStep session p → Served start old trace fits p → (written : List ℕ) × Served start new trace fits (progress p.session p.told p.unfed written)
+SendsSome session old new =
+    (start : Scene) (trace : List Entry) (fits : Fits start.engine trace) (p : Progress)
+    → IsInStep session p → Served start old trace fits p → (written : List ℕ)
+    × Served start new trace fits (progress p.session p.told p.unfed written)
 
 -- What serving a line did, when it ended so: a session of its own was fed all that was read, was sent its whole transcript, and
 -- has left. At the end of the input it is closed.
 abbrev pub ServesLine : Scene → Scene → Cause → Type 0
 ServesLine start now cause = Serves start now
-    (λ p. (p.unfed ≡ []) × IsWhole p.told cause × HasSentAll p × (p.written ≡ p.told.sent) × (cause ≡ Closed → IsAtEnd now.incoming))
+    (λ p. (p.unfed ≡ []) × IsWhole p.told cause × HasSentAll p × (p.written ≡ p.told.sent)
+    × (cause ≡ Closed → IsAtEnd now.incoming))
 
 -- What serving a line did, when it stopped so: nothing, where no session could open; or a session of its own was served so far.
 abbrev pub StopsEarly : Scene → Scene → ServeFault → Type 0
-StopsEarly start now f = (trace : List Entry) → (fits : Fits start.engine trace) → (now ≡ start) ⊎ ((p : Progress) × Served start now trace fits p × HasStopped f p)
+StopsEarly start now f = (trace : List Entry) → (fits : Fits start.engine trace)
+    → (now ≡ start) ⊎ ((p : Progress) × Served start now trace fits p × HasStopped f p)
 
 -- whatever trace the engine fitted, it is as it was
 abbrev pub IsUnchanged : EngineView → EngineView → Type 0
@@ -266,7 +286,8 @@ refusal_of _ = fault.OutOfMemory
 abbrev pub IsServeFault : EngineView → ServeFault → ℕ → ℕ → Type 0
 IsServeFault e fault.Line failed failed' = Rose failed failed'
 IsServeFault e fault.OutOfMemory failed failed' = Unit {0}
-IsServeFault e fault.Sessions failed failed' = (trace : List Entry) → (fits : Fits e trace) → most_sessions ≤ here fits.world
+IsServeFault e fault.Sessions failed failed' =
+    (trace : List Entry) → (fits : Fits e trace) → most_sessions ≤ here fits.world
 IsServeFault e fault.Stranger failed failed' = ⊥
 IsServeFault e fault.NumbersSpent failed failed' = Unit {0}
 
@@ -274,7 +295,8 @@ IsServeFault e fault.NumbersSpent failed failed' = Unit {0}
 abbrev pub IsOpenFault : EngineView → ServeFault → Type 0
 IsOpenFault e fault.Line = ⊥
 IsOpenFault e fault.OutOfMemory = Unit {0}
-IsOpenFault e fault.Sessions = (trace : List Entry) → (fits : Fits e trace) → most_sessions ≤ here fits.world
+IsOpenFault e fault.Sessions =
+    (trace : List Entry) → (fits : Fits e trace) → most_sessions ≤ here fits.world
 IsOpenFault e fault.Stranger = ⊥
 IsOpenFault e fault.NumbersSpent = Unit {0}
 

@@ -21,17 +21,23 @@ pub fn one_session_alone()
         → EndsAlone trace w t input moments cause → EndsAlone trace' w' t' input moments cause'
         → (t.bodies ≡ t'.bodies) × (t.answers ≡ t'.answers) × (cause ≡ cause') }
     ensures output { (input moments : List ℕ) → AreBytes input
-        → (trace trace' : List Entry) (e e' : EngineView) (fits : Fits e trace) (fits' : Fits e' trace')
+        → (trace trace' : List Entry) (e e' : EngineView) (fits : Fits e trace)
+        (fits' : Fits e' trace')
         → (t t' : Told) (cause cause' : Cause)
-        → EndsAlone trace fits.world t input moments cause → EndsAlone trace' fits'.world t' input moments cause'
+        → EndsAlone trace fits.world t input moments cause
+        → EndsAlone trace' fits'.world t' input moments cause'
         → (a b : List ℕ) → IsSentBy e 1 a → IsSentBy e' 1 b → t.sent ++ a ≡ t'.sent ++ b }
     ensures served { (input moments : List ℕ) → AreBytes input
         → (start now start' now' : Scene) (p p' : Progress) (cause cause' : Cause)
-        → ServesAlone start now input moments cause p → ServesAlone start' now' input moments cause' p'
+        → ServesAlone start now input moments cause p
+        → ServesAlone start' now' input moments cause' p'
         → (p.written ≡ p'.written) × (cause ≡ cause')
-        × ((before : List ℕ) → start.outgoing ≡ Some before → start'.outgoing ≡ Some before → now.outgoing ≡ now'.outgoing) }
-    ensures line { (start now : Scene) (input : List ℕ) (cause : Cause) → (fits : Fits start.engine [])
+        × ((before : List ℕ) → start.outgoing ≡ Some before → start'.outgoing ≡ Some before
+        → now.outgoing ≡ now'.outgoing) }
+    ensures line { (start now : Scene) (input : List ℕ) (cause : Cause)
+        → (fits : Fits start.engine [])
         → start.incoming ≡ Some input → ServesLine start now cause
         → (p : Progress) × (served : Served start now [] fits p)
-        × (HadMemory served.entries p.told → ServesAlone start now input (moments_begun served.entries) cause p) }
+        × (HadMemory served.entries p.told
+        → ServesAlone start now input (moments_begun served.entries) cause p) }
 {}

@@ -33,7 +33,8 @@ fn refusal(fault: EngineFault) -> ServeFault
 
 /// A session opens for the line.
 fn open(engine: &mut Engine) -> Result<u64, ServeFault>
-    ensures opened { IfOk result (λ session. GoesOnTrace engine.old Open (Ok (Opened session)) engine.new) }
+    ensures opened { IfOk result (λ session. GoesOnTrace engine.old Open
+        (Ok (Opened session)) engine.new) }
     ensures unchanged { OnErr result (IsUnchanged engine.old engine.new) }
     ensures fault { IfErr result (λ fault. IsOpenFault engine.old fault) }
 {
@@ -68,8 +69,10 @@ fn turns<C: Clock>(
     may_begin: bool,
 ) -> Result<Happened, EngineFault>
     ensures { (start : Scene) (incoming outgoing : Option (List ℕ)) (calls : Option (List LineCall))
-        → Serves start (scene incoming outgoing calls (C.told clock.old) engine.old) (HasTurnBy session may_begin)
-        → Serves start (scene incoming outgoing calls (C.told clock.new) engine.new) (HasTurned session result) }
+        → Serves start (scene incoming outgoing calls (C.told clock.old) engine.old)
+        (HasTurnBy session may_begin)
+        → Serves start (scene incoming outgoing calls (C.told clock.new) engine.new)
+        (HasTurned session result) }
 {
     if !may_begin {
         return engine.turns(session, 0);
@@ -115,10 +118,12 @@ fn waiting(engine: &Engine, session: u64) -> &[u8]
 /// Sends what waits.
 fn send<L: Line>(engine: &mut Engine, line: &mut L, session: u64) -> Result<(), LineFault>
     ensures sent { OnOk result ((told : Option (List ℕ))
-        → SendsAll session (scene (L.incoming line.old) (L.outgoing line.old) (L.calls line.old) told engine.old)
+        → SendsAll session (scene (L.incoming line.old) (L.outgoing line.old)
+        (L.calls line.old) told engine.old)
         (scene (L.incoming line.new) (L.outgoing line.new) (L.calls line.new) told engine.new)) }
     ensures some { OnErr result ((told : Option (List ℕ))
-        → SendsSome session (scene (L.incoming line.old) (L.outgoing line.old) (L.calls line.old) told engine.old)
+        → SendsSome session (scene (L.incoming line.old) (L.outgoing line.old)
+        (L.calls line.old) told engine.old)
         (scene (L.incoming line.new) (L.outgoing line.new) (L.calls line.new) told engine.new)) }
     ensures failures { L.failed line.old ≤ L.failed line.new }
     ensures fault { OnErr result (Rose (L.failed line.old) (L.failed line.new)) }
@@ -133,11 +138,15 @@ fn send<L: Line>(engine: &mut Engine, line: &mut L, session: u64) -> Result<(), 
 /// Sends what waits, once it is much.
 fn send_batch<L: Line>(engine: &mut Engine, line: &mut L, session: u64) -> Result<(), LineFault>
     ensures low { OnOk result ((start : Scene) (told : Option (List ℕ)) (may_begin : Bool)
-        → Serves start (scene (L.incoming line.old) (L.outgoing line.old) (L.calls line.old) told engine.old) (GoesOnBy session may_begin)
-        → Serves start (scene (L.incoming line.new) (L.outgoing line.new) (L.calls line.new) told engine.new) (HasTurnBy session may_begin)) }
+        → Serves start (scene (L.incoming line.old) (L.outgoing line.old)
+        (L.calls line.old) told engine.old) (GoesOnBy session may_begin)
+        → Serves start (scene (L.incoming line.new) (L.outgoing line.new)
+        (L.calls line.new) told engine.new) (HasTurnBy session may_begin)) }
     ensures stops { OnErr result ((start : Scene) (told : Option (List ℕ))
-        → Serves start (scene (L.incoming line.old) (L.outgoing line.old) (L.calls line.old) told engine.old) (GoesOn session)
-        → Serves start (scene (L.incoming line.new) (L.outgoing line.new) (L.calls line.new) told engine.new) (Stops session ServeFault.Line)) }
+        → Serves start (scene (L.incoming line.old) (L.outgoing line.old)
+        (L.calls line.old) told engine.old) (GoesOn session)
+        → Serves start (scene (L.incoming line.new) (L.outgoing line.new)
+        (L.calls line.new) told engine.new) (Stops session ServeFault.Line)) }
     ensures failures { L.failed line.old ≤ L.failed line.new }
     ensures fault { OnErr result (Rose (L.failed line.old) (L.failed line.new)) }
 {
@@ -155,13 +164,18 @@ fn drain<L: Line, C: Clock>(
     session: u64,
 ) -> Result<Option<Cause>, ServeFault>
     ensures drained { IfOk result (λ ended. (start : Scene)
-        → Serves start (scene (L.incoming line.old) (L.outgoing line.old) (L.calls line.old) (C.told clock.old) engine.old) (HasTurn session)
-        → Serves start (scene (L.incoming line.new) (L.outgoing line.new) (L.calls line.new) (C.told clock.new) engine.new) (IsDrained session ended)) }
+        → Serves start (scene (L.incoming line.old) (L.outgoing line.old) (L.calls line.old)
+        (C.told clock.old) engine.old) (HasTurn session)
+        → Serves start (scene (L.incoming line.new) (L.outgoing line.new) (L.calls line.new)
+        (C.told clock.new) engine.new) (IsDrained session ended)) }
     ensures stops { IfErr result (λ fault. (start : Scene)
-        → Serves start (scene (L.incoming line.old) (L.outgoing line.old) (L.calls line.old) (C.told clock.old) engine.old) (HasTurn session)
-        → Serves start (scene (L.incoming line.new) (L.outgoing line.new) (L.calls line.new) (C.told clock.new) engine.new) (Stops session fault)) }
+        → Serves start (scene (L.incoming line.old) (L.outgoing line.old) (L.calls line.old)
+        (C.told clock.old) engine.old) (HasTurn session)
+        → Serves start (scene (L.incoming line.new) (L.outgoing line.new) (L.calls line.new)
+        (C.told clock.new) engine.new) (Stops session fault)) }
     ensures failures { L.failed line.old ≤ L.failed line.new }
-    ensures fault { IfErr result (λ fault. IsRoundFault fault (L.failed line.old) (L.failed line.new)) }
+    ensures fault { IfErr result (λ fault. IsRoundFault fault (L.failed line.old)
+        (L.failed line.new)) }
 {
     let mut may_begin = true;
     for _ in 0..u64::MAX {
@@ -195,15 +209,20 @@ fn round<L: Line, C: Clock>(
 ) -> Result<Option<Cause>, ServeFault>
     requires { 0 < vec_len piece.old }
     ensures rounded { IfOk result (λ ended. (start : Scene)
-        → Serves start (scene (L.incoming line.old) (L.outgoing line.old) (L.calls line.old) (C.told clock.old) engine.old) (Rests session)
-        → Serves start (scene (L.incoming line.new) (L.outgoing line.new) (L.calls line.new) (C.told clock.new) engine.new)
+        → Serves start (scene (L.incoming line.old) (L.outgoing line.old) (L.calls line.old)
+        (C.told clock.old) engine.old) (Rests session)
+        → Serves start (scene (L.incoming line.new) (L.outgoing line.new) (L.calls line.new)
+        (C.told clock.new) engine.new)
         (IsRounded session (L.incoming line.new) ended)) }
     ensures stops { IfErr result (λ fault. (start : Scene)
-        → Serves start (scene (L.incoming line.old) (L.outgoing line.old) (L.calls line.old) (C.told clock.old) engine.old) (Rests session)
-        → Serves start (scene (L.incoming line.new) (L.outgoing line.new) (L.calls line.new) (C.told clock.new) engine.new) (Stops session fault)) }
+        → Serves start (scene (L.incoming line.old) (L.outgoing line.old) (L.calls line.old)
+        (C.told clock.old) engine.old) (Rests session)
+        → Serves start (scene (L.incoming line.new) (L.outgoing line.new) (L.calls line.new)
+        (C.told clock.new) engine.new) (Stops session fault)) }
     ensures len { vec_len piece.new ≡ vec_len piece.old }
     ensures failures { L.failed line.old ≤ L.failed line.new }
-    ensures fault { IfErr result (λ fault. IsRoundFault fault (L.failed line.old) (L.failed line.new)) }
+    ensures fault { IfErr result (λ fault. IsRoundFault fault (L.failed line.old)
+        (L.failed line.new)) }
 {
     let n = line.read(piece)?;
     if n == 0 {
@@ -226,13 +245,18 @@ fn serve<L: Line, C: Clock>(
 ) -> Result<Cause, ServeFault>
     requires { 0 < vec_len piece.old }
     ensures served { IfOk result (λ cause. (start : Scene)
-        → Serves start (scene (L.incoming line.old) (L.outgoing line.old) (L.calls line.old) (C.told clock.old) engine.old) (Rests session)
-        → ServesLine start (scene (L.incoming line.new) (L.outgoing line.new) (L.calls line.new) (C.told clock.new) engine.new) cause) }
+        → Serves start (scene (L.incoming line.old) (L.outgoing line.old) (L.calls line.old)
+        (C.told clock.old) engine.old) (Rests session)
+        → ServesLine start (scene (L.incoming line.new) (L.outgoing line.new) (L.calls line.new)
+        (C.told clock.new) engine.new) cause) }
     ensures stops { IfErr result (λ fault. (start : Scene)
-        → Serves start (scene (L.incoming line.old) (L.outgoing line.old) (L.calls line.old) (C.told clock.old) engine.old) (Rests session)
-        → Serves start (scene (L.incoming line.new) (L.outgoing line.new) (L.calls line.new) (C.told clock.new) engine.new) (Stops session fault)) }
+        → Serves start (scene (L.incoming line.old) (L.outgoing line.old) (L.calls line.old)
+        (C.told clock.old) engine.old) (Rests session)
+        → Serves start (scene (L.incoming line.new) (L.outgoing line.new) (L.calls line.new)
+        (C.told clock.new) engine.new) (Stops session fault)) }
     ensures failures { L.failed line.old ≤ L.failed line.new }
-    ensures fault { IfErr result (λ fault. IsRoundFault fault (L.failed line.old) (L.failed line.new)) }
+    ensures fault { IfErr result (λ fault. IsRoundFault fault (L.failed line.old)
+        (L.failed line.new)) }
 {
     for _ in 0..u64::MAX {
         match round(engine, line, clock, session, piece) {
@@ -252,9 +276,13 @@ fn send_last<L: Line>(
     fault: ServeFault,
 ) -> ServeFault
     ensures sent { (start : Scene) (told : Option (List ℕ))
-        → Serves start (scene (L.incoming line.old) (L.outgoing line.old) (L.calls line.old) told engine.old) (Stops session fault)
-        → Serves start (scene (L.incoming line.new) (L.outgoing line.new) (L.calls line.new) told engine.new) (HasSentFor session result) }
-    ensures fault { (before : ℕ) → before ≤ L.failed line.old → IsRoundFault fault before (L.failed line.old) → IsRoundFault result before (L.failed line.new) }
+        → Serves start (scene (L.incoming line.old) (L.outgoing line.old)
+        (L.calls line.old) told engine.old) (Stops session fault)
+        → Serves start (scene (L.incoming line.new) (L.outgoing line.new)
+        (L.calls line.new) told engine.new) (HasSentFor session result) }
+    ensures fault { (before : ℕ) → before ≤ L.failed line.old
+        → IsRoundFault fault before (L.failed line.old)
+        → IsRoundFault result before (L.failed line.new) }
 {
     match fault {
         ServeFault::Line => ServeFault::Line,
@@ -268,9 +296,13 @@ fn send_last<L: Line>(
 /// Ends a session whose serving stops: what waits is sent, and the session is closed.
 fn stop<L: Line>(engine: &mut Engine, line: &mut L, session: u64, fault: ServeFault) -> ServeFault
     ensures stopped { (start : Scene) (told : Option (List ℕ))
-        → Serves start (scene (L.incoming line.old) (L.outgoing line.old) (L.calls line.old) told engine.old) (Stops session fault)
-        → Serves start (scene (L.incoming line.new) (L.outgoing line.new) (L.calls line.new) told engine.new) (HasStopped result) }
-    ensures fault { (before : ℕ) → before ≤ L.failed line.old → IsRoundFault fault before (L.failed line.old) → IsRoundFault result before (L.failed line.new) }
+        → Serves start (scene (L.incoming line.old) (L.outgoing line.old)
+        (L.calls line.old) told engine.old) (Stops session fault)
+        → Serves start (scene (L.incoming line.new) (L.outgoing line.new)
+        (L.calls line.new) told engine.new) (HasStopped result) }
+    ensures fault { (before : ℕ) → before ≤ L.failed line.old
+        → IsRoundFault fault before (L.failed line.old)
+        → IsRoundFault result before (L.failed line.new) }
 {
     let answered = send_last(engine, line, session, fault);
     close(engine, session);
@@ -293,12 +325,17 @@ pub fn serve_one<L: Line, C: Clock>(
     clock: &mut C,
 ) -> Result<Cause, ServeFault>
     ensures served { IfOk result (λ cause. ServesLine
-        (scene (L.incoming line.old) (L.outgoing line.old) (L.calls line.old) (C.told clock.old) engine.old)
-        (scene (L.incoming line.new) (L.outgoing line.new) (L.calls line.new) (C.told clock.new) engine.new) cause) }
+        (scene (L.incoming line.old) (L.outgoing line.old) (L.calls line.old)
+        (C.told clock.old) engine.old)
+        (scene (L.incoming line.new) (L.outgoing line.new) (L.calls line.new)
+        (C.told clock.new) engine.new) cause) }
     ensures stopped { IfErr result (λ fault. StopsEarly
-        (scene (L.incoming line.old) (L.outgoing line.old) (L.calls line.old) (C.told clock.old) engine.old)
-        (scene (L.incoming line.new) (L.outgoing line.new) (L.calls line.new) (C.told clock.new) engine.new) fault) }
-    ensures fault { IfErr result (λ fault. IsServeFault engine.old fault (L.failed line.old) (L.failed line.new)) }
+        (scene (L.incoming line.old) (L.outgoing line.old) (L.calls line.old)
+        (C.told clock.old) engine.old)
+        (scene (L.incoming line.new) (L.outgoing line.new) (L.calls line.new)
+        (C.told clock.new) engine.new) fault) }
+    ensures fault { IfErr result (λ fault. IsServeFault engine.old fault (L.failed line.old)
+        (L.failed line.new)) }
 {
     let mut piece = zeros(alloc, PIECE)?;
     let session = open(engine)?;

@@ -46,22 +46,27 @@ handle_at bytes = if nat_eq (length bytes) 8 then Some (from_be_bytes w64 bytes)
 
 -- the paths of a rename
 abbrev pub paths_at : List ℕ → List ℕ → Option (Path × Path)
-paths_at old new = option_and_then (λ from. option_map (λ to. (from, to)) (path_at new)) (path_at old)
+paths_at old new =
+    option_and_then (λ from. option_map (λ to. (from, to)) (path_at new)) (path_at old)
 
 -- the call by a handle, if it is a number
 abbrev pub handle_call : WireRequest → Option Request
 handle_call (wire.Close handle) = option_map call.Close (handle_at handle)
-handle_call (wire.Read handle offset len) = option_map (λ number. call.Read number offset len) (handle_at handle)
-handle_call (wire.Write handle offset bytes) = option_map (λ number. call.Write number offset bytes) (handle_at handle)
+handle_call (wire.Read handle offset len) =
+    option_map (λ number. call.Read number offset len) (handle_at handle)
+handle_call (wire.Write handle offset bytes) =
+    option_map (λ number. call.Write number offset bytes) (handle_at handle)
 handle_call (wire.FStat handle) = option_map call.FStat (handle_at handle)
-handle_call (wire.FSetStat handle attrs) = option_map (λ number. call.FSetStat number attrs) (handle_at handle)
+handle_call (wire.FSetStat handle attrs) =
+    option_map (λ number. call.FSetStat number attrs) (handle_at handle)
 handle_call (wire.ReadDir handle) = option_map call.ReadDir (handle_at handle)
 handle_call request = None
 
 -- The call that a request asks for, if its paths have no fault and its handle is a number. LSTAT is STAT: there are no
 -- links. REALPATH asks for none.
 abbrev pub call_of : WireRequest → Option Request
-call_of (wire.Open text flags attrs) = option_map (λ path. call.Open path flags attrs) (path_at text)
+call_of (wire.Open text flags attrs) =
+    option_map (λ path. call.Open path flags attrs) (path_at text)
 call_of (wire.LStat text) = option_map call.Stat (path_at text)
 call_of (wire.SetStat text attrs) = option_map (λ path. call.SetStat path attrs) (path_at text)
 call_of (wire.OpenDir text) = option_map call.OpenDir (path_at text)
@@ -71,7 +76,8 @@ call_of (wire.Rmdir text) = option_map call.Rmdir (path_at text)
 call_of (wire.RealPath text) = None
 call_of (wire.Stat text) = option_map call.Stat (path_at text)
 call_of (wire.Rename old new) = option_map (λ paths. call.Rename paths.0 paths.1) (paths_at old new)
-call_of (wire.PosixRename old new) = option_map (λ paths. call.PosixRename paths.0 paths.1) (paths_at old new)
+call_of (wire.PosixRename old new) =
+    option_map (λ paths. call.PosixRename paths.0 paths.1) (paths_at old new)
 call_of request = handle_call request
 
 -- a path that is refused, or a handle that is no number, is answered FAILURE

@@ -45,13 +45,15 @@ pub record Begins (bytes body rest : List ℕ) : Type 0 where
 -- a wrong length stands at the front
 abbrev pub BeginsWrong : List ℕ → Cause → Type 0
 BeginsWrong bytes cause =
-    (IsCut bytes (cut.Bad bad.ZeroLength) × (cause ≡ ZeroLength)) ⊎ (IsCut bytes (cut.Bad bad.TooLong) × (cause ≡ TooLong))
+    (IsCut bytes (cut.Bad bad.ZeroLength) × (cause ≡ ZeroLength))
+    ⊎ (IsCut bytes (cut.Bad bad.TooLong) × (cause ≡ TooLong))
 
 -- what stands at the front of the unread bytes, and of how many bytes its packet is
 abbrev pub Fronts : Bool → List ℕ → Front → Type 0
 Fronts begun bytes front.More = IsCut bytes cut.More
 Fronts begun bytes (front.Wrong cause) = BeginsWrong bytes cause
-Fronts begun bytes (front.Asks a len) = (body : List ℕ) × Begins bytes body (drop len bytes) × AsksFor begun body a × FitsPacket a × (len ≤ length bytes)
+Fronts begun bytes (front.Asks a len) = (body : List ℕ) × Begins bytes body (drop len bytes)
+    × AsksFor begun body a × FitsPacket a × (len ≤ length bytes)
 
 -- the packet that answers a body with no call
 abbrev pub LocalPacket : Ask → List ℕ → Type 0
@@ -68,7 +70,13 @@ pub record AnswersLocally (v w : SessionView) : Type 0 where
   pub begins : Begins v.unread body rest
   pub asks : AsksFor v.begun body asked
   pub local_packet : LocalPacket asked text
-  pub now : w ≡ record { unread = rest; output = v.output ++ text; begun = true; waiting = None; ended = None }
+  pub now : w ≡ record {
+    unread = rest;
+    output = v.output ++ text;
+    begun = true;
+    waiting = None;
+    ended = None;
+  }
 
 -- a body asked for a call
 pub record Calls (v : SessionView) (request : Request) (w : SessionView) : Type 0 where
@@ -77,12 +85,19 @@ pub record Calls (v : SessionView) (request : Request) (w : SessionView) : Type 
   pub id : ℕ
   pub begins : Begins v.unread body rest
   pub asks : AsksFor v.begun body (ask.Call id request)
-  pub now : w ≡ record { unread = rest; output = v.output; begun = true; waiting = Some id; ended = None }
+  pub now : w ≡ record {
+    unread = rest;
+    output = v.output;
+    begun = true;
+    waiting = Some id;
+    ended = None;
+  }
 
 -- a wrong length or an ending body stands at the front
 abbrev pub EndsBy : Bool → List ℕ → Cause → Type 0
 EndsBy begun bytes cause = BeginsWrong bytes cause
-    ⊎ ((body : List ℕ) × (rest : List ℕ) × Begins bytes body rest × AsksFor begun body (ask.End cause))
+    ⊎ ((body : List ℕ) × (rest : List ℕ) × Begins bytes body rest
+    × AsksFor begun body (ask.End cause))
 
 -- an ended session answers its cause again
 abbrev pub NextGives : SessionView → Next → SessionView → Type 0
@@ -90,7 +105,14 @@ NextGives v next.More w = (v.ended ≡ None) × IsCut v.unread cut.More × (w �
 NextGives v next.Local w = (v.ended ≡ None) × AnswersLocally v w
 NextGives v (next.Call request) w = (v.ended ≡ None) × Calls v request w
 NextGives v (next.Ended cause) w = ((v.ended ≡ Some cause) × (w ≡ v))
-    ⊎ ((v.ended ≡ None) × EndsBy v.begun v.unread cause × (w ≡ record { unread = []; output = v.output; begun = v.begun; waiting = None; ended = Some cause }))
+    ⊎ ((v.ended ≡ None) × EndsBy v.begun v.unread cause
+    × (w ≡ record {
+      unread = [];
+      output = v.output;
+      begun = v.begun;
+      waiting = None;
+      ended = Some cause;
+    }))
 
 -- the reply of a call that could not be made
 abbrev pub refusal_of : CoreFault → Reply

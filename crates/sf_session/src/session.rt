@@ -65,7 +65,13 @@ impl Model for Session {
 
     ghost Value = { SessionView };
 
-    ghost view = { λ s. record { unread = s.unread.items; output = s.output.items; begun = s.begun; waiting = s.waiting; ended = s.ended } };
+    ghost view = { λ s. record {
+      unread = s.unread.items;
+      output = s.output.items;
+      begun = s.begun;
+      waiting = s.waiting;
+      ended = s.ended;
+    } };
 
     ghost invariant = { λ s. s.waiting ≢ None → refusal_len ≤ s.output.spare };
 }
@@ -176,7 +182,11 @@ impl Session {
         requires len { len ≤ length self.old.unread }
         requires free { self.old.waiting ≡ None }
         ensures ok { OnOk result (self.new
-            ≡ record self.old { unread = drop len self.old.unread; output = self.old.output ++ packet version_body; begun = true }) }
+            ≡ record self.old {
+              unread = drop len self.old.unread;
+              output = self.old.output ++ packet version_body;
+              begun = true;
+            }) }
         ensures next { IfOk result (λ next. next ≡ Next.Local) }
         ensures err { OnErr result (self.new ≡ self.old) }
         ensures fault { result ≢ Err SessionFault.Ended }
@@ -193,7 +203,11 @@ impl Session {
         requires free { self.old.waiting ≡ None }
         requires fits { length (reply_body id reply) ≤ max_body }
         ensures ok { OnOk result (self.new
-            ≡ record self.old { unread = drop len self.old.unread; output = self.old.output ++ packet (reply_body id reply); begun = true }) }
+            ≡ record self.old {
+              unread = drop len self.old.unread;
+              output = self.old.output ++ packet (reply_body id reply);
+              begun = true;
+            }) }
         ensures next { IfOk result (λ next. next ≡ Next.Local) }
         ensures err { OnErr result (self.new ≡ self.old) }
         ensures fault { result ≢ Err SessionFault.Ended }
@@ -209,7 +223,11 @@ impl Session {
     fn call(&mut self, id: u32, request: Request, len: usize) -> Result<Next, SessionFault>
         requires len { len ≤ length self.old.unread }
         ensures ok { OnOk result (self.new
-            ≡ record self.old { unread = drop len self.old.unread; begun = true; waiting = Some id }) }
+            ≡ record self.old {
+              unread = drop len self.old.unread;
+              begun = true;
+              waiting = Some id;
+            }) }
         ensures next { IfOk result (λ next. next ≡ Next.Call request) }
         ensures err { OnErr result (self.new ≡ self.old) }
         ensures fault { result ≢ Err SessionFault.Ended }
@@ -227,7 +245,10 @@ impl Session {
     pub fn answer(&mut self, answer: &Answer) -> Result<(), SessionFault>
         requires { IsSome self.old.waiting }
         ensures ok { OnOk result (IfSome self.old.waiting (λ id. self.new
-            ≡ record self.old { output = self.old.output ++ packet (reply_body id answer.now.reply); waiting = None })) }
+            ≡ record self.old {
+              output = self.old.output ++ packet (reply_body id answer.now.reply);
+              waiting = None;
+            })) }
         ensures err { OnErr result (self.new ≡ self.old) }
         ensures fault { result ≢ Err SessionFault.Ended }
     {
@@ -246,7 +267,10 @@ impl Session {
     pub fn refuse(&mut self, fault: CoreFault)
         requires { IsSome self.old.waiting }
         ensures { IfSome self.old.waiting (λ id. self.new
-            ≡ record self.old { output = self.old.output ++ packet (reply_body id (refusal_of fault)); waiting = None }) }
+            ≡ record self.old {
+              output = self.old.output ++ packet (reply_body id (refusal_of fault));
+              waiting = None;
+            }) }
     {
         if let Some(id) = self.waiting {
             if write_reply(id, &refusal(fault), &mut self.output).is_err() {

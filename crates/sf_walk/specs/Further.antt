@@ -33,7 +33,8 @@ pub record IsHeldThere (s : StoreState) (number : ℕ) (found : Located) (holder
   pub other : number ≢ holder
 
 -- another call holds the directory that so many names of the path lead to
-pub record IsHeldOnWay (s : StoreState) (number : ℕ) (path : Path) (walked holder : ℕ) : Type 0 where
+pub record IsHeldOnWay (s : StoreState) (number : ℕ) (path : Path)
+    (walked holder : ℕ) : Type 0 where
   pub node : ℕ
   pub leads : walk (entry_of s.nodes) s.root (take walked path) ≡ Some node
   pub held : holder_of s.nodes node ≡ Some holder

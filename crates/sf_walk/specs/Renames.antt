@@ -13,7 +13,8 @@ use Rattle.sf_walk.specs.declared.renames.Course.TheVariants.{Told, Moves}
 -- a node may take another's place: a file a file's, and a directory an empty directory's
 abbrev pub may_replace : List (Option Node) → ℕ → ℕ → Bool
 may_replace nodes node target =
-    if is_directory_at nodes target then is_directory_at nodes node && is_bare_at nodes target else not (is_directory_at nodes node)
+    if is_directory_at nodes target then is_directory_at nodes node && is_bare_at nodes target
+    else not (is_directory_at nodes node)
 
 -- A path's entry may move from one directory into another, not below itself: what stands at the new path is bare.
 pub record MayMove (s : StoreState) (old new : Path) (from into : ℕ) : Type 0 where
@@ -29,7 +30,8 @@ pub record MayMove (s : StoreState) (old new : Path) (from into : ℕ) : Type 0 
   pub leads_new : walk (entry_of s.nodes) s.root beside ≡ Some into
   pub directory : is_directory_at s.nodes into ≡ true
   pub not_inside : after_front old new ≡ None
-  pub bare : (target : ℕ) → entry_of s.nodes into last ≡ Some target → is_bare_at s.nodes target ≡ true
+  pub bare : (target : ℕ) → entry_of s.nodes into last ≡ Some target
+      → is_bare_at s.nodes target ≡ true
 
 -- What a rename asks for, and its moment.
 pub record Renaming : Type 0 where
@@ -43,7 +45,8 @@ renaming old new moment = record { old = old; new = new; moment = moment }
 -- what is told is the tree's answer, or the answer is the move and it may be done
 abbrev pub IsCourse : StoreState → Tree → Renaming → Answer → Course → Type 0
 IsCourse s t asked answer (Told code) = answer ≡ tells (reply.Status code)
-IsCourse s t asked answer (Moves from into) = (answer ≡ moves t asked.moment asked.old asked.new) × MayMove s asked.old asked.new from into
+IsCourse s t asked answer (Moves from into) =
+    (answer ≡ moves t asked.moment asked.old asked.new) × MayMove s asked.old asked.new from into
 
 -- where there is a move, neither path is the root
 abbrev pub AreNamed : Path → Path → Course → Type 0

@@ -46,7 +46,8 @@ IsAsBefore new None node = new node.holder node.label
 IsAsBefore new (Some was) node = (node.holder ≡ was.holder) × (node.label ≡ was.label)
 
 pub record Stays (told : Option ℕ → ℕ → Type 0) (old new : StoreState) : Type 0 where
-  pub node : (id : ℕ) (node : Node) → node_in new.nodes id ≡ Some node → IsAsBefore told (node_in old.nodes id) node
+  pub node : (id : ℕ) (node : Node) → node_in new.nodes id ≡ Some node
+      → IsAsBefore told (node_in old.nodes id) node
 
 -- each node has the holder and the label that it had, and none is new
 abbrev pub HoldersStay : StoreState → StoreState → Type 0
@@ -63,7 +64,8 @@ pub record IsUnused (t : Tree) (number : ℕ) : Type 0 where
   pub handle : handle_of t.handles number ≡ None
 
 -- the reply is the tree's, and the store keeps the tree after the call
-pub record IsCarriedOut (new : StoreState) (t : Tree) (answer : Answer) (given : Reply) : Type 0 where
+pub record IsCarriedOut (new : StoreState) (t : Tree) (answer : Answer)
+    (given : Reply) : Type 0 where
   pub told : given ≡ answer.reply
   pub tree : Keeps new (done t answer.changes)
 

@@ -47,7 +47,8 @@ pub record AreEnds (path other : Path) (common old new : Reached) : Type 0 where
 abbrev pub IsShort : Option Path → Option Path → Stage → Type 0
 IsShort path other stage.Fresh = Unit {0}
 IsShort None other (stage.At walked node) = ⊥
-IsShort (Some path) other (stage.At walked node) = (walked < length path) × IsBefore path other walked
+IsShort (Some path) other (stage.At walked node) =
+    (walked < length path) × IsBefore path other walked
 IsShort None other (stage.Ends common old new) = ⊥
 IsShort (Some path) None (stage.Ends common old new) = ⊥
 IsShort (Some path) (Some other) (stage.Ends common old new) = AreEnds path other common old new
@@ -59,7 +60,8 @@ IsLed s None other (stage.At walked node) = ⊥
 IsLed s (Some path) other (stage.At walked node) = IsOnWay s path walked node
 IsLed s None other (stage.Ends common old new) = ⊥
 IsLed s (Some path) None (stage.Ends common old new) = ⊥
-IsLed s (Some path) (Some other) (stage.Ends common old new) = IsOnWay s path old.walked old.node × IsOnWay s other new.walked new.node
+IsLed s (Some path) (Some other) (stage.Ends common old new) =
+    IsOnWay s path old.walked old.node × IsOnWay s other new.walked new.node
 
 -- where a call stands: nowhere yet, or on its way
 abbrev pub Stands : StoreState → Option Path → Option Path → Stage → Type 0
@@ -74,7 +76,8 @@ abbrev pub Arrives : Path → Option Path → ℕ → ℕ → Stage → Type 0
 Arrives path None walked node after = after ≡ stage.At walked node
 Arrives path (Some other) walked node after =
     (IsBefore path (Some other) walked × (after ≡ stage.At walked node))
-    ⊎ (PartAt path other walked × (after ≡ stage.Ends (reached walked node) (reached walked node) (reached walked node)))
+    ⊎ (PartAt path other walked
+    × (after ≡ stage.Ends (reached walked node) (reached walked node) (reached walked node)))
 
 -- the directory that an end leaves is freed, but for the common one
 abbrev pub left_behind : Reached → Reached → Option ℕ
@@ -92,15 +95,20 @@ pub record Next : Type 0 where
 -- its old path up to the old path's parent, and from then on with the other.
 abbrev pub IsNext : Option Path → Option Path → Stage → Next → Type 0
 IsNext None other at next = ⊥
-IsNext (Some path) other stage.Fresh next = (next.to ≡ []) × (0 < length path) × Arrives path other 0 next.node next.after × (next.left ≡ None)
+IsNext (Some path) other stage.Fresh next = (next.to ≡ []) × (0 < length path)
+    × Arrives path other 0 next.node next.after × (next.left ≡ None)
 IsNext (Some path) other (stage.At walked above) next =
-    (next.to ≡ take (walked + 1) path) × (walked + 1 < length path) × Arrives path other (walked + 1) next.node next.after × (next.left ≡ Some above)
+    (next.to ≡ take (walked + 1) path) × (walked + 1 < length path)
+    × Arrives path other (walked + 1) next.node next.after × (next.left ≡ Some above)
 IsNext (Some path) None (stage.Ends common old new) next = ⊥
 IsNext (Some path) (Some other) (stage.Ends common old new) next =
     ((next.to ≡ take (old.walked + 1) path) × (old.walked + 1 < length path)
-    × (next.after ≡ stage.Ends common (reached (old.walked + 1) next.node) new) × (next.left ≡ left_behind common old))
-    ⊎ ((old.walked + 1 ≡ length path) × (next.to ≡ take (new.walked + 1) other) × (new.walked + 1 < length other)
-    × (next.after ≡ stage.Ends common old (reached (new.walked + 1) next.node)) × (next.left ≡ left_behind common new))
+    × (next.after ≡ stage.Ends common (reached (old.walked + 1) next.node) new)
+    × (next.left ≡ left_behind common old))
+    ⊎ ((old.walked + 1 ≡ length path) × (next.to ≡ take (new.walked + 1) other)
+    × (new.walked + 1 < length other)
+    × (next.after ≡ stage.Ends common old (reached (new.walked + 1) next.node))
+    × (next.left ≡ left_behind common new))
 
 -- the store where the call holds a further directory: it is held before the one that is left is
 -- freed
@@ -113,7 +121,8 @@ leaving None s = s
 leaving (Some node) s = edited (with_holder None) s node
 
 abbrev pub stepped : StoreState → ℕ → Stage → Option ℕ → ℕ → StoreState
-stepped s number at left node = leaving left (edited (with_holder (Some number)) (entered at s) node)
+stepped s number at left node =
+    leaving left (edited (with_holder (Some number)) (entered at s) node)
 
 -- the call came to a further directory, which no other call held
 pub record Takes (old new : StoreState) (call : Call) (after : Stage) : Type 0 where
@@ -148,11 +157,13 @@ pub record Waits (old new : StoreState) (call : Call) (holder : ℕ) : Type 0 wh
 -- the next name is no directory's
 abbrev pub LeadsNowhere : StoreState → ℕ → Option Name → Type 0
 LeadsNowhere s node None = Unit {0}
-LeadsNowhere s node (Some name) = (child : ℕ) → entry_of s.nodes node name ≡ Some child → is_directory_at s.nodes child ≡ false
+LeadsNowhere s node (Some name) =
+    (child : ℕ) → entry_of s.nodes node name ≡ Some child → is_directory_at s.nodes child ≡ false
 
 -- a walk ends where all names but the last are walked, or the next name is no directory's
 abbrev pub EndsAt : StoreState → Path → ℕ → ℕ → Type 0
-EndsAt s path walked node = (walked + 1 ≡ length path) ⊎ ((walked + 1 < length path) × LeadsNowhere s node (slice_get path walked))
+EndsAt s path walked node = (walked + 1 ≡ length path)
+    ⊎ ((walked + 1 < length path) × LeadsNowhere s node (slice_get path walked))
 
 -- A call may decide: it walks no path, or the root's, or its walk ends. At a rename's ends that is once
 -- the old path's ends on the way, or the new path's with the other end at the old path's parent.
@@ -183,7 +194,8 @@ IsFreeThere s number (located.At parent node) = IsFree s number node
 abbrev pub AreFree : StoreState → ℕ → Stage → Target → Ways → Type 0
 AreFree s number at (ByHandle handle) ways = Unit {0}
 AreFree s number at (OnPath path) ways = IsFreeAt s number at ways.path
-AreFree s number at (OnPaths old new) ways = IsFreeAt s number at ways.path × IsFreeThere s number ways.new
+AreFree s number at (OnPaths old new) ways =
+    IsFreeAt s number at ways.path × IsFreeThere s number ways.new
 
 -- the old path's end is at its parent
 abbrev pub IsAtParent : Path → Stage → Type 0
@@ -196,7 +208,8 @@ IsAtParent path (stage.Ends common old new) = old.walked + 1 ≡ length path
 abbrev pub HoldsParent : Target → Stage → Ways → Type 0
 HoldsParent (ByHandle handle) at ways = Unit {0}
 HoldsParent (OnPath path) at ways = Unit {0}
-HoldsParent (OnPaths old new) at ways = are_nested old new ≡ false → IsThere ways.path → IsAtParent old at
+HoldsParent (OnPaths old new) at ways =
+    are_nested old new ≡ false → IsThere ways.path → IsAtParent old at
 
 -- the call decides now, where its paths were found to lead
 pub record Decides (old new : StoreState) (call : Call) (ways : Ways) : Type 0 where

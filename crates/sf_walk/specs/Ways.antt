@@ -24,7 +24,9 @@ missing x (m ∷ p) = located.NoWay
 -- on from the node x, whose entry stands in the directory `above`
 abbrev pub way_from : List (Option Node) → ℕ → ℕ → Path → Located
 way_from nodes above x [] = located.At above x
-way_from nodes above x (n ∷ p) = if is_directory_at nodes x then option_map_or (λ y. way_from nodes x y p) (entry_of nodes x n) (missing x p) else located.NoWay
+way_from nodes above x (n ∷ p) =
+    if is_directory_at nodes x then option_map_or (λ y. way_from nodes x y p) (entry_of nodes x n)
+    (missing x p) else located.NoWay
 
 -- the last name of a path
 abbrev pub last_of : Path → Name
@@ -118,7 +120,8 @@ AreWays s (ByHandle handle) ways = Unit {0}
 AreWays s (OnPath path) ways = ways.path ≡ way_from s.nodes s.root s.root path
 AreWays s (OnPaths old new) ways =
     (is_rooted old new ≡ false → ways.path ≡ way_from s.nodes s.root s.root old)
-    × (are_nested old new ≡ false → IsThere ways.path → ways.new ≡ way_from s.nodes s.root s.root new)
+    × (are_nested old new ≡ false → IsThere ways.path
+    → ways.new ≡ way_from s.nodes s.root s.root new)
 
 abbrev pub IsLocated : StoreState → Request → Ways → Type 0
 IsLocated s request ways = AreWays s (target_of request) ways

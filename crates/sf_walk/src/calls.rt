@@ -30,10 +30,13 @@ use std::alloc::AllocError;
 pub fn from_root(store: &mut Store, call: &Call) -> Reply
     ensures served { (t : Tree) → Keeps store.old t → IsUnused t call.now.number
         → IsRefused store.old store.new t result
-        ⊎ IsCarriedOut store.new t (answer_to t call.now.session call.now.number call.now.moment call.now.request) result }
+        ⊎ IsCarriedOut store.new t
+        (answer_to t call.now.session call.now.number call.now.moment call.now.request) result }
     ensures sure { (t : Tree) → Keeps store.old t → IsUnused t call.now.number
-        → may_want_memory call.now.request (answer_to t call.now.session call.now.number call.now.moment call.now.request).reply ≡ false
-        → IsCarriedOut store.new t (answer_to t call.now.session call.now.number call.now.moment call.now.request) result }
+        → may_want_memory call.now.request (answer_to t call.now.session call.now.number
+        call.now.moment call.now.request).reply ≡ false
+        → IsCarriedOut store.new t
+        (answer_to t call.now.session call.now.number call.now.moment call.now.request) result }
     ensures look_ups { LooksUp store.old store.new (names_of call.now.request) }
     ensures nodes { NodesStay call.now.number store.old store.new }
 {
@@ -45,11 +48,14 @@ pub fn from_root(store: &mut Store, call: &Call) -> Reply
 pub fn from_root_twice(store: &mut Store, call: &Call) -> (Reply, Reply)
     ensures served { (t : Tree) → Keeps store.old t → IsUnused t call.now.number
         → IsRefused store.old store.new t result.0
-        ⊎ IsCarriedOut store.new t (answer_to t call.now.session call.now.number call.now.moment call.now.request) result.0 }
+        ⊎ IsCarriedOut store.new t (answer_to t call.now.session call.now.number call.now.moment
+        call.now.request) result.0 }
     ensures copy { result.1 ≡ result.0 }
     ensures sure { (t : Tree) → Keeps store.old t → IsUnused t call.now.number
-        → may_want_memory call.now.request (answer_to t call.now.session call.now.number call.now.moment call.now.request).reply ≡ false
-        → IsCarriedOut store.new t (answer_to t call.now.session call.now.number call.now.moment call.now.request) result.0 }
+        → may_want_memory call.now.request (answer_to t call.now.session call.now.number
+        call.now.moment call.now.request).reply ≡ false
+        → IsCarriedOut store.new t (answer_to t call.now.session call.now.number call.now.moment
+        call.now.request) result.0 }
     ensures look_ups { LooksUp store.old store.new (names_of call.now.request) }
     ensures nodes { NodesStay call.now.number store.old store.new }
 {
@@ -93,11 +99,14 @@ pub fn decide(store: &mut Store, call: &Call, ways: Ways) -> (Reply, Reply)
     requires { IsLocated store.old call.now.request ways }
     ensures served { (t : Tree) → Keeps store.old t → IsUnused t call.now.number
         → IsRefused store.old store.new t result.0
-        ⊎ IsCarriedOut store.new t (answer_to t call.now.session call.now.number call.now.moment call.now.request) result.0 }
+        ⊎ IsCarriedOut store.new t (answer_to t call.now.session call.now.number call.now.moment
+        call.now.request) result.0 }
     ensures copy { result.1 ≡ result.0 }
     ensures sure { (t : Tree) → Keeps store.old t → IsUnused t call.now.number
-        → may_want_memory call.now.request (answer_to t call.now.session call.now.number call.now.moment call.now.request).reply ≡ false
-        → IsCarriedOut store.new t (answer_to t call.now.session call.now.number call.now.moment call.now.request) result.0 }
+        → may_want_memory call.now.request (answer_to t call.now.session call.now.number
+        call.now.moment call.now.request).reply ≡ false
+        → IsCarriedOut store.new t (answer_to t call.now.session call.now.number call.now.moment
+        call.now.request) result.0 }
     ensures look_ups { store.new.look_ups ≡ store.old.look_ups }
     ensures nodes { NodesStay call.now.number store.old store.new }
 {
@@ -115,11 +124,14 @@ pub fn decide(store: &mut Store, call: &Call, ways: Ways) -> (Reply, Reply)
 fn answer(store: &mut Store, call: &Call, ways: Ways) -> Result<(Reply, Reply), AllocError>
     requires { IsLocated store.old call.now.request ways }
     ensures served { (t : Tree) → Keeps store.old t → IsUnused t call.now.number
-        → IfOk result (λ replies. IsCarriedOut store.new t (answer_to t call.now.session call.now.number call.now.moment call.now.request) replies.0) }
+        → IfOk result (λ replies. IsCarriedOut store.new t
+        (answer_to t call.now.session call.now.number call.now.moment call.now.request)
+        replies.0) }
     ensures copy { IfOk result (λ replies. replies.1 ≡ replies.0) }
     ensures sure { takes_memory call.now.request ≡ false → IsOk result }
     ensures wants { (t : Tree) → Keeps store.old t → IsUnused t call.now.number
-        → OnErr result (is_success (answer_to t call.now.session call.now.number call.now.moment call.now.request).reply ≡ true) }
+        → OnErr result (is_success (answer_to t call.now.session call.now.number call.now.moment
+        call.now.request).reply ≡ true) }
     ensures err { OnErr result (IsAlike store.old store.new) }
     ensures look_ups { store.new.look_ups ≡ store.old.look_ups }
     ensures nodes { NodesStay call.now.number store.old store.new }

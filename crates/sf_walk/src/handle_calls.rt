@@ -172,7 +172,8 @@ fn put_bytes(
     requires file { is_file_at store.old.nodes node ≡ true }
     ensures tree { (t : Tree) (label : ℕ) (m : Metadata) (contents : List ℕ) → Keeps store.old t
         → shown_of store.old.nodes node ≡ Some (label, File m contents)
-        → OnOk result (Keeps store.new (changed t (SetObject label (File (modified_at moment m) (written contents start bytes.now))))) }
+        → OnOk result (Keeps store.new (changed t
+        (SetObject label (File (modified_at moment m) (written contents start bytes.now))))) }
     ensures err { OnErr result (store.new ≡ store.old) }
     ensures look_ups { store.new.look_ups ≡ store.old.look_ups }
     ensures holders { HoldersStay store.old store.new }

@@ -24,7 +24,8 @@ pub(crate) fn read_directory(
     number: u64,
 ) -> Result<(Reply, Reply), AllocError>
     ensures served { (t : Tree) → Keeps store.old t
-        → IfOk result (λ replies. IsCarriedOut store.new t (read_directory t number (opened t session number)) replies.0) }
+        → IfOk result (λ replies. IsCarriedOut store.new t
+        (read_directory t number (opened t session number)) replies.0) }
     ensures wants { (t : Tree) → Keeps store.old t
         → OnErr result (is_success (read_directory t number (opened t session number)).reply
         ≡ true) }

@@ -26,7 +26,8 @@ pub(crate) enum Further {
 /// Looks up the next name of a path, unless it is the last one.
 pub(crate) fn look(store: &mut Store, number: u64, path: &Path, at: Reached) -> Further
     requires { IsOnWay store.old path.now at.walked at.node }
-    ensures { Looks store.old store.new path.now at result × IsFound store.old number path.now at result }
+    ensures { Looks store.old store.new path.now at result
+        × IsFound store.old number path.now at result }
 {
     if path.len() == at.walked + 1 {
         return Further::AtParent;

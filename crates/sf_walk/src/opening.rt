@@ -112,7 +112,8 @@ pub(crate) fn open(
 ) -> Result<Reply, AllocError>
     requires { located ≡ way_from store.old.nodes store.old.root store.old.root path.now }
     ensures served { (t : Tree) → Keeps store.old t → IsUnused t number
-        → Gives store.new t (unless_root path.now (open_file t session (stamp number moment) (opening path.now flags attrs.now) (place_at t path.now))) result }
+        → Gives store.new t (unless_root path.now (open_file t session (stamp number moment)
+        (opening path.now flags attrs.now) (place_at t path.now))) result }
     ensures err { OnErr result (IsAlike store.old store.new) }
     ensures plain { IfOk result IsPlain }
     ensures look_ups { store.new.look_ups ≡ store.old.look_ups }
@@ -146,7 +147,8 @@ fn open_present(
 ) -> Result<Reply, AllocError>
     ensures served { (t : Tree) (it : Node) → Keeps store.old t → IsUnused t number
         → node_in store.old.nodes node ≡ Some it
-        → Gives store.new t (open_present t session (stamp number moment) flags (found_node it)) result }
+        → Gives store.new t (open_present t session (stamp number moment) flags (found_node it))
+        result }
     ensures err { OnErr result (store.new ≡ store.old) }
     ensures plain { IfOk result IsPlain }
     ensures look_ups { store.new.look_ups ≡ store.old.look_ups }
@@ -205,7 +207,8 @@ fn open_absent(
     ensures served { (t : Tree) (front : Path) → Keeps store.old t → IsUnused t number
         → path.now ≡ front ++ last_of path.now ∷ []
         → walk (entry_of store.old.nodes) store.old.root front ≡ Some parent
-        → Gives store.new t (open_file t session (stamp number moment) (opening path.now flags attrs.now) Absent) result }
+        → Gives store.new t (open_file t session (stamp number moment)
+        (opening path.now flags attrs.now) Absent) result }
     ensures err { OnErr result (IsAlike store.old store.new) }
     ensures plain { IfOk result IsPlain }
     ensures look_ups { store.new.look_ups ≡ store.old.look_ups }
@@ -238,7 +241,12 @@ fn open_new(
     requires named { 0 < length path.now }
     requires directory { is_directory_at store.old.nodes parent ≡ true }
     requires missing { entry_of store.old.nodes parent (last_of path.now) ≡ None }
-    ensures ok { OnOk result (OpenedNew store.old store.new session number parent (last_of path.now) (marks_of flags) (record { label = number; file_type = file_type.File; metadata = metadata })) }
+    ensures ok { OnOk result (OpenedNew store.old store.new session number parent (last_of path.now)
+        (marks_of flags) (record {
+          label = number;
+          file_type = file_type.File;
+          metadata = metadata;
+        })) }
     ensures err { OnErr result (IsAlike store.old store.new) }
     ensures look_ups { store.new.look_ups ≡ store.old.look_ups }
 {

@@ -50,7 +50,8 @@ pub(crate) fn set_stat(
 ) -> Result<Reply, AllocError>
     requires { located ≡ way_from store.old.nodes store.old.root store.old.root path.now }
     ensures served { (t : Tree) → Keeps store.old t
-        → Gives store.new t (unless_root path.now (set_stat moment attrs.now (found_at t path.now))) result }
+        → Gives store.new t (unless_root path.now (set_stat moment attrs.now (found_at t path.now)))
+        result }
     ensures sure { is_some attrs.now.size ≡ false → IsOk result }
     ensures err { OnErr result (IsAlike store.old store.new) }
     ensures plain { IfOk result IsPlain }
@@ -76,7 +77,8 @@ pub(crate) fn set_node(
 ) -> Result<Reply, AllocError>
     ensures served { (t : Tree) (it : Node) → Keeps store.old t
         → node_in store.old.nodes node ≡ Some it
-        → Gives store.new t (sets moment it.label attrs.now (object_in it.metadata it.content)) result }
+        → Gives store.new t (sets moment it.label attrs.now (object_in it.metadata it.content))
+        result }
     ensures sure { is_some attrs.now.size ≡ false → IsOk result }
     ensures err { OnErr result (store.new ≡ store.old) }
     ensures plain { IfOk result IsPlain }
@@ -111,7 +113,8 @@ pub(crate) fn mkdir(
 ) -> Result<Reply, AllocError>
     requires { located ≡ way_from store.old.nodes store.old.root store.old.root path.now }
     ensures served { (t : Tree) → Keeps store.old t → IsUnused t number
-        → Gives store.new t (unless_root path.now (make_directory t (stamp number moment) path.now attrs.now (place_at t path.now))) result }
+        → Gives store.new t (unless_root path.now (make_directory t
+        (stamp number moment) path.now attrs.now (place_at t path.now))) result }
     ensures err { OnErr result (IsAlike store.old store.new) }
     ensures plain { IfOk result IsPlain }
     ensures look_ups { store.new.look_ups ≡ store.old.look_ups }
@@ -144,7 +147,8 @@ pub(crate) fn insert_last(
     made: NewNode,
 ) -> Result<NodeId, AllocError>
     requires { 0 < length path.now }
-    ensures ok { IfOk result (λ id. Inserted store.old store.new parent (last_of path.now) id (new_node made)) }
+    ensures ok { IfOk result (λ id. Inserted store.old store.new parent (last_of path.now) id
+        (new_node made)) }
     ensures err { OnErr result (store.new ≡ store.old) }
 {
     let name = path.name(path.len() - 1).try_copy(store.alloc())?;
@@ -155,7 +159,8 @@ pub(crate) fn insert_last(
 pub(crate) fn rmdir(store: &mut Store, moment: u32, path: &Path, located: Located) -> Reply
     requires { located ≡ way_from store.old.nodes store.old.root store.old.root path.now }
     ensures served { (t : Tree) → Keeps store.old t
-        → IsCarriedOut store.new t (unless_root path.now (remove_directory t moment path.now (found_at t path.now))) result }
+        → IsCarriedOut store.new t (unless_root path.now
+        (remove_directory t moment path.now (found_at t path.now))) result }
     ensures plain { IsPlain result }
     ensures look_ups { store.new.look_ups ≡ store.old.look_ups }
     ensures holders { HoldersStay store.old store.new }
@@ -186,7 +191,8 @@ fn is_empty_directory(store: &Store, node: NodeId) -> bool
 pub(crate) fn remove(store: &mut Store, moment: u32, path: &Path, located: Located) -> Reply
     requires { located ≡ way_from store.old.nodes store.old.root store.old.root path.now }
     ensures served { (t : Tree) → Keeps store.old t
-        → IsCarriedOut store.new t (unless_root path.now (remove_file t moment path.now (found_at t path.now))) result }
+        → IsCarriedOut store.new t (unless_root path.now
+        (remove_file t moment path.now (found_at t path.now))) result }
     ensures plain { IsPlain result }
     ensures look_ups { store.new.look_ups ≡ store.old.look_ups }
     ensures holders { HoldersStay store.old store.new }
@@ -210,7 +216,8 @@ pub(crate) fn remove(store: &mut Store, moment: u32, path: &Path, located: Locat
 fn remove_last(store: &mut Store, moment: u32, dir: NodeId, path: &Path)
     requires { 0 < length path.now }
     ensures state { store.new
-        ≡ edited (with_metadata (modified_at moment)) (unlinked store.old dir (last_of path.now)) dir }
+        ≡ edited (with_metadata (modified_at moment))
+        (unlinked store.old dir (last_of path.now)) dir }
     ensures served { (t : Tree) (node : ℕ) → Keeps store.old t
         → way_from store.old.nodes store.old.root store.old.root path.now ≡ At dir node
         → is_bare_at store.old.nodes node ≡ true

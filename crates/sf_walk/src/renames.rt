@@ -33,7 +33,9 @@ pub(crate) enum Course {
 pub fn is_move(store: &Store, call: &Call, ways: Ways) -> bool
     requires { IsLocated store.now call.now.request ways }
     ensures { (t : Tree) → Keeps store.now t
-        → result ≡ is_some (moved_by (answer_to t call.now.session call.now.number call.now.moment call.now.request).changes) }
+        → result
+        ≡ is_some (moved_by (answer_to t call.now.session call.now.number call.now.moment
+        call.now.request).changes) }
 {
     match &call.request {
         Request::Rename(old, new) => does_move(rename_course(old, new, ways)),
@@ -61,7 +63,8 @@ pub(crate) fn rename(
 ) -> Result<Reply, AllocError>
     requires { AreWays store.old (OnPaths old.now new.now) ways }
     ensures served { (t : Tree) → Keeps store.old t
-        → Gives store.new t (unless_root old.now (unless_root new.now (rename t moment old.now new.now (place_at t old.now)))) result }
+        → Gives store.new t (unless_root old.now
+        (unless_root new.now (rename t moment old.now new.now (place_at t old.now)))) result }
     ensures err { OnErr result (IsAlike store.old store.new) }
     ensures plain { IfOk result IsPlain }
     ensures look_ups { store.new.look_ups ≡ store.old.look_ups }
@@ -81,7 +84,8 @@ pub(crate) fn posix_rename(
 ) -> Result<Reply, AllocError>
     requires { AreWays store.old (OnPaths old.now new.now) ways }
     ensures served { (t : Tree) → Keeps store.old t
-        → Gives store.new t (unless_root old.now (unless_root new.now (posix_rename t moment old.now new.now (place_at t old.now)))) result }
+        → Gives store.new t (unless_root old.now (unless_root new.now
+        (posix_rename t moment old.now new.now (place_at t old.now)))) result }
     ensures sure { same_path old.now new.now ≡ true → IsOk result }
     ensures err { OnErr result (IsAlike store.old store.new) }
     ensures plain { IfOk result IsPlain }
@@ -96,7 +100,8 @@ pub(crate) fn posix_rename(
 fn rename_course(old: &Path, new: &Path, ways: Ways) -> Course
     ensures course { (s : StoreState) (t : Tree) (moment : ℕ) → Keeps s t
         → AreWays s (OnPaths old.now new.now) ways
-        → IsCourse s t (renaming old.now new.now moment) (unless_root old.now (unless_root new.now (rename t moment old.now new.now (place_at t old.now)))) result }
+        → IsCourse s t (renaming old.now new.now moment) (unless_root old.now
+        (unless_root new.now (rename t moment old.now new.now (place_at t old.now)))) result }
     ensures named { AreNamed old.now new.now result }
 {
     if has_root(old, new) {
@@ -122,7 +127,9 @@ fn rename_course(old: &Path, new: &Path, ways: Ways) -> Course
 fn posix_course(store: &Store, old: &Path, new: &Path, ways: Ways) -> Course
     requires { AreWays store.now (OnPaths old.now new.now) ways }
     ensures course { (t : Tree) (moment : ℕ) → Keeps store.now t
-        → IsCourse store.now t (renaming old.now new.now moment) (unless_root old.now (unless_root new.now (posix_rename t moment old.now new.now (place_at t old.now)))) result }
+        → IsCourse store.now t (renaming old.now new.now moment)
+        (unless_root old.now (unless_root new.now
+        (posix_rename t moment old.now new.now (place_at t old.now)))) result }
     ensures named { AreNamed old.now new.now result }
     ensures same { same_path old.now new.now ≡ true → IsTold result }
 {

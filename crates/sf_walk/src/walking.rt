@@ -42,7 +42,8 @@ pub enum Walk {
 /// The stage that it has come to is told beside it: who makes many steps notes the last one alone.
 pub fn advance(store: &mut Store, call: &Call, stage: Stage) -> Walk
     requires root { is_directory_at store.old.nodes store.old.root ≡ true }
-    requires stands { Stands store.old (path_of call.now.request) (other_of call.now.request) stage }
+    requires stands { Stands store.old (path_of call.now.request)
+        (other_of call.now.request) stage }
     ensures { Advances store.old store.new (at_stage stage call.now) result }
 {
     let Some(path) = path_of(&call.request) else {

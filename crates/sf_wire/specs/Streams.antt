@@ -20,7 +20,9 @@ pub record HasBody (bytes : List ℕ) (len : ℕ) : Type 0 where
 
 -- The cutting of bytes, known what stands at their front: a first body, and the cutting of what follows its packet; or only an end.
 abbrev pub CutsAfter : List ℕ → Cut → List (List ℕ) → End → Type 0
-CutsAfter bytes (cut.Whole len) bodies end = (body : List ℕ) × (others : List (List ℕ)) × (bodies ≡ body ∷ others) × IsBody body × (bytes ≡ packet body ++ drop len bytes) × (len ≡ length (packet body)) × Cuts (drop len bytes) others end
+CutsAfter bytes (cut.Whole len) bodies end = (body : List ℕ) × (others : List (List ℕ))
+    × (bodies ≡ body ∷ others) × IsBody body × (bytes ≡ packet body ++ drop len bytes)
+    × (len ≡ length (packet body)) × Cuts (drop len bytes) others end
 CutsAfter bytes cut.More bodies end = (bodies ≡ []) × (end ≡ More bytes)
 CutsAfter bytes (cut.Bad cause) bodies end = (bodies ≡ []) × (end ≡ Bad cause)
 

@@ -51,8 +51,11 @@ no_times = record { atime = 0; mtime = 0 }
 -- size, uid, gid, permissions in octal, atime and mtime, with single spaces between them and a newline after them
 abbrev pub stat_text : Attrs → List ℕ
 stat_text attrs =
-    decimal (or_zero attrs.size) ++ 32 ∷ decimal (unwrap_or attrs.owner no_owner).uid ++ 32 ∷ decimal (unwrap_or attrs.owner no_owner).gid
-    ++ 32 ∷ digits 8 false (or_zero attrs.permissions) ++ 32 ∷ decimal (unwrap_or attrs.times no_times).atime ++ 32 ∷ decimal (unwrap_or attrs.times no_times).mtime
+    decimal (or_zero attrs.size) ++ 32 ∷ decimal (unwrap_or attrs.owner no_owner).uid
+    ++ 32 ∷ decimal (unwrap_or attrs.owner no_owner).gid
+    ++ 32 ∷ digits 8 false (or_zero attrs.permissions)
+    ++ 32 ∷ decimal (unwrap_or attrs.times no_times).atime
+    ++ 32 ∷ decimal (unwrap_or attrs.times no_times).mtime
     ++ 10 ∷ []
 
 -- each longname and a newline
@@ -65,24 +68,36 @@ Succeeds v q w = Exchanged v (asked q (reply.Status Success) ∷ []) w
 
 -- the attributes of what the path names were told, and printed
 abbrev pub Tells : List ℕ → List ℕ → ClientView → ClientView → Type 0
-Tells path printed v w = (attrs : Attrs) × Exchanged v (asked (request.Stat path) (reply.Attrs attrs) ∷ []) w × (printed ≡ stat_text attrs)
+Tells path printed v w = (attrs : Attrs)
+    × Exchanged v (asked (request.Stat path) (reply.Attrs attrs) ∷ []) w
+    × (printed ≡ stat_text attrs)
 
 -- the directory was listed, and its lines printed
 abbrev pub Lists : List ℕ → List ℕ → ClientView → ClientView → Type 0
-Lists path printed v w = (entries : List Entry) × Does (ByHandle (request.OpenDir path) ListsAll) v (Ok entries) w × (printed ≡ lines_of entries)
+Lists path printed v w = (entries : List Entry)
+    × Does (ByHandle (request.OpenDir path) ListsAll) v (Ok entries) w
+    × (printed ≡ lines_of entries)
 
 -- A command was done by these requests and their replies, and printed these bytes.
 abbrev pub IsDone : ClientCommand → List ℕ → List ℕ → ClientView → ClientView → Type 0
 IsDone (command.Stat path) bytes printed v w = Tells path.now printed v w
 IsDone (command.List path) bytes printed v w = Lists path.now printed v w
-IsDone (command.Get path) bytes printed v w = Does (ByHandle (request.Open path.now to_read no_attrs) ReadsAll) v (Ok printed) w
-IsDone (command.Put path) bytes printed v w = (printed ≡ []) × Does (ByHandle (request.Open path.now to_write no_attrs) (WritesAll bytes)) v (Ok tt) w
-IsDone (command.Mkdir path) bytes printed v w = (printed ≡ []) × Succeeds v (request.Mkdir path.now no_attrs) w
-IsDone (command.Rmdir path) bytes printed v w = (printed ≡ []) × Succeeds v (request.Rmdir path.now) w
-IsDone (command.Remove path) bytes printed v w = (printed ≡ []) × Succeeds v (request.Remove path.now) w
-IsDone (command.Rename old new) bytes printed v w = (printed ≡ []) × Succeeds v (request.Rename old.now new.now) w
-IsDone (command.PosixRename old new) bytes printed v w = (printed ≡ []) × Succeeds v (request.PosixRename old.now new.now) w
+IsDone (command.Get path) bytes printed v w =
+    Does (ByHandle (request.Open path.now to_read no_attrs) ReadsAll) v (Ok printed) w
+IsDone (command.Put path) bytes printed v w = (printed ≡ [])
+    × Does (ByHandle (request.Open path.now to_write no_attrs) (WritesAll bytes)) v (Ok tt) w
+IsDone (command.Mkdir path) bytes printed v w =
+    (printed ≡ []) × Succeeds v (request.Mkdir path.now no_attrs) w
+IsDone (command.Rmdir path) bytes printed v w =
+    (printed ≡ []) × Succeeds v (request.Rmdir path.now) w
+IsDone (command.Remove path) bytes printed v w =
+    (printed ≡ []) × Succeeds v (request.Remove path.now) w
+IsDone (command.Rename old new) bytes printed v w =
+    (printed ≡ []) × Succeeds v (request.Rename old.now new.now) w
+IsDone (command.PosixRename old new) bytes printed v w =
+    (printed ≡ []) × Succeeds v (request.PosixRename old.now new.now) w
 
 -- The same of a session that was opened over a line, by what the line gives and has taken.
 abbrev pub IsDoneOver : ClientCommand → List ℕ → List ℕ → Option (List ℕ) → Option (List ℕ) → Type 0
-IsDoneOver command bytes printed incoming outgoing = (v w : ClientView) × IsStarted incoming outgoing v × IsDone command bytes printed v w
+IsDoneOver command bytes printed incoming outgoing =
+    (v w : ClientView) × IsStarted incoming outgoing v × IsDone command bytes printed v w

@@ -48,9 +48,13 @@ line_of (Err fault.NumbersSpent) = codes "sftpd: stream" ++ 10 ∷ []
 -- serving a line on an engine came to this
 abbrev pub ComesTo : (start now : Scene) → (failed failed' : ℕ) → Result Cause ServeFault → Type 0
 ComesTo start now failed failed' (Ok cause) = ServesLine start now cause
-ComesTo start now failed failed' (Err fault) = StopsEarly start now fault × IsServeFault start.engine fault failed failed'
+ComesTo start now failed failed' (Err fault) =
+    StopsEarly start now fault × IsServeFault start.engine fault failed failed'
 
 -- No engine could be made, and nothing was read or written; or a line was served on a new one, and that came to this.
-abbrev pub SessionEnds : (start now : EngineView → Scene) → (failed failed' : ℕ) → Result Cause ServeFault → Type 0
-SessionEnds start now failed failed' outcome = ((outcome ≡ Err fault.OutOfMemory) × ((e : EngineView) → now e ≡ start e))
-    ⊎ ((first last : EngineView) × Fits first [] × ComesTo (start first) (now last) failed failed' outcome)
+abbrev pub SessionEnds : (start now : EngineView → Scene) → (failed failed' : ℕ)
+    → Result Cause ServeFault → Type 0
+SessionEnds start now failed failed' outcome =
+    ((outcome ≡ Err fault.OutOfMemory) × ((e : EngineView) → now e ≡ start e))
+    ⊎ ((first last : EngineView) × Fits first []
+    × ComesTo (start first) (now last) failed failed' outcome)

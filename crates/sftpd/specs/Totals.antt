@@ -18,15 +18,19 @@ shares_of all = map (λ s. s.share) all
 
 -- what sessions were told agrees with the history, and the shares are together all calls
 abbrev pub AreAll : CoreView → List Served → Type 0
-AreAll core all = Agrees core.records core.folded (transcripts_of all) × (sum (shares_of all) ≡ core.drawn)
+AreAll core all =
+    Agrees core.records core.folded (transcripts_of all) × (sum (shares_of all) ≡ core.drawn)
 
 -- how many calls' records are no longer kept, if any
 abbrev pub audit_line : ℕ → List ℕ
-audit_line folded = if nat_eq folded 0 then codes "audit ok" ++ 10 ∷ [] else (codes "audit ok, folded " ++ decimal folded) ++ 10 ∷ []
+audit_line folded =
+    if nat_eq folded 0 then codes "audit ok" ++ 10 ∷ []
+    else (codes "audit ok, folded " ++ decimal folded) ++ 10 ∷ []
 
 abbrev pub totals_text : (sessions calls folded : ℕ) → List ℕ
 totals_text sessions calls folded =
-    ((codes "sessions " ++ (decimal sessions ++ (codes " calls " ++ decimal calls))) ++ 10 ∷ []) ++ audit_line folded
+    ((codes "sessions " ++ (decimal sessions ++ (codes " calls " ++ decimal calls))) ++ 10 ∷ [])
+    ++ audit_line folded
 
 -- only what doesn't agree is refused by the audit
 abbrev pub IsTellFault : CoreView → List Served → ServerFault → Type 0

@@ -41,7 +41,8 @@ fn write_all<W: Write>(to: &mut W, bytes: &[u8]) -> io::Result<()>
 /// A call that a signal interrupts is made again. After an error the writer has a beginning of what the
 /// reader gave.
 pub(crate) fn carry<R: Read, W: Write>(alloc: Global, from: &mut R, to: &mut W) -> io::Result<()>
-    ensures all { OnOk result (IfSome (R.remaining from.old) (Appends (W.contents to.old) (W.contents to.new))) }
+    ensures all { OnOk result (IfSome (R.remaining from.old)
+        (Appends (W.contents to.old) (W.contents to.new))) }
     ensures ended { OnOk result (IsAtEnd (R.remaining from.new)) }
     ensures retried { IfErr result (λ e. error_kind e ≢ ErrorKind.Interrupted) }
     ensures front { (given : List ℕ) × Consumes (R.remaining from.old) (R.remaining from.new) given

@@ -27,10 +27,13 @@ pub fn run_stdio<L: Line, C: Clock, E: Line>(
 ) -> u8
     requires { 0 < keep }
     ensures { (outcome : Result Cause ServeFault)
-        × SessionEnds (scene (L.incoming line.old) (L.outgoing line.old) (L.calls line.old) (C.told clock.old))
-        (scene (L.incoming line.new) (L.outgoing line.new) (L.calls line.new) (C.told clock.new)) (L.failed line.old) (L.failed line.new) outcome
+        × SessionEnds (scene (L.incoming line.old) (L.outgoing line.old) (L.calls line.old)
+        (C.told clock.old))
+        (scene (L.incoming line.new) (L.outgoing line.new) (L.calls line.new) (C.told clock.new))
+        (L.failed line.old) (L.failed line.new) outcome
         × (result ≡ status_of outcome)
-        × (Appends (E.outgoing errors.old) (E.outgoing errors.new) (line_of outcome) ⊎ Rose (E.failed errors.old) (E.failed errors.new)) }
+        × (Appends (E.outgoing errors.old) (E.outgoing errors.new) (line_of outcome)
+        ⊎ Rose (E.failed errors.old) (E.failed errors.new)) }
 {
     let outcome = serve(alloc, keep, line, clock);
     // What can't be told on standard error is still told by the status.
@@ -46,8 +49,10 @@ fn serve<L: Line, C: Clock>(
     clock: &mut C,
 ) -> Result<Cause, ServeFault>
     requires { 0 < keep }
-    ensures { SessionEnds (scene (L.incoming line.old) (L.outgoing line.old) (L.calls line.old) (C.told clock.old))
-        (scene (L.incoming line.new) (L.outgoing line.new) (L.calls line.new) (C.told clock.new)) (L.failed line.old) (L.failed line.new) result }
+    ensures { SessionEnds (scene (L.incoming line.old) (L.outgoing line.old) (L.calls line.old)
+        (C.told clock.old))
+        (scene (L.incoming line.new) (L.outgoing line.new) (L.calls line.new) (C.told clock.new))
+        (L.failed line.old) (L.failed line.new) result }
 {
     match Engine::with_keep(alloc, keep) {
         Ok(engine) => {
@@ -65,8 +70,10 @@ fn serve_on<L: Line, C: Clock>(
     line: &mut L,
     clock: &mut C,
 ) -> Result<Cause, ServeFault>
-    ensures { ComesTo (scene (L.incoming line.old) (L.outgoing line.old) (L.calls line.old) (C.told clock.old) engine.old)
-        (scene (L.incoming line.new) (L.outgoing line.new) (L.calls line.new) (C.told clock.new) engine.new) (L.failed line.old) (L.failed line.new) result }
+    ensures { ComesTo (scene (L.incoming line.old) (L.outgoing line.old) (L.calls line.old)
+        (C.told clock.old) engine.old)
+        (scene (L.incoming line.new) (L.outgoing line.new) (L.calls line.new)
+        (C.told clock.new) engine.new) (L.failed line.old) (L.failed line.new) result }
 {
     match serve_one(alloc, engine, line, clock) {
         Ok(cause) => Ok(cause),
@@ -86,7 +93,8 @@ fn status(outcome: Result<Cause, ServeFault>) -> u8
 
 /// Writes the line of a session that ended early.
 fn report<E: Line>(errors: &mut E, outcome: Result<Cause, ServeFault>) -> Result<(), LineFault>
-    ensures told { OnOk result (Appends (E.outgoing errors.old) (E.outgoing errors.new) (line_of outcome)) }
+    ensures told { OnOk result (Appends (E.outgoing errors.old) (E.outgoing errors.new)
+        (line_of outcome)) }
     ensures fault { OnErr result (Rose (E.failed errors.old) (E.failed errors.new)) }
 {
     write_all(errors, line_bytes(outcome))

@@ -35,7 +35,8 @@ fn parted(alloc: Global, all: Vec<Served>) -> Result<(Vec<Transcript>, Vec<Share
 
 /// Writes that the audit found nothing wrong, and how many calls' records are no longer kept.
 fn write_audit<W: Write>(folded: u64, output: &mut W) -> io::Result<()>
-    ensures { OnOk result (Appends (W.contents output.old) (W.contents output.new) (audit_line folded)) }
+    ensures { OnOk result (Appends (W.contents output.old) (W.contents output.new)
+        (audit_line folded)) }
 {
     if folded == 0 {
         writeln!(output, "audit ok")
@@ -46,7 +47,8 @@ fn write_audit<W: Write>(folded: u64, output: &mut W) -> io::Result<()>
 
 /// Writes how many sessions and calls there were, too.
 fn write_totals<W: Write>(sessions: u64, calls: u64, folded: u64, output: &mut W) -> io::Result<()>
-    ensures { OnOk result (Appends (W.contents output.old) (W.contents output.new) (totals_text sessions calls folded)) }
+    ensures { OnOk result (Appends (W.contents output.old) (W.contents output.new)
+        (totals_text sessions calls folded)) }
 {
     writeln!(output, "sessions {sessions} calls {calls}")?;
     write_audit(folded, output)?;
@@ -63,7 +65,8 @@ pub(crate) fn tell<W: Write>(
     output: &mut W,
 ) -> Result<(), ServerFault>
     ensures told { OnOk result (AreAll core all.items × ((h : List Record) → IsHistory core h
-        → Appends (W.contents output.old) (W.contents output.new) (totals_text sessions (count_by is_deed h) core.folded))) }
+        → Appends (W.contents output.old) (W.contents output.new)
+        (totals_text sessions (count_by is_deed h) core.folded))) }
     ensures fault { IfErr result (IsTellFault core all.items) }
     ensures quiet { IfErr result (λ fault. IsStream fault ⊎ (output.new ≡ output.old)) }
 {

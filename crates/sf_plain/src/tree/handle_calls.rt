@@ -93,7 +93,8 @@ impl PlainTree {
         ensures reply { IfOk result (λ reply. reply
             ≡ (set_opened moment attrs.now (opened self.old session number)).reply) }
         ensures tree { OnOk result (self.new
-            ≡ done self.old (set_opened moment attrs.now (opened self.old session number)).changes) }
+            ≡ done self.old (set_opened moment attrs.now
+            (opened self.old session number)).changes) }
         ensures err { OnErr result (self.new ≡ self.old) }
     {
         let Some(handle) = self.handle_in(session, number) else {
@@ -160,7 +161,8 @@ impl PlainTree {
         ensures reply { IfOk result (λ reply. reply
             ≡ (write moment offset bytes.now (opened self.old session number)).reply) }
         ensures tree { OnOk result (self.new
-            ≡ done self.old (write moment offset bytes.now (opened self.old session number)).changes) }
+            ≡ done self.old (write moment offset bytes.now
+            (opened self.old session number)).changes) }
         ensures err { OnErr result (self.new ≡ self.old) }
     {
         let Some(handle) = self.handle_in(session, number) else {

@@ -134,7 +134,8 @@ impl PlainTree {
         ensures entries { IfOk result (λ page. page.entries.items
             ≡ listing_of self.now handle.now.listed (path_of self.now.names handle.now.label)) }
         ensures last { IfOk result (λ page. page.last
-            ≡ last_name (listing_of self.now handle.now.listed (path_of self.now.names handle.now.label))) }
+            ≡ last_name (listing_of self.now handle.now.listed
+            (path_of self.now.names handle.now.label))) }
     {
         match self.path_of(handle.label) {
             Some(directory) => self.page(directory, &handle.listed),
@@ -161,7 +162,8 @@ impl PlainTree {
         ensures reply { IfOk result (λ reply. reply
             ≡ (read_directory self.old number (opened self.old session number)).reply) }
         ensures tree { OnOk result (self.new
-            ≡ done self.old (read_directory self.old number (opened self.old session number)).changes) }
+            ≡ done self.old (read_directory self.old number
+            (opened self.old session number)).changes) }
         ensures err { OnErr result (self.new ≡ self.old) }
     {
         let tree = &*self;

@@ -94,9 +94,11 @@ impl PlainTree {
         attrs: &Attrs,
     ) -> Result<Reply, AllocError>
         ensures reply { IfOk result (λ reply. reply
-            ≡ (unless_root path.now (set_stat moment attrs.now (found_at self.old path.now))).reply) }
+            ≡ (unless_root path.now (set_stat moment attrs.now
+            (found_at self.old path.now))).reply) }
         ensures tree { OnOk result (self.new
-            ≡ done self.old (unless_root path.now (set_stat moment attrs.now (found_at self.old path.now))).changes) }
+            ≡ done self.old (unless_root path.now
+            (set_stat moment attrs.now (found_at self.old path.now))).changes) }
         ensures err { OnErr result (self.new ≡ self.old) }
     {
         if path.is_root() {
@@ -125,9 +127,11 @@ impl PlainTree {
         attrs: &Attrs,
     ) -> Result<Reply, AllocError>
         ensures reply { IfOk result (λ reply. reply
-            ≡ (unless_root path.now (make_directory self.old (stamp number moment) path.now attrs.now (place_at self.old path.now))).reply) }
+            ≡ (unless_root path.now (make_directory self.old
+            (stamp number moment) path.now attrs.now (place_at self.old path.now))).reply) }
         ensures tree { OnOk result (self.new
-            ≡ done self.old (unless_root path.now (make_directory self.old (stamp number moment) path.now attrs.now (place_at self.old path.now))).changes) }
+            ≡ done self.old (unless_root path.now (make_directory self.old
+            (stamp number moment) path.now attrs.now (place_at self.old path.now))).changes) }
         ensures err { OnErr result (self.new ≡ self.old) }
     {
         if path.is_root() {
@@ -163,9 +167,11 @@ impl PlainTree {
     #[tactic(auto, using(crate::proofs::Calls::removes_directory))]
     pub(super) fn rmdir(&mut self, moment: u32, path: &Path) -> Result<Reply, AllocError>
         ensures reply { IfOk result (λ reply. reply
-            ≡ (unless_root path.now (remove_directory self.old moment path.now (found_at self.old path.now))).reply) }
+            ≡ (unless_root path.now (remove_directory self.old moment path.now
+            (found_at self.old path.now))).reply) }
         ensures tree { OnOk result (self.new
-            ≡ done self.old (unless_root path.now (remove_directory self.old moment path.now (found_at self.old path.now))).changes) }
+            ≡ done self.old (unless_root path.now
+            (remove_directory self.old moment path.now (found_at self.old path.now))).changes) }
         ensures err { OnErr result (self.new ≡ self.old) }
     {
         if path.is_root() {
@@ -187,9 +193,11 @@ impl PlainTree {
     #[tactic(auto, using(crate::proofs::Calls::removes_file))]
     pub(super) fn remove(&mut self, moment: u32, path: &Path) -> Result<Reply, AllocError>
         ensures reply { IfOk result (λ reply. reply
-            ≡ (unless_root path.now (remove_file self.old moment path.now (found_at self.old path.now))).reply) }
+            ≡ (unless_root path.now (remove_file self.old moment path.now
+            (found_at self.old path.now))).reply) }
         ensures tree { OnOk result (self.new
-            ≡ done self.old (unless_root path.now (remove_file self.old moment path.now (found_at self.old path.now))).changes) }
+            ≡ done self.old (unless_root path.now
+            (remove_file self.old moment path.now (found_at self.old path.now))).changes) }
         ensures err { OnErr result (self.new ≡ self.old) }
     {
         if path.is_root() {
@@ -238,7 +246,8 @@ impl PlainTree {
         ensures reply { IfOk result (λ reply. reply
             ≡ (open_directory self.old session number (found_at self.old path.now)).reply) }
         ensures tree { OnOk result (self.new
-            ≡ done self.old (open_directory self.old session number (found_at self.old path.now)).changes) }
+            ≡ done self.old (open_directory self.old session number
+            (found_at self.old path.now)).changes) }
         ensures err { OnErr result (self.new ≡ self.old) }
     {
         let Place::At(label) = self.place_at(path)? else {
@@ -265,9 +274,11 @@ impl PlainTree {
         flags: OpenFlags,
     ) -> Result<Reply, AllocError>
         ensures reply { IfOk result (λ reply. reply
-            ≡ (open_present self.old session (stamp number moment) flags (found_object label (object_of self.old.objects label))).reply) }
+            ≡ (open_present self.old session (stamp number moment) flags
+            (found_object label (object_of self.old.objects label))).reply) }
         ensures tree { OnOk result (self.new
-            ≡ done self.old (open_present self.old session (stamp number moment) flags (found_object label (object_of self.old.objects label))).changes) }
+            ≡ done self.old (open_present self.old session (stamp number moment) flags
+            (found_object label (object_of self.old.objects label))).changes) }
         ensures err { OnErr result (self.new ≡ self.old) }
     {
         let Some(node) = self.objects.get(&label) else {
@@ -298,9 +309,11 @@ impl PlainTree {
         attrs: &Attrs,
     ) -> Result<Reply, AllocError>
         ensures reply { IfOk result (λ reply. reply
-            ≡ (unless_root path.now (open_file self.old session (stamp number moment) (opening path.now flags attrs.now) (place_at self.old path.now))).reply) }
+            ≡ (unless_root path.now (open_file self.old session (stamp number moment)
+            (opening path.now flags attrs.now) (place_at self.old path.now))).reply) }
         ensures tree { OnOk result (self.new
-            ≡ done self.old (unless_root path.now (open_file self.old session (stamp number moment) (opening path.now flags attrs.now) (place_at self.old path.now))).changes) }
+            ≡ done self.old (unless_root path.now (open_file self.old session (stamp number moment)
+            (opening path.now flags attrs.now) (place_at self.old path.now))).changes) }
         ensures err { OnErr result (self.new ≡ self.old) }
     {
         if path.is_root() {
@@ -337,7 +350,8 @@ impl PlainTree {
     ) -> Result<(), AllocError>
         requires { label_at self.old.names path.now ≡ None }
         ensures ok { OnOk result (self.new
-            ≡ changed (changed self.old (OpenHandle number handle)) (NewPath path.now number node)) }
+            ≡ changed (changed self.old (OpenHandle number handle))
+            (NewPath path.now number node)) }
         ensures err { OnErr result (self.new ≡ self.old) }
     {
         let replaced = self.handles.insert(number, handle)?;
