@@ -1,6 +1,6 @@
 -- Lists of bytes, whatever the size of a block.
-use Rattle.std.proofs.Common.{◌≡◌, ◌<◌, ◌≤◌, ◌+◌, ◌-◌, ◌*◌, ◌/◌, ◌%◌, ◌∙◌, ℕ, min, max, List, ◌++◌, length, take, drop, replicate, ⊎_elim, refl, sym, ap, append_assoc, rules, arith}
-use Rattle.std.proofs.lemmas.List.{same_lists, places, take_at, length-append, length-take, length-drop, length-replicate, length-take-le, take_all, drop_all, append-nil, take_min, drop_min, drop-drop, replicate-append-replicate}
+use Rattle.std.proofs.Common.{◌≡◌, ◌<◌, ◌≤◌, ◌+◌, ◌-◌, ◌*◌, ◌/◌, ◌%◌, ◌∙◌, ℕ, min, max, List, ◌++◌, length, take, drop, replicate, ⊎_elim, sym, ap, append_assoc, rules, arith}
+use Rattle.std.proofs.lemmas.List.{same_lists, places, length-append, length-take, length-drop, length-replicate, length-take-le, take_all, drop_all, append-nil, take_min, drop_min, drop-drop, replicate-append-replicate}
 use Rattle.std.proofs.lemmas.Bool.{cases_lt}
 use Rattle.std.proofs.Math.Seq.{take-add}
 use Rattle.sf_block.specs.Contents.{resized, written, IsGrown}
@@ -108,26 +108,9 @@ length_written old bytes offset le =
     let behind = drop (offset + length bytes) old in
     omega (arith, length_resized old offset, length-append (front ++ bytes) behind, length-append front bytes, length-drop (offset + length bytes) old)
 
--- before the first of the blocks that a write changes
-pub before_write : (old bytes : List ℕ) (offset a : ℕ) → offset ≤ length old → a ≤ offset → old ≡ take a (written old offset bytes) ++ drop a old
-before_write old bytes offset a le le2 = same_lists _ _ (search (rules, places)) (λ k d h. grind (arith, places))
-
--- behind the last of them
+-- a write changes nothing behind its last byte
 pub after_write : (old bytes : List ℕ) (offset a : ℕ) → offset ≤ length old → (0 < length bytes → offset + length bytes ≤ a) → take a (written old offset bytes) ++ drop a old ≡ written old offset bytes
 after_write old bytes offset a le reached = same_lists _ _ (search (rules, places)) (λ k d h. grind (arith, places))
-
--- a gap that is filled before a write
-pub written_grown : (old bytes : List ℕ) (offset : ℕ) → length old ≤ offset → written (resized old offset) offset bytes ≡ written old offset bytes
-written_grown old bytes offset le =
-    let len : length (resized old offset) ≡ offset = length_resized old offset in
-    let none : drop (offset + length bytes) (resized old offset) ≡ drop (offset + length bytes) old =
-    drop_all (offset + length bytes) (resized old offset) (omega (arith, len)) ∙ sym (drop_all (offset + length bytes) old (omega (arith, le))) in
-    ap (λ x. (x ++ bytes) ++ drop (offset + length bytes) (resized old offset)) (resized_twice old offset offset le (omega arith))
-    ∙ ap (λ x. (resized old offset ++ bytes) ++ x) none
-
--- a growth that is taken back
-pub cut_grown : (old now : List ℕ) → IsGrown old now → take (length old) now ≡ old
-cut_grown old now h = ap (take (length old)) (h.1 ∙ resized_more old (length now) h.0) ∙ take_at old (replicate (length now - length old) 0) (length old) refl
 
 -- what is grown twice
 pub grown_twice : (old now new : List ℕ) → IsGrown old now → IsGrown now new → IsGrown old new
@@ -143,9 +126,6 @@ pub grown_to : (old now : List ℕ) (n : ℕ) → length old ≤ n → now ≡ r
 grown_to old now n le e =
     let len : length now ≡ n = ap (λ x. length x) e ∙ length_resized old n in
     (omega (arith, len, le), e ∙ ap (resized old) (sym len))
-
-pub resized_grown : (old now : List ℕ) (n : ℕ) → IsGrown old now → length now ≤ n → resized now n ≡ resized old n
-resized_grown old now n h le = ap (λ x. resized x n) h.1 ∙ resized_twice old (length now) n h.0 le
 
 -- of a block from a place that has a byte on, there is a byte
 pub some_there : (bytes more : List ℕ) (at : ℕ) → at < length bytes → more ≡ drop (at % 32768) (block_of (at / 32768) bytes) → 0 < length more

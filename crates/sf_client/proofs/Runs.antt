@@ -1,5 +1,5 @@
 -- Whole calls by a handle.
-use Rattle.std.proofs.Common.{◌≡◌, ◌≢◌, ◌⊎◌, ℕ, List, [], ◌∷◌, ◌++◌, false, Some, Result, Ok, Err, is_ok, is_err, OnOk, cond, inl, inr, refl, sym, ap, subst, ◌∙◌, arith}
+use Rattle.std.proofs.Common.{◌≡◌, ◌≢◌, ◌⊎◌, ℕ, List, [], ◌∷◌, ◌++◌, false, Some, Result, Ok, Err, is_ok, is_err, cond, inl, inr, refl, sym, ap, subst, ◌∙◌, arith}
 use Rattle.sf_field.specs.Fields.{be64}
 use Rattle.sf_request.specs.declared.request.WireRequest.{WireRequest}
 use Rattle.sf_request.specs.declared.request.WireRequest.TheVariants as request
@@ -30,11 +30,6 @@ told_ends n first v w (Err fault.Failed) h = absurd h
 pub appended : {X E : Type 0} (r : Result (Unit {0}) E) (now more kept : List X) → is_err r ≡ false → now ≡ cond (is_ok r) more kept → now ≡ more
 appended (Ok x) now more kept ok e = e
 appended (Err x) now more kept ok e = absurd cc
-
--- what is said of a success holds where there is no error
-pub went_well : {P X E : Type 0} (r : Result X E) → is_err r ≡ false → OnOk r P → P
-went_well (Ok x) ok h = h
-went_well (Err x) ok h = absurd cc
 
 -- ---- a call by a handle
 

@@ -166,10 +166,6 @@ freed_looks stage.Fresh s = refl
 freed_looks (stage.At w node) s = refl
 freed_looks (stage.Ends common old new) s = refl
 
--- ---- how far down a call looks
-end_depth : (len old new : ℕ) → ℕ
-end_depth len old new = if nat_le len (old + 1) then new + 1 else old + 1
-
 goes_first : (len old new : ℕ) → old + 1 < len → (if nat_le len (old + 1) then new + 1 else old + 1) ≡ old + 1
 goes_first len old new less = elim (nat_le len (old + 1)) as (λ b. nat_le len (old + 1) ≡ b → (if b then new + 1 else old + 1) ≡ old + 1) [
   | true ↦ λ e. let h = leb-true len (old + 1) e in absurd (omega (arith, h, less))

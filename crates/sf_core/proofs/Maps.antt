@@ -11,10 +11,6 @@ use Rattle.std.proofs.lemmas.Map.{length-set_value}
 use Rattle.sf_call.proofs.Laws.{lookup-put}
 use Rattle.sf_keeps.proofs.Laws.{lookup-set, lookup-removed, at_is, nat_at_itself, sorted_put, sorted_removed, sorted_set}
 
--- what a number finds where an entry was put, set or removed
-by_number : (k q : ℕ) → is_at (nat_cmp k) q ≡ nat_eq k q
-by_number k q = at_is k q
-
 pub itself : (k : ℕ) → is_at (nat_cmp k) k ≡ true
 itself k = nat_at_itself k
 

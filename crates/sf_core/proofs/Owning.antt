@@ -37,10 +37,6 @@ spot_node : (o : Option Path) (walked node : ℕ) → (spot_on o walked node).no
 spot_node None walked node = refl
 spot_node (Some path) walked node = refl
 
--- three nodes are freed
-abbrev three_freed : StoreState → ℕ → ℕ → ℕ → StoreState
-three_freed s a b d = edited (with_holder None) (edited (with_holder None) (edited (with_holder None) s a) b) d
-
 -- a node that is free stays so
 still_free : (s : StoreState) (node l : ℕ) → holder_of s.nodes l ≡ None → holder_of (edited (with_holder None) s node).nodes l ≡ None
 still_free s node l e = elim (same_or_not l node) [

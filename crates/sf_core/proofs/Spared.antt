@@ -44,9 +44,6 @@ on_path p h e = cc
 on_paths : (old new : Path) (h : ℕ) → OnPaths old new ≡ ByHandle h → ⊥
 on_paths old new h e = cc
 
-handle_paths : (h : ℕ) (old new : Path) → ByHandle h ≡ OnPaths old new → ⊥
-handle_paths h old new e = cc
-
 path_paths : (p old new : Path) → OnPath p ≡ OnPaths old new → ⊥
 path_paths p old new e = cc
 

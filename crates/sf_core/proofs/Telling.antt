@@ -34,18 +34,6 @@ slot_busy v s n c e f = ap (slot_by v.calls) e ∙ ap busy_with f
 pub slot_idle : (v : CoreView) (s : ℕ) → session_at v.sessions s ≡ Some None → slot_of v s ≡ Idle
 slot_idle v s e = ap (slot_by v.calls) e
 
-not_idle_busy : (o : Option Call) → busy_with o ≡ Idle → ⊥
-not_idle_busy None e = cc
-not_idle_busy (Some c) e = cc
-
-idle_by : (v : CoreView) (s : ℕ) (o : Option (Option ℕ)) → session_at v.sessions s ≡ o → slot_by v.calls o ≡ Idle → session_at v.sessions s ≡ Some None
-idle_by v s None e f = absurd (let x : ⊥ = cc in x)
-idle_by v s (Some None) e f = e
-idle_by v s (Some (Some n)) e f = absurd (not_idle_busy (call_at v.calls n) f)
-
-pub idle_slot : (v : CoreView) (s : ℕ) → slot_of v s ≡ Idle → session_at v.sessions s ≡ Some None
-idle_slot v s e = idle_by v s (session_at v.sessions s) refl e
-
 busy_call : (o : Option Call) (c : Call) → busy_with o ≡ Busy c → o ≡ Some c
 busy_call None c e = absurd (let x : ⊥ = cc in x)
 busy_call (Some d) c e = let same : d ≡ c = cc in ap Some same

@@ -1,5 +1,5 @@
 -- One session goes on, and the others stay as they are, but for calls that were carried out for them.
-use Rattle.std.proofs.Common.{◌≡◌, ◌≢◌, ℕ, zero, suc, ◌+◌, ◌-◌, ◌<◌, ◌≤◌, ◌⊎◌, List, [], ◌∷◌, ◌++◌, Some, None, Bool, cond, slice_get, slice_set, length, refl, ap, sym, ◌∙◌, subst, arith, inl, inr, get_or, length-set}
+use Rattle.std.proofs.Common.{◌≡◌, ◌≢◌, ℕ, zero, suc, ◌+◌, ◌-◌, ◌<◌, ◌≤◌, ◌⊎◌, List, [], ◌∷◌, ◌++◌, Some, None, cond, slice_get, slice_set, length, refl, ap, sym, ◌∙◌, subst, arith, inl, inr, get_or, length-set}
 use Rattle.std.specs.List.{sum_by}
 use Rattle.std.proofs.lemmas.Bool.{cases_eq}
 use Rattle.std.proofs.lemmas.Option.{slice_get_within, get_or_from_slice_get}
@@ -180,9 +180,3 @@ pub keeps_agrees : (w : World) (v v' : CoreView) (seats : List Seat) (at : ℕ) 
 keeps_agrees w v v' seats at added more p q t t' agrees told was history moves now =
     let P : World → Type 0 = λ z. Agrees z (record { core = v'; seats = slice_set seats at q }) in
     subst P (sym (with_at_is w at t' added more)) (keeps_at w v v' seats at added more p q t t' agrees told was history moves now)
-
-pub seat_eq : (p q : Seat) → q.session ≡ p.session → q.place ≡ p.place → q.closed ≡ p.closed → q ≡ p
-seat_eq p q a b c =
-    ap (λ (x : SessionView). record { session = x; place = q.place; closed = q.closed }) a
-    ∙ ap (λ (x : Place). record { session = p.session; place = x; closed = q.closed }) b
-    ∙ ap (λ (x : Bool). record { session = p.session; place = p.place; closed = x }) c

@@ -36,9 +36,6 @@ record MaySay (t t' : Told) : Type 0 where
 same_says : (t t' : Told) → t' ≡ t → MaySay t t'
 same_says t t' e = record { sent = ap (λ (z : Told). z.sent) e; says = inl (ap (λ (z : Told). z.answers) e) }
 
-says_nothing : (t t' u : Told) → t' ≡ u → u.sent ≡ t.sent → u.answers ≡ t.answers → MaySay t t'
-says_nothing t t' u e a b = record { sent = ap (λ (z : Told). z.sent) e ∙ a; says = inl (ap (λ (z : Told). z.answers) e ∙ b) }
-
 rest_says : (w : World) (s m : ℕ) (t t' : Told) (r : Happened) (added : List Record) → RestLeads m (record { world = w; session = s; told = t; added = added; now = t' }) r → MaySay t t'
 rest_says w s m t t' happened.Idle added g = same_says t t' g.2
 rest_says w s m t t' happened.Wrote added g = record { sent = ap (λ (z : Told). z.sent) g.0.now; says = inr (g.0.answer, ap (λ (z : Told). z.answers) g.0.now) }

@@ -5,14 +5,6 @@ use Rattle.sf_pool.specs.declared.transcript.Exchange.{Exchange}
 use Rattle.std.specs.List.{cons_option, AllByRecursion}
 use Rattle.sf_pool.specs.Audits.{Deed, told, IsIn, IsWithin}
 
-pub in_here : (o : Option Deed) (d : Deed) (xs : List Deed) → o ≡ Some d → IsIn (cons_option o xs) d
-in_here None d xs e = absurd cc
-in_here (Some x) d xs e = let same : x ≡ d = cc in inl same
-
-pub in_later : (o : Option Deed) (d : Deed) (xs : List Deed) → (o ≢ Some d) → IsIn (cons_option o xs) d ↔ IsIn xs d
-in_later None d xs ne = ((λ h. h), (λ h. h))
-in_later (Some x) d xs ne = ((λ h. elim h [ inl e ↦ absurd (ne (ap Some e)) | inr t ↦ t ]), (λ h. inr h))
-
 within_fewer : (x : Deed) (xs ys : List Deed) → IsWithin (x ∷ xs) ys → IsWithin xs ys
 within_fewer x [] ys h = tt
 within_fewer x (z ∷ zs) [] h = absurd h

@@ -1,6 +1,6 @@
 -- A session at a desk, from one packet to the next.
 use Rattle.std.proofs.Common.{◌≡◌, ◌+◌, ◌≤◌, ℕ, List, [], ◌∷◌, ◌++◌, Bool, Option, Some, None, length, take, refl, ap, sym, ◌∙◌, subst, inl, inr, append-nil, append_assoc, length-append, length-take, arith}
-use Rattle.std.specs.Io.KnownBytes.{Consumes, Keeps, IsAtEnd}
+use Rattle.std.specs.Io.KnownBytes.{Consumes, IsAtEnd}
 use Rattle.std.proofs.KnownBytes.{Appends-nil, Appends-trans}
 use Rattle.sf_field.specs.Fields.{packet}
 use Rattle.sf_wire.specs.declared.cutting.Cut.TheVariants as cut
@@ -26,8 +26,8 @@ use Rattle.sf_pool.specs.declared.desk.Begin.{Begin}
 use Rattle.sf_pool.specs.Audits.{Deed}
 use Rattle.sf_pool.specs.Desks.{IsResting, DeskView, Notes}
 use Rattle.sf_pool.specs.Scenes.{Scene, scene, answer_deeds, Attempt, answer_attempts, Begins, Serves, HasSentAll, IsServed}
-use Rattle.sf_pool.specs.Serving.{Goes, Rests, SendsPart, MakesCall, talk, FailsCall, StopsAt, HasSentFor}
-use Rattle.sf_pool.proofs.Talking.{notes_none, begins_none, fed, read_serves, still_serves, answer_serves, answer_goes, answered, pend_serves, pended, write_serves, sent_more, all_sent, end_serves, ended_by}
+use Rattle.sf_pool.specs.Serving.{Goes, Rests, SendsPart, MakesCall, talk, FailsCall, HasSentFor}
+use Rattle.sf_pool.proofs.Talking.{notes_none, begins_none, fed, read_serves, answer_serves, answer_goes, answered, pend_serves, pended, write_serves, sent_more, all_sent, end_serves, ended_by}
 
 -- what answers a body with no call
 local_at : (asked : Ask) (text : List ℕ) → LocalPacket asked text
@@ -118,13 +118,6 @@ call_stops start i o c tl tl' b b' d d' v m request stop.UnderWay none gives fai
 call_stops start i o c tl tl' b b' d d' v m request stop.Line none gives fails serves = absurd fails.1
 call_stops start i o c tl tl' b b' d d' v m request stop.NumbersSpent none gives fails serves = absurd fails.1
 
-pub call_stops_at : (request : Request) (Asked : List Attempt → Type 0) (d d' : DeskView) (why : Stop) → FailsCall request why Asked d d' → StopsAt why d'.place
-call_stops_at request Asked d d' stop.OutOfMemory fails = fails.1.1
-call_stops_at request Asked d d' stop.Stranger fails = fails.1.0
-call_stops_at request Asked d d' stop.UnderWay fails = fails.1.0
-call_stops_at request Asked d d' stop.Line fails = absurd fails.1
-call_stops_at request Asked d d' stop.NumbersSpent fails = absurd fails.1
-
 -- what waited was written, or some of it
 pub wrote_serves : (start : Scene) (i i' o o' : Option (List ℕ)) (c c' : Option (List LineCall)) (tl : Option (List ℕ)) (b : Option (List Begin)) (d : DeskView) (v w : SessionView)
     → i' ≡ i → SendsPart o o' c c' v w → Serves start (scene i o c tl b d) (Goes v) → Serves start (scene i' o' c' tl b d) (Goes w)
@@ -200,11 +193,6 @@ unfed_serves start i i' o o' c c' tl b d v n piece within consumes same logs ser
     let bytes = take n piece in
     let count : length bytes ≡ n = omega (arith, length-take n piece, within) in
     (fed t bytes, read_serves start (scene i o c tl b d) i' o' c' t n bytes serves.1 serves.2.0.resting serves.2.1 serves.2.2 consumes count same logs, serves.2.2)
-
--- a read failed
-pub unread_serves : (start : Scene) (i i' o o' : Option (List ℕ)) (c c' : Option (List LineCall)) (tl : Option (List ℕ)) (b : Option (List Begin)) (d : DeskView) (v : SessionView)
-    → Keeps i i' → o' ≡ o → Logs c c' [] → Serves start (scene i o c tl b d) (Rests v) → Serves start (scene i' o' c' tl b d) HasSentAll
-unread_serves start i i' o o' c c' tl b d v kept same logs serves = (serves.0, still_serves start (scene i o c tl b d) i' o' c' serves.0 serves.1 kept same logs, serves.2.2)
 
 -- the input is at its end
 pub closed_serves : (start : Scene) (i i' o o' : Option (List ℕ)) (c c' : Option (List LineCall)) (tl : Option (List ℕ)) (b : Option (List Begin)) (d : DeskView) (v : SessionView) (n : ℕ) (piece : List ℕ)

@@ -13,7 +13,6 @@ use Rattle.sf_line.specs.declared.line_call.LineCall.TheVariants.{Read, Write}
 use Rattle.sf_line.specs.Lines.{Logs, IsWrite, given, taken, bytes_given, bytes_taken}
 use Rattle.sf_line.proofs.Laws.{logs_more}
 use Rattle.sf_session.specs.declared.cause.Cause.TheVariants.{Closed}
-use Rattle.sf_engine.specs.declared.event.Event.{Event}
 use Rattle.sf_engine.specs.declared.event.Event.TheVariants as event
 use Rattle.sf_engine.specs.declared.event.Happened.{Happened}
 use Rattle.sf_engine.specs.declared.event.EngineFault.{EngineFault}
@@ -24,7 +23,7 @@ use Rattle.sf_engine.specs.Traces.{IsSession, TakesBytes, TakesNone, MayRefuse, 
 use Rattle.sf_engine.specs.Views.{EngineView}
 use Rattle.sf_engine.specs.Fits.{Fits, GoesOnTrace}
 use Rattle.sf_serving.specs.Ends.{IsWhole}
-use Rattle.sf_serving.specs.Serving.{Scene, scene, IsLow, IsLowAt, Progress, progress, Served, Serves, IsInStep, HasTurn, HasLeft, HasSentAll, Rests, Feeds, Applies}
+use Rattle.sf_serving.specs.Serving.{Scene, scene, IsLow, Progress, progress, Served, Serves, IsInStep, HasTurn, HasLeft, HasSentAll, Rests, Feeds, Applies}
 use Rattle.sf_serving.proofs.Following.{front_all, Follows, Leading, prompt_further, go_on, same_told}
 use Rattle.sf_serving.proofs.Turning.{told_now}
 use Rattle.sf_serving.proofs.Ending.{Law, read_of, prompt_now, prompt_push, whole_closed}
@@ -141,10 +140,6 @@ low_sent t e =
     let none : output_of t ≡ [] = ap (λ (b : List ℕ). drop (length t.sent) b) e ∙ drop_whole t.sent in
     let zero : length (output_of t) ≡ 0 = ap (λ (b : List ℕ). length b) none in
     omega (arith, zero)
-
--- where the event is no turn, what waits is of no matter
-abbrev NoTurn : ℕ → Event → Type 0
-NoTurn s ev = (w : World) → IsLowAt w s ev
 
 fed_leads : (s : ℕ) (t : Told) (unfed : List ℕ) (bytes : Vec ℕ) (r : Happened) → unfed ≡ bytes.items
     → Leading s t unfed (event.Feed s bytes) (Ok r) (λ t' unfed'. (t' ≡ fed t bytes.items) × (unfed' ≡ []))

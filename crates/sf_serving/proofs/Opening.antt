@@ -124,13 +124,6 @@ open_fault e serve.Sessions old new h = h
 open_fault e serve.Stranger old new h = absurd h
 open_fault e serve.NumbersSpent old new h = tt
 
-pub round_fault : (e : EngineView) (f : ServeFault) (old new : ℕ) → IsRoundFault f old new → IsServeFault e f old new
-round_fault e serve.Line old new h = h
-round_fault e serve.OutOfMemory old new h = tt
-round_fault e serve.Sessions old new h = absurd h
-round_fault e serve.Stranger old new h = absurd h
-round_fault e serve.NumbersSpent old new h = tt
-
 -- an event that opens a session opened one
 pub opened_only : (e e' : EngineView) (k : Happened) → ((session : ℕ) → k ≡ happened.Opened session → ⊥) → GoesOnTrace e event.Open (Ok k) e' → IsUnchanged e e'
 opened_only e e' k other goes trace fits = let g = goes trace fits in absurd (other (length fits.world.sessions + 1) g.2.0)

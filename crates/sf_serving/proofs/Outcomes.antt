@@ -1,7 +1,7 @@
 -- What holds of an answer or of a fault, from what holds of others.
 use Rattle.std.proofs.Common.{Result, Ok, Err}
-use Rattle.std.specs.Prelude.{◌≡◌, OnOk, OnErr, IfOk, IfErr}
-use Rattle.std.specs.Result.{is_err, IsErr, IsErrAnd}
+use Rattle.std.specs.Prelude.{◌≡◌, OnOk, OnErr, IfErr}
+use Rattle.std.specs.Result.{is_err, IsErrAnd}
 use Rattle.std.proofs.Common.{false, refl, sym, subst}
 
 pub on_err : {T E : Type 0} (r : Result T E) (P : Type 0) → P → OnErr r P
@@ -25,11 +25,6 @@ if_err_at {T} {E} (Err e) fault P is p = subst (λ (f : E). P f) (sym is) p
 pub if_err_any : {T E : Type 0} (r : Result T E) (P : E → Type 0) → ((f : E) → P f) → IfErr r P
 if_err_any (Ok x) P p = tt
 if_err_any (Err e) P p = p e
-
--- nothing is asked of an answer where a fault is answered
-pub if_ok_none : {T E : Type 0} (r : Result T E) (P : T → Type 0) → IsErr r → IfOk r P
-if_ok_none (Ok x) P is = absurd (cc)
-if_ok_none (Err e) P is = tt
 
 -- what an event came to that was not refused
 pub some_ok : {T E : Type 0} (r : Result T E) → is_err r ≡ false → (x : T) × (r ≡ Ok x)

@@ -13,7 +13,7 @@ use Rattle.sf_engine.specs.declared.event.EngineFault.{EngineFault}
 use Rattle.sf_engine.specs.Worlds.{Told, transcript}
 use Rattle.sf_engine.specs.Traces.{IsSession}
 use Rattle.sf_engine.specs.Fits.{WantsBytes, WantsBytesBy}
-use Rattle.sf_serving.specs.Serving.{Scene, Progress, progress, may_begin_after, Serves, IsInStep, GoesOn, GoesOnBy, HasTurn, HasTurnBy, HasTurned, HasLeft, IsDrained, IsRounded, HasSentAll, Rests, Stops, IsRoundFault, all_sent, SendsAll, SendsSome}
+use Rattle.sf_serving.specs.Serving.{Scene, Progress, progress, may_begin_after, Serves, IsInStep, GoesOn, HasTurn, HasTurnBy, HasTurned, HasLeft, IsDrained, IsRounded, HasSentAll, Rests, Stops, IsRoundFault, all_sent, SendsAll, SendsSome}
 use Rattle.sf_serving.specs.Ends.{IsWhole}
 use Rattle.sf_serving.proofs.Following.{same_told}
 use Rattle.sf_serving.proofs.Acting.{HasRead}
@@ -64,9 +64,6 @@ goes_stops start now s f serves = serves_more start now (GoesOn s) (Stops s f) (
 -- where the clock is asked
 pub may_turn : (start now : Scene) (s : ℕ) → Serves start now (HasTurn s) → Serves start now (HasTurnBy s true)
 may_turn start now s serves = serves_more start now (HasTurn s) (HasTurnBy s true) (λ p h. (h, tt)) serves
-
-pub goes_by : (start now : Scene) (s : ℕ) (begin : Bool) → Serves start now (GoesOnBy s begin) → Serves start now (GoesOn s)
-goes_by start now s begin serves = serves_more start now (GoesOnBy s begin) (GoesOn s) (λ p h. h.0) serves
 
 pub turn_stops : (start now : Scene) (s : ℕ) (begin : Bool) (f : ServeFault) → Serves start now (HasTurnBy s begin) → Serves start now (Stops s f)
 turn_stops start now s begin f serves = serves_more start now (HasTurnBy s begin) (Stops s f) (λ p h. (h.0.0.in_step.0, λ no. h.0.0.in_step.1)) serves

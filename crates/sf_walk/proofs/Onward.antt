@@ -10,7 +10,7 @@ use Rattle.sf_inode.specs.declared.node.Node.{Node}
 use Rattle.sf_inode.specs.declared.node.Content.{Content}
 use Rattle.sf_inode.specs.declared.node.Content.TheVariants as content
 use Rattle.sf_inode.specs.Nodes.{entry_in, is_directory_content}
-use Rattle.sf_inode.specs.Stores.{StoreState, node_in, entry_of, holder_of, is_directory_at, looked_up}
+use Rattle.sf_inode.specs.Stores.{StoreState, node_in, entry_of, holder_of, is_directory_at}
 use Rattle.sf_keeps.specs.Steps.{Steps, walk}
 use Rattle.sf_walk.specs.declared.finding.Located.TheVariants as located
 use Rattle.sf_walk.specs.Ways.{way_from, missing}
@@ -60,10 +60,6 @@ take_next p i n h g = ap (λ j. take j p) (add-one i) ∙ take-suc p i [] h ∙ 
 pub walk_next : (step : Steps) (x : ℕ) (p : Path) (i : ℕ) (n : Name) (y : ℕ) → i < length p → slice_get p i ≡ Some n → walk step x (take i p) ≡ Some y → walk step x (take (i + 1) p) ≡ step y n
 walk_next step x p i n y h g w =
     ap (walk step x) (take_next p i n h g) ∙ walk_append step x (take i p) (n ∷ []) ∙ ap (option_and_then (λ z. walk step z (n ∷ []))) w ∙ one_name (step y n)
-
--- a look-up changes no way
-pub on_way_looked : (s : StoreState) (path : Path) (walked node : ℕ) → IsOnWay s path walked node → IsOnWay (looked_up s) path walked node
-on_way_looked s path walked node way = record { short = way.short; leads = way.leads; directory = way.directory }
 
 module _ (s : StoreState) (path : Path) (walked node : ℕ) (way : IsOnWay s path walked node) where
   on_way : way_from s.nodes s.root s.root path ≡ way_from s.nodes node node (drop walked path)

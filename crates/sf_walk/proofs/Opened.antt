@@ -36,7 +36,7 @@ use Rattle.sf_walk.specs.declared.finding.Located.{Located}
 use Rattle.sf_walk.specs.declared.finding.Located.TheVariants as located
 use Rattle.sf_walk.specs.Opening.{marks_of, OpenedNew}
 use Rattle.sf_walk.specs.Served.{IsCarriedOut, Gives, IsAlike, LookedUp, Stays, IsUnused, is_success}
-use Rattle.sf_walk.proofs.Holders.{put_nodes, stays_inserted, stays_opened, alike_looked}
+use Rattle.sf_walk.proofs.Holders.{put_nodes, stays_inserted, stays_opened}
 use Rattle.sf_walk.proofs.LookUps.{looked_nodes}
 use Rattle.sf_walk.proofs.Fits.{no_way, name_missing, node_at}
 use Rattle.sf_walk.proofs.Undone.{edited_node, edited_itself}
@@ -198,12 +198,6 @@ stays_opened_new {N} before s new session number dir n marks made same did is_ne
 
 pub alike_err : {A E : Type 0} (old mid new : StoreState) (most : ℕ) (r : Result A E) → LookedUp old mid most → OnErr r (new ≡ mid) → OnErr r (IsAlike old new)
 alike_err old mid new most r looked = on_err_map r (new ≡ mid) (IsAlike old new) (alike_after old mid new most looked)
-
-alike_on : (old mid new : StoreState) → IsAlike old mid → IsAlike mid new → IsAlike old new
-alike_on old mid new a b = record { nodes = λ id. b.nodes id ∙ a.nodes id; root = b.root ∙ a.root; sessions = b.sessions ∙ a.sessions }
-
-pub alike_past : {A E : Type 0} (old mid new : StoreState) (most : ℕ) (r : Result A E) → LookedUp old mid most → OnErr r (IsAlike mid new) → OnErr r (IsAlike old new)
-alike_past old mid new most r looked = on_err_map r (IsAlike mid new) (IsAlike old new) (alike_on old mid new (alike_looked old mid most looked))
 
 -- ---- a directory that lacks a name
 way_lacking : (p : Path) (nodes : List (Option Node)) (above x d : ℕ) → way_from nodes above x p ≡ located.Missing d

@@ -1,5 +1,5 @@
 -- Where two paths part.
-use Rattle.std.specs.Prelude.{◌≡◌, ◌≢◌, ◌<◌, ◌≤◌, ◌+◌, ℕ, zero, suc, true, false, cond, ◌||◌, [], ◌∷◌, length, take, slice_get, is_some, Option, Some, None, refl}
+use Rattle.std.specs.Prelude.{◌≡◌, ◌≢◌, ◌<◌, ◌≤◌, ℕ, zero, suc, true, false, cond, ◌||◌, [], ◌∷◌, length, take, slice_get, is_some, Option, Some, None, refl}
 use Rattle.std.proofs.Common.{sym, ap, subst, ◌∙◌, inl, inr, arith}
 use Rattle.sf_path.specs.Names.{Name, Path}
 use Rattle.sf_path.specs.Order.{same_name}
@@ -7,7 +7,7 @@ use Rattle.sf_call.specs.declared.call.Stage.TheVariants as stage
 use Rattle.sf_call.specs.Tree.{after_front}
 use Rattle.sf_call.proofs.Laws.{same_name_is, same_name_itself}
 use Rattle.sf_walk.specs.Ways.{are_nested, PartAt}
-use Rattle.sf_walk.specs.Steps.{IsBefore, Arrives, reached}
+use Rattle.sf_walk.specs.Steps.{Arrives, reached}
 use Rattle.sf_walk.specs.Further.{PartLater}
 
 get_take : (n : ℕ) (p : Path) (i : ℕ) → i < n → slice_get (take n p) i ≡ slice_get p i
@@ -63,15 +63,6 @@ AreUnnested path (Some other) = are_nested path other ≡ false
 pub part_at_first : (path : Path) (other : Option Path) → AreUnnested path other → PartLater path other 0
 part_at_first path None h = tt
 part_at_first path (Some other) h = let w = parts path other h in (w.0, w.1, omega arith)
-
-pub part_later : (path : Path) (other : Option Path) (walked : ℕ) → IsBefore path other walked → PartLater path other (walked + 1)
-part_later path None walked h = tt
-part_later path (Some other) walked h = (h.0, h.1, omega (arith, h.2))
-
--- before the paths part, the old one has more names
-pub alone_at_parent : (path : Path) (other : Option Path) (walked : ℕ) → IsBefore path other walked → walked + 1 ≡ length path → other ≡ None
-alone_at_parent path None walked h e = refl
-alone_at_parent path (Some other) walked h e = absurd (omega (arith, h.2, h.1.short))
 
 module _ (path other : Path) (walked node common : ℕ) (later : PartLater path (Some other) walked) (is : common ≡ later.0) where
   pub arrives_apart : common ≡ walked → Arrives path (Some other) walked node (stage.Ends (reached walked node) (reached walked node) (reached walked node))

@@ -1,5 +1,5 @@
 -- The attributes of a node that are set.
-use Rattle.std.specs.Prelude.{if◌then◌else◌, ◌≡◌, ℕ, ◌≤◌, nat_lt, true, false, List, [], ◌∷◌, option_map, Option, Some, None, refl}
+use Rattle.std.specs.Prelude.{if◌then◌else◌, ◌≡◌, ℕ, ◌≤◌, nat_lt, false, List, [], ◌∷◌, option_map, Option, Some, None, refl}
 use Rattle.std.specs.Option.{option_map_or}
 use Rattle.std.proofs.lemmas.Bool.Decides.{nat_tests}
 use Rattle.std.proofs.Common.{sym, ap, subst, ◌∙◌, arith}
@@ -22,7 +22,7 @@ use Rattle.sf_inode.specs.Nodes.{object_in, bytes_in, with_bytes, with_content, 
 use Rattle.sf_inode.specs.Stores.{StoreState, node_in, bytes_of, bytes_set, is_directory_at, shown_of, shown_node, edited}
 use Rattle.sf_keeps.specs.Keeps.{Keeps}
 use Rattle.sf_keeps.proofs.Laws.{keeps_metadata, keeps_contents, keeps_file, object_again, edited_itself}
-use Rattle.sf_walk.specs.Served.{IsCarriedOut, is_success}
+use Rattle.sf_walk.specs.Served.{IsCarriedOut}
 
 pub not_above : (size : ℕ) → size ≤ MAX_FILE_SIZE → nat_lt MAX_FILE_SIZE size ≡ false
 not_above size h = grind (arith, nat_tests)
@@ -121,8 +121,3 @@ pub set_sized : (s first second new : StoreState) (t : Tree) (id moment size : �
 set_sized s first second new t id moment size attrs it h at d =
     set_content_cut s first second new t id it.label moment size attrs it.metadata it.content h (ap (option_map shown_node) at)
     (sym (ap (λ (o : Option Node). option_map_or (λ (node : Node). is_directory_content node.content) o false) at) ∙ d)
-
--- a size that can be set is set with success
-pub set_wants : (s : StoreState) (t : Tree) (id moment size : ℕ) (attrs : Attrs) (it : Node) → Keeps s t → node_in s.nodes id ≡ Some it → is_directory_at s.nodes id ≡ false
-    → attrs.size ≡ Some size → nat_lt MAX_FILE_SIZE size ≡ false → is_success (sets moment it.label attrs (object_in it.metadata it.content)).reply ≡ true
-set_wants s t id moment size attrs it h at d some fits = sym (ap is_success (set_sized s _ _ _ t id moment size attrs it h at d some fits refl refl refl).told)

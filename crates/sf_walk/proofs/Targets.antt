@@ -25,30 +25,6 @@ all_names (ByHandle handle) = omega arith
 all_names (OnPath p) = omega arith
 all_names (OnPaths p q) = omega arith
 
--- ---- the paths that are walked
-pub walks_one : (g : Target) (p : Path) → (paths_at g).0 ≡ Some p → (paths_at g).1 ≡ None → path_at g ≡ Some p
-walks_one (ByHandle handle) p a b = cc
-walks_one (OnPath q) p a b = a
-walks_one (OnPaths q r) p a b = cc
-
-pub walks_two : (g : Target) (p q : Path) → (paths_at g).0 ≡ Some p → (paths_at g).1 ≡ Some q → (path_at g ≡ cond (is_rooted p q) None (Some p)) × (other_at g ≡ cond (are_nested p q) None (Some q))
-walks_two (ByHandle handle) p q a b = cc
-walks_two (OnPath r) p q a b = cc
-walks_two (OnPaths r t) p q a b =
-    let x : r ≡ p = cc in
-    let y : t ≡ q = cc in
-    (λ i. cond (is_rooted (x i) (y i)) None (Some (x i)), λ i. cond (are_nested (x i) (y i)) None (Some (y i)))
-
-pub walks_none : (g : Target) → (paths_at g).0 ≡ None → (path_at g ≡ None) × (other_at g ≡ None)
-walks_none (ByHandle handle) a = (refl, refl)
-walks_none (OnPath r) a = cc
-walks_none (OnPaths r t) a = cc
-
-pub no_other : (g : Target) → (paths_at g).1 ≡ None → other_at g ≡ None
-no_other (ByHandle handle) b = refl
-no_other (OnPath r) b = refl
-no_other (OnPaths r t) b = cc
-
 if_none : (b : Bool) (p : Path) → cond b None (Some p) ≡ None → b ≡ true
 if_none true p e = refl
 if_none false p e = cc

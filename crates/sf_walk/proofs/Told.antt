@@ -1,5 +1,5 @@
 -- Answers that are told.
-use Rattle.std.specs.Prelude.{◌≡◌, true, false, [], ◌∷◌, Ok, Err, IsErr, IfOk, OnErr, refl}
+use Rattle.std.specs.Prelude.{◌≡◌, true, false, [], ◌∷◌, Ok, Err, IsErr, OnErr, refl}
 use Rattle.std.specs.declared.result.Result.{Result}
 use Rattle.std.proofs.Common.{sym, subst}
 use Rattle.sf_path.specs.Names.{Path}
@@ -24,10 +24,6 @@ past_root_gives new t (n ∷ p) answer r ne h = h
 pub past_root_wants : (p : Path) (answer : Answer) → (p ≡ [] → ⊥) → is_success answer.reply ≡ true → is_success (unless_root p answer).reply ≡ true
 past_root_wants [] answer ne h = absurd (ne refl)
 past_root_wants (n ∷ p) answer ne h = h
-
-pub if_ok_map : {A E : Type 0} (r : Result A E) (P Q : A → Type 0) → ((x : A) → P x → Q x) → IfOk r P → IfOk r Q
-if_ok_map (Ok x) P Q f h = f x h
-if_ok_map (Err e) P Q f h = h
 
 pub on_err_map : {A E : Type 0} (r : Result A E) (P Q : Type 0) → (P → Q) → OnErr r P → OnErr r Q
 on_err_map (Ok x) P Q f h = h

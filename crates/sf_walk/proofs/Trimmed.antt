@@ -6,7 +6,7 @@ use Rattle.sf_call.specs.Tree.{Tree}
 use Rattle.sf_call.specs.Changes.{done}
 use Rattle.sf_call.specs.Calls.{Answer}
 use Rattle.sf_inode.specs.Stores.{StoreState, node_in, with_nodes}
-use Rattle.sf_walk.specs.Served.{IsAlike, IsCarriedOut, Stays, LooksUp}
+use Rattle.sf_walk.specs.Served.{IsAlike, IsCarriedOut, Stays}
 use Rattle.sf_walk.proofs.Refused.{keeps_alike}
 
 -- the nodes are the same by look-ups, and all else is the same
@@ -19,9 +19,6 @@ served_trimmed mid new t answer given h nodes rest = record { told = h.told; tre
 
 pub stays_trimmed : {N : Option ℕ → ℕ → Type 0} (old mid new : StoreState) → Stays N old mid → ((id : ℕ) → node_in new.nodes id ≡ node_in mid.nodes id) → Stays N old new
 stays_trimmed old mid new h nodes = record { node = λ id node at. h.node id node (sym (nodes id) ∙ at) }
-
-pub looks_trimmed : (old mid new : StoreState) (most : ℕ) → LooksUp old mid most → new ≡ with_nodes mid new.nodes → LooksUp old new most
-looks_trimmed old mid new most h rest = record { count = h.count; few = h.few; look_ups = ap (λ (s : StoreState). s.look_ups) rest ∙ h.look_ups }
 
 pub looks_same : (old mid new : StoreState) → mid.look_ups ≡ old.look_ups → new ≡ with_nodes mid new.nodes → new.look_ups ≡ old.look_ups
 looks_same old mid new h rest = ap (λ (s : StoreState). s.look_ups) rest ∙ h
