@@ -15,7 +15,7 @@ use Rattle.sf_engine.specs.declared.event.Happened.TheVariants as happened
 use Rattle.sf_engine.specs.declared.event.EngineFault.{EngineFault}
 use Rattle.sf_engine.specs.declared.event.EngineFault.TheVariants as fault
 use Rattle.sf_engine.specs.Worlds.{Phase, Resting, UnderWay, Decided, Gone, Told, World, with_told, with_phase}
-use Rattle.sf_engine.specs.Traces.{TurnLeads, calls_begun, IsSession, IsNoSession, MayRefuse, MayWantMemory, closed_now}
+use Rattle.sf_engine.specs.Traces.{TurnLeads, walking, calls_begun, IsSession, IsNoSession, MayRefuse, MayWantMemory, closed_now}
 use Rattle.sf_engine.specs.Turns.{Gives, part, new_part, PlaceGives, CloseGives, IsPlaced, MayRefuseTurn}
 use Rattle.sf_engine.specs.Works.{Passage, IsStep, IsWork}
 use Rattle.sf_engine.specs.Views.{EngineView}
@@ -40,7 +40,7 @@ phase_turned w v v' seats s m t c Resting x y p q r h added agrees hist old g =
     let at : IsResting v s x p = old.at in
     rest_turned w v v' s m t c x y p q r added agrees.begun old at (subst (λ (z : Place). PlaceGives (part v h x c) z m r (new_part v' added y q)) at.place_is g)
 phase_turned w v v' seats s m t c (UnderWay id n k request moves) x y p q r h added agrees hist old g =
-    let at : IsGoing v s x id n k request moves p = old.at in
+    let at : IsGoing v s x (walking id n k request moves) p = old.at in
     let g' = subst (λ (z : Place). PlaceGives (part v h x c) z m r (new_part v' added y q)) at.place_is g in
     let was = with_phase t (UnderWay id n k request moves) in
     let P : SessionView → Type 0 = λ z. Turned v v' s was (calls_begun r) (seat z q c) (λ t'. TurnLeads m (record { world = w; session = s; told = was; added = added; now = t' }) (UnderWay id n k request moves) r) in

@@ -23,7 +23,7 @@ use Rattle.sf_engine.specs.declared.seat.Place.TheVariants as place
 use Rattle.sf_engine.specs.declared.event.Happened.{Happened}
 use Rattle.sf_engine.specs.declared.event.Happened.TheVariants as happened
 use Rattle.sf_engine.specs.Worlds.{Phase, Resting, UnderWay, Decided, Gone, Told, World, with_phase}
-use Rattle.sf_engine.specs.Traces.{IsUnderWay, IsOthersCall, IsHelped, Decides, StepLeads, calls_begun}
+use Rattle.sf_engine.specs.Traces.{IsUnderWay, IsOthersCall, IsHelped, Decides, StepLeads, walking, calls_begun}
 use Rattle.sf_engine.specs.Turns.{GoesOn, before, after}
 use Rattle.sf_engine.specs.Deciding.{HasStopped, AreSure}
 use Rattle.sf_engine.specs.Fits.{HasMoved, IsGoing, PlaceAgrees, SeatAgrees, Agrees}
@@ -79,7 +79,7 @@ are_helped w v seats s [] agrees h = tt
 are_helped w v seats s (r ∷ rs) agrees h = (helped_one w v seats s r agrees h.0, are_helped w v seats s rs agrees h.1)
 
 -- the record of the session's call, by what is told of it
-own_record : (v : CoreView) (s : ℕ) (x : SessionView) (id n m : ℕ) (q : Request) (moves : ℕ) (p : Place) (c : Call) (given : Reply) → IsGoing v s x id n m q moves p → slot_of v s ≡ Busy c → did c given ≡ Did n s m q given
+own_record : (v : CoreView) (s : ℕ) (x : SessionView) (id n m : ℕ) (q : Request) (moves : ℕ) (p : Place) (c : Call) (given : Reply) → IsGoing v s x (walking id n m q moves) p → slot_of v s ≡ Busy c → did c given ≡ Did n s m q given
 own_record v s x id n m q moves p c given at here =
     let own : at.call ≡ c = let w : Busy at.call ≡ Busy c = sym at.slot ∙ here in cc in
     ap (λ (y : Call). did y given) (sym own)
@@ -89,7 +89,7 @@ own_record v s x id n m q moves p c given at here =
     ∙ ap (λ (k : Request). Did n s m k given) at.own.3
 
 -- a call that decides has stopped
-has_stopped : (w : World) (v : CoreView) (s : ℕ) (x : SessionView) (id n m : ℕ) (q : Request) (moves : ℕ) (p : Place) (c : Call) (given : Reply) → IsGoing v s x id n m q moves p → slot_of v s ≡ Busy c
+has_stopped : (w : World) (v : CoreView) (s : ℕ) (x : SessionView) (id n m : ℕ) (q : Request) (moves : ℕ) (p : Place) (c : Call) (given : Reply) → IsGoing v s x (walking id n m q moves) p → slot_of v s ≡ Busy c
     → did c given ≡ Did n s m q given → MayDecide (replay w.records) c.request c.stage → reply_of c ≡ None → HasStopped (replay w.records) moves (Did n s m q given)
 has_stopped w v s x id n m q moves p c given at here is way undecided =
     let own : at.call ≡ c = let z : Busy at.call ≡ Busy c = sym at.slot ∙ here in cc in
@@ -99,12 +99,12 @@ has_stopped w v s x id n m q moves p c given at here is way undecided =
 -- the session's call was decided, and its answer waits
 decided_now : (w : World) (v v' : CoreView) (s : ℕ) (t : Told) (c : Bool) (x : SessionView) (p q : Place) (id n m : ℕ) (request : Request) (moves : ℕ)
     (a : Answer) (added : List Record)
-    → SeatAgrees v s (with_phase t (UnderWay id n m request moves)) (seat x p c) → (at : IsGoing v s x id n m request moves p)
+    → SeatAgrees v s (with_phase t (UnderWay id n m request moves)) (seat x p c) → (at : IsGoing v s x (walking id n m request moves) p)
     → Moves v v' s (with_phase t (UnderWay id n m request moves)) (with_phase t (Decided id n request a.reply)) 0
     → slot_of v' s ≡ Idle → q ≡ place.Answered (at_rest at.lane) a
     → Decides w s moves (Did n s m request a.reply) added
     → Turned v v' s (with_phase t (UnderWay id n m request moves)) 0 (seat x q c)
-    (λ t'. StepLeads (record { world = w; session = s; told = (with_phase t (UnderWay id n m request moves)); added = added; now = t' }) (record { id = id; number = n; moment = m; request = request; moves = moves }) happened.Decided)
+    (λ t'. StepLeads (record { world = w; session = s; told = (with_phase t (UnderWay id n m request moves)); added = added; now = t' }) (walking id n m request moves) happened.Decided)
 decided_now w v v' s t c x p q id n m request moves a added h at moved idle qis decides = record {
   told = with_phase t (Decided id n request a.reply);
   lead = (a.reply, decides, refl);
@@ -125,10 +125,10 @@ helped_stays v v' s helped (inr h) = inr (h.before, h.after, h.was, h.now, h.sam
 pub step_turned : (w : World) (v v' : CoreView) (seats : List Seat) (s : ℕ) (t : Told) (c : Bool) (x : SessionView) (p q : Place) (id n m : ℕ) (request : Request) (moves : ℕ)
     (r : Happened) (h added : List Record)
     → Agrees w (record { core = v; seats = seats }) → h ≡ w.records
-    → SeatAgrees v s (with_phase t (UnderWay id n m request moves)) (seat x p c) → (at : IsGoing v s x id n m request moves p)
+    → SeatAgrees v s (with_phase t (UnderWay id n m request moves)) (seat x p c) → (at : IsGoing v s x (walking id n m request moves) p)
     → (lane' : LaneView) → GoesOn (before v h at.lane) r (after v' added lane') q
     → Turned v v' s (with_phase t (UnderWay id n m request moves)) (calls_begun r) (seat x q c)
-    (λ t'. StepLeads (record { world = w; session = s; told = (with_phase t (UnderWay id n m request moves)); added = added; now = t' }) (record { id = id; number = n; moment = m; request = request; moves = moves }) r)
+    (λ t'. StepLeads (record { world = w; session = s; told = (with_phase t (UnderWay id n m request moves)); added = added; now = t' }) (walking id n m request moves) r)
 step_turned w v v' seats s t c x p q id n m request moves happened.Moved h added agrees hist old at lane' g =
     let go = g.0.2 in
     let a = g.0.0 in

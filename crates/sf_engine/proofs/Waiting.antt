@@ -10,7 +10,7 @@ use Rattle.sf_engine.specs.Worlds.{Phase, Resting, UnderWay, Decided, Gone, Told
 use Rattle.sf_engine.specs.Traces.{IsSession, IsNoSession}
 use Rattle.sf_engine.specs.Turns.{is_resting}
 use Rattle.sf_engine.specs.Views.{EngineView}
-use Rattle.sf_engine.specs.Fits.{PlaceAgrees, SeatAgrees, WantsBytes, WantsBytesBy}
+use Rattle.sf_engine.specs.Fits.{PlaceAgrees, WantsBytes, WantsBytesBy}
 use Rattle.sf_engine.proofs.Turning.{told_at, no_session}
 
 rests_at : (v : CoreView) (s : ℕ) (x : SessionView) (f : Phase) (p : Place) → PlaceAgrees v s x f p → is_resting p ≡ true → f ≡ Resting

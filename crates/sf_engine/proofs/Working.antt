@@ -20,6 +20,7 @@ use Rattle.sf_engine.specs.declared.event.Happened.TheVariants as happened
 use Rattle.sf_engine.specs.Worlds.{Phase, Resting, UnderWay, Decided as IsDecided, Gone}
 use Rattle.sf_engine.specs.Works.{Passage, is_of_other, names_helped, IsWork, IsStep}
 use Rattle.sf_engine.specs.Turns.{Part, NewPart, Seated, Reads, Settles, GoesOn, PlaceGives, CloseGives, before, after, seated}
+use Rattle.sf_engine.specs.Traces.{walking}
 use Rattle.sf_engine.specs.Fits.{IsResting, IsGoing, IsAnswered, PlaceAgrees}
 
 -- from a core with its history to another
@@ -108,7 +109,7 @@ turn_works b p s m Resting r a h g =
     let at : IsResting b.core s b.session p = h in
     read_works b.core b.history s m (seated b.core b.session at.lane) r a at.session refl (subst (λ (z : Place). PlaceGives b z m r a) at.place_is g)
 turn_works b p s m (UnderWay id n k q moves) r a h g =
-    let at : IsGoing b.core s b.session id n k q moves p = h in
+    let at : IsGoing b.core s b.session (walking id n k q moves) p = h in
     let g' = subst (λ (z : Place). PlaceGives b z m r a) at.place_is g in
     step_works b.core b.history s m at.lane g'.0.0 r a at.session g'.0.1
 turn_works b p s m (IsDecided id n q given) r a h g =

@@ -24,7 +24,7 @@ use Rattle.sf_engine.specs.declared.event.Event.TheVariants as event
 use Rattle.sf_engine.specs.declared.event.Happened.{Happened}
 use Rattle.sf_engine.specs.declared.event.EngineFault.{EngineFault}
 use Rattle.sf_engine.specs.Worlds.{Entry, Phase, Resting, UnderWay, Decided, Gone as left, Told, World, transcript, here}
-use Rattle.sf_engine.specs.Traces.{has_begun, goes_on, Tells, order, AreEntries, IsSession, IsNoSession, Leads}
+use Rattle.sf_engine.specs.Traces.{has_begun, goes_on, Tells, order, AreEntries, IsSession, IsNoSession, Leads, Walking, walking}
 use Rattle.sf_engine.specs.Works.{Passage, IsStep, IsWork}
 use Rattle.sf_engine.specs.Views.{EngineView}
 
@@ -45,20 +45,19 @@ HasMoved stage.Fresh moves = moves ≡ 0
 HasMoved (stage.At walked node) moves = moves ≡ walked + 1
 HasMoved (stage.Ends common old new) moves = moves + common.walked ≡ old.walked + new.walked + 1
 
--- A session whose call is under way: the core has the call, and so many steps are left to it at most.
-pub record IsGoing (v : CoreView) (s : ℕ) (x : SessionView) (id number moment : ℕ)
-    (request : Request) (moves : ℕ) (p : Place) : Type 0 where
+-- A session whose call is under way as is told: the core has the call, and so many steps are left to it at most.
+pub record IsGoing (v : CoreView) (s : ℕ) (x : SessionView) (told : Walking) (p : Place) : Type 0 where
   pub lane : LaneView
   pub call : Call
   pub session : lane.session ≡ s
-  pub number_is : lane.call ≡ Some number
+  pub number_is : lane.call ≡ Some told.number
   pub place_is : p ≡ place.UnderWay lane
   pub slot : slot_of v s ≡ Busy call
-  pub own : (call.session ≡ s) × (call.number ≡ number) × (call.moment ≡ moment)
-      × (call.request ≡ request)
-  pub few : moves + left_of call ≤ bound_of request
-  pub walked : reply_of call ≡ None → HasMoved call.stage moves
-  pub waiting : x.waiting ≡ Some id
+  pub own : (call.session ≡ s) × (call.number ≡ told.number) × (call.moment ≡ told.moment)
+      × (call.request ≡ told.request)
+  pub few : told.moves + left_of call ≤ bound_of told.request
+  pub walked : reply_of call ≡ None → HasMoved call.stage told.moves
+  pub waiting : x.waiting ≡ Some told.id
   pub ended : x.ended ≡ None
 
 -- a session whose answer waits
@@ -78,7 +77,7 @@ pub record IsAnswered (v : CoreView) (s : ℕ) (x : SessionView) (id : ℕ) (giv
 abbrev pub PlaceAgrees : CoreView → ℕ → SessionView → Phase → Place → Type 0
 PlaceAgrees v s x Resting p = IsResting v s x p
 PlaceAgrees v s x (UnderWay id number moment request moves) p =
-    IsGoing v s x id number moment request moves p
+    IsGoing v s x (walking id number moment request moves) p
 PlaceAgrees v s x (Decided id number request reply) p = IsAnswered v s x id reply p
 PlaceAgrees v s x (left cause) p = (p ≡ place.Left cause) × (slot_of v s ≡ Gone) × (x.ended ≢ None)
 

@@ -1,7 +1,9 @@
 //! Workers: threads that serve sessions over lines on one core, each worker one line after the other.
 //!
 //! Start with `serve_all`: a worker for each clock takes lines from a channel, and serves each to its end at a
-//! `LockDesk`. What a worker's sessions came to is a `Served`.
+//! `LockDesk`. What a worker's sessions came to is a `Served`: the worker's share of the calls, whose size
+//! `specs/Shares.antt` says, and what its sessions were told, where that is kept. `audit` and `gather` of
+//! `sf_pool` compare both with the core.
 #![tactic(auto)]
 
 mod workers;
