@@ -9,7 +9,7 @@ use Rattle.sf_call.specs.declared.record.Record.{Record}
 use Rattle.sf_call.specs.declared.record.Record.TheVariants.{Did, Left}
 use Rattle.sf_call.specs.Tree.{Tree, empty_tree}
 use Rattle.sf_call.specs.Calls.{apply, leave}
-use Rattle.sf_call.specs.Histories.{after, after_reply, replay, IsOther, IsNewNumber, CallMayFollow, MayFollow, IsLegalAfter, IsLegal, IsAmong, is_of, record_of}
+use Rattle.sf_call.specs.Histories.{after, after_reply, replay, IsOther, IsNewNumber, MayFollow, IsLegalAfter, IsLegal, IsAmong, is_of, record_of}
 
 pub replay-push : (history : List Record) (r : Record) → replay (history ++ r ∷ []) ≡ after (replay history) r
 unfolding replay
@@ -83,7 +83,7 @@ module _ (P : Tree → Type 0) where
   -- a call that may come keeps it
   abbrev pub CallsKeep : Type 0
   CallsKeep = (history : List Record) (number session moment : ℕ) (request : Request) (given : Reply) → IsLegal history
-      → CallMayFollow history number session moment request given → P (replay history) → P (apply (replay history) session number moment request).tree
+      → MayFollow history (Did number session moment request given) → P (replay history) → P (apply (replay history) session number moment request).tree
 
   module _ (calls : CallsKeep) (leavings : (tree : Tree) (session : ℕ) → P tree → P (leave tree session)) where
     by_reply : (tree next : Tree) (given : Reply) → P tree → P next → P (after_reply tree next given)

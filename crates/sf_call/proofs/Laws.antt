@@ -61,6 +61,8 @@ pub use Rattle.sf_call.proofs.Founded.{kept_object}
 -- what holds of the root alone, and still holds after each call that may come and each leaving, holds after each legal
 -- history
 pub use Rattle.sf_call.proofs.Growth.{CallsKeep, holds_after}
+-- what a request is since its type holds it
+pub use Rattle.sf_call.proofs.Held.{held_request}
 
 -- ---- trees
 

@@ -16,3 +16,4 @@ pub mod FittingTrees
 pub mod FittingAnswers
 pub mod FittingReplies
 pub mod Laws
+pub mod Held

@@ -43,21 +43,32 @@ IsNoLeaving session (Left s) = s ≢ session
 abbrev pub IsPresent : ℕ → List Record → Type 0
 IsPresent session history = AllByRecursion (IsNoLeaving session) history
 
+-- a call that was carried out, with the reply that it was given
+pub record DoneCall : Type 0 where
+  pub number : ℕ
+  pub session : ℕ
+  pub moment : ℕ
+  pub request : Request
+  pub given : Reply
+
+-- the tree's reply to the call
+abbrev pub due_reply : List Record → DoneCall → Reply
+due_reply history d = (apply (replay history) d.session d.number d.moment d.request).reply
+
 -- a call may come next: its parts are values of their types, its number is above 0 and new, its session has not left, and
 -- its reply is the tree's or want of memory
-pub record CallMayFollow (history : List Record) (number session moment : ℕ) (request : Request)
-    (given : Reply) : Type 0 where
-  pub is_call : IsCall number session moment request
-  pub above_zero : 0 < number
-  pub new_number : IsNewNumber number history
-  pub present : IsPresent session history
-  pub answered : (given ≡ (apply (replay history) session number moment request).reply)
-      ⊎ (given ≡ reply.NoMemory)
+pub record CallMayFollow (history : List Record) (d : DoneCall) : Type 0 where
+  pub is_call : IsCall d.number d.session d.moment d.request
+  pub above_zero : 0 < d.number
+  pub new_number : IsNewNumber d.number history
+  pub present : IsPresent d.session history
+  pub answered : (d.given ≡ due_reply history d) ⊎ (d.given ≡ reply.NoMemory)
 
 -- a record may come next; nothing of a session follows its leaving
 abbrev pub MayFollow : List Record → Record → Type 0
 MayFollow history (Did number session moment request given) =
-    CallMayFollow history number session moment request given
+    CallMayFollow history
+    record { number = number; session = session; moment = moment; request = request; given = given }
 MayFollow history (Left session) = IsPresent session history
 
 -- each of the records may follow those before it
@@ -76,7 +87,7 @@ IsAmong record' (r ∷ rs) = (r ≡ record') ⊎ IsAmong record' rs
 -- after some legal history a record of this call, with this reply, may come
 abbrev pub IsGiven : ℕ → ℕ → Reply → Type 0
 IsGiven number session given = (before : List Record) × (moment : ℕ) × (request : Request)
-    × IsLegal before × CallMayFollow before number session moment request given
+    × IsLegal before × MayFollow before (Did number session moment request given)
 
 -- whether the record is of the call with this number, and the first such record
 abbrev pub is_of : ℕ → Record → Bool

@@ -1,9 +1,6 @@
 //! What a call asks of the tree.
 
 ghost use Rattle.std.specs.Prelude.{◌≡◌, IfOk};
-ghost use Rattle.sf_field.specs.Attributes.{AttrsFit};
-ghost use Rattle.sf_field.specs.Fields.{AreBytes};
-ghost use Rattle.sf_call.specs.Values.{IsRequest, IsCall};
 
 use sf_field::{Attrs, ByteString, OpenFlags};
 use sf_path::Path;
@@ -40,13 +37,6 @@ pub enum Request {
 }
 
 impl Request {
-    /// A call's parts are values of their types, as a history asks: a proof takes this from a call, which does nothing.
-    pub fn is_call(&self, number: u64, session: u64, moment: u32)
-        ensures { IsCall number session moment self.now }
-    {
-        parts(self);
-    }
-
     /// The same request once more: its paths and the bytes of a WRITE are shared, which takes no memory. It fails where
     /// the owners can't be counted: at 2^63 of them.
     pub fn share(&self) -> Result<Request, AllocError>
@@ -87,57 +77,3 @@ impl Request {
         })
     }
 }
-
-// The parts of a request are values of their types.
-fn parts(request: &Request)
-    ensures { IsRequest request.now }
-{
-    match request {
-        Request::Stat(path)
-        | Request::Rmdir(path)
-        | Request::Remove(path)
-        | Request::OpenDir(path) => path.are_names(),
-        Request::SetStat(path, attrs)
-        | Request::Mkdir(path, attrs)
-        | Request::Open(path, _, attrs) => {
-            path.are_names();
-            fits(*attrs);
-        }
-        Request::Close(handle) | Request::FStat(handle) | Request::ReadDir(handle) => {
-            let _handle = *handle;
-        }
-        Request::FSetStat(handle, attrs) => {
-            let _handle = *handle;
-            fits(*attrs);
-        }
-        Request::Read {
-            handle,
-            offset,
-            len,
-        } => {
-            let (_handle, _offset, _len) = (*handle, *offset, *len);
-        }
-        Request::Write {
-            handle,
-            offset,
-            data,
-        } => {
-            let (_handle, _offset) = (*handle, *offset);
-            are_bytes(data.as_slice());
-        }
-        Request::Rename(old, new) | Request::PosixRename(old, new) => {
-            old.are_names();
-            new.are_names();
-        }
-    }
-}
-
-// The numbers of the attributes are within their widths.
-fn fits(attrs: Attrs)
-    ensures { AttrsFit attrs }
-{}
-
-// The items of a slice of bytes are bytes.
-fn are_bytes(bytes: &[u8])
-    ensures { AreBytes bytes.now }
-{}

@@ -29,7 +29,10 @@ fn given<T>(rt: &impl Abort, found: Result<T, Fail>) -> T {
 
 /// The bytes of packets in hexadecimal, one after the other.
 fn packets(rt: &impl Abort, alloc: Global, texts: &[&str]) -> Vec<u8> {
-    given(rt, hex_packets(alloc, texts))
+    let Ok(bytes) = hex_packets(alloc, texts) else {
+        panic!(rt; "no bytes");
+    };
+    bytes
 }
 
 /// What the server answers to these requests, at the moment 100, and how the session ended.

@@ -13,7 +13,7 @@ use Rattle.sf_call.specs.declared.call.Stage.TheVariants as stage
 use Rattle.sf_book.specs.Books.{put}
 use Rattle.sf_call.specs.Tree.{Tree, label_at}
 use Rattle.sf_call.specs.Calls.{answer_to}
-use Rattle.sf_call.specs.Histories.{after, replay, IsNewNumber, IsPresent, IsOther, IsNoLeaving, CallMayFollow, IsGiven}
+use Rattle.sf_call.specs.Histories.{after, replay, IsNewNumber, IsPresent, IsOther, IsNoLeaving, MayFollow, IsGiven}
 use Rattle.sf_path.specs.Names.{Path}
 use Rattle.sf_inode.specs.Nodes.{with_holder}
 use Rattle.sf_inode.specs.Stores.{StoreState, entry_of, holder_of, edited}
@@ -57,7 +57,7 @@ module _ (p : PartsView) (history : List Record) (sound : Sound p history) (c : 
   served : IsRefused p.store fin.mid (replay history) given ⊎ IsCarriedOut fin.mid (replay history) (answer_to (replay history) c.session c.number c.moment c.request) given
   served = fin.serves.served (replay history) sound.keeps (new_to p history c.number c sound call undecided)
 
-  pub may_follow : CallMayFollow history c.number c.session c.moment c.request given
+  pub may_follow : MayFollow history (did c given)
   may_follow = record {
     is_call = call.is_call;
     above_zero = call.above;

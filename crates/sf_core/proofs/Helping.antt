@@ -20,7 +20,7 @@ use Rattle.sf_call.specs.Requests.{Target, target_of}
 use Rattle.sf_call.specs.Requests.Target.{ByHandle, OnPath, OnPaths}
 use Rattle.sf_call.specs.Changes.{Change, moved_by, done}
 use Rattle.sf_call.specs.Calls.{answer_to, apply}
-use Rattle.sf_call.specs.Histories.{after, replay, IsLegal, IsNewNumber, IsPresent, IsOther, IsNoLeaving, CallMayFollow, IsAmong}
+use Rattle.sf_call.specs.Histories.{after, replay, IsLegal, IsNewNumber, IsPresent, IsOther, IsNoLeaving, MayFollow, IsAmong}
 use Rattle.sf_call.specs.Unanswered.{with_reply, answered, answered_by}
 use Rattle.sf_call.proofs.Laws.{replay-push, IsLegal-push, after_told, never_wants}
 use Rattle.sf_laws.proofs.Laws.{below_labels, other_labels, unmoved_tree, moved_old}
@@ -126,7 +126,7 @@ module _ (old : Path) (p : PartsView) (history : List Record) (sound : Sound p h
   served : IsRefused p.store q.store (replay history) given ⊎ IsCarriedOut q.store (replay history) (answer_to (replay history) c.session c.number c.moment c.request) given
   served = helped.serves.served (replay history) sound.keeps (new_to p history c.number c sound call undecided)
 
-  may_follow : CallMayFollow history c.number c.session c.moment c.request given
+  may_follow : MayFollow history (did c given)
   may_follow = record {
     is_call = call.is_call;
     above_zero = call.above;

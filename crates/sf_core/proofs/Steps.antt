@@ -27,7 +27,7 @@ use Rattle.sf_core.specs.Lanes.{LaneView, at_rest}
 use Rattle.sf_core.specs.Cores.{CoreView, call_at, session_at}
 use Rattle.sf_core.specs.Progress.{reply_of, did, undecided_in}
 use Rattle.sf_core.specs.Histories.{IsHistory}
-use Rattle.sf_core.specs.Events.{StepsOn, Moves, Walks, Fetches, Decides}
+use Rattle.sf_core.specs.Events.{StepsOn, Moves, Walks, Fetches, Decides, came}
 use Rattle.sf_core.specs.Parts.{PartsView, seen}
 use Rattle.sf_core.specs.Sound.{IsCore, IsWritten, Sound}
 use Rattle.sf_core.specs.declared.parts.Outcome.{Outcome}
@@ -284,7 +284,7 @@ module _ (lane : LaneView) (n : ℕ) (call : lane.call ≡ Some n) where
       (walks_on it.0 q n (walked.Moved it.2.0) (walked.Moved it.2.0) refl c.0 c.1 c.4) places (places_by k p it.0 places it.1 fit)
 
   pub walks_by : (k most : ℕ) (p mid : PartsView) → k < most → Moved k p lane.session n mid → (s : Step) (w : CoreView) (m : LaneView) → (v : CoreView) → seen p ≡ v → (l : LaneView) → lane ≡ l
-      → StepsOn (seen mid) l s w m → (s ≡ step.Moved → k + 1 ≡ most) → Walks v l most s w m
+      → StepsOn (seen mid) l s w m → (s ≡ step.Moved → k + 1 ≡ most) → Walks v l most (came s w m)
   walks_by k most p mid few moved s w m v ev l el last full = record {
     moves = k;
     mid = seen mid;

@@ -197,15 +197,23 @@ unfoldable pub Moves : ℕ → CoreView → LaneView → CoreView → Type 0
 Moves zero v lane w = w ≡ v
 Moves (suc n) v lane w = (mid : CoreView) × Moves n v lane mid × StepsOn mid lane Moved w lane
 
+-- what steps came to: the last one, and the core and the session's lane after it
+pub record Came : Type 0 where
+  pub step : Step
+  pub core : CoreView
+  pub lane : LaneView
+
+abbrev pub came : Step → CoreView → LaneView → Came
+came s w lane = record { step = s; core = w; lane = lane }
+
 -- Walking on, by so many steps at most: all moved but the last, and this one too only where no more were to be made.
-pub record Walks (v : CoreView) (lane : LaneView) (most : ℕ) (s : Step) (w : CoreView)
-    (lane' : LaneView) : Type 0 where
+pub record Walks (v : CoreView) (lane : LaneView) (most : ℕ) (c : Came) : Type 0 where
   pub moves : ℕ
   pub mid : CoreView
   pub few : moves < most
   pub moved : Moves moves v lane mid
-  pub last : StepsOn mid lane s w lane'
-  pub full : s ≡ Moved → moves + 1 ≡ most
+  pub last : StepsOn mid lane c.step c.core c.lane
+  pub full : c.step ≡ Moved → moves + 1 ≡ most
 
 -- a session joins, under the next number
 pub record Joins (v w : CoreView) : Type 0 where

@@ -143,15 +143,22 @@ Moved zero p session number q = q ≡ p
 Moved (suc n) p session number q = (mid : PartsView) × Moved n p session number mid
     × ((after : Stage) × Stepped mid session number (outcome.Walked (walk.Moved after)) q)
 
+-- what steps came to: the last one, and the core's parts after it
+pub record Ending : Type 0 where
+  pub outcome : Outcome
+  pub parts : PartsView
+
+abbrev pub ending : Outcome → PartsView → Ending
+ending result q = record { outcome = result; parts = q }
+
 -- Walking on, by so many steps at most: all moved but the last, and this one too only where no more were to be made.
-pub record WalksOn (p : PartsView) (session number most : ℕ) (result : Outcome)
-    (q : PartsView) : Type 0 where
+pub record WalksOn (p : PartsView) (session number most : ℕ) (e : Ending) : Type 0 where
   pub moves : ℕ
   pub mid : PartsView
   pub few : moves < most
   pub moved : Moved moves p session number mid
-  pub last : Stepped mid session number result q
-  pub full : (after : Stage) → result ≡ outcome.Walked (walk.Moved after) → moves + 1 ≡ most
+  pub last : Stepped mid session number e.outcome e.parts
+  pub full : (after : Stage) → e.outcome ≡ outcome.Walked (walk.Moved after) → moves + 1 ≡ most
 
 -- the store where a call holds nothing any more
 abbrev pub freed : Stage → StoreState → StoreState

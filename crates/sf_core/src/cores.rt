@@ -6,7 +6,7 @@ ghost use Rattle.sf_call.specs.declared.record.Record.TheVariants.{Left};
 ghost use Rattle.sf_core.specs.Cores.{Slot, new_core, slot_of, joined, last_number, most_sessions};
 ghost use Rattle.sf_core.specs.Cores.Slot.{Idle};
 ghost use Rattle.sf_core.specs.Histories.{IsHistory};
-ghost use Rattle.sf_core.specs.Events.{StepsOn, Walks, Joins, Begins, begun, Leaves, RefusesJoin, RefusesBegin};
+ghost use Rattle.sf_core.specs.Events.{StepsOn, Walks, Joins, Begins, begun, Leaves, RefusesJoin, RefusesBegin, came};
 
 use crate::lane::{Lane, Share};
 use crate::parts::{Outcome, Parts};
@@ -165,7 +165,7 @@ impl Core {
     pub fn walk(&mut self, lane: &mut Lane, most: u64) -> Step
         requires call { IsSome lane.old.call }
         requires some { 0 < most }
-        ensures { Walks self.old lane.old most result self.new lane.new }
+        ensures { Walks self.old lane.old most (came result self.new lane.new) }
     {
         let Some(number) = lane.call else {
             return Step::Stranger;

@@ -15,7 +15,7 @@ ghost use Rattle.sf_core.specs.Sound.{IsCore};
 ghost use Rattle.sf_core.specs.Progress.{reply_of, has_passed, is_past, overtaken, undecided_in, copy_of, old_at};
 ghost use Rattle.sf_core.specs.declared.parts.Outcome.TheVariants as outcome;
 ghost use Rattle.sf_core.specs.Parts.{PartsView};
-ghost use Rattle.sf_core.specs.Stepping.{IsNewParts, SameButRoom, Joined, Begun, Finished, Fetched, Overtakes, Helps, HelpsAll, Parted, IsUnderWay, WalksOn, come_to, is_move, stage_after, freed, set_back, all_set_back};
+ghost use Rattle.sf_core.specs.Stepping.{IsNewParts, SameButRoom, Joined, Begun, Finished, Fetched, Overtakes, Helps, HelpsAll, Parted, IsUnderWay, WalksOn, come_to, is_move, stage_after, freed, set_back, all_set_back, ending};
 
 use crate::sessions::Sessions;
 use sf_book::Book;
@@ -176,7 +176,6 @@ impl Parts {
     {
         self.make_room()?;
         let number = self.drawn + 1;
-        request.is_call(number, session, moment);
         let copy = copy_of(&request)?;
         self.calls.insert(Call {
             number,
@@ -197,7 +196,7 @@ impl Parts {
     pub(crate) fn walk_on(&mut self, session: u64, number: u64, most: u64) -> Outcome
         requires core { IsCore self.old }
         requires some { 0 < most }
-        ensures { WalksOn self.old session number most result self.new }
+        ensures { WalksOn self.old session number most (ending result self.new) }
     {
         let _count = self.store.look_ups();
         let Some(call) = self.calls.get(number) else {
@@ -357,8 +356,7 @@ fn go_on(store: &mut Store, call: &Call, stage: &mut Stage, most: u64) -> Walk
         × IsUnderWay p number store.old call.now stage.old }
     requires some { 0 < most }
     ensures { (p : PartsView) (number : ℕ) → IsUnderWay p number store.old call.now stage.old
-        → WalksOn p call.now.session number most (outcome.Walked result)
-        (come_to p number store.new stage.new) }
+        → WalksOn p call.now.session number most (ending (outcome.Walked result) (come_to p number store.new stage.new)) }
 {
     let mut walk = step(store, call, stage);
     for _ in 1..most {

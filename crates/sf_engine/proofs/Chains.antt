@@ -10,7 +10,7 @@ use Rattle.sf_core.specs.declared.step.Step.TheVariants as step
 use Rattle.sf_core.specs.Lanes.{LaneView}
 use Rattle.sf_core.specs.Cores.Slot.{Idle}
 use Rattle.sf_core.specs.Cores.{CoreView, slot_of}
-use Rattle.sf_core.specs.Events.{Moves, Walks}
+use Rattle.sf_core.specs.Events.{Moves, Walks, came}
 use Rattle.sf_core.specs.Histories.{IsHistory}
 use Rattle.sf_engine.specs.declared.seat.Seat.{Seat}
 use Rattle.sf_engine.specs.declared.seat.Place.{Place}
@@ -22,7 +22,7 @@ use Rattle.sf_engine.specs.declared.event.EngineFault.{EngineFault}
 use Rattle.sf_engine.specs.declared.event.EngineFault.TheVariants as fault
 use Rattle.sf_engine.specs.Worlds.{Phase, Resting, UnderWay, Decided, Gone, World}
 use Rattle.sf_engine.specs.Traces.{goes_on, goes_on_at}
-use Rattle.sf_engine.specs.Turns.{Gives, part, new_part, seated, Settles, IsLaneOf, PlaceGives, IsPlaced, MayRefuseTurn, is_resting, is_under_way, is_busy, Stand, stand, IsReady, TurnGives, TurnsGive, GoesFar}
+use Rattle.sf_engine.specs.Turns.{Gives, part, new_part, seated, Settles, IsLaneOf, PlaceGives, IsPlaced, MayRefuseTurn, is_resting, is_under_way, is_busy, Stand, stand, IsReady, TurnGives, TurnsGive, GoesFar, finding}
 use Rattle.sf_engine.specs.Views.{EngineView}
 use Rattle.sf_engine.specs.Fits.{PlaceAgrees, Agrees, IsEngine, HasTurns}
 use Rattle.sf_engine.proofs.Tracing.{Steps, goes_on_trace, stays_engine}
@@ -36,15 +36,15 @@ going v x lane = stand v x (place.UnderWay lane)
 
 -- steps that moved come before further turns
 moves_give : (n : ℕ) (v w : CoreView) (lane : LaneView) (x : SessionView) (closed : Bool) (m k : ℕ) (r : Result Happened EngineFault) (b : Stand)
-    → Moves n v lane w → TurnsGive k (going w x lane) closed m r b → TurnsGive (n + k) (going v x lane) closed m r b
+    → Moves n v lane w → TurnsGive k (going w x lane) (finding closed m) r b → TurnsGive (n + k) (going v x lane) (finding closed m) r b
 unfolding Moves TurnsGive
 moves_give zero v w lane x closed m k r b moved give =
-    let here = subst (λ (u : CoreView). TurnsGive k (going u x lane) closed m r b) moved give in
-    subst (λ (i : ℕ). TurnsGive i (going v x lane) closed m r b) (sym (zero-add k)) here
+    let here = subst (λ (u : CoreView). TurnsGive k (going u x lane) (finding closed m) r b) moved give in
+    subst (λ (i : ℕ). TurnsGive i (going v x lane) (finding closed m) r b) (sym (zero-add k)) here
 moves_give (suc n) v w lane x closed m k r b moved give =
     let turn : TurnGives (going moved.0 x lane) closed m happened.Moved (going w x lane) = λ h is. let s = moved.2 h is in (s.0, s.1, ((lane, (s.2.0, s.2.1, refl)), refl)) in
     let num : n + suc k ≡ suc n + k = omega arith in
-    subst (λ (i : ℕ). TurnsGive i (going v x lane) closed m r b) num (moves_give n v moved.0 lane x closed m (suc k) r b moved.1 (happened.Moved, going w x lane, refl, turn, give))
+    subst (λ (i : ℕ). TurnsGive i (going v x lane) (finding closed m) r b) num (moves_give n v moved.0 lane x closed m (suc k) r b moved.1 (happened.Moved, going w x lane, refl, turn, give))
 
 -- steps that moved leave the lane its call
 still_own : (n : ℕ) (v w : CoreView) (lane : LaneView) (x : SessionView) → Moves n v lane w → IsPlaced v x (place.UnderWay lane) → IsPlaced w x (place.UnderWay lane)
@@ -65,18 +65,18 @@ still_own (suc n) v w lane x moved own =
     )
 
 -- one turn that doesn't go on
-one_turn : (a : Stand) (closed : Bool) (m : ℕ) (r : Happened) (b : Stand) → TurnGives a closed m r b → TurnsGive 0 a closed m (Ok r) b
+one_turn : (a : Stand) (closed : Bool) (m : ℕ) (r : Happened) (b : Stand) → TurnGives a closed m r b → TurnsGive 0 a (finding closed m) (Ok r) b
 unfolding TurnsGive
 one_turn a closed m r b turn = turn
 
 -- a turn before others
 turn_before : (n : ℕ) (a : Stand) (closed : Bool) (m : ℕ) (h : Happened) (mid : Stand) (r : Result Happened EngineFault) (b : Stand) → goes_on h ≡ true
-    → TurnGives a closed m h mid → TurnsGive n mid closed m r b → TurnsGive (suc n) a closed m r b
+    → TurnGives a closed m h mid → TurnsGive n mid (finding closed m) r b → TurnsGive (suc n) a (finding closed m) r b
 unfolding TurnsGive
 turn_before n a closed m h mid r b goes turn give = (h, mid, goes, turn, give)
 
 -- a turn that was refused
-no_turn : (a : Stand) (closed : Bool) (m : ℕ) (f : EngineFault) (b : Stand) → b ≡ a → f ≡ fault.OutOfMemory → MayRefuseTurn a.place → TurnsGive 0 a closed m (Err f) b
+no_turn : (a : Stand) (closed : Bool) (m : ℕ) (f : EngineFault) (b : Stand) → b ≡ a → f ≡ fault.OutOfMemory → MayRefuseTurn a.place → TurnsGive 0 a (finding closed m) (Err f) b
 unfolding TurnsGive
 no_turn a closed m f b same is may = (same, is, may)
 
@@ -85,7 +85,7 @@ stand_eq a b c x p =
     ap (λ (z : CoreView). stand z b.session b.place) c ∙ ap (λ (z : SessionView). stand a.core z b.place) x ∙ ap (λ (z : Place). stand a.core a.session z) p
 
 -- a walk that was blocked
-pub blocked_walk : (v w : CoreView) (lane lane' : LaneView) (x : SessionView) (closed : Bool) (most holder m : ℕ) → Walks v lane most (step.Blocked holder) w lane'
+pub blocked_walk : (v w : CoreView) (lane lane' : LaneView) (x : SessionView) (closed : Bool) (most holder m : ℕ) → Walks v lane most (came (step.Blocked holder) w lane')
     → GoesFar (going v x lane) closed m (Ok (happened.Blocked holder)) (going w x lane')
 blocked_walk v w lane lane' x closed most holder m k =
     let turn : TurnGives (going k.mid x lane) closed m (happened.Blocked holder) (going w x lane') = λ h is. let s = k.last h is in (s.0, s.1, ((lane', (s.2.0, s.2.1, refl)), refl)) in
@@ -96,7 +96,7 @@ blocked_walk v w lane lane' x closed most holder m k =
     }
 
 -- a walk that made all its steps
-pub moved_walk : (v w : CoreView) (lane lane' : LaneView) (x : SessionView) (closed : Bool) (most m : ℕ) → most ≡ 2 ^ 64 - 1 → Walks v lane most step.Moved w lane'
+pub moved_walk : (v w : CoreView) (lane lane' : LaneView) (x : SessionView) (closed : Bool) (most m : ℕ) → most ≡ 2 ^ 64 - 1 → Walks v lane most (came step.Moved w lane')
     → GoesFar (going v x lane) closed m (Ok happened.Moved) (going w x lane')
 moved_walk v w lane lane' x closed most m many k =
     let turn : TurnGives (going k.mid x lane) closed m happened.Moved (going w x lane') = λ h is. let s = k.last h is in (s.0, s.1, ((lane', (s.2.0, s.2.1, refl)), refl)) in
@@ -109,7 +109,7 @@ moved_walk v w lane lane' x closed most m many k =
 
 -- a walk that came to an answer, and the turn that is to write it
 pub answered_walk : (v w : CoreView) (lane lane' : LaneView) (x : SessionView) (closed : Bool) (most : ℕ) (given : Answer) (m : ℕ) (r : Result Happened EngineFault) (b : Stand)
-    → Walks v lane most (step.Answered given) w lane' → TurnsGive 0 (stand w x (place.Answered lane' given)) closed m r b → goes_on_at r ≡ false → GoesFar (going v x lane) closed m r b
+    → Walks v lane most (came (step.Answered given) w lane') → TurnsGive 0 (stand w x (place.Answered lane' given)) (finding closed m) r b → goes_on_at r ≡ false → GoesFar (going v x lane) closed m r b
 answered_walk v w lane lane' x closed most given m r b k give ends =
     let answered = stand w x (place.Answered lane' given) in
     let turn : TurnGives (going k.mid x lane) closed m happened.Decided answered = λ h is. let s = k.last h is in (s.0, s.1, ((lane', (given, s.2.0, s.2.1, refl)), refl)) in
@@ -122,13 +122,13 @@ answered_walk v w lane lane' x closed most given m r b k give ends =
 -- that turn, where the reply was written
 pub written_turn : (v w : CoreView) (x y z : SessionView) (lane : LaneView) (given : Answer) (q : Place) (closed : Bool) (m : ℕ)
     → IfSome x.waiting (λ id. y ≡ record x { output = x.output ++ packet (reply_body id given.reply); waiting = None })
-    → Gives v w (λ h added. Settles (seated v y lane) closed (new_part w added z q)) → TurnsGive 0 (stand v x (place.Answered lane given)) closed m (Ok happened.Wrote) (stand w z q)
+    → Gives v w (λ h added. Settles (seated v y lane) closed (new_part w added z q)) → TurnsGive 0 (stand v x (place.Answered lane given)) (finding closed m) (Ok happened.Wrote) (stand w z q)
 written_turn v w x y z lane given q closed m wrote settles =
     one_turn (stand v x (place.Answered lane given)) closed m happened.Wrote (stand w z q) (λ h is. let g = settles h is in (g.0, g.1, (refl, (y, wrote, g.2))))
 
 -- and where memory was wanting
 pub unwritten_turn : (v : CoreView) (x y : SessionView) (lane lane' : LaneView) (given : Answer) (closed : Bool) (m : ℕ) → lane' ≡ lane → y ≡ x
-    → TurnsGive 0 (stand v x (place.Answered lane given)) closed m (Err fault.OutOfMemory) (stand v y (place.Answered lane' given))
+    → TurnsGive 0 (stand v x (place.Answered lane given)) (finding closed m) (Err fault.OutOfMemory) (stand v y (place.Answered lane' given))
 unwritten_turn v x y lane lane' given closed m same kept =
     let a = stand v x (place.Answered lane given) in
     let b = stand v y (place.Answered lane' given) in
@@ -143,7 +143,7 @@ lane_same (place.Left cause) lane other a b = absurd a
 
 -- and what this turn asks
 pub answered_placed : (v w : CoreView) (lane lane' : LaneView) (x : SessionView) (most : ℕ) (given : Answer)
-    → Walks v lane most (step.Answered given) w lane' → IsReady (going v x lane) → IsPlaced w x (place.Answered lane' given)
+    → Walks v lane most (came (step.Answered given) w lane') → IsReady (going v x lane) → IsPlaced w x (place.Answered lane' given)
 answered_placed v w lane lane' x most given k ready =
     let own = still_own k.moves v k.mid lane x k.moved ready.placed in
     let s = k.last own.0 own.2 in
@@ -152,7 +152,7 @@ answered_placed v w lane lane' x most given k ready =
     (ap (λ (l : LaneView). l.call) rests, ap (λ (l : LaneView). slot_of w l.session) rests ∙ slot, ready.waits refl)
 
 -- the lane of a call under way is no stranger
-pub no_stranger : (v w : CoreView) (lane lane' : LaneView) (x : SessionView) (most : ℕ) → Walks v lane most step.Stranger w lane' → IsReady (going v x lane) → ⊥
+pub no_stranger : (v w : CoreView) (lane lane' : LaneView) (x : SessionView) (most : ℕ) → Walks v lane most (came step.Stranger w lane') → IsReady (going v x lane) → ⊥
 no_stranger v w lane lane' x most k ready =
     let own = still_own k.moves v k.mid lane x k.moved ready.placed in
     (k.last own.0 own.2).2.0 own.1 own.3
@@ -247,8 +247,8 @@ left_far v x cause closed m =
 
 -- a turn of an engine for each of a session's, and an engine stays one
 pub turns_trace : (n : ℕ) (a : Stand) (seats : List Seat) (at s m : ℕ) (closed : Bool) (r : Result Happened EngineFault) (b : Stand) → at + 1 ≡ s → slice_get seats at ≡ Some (seat a.session a.place closed)
-    → TurnsGive n a closed m r b
-    → HasTurns n (engine a.core seats) s m r (engine b.core (slice_set seats at (seat b.session b.place closed)))
+    → TurnsGive n a (finding closed m) r b
+    → HasTurns n (engine a.core seats) (event.Turn s m) r (engine b.core (slice_set seats at (seat b.session b.place closed)))
     × (IsEngine a.core seats → IsEngine b.core (slice_set seats at (seat b.session b.place closed)))
 unfolding TurnsGive HasTurns
 turns_trace zero a seats at s m closed (Ok r) b num was give =
@@ -278,21 +278,21 @@ turns_trace (suc n) a seats at s m closed r b num was give =
     any_turn_steps a.core mid.core seats at s m p o (Ok h) num was (λ k is. let g = give.3 k is in (g.0, g.1, (g.2, refl))) tt tt in
     let rest = turns_trace n mid (slice_set seats at o) at s m closed r b num (get_set_same seats at p o was) give.4 in
     let once : slice_set (slice_set seats at o) at q ≡ slice_set seats at q = set_twice seats at o q in (
-      (between, h, goes_on_trace (engine a.core seats) (event.Turn s m) (Ok h) between does, give.2, subst (λ (z : List Seat). HasTurns n between s m r (engine b.core z)) once rest.0),
+      (between, h, goes_on_trace (engine a.core seats) (event.Turn s m) (Ok h) between does, give.2, subst (λ (z : List Seat). HasTurns n between (event.Turn s m) r (engine b.core z)) once rest.0),
       λ is. subst (λ (z : List Seat). IsEngine b.core z) once (rest.1 (stays_engine (engine a.core seats) (event.Turn s m) (Ok h) between does is)),
     )
 
 -- a seat's turns, as an engine's
 pub seat_turns : (v v' : CoreView) (seats : List Seat) (at s m : ℕ) (p q : Seat) (r : Result Happened EngineFault) → at + 1 ≡ s → slice_get seats at ≡ Some p
     → (k : GoesFar (stand v p.session p.place) p.closed m r (stand v' q.session q.place)) → q.closed ≡ p.closed
-    → HasTurns k.turns (engine v seats) s m r (engine v' (slice_set seats at q)) × (IsEngine v seats → IsEngine v' (slice_set seats at q))
+    → HasTurns k.turns (engine v seats) (event.Turn s m) r (engine v' (slice_set seats at q)) × (IsEngine v seats → IsEngine v' (slice_set seats at q))
 seat_turns v v' seats at s m p q r num was k closed =
     let same : seat q.session q.place p.closed ≡ q = ap (λ (b : Bool). seat q.session q.place b) (sym closed) in
-    let P : Seat → Type 0 = λ z. HasTurns k.turns (engine v seats) s m r (engine v' (slice_set seats at z)) × (IsEngine v seats → IsEngine v' (slice_set seats at z)) in
+    let P : Seat → Type 0 = λ z. HasTurns k.turns (engine v seats) (event.Turn s m) r (engine v' (slice_set seats at z)) × (IsEngine v seats → IsEngine v' (slice_set seats at z)) in
     subst P same (turns_trace k.turns (stand v p.session p.place) seats at s m p.closed r (stand v' q.session q.place) num was k.give)
 
 -- turns of a session that there is not
-pub no_turns : (e : EngineView) (s m : ℕ) (f : EngineFault) → ((w : World) → Agrees w e → Steps e (event.Turn s m) (Err f) e w) → HasTurns 0 e s m (Err f) e
+pub no_turns : (e : EngineView) (s m : ℕ) (f : EngineFault) → ((w : World) → Agrees w e → Steps e (event.Turn s m) (Err f) e w) → HasTurns 0 e (event.Turn s m) (Err f) e
 unfolding HasTurns
 no_turns e s m f does = (goes_on_trace e (event.Turn s m) (Err f) e does, refl)
 

@@ -10,13 +10,13 @@ use Rattle.sf_reply.specs.declared.reply.Reply.{Reply}
 use Rattle.sf_reply.specs.declared.reply.Reply.TheVariants as reply
 use Rattle.sf_reply.specs.declared.reply.StatusCode.TheVariants.{Success}
 use Rattle.sf_call.specs.declared.record.Record.{Record}
-use Rattle.sf_laws.specs.Examples.{no_attrs, all_attrs}
+use Rattle.sf_laws.specs.Examples.{no_attrs, all_attrs, by_owner, at_times}
 use Rattle.sf_session.specs.declared.asking.Ask.TheVariants as ask
 use Rattle.sf_session.specs.Asking.{AsksFor}
 use Rattle.sf_core.specs.Progress.{bound_of}
 use Rattle.sf_engine.specs.Deciding.{AreSure}
 use Rattle.sf_engine.specs.Worlds.{Version, ByCall, transcript, Resting, UnderWay, Decided, Entry, Told, new_told, World, start, with_phase}
-use Rattle.sf_engine.specs.Traces.{Leads, Runs, Tells, IsSession, AnswersAtOnce, BeginsCall, CarriesOut, IsOthersCall}
+use Rattle.sf_engine.specs.Traces.{Leads, Runs, Tells, IsSession, AnswersAtOnce, BeginsCall, CarriesOut, IsOthersCall, other_call}
 use Rattle.sf_engine.specs.Examples.{init_packet, mkdir_packet, stat_packet, mkdir, stat, made, found, example, version_packet, ok_packet, attrs_packet}
 
 abbrev mkdir_body : List ℕ
@@ -29,7 +29,7 @@ abbrev ok : Reply
 ok = reply.Status Success
 
 abbrev shown : Reply
-shown = reply.Attrs (all_attrs 0 0 0 0o40755 100 100)
+shown = reply.Attrs (all_attrs 0 (by_owner 0 0) 0o40755 (at_times 100 100))
 
 abbrev two : Told → Told → List Record → ℕ → World
 two t u records begun = record { sessions = t ∷ u ∷ []; records = records; begun = begun }
@@ -140,7 +140,7 @@ module _ (first second : Vec ℕ Global) (one : first.items ≡ init_packet ++ m
     now = refl;
   }
 
-  holds : IsOthersCall (two (with_phase t2 (UnderWay 7 1 100 mkdir 1)) u2 [] 2) 2 1 1 100 mkdir
+  holds : IsOthersCall (two (with_phase t2 (UnderWay 7 1 100 mkdir 1)) u2 [] 2) 2 (other_call 1 1 100 mkdir)
   holds = record { other = λ e. absurd (omega (arith, e)); told = with_phase t2 (UnderWay 7 1 100 mkdir 1); is_session = (omega arith, refl); under_way = (refl, refl, refl) }
 
   makes : CarriesOut (two (with_phase t2 (UnderWay 7 1 100 mkdir 1)) u2 [] 2) 1 1 made (made ∷ [])

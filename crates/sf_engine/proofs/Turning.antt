@@ -19,7 +19,7 @@ use Rattle.sf_engine.specs.Traces.{TurnLeads, walking, calls_begun, IsSession, I
 use Rattle.sf_engine.specs.Turns.{Gives, part, new_part, PlaceGives, CloseGives, IsPlaced, MayRefuseTurn}
 use Rattle.sf_engine.specs.Works.{Passage, IsStep, IsWork}
 use Rattle.sf_engine.specs.Views.{EngineView}
-use Rattle.sf_engine.specs.Fits.{IsResting, IsGoing, IsAnswered, PlaceAgrees, SeatAgrees, Agrees, passage}
+use Rattle.sf_engine.specs.Fits.{IsResting, IsGoing, IsAnswered, PlaceAgrees, SeatAgrees, Agrees, passage, due}
 use Rattle.sf_engine.proofs.Tracing.{Steps}
 use Rattle.sf_engine.proofs.Working.{same_work, turn_works, close_same}
 use Rattle.sf_engine.proofs.Moving.{get_within, set_same, keeps_agrees}
@@ -46,7 +46,7 @@ phase_turned w v v' seats s m t c (UnderWay id n k request moves) x y p q r h ad
     let P : SessionView → Type 0 = λ z. Turned v v' s was (calls_begun r) (seat z q c) (λ t'. TurnLeads m (record { world = w; session = s; told = was; added = added; now = t' }) (UnderWay id n k request moves) r) in
     subst P (sym g'.1) (step_turned w v v' seats s was c x p q id n k request moves r h added agrees hist old at g'.0.0 g'.0.1)
 phase_turned w v v' seats s m t c (Decided id n request given) x y p q r h added agrees hist old g =
-    let at : IsAnswered v s x id given p = old.at in
+    let at : IsAnswered v s x (due id given) p = old.at in
     let was = with_phase t (Decided id n request given) in
     let old' : SeatAgrees v s was (seat x p t.closed) = subst (λ (b : Bool). SeatAgrees v s was (seat x p b)) old.closed old in
     let g' = subst (λ (b : Bool). PlaceGives (part v h x b) (place.Answered at.lane at.answer) m r (new_part v' added y q)) old.closed (subst (λ (z : Place). PlaceGives (part v h x c) z m r (new_part v' added y q)) at.place_is g) in

@@ -23,7 +23,7 @@ use Rattle.sf_engine.specs.declared.seat.Place.TheVariants as place
 use Rattle.sf_engine.specs.declared.event.Happened.{Happened}
 use Rattle.sf_engine.specs.declared.event.Happened.TheVariants as happened
 use Rattle.sf_engine.specs.Worlds.{Phase, Resting, UnderWay, Decided, Gone, Told, World, with_phase}
-use Rattle.sf_engine.specs.Traces.{IsUnderWay, IsOthersCall, IsHelped, Decides, StepLeads, walking, calls_begun}
+use Rattle.sf_engine.specs.Traces.{IsUnderWay, IsOthersCall, IsHelped, Decides, StepLeads, walking, calls_begun, other_call}
 use Rattle.sf_engine.specs.Turns.{GoesOn, before, after}
 use Rattle.sf_engine.specs.Deciding.{HasStopped, AreSure}
 use Rattle.sf_engine.specs.Fits.{HasMoved, IsGoing, PlaceAgrees, SeatAgrees, Agrees}
@@ -46,7 +46,7 @@ place_of zero n = inl (inl refl)
 place_of (suc i) n = elim (cases_lt i n) [ inl lt ↦ inr (i, lt, omega arith) | inr ge ↦ inl (inr (omega arith)) ]
 
 pub others_call : (w : World) (v : CoreView) (seats : List Seat) (s other : ℕ) (c : Call) → Agrees w (record { core = v; seats = seats }) → slot_of v other ≡ Busy c → other ≢ s
-    → IsOthersCall w s c.number other c.moment c.request
+    → IsOthersCall w s (other_call c.number other c.moment c.request)
 others_call w v seats s other c agrees here apart = elim (place_of other (length w.sessions)) [
   | inl out ↦ absurd (let k : nobody ≡ Busy c = sym (agrees.nobody other out) ∙ here in cc)
   | inr at ↦
@@ -71,7 +71,7 @@ helped_one w v seats s (Did number session moment request given) agrees h =
     let a : c.number ≡ number = cc in
     let b : c.moment ≡ moment = cc in
     let d : c.request ≡ request = cc in
-    subst (λ (n : ℕ). IsOthersCall w s n session moment request) a (subst (λ (m : ℕ). IsOthersCall w s c.number session m request) b (subst (λ (q : Request). IsOthersCall w s c.number session c.moment q) d call))
+    subst (λ (n : ℕ). IsOthersCall w s (other_call n session moment request)) a (subst (λ (m : ℕ). IsOthersCall w s (other_call c.number session m request)) b (subst (λ (q : Request). IsOthersCall w s (other_call c.number session c.moment q)) d call))
 helped_one w v seats s (Left session) agrees h = absurd h
 
 are_helped : (w : World) (v : CoreView) (seats : List Seat) (s : ℕ) (rs : List Record) → Agrees w (record { core = v; seats = seats }) → AllByRecursion (IsOfOther v s) rs → AllByRecursion (IsHelped w s) rs
@@ -179,7 +179,7 @@ step_turned w v v' seats s t c x p q id n m request moves (happened.Blocked hold
     let same : slot_of v' s ≡ slot_of v s = b.looks.slots s in
     record {
       told = was;
-      lead = ((b.other, b.call.moment, b.call.request, subst (λ (k : ℕ). IsOthersCall w s k b.other b.call.moment b.call.request) b.number call), g.1.none, refl);
+      lead = ((b.other, b.call.moment, b.call.request, subst (λ (k : ℕ). IsOthersCall w s (other_call k b.other b.call.moment b.call.request)) b.number call), g.1.none, refl);
       moves = record { joins = b.looks.joins; drawn = b.looks.drawn ∙ omega arith; joined = ap (λ (k : ℕ). k + 1) b.looks.joined; others = λ i ne. inl (b.looks.slots i) };
       agrees = record {
         unread = old.unread;

@@ -21,7 +21,7 @@ use Rattle.sf_engine.specs.Worlds.{Phase, Resting, UnderWay, Decided as IsDecide
 use Rattle.sf_engine.specs.Works.{Passage, is_of_other, names_helped, IsWork, IsStep}
 use Rattle.sf_engine.specs.Turns.{Part, NewPart, Seated, Reads, Settles, GoesOn, PlaceGives, CloseGives, before, after, seated}
 use Rattle.sf_engine.specs.Traces.{walking}
-use Rattle.sf_engine.specs.Fits.{IsResting, IsGoing, IsAnswered, PlaceAgrees}
+use Rattle.sf_engine.specs.Fits.{IsResting, IsGoing, IsAnswered, PlaceAgrees, due}
 
 -- from a core with its history to another
 abbrev pub passing : CoreView → List Record → List Record → CoreView → Passage
@@ -113,7 +113,7 @@ turn_works b p s m (UnderWay id n k q moves) r a h g =
     let g' = subst (λ (z : Place). PlaceGives b z m r a) at.place_is g in
     step_works b.core b.history s m at.lane g'.0.0 r a at.session g'.0.1
 turn_works b p s m (IsDecided id n q given) r a h g =
-    let at : IsAnswered b.core s b.session id given p = h in
+    let at : IsAnswered b.core s b.session (due id given) p = h in
     let g' = subst (λ (z : Place). PlaceGives b z m r a) at.place_is g in
     let P : Happened → Type 0 = λ z. Works s m z (passing b.core b.history a.added a.core) in
     subst P (sym g'.0) (record {

@@ -7,7 +7,7 @@ use Rattle.sf_call.specs.declared.request.Request.{Request}
 use Rattle.sf_call.specs.declared.request.Request.TheVariants as request
 use Rattle.sf_call.specs.declared.record.Record.{Record}
 use Rattle.sf_call.specs.declared.record.Record.TheVariants.{Did}
-use Rattle.sf_laws.specs.Examples.{a, no_attrs, all_attrs}
+use Rattle.sf_laws.specs.Examples.{a, no_attrs, all_attrs, by_owner, at_times}
 use Rattle.sf_engine.specs.declared.event.Event.TheVariants as event
 use Rattle.sf_engine.specs.declared.event.Happened.{Happened}
 use Rattle.sf_engine.specs.declared.event.Happened.TheVariants as happened
@@ -36,7 +36,7 @@ abbrev pub made : Record
 made = Did 1 1 100 mkdir (reply.Status Success)
 
 abbrev pub found : Record
-found = Did 2 2 101 stat (reply.Attrs (all_attrs 0 0 0 0o40755 100 100))
+found = Did 2 2 101 stat (reply.Attrs (all_attrs 0 (by_owner 0 0) 0o40755 (at_times 100 100)))
 
 abbrev pub turn : ℕ → ℕ → Happened → List Record → Entry
 turn session moment result added =

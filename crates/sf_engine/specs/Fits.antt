@@ -60,17 +60,24 @@ pub record IsGoing (v : CoreView) (s : ℕ) (x : SessionView) (told : Walking) (
   pub waiting : x.waiting ≡ Some told.id
   pub ended : x.ended ≡ None
 
+-- a reply that waits for a request
+pub record Due : Type 0 where
+  pub id : ℕ
+  pub reply : Reply
+
+abbrev pub due : ℕ → Reply → Due
+due id reply = record { id = id; reply = reply }
+
 -- a session whose answer waits
-pub record IsAnswered (v : CoreView) (s : ℕ) (x : SessionView) (id : ℕ) (given : Reply)
-    (p : Place) : Type 0 where
+pub record IsAnswered (v : CoreView) (s : ℕ) (x : SessionView) (d : Due) (p : Place) : Type 0 where
   pub lane : LaneView
   pub answer : Answer
   pub session : lane.session ≡ s
   pub idle : lane.call ≡ None
   pub place_is : p ≡ place.Answered lane answer
-  pub reply : answer.reply ≡ given
+  pub reply : answer.reply ≡ d.reply
   pub slot : slot_of v s ≡ Idle
-  pub waiting : x.waiting ≡ Some id
+  pub waiting : x.waiting ≡ Some d.id
   pub ended : x.ended ≡ None
 
 -- what an engine has for a session is as far as a trace tells
@@ -78,7 +85,7 @@ abbrev pub PlaceAgrees : CoreView → ℕ → SessionView → Phase → Place �
 PlaceAgrees v s x Resting p = IsResting v s x p
 PlaceAgrees v s x (UnderWay id number moment request moves) p =
     IsGoing v s x (walking id number moment request moves) p
-PlaceAgrees v s x (Decided id number request reply) p = IsAnswered v s x id reply p
+PlaceAgrees v s x (Decided id number request reply) p = IsAnswered v s x (due id reply) p
 PlaceAgrees v s x (left cause) p = (p ≡ place.Left cause) × (slot_of v s ≡ Gone) × (x.ended ≢ None)
 
 pub record SeatAgrees (v : CoreView) (s : ℕ) (t : Told) (p : Seat) : Type 0 where
@@ -130,11 +137,12 @@ GoesOnTrace old event result new = (trace : List Entry) → (fits : Fits old tra
     × IsStep event result (passage old fits.world.records added new)
     × IsWork event (passage old fits.world.records added new)
 
--- Turns of a session at a moment: so many that go on, one after the other, and a last one that came to this. Refused, it changes nothing.
-unfoldable pub HasTurns : ℕ → EngineView → ℕ → ℕ → Result Happened EngineFault → EngineView → Type 0
-HasTurns zero e s m r e' = GoesOnTrace e (event.Turn s m) r e' × OnErr r (e' ≡ e)
-HasTurns (suc n) e s m r e' = (mid : EngineView) × (h : Happened)
-    × GoesOnTrace e (event.Turn s m) (Ok h) mid × (goes_on h ≡ true) × HasTurns n mid s m r e'
+-- One event, turns of a session at a moment say, once more and once more: so many times the call goes on, and a last time it came
+-- to this. Refused, it changes nothing.
+unfoldable pub HasTurns : ℕ → EngineView → Event → Result Happened EngineFault → EngineView → Type 0
+HasTurns zero e turn r e' = GoesOnTrace e turn r e' × OnErr r (e' ≡ e)
+HasTurns (suc n) e turn r e' = (mid : EngineView) × (h : Happened)
+    × GoesOnTrace e turn (Ok h) mid × (goes_on h ≡ true) × HasTurns n mid turn r e'
 
 -- The engine fits each trace that it fitted, followed by one entry for each event, so many of them refused.
 abbrev pub RunsTrace : EngineView → List Event → ℕ → EngineView → Type 0

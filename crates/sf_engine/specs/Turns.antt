@@ -253,16 +253,24 @@ TurnGives a closed m r b =
     Gives a.core b.core (λ h added. PlaceGives (part a.core h a.session closed) a.place m r
     (new_part b.core added b.session b.place))
 
+-- what turns find: whether the session was closed, and the moment
+pub record Finding : Type 0 where
+  pub closed : Bool
+  pub moment : ℕ
+
+abbrev pub finding : Bool → ℕ → Finding
+finding closed m = record { closed = closed; moment = m }
+
 -- Turns, one after the other: so many after which the call goes on, and a last one that came to this. Refused, it changes nothing.
-unfoldable pub TurnsGive : ℕ → Stand → Bool → ℕ → Result Happened EngineFault → Stand → Type 0
-TurnsGive zero a closed m (Ok r) b = TurnGives a closed m r b
-TurnsGive zero a closed m (Err f) b = (b ≡ a) × (f ≡ fault.OutOfMemory) × MayRefuseTurn a.place
-TurnsGive (suc n) a closed m r b = (h : Happened) × (mid : Stand) × (goes_on h ≡ true)
-    × TurnGives a closed m h mid × TurnsGive n mid closed m r b
+unfoldable pub TurnsGive : ℕ → Stand → Finding → Result Happened EngineFault → Stand → Type 0
+TurnsGive zero a f (Ok r) b = TurnGives a f.closed f.moment r b
+TurnsGive zero a f (Err e) b = (b ≡ a) × (e ≡ fault.OutOfMemory) × MayRefuseTurn a.place
+TurnsGive (suc n) a f r b = (h : Happened) × (mid : Stand) × (goes_on h ≡ true)
+    × TurnGives a f.closed f.moment h mid × TurnsGive n mid f r b
 
 -- turns up to one after which the call doesn't go on, unless very many were made
 pub record GoesFar (a : Stand) (closed : Bool) (m : ℕ) (r : Result Happened EngineFault)
     (b : Stand) : Type 0 where
   pub turns : ℕ
-  pub give : TurnsGive turns a closed m r b
+  pub give : TurnsGive turns a (finding closed m) r b
   pub far : goes_on_at r ≡ true → 2 ^ 64 - 2 ≤ turns

@@ -171,7 +171,7 @@ impl Engine {
     /// Turns of a session at a moment, as long as its call is on its way to its reply. What came of the last
     /// one is told. One packet is read at most.
     pub fn turns(&mut self, session: u64, moment: u32) -> Result<Happened, EngineFault>
-        ensures { (n : ℕ) × HasTurns n self.old session moment result self.new
+        ensures { (n : ℕ) × HasTurns n self.old (Event.Turn session moment) result self.new
             × (goes_on_at result ≡ true → 2 ^ 64 - 2 ≤ n) }
     {
         let Some(at) = index_of(session, self.seats.len()) else {

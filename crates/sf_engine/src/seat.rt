@@ -11,7 +11,7 @@ ghost use Rattle.sf_core.specs.Events.{Leaves};
 ghost use Rattle.sf_core.specs.Histories.{IsHistory};
 ghost use Rattle.sf_core.specs.Lanes.{LaneView};
 ghost use Rattle.sf_engine.specs.Traces.{goes_on_at};
-ghost use Rattle.sf_engine.specs.Turns.{Gives, seated, part, new_part, Settles, has_lane, is_resting, is_under_way, IsLaneOf, PlaceGives, CloseGives, FeedGives, FeedFault, SentGives, SentFault, IsPlaced, is_busy, OpenGives, OpenFault, MayRefuseTurn, stand, IsReady, TurnsGive, GoesFar};
+ghost use Rattle.sf_engine.specs.Turns.{Gives, seated, part, new_part, Settles, has_lane, is_resting, is_under_way, IsLaneOf, PlaceGives, CloseGives, FeedGives, FeedFault, SentGives, SentFault, IsPlaced, is_busy, OpenGives, OpenFault, MayRefuseTurn, stand, IsReady, TurnsGive, GoesFar, finding};
 
 use crate::event::{EngineFault, Happened};
 use sf_call::{Answer, CoreFault};
@@ -279,7 +279,8 @@ impl Place {
         requires placed { (lane : LaneView) → IsLaneOf self.old lane
             → IsPlaced core.old session.old (Place.Answered lane answer) }
         ensures { (lane : LaneView) → IsLaneOf self.old lane → (moment : ℕ)
-            → TurnsGive 0 (stand core.old session.old (Place.Answered lane answer)) closed moment
+            → TurnsGive 0 (stand core.old session.old (Place.Answered lane answer))
+            (finding closed moment)
             result (stand core.new session.new self.new)
             × (goes_on_at result ≡ false) }
     {

@@ -11,3 +11,5 @@ pub use Rattle.sf_field.proofs.FieldLaws.{bind_some, some_is}
 -- the bits of open flags, and attributes as they are sent
 pub use Rattle.sf_field.proofs.FlagBits.{bits_say}
 pub use Rattle.sf_field.proofs.SentReading.{reads_sent_attrs}
+-- what a value is since its type holds it
+pub use Rattle.sf_field.proofs.Held.{held_attrs, held_bytes}

@@ -5,3 +5,4 @@ pub mod SentAttributes
 pub mod Laws
 pub mod FlagBits
 pub mod SentReading
+pub mod Held

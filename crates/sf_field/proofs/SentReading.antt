@@ -1,16 +1,14 @@
 -- Attributes as they are sent are read where they are spelled, and only there.
-use Rattle.std.proofs.Common.{◌≡◌, ℕ, zero, suc, ◌+◌, ◌<◌, ◌≤◌, ◌^◌, Bool, true, false, cond, ltb, eqb, List, [], ◌++◌, Option, Some, None, refl, sym, ap, subst, ◌∙◌, append_assoc, append-nil, arith, inl, inr}
+use Rattle.std.proofs.Common.{◌≡◌, ℕ, zero, suc, ◌+◌, ◌<◌, ◌≤◌, Bool, true, false, cond, ltb, eqb, List, [], ◌++◌, Option, Some, None, refl, sym, ap, subst, ◌∙◌, append_assoc, append-nil, arith, inl, inr}
 use Rattle.std.specs.Prelude.{◌&&◌, is_none}
 use Rattle.std.proofs.lemmas.Option.{some_pair_parts}
 use Rattle.std.specs.Int.{w32}
 use Rattle.std.proofs.lemmas.Bool.{cases_lt, ltb-true, lt-ltb, eqb-true}
 use Rattle.sf_field.specs.declared.attrs.Attrs.{Attrs}
-use Rattle.sf_field.specs.declared.attrs.Owner.{Owner}
-use Rattle.sf_field.specs.declared.attrs.Times.{Times}
 use Rattle.sf_field.specs.Fields.{be32, be64, optional}
 use Rattle.sf_field.specs.Attributes.{lacks, flag_of, flags_of, attrs_text, owner_text, times_text, pairs_text, AttrsFit, SpellsAttrs}
 use Rattle.sf_field.specs.Reading.{number_at, attrs_at, sent_attrs_at}
-use Rattle.sf_field.proofs.FieldLaws.{IsBytes, bind_some, some_is, Takes, Reads, reads_u32}
+use Rattle.sf_field.proofs.FieldLaws.{IsBytes, bind_some, Takes, Reads, reads_u32}
 use Rattle.sf_field.proofs.AttributeLaws.{attrs_take, attrs_again}
 use Rattle.sf_field.proofs.SentAttributes.{sent_is_spelled}
 

@@ -227,12 +227,20 @@ abbrev pub closed_all : StoreState → ℕ → StoreState
 closed_all s session = closed_each s session (handles_of s session)
 
 -- ---- new nodes
+-- an entry of a directory: the directory's number, the name, and the number that it leads to
+pub record NewEntry : Type 0 where
+  pub dir : ℕ
+  pub name : Name
+  pub id : ℕ
+
+abbrev pub new_entry : ℕ → Name → ℕ → NewEntry
+new_entry dir n id = record { dir = dir; name = n; id = id }
+
 -- a new node with its entry
-pub record Inserted (old new : StoreState) (dir : ℕ) (n : Name) (id : ℕ)
-    (node : Node) : Type 0 where
-  pub fresh : node_in old.nodes id ≡ None
-  pub at : node_in new.nodes id ≡ Some node
-  pub others : (i : ℕ) → i ≢ id → node_in new.nodes i ≡ node_in (entry_put old dir n id).nodes i
+pub record Inserted (old new : StoreState) (e : NewEntry) (node : Node) : Type 0 where
+  pub fresh : node_in old.nodes e.id ≡ None
+  pub at : node_in new.nodes e.id ≡ Some node
+  pub others : (i : ℕ) → i ≢ e.id → node_in new.nodes i ≡ node_in (entry_put old e.dir e.name e.id).nodes i
   pub root : new.root ≡ old.root
   pub sessions : new.sessions ≡ old.sessions
   pub look_ups : new.look_ups ≡ old.look_ups

@@ -5,7 +5,7 @@ ghost use Rattle.std.specs.Option.{option_map_or};
 ghost use Rattle.std.specs.declared.alloc.Global.{Global};
 ghost use Rattle.sf_call.specs.Attributes.{attrs_of, with_parts, modified_at};
 ghost use Rattle.sf_inode.specs.Nodes.{new_node, object_in, with_metadata, with_holder, entries_past};
-ghost use Rattle.sf_inode.specs.Stores.{IsFirst, Inserted, with_nodes, node_in, entry_of, holder_of, looked_up, edited, entry_taken, entry_put, released, forgotten, let_go, unlinked, relinked, bytes_of, is_file_at, file_size, is_directory_at, is_bare_at, bytes_set, opened, handle_put, handle_at, handles_of, handle_dropped, handle_listed, entries_at, closed, each_let_go, closed_all};
+ghost use Rattle.sf_inode.specs.Stores.{IsFirst, Inserted, with_nodes, node_in, entry_of, holder_of, looked_up, edited, entry_taken, entry_put, released, forgotten, let_go, unlinked, relinked, bytes_of, is_file_at, file_size, is_directory_at, is_bare_at, bytes_set, opened, handle_put, handle_at, handles_of, handle_dropped, handle_listed, entries_at, closed, each_let_go, closed_all, new_entry};
 ghost use Rattle.std.specs.Option.{option_copied};
 ghost use Rattle.sf_block.specs.Contents.{resized, written};
 
@@ -217,7 +217,7 @@ impl Store {
 
     /// Puts a new node under a new name of a directory.
     pub fn insert(&mut self, dir: NodeId, name: Name, made: NewNode) -> Result<NodeId, AllocError>
-        ensures ok { IfOk result (λ id. Inserted self.old self.new dir name id (new_node made)) }
+        ensures ok { IfOk result (λ id. Inserted self.old self.new (new_entry dir name id) (new_node made)) }
         ensures err { OnErr result (self.new ≡ self.old) }
     {
         self.nodes.reserve(1)?;

@@ -18,7 +18,7 @@ use Rattle.sf_inode.specs.declared.node.Content.TheVariants as content
 use Rattle.sf_inode.specs.Nodes.{entry_in, object_in, is_directory_content, is_bare_content, new_content, new_node, more_content, less_content, with_content}
 use Rattle.sf_keeps.specs.Steps.{walk, changed_step}
 use Rattle.sf_keeps.specs.Shows.{View, Shows, is_directory_by}
-use Rattle.sf_inode.specs.Stores.{StoreState, node_in, entry_of, shown_node, shown_of, handle_at, entry_put, entry_taken, forgotten, unlinked, unlinked_from, Inserted}
+use Rattle.sf_inode.specs.Stores.{StoreState, node_in, entry_of, shown_node, shown_of, handle_at, entry_put, entry_taken, forgotten, unlinked, unlinked_from, Inserted, new_entry}
 use Rattle.sf_keeps.specs.Keeps.{view_of, Keeps, times_open}
 use Rattle.sf_keeps.proofs.Sound.{directory_there}
 use Rattle.sf_keeps.proofs.Shown.{nat_eq_apart, same_apart}
@@ -62,7 +62,7 @@ new_bare : (kind : FileType) (m : Name) → entry_in (new_content kind) m ≡ No
 new_bare file_type.Directory m = refl
 new_bare file_type.File m = refl
 
-module _ (old new : StoreState) (d : ℕ) (n : Name) (c : ℕ) (node above : Node) (es : List (Name × ℕ)) (did : Inserted old new d n c node) (here : node_in old.nodes d ≡ Some above)
+module _ (old new : StoreState) (d : ℕ) (n : Name) (c : ℕ) (node above : Node) (es : List (Name × ℕ)) (did : Inserted old new (new_entry d n c) node) (here : node_in old.nodes d ≡ Some above)
     (dir : above.content ≡ content.Directory es) (bare : (m : Name) → entry_in node.content m ≡ None) where
   abbrev mid : StoreState
   mid = entry_put old d n c
@@ -96,7 +96,7 @@ new_in_order : (kind : FileType) → IsInOrder (new_content kind)
 new_in_order file_type.Directory = tt
 new_in_order file_type.File = tt
 
-pub keeps_inserted : (old new : StoreState) (t : Tree) (p : Path) (d : ℕ) (n : Name) (c : ℕ) (made : NewNode) → Keeps old t → Inserted old new d n c (new_node made)
+pub keeps_inserted : (old new : StoreState) (t : Tree) (p : Path) (d : ℕ) (n : Name) (c : ℕ) (made : NewNode) → Keeps old t → Inserted old new (new_entry d n c) (new_node made)
     → walk (entry_of old.nodes) old.root p ≡ Some d → option_map_or (λ (it : Node). is_directory_content it.content) (node_in old.nodes d) false ≡ true → entry_of old.nodes d n ≡ None → object_of t.objects made.label ≡ None
     → Keeps new (changed t (NewPath (p ++ n ∷ []) made.label (object_in made.metadata (new_content made.file_type))))
 keeps_inserted old new t p d n c made k did at is_dir free fresh =

@@ -1,5 +1,5 @@
 -- What stays of nodes where handles are closed.
-use Rattle.std.specs.Prelude.{◌≡◌, ℕ, ◌-◌, nat_eq, Bool, true, false, cond, if◌then◌else◌, List, [], ◌∷◌, slice_set, option_map, option_and_then, Option, Some, None, refl}
+use Rattle.std.specs.Prelude.{◌≡◌, ℕ, ◌-◌, nat_eq, true, false, cond, if◌then◌else◌, List, [], ◌∷◌, slice_set, option_map, option_and_then, Option, Some, None, refl}
 use Rattle.std.specs.Option.{option_map_or}
 use Rattle.std.proofs.Common.{sym, ap, subst, ◌∙◌, eqb-true}
 use Rattle.std.specs.Ordering.{nat_cmp}

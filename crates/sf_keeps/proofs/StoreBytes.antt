@@ -2,7 +2,6 @@
 use Rattle.std.specs.Prelude.{◌≡◌, ℕ, List, is_some, refl}
 use Rattle.sf_path.specs.Names.{Name}
 use Rattle.sf_call.specs.declared.metadata.Metadata.{Metadata}
-use Rattle.sf_call.specs.Attributes.Object.{File}
 use Rattle.sf_call.specs.Tree.{directory_metadata}
 use Rattle.sf_inode.specs.declared.node.Content.{Content}
 use Rattle.sf_inode.specs.declared.node.Content.TheVariants as content

@@ -15,10 +15,10 @@ use Rattle.sf_inode.specs.declared.node.Node.{Node}
 use Rattle.sf_inode.specs.declared.node.Content.{Content}
 use Rattle.sf_inode.specs.declared.node.Content.TheVariants as content
 use Rattle.sf_inode.specs.declared.handle.OpenHandle.{OpenHandle}
-use Rattle.sf_inode.specs.Nodes.{entry_in, object_in, less_content, more_content, with_content, with_metadata, without_name, is_unused}
+use Rattle.sf_inode.specs.Nodes.{entry_in, object_in, less_content, more_content, with_content, without_name, is_unused}
 use Rattle.sf_keeps.specs.Steps.{walk, changed_step}
 use Rattle.sf_keeps.specs.Shows.{View, Shows, is_directory_by, changed_shown, with_step, with_shown}
-use Rattle.sf_inode.specs.Stores.{StoreState, node_in, entry_of, shown_node, shown_of, edited_by, edited, entry_taken, entry_put, with_nodes, released_if, released, forgotten, unlinked_from, unlinked, Inserted}
+use Rattle.sf_inode.specs.Stores.{StoreState, node_in, entry_of, shown_node, shown_of, edited_by, edited, entry_taken, entry_put, with_nodes, released_if, released, forgotten, unlinked_from, unlinked, Inserted, new_entry}
 use Rattle.sf_keeps.specs.Keeps.{view_of}
 use Rattle.sf_keeps.proofs.Keyed.{lookup-removed}
 use Rattle.sf_keeps.proofs.InOrder.{IsInOrder}
@@ -134,7 +134,7 @@ kind_metadata m k (content.Directory es) = refl
 kind_metadata m k (content.File contents) = refl
 
 -- ---- a new node with its entry
-pub shows_inserted : (old new : StoreState) (t : Tree) (p : Path) (d : ℕ) (n : Name) (c : ℕ) (node above : Node) (es : List (Name × ℕ)) → Inserted old new d n c node → Shows (view_of old) t
+pub shows_inserted : (old new : StoreState) (t : Tree) (p : Path) (d : ℕ) (n : Name) (c : ℕ) (node above : Node) (es : List (Name × ℕ)) → Inserted old new (new_entry d n c) node → Shows (view_of old) t
     → walk (entry_of old.nodes) old.root p ≡ Some d → node_in old.nodes d ≡ Some above → above.content ≡ content.Directory es → lookup (same_name n) es ≡ None
     → ((m : Name) → entry_in node.content m ≡ None) → object_of t.objects node.label ≡ None
     → Shows (view_of new) (changed t (NewPath (p ++ n ∷ []) node.label (object_in node.metadata node.content)))

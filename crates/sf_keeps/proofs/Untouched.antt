@@ -7,7 +7,7 @@ use Rattle.sf_inode.specs.declared.node.Node.{Node}
 use Rattle.sf_inode.specs.declared.node.Content.{Content}
 use Rattle.sf_inode.specs.declared.node.Content.TheVariants as content
 use Rattle.sf_inode.specs.Nodes.{object_in, less_content, more_content, with_content, without_name, is_unused}
-use Rattle.sf_inode.specs.Stores.{StoreState, node_in, entry_of, shown_node, shown_of, holder_of, with_nodes, edited, edited_by, entry_taken, entry_put, released_if, forgotten, unlinked, unlinked_from, moved_entry, relinked, relinked_from, Inserted, spot}
+use Rattle.sf_inode.specs.Stores.{StoreState, node_in, entry_of, shown_node, shown_of, holder_of, with_nodes, edited, edited_by, entry_taken, entry_put, released_if, forgotten, unlinked, unlinked_from, moved_entry, relinked, relinked_from, Inserted, spot, new_entry}
 use Rattle.sf_keeps.proofs.Shown.{nat_eq_apart, same_apart}
 use Rattle.sf_keeps.proofs.StoreLaws.{node_in-set, object_less}
 
@@ -100,7 +100,7 @@ sight_forgotten s c i other =
     ap (option_map sight) (released_apart unnamed c i (node_in unnamed.nodes c) refl other) ∙ sight_edited without_name (λ node. refl) s c i
 
 -- ---- the methods
-pub inserted_alike : (old new : StoreState) (dir : ℕ) (n : Name) (id : ℕ) (node : Node) (i : ℕ) → Inserted old new dir n id node → i ≢ id → Alike new.nodes old.nodes i
+pub inserted_alike : (old new : StoreState) (dir : ℕ) (n : Name) (id : ℕ) (node : Node) (i : ℕ) → Inserted old new (new_entry dir n id) node → i ≢ id → Alike new.nodes old.nodes i
 inserted_alike old new dir n id node i did other = alike new.nodes old.nodes i (ap (option_map sight) (did.others i other) ∙ sight_put old dir n id i)
 
 -- the entry did not lead there

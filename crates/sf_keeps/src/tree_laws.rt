@@ -14,7 +14,7 @@ ghost use Rattle.sf_inode.specs.declared.node.Node.{Node};
 ghost use Rattle.sf_inode.specs.declared.node.NewNode.{NewNode};
 ghost use Rattle.sf_inode.specs.Nodes.{object_in, new_content, new_node, with_metadata, with_holder};
 ghost use Rattle.sf_keeps.specs.Steps.{walk};
-ghost use Rattle.sf_inode.specs.Stores.{StoreState, IsFirst, Inserted, node_in, entry_of, shown_of, holder_of, looked_up, edited, unlinked, relinked, bytes_of, is_file_at, is_directory_at, is_bare_at, bytes_set};
+ghost use Rattle.sf_inode.specs.Stores.{StoreState, IsFirst, Inserted, node_in, entry_of, shown_of, holder_of, looked_up, edited, unlinked, relinked, bytes_of, is_file_at, is_directory_at, is_bare_at, bytes_set, new_entry};
 ghost use Rattle.sf_keeps.specs.Keeps.{Keeps};
 
 /// A store keeps at most one tree, and a new one the root alone.
@@ -60,7 +60,7 @@ pub fn other_nodes()
     ensures itself { (f : Node → Node) (s : StoreState) (id : ℕ)
         → node_in (edited f s id).nodes id ≡ option_map f (node_in s.nodes id) }
     ensures inserted { (old new : StoreState) (dir : ℕ) (n : Name) (id : ℕ) (node : Node) (i : ℕ)
-        → Inserted old new dir n id node → i ≢ id → (shown_of new.nodes i ≡ shown_of old.nodes i)
+        → Inserted old new (new_entry dir n id) node → i ≢ id → (shown_of new.nodes i ≡ shown_of old.nodes i)
         × (holder_of new.nodes i ≡ holder_of old.nodes i) }
     ensures unlinked { (s : StoreState) (dir : ℕ) (n : Name) (i : ℕ)
         → entry_of s.nodes dir n ≢ Some i
@@ -145,7 +145,7 @@ pub fn changed_object()
 /// new path with its object.
 pub fn new_path()
     ensures { (old new : StoreState) (t : Tree) (p : Path) (dir : ℕ) (n : Name) (id : ℕ)
-        (made : NewNode) → Keeps old t → Inserted old new dir n id (new_node made)
+        (made : NewNode) → Keeps old t → Inserted old new (new_entry dir n id) (new_node made)
         → walk (entry_of old.nodes) old.root p ≡ Some dir → is_directory_at old.nodes dir ≡ true
         → entry_of old.nodes dir n ≡ None → object_of t.objects made.label ≡ None
         → Keeps new (changed t (NewPath (p ++ n ∷ []) made.label

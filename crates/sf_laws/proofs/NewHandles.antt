@@ -20,7 +20,7 @@ use Rattle.sf_call.specs.Tree.{Tree, label_at, object_of, handle_of, directory_a
 use Rattle.sf_call.specs.Handles.{if_of}
 use Rattle.sf_call.specs.Changes.{done, touch}
 use Rattle.sf_call.specs.Calls.{Answer, apply, has_all_handles, directory_handle, file_handle, open_directory, open_present, open_file, unless_root, opening, stamp}
-use Rattle.sf_laws.specs.NewHandles.{IsJustOpened}
+use Rattle.sf_laws.specs.NewHandles.{IsJustOpened, allowing}
 use Rattle.sf_call.proofs.Laws.{lookup-put}
 use Rattle.sf_call.proofs.Laws.{place_label}
 
@@ -43,7 +43,7 @@ in_session handles session number h own =
 module _ (tree : Tree) (session number : ℕ) (path : Path) (read write append : Bool) where
   -- if the answer gives a handle, it is just opened in the tree after it
   abbrev pub OpensIt : Answer → Type 0
-  OpensIt answer = (given : ℕ) → answer.reply ≡ reply.Handle given → IsJustOpened (done tree answer.changes) session given path read write append
+  OpensIt answer = (given : ℕ) → answer.reply ≡ reply.Handle given → IsJustOpened (done tree answer.changes) session given path (allowing read write append)
 
   either : (b : Bool) (this that : Answer) → OpensIt this → OpensIt that → OpensIt (cond b this that)
   either true this that p q = p
@@ -53,11 +53,11 @@ module _ (tree : Tree) (session number : ℕ) (path : Path) (read write append :
   rooted [] answer p = λ given e. cc
   rooted (n ∷ way) answer p = p
 
-  given_number : (t : Tree) (given : ℕ) → reply.Handle number ≡ reply.Handle given → IsJustOpened t session number path read write append → IsJustOpened t session given path read write append
-  given_number t given e is = let same : number ≡ given = cc in subst (λ n. IsJustOpened t session n path read write append) same is
+  given_number : (t : Tree) (given : ℕ) → reply.Handle number ≡ reply.Handle given → IsJustOpened t session number path (allowing read write append) → IsJustOpened t session given path (allowing read write append)
+  given_number t given e is = let same : number ≡ given = cc in subst (λ n. IsJustOpened t session n path (allowing read write append)) same is
 
-  untouched : (t : Tree) (moment : ℕ) (at : Option (ℕ × Metadata)) → IsJustOpened t session number path read write append
-      → IsJustOpened (done t (touch moment at)) session number path read write append
+  untouched : (t : Tree) (moment : ℕ) (at : Option (ℕ × Metadata)) → IsJustOpened t session number path (allowing read write append)
+      → IsJustOpened (done t (touch moment at)) session number path (allowing read write append)
   untouched t moment None is = is
   untouched t moment (Some d) is = record {
     handle = is.handle;
@@ -94,13 +94,13 @@ module _ (tree : Tree) (session number moment : ℕ) (path : Path) where
   directory_place (At label) e = directory_object label (object_of tree.objects label) (place_label tree path label e)
 
   pub directory_handle_made : (given : ℕ) → (apply tree session number moment (OpenDir path)).reply ≡ reply.Handle given
-      → IsJustOpened (apply tree session number moment (OpenDir path)).tree session given path false false false
+      → IsJustOpened (apply tree session number moment (OpenDir path)).tree session given path (allowing false false false)
   directory_handle_made = directory_place (place_at tree path) refl
 
   module _ (flags : OpenFlags) (attrs : Attrs) where
     -- in a tree with this handle put, in which the path has its label
     file_handle_put : (t : Tree) (label : ℕ) → t.handles ≡ insert_entry nat_cmp tree.handles number (file_handle session label flags) → label_at t.names path ≡ Some label
-        → IsJustOpened t session number path (flags.read || not flags.write) flags.write flags.append
+        → IsJustOpened t session number path (allowing (flags.read || not flags.write) flags.write flags.append)
     file_handle_put t label put at = record {
       handle = file_handle session label flags;
       is_open = ap (λ (handles : List (ℕ × Handle)). option_and_then (if_of session) (handle_of handles number)) put ∙ in_session tree.handles session number (file_handle session label flags) refl;
@@ -118,8 +118,8 @@ module _ (tree : Tree) (session number moment : ℕ) (path : Path) where
     one_of : (b : Bool) (this that : Answer) → OpensFile this → OpensFile that → OpensFile (cond b this that)
     one_of = either tree session number path (flags.read || not flags.write) flags.write flags.append
 
-    this_number : (t : Tree) (given : ℕ) → reply.Handle number ≡ reply.Handle given → IsJustOpened t session number path (flags.read || not flags.write) flags.write flags.append
-        → IsJustOpened t session given path (flags.read || not flags.write) flags.write flags.append
+    this_number : (t : Tree) (given : ℕ) → reply.Handle number ≡ reply.Handle given → IsJustOpened t session number path (allowing (flags.read || not flags.write) flags.write flags.append)
+        → IsJustOpened t session given path (allowing (flags.read || not flags.write) flags.write flags.append)
     this_number = given_number tree session number path (flags.read || not flags.write) flags.write flags.append
 
     file_object : (label : ℕ) (o : Option Object) → label_at tree.names path ≡ Some label → OpensFile (open_present tree session (stamp number moment) flags (found_object label o))
@@ -138,5 +138,5 @@ module _ (tree : Tree) (session number moment : ℕ) (path : Path) where
         (file_handle_put _ number refl (path_put tree.names path number)))))
 
     pub file_handle_made : (given : ℕ) → (apply tree session number moment (Open path flags attrs)).reply ≡ reply.Handle given
-        → IsJustOpened (apply tree session number moment (Open path flags attrs)).tree session given path (flags.read || not flags.write) flags.write flags.append
+        → IsJustOpened (apply tree session number moment (Open path flags attrs)).tree session given path (allowing (flags.read || not flags.write) flags.write flags.append)
     file_handle_made = rooted tree session number path (flags.read || not flags.write) flags.write flags.append path _ (file_place (place_at tree path) refl)

@@ -1,6 +1,8 @@
 -- Small trees and requests on which the definitions are worked out.
 use Rattle.std.specs.Prelude.{ℕ, ◌+◌, ◌/◌, ◌%◌, Bool, true, false, List, [], ◌∷◌, map, codes, Some, None}
 use Rattle.sf_field.specs.declared.attrs.Attrs.{Attrs}
+use Rattle.sf_field.specs.declared.attrs.Owner.{Owner}
+use Rattle.sf_field.specs.declared.attrs.Times.{Times}
 use Rattle.sf_field.specs.declared.open_flags.OpenFlags.{OpenFlags}
 use Rattle.sf_reply.specs.declared.reply.Reply.{Reply}
 use Rattle.sf_reply.specs.declared.reply.Reply.TheVariants as reply
@@ -24,12 +26,18 @@ a = codes "a"
 abbrev pub b : Name
 b = codes "b"
 
-abbrev pub all_attrs : ℕ → ℕ → ℕ → ℕ → ℕ → ℕ → Attrs
-all_attrs size uid gid permissions atime mtime = record {
+abbrev pub by_owner : ℕ → ℕ → Owner
+by_owner uid gid = record { uid = uid; gid = gid }
+
+abbrev pub at_times : ℕ → ℕ → Times
+at_times atime mtime = record { atime = atime; mtime = mtime }
+
+abbrev pub all_attrs : ℕ → Owner → ℕ → Times → Attrs
+all_attrs size owner permissions times = record {
   size = Some size;
-  owner = Some (record { uid = uid; gid = gid });
+  owner = Some owner;
   permissions = Some permissions;
-  times = Some (record { atime = atime; mtime = mtime });
+  times = Some times;
 }
 
 abbrev pub metadata : ℕ → ℕ → ℕ → ℕ → ℕ → Metadata
@@ -163,7 +171,7 @@ renames old new =
 
 -- a file's attributes as it was made and modified at the moment 100
 abbrev pub file_attrs : ℕ → Attrs
-file_attrs size = all_attrs size 0 0 0o100644 100 100
+file_attrs size = all_attrs size (by_owner 0 0) 0o100644 (at_times 100 100)
 
 -- `n01` and so on
 abbrev pub numbered : ℕ → Name

@@ -9,7 +9,7 @@ ghost use Rattle.sf_call.specs.Attributes.Object.{Directory};
 ghost use Rattle.sf_call.specs.Tree.{empty_tree};
 ghost use Rattle.sf_call.specs.Calls.{apply};
 ghost use Rattle.sf_call.specs.Histories.{IsLegal, replay};
-ghost use Rattle.sf_laws.specs.Examples.{a, b, no_attrs, all_attrs, metadata, tree_with, touched_root, with_directory, with_file, call, refused, told, history, replies, replies_of_another, tree_after, ok, failed, absent, sized, flags, exclusively, truncating, f, g, new_file, of_five, renames, file_attrs, numbered, up_to_32, names_in};
+ghost use Rattle.sf_laws.specs.Examples.{a, b, no_attrs, all_attrs, metadata, tree_with, touched_root, with_directory, with_file, call, refused, told, history, replies, replies_of_another, tree_after, ok, failed, absent, sized, flags, exclusively, truncating, f, g, new_file, of_five, renames, file_attrs, numbered, up_to_32, names_in, by_owner, at_times};
 ghost use Rattle.sf_path.specs.Names.{slash};
 ghost use Rattle.sf_path.specs.Normal.{fault_of};
 ghost use Rattle.sf_path.specs.declared.fault.PathFault.TheVariants.{TooLong, NameTooLong};
@@ -24,7 +24,7 @@ ghost use Rattle.sf_call.specs.Attributes.Object.{File};
 pub fn mkdir_cases()
     ensures made { apply empty_tree 1 7 100 (Mkdir (a ∷ []) no_attrs)
         ≡ record { reply = reply.Status Success; tree = with_directory } }
-    ensures asked { apply empty_tree 1 7 100 (Mkdir (a ∷ []) (all_attrs 9 5 6 0o177777 1 2))
+    ensures asked { apply empty_tree 1 7 100 (Mkdir (a ∷ []) (all_attrs 9 (by_owner 5 6) 0o177777 (at_times 1 2)))
         ≡ record {
           reply = reply.Status Success;
           tree = tree_with (Directory (metadata 5 6 0o7777 1 2));
@@ -41,9 +41,9 @@ pub fn mkdir_cases()
 /// STAT.
 pub fn stat_cases()
     ensures directory { call with_directory (Stat (a ∷ []))
-        ≡ told with_directory (all_attrs 0 0 0 0o40755 100 100) }
+        ≡ told with_directory (all_attrs 0 (by_owner 0 0) 0o40755 (at_times 100 100)) }
     ensures file { call with_file (Stat (a ∷ []))
-        ≡ told with_file (all_attrs 3 5 6 0o100644 100 200) }
+        ≡ told with_file (all_attrs 3 (by_owner 5 6) 0o100644 (at_times 100 200)) }
     ensures absent { call with_directory (Stat (b ∷ [])) ≡ refused with_directory NoSuchFile }
     ensures below_file { call with_file (Stat (a ∷ b ∷ [])) ≡ refused with_file NoSuchFile }
 {}
@@ -133,9 +133,9 @@ pub fn open_cases()
         ∷ reply.Attrs (file_attrs 0) ∷ reply.Status EndOfFile ∷ [] }
     // Attributes count for a new file alone, and its size is 0.
     ensures attributes { replies (Open (f ∷ []) (flags true true false true)
-        (all_attrs 9 5 6 0o177777 1 2) ∷ Open (f ∷ []) (flags true true false true)
-        (all_attrs 4 7 8 0o600 3 4) ∷ FStat 1 ∷ [])
-        ≡ reply.Handle 1 ∷ reply.Handle 2 ∷ reply.Attrs (all_attrs 0 5 6 0o107777 1 2) ∷ [] }
+        (all_attrs 9 (by_owner 5 6) 0o177777 (at_times 1 2)) ∷ Open (f ∷ []) (flags true true false true)
+        (all_attrs 4 (by_owner 7 8) 0o600 (at_times 3 4)) ∷ FStat 1 ∷ [])
+        ≡ reply.Handle 1 ∷ reply.Handle 2 ∷ reply.Attrs (all_attrs 0 (by_owner 5 6) 0o107777 (at_times 1 2)) ∷ [] }
     // With neither READ nor WRITE a handle reads.
     ensures no_marks { replies (new_file f ∷ Write 1 0 (codes "abc") ∷ Open (f ∷ [])
         (flags false false false false) no_attrs ∷ Read 3 0 10 ∷ Write 3 0 (codes "x") ∷ [])

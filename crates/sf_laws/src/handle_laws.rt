@@ -12,7 +12,7 @@ ghost use Rattle.sf_call.specs.Tree.{Tree, label_at, object_of, handle_of};
 ghost use Rattle.sf_call.specs.Calls.{apply};
 ghost use Rattle.sf_field.specs.declared.attrs.Attrs.{Attrs};
 ghost use Rattle.sf_field.specs.declared.open_flags.OpenFlags.{OpenFlags};
-ghost use Rattle.sf_laws.specs.NewHandles.{IsJustOpened};
+ghost use Rattle.sf_laws.specs.NewHandles.{IsJustOpened, allowing};
 ghost use Rattle.sf_reply.specs.declared.reply.Reply.TheVariants.{Handle};
 
 /// A handle that a call opens is the calling session's, to what the path names, with the marks that were asked for.
@@ -20,12 +20,12 @@ pub fn new_handles()
     ensures directory { (tree : Tree) (session number moment given : ℕ) (path : Path)
         → (apply tree session number moment (OpenDir path)).reply ≡ Handle given
         → IsJustOpened (apply tree session number moment (OpenDir path)).tree session given path
-        false false false }
+        (allowing false false false) }
     ensures file { (tree : Tree) (session number moment given : ℕ) (path : Path) (flags : OpenFlags)
         (attrs : Attrs)
         → (apply tree session number moment (Open path flags attrs)).reply ≡ Handle given
         → IsJustOpened (apply tree session number moment (Open path flags attrs)).tree session given
-        path (flags.read || not flags.write) flags.write flags.append }
+        path (allowing (flags.read || not flags.write) flags.write flags.append) }
 {}
 
 /// After a legal history each open handle leads to an object.

@@ -4,3 +4,4 @@ pub mod Parts
 pub mod Lengths
 pub mod Again
 pub mod Heads
+pub mod Laws

@@ -9,12 +9,12 @@
 #![tactic(auto)]
 
 mod fault;
-mod laws;
 mod name;
 mod parse;
 mod path;
+mod path_laws;
 
 pub use fault::PathFault;
-pub use laws::{normal_text_again, slash_before};
 pub use name::Name;
 pub use path::Path;
+pub use path_laws::{normal_text_again, slash_before};

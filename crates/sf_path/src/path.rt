@@ -97,13 +97,6 @@ impl Path {
         Ok(Path::of(names_of(alloc, text)?)?)
     }
 
-    /// The names of a path are names: a proof takes this from a call, which does nothing.
-    pub fn are_names(&self)
-        ensures { IsPath self.now }
-    {
-        let _ = &self.names;
-    }
-
     /// How many names the path has.
     pub fn len(&self) -> usize
         ensures { result ≡ length self.now }

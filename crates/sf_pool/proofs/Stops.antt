@@ -12,7 +12,7 @@ use Rattle.sf_pool.specs.declared.calling.Stop.TheVariants as stop
 use Rattle.sf_pool.specs.declared.desk.Begin.{Begin}
 use Rattle.sf_pool.specs.Audits.{Deed}
 use Rattle.sf_pool.specs.Desks.{DeskView, Notes}
-use Rattle.sf_pool.specs.Scenes.{Scene, scene, deeds_told, attempts_told, Begins, Serves, HasSentAll, IsServed, StopsEarly}
+use Rattle.sf_pool.specs.Scenes.{Scene, scene, deeds_told, attempts_told, Begins, Serves, HasSentAll, IsServed, StopsEarly, line_at}
 use Rattle.sf_pool.specs.Serving.{Rests, HasSentFor, IsStop, fault_of}
 use Rattle.sf_pool.proofs.Talking.{joined_serves}
 
@@ -29,13 +29,13 @@ new_rests = (record { resting = refl; unread = refl; begun = refl; ended = refl;
 
 -- a session that has joined rests
 pub joined_rests : (i o : Option (List ℕ)) (c : Option (List LineCall)) (tl : Option (List ℕ)) (b b' : Option (List Begin)) (d d' : DeskView) (v : SessionView) → b' ≡ b → d'.calls ≡ d.calls → v ≡ new_session
-    → Serves (scene i o c tl b d) (scene i o c tl b' d') (Rests v)
+    → Serves (scene (line_at i o c) tl b d) (scene (line_at i o c) tl b' d') (Rests v)
 joined_rests i o c tl b b' d d' v none same new =
-    (new_told, joined_serves (scene i o c tl b d) b' d' none same, subst (λ (x : SessionView). Rests x new_told) (sym new) new_rests)
+    (new_told, joined_serves (scene (line_at i o c) tl b d) b' d' none same, subst (λ (x : SessionView). Rests x new_told) (sym new) new_rests)
 
 -- a desk that answers no call leaves what was served
 pub left_serves : (start : Scene) (i o : Option (List ℕ)) (c : Option (List LineCall)) (tl : Option (List ℕ)) (b b' : Option (List Begin)) (d d' : DeskView) (P : Told → Type 0) → b' ≡ b → d'.calls ≡ d.calls
-    → Serves start (scene i o c tl b d) P → Serves start (scene i o c tl b' d') P
+    → Serves start (scene (line_at i o c) tl b d) P → Serves start (scene (line_at i o c) tl b' d') P
 left_serves start i o c tl b b' d d' P none same serves =
     let S = serves.1 in (
       serves.0,

@@ -26,8 +26,8 @@ use Rattle.sf_serving.proofs.Laws.{all_push, transcript_append, front_more, fron
 use Rattle.sf_pool.specs.declared.desk.Begin.{Begin}
 use Rattle.sf_pool.specs.Audits.{Deed}
 use Rattle.sf_pool.specs.Desks.{DeskView, Notes}
-use Rattle.sf_pool.specs.Scenes.{Scene, scene, answer_deeds, phase_deeds, deeds_told, Attempt, attempt_of, answer_attempts, phase_attempts, attempts_told, Begins, Served, HasSentAll}
-use Rattle.sf_pool.specs.Serving.{Goes, SendsPart}
+use Rattle.sf_pool.specs.Scenes.{Scene, scene, answer_deeds, phase_deeds, deeds_told, Attempt, attempt_of, answer_attempts, phase_attempts, attempts_told, Begins, Served, HasSentAll, line_at}
+use Rattle.sf_pool.specs.Serving.{Goes, SendsPart, writing}
 
 -- ---- lists
 
@@ -120,7 +120,7 @@ at_rest_stream t at read = read.stream ∙ ap (λ (b : List ℕ). flat_map packe
 -- ---- it joins
 
 pub joined_serves : (start : Scene) (begins' : Option (List Begin)) (desk : DeskView) → begins' ≡ start.begins → desk.calls ≡ start.desk.calls
-    → Served start (scene start.incoming start.outgoing start.calls start.told begins' desk) new_told
+    → Served start (scene (line_at start.incoming start.outgoing start.calls) start.told begins' desk) new_told
 joined_serves start begins' desk told_none same = record {
   bodies = record { rest = []; are_bodies = tt; stream = refl; left = refl; asked = none_asked };
   read = Consumes-nil start.incoming;
@@ -164,7 +164,7 @@ fed t bytes = record t { stream = t.stream ++ bytes; unread = t.unread ++ bytes 
 
 pub read_serves : (start now : Scene) (incoming' outgoing' : Option (List ℕ)) (calls' : Option (List LineCall)) (t : Told) (n : ℕ) (bytes : List ℕ)
     → Served start now t → t.phase ≡ AtRest → IsCut t.unread cut.More → HasSentAll t → Consumes now.incoming incoming' bytes → length bytes ≡ n → outgoing' ≡ now.outgoing → Logs now.calls calls' (Read n ∷ [])
-    → Served start (scene incoming' outgoing' calls' now.told now.begins now.desk) (fed t bytes)
+    → Served start (scene (line_at incoming' outgoing' calls') now.told now.begins now.desk) (fed t bytes)
 read_serves start now incoming' outgoing' calls' t n bytes S at no_more sent consumes count same logs =
     let read = S.bodies in
     let left : t.unread ≡ read.rest = at_rest_left t at read in
@@ -197,7 +197,7 @@ read_serves start now incoming' outgoing' calls' t n bytes S at no_more sent con
 
 -- a line that moved no byte and told no call
 pub still_serves : (start now : Scene) (incoming' outgoing' : Option (List ℕ)) (calls' : Option (List LineCall)) (t : Told)
-    → Served start now t → Keeps now.incoming incoming' → outgoing' ≡ now.outgoing → Logs now.calls calls' [] → Served start (scene incoming' outgoing' calls' now.told now.begins now.desk) t
+    → Served start now t → Keeps now.incoming incoming' → outgoing' ≡ now.outgoing → Logs now.calls calls' [] → Served start (scene (line_at incoming' outgoing' calls') now.told now.begins now.desk) t
 still_serves start now incoming' outgoing' calls' t S kept same logs = record {
   bodies = S.bodies;
   read = Consumes-kept start.incoming now.incoming incoming' t.stream S.read kept;
@@ -227,7 +227,7 @@ answered t body rest a = record t { unread = rest; bodies = t.bodies ++ body ∷
 pub answer_serves : (start now : Scene) (told' : Option (List ℕ)) (begins' : Option (List Begin)) (desk' : DeskView) (t : Told) (body rest : List ℕ) (a : Answered)
     → Served start now t → t.phase ≡ AtRest → t.unread ≡ packet body ++ rest → IsBody body → AsksFor (has_begun t.bodies) body (asked_by a)
     → Begins now.told told' now.begins begins' (answer_attempts a) → Notes now.desk.calls desk'.calls (answer_deeds a)
-    → Served start (scene now.incoming now.outgoing now.calls told' begins' desk') (answered t body rest a)
+    → Served start (scene (line_at now.incoming now.outgoing now.calls) told' begins' desk') (answered t body rest a)
 answer_serves start now told' begins' desk' t body rest a S at whole is_body asks begins notes =
     let read = S.bodies in
     let t' = answered t body rest a in
@@ -289,7 +289,7 @@ pended t body rest f = record t { unread = rest; bodies = t.bodies ++ body ∷ [
 pub pend_serves : (start now : Scene) (told' : Option (List ℕ)) (begins' : Option (List Begin)) (desk' : DeskView) (t : Told) (body rest : List ℕ) (f : Phase) (a : Ask)
     → Served start now t → t.phase ≡ AtRest → t.unread ≡ packet body ++ rest → IsBody body → AsksFor (has_begun t.bodies) body a → pending f ≡ a ∷ [] → IsRest (has_begun (t.bodies ++ body ∷ [])) f rest rest
     → Begins now.told told' now.begins begins' (phase_attempts f) → Notes now.desk.calls desk'.calls (phase_deeds f)
-    → Served start (scene now.incoming now.outgoing now.calls told' begins' desk') (pended t body rest f)
+    → Served start (scene (line_at now.incoming now.outgoing now.calls) told' begins' desk') (pended t body rest f)
 pend_serves start now told' begins' desk' t body rest f a S at whole is_body asks pend left begins notes =
     let read = S.bodies in
     let t' = pended t body rest f in
@@ -326,8 +326,8 @@ abbrev pub sent_more : Told → List ℕ → Told
 sent_more t bytes = record t { sent = t.sent ++ bytes }
 
 pub write_serves : (start now : Scene) (incoming' outgoing' : Option (List ℕ)) (calls' : Option (List LineCall)) (v w : SessionView) (t : Told)
-    → Served start now t → Goes v t → incoming' ≡ now.incoming → (part : SendsPart now.outgoing outgoing' now.calls calls' v w)
-    → Served start (scene incoming' outgoing' calls' now.told now.begins now.desk) (sent_more t part.sent) × Goes w (sent_more t part.sent)
+    → Served start now t → Goes v t → incoming' ≡ now.incoming → (part : SendsPart (writing now.outgoing now.calls) (writing outgoing' calls') v w)
+    → Served start (scene (line_at incoming' outgoing' calls') now.told now.begins now.desk) (sent_more t part.sent) × Goes w (sent_more t part.sent)
 write_serves start now incoming' outgoing' calls' v w t S goes same part =
     let writes = part.logged in
     let t' = sent_more t part.sent in

@@ -41,18 +41,26 @@ TellsOf (step.Answered answer) s place =
     (s.told ≡ told.Answered) × (s.blocked ≡ false) × IsLast place answer.number answer.reply
 TellsOf step.Stranger s place = (s.told ≡ told.Stranger) × (s.blocked ≡ false)
 
+-- what a step came to: what is told of it, and the desk and the core after it
+pub record SteppedTo : Type 0 where
+  pub told : Stepped
+  pub desk : DeskView
+  pub core : CoreView
+
+abbrev pub stepped_to : Stepped → DeskView → CoreView → SteppedTo
+stepped_to s d v = record { told = s; desk = d; core = v }
+
 -- the session's call makes one step on the core, whose history then is this
-pub record StepsAt (d : DeskView) (v : CoreView) (h : List Record) (s : Stepped) (d' : DeskView)
-    (w : CoreView) : Type 0 where
+pub record StepsAt (d : DeskView) (v : CoreView) (h : List Record) (s : SteppedTo) : Type 0 where
   pub lane : LaneView
   pub after : LaneView
   pub added : List Record
   pub came : Step
   pub own : IsLaneAt d lane
-  pub history : IsHistory w (h ++ added)
+  pub history : IsHistory s.core (h ++ added)
   pub steps : Steps (record { core = v; history = h; lane = lane }) came (record {
-    core = w;
+    core = s.core;
     added = added;
     lane = after;
   })
-  pub tells : TellsOf came s d'.place
+  pub tells : TellsOf came s.told s.desk.place

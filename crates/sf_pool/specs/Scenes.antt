@@ -28,12 +28,21 @@ pub record Scene : Type 0 where
   pub begins : Option (List Begin)
   pub desk : DeskView
 
-abbrev pub scene : Option (List ℕ) → Option (List ℕ) → Option (List LineCall) → Option (List ℕ)
-    → Option (List Begin) → DeskView → Scene
-scene incoming outgoing calls told begins desk = record {
-  incoming = incoming;
-  outgoing = outgoing;
-  calls = calls;
+-- what a line tells: what is to come, what it was given to send, and the calls that it was asked for
+pub record LineAt : Type 0 where
+  pub incoming : Option (List ℕ)
+  pub outgoing : Option (List ℕ)
+  pub calls : Option (List LineCall)
+
+abbrev pub line_at : Option (List ℕ) → Option (List ℕ) → Option (List LineCall) → LineAt
+line_at incoming outgoing calls =
+    record { incoming = incoming; outgoing = outgoing; calls = calls }
+
+abbrev pub scene : LineAt → Option (List ℕ) → Option (List Begin) → DeskView → Scene
+scene line told begins desk = record {
+  incoming = line.incoming;
+  outgoing = line.outgoing;
+  calls = line.calls;
   told = told;
   begins = begins;
   desk = desk;

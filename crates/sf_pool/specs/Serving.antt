@@ -83,14 +83,21 @@ abbrev pub FailsCall : Request → Stop → (List Attempt → Type 0) → DeskVi
 FailsCall request stop Asked d d' =
     (number : ℕ) × LacksReply request number stop d d' × Asked (attempt request (Ok number) ∷ [])
 
+-- what a line has been given to send, and the calls that it was asked for
+pub record Writing : Type 0 where
+  pub outgoing : Option (List ℕ)
+  pub calls : Option (List LineCall)
+
+abbrev pub writing : Option (List ℕ) → Option (List LineCall) → Writing
+writing outgoing calls = record { outgoing = outgoing; calls = calls }
+
 -- The line took the front of the output, by writes alone, and that was taken off.
-pub record SendsPart (outgoing outgoing' : Option (List ℕ)) (calls calls' : Option (List LineCall))
-    (v w : SessionView) : Type 0 where
+pub record SendsPart (l l' : Writing) (v w : SessionView) : Type 0 where
   pub sent : List ℕ
   pub whole : v.output ≡ sent ++ w.output
   pub now : w ≡ record v { output = w.output }
-  pub appended : Appends outgoing outgoing' sent
-  pub logged : LogsWrites calls calls' (length sent)
+  pub appended : Appends l.outgoing l'.outgoing sent
+  pub logged : LogsWrites l.calls l'.calls (length sent)
 
 -- where a session is whose serving stops
 abbrev pub StopsAt : Stop → Place → Type 0

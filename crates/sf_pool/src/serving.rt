@@ -4,8 +4,8 @@ ghost use Rattle.std.specs.Prelude.{◌≡◌, ◌<◌, ◌≤◌, ◌⊎◌, �
 ghost use Rattle.sf_line.specs.Lines.{Rose};
 ghost use Rattle.sf_pool.specs.declared.desk.Begin.{Begin};
 ghost use Rattle.sf_pool.specs.Desks.{New, Gone, IsResting, DeskView};
-ghost use Rattle.sf_pool.specs.Scenes.{Scene, scene, Serves, IsServed, IsShared, HasSentAll, StopsEarly, LeavesDesk, IsFault};
-ghost use Rattle.sf_pool.specs.Serving.{IsReady, Goes, Rests, IsDrained, HasRead, SendsPart, IsReadStop, StopsAt, HasSentFor, IsStop, fault_of, refusal_of};
+ghost use Rattle.sf_pool.specs.Scenes.{Scene, scene, Serves, IsServed, IsShared, HasSentAll, StopsEarly, LeavesDesk, IsFault, line_at};
+ghost use Rattle.sf_pool.specs.Serving.{IsReady, Goes, Rests, IsDrained, HasRead, SendsPart, IsReadStop, StopsAt, HasSentFor, IsStop, fault_of, refusal_of, writing};
 
 use crate::calling::{Stop, make_call};
 use crate::desk::Desk;
@@ -46,8 +46,8 @@ fn fault_of(stop: Stop) -> ServeFault
 
 /// Writes a piece of what waits.
 fn write_piece<L: Line>(line: &mut L, session: &mut Session) -> Result<(), LineFault>
-    ensures front { SendsPart (L.outgoing line.old) (L.outgoing line.new) (L.calls line.old)
-        (L.calls line.new) session.old session.new }
+    ensures front { SendsPart (writing (L.outgoing line.old) (L.calls line.old))
+        (writing (L.outgoing line.new) (L.calls line.new)) session.old session.new }
     ensures less { 0 < length session.old.output
         → OnOk result (length session.new.output < length session.old.output) }
     ensures incoming { L.incoming line.new ≡ L.incoming line.old }
@@ -62,8 +62,8 @@ fn write_piece<L: Line>(line: &mut L, session: &mut Session) -> Result<(), LineF
 
 /// Writes what waits, and takes off what the line took.
 fn send<L: Line>(line: &mut L, session: &mut Session) -> Result<(), Stop>
-    ensures front { SendsPart (L.outgoing line.old) (L.outgoing line.new) (L.calls line.old)
-        (L.calls line.new) session.old session.new }
+    ensures front { SendsPart (writing (L.outgoing line.old) (L.calls line.old))
+        (writing (L.outgoing line.new) (L.calls line.new)) session.old session.new }
     ensures all { OnOk result (session.new.output ≡ []) }
     ensures incoming { L.incoming line.new ≡ L.incoming line.old }
     ensures failures { L.failed line.old ≤ L.failed line.new }
@@ -90,16 +90,20 @@ fn drain<D: Desk, L: Line, C: Clock, G: Gate>(
 ) -> Result<bool, Stop>
     requires { IsReady session.old (D.at desk.old).place }
     ensures drained { IfOk result (λ ended. (start : Scene)
-        → Serves start (scene (L.incoming line.old) (L.outgoing line.old) (L.calls line.old)
+        → Serves start (scene (line_at (L.incoming line.old) (L.outgoing line.old)
+        (L.calls line.old))
         (C.told clock.old) (D.begins desk.old) (D.at desk.old)) (Goes session.old)
-        → Serves start (scene (L.incoming line.new) (L.outgoing line.new) (L.calls line.new)
+        → Serves start (scene (line_at (L.incoming line.new) (L.outgoing line.new)
+        (L.calls line.new))
         (C.told clock.new) (D.begins desk.new) (D.at desk.new))
         (IsDrained ended (L.incoming line.new) session.new)) }
     ensures ready { OnOk result (IsReady session.new (D.at desk.new).place) }
     ensures stops { IfErr result (λ stop. (start : Scene)
-        → Serves start (scene (L.incoming line.old) (L.outgoing line.old) (L.calls line.old)
+        → Serves start (scene (line_at (L.incoming line.old) (L.outgoing line.old)
+        (L.calls line.old))
         (C.told clock.old) (D.begins desk.old) (D.at desk.old)) (Goes session.old)
-        → Serves start (scene (L.incoming line.new) (L.outgoing line.new) (L.calls line.new)
+        → Serves start (scene (line_at (L.incoming line.new) (L.outgoing line.new)
+        (L.calls line.new))
         (C.told clock.new) (D.begins desk.new) (D.at desk.new)) (HasSentFor stop)) }
     ensures place { IfErr result (λ stop. StopsAt stop (D.at desk.new).place) }
     ensures failures { L.failed line.old ≤ L.failed line.new }
@@ -125,16 +129,17 @@ fn read_piece<L: Line>(line: &mut L, session: &mut Session, piece: &mut [u8]) ->
     requires { 0 < length piece.old }
     ensures read { IfOk result (λ ended. (start : Scene) (told : Option (List ℕ))
         (begins : Option (List Begin)) (desk : DeskView)
-        → Serves start (scene (L.incoming line.old) (L.outgoing line.old)
-        (L.calls line.old) told begins desk) (Rests session.old)
-        → Serves start (scene (L.incoming line.new) (L.outgoing line.new) (L.calls line.new) told
+        → Serves start (scene (line_at (L.incoming line.old) (L.outgoing line.old)
+        (L.calls line.old)) told begins desk) (Rests session.old)
+        → Serves start (scene (line_at (L.incoming line.new) (L.outgoing line.new)
+        (L.calls line.new)) told
         begins desk) (HasRead ended (L.incoming line.new) session.new)) }
     ensures stops { OnErr result ((start : Scene) (told : Option (List ℕ))
         (begins : Option (List Begin)) (desk : DeskView)
-        → Serves start (scene (L.incoming line.old) (L.outgoing line.old)
-        (L.calls line.old) told begins desk) (Rests session.old)
-        → Serves start (scene (L.incoming line.new) (L.outgoing line.new)
-        (L.calls line.new) told begins desk) HasSentAll) }
+        → Serves start (scene (line_at (L.incoming line.old) (L.outgoing line.old)
+        (L.calls line.old)) told begins desk) (Rests session.old)
+        → Serves start (scene (line_at (L.incoming line.new) (L.outgoing line.new)
+        (L.calls line.new)) told begins desk) HasSentAll) }
     ensures waiting { session.new.waiting ≡ session.old.waiting }
     ensures output { session.new.output ≡ session.old.output }
     ensures room { length piece.new ≡ length piece.old }
@@ -166,16 +171,20 @@ fn rounds<D: Desk, L: Line, C: Clock, G: Gate>(
     requires room { 0 < length piece.old }
     requires ready { IsReady session.old (D.at desk.old).place }
     ensures served { OnOk result ((start : Scene)
-        → Serves start (scene (L.incoming line.old) (L.outgoing line.old) (L.calls line.old)
+        → Serves start (scene (line_at (L.incoming line.old) (L.outgoing line.old)
+        (L.calls line.old))
         (C.told clock.old) (D.begins desk.old) (D.at desk.old)) (Rests session.old)
-        → Serves start (scene (L.incoming line.new) (L.outgoing line.new) (L.calls line.new)
+        → Serves start (scene (line_at (L.incoming line.new) (L.outgoing line.new)
+        (L.calls line.new))
         (C.told clock.new) (D.begins desk.new) (D.at desk.new))
         (IsServed (L.incoming line.new))) }
     ensures resting { OnOk result (IsResting (D.at desk.new).place) }
     ensures stops { IfErr result (λ stop. (start : Scene)
-        → Serves start (scene (L.incoming line.old) (L.outgoing line.old) (L.calls line.old)
+        → Serves start (scene (line_at (L.incoming line.old) (L.outgoing line.old)
+        (L.calls line.old))
         (C.told clock.old) (D.begins desk.old) (D.at desk.old)) (Rests session.old)
-        → Serves start (scene (L.incoming line.new) (L.outgoing line.new) (L.calls line.new)
+        → Serves start (scene (line_at (L.incoming line.new) (L.outgoing line.new)
+        (L.calls line.new))
         (C.told clock.new) (D.begins desk.new) (D.at desk.new)) (HasSentFor stop)) }
     ensures place { IfErr result (λ stop. StopsAt stop (D.at desk.new).place) }
     ensures failures { L.failed line.old ≤ L.failed line.new }
@@ -249,16 +258,20 @@ pub fn serve<D: Desk, L: Line, C: Clock, G: Gate>(
 ) -> Result<(), ServeFault>
     requires { (D.at desk.old).place ≡ New }
     ensures served { OnOk result (Serves
-        (scene (L.incoming line.old) (L.outgoing line.old) (L.calls line.old) (C.told clock.old)
+        (scene (line_at (L.incoming line.old) (L.outgoing line.old) (L.calls line.old))
+        (C.told clock.old)
         (D.begins desk.old) (D.at desk.old))
-        (scene (L.incoming line.new) (L.outgoing line.new) (L.calls line.new) (C.told clock.new)
+        (scene (line_at (L.incoming line.new) (L.outgoing line.new) (L.calls line.new))
+        (C.told clock.new)
         (D.begins desk.new) (D.at desk.new)) (IsServed (L.incoming line.new))) }
     ensures shared { OnOk result (((D.at desk.new).place ≡ Gone)
         × IsShared (D.at desk.new) share.old share.new) }
     ensures stopped { IfErr result (λ fault. StopsEarly
-        (scene (L.incoming line.old) (L.outgoing line.old) (L.calls line.old) (C.told clock.old)
+        (scene (line_at (L.incoming line.old) (L.outgoing line.old) (L.calls line.old))
+        (C.told clock.old)
         (D.begins desk.old) (D.at desk.old))
-        (scene (L.incoming line.new) (L.outgoing line.new) (L.calls line.new) (C.told clock.new)
+        (scene (line_at (L.incoming line.new) (L.outgoing line.new) (L.calls line.new))
+        (C.told clock.new)
         (D.begins desk.new) (D.at desk.new)) fault (L.failed line.old) (L.failed line.new)) }
     ensures left { IfErr result (λ fault. LeavesDesk (D.at desk.old)
         (D.at desk.new) fault share.old share.new) }

@@ -9,7 +9,7 @@ ghost use Rattle.sf_core.specs.Cores.Slot.{Idle};
 ghost use Rattle.sf_core.specs.Histories.{IsHistory};
 ghost use Rattle.sf_core.specs.Events.{Joins, RefusesJoin, Leaves};
 ghost use Rattle.sf_pool.specs.Audits.{told};
-ghost use Rattle.sf_pool.specs.OnCores.{BeginsAt, RefusesAt, StepsAt};
+ghost use Rattle.sf_pool.specs.OnCores.{BeginsAt, RefusesAt, StepsAt, stepped_to};
 ghost use Rattle.sf_pool.specs.Desks.{Place, New, Resting, UnderWay, Gone, IsResting, IsUnderWay, IsAnswered, IsLast, Counts, Steps, kept_calls};
 
 use crate::desk::Told;
@@ -169,7 +169,7 @@ impl Stay {
         ensures told { Steps self.old result.told self.new }
         ensures session { self.new.session ≡ self.old.session }
         ensures steps { (h : List Record) → IsHistory core.old h
-            → StepsAt self.old core.old h result self.new core.new }
+            → StepsAt self.old core.old h (stepped_to result self.new core.new) }
     {
         let _history = core.history();
         let Some(lane) = &mut self.lane else {

@@ -9,7 +9,7 @@ use Rattle.sf_request.specs.declared.request.WireRequest.TheVariants as request
 use Rattle.sf_request.specs.declared.request.Asked.{Asked}
 use Rattle.sf_request.specs.declared.request.Asked.TheVariants.{Init, Request, BadFields, Unknown, NoVersion, NoId}
 use Rattle.sf_field.specs.Fields.{be32}
-use Rattle.sf_request.specs.Requests.{kind_of, is_request, posix_rename, SpellsFields, HasId, HasOtherName, IsUnknown, BeginsInit, Asks}
+use Rattle.sf_request.specs.Requests.{kind_of, is_request, posix_rename, SpellsFields, HasId, HasOtherName, IsUnknown, Asks}
 use Rattle.sf_field.specs.Reading.{number_at, string_at}
 use Rattle.sf_request.specs.Reading.{other_name, is_unknown, request_at, asked_by, asked_under, asked_of}
 use Rattle.sf_field.proofs.Laws.{IsBytes, IsBytes-rest, reads_u32, reads_string, number_none, number_short}

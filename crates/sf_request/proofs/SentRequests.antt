@@ -1,8 +1,6 @@
 -- The spelling that is sent is in the grammar.
-use Rattle.std.proofs.Common.{◌≡◌, ℕ, ◌<◌, ◌^◌, List, [], ◌∷◌, ◌++◌, length, refl, append_assoc, append-nil, ap, sym, lit<}
-use Rattle.sf_field.specs.declared.attrs.Attrs.{Attrs}
+use Rattle.std.proofs.Common.{ℕ, ◌<◌, ◌^◌, List, [], ◌∷◌, ◌++◌, refl, append_assoc, append-nil, ap, sym, lit<}
 use Rattle.sf_field.specs.declared.open_flags.OpenFlags.{OpenFlags}
-use Rattle.sf_field.specs.Attributes.{AttrsFit, attrs_text}
 use Rattle.sf_field.specs.Fields.{be32, be64, string}
 use Rattle.sf_field.specs.OpenFlags.{bits_of}
 use Rattle.sf_field.proofs.Laws.{sent_is_spelled}
@@ -10,7 +8,7 @@ use Rattle.sf_field.proofs.Laws.{bits_say}
 use Rattle.sf_request.specs.declared.request.WireRequest.{WireRequest}
 use Rattle.sf_request.specs.declared.request.WireRequest.TheVariants as request
 use Rattle.sf_request.specs.declared.request.Asked.TheVariants.{Init, Request}
-use Rattle.sf_request.specs.Requests.{IsU32, IsU64, IsString, IsAttrs, IsFlags, ◌⨾◌, SpellsFields, HasId, Asks, kind_of, posix_rename, fields_text, request_body, init_body, IsShort, RequestFits}
+use Rattle.sf_request.specs.Requests.{IsU32, IsU64, IsString, IsFlags, ◌⨾◌, SpellsFields, Asks, kind_of, posix_rename, fields_text, request_body, init_body, IsShort, RequestFits}
 
 a_string : (s : List ℕ) → IsShort s → IsString s (string s)
 a_string s short = record { short = short; is = refl }

@@ -15,7 +15,7 @@ use Rattle.sf_engine.specs.Views.{EngineView}
 use Rattle.sf_engine.specs.Fits.{Fits, IsSentBy}
 use Rattle.sf_serving.specs.Ends.{IsEnd, IsWhole}
 use Rattle.sf_serving.specs.Serving.{Scene, IsEntryOf, IsFront, Progress, Served, ServesLine}
-use Rattle.sf_serving.specs.Alone.{answers_alone, moments_begun, HadMemory, EndsAlone, ServesAlone}
+use Rattle.sf_serving.specs.Alone.{answers_alone, moments_begun, HadMemory, EndsAlone, ServesAlone, supply}
 use Rattle.sf_serving.proofs.OneStream.{after_false, Reads, one_reading}
 use Rattle.sf_serving.proofs.Reaching.{one_session, answered_alone}
 
@@ -61,7 +61,7 @@ reads_of t input cause whole front all =
 -- ---- two traces
 
 pub two_whole : (input moments : List ℕ) → AreBytes input → (trace trace' : List Entry) (w w' : World) (t t' : Told) (cause cause' : Cause)
-    → EndsAlone trace w t input moments cause → EndsAlone trace' w' t' input moments cause' → (t.bodies ≡ t'.bodies) × (t.answers ≡ t'.answers) × (cause ≡ cause')
+    → EndsAlone trace w t (supply input moments) cause → EndsAlone trace' w' t' (supply input moments) cause' → (t.bodies ≡ t'.bodies) × (t.answers ≡ t'.answers) × (cause ≡ cause')
 two_whole input moments are trace trace' w w' t t' cause cause' a b =
     let one = one_reading false input t.bodies t'.bodies t.answers t'.answers cause cause' are (reads_of t input cause a.whole a.fed a.all) (reads_of t' input cause' b.whole b.fed b.all) in
     let begun : moments_begun trace ≡ moments_begun trace' = a.begun ∙ sym b.begun in (
@@ -84,7 +84,7 @@ sent_of e trace fits t output is sent =
     subst (λ (z : Told). transcript z.answers ≡ z.sent ++ output) same u.2
 
 pub two_outputs : (input moments : List ℕ) → AreBytes input → (trace trace' : List Entry) (e e' : EngineView) (fits : Fits e trace) (fits' : Fits e' trace') (t t' : Told) (cause cause' : Cause)
-    → EndsAlone trace fits.world t input moments cause → EndsAlone trace' fits'.world t' input moments cause' → (a b : List ℕ) → IsSentBy e 1 a → IsSentBy e' 1 b → t.sent ++ a ≡ t'.sent ++ b
+    → EndsAlone trace fits.world t (supply input moments) cause → EndsAlone trace' fits'.world t' (supply input moments) cause' → (a b : List ℕ) → IsSentBy e 1 a → IsSentBy e' 1 b → t.sent ++ a ≡ t'.sent ++ b
 two_outputs input moments are trace trace' e e' fits fits' t t' cause cause' x y a b sent sent' =
     let same = (two_whole input moments are trace trace' fits.world fits'.world t t' cause cause' x y).1 in
     sym (sent_of e trace fits t a x.tells.is_session sent) ∙ ap transcript same ∙ sent_of e' trace' fits' t' b y.tells.is_session sent'
@@ -105,7 +105,7 @@ read_all now input stream left e is at =
     let none : left ≡ [] = subst (λ (o : Option (List ℕ)). IsAtEnd o) e at in sym (is ∙ ap (λ (b : List ℕ). stream ++ b) none ∙ append-nil stream)
 
 -- a serving is a trace of one session alone
-ends_of : (start now : Scene) (input moments : List ℕ) (cause : Cause) (p : Progress) (a : ServesAlone start now input moments cause p) → EndsAlone a.served.entries a.served.fit.world p.told input moments cause
+ends_of : (start now : Scene) (input moments : List ℕ) (cause : Cause) (p : Progress) (a : ServesAlone start now (supply input moments) cause p) → EndsAlone a.served.entries a.served.fit.world p.told (supply input moments) cause
 ends_of start now input moments cause p a =
     let s = a.served in
     let first : p.session ≡ 1 = (one_session s.entries s.fit.world p.session p.told s.fit.tells s.fit.legal s.own s.is_session a.memory).0 in
@@ -132,7 +132,7 @@ appended out now before written e h = given now (subst (λ (o : Option (List ℕ
     given (Some all) k = ap (λ (b : List ℕ). Some b) k
 
 pub two_servings : (input moments : List ℕ) → AreBytes input → (start now start' now' : Scene) (p p' : Progress) (cause cause' : Cause)
-    → ServesAlone start now input moments cause p → ServesAlone start' now' input moments cause' p' → (p.written ≡ p'.written) × (cause ≡ cause')
+    → ServesAlone start now (supply input moments) cause p → ServesAlone start' now' (supply input moments) cause' p' → (p.written ≡ p'.written) × (cause ≡ cause')
     × ((before : List ℕ) → start.outgoing ≡ Some before → start'.outgoing ≡ Some before → now.outgoing ≡ now'.outgoing)
 two_servings input moments are start now start' now' p p' cause cause' a b =
     let same = two_whole input moments are a.served.entries b.served.entries a.served.fit.world b.served.fit.world p.told p'.told cause cause'
@@ -148,7 +148,7 @@ two_servings input moments are start now start' now' p p' cause cause' a b =
 
 -- what a new engine serves is a session alone
 pub line_alone : (start now : Scene) (input : List ℕ) (cause : Cause) (fits : Fits start.engine []) → start.incoming ≡ Some input → ServesLine start now cause
-    → (p : Progress) × (served : Served start now [] fits p) × (HadMemory served.entries p.told → ServesAlone start now input (moments_begun served.entries) cause p)
+    → (p : Progress) × (served : Served start now [] fits p) × (HadMemory served.entries p.told → ServesAlone start now (supply input (moments_begun served.entries)) cause p)
 line_alone start now input cause fits e serves =
     let s = serves [] fits in (
       s.0,

@@ -11,7 +11,7 @@ use Rattle.sf_call.specs.declared.record.Record.{Record}
 use Rattle.sf_call.specs.declared.record.Record.TheVariants.{Did, Left}
 use Rattle.sf_call.specs.Tree.{Tree}
 use Rattle.sf_call.specs.Calls.{apply}
-use Rattle.sf_call.specs.Histories.{after, replay, IsAmong, IsLegal, IsLegalAfter, MayFollow, CallMayFollow}
+use Rattle.sf_call.specs.Histories.{after, replay, IsAmong, IsLegal, IsLegalAfter, MayFollow}
 use Rattle.sf_call.proofs.Laws.{replay-push, after_told}
 use Rattle.sf_session.specs.declared.asking.Ask.{Ask}
 use Rattle.sf_session.specs.declared.asking.Ask.TheVariants as ask
@@ -228,7 +228,7 @@ own_alone h added begun moves t id n m q given k (inr d) =
 -- its reply is the tree's
 own_reply : (h rest : List Record) (n m : ℕ) (q : Request) (given : Reply) → IsLegal (h ++ Did n 1 m q given ∷ rest) → given ≢ reply.NoMemory → given ≡ (apply (replay h) 1 n m q).reply
 own_reply h rest n m q given legal had =
-    let may : CallMayFollow h n 1 m q given = next_legal h rest (Did n 1 m q given) legal in elim may.answered [ inl e ↦ e | inr e ↦ absurd (had e) ]
+    let may : MayFollow h (Did n 1 m q given) = next_legal h rest (Did n 1 m q given) legal in elim may.answered [ inl e ↦ e | inr e ↦ absurd (had e) ]
 
 own_tree : (h : List Record) (n m : ℕ) (q : Request) (given : Reply) → given ≡ (apply (replay h) 1 n m q).reply → replay (h ++ Did n 1 m q given ∷ []) ≡ (apply (replay h) 1 n m q).tree
 own_tree h n m q given e =

@@ -269,7 +269,7 @@ goes_busy s happened.Sent p goes to = absurd cc
 
 -- so many turns that go on, and a last one: the clock told no moment after the first one's
 pub many_serve : (n : ℕ) (start : Scene) (incoming outgoing : Option (List ℕ)) (calls : Option (List LineCall)) (told told' : Option (List ℕ)) (e e' : EngineView) (s m : ℕ) (begin : Bool) (moments : List ℕ) (r : Result Happened EngineFault)
-    → Serves start (scene incoming outgoing calls told e) (HasTurnBy s begin) → HasTurns n e s m r e' → Appends told told' moments → (moments ≡ m ∷ []) ⊎ ((moments ≡ []) × (begin ≡ false))
+    → Serves start (scene incoming outgoing calls told e) (HasTurnBy s begin) → HasTurns n e (event.Turn s m) r e' → Appends told told' moments → (moments ≡ m ∷ []) ⊎ ((moments ≡ []) × (begin ≡ false))
     → Serves start (scene incoming outgoing calls told' e') (HasTurned s r)
 unfolding HasTurns
 many_serve zero start incoming outgoing calls told told' e e' s m begin moments r serves turns clock timely =

@@ -84,26 +84,32 @@ pub record TellsAlone (trace : List Entry) (w : World) (t : Told) : Type 0 where
   pub is_session : IsSession w 1 t
   pub memory : HadMemory trace t
 
+-- what a session is given: its bytes, and the moments at which its calls began
+pub record Supply : Type 0 where
+  pub input : List ℕ
+  pub moments : List ℕ
+
+abbrev pub supply : List ℕ → List ℕ → Supply
+supply input moments = record { input = input; moments = moments }
+
 -- Of the input so much was fed that the session has left for this cause: all of it where the session was closed. Its calls began at
 -- these moments.
-pub record EndsAlone (trace : List Entry) (w : World) (t : Told) (input moments : List ℕ)
-    (cause : Cause) : Type 0 where
+pub record EndsAlone (trace : List Entry) (w : World) (t : Told) (s : Supply) (cause : Cause) : Type 0 where
   pub tells : TellsAlone trace w t
-  pub begun : moments_begun trace ≡ moments
+  pub begun : moments_begun trace ≡ s.moments
   pub whole : IsWhole t cause
-  pub fed : IsFront t.stream input
-  pub all : cause ≡ Closed → t.stream ≡ input
+  pub fed : IsFront t.stream s.input
+  pub all : cause ≡ Closed → t.stream ≡ s.input
 
 -- A new engine served a line whose bytes are this input, and nothing else, until the session left for this cause. Its calls began at
 -- these moments, and memory was never wanting for them.
-pub record ServesAlone (start now : Scene) (input moments : List ℕ) (cause : Cause)
-    (p : Progress) : Type 0 where
+pub record ServesAlone (start now : Scene) (s : Supply) (cause : Cause) (p : Progress) : Type 0 where
   pub fits : Fits start.engine []
   pub served : Served start now [] fits p
-  pub incoming : start.incoming ≡ Some input
+  pub incoming : start.incoming ≡ Some s.input
   pub fed : p.unfed ≡ []
   pub whole : IsWhole p.told cause
   pub all_sent : HasSentAll p
   pub at_end : cause ≡ Closed → IsAtEnd now.incoming
-  pub begun : moments_begun served.entries ≡ moments
+  pub begun : moments_begun served.entries ≡ s.moments
   pub memory : HadMemory served.entries p.told

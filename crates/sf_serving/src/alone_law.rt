@@ -7,7 +7,7 @@ ghost use Rattle.sf_engine.specs.Worlds.{Entry, Told, World, asked_by};
 ghost use Rattle.sf_engine.specs.Views.{EngineView};
 ghost use Rattle.sf_engine.specs.Fits.{Fits, IsSentBy};
 ghost use Rattle.sf_serving.specs.Serving.{Scene, Progress, Served, ServesLine};
-ghost use Rattle.sf_serving.specs.Alone.{answers_alone, moments_begun, HadMemory, TellsAlone, EndsAlone, ServesAlone};
+ghost use Rattle.sf_serving.specs.Alone.{answers_alone, moments_begun, HadMemory, TellsAlone, EndsAlone, ServesAlone, supply};
 
 /// For one session alone, without want of memory, two served sessions of the same input and moments have
 /// equal output. One tree answers its calls, one after the other, however its bytes came in pieces and however
@@ -18,19 +18,19 @@ pub fn one_session_alone()
         → t.answers ≡ answers_alone (moments_begun trace) (map asked_by t.answers) }
     ensures whole { (input moments : List ℕ) → AreBytes input
         → (trace trace' : List Entry) (w w' : World) (t t' : Told) (cause cause' : Cause)
-        → EndsAlone trace w t input moments cause → EndsAlone trace' w' t' input moments cause'
+        → EndsAlone trace w t (supply input moments) cause → EndsAlone trace' w' t' (supply input moments) cause'
         → (t.bodies ≡ t'.bodies) × (t.answers ≡ t'.answers) × (cause ≡ cause') }
     ensures output { (input moments : List ℕ) → AreBytes input
         → (trace trace' : List Entry) (e e' : EngineView) (fits : Fits e trace)
         (fits' : Fits e' trace')
         → (t t' : Told) (cause cause' : Cause)
-        → EndsAlone trace fits.world t input moments cause
-        → EndsAlone trace' fits'.world t' input moments cause'
+        → EndsAlone trace fits.world t (supply input moments) cause
+        → EndsAlone trace' fits'.world t' (supply input moments) cause'
         → (a b : List ℕ) → IsSentBy e 1 a → IsSentBy e' 1 b → t.sent ++ a ≡ t'.sent ++ b }
     ensures served { (input moments : List ℕ) → AreBytes input
         → (start now start' now' : Scene) (p p' : Progress) (cause cause' : Cause)
-        → ServesAlone start now input moments cause p
-        → ServesAlone start' now' input moments cause' p'
+        → ServesAlone start now (supply input moments) cause p
+        → ServesAlone start' now' (supply input moments) cause' p'
         → (p.written ≡ p'.written) × (cause ≡ cause')
         × ((before : List ℕ) → start.outgoing ≡ Some before → start'.outgoing ≡ Some before
         → now.outgoing ≡ now'.outgoing) }
@@ -39,5 +39,5 @@ pub fn one_session_alone()
         → start.incoming ≡ Some input → ServesLine start now cause
         → (p : Progress) × (served : Served start now [] fits p)
         × (HadMemory served.entries p.told
-        → ServesAlone start now input (moments_begun served.entries) cause p) }
+        → ServesAlone start now (supply input (moments_begun served.entries)) cause p) }
 {}

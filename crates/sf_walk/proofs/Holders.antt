@@ -7,7 +7,7 @@ use Rattle.sf_inode.specs.declared.node.Node.{Node}
 use Rattle.sf_inode.specs.declared.handle.OpenHandle.{OpenHandle}
 use Rattle.sf_inode.specs.declared.handle.Marks.{Marks}
 use Rattle.sf_inode.specs.Nodes.{less_content, more_content, with_content, with_bytes, with_opened, without_name, is_unused}
-use Rattle.sf_inode.specs.Stores.{StoreState, node_in, entry_of, edited_by, edited, bytes_set, entry_taken, entry_put, moved_entry, relinked_from, relinked, with_nodes, released_if, released, unlinked_from, unlinked, handles_of, handles_put, handle_put, new_handle, opened_by, opened, handle_dropped, closed_by, closed, handle_at, Inserted, spot}
+use Rattle.sf_inode.specs.Stores.{StoreState, node_in, entry_of, edited_by, edited, bytes_set, entry_taken, entry_put, moved_entry, relinked_from, relinked, with_nodes, released_if, released, unlinked_from, unlinked, handles_of, handles_put, handle_put, new_handle, opened_by, opened, handle_dropped, closed_by, closed, handle_at, Inserted, spot, new_entry}
 use Rattle.sf_walk.specs.Served.{IsAsBefore, Stays, HoldersStay, IsAlike, LookedUp, after_look_ups}
 use Rattle.sf_walk.proofs.LookUps.{looked_nodes}
 
@@ -111,7 +111,7 @@ stays_relinked {N} old s dir n to m h =
           ]
     ]
 
-pub stays_inserted : {N : Option ℕ → ℕ → Type 0} (old s new : StoreState) (dir : ℕ) (n : Name) (id : ℕ) (node : Node) → s.nodes ≡ old.nodes → Inserted s new dir n id node → N node.holder node.label → Stays N old new
+pub stays_inserted : {N : Option ℕ → ℕ → Type 0} (old s new : StoreState) (dir : ℕ) (n : Name) (id : ℕ) (node : Node) → s.nodes ≡ old.nodes → Inserted s new (new_entry dir n id) node → N node.holder node.label → Stays N old new
 stays_inserted {N} old s new dir n id node same did is_new = record {
   node = λ i m at.
       elim (nat_eq id i) as (λ b. nat_eq id i ≡ b → IsAsBefore N (node_in old.nodes i) m) [

@@ -34,7 +34,7 @@ use Rattle.sf_keeps.proofs.Laws.{keeps_opened, keeps_inserted, keeps_contents, k
 use Rattle.sf_walk.specs.Ways.{missing, way_from, last_of, found_content, found_node}
 use Rattle.sf_walk.specs.declared.finding.Located.{Located}
 use Rattle.sf_walk.specs.declared.finding.Located.TheVariants as located
-use Rattle.sf_walk.specs.Opening.{marks_of, OpenedNew}
+use Rattle.sf_walk.specs.Opening.{marks_of, OpenedNew, to_open}
 use Rattle.sf_walk.specs.Served.{IsCarriedOut, Gives, IsAlike, LookedUp, Stays, IsUnused, is_success}
 use Rattle.sf_walk.proofs.Holders.{put_nodes, stays_inserted, stays_opened}
 use Rattle.sf_walk.proofs.LookUps.{looked_nodes}
@@ -140,7 +140,7 @@ module _ (t : Tree) (session number moment : ℕ) (path : Path) (flags : OpenFla
   pub absent_served : (s mid new : StoreState) (front : Path) (dir : ℕ) (metadata : Metadata)
       → Keeps s t → IsUnused t number → number < 2 ^ 64 → path ≡ front ++ last_of path ∷ [] → walk (entry_of s.nodes) s.root front ≡ Some dir → is_directory_at s.nodes dir ≡ true → entry_of s.nodes dir (last_of path) ≡ None
       → not flags.create ≡ false → has_all_handles t session ≡ false → metadata ≡ new_metadata 0o644 moment attrs
-      → OpenedNew s mid session number dir (last_of path) (marks_of flags) (record { label = number; file_type = file_type.File; metadata = metadata }) → new ≡ edited (with_metadata (modified_at moment)) mid dir
+      → OpenedNew s mid (to_open session number dir (last_of path) (marks_of flags)) (record { label = number; file_type = file_type.File; metadata = metadata }) → new ≡ edited (with_metadata (modified_at moment)) mid dir
       → IsCarriedOut new t (open_file t session (stamp number moment) (opening path flags attrs) Absent) (reply.Handle number)
   absent_served s mid new front dir metadata k fresh fits is at d none c f asked did state =
       let n = last_of path in
@@ -192,7 +192,7 @@ cut_served s mid new t id moment label m bytes k at is state =
     (keeps_file (modified_at moment) mid (changed t (SetObject label (File m []))) id label m [] kept shown))
 
 -- ---- what opening leaves of holders
-pub stays_opened_new : {N : Option ℕ → ℕ → Type 0} (before s new : StoreState) (session number dir : ℕ) (n : Name) (marks : Marks) (made : NewNode) → s.nodes ≡ before.nodes → OpenedNew s new session number dir n marks made → N None made.label → Stays N before new
+pub stays_opened_new : {N : Option ℕ → ℕ → Type 0} (before s new : StoreState) (session number dir : ℕ) (n : Name) (marks : Marks) (made : NewNode) → s.nodes ≡ before.nodes → OpenedNew s new (to_open session number dir n marks) made → N None made.label → Stays N before new
 stays_opened_new {N} before s new session number dir n marks made same did is_new =
     subst (Stays N before) (sym did.state) (stays_opened before did.mid session number did.id marks (stays_inserted before s did.mid dir n did.id (new_node made) same did.inserted is_new))
 

@@ -20,7 +20,7 @@ use Rattle.sf_inode.specs.declared.node.Content.{Content}
 use Rattle.sf_inode.specs.declared.node.Content.TheVariants as content
 use Rattle.sf_inode.specs.Nodes.{object_in, new_content, new_node, entry_in, is_directory_content, is_bare_content, with_metadata}
 use Rattle.sf_keeps.specs.Steps.{walk}
-use Rattle.sf_inode.specs.Stores.{StoreState, Inserted, node_in, entry_of, is_directory_at, is_bare_at, shown_of, shown_node, edited, unlinked}
+use Rattle.sf_inode.specs.Stores.{StoreState, Inserted, node_in, entry_of, is_directory_at, is_bare_at, shown_of, shown_node, edited, unlinked, new_entry}
 use Rattle.sf_keeps.specs.Keeps.{Keeps}
 use Rattle.sf_keeps.proofs.Laws.{directory_found, keeps_directory, keeps_inserted, keeps_unlinked, inserted_alike, unlinked_alike}
 use Rattle.sf_walk.specs.declared.finding.Located.TheVariants as located
@@ -82,7 +82,7 @@ touches s new t u r n dir moment h at d kept same =
 -- ---- MKDIR of a missing name
 pub make_served : (old mid made new : StoreState) (t : Tree) (p : Path) (most number moment : ℕ) (attrs : Attrs) (dir id : ℕ) (it : NewNode)
     → LookedUp old mid most → Keeps old t → object_of t.objects number ≡ None → located.Missing dir ≡ way_from old.nodes old.root old.root p
-    → Inserted mid made dir (last_of p) id (new_node it) → it.label ≡ number → object_in it.metadata (new_content it.file_type) ≡ Directory (new_metadata 0o755 moment attrs)
+    → Inserted mid made (new_entry dir (last_of p) id) (new_node it) → it.label ≡ number → object_in it.metadata (new_content it.file_type) ≡ Directory (new_metadata 0o755 moment attrs)
     → new ≡ edited (with_metadata (modified_at moment)) made dir
     → IsCarriedOut new t (make_directory t (stamp number moment) p attrs (place_at t p)) (reply.Status Success)
 make_served old mid made new t p most number moment attrs dir id it looked h fresh e did label object state =
@@ -91,7 +91,7 @@ make_served old mid made new t p most number moment attrs dir id it looked h fre
     let r = f.1.0 in
     let n = f.1.1 in
     let is : p ≡ r ++ n ∷ [] = f.1.2 in
-    let put = subst (λ (m : Name). Inserted mid made dir m id (new_node it)) (ap last_of is ∙ last_is r n) did in
+    let put = subst (λ (m : Name). Inserted mid made (new_entry dir m id) (new_node it)) (ap last_of is ∙ last_is r n) did in
     let u = changed t (NewPath (r ++ n ∷ []) it.label (object_in it.metadata (new_content it.file_type))) in
     let kept : Keeps made u = keeps_inserted mid made t r dir n id it k put f.1.3 f.1.5 f.1.4 (ap (object_of t.objects) label ∙ fresh) in
     let other : dir ≢ id = λ same. (let w = shown_directory mid.nodes dir f.1.5 in let gone = ap (node_in mid.nodes) same ∙ put.fresh in let none = ap (option_map shown_node) gone in let x : ⊥ = cc (w.1.1) in x) in

@@ -13,7 +13,7 @@ use Rattle.sf_inode.specs.declared.node.Node.{Node}
 use Rattle.sf_inode.specs.declared.node.Content.{Content}
 use Rattle.sf_inode.specs.declared.node.Content.TheVariants as content
 use Rattle.sf_inode.specs.Nodes.{entry_in, is_directory_content, less_content, more_content, with_content, without_name}
-use Rattle.sf_inode.specs.Stores.{StoreState, node_in, entry_of, is_directory_at, with_nodes, edited_by, edited, entry_taken, released_if, unlinked_from, unlinked, Inserted}
+use Rattle.sf_inode.specs.Stores.{StoreState, node_in, entry_of, is_directory_at, with_nodes, edited_by, edited, entry_taken, released_if, unlinked_from, unlinked, Inserted, new_entry}
 use Rattle.sf_walk.specs.Served.{IsAlike}
 use Rattle.sf_walk.proofs.Holders.{apart, node_in-set}
 
@@ -79,7 +79,7 @@ edited_apart f s id i h = edited_node f s id i ∙ ap (λ b. cond b (option_map 
 
 module _ (old mid : StoreState) (dir : ℕ) (n : Name) (id : ℕ) (node above : Node)
     (at : node_in old.nodes dir ≡ Some above) (isdir : is_directory_content above.content ≡ true) (none : entry_in above.content n ≡ None)
-    (closed : node.opens ≡ 0) (one : node.names ≡ 1) (did : Inserted old mid dir n id node) where
+    (closed : node.opens ≡ 0) (one : node.names ≡ 1) (did : Inserted old mid (new_entry dir n id) node) where
   other : dir ≢ id
   other e = let f = did.fresh in let h = ap (node_in old.nodes) e in cc
 
@@ -122,7 +122,7 @@ module _ (old mid : StoreState) (dir : ℕ) (n : Name) (id : ℕ) (node above : 
   alike_again new state = subst (λ (s : StoreState). IsAlike old s) (sym (state ∙ gone)) (record { nodes = node_back; root = did.root; sessions = did.sessions })
 
 pub undone : (old mid new : StoreState) (dir : ℕ) (n : Name) (id : ℕ) (node : Node) → is_directory_at old.nodes dir ≡ true → entry_of old.nodes dir n ≡ None
-    → node.opens ≡ 0 → node.names ≡ 1 → Inserted old mid dir n id node → new ≡ unlinked mid dir n → IsAlike old new
+    → node.opens ≡ 0 → node.names ≡ 1 → Inserted old mid (new_entry dir n id) node → new ≡ unlinked mid dir n → IsAlike old new
 undone old mid new dir n id node d none closed one did state =
     elim (node_in old.nodes dir) as (λ o. node_in old.nodes dir ≡ o → IsAlike old new) [
       | None ↦ λ e. let off = ap (λ (o : Option Node). option_map_or (λ (it : Node). is_directory_content it.content) o false) e in absurd (let x : ⊥ = cc in x)

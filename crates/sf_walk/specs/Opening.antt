@@ -5,17 +5,29 @@ use Rattle.sf_field.specs.declared.open_flags.OpenFlags.{OpenFlags}
 use Rattle.sf_inode.specs.declared.handle.Marks.{Marks}
 use Rattle.sf_inode.specs.declared.node.NewNode.{NewNode}
 use Rattle.sf_inode.specs.Nodes.{new_node}
-use Rattle.sf_inode.specs.Stores.{StoreState, Inserted, opened}
+use Rattle.sf_inode.specs.Stores.{StoreState, Inserted, opened, new_entry}
 
 -- with neither READ nor WRITE a handle reads
 abbrev pub marks_of : OpenFlags → Marks
 marks_of flags =
     record { read = flags.read || not flags.write; write = flags.write; append = flags.append }
 
+-- what is to be opened: by which session, under which number of a handle, in which directory and under which name there,
+-- and with which marks
+pub record ToOpen : Type 0 where
+  pub session : ℕ
+  pub number : ℕ
+  pub dir : ℕ
+  pub name : Name
+  pub marks : Marks
+
+abbrev pub to_open : ℕ → ℕ → ℕ → Name → Marks → ToOpen
+to_open session number dir n marks =
+    record { session = session; number = number; dir = dir; name = n; marks = marks }
+
 -- a new node was put under a name of a directory, and a handle opens it
-pub record OpenedNew (old new : StoreState) (session number dir : ℕ) (n : Name) (marks : Marks)
-    (made : NewNode) : Type 0 where
+pub record OpenedNew (old new : StoreState) (o : ToOpen) (made : NewNode) : Type 0 where
   pub mid : StoreState
   pub id : ℕ
-  pub inserted : Inserted old mid dir n id (new_node made)
-  pub state : new ≡ opened mid session number id marks
+  pub inserted : Inserted old mid (new_entry o.dir o.name id) (new_node made)
+  pub state : new ≡ opened mid o.session o.number id o.marks

@@ -17,7 +17,7 @@ ghost use Rattle.sf_inode.specs.Stores.{StoreState, node_in, entry_of, shown_of,
 ghost use Rattle.sf_keeps.specs.Steps.{walk};
 ghost use Rattle.sf_keeps.specs.Keeps.{Keeps};
 ghost use Rattle.sf_walk.specs.Ways.{last_of, found_node, way_from};
-ghost use Rattle.sf_walk.specs.Opening.{marks_of, OpenedNew};
+ghost use Rattle.sf_walk.specs.Opening.{marks_of, OpenedNew, to_open};
 ghost use Rattle.sf_walk.specs.Served.{Gives, IsAlike, HoldersStay, NodesStay, IsUnused};
 
 use crate::finding::{Located, Slot};
@@ -241,12 +241,11 @@ fn open_new(
     requires named { 0 < length path.now }
     requires directory { is_directory_at store.old.nodes parent ≡ true }
     requires missing { entry_of store.old.nodes parent (last_of path.now) ≡ None }
-    ensures ok { OnOk result (OpenedNew store.old store.new session number parent (last_of path.now)
-        (marks_of flags) (record {
-          label = number;
-          file_type = file_type.File;
-          metadata = metadata;
-        })) }
+    ensures ok { OnOk result (OpenedNew store.old store.new (to_open session number parent (last_of path.now) (marks_of flags)) (record {
+      label = number;
+      file_type = file_type.File;
+      metadata = metadata;
+    })) }
     ensures err { OnErr result (IsAlike store.old store.new) }
     ensures look_ups { store.new.look_ups ≡ store.old.look_ups }
 {

@@ -10,7 +10,7 @@ ghost use Rattle.sf_reply.specs.declared.reply.Reply.TheVariants.{Status};
 ghost use Rattle.sf_reply.specs.declared.reply.StatusCode.TheVariants.{Success};
 ghost use Rattle.sf_inode.specs.declared.node.Node.{Node};
 ghost use Rattle.sf_inode.specs.Nodes.{new_node, object_in, with_metadata};
-ghost use Rattle.sf_inode.specs.Stores.{Inserted, node_in, is_bare_at, is_directory_at, edited, unlinked};
+ghost use Rattle.sf_inode.specs.Stores.{Inserted, node_in, is_bare_at, is_directory_at, edited, unlinked, new_entry};
 ghost use Rattle.sf_keeps.specs.Keeps.{Keeps};
 ghost use Rattle.sf_walk.specs.declared.finding.Located.TheVariants.{At};
 ghost use Rattle.sf_walk.specs.Ways.{last_of, way_from};
@@ -147,7 +147,7 @@ pub(crate) fn insert_last(
     made: NewNode,
 ) -> Result<NodeId, AllocError>
     requires { 0 < length path.now }
-    ensures ok { IfOk result (λ id. Inserted store.old store.new parent (last_of path.now) id
+    ensures ok { IfOk result (λ id. Inserted store.old store.new (new_entry parent (last_of path.now) id)
         (new_node made)) }
     ensures err { OnErr result (store.new ≡ store.old) }
 {

@@ -3,7 +3,7 @@ use Rattle.sf_session.specs.declared.session.Next.{Next}
 use Rattle.sf_session.specs.Sessions.{SessionView, NextGives}
 use Rattle.sf_pool.specs.declared.calling.Stop.{Stop}
 use Rattle.sf_pool.specs.Desks.{IsResting}
-use Rattle.sf_pool.specs.Scenes.{Scene, scene, Begins, Serves}
+use Rattle.sf_pool.specs.Scenes.{Scene, scene, Begins, Serves, line_at}
 use Rattle.sf_pool.specs.Serving.{Goes, HasSentFor}
 use Rattle.sf_serving.proofs.Laws.{if_err_at}
 use Rattle.sf_pool.proofs.Talks.{local_serves, call_serves, call_ready, call_stops, wrote_serves, more_serves, ended_serves}
@@ -13,12 +13,12 @@ use Rattle.sf_pool.proofs.serving.drain.Goals as goal
 
 pub returns-in_default-clause-stops : goal.returns-in_default-clause-stops
 returns-in_default-clause-stops g c = λ start serves.
-    let now = scene (g.L.Line.incoming c.loop.line) (g.L.Line.outgoing c.loop.line) (g.L.Line.calls c.loop.line) (g.C.Clock.told c.loop.clock) (g.D.Desk.begins c.loop.desk) (g.D.Desk.at c.loop.desk) in
+    let now = scene (line_at (g.L.Line.incoming c.loop.line) (g.L.Line.outgoing c.loop.line) (g.L.Line.calls c.loop.line)) (g.C.Clock.told c.loop.clock) (g.D.Desk.begins c.loop.desk) (g.D.Desk.at c.loop.desk) in
     sent_serves start now c.loop.session c.loop.invariant.ready.written (c.loop.invariant.serves start serves)
 
 pub returns-in-More-clause-drained : goal.returns-in-More-clause-drained
 returns-in-More-clause-drained g c = λ start serves.
-    let now = scene (g.L.Line.incoming c.loop.line) (g.L.Line.outgoing c.loop.line) (g.L.Line.calls c.loop.line) (g.C.Clock.told c.loop.clock) (g.D.Desk.begins c.loop.desk) (g.D.Desk.at c.loop.desk) in
+    let now = scene (line_at (g.L.Line.incoming c.loop.line) (g.L.Line.outgoing c.loop.line) (g.L.Line.calls c.loop.line)) (g.C.Clock.told c.loop.clock) (g.D.Desk.begins c.loop.desk) (g.D.Desk.at c.loop.desk) in
     let N : Next → Type 0 = λ n. NextGives c.loop.session n c.next.new.self in
     more_serves start now c.loop.session c.next.new.self c.loop.invariant.ready.written (subst N c.in-More.is c.in-Ok.ensures.ok) (c.loop.invariant.serves start serves)
 
@@ -32,8 +32,8 @@ pub returns-in_err-make_call-in-Call-clause-stops : goal.returns-in_err-make_cal
 returns-in_err-make_call-in-Call-clause-stops g c =
     let failed = c.in_err-make_call-in-Call.ensures in
     let N : Next → Type 0 = λ n. NextGives c.loop.session n c.next.new.self in
-    let before = scene (g.L.Line.incoming c.args.line.now) (g.L.Line.outgoing c.args.line.now) (g.L.Line.calls c.args.line.now) (g.C.Clock.told c.args.clock.now) (g.D.Desk.begins c.args.desk.now) (g.D.Desk.at c.args.desk.now) in
-    let after = scene (g.L.Line.incoming c.loop.line) (g.L.Line.outgoing c.loop.line) (g.L.Line.calls c.loop.line) (g.C.Clock.told c.make_call.new.clock) (g.D.Desk.begins c.make_call.new.desk) (g.D.Desk.at c.make_call.new.desk) in
+    let before = scene (line_at (g.L.Line.incoming c.args.line.now) (g.L.Line.outgoing c.args.line.now) (g.L.Line.calls c.args.line.now)) (g.C.Clock.told c.args.clock.now) (g.D.Desk.begins c.args.desk.now) (g.D.Desk.at c.args.desk.now) in
+    let after = scene (line_at (g.L.Line.incoming c.loop.line) (g.L.Line.outgoing c.loop.line) (g.L.Line.calls c.loop.line)) (g.C.Clock.told c.make_call.new.clock) (g.D.Desk.begins c.make_call.new.desk) (g.D.Desk.at c.make_call.new.desk) in
     let Stops : Stop → Type 0 = λ why. (start : Scene) → Serves start before (Goes c.args.session.now) → Serves start after (HasSentFor why) in
     if_err_at c.from_residual.result c.in_err-make_call-in-Call.field-0.0 Stops c.from_residual.ensures.1
     (λ start serves.
@@ -44,8 +44,8 @@ pub returns-in_err-send-clause-stops : goal.returns-in_err-send-clause-stops
 returns-in_err-send-clause-stops g c =
     let sent = c.in_err-send.ensures in
     let N : Next → Type 0 = λ n. NextGives c.loop.session n c.next.new.self in
-    let first = scene (g.L.Line.incoming c.args.line.now) (g.L.Line.outgoing c.args.line.now) (g.L.Line.calls c.args.line.now) (g.C.Clock.told c.args.clock.now) (g.D.Desk.begins c.args.desk.now) (g.D.Desk.at c.args.desk.now) in
-    let now = scene (g.L.Line.incoming c.send.new.line) (g.L.Line.outgoing c.send.new.line) (g.L.Line.calls c.send.new.line) (g.C.Clock.told c.match-next-2.clock) (g.D.Desk.begins c.match-next-2.desk) (g.D.Desk.at c.match-next-2.desk) in
+    let first = scene (line_at (g.L.Line.incoming c.args.line.now) (g.L.Line.outgoing c.args.line.now) (g.L.Line.calls c.args.line.now)) (g.C.Clock.told c.args.clock.now) (g.D.Desk.begins c.args.desk.now) (g.D.Desk.at c.args.desk.now) in
+    let now = scene (line_at (g.L.Line.incoming c.send.new.line) (g.L.Line.outgoing c.send.new.line) (g.L.Line.calls c.send.new.line)) (g.C.Clock.told c.match-next-2.clock) (g.D.Desk.begins c.match-next-2.desk) (g.D.Desk.at c.match-next-2.desk) in
     let Stops : Stop → Type 0 = λ why. (start : Scene) → Serves start first (Goes c.args.session.now) → Serves start now (HasSentFor why) in
     if_err_at c.from_residual-in_err-send.result c.in_err-send.field-0.0 Stops c.from_residual-in_err-send.ensures.1
     (λ start serves.
@@ -53,18 +53,18 @@ returns-in_err-send-clause-stops g c =
     let o = g.L.Line.outgoing c.loop.line in
     let l = g.L.Line.calls c.loop.line in
     let before = c.loop.invariant.serves start serves in
-    let goes : Serves start (scene i o l (g.C.Clock.told c.match-next-2.clock) (g.D.Desk.begins c.match-next-2.desk) (g.D.Desk.at c.match-next-2.desk)) (Goes c.match-next-2.session) =
+    let goes : Serves start (scene (line_at i o l) (g.C.Clock.told c.match-next-2.clock) (g.D.Desk.begins c.match-next-2.desk) (g.D.Desk.at c.match-next-2.desk)) (Goes c.match-next-2.session) =
     elim c.match-next-2.branch [
       | in-Local w ↦
-          subst (λ d. Serves start (scene i o l (g.C.Clock.told c.match-next-2.clock) (g.D.Desk.begins d) (g.D.Desk.at d)) (Goes c.match-next-2.session)) (sym w.desk-is)
-          (subst (λ k. Serves start (scene i o l (g.C.Clock.told k) (g.D.Desk.begins c.loop.desk) (g.D.Desk.at c.loop.desk)) (Goes c.match-next-2.session)) (sym w.clock-is)
-          (subst (λ (s : SessionView). Serves start (scene i o l (g.C.Clock.told c.loop.clock) (g.D.Desk.begins c.loop.desk) (g.D.Desk.at c.loop.desk)) (Goes s)) (sym w.session-is)
+          subst (λ d. Serves start (scene (line_at i o l) (g.C.Clock.told c.match-next-2.clock) (g.D.Desk.begins d) (g.D.Desk.at d)) (Goes c.match-next-2.session)) (sym w.desk-is)
+          (subst (λ k. Serves start (scene (line_at i o l) (g.C.Clock.told k) (g.D.Desk.begins c.loop.desk) (g.D.Desk.at c.loop.desk)) (Goes c.match-next-2.session)) (sym w.clock-is)
+          (subst (λ (s : SessionView). Serves start (scene (line_at i o l) (g.C.Clock.told c.loop.clock) (g.D.Desk.begins c.loop.desk) (g.D.Desk.at c.loop.desk)) (Goes s)) (sym w.session-is)
           (local_serves start i o l (g.C.Clock.told c.loop.clock) (g.D.Desk.begins c.loop.desk) (g.D.Desk.at c.loop.desk) c.loop.session c.next.new.self (subst N w.in-Local.is c.in-Ok.ensures.ok) before)))
       | in-Call+in_ok-make_call-in-Call w ↦
           let made = w.in_ok-make_call-in-Call.ensures in
-          subst (λ d. Serves start (scene i o l (g.C.Clock.told c.match-next-2.clock) (g.D.Desk.begins d) (g.D.Desk.at d)) (Goes c.match-next-2.session)) (sym w.desk-is)
-          (subst (λ k. Serves start (scene i o l (g.C.Clock.told k) (g.D.Desk.begins w.make_call.new.desk) (g.D.Desk.at w.make_call.new.desk)) (Goes c.match-next-2.session)) (sym w.clock-is)
-          (subst (λ (s : SessionView). Serves start (scene i o l (g.C.Clock.told w.make_call.new.clock) (g.D.Desk.begins w.make_call.new.desk) (g.D.Desk.at w.make_call.new.desk)) (Goes s)) (sym w.session-is)
+          subst (λ d. Serves start (scene (line_at i o l) (g.C.Clock.told c.match-next-2.clock) (g.D.Desk.begins d) (g.D.Desk.at d)) (Goes c.match-next-2.session)) (sym w.desk-is)
+          (subst (λ k. Serves start (scene (line_at i o l) (g.C.Clock.told k) (g.D.Desk.begins w.make_call.new.desk) (g.D.Desk.at w.make_call.new.desk)) (Goes c.match-next-2.session)) (sym w.clock-is)
+          (subst (λ (s : SessionView). Serves start (scene (line_at i o l) (g.C.Clock.told w.make_call.new.clock) (g.D.Desk.begins w.make_call.new.desk) (g.D.Desk.at w.make_call.new.desk)) (Goes s)) (sym w.session-is)
           (call_serves start i o l (g.C.Clock.told c.loop.clock) (g.C.Clock.told w.make_call.new.clock) (g.D.Desk.begins c.loop.desk) (g.D.Desk.begins w.make_call.new.desk) (g.D.Desk.at c.loop.desk) (g.D.Desk.at w.make_call.new.desk) c.loop.session c.next.new.self w.make_call.new.session
           w.in-Call.request (subst N w.in-Call.is c.in-Ok.ensures.ok) made.made before)))
     ] in
@@ -95,18 +95,18 @@ loop-preserved g c =
           let o = g.L.Line.outgoing c.loop.line in
           let l = g.L.Line.calls c.loop.line in
           let before = c.loop.invariant.serves start serves in
-          let goes : Serves start (scene i o l (g.C.Clock.told c.match-next-2.clock) (g.D.Desk.begins c.match-next-2.desk) (g.D.Desk.at c.match-next-2.desk)) (Goes c.match-next-2.session) =
+          let goes : Serves start (scene (line_at i o l) (g.C.Clock.told c.match-next-2.clock) (g.D.Desk.begins c.match-next-2.desk) (g.D.Desk.at c.match-next-2.desk)) (Goes c.match-next-2.session) =
           elim c.match-next-2.branch [
             | in-Local w ↦
-                subst (λ d. Serves start (scene i o l (g.C.Clock.told c.match-next-2.clock) (g.D.Desk.begins d) (g.D.Desk.at d)) (Goes c.match-next-2.session)) (sym w.desk-is)
-                (subst (λ k. Serves start (scene i o l (g.C.Clock.told k) (g.D.Desk.begins c.loop.desk) (g.D.Desk.at c.loop.desk)) (Goes c.match-next-2.session)) (sym w.clock-is)
-                (subst (λ (s : SessionView). Serves start (scene i o l (g.C.Clock.told c.loop.clock) (g.D.Desk.begins c.loop.desk) (g.D.Desk.at c.loop.desk)) (Goes s)) (sym w.session-is)
+                subst (λ d. Serves start (scene (line_at i o l) (g.C.Clock.told c.match-next-2.clock) (g.D.Desk.begins d) (g.D.Desk.at d)) (Goes c.match-next-2.session)) (sym w.desk-is)
+                (subst (λ k. Serves start (scene (line_at i o l) (g.C.Clock.told k) (g.D.Desk.begins c.loop.desk) (g.D.Desk.at c.loop.desk)) (Goes c.match-next-2.session)) (sym w.clock-is)
+                (subst (λ (s : SessionView). Serves start (scene (line_at i o l) (g.C.Clock.told c.loop.clock) (g.D.Desk.begins c.loop.desk) (g.D.Desk.at c.loop.desk)) (Goes s)) (sym w.session-is)
                 (local_serves start i o l (g.C.Clock.told c.loop.clock) (g.D.Desk.begins c.loop.desk) (g.D.Desk.at c.loop.desk) c.loop.session c.next.new.self (subst N w.in-Local.is c.in-Ok.ensures.ok) before)))
             | in-Call+in_ok-make_call-in-Call w ↦
                 let made = w.in_ok-make_call-in-Call.ensures in
-                subst (λ d. Serves start (scene i o l (g.C.Clock.told c.match-next-2.clock) (g.D.Desk.begins d) (g.D.Desk.at d)) (Goes c.match-next-2.session)) (sym w.desk-is)
-                (subst (λ k. Serves start (scene i o l (g.C.Clock.told k) (g.D.Desk.begins w.make_call.new.desk) (g.D.Desk.at w.make_call.new.desk)) (Goes c.match-next-2.session)) (sym w.clock-is)
-                (subst (λ (s : SessionView). Serves start (scene i o l (g.C.Clock.told w.make_call.new.clock) (g.D.Desk.begins w.make_call.new.desk) (g.D.Desk.at w.make_call.new.desk)) (Goes s)) (sym w.session-is)
+                subst (λ d. Serves start (scene (line_at i o l) (g.C.Clock.told c.match-next-2.clock) (g.D.Desk.begins d) (g.D.Desk.at d)) (Goes c.match-next-2.session)) (sym w.desk-is)
+                (subst (λ k. Serves start (scene (line_at i o l) (g.C.Clock.told k) (g.D.Desk.begins w.make_call.new.desk) (g.D.Desk.at w.make_call.new.desk)) (Goes c.match-next-2.session)) (sym w.clock-is)
+                (subst (λ (s : SessionView). Serves start (scene (line_at i o l) (g.C.Clock.told w.make_call.new.clock) (g.D.Desk.begins w.make_call.new.desk) (g.D.Desk.at w.make_call.new.desk)) (Goes s)) (sym w.session-is)
                 (call_serves start i o l (g.C.Clock.told c.loop.clock) (g.C.Clock.told w.make_call.new.clock) (g.D.Desk.begins c.loop.desk) (g.D.Desk.begins w.make_call.new.desk) (g.D.Desk.at c.loop.desk) (g.D.Desk.at w.make_call.new.desk) c.loop.session c.next.new.self w.make_call.new.session
                 w.in-Call.request (subst N w.in-Call.is c.in-Ok.ensures.ok) made.made before)))
           ] in
@@ -122,5 +122,5 @@ loop-preserved g c =
 
 pub returns-clause-stops : goal.returns-clause-stops
 returns-clause-stops g c = λ start serves.
-    let now = scene (g.L.Line.incoming c.loop.line) (g.L.Line.outgoing c.loop.line) (g.L.Line.calls c.loop.line) (g.C.Clock.told c.loop.clock) (g.D.Desk.begins c.loop.desk) (g.D.Desk.at c.loop.desk) in
+    let now = scene (line_at (g.L.Line.incoming c.loop.line) (g.L.Line.outgoing c.loop.line) (g.L.Line.calls c.loop.line)) (g.C.Clock.told c.loop.clock) (g.D.Desk.begins c.loop.desk) (g.D.Desk.at c.loop.desk) in
     sent_serves start now c.loop.session c.loop.invariant.ready.written (c.loop.invariant.serves start serves)

@@ -1,11 +1,11 @@
 use Rattle.std.proofs.Common.{◌≡◌, ◌≤◌, length}
-use Rattle.sf_pool.specs.Serving.{SendsPart}
+use Rattle.sf_pool.specs.Serving.{SendsPart, writing}
 use Rattle.sf_pool.proofs.serving.send.Given as goal
 
 -- some of what waited was written
 abbrev pub invariant-loop-line : goal.invariant-loop-line
 invariant-loop-line g l = record {
-  part : SendsPart (g.L.Line.outgoing l.initial.line) (g.L.Line.outgoing l.line) (g.L.Line.calls l.initial.line) (g.L.Line.calls l.line) l.initial.session l.session;
+  part : SendsPart (writing (g.L.Line.outgoing l.initial.line) (g.L.Line.calls l.initial.line)) (writing (g.L.Line.outgoing l.line) (g.L.Line.calls l.line)) l.initial.session l.session;
   incoming : g.L.Line.incoming l.line ≡ g.L.Line.incoming l.initial.line;
   failures : g.L.Line.failed l.initial.line ≤ g.L.Line.failed l.line;
 }

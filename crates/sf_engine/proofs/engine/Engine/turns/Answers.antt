@@ -43,7 +43,7 @@ returns c =
     let was : slice_get i.seats.items at ≡ Some c.index_mut.result.now =
     slice_get_read i.seats.items (length i.seats.items) at c.index_mut.result.now refl (omega (arith, c.in-Some.ensures.some.1, c.len.ensures, i.seats.ok.0)) c.index_mut.ensures.value in
     let new : EngineView = engine c.turns_seat.new.core (slice_set i.seats.items at c.turns_seat.new.seat) in
-    let P : EngineView → Type 0 = λ e. (n : ℕ) × HasTurns n e c.args.session c.args.moment c.turns_seat.result new × (goes_on_at c.turns_seat.result ≡ true → 2 ^ 64 - 2 ≤ n) in
+    let P : EngineView → Type 0 = λ e. (n : ℕ) × HasTurns n e (event.Turn c.args.session c.args.moment) c.turns_seat.result new × (goes_on_at c.turns_seat.result ≡ true → 2 ^ 64 - 2 ≤ n) in
     let k = c.turns_seat.ensures.turns in
     let has = seat_turns i.core c.turns_seat.new.core i.seats.items at c.args.session c.args.moment c.index_mut.result.now c.turns_seat.new.seat c.turns_seat.result c.in-Some.ensures.some.0 was k c.turns_seat.ensures.closed in
     subst P c.self.view_is (k.turns, has.0, k.far)

@@ -1,5 +1,5 @@
 use Rattle.sf_path.proofs.Again.{norm-text_of, fault_of-text_of}
-use Rattle.sf_path.proofs.laws.normal_text_again.Goals as goal
+use Rattle.sf_path.proofs.path_laws.normal_text_again.Goals as goal
 
 pub returns-clause-path : goal.returns-clause-path
 returns-clause-path c = norm-text_of

@@ -1,0 +1,13 @@
+-- For the crates above: what a value is since its type holds it. All other files here are private to
+-- this crate.
+use denote.Laws.{Is}
+use mathlib.Core.Path.{subst}
+use mir.Val.{Val}
+use Rattle.std.specs.Prelude.{List}
+use Rattle.sf_path.specs.Names.{IsPath}
+use Rattle.sf_path.specs.declared.path.Path.{Path}
+use Rattle.sf_path.specs.contracts.path.Path.{the_row}
+
+-- the names of a path are names
+pub held_path : (path : Path) (vs : List Val) → Is the_row path vs → IsPath path
+held_path path vs is = subst IsPath is.0.1.0 is.0.1.1
