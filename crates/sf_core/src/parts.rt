@@ -356,7 +356,8 @@ fn go_on(store: &mut Store, call: &Call, stage: &mut Stage, most: u64) -> Walk
         × IsUnderWay p number store.old call.now stage.old }
     requires some { 0 < most }
     ensures { (p : PartsView) (number : ℕ) → IsUnderWay p number store.old call.now stage.old
-        → WalksOn p call.now.session number most (ending (outcome.Walked result) (come_to p number store.new stage.new)) }
+        → WalksOn p call.now.session number most
+        (ending (outcome.Walked result) (come_to p number store.new stage.new)) }
 {
     let mut walk = step(store, call, stage);
     for _ in 1..most {

@@ -137,8 +137,8 @@ GoesOnTrace old event result new = (trace : List Entry) → (fits : Fits old tra
     × IsStep event result (passage old fits.world.records added new)
     × IsWork event (passage old fits.world.records added new)
 
--- One event, turns of a session at a moment say, once more and once more: so many times the call goes on, and a last time it came
--- to this. Refused, it changes nothing.
+-- The same event again and again, say turns of a session at one moment: so many times the call goes on by it, and then a last time,
+-- which has this result. Where the last is refused, it changes nothing.
 unfoldable pub HasTurns : ℕ → EngineView → Event → Result Happened EngineFault → EngineView → Type 0
 HasTurns zero e turn r e' = GoesOnTrace e turn r e' × OnErr r (e' ≡ e)
 HasTurns (suc n) e turn r e' = (mid : EngineView) × (h : Happened)

@@ -12,7 +12,8 @@ use std::alloc::Global;
 /// memory.
 pub fn hex_bytes(alloc: Global, text: &str) -> Result<Vec<u8>, FromHexError>
     ensures ok { IfOk result (λ bytes. Spells text.now bytes.items) }
-    ensures good { (bytes : List ℕ) → Spells text.now bytes → IsOkUnless result FromHexError.OutOfMemory }
+    ensures good { (bytes : List ℕ) → Spells text.now bytes
+        → IsOkUnless result FromHexError.OutOfMemory }
 {
     let digits: Vec<u8> = text.bytes().filter(|b| *b != b' ').collect(alloc)?;
     hex::decode(alloc, digits.as_slice())

@@ -240,7 +240,8 @@ new_entry dir n id = record { dir = dir; name = n; id = id }
 pub record Inserted (old new : StoreState) (e : NewEntry) (node : Node) : Type 0 where
   pub fresh : node_in old.nodes e.id ≡ None
   pub at : node_in new.nodes e.id ≡ Some node
-  pub others : (i : ℕ) → i ≢ e.id → node_in new.nodes i ≡ node_in (entry_put old e.dir e.name e.id).nodes i
+  pub others : (i : ℕ) → i ≢ e.id
+      → node_in new.nodes i ≡ node_in (entry_put old e.dir e.name e.id).nodes i
   pub root : new.root ≡ old.root
   pub sessions : new.sessions ≡ old.sessions
   pub look_ups : new.look_ups ≡ old.look_ups

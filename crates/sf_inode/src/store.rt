@@ -217,7 +217,8 @@ impl Store {
 
     /// Puts a new node under a new name of a directory.
     pub fn insert(&mut self, dir: NodeId, name: Name, made: NewNode) -> Result<NodeId, AllocError>
-        ensures ok { IfOk result (λ id. Inserted self.old self.new (new_entry dir name id) (new_node made)) }
+        ensures ok { IfOk result (λ id. Inserted self.old self.new (new_entry dir name id)
+            (new_node made)) }
         ensures err { OnErr result (self.new ≡ self.old) }
     {
         self.nodes.reserve(1)?;

@@ -60,7 +60,8 @@ pub fn other_nodes()
     ensures itself { (f : Node → Node) (s : StoreState) (id : ℕ)
         → node_in (edited f s id).nodes id ≡ option_map f (node_in s.nodes id) }
     ensures inserted { (old new : StoreState) (dir : ℕ) (n : Name) (id : ℕ) (node : Node) (i : ℕ)
-        → Inserted old new (new_entry dir n id) node → i ≢ id → (shown_of new.nodes i ≡ shown_of old.nodes i)
+        → Inserted old new (new_entry dir n id) node → i ≢ id
+        → (shown_of new.nodes i ≡ shown_of old.nodes i)
         × (holder_of new.nodes i ≡ holder_of old.nodes i) }
     ensures unlinked { (s : StoreState) (dir : ℕ) (n : Name) (i : ℕ)
         → entry_of s.nodes dir n ≢ Some i

@@ -24,7 +24,8 @@ ghost use Rattle.sf_call.specs.Attributes.Object.{File};
 pub fn mkdir_cases()
     ensures made { apply empty_tree 1 7 100 (Mkdir (a ∷ []) no_attrs)
         ≡ record { reply = reply.Status Success; tree = with_directory } }
-    ensures asked { apply empty_tree 1 7 100 (Mkdir (a ∷ []) (all_attrs 9 (by_owner 5 6) 0o177777 (at_times 1 2)))
+    ensures asked { apply empty_tree 1 7 100
+        (Mkdir (a ∷ []) (all_attrs 9 (by_owner 5 6) 0o177777 (at_times 1 2)))
         ≡ record {
           reply = reply.Status Success;
           tree = tree_with (Directory (metadata 5 6 0o7777 1 2));
@@ -133,9 +134,11 @@ pub fn open_cases()
         ∷ reply.Attrs (file_attrs 0) ∷ reply.Status EndOfFile ∷ [] }
     // Attributes count for a new file alone, and its size is 0.
     ensures attributes { replies (Open (f ∷ []) (flags true true false true)
-        (all_attrs 9 (by_owner 5 6) 0o177777 (at_times 1 2)) ∷ Open (f ∷ []) (flags true true false true)
+        (all_attrs 9 (by_owner 5 6) 0o177777 (at_times 1 2))
+        ∷ Open (f ∷ []) (flags true true false true)
         (all_attrs 4 (by_owner 7 8) 0o600 (at_times 3 4)) ∷ FStat 1 ∷ [])
-        ≡ reply.Handle 1 ∷ reply.Handle 2 ∷ reply.Attrs (all_attrs 0 (by_owner 5 6) 0o107777 (at_times 1 2)) ∷ [] }
+        ≡ reply.Handle 1 ∷ reply.Handle 2
+        ∷ reply.Attrs (all_attrs 0 (by_owner 5 6) 0o107777 (at_times 1 2)) ∷ [] }
     // With neither READ nor WRITE a handle reads.
     ensures no_marks { replies (new_file f ∷ Write 1 0 (codes "abc") ∷ Open (f ∷ [])
         (flags false false false false) no_attrs ∷ Read 3 0 10 ∷ Write 3 0 (codes "x") ∷ [])

@@ -241,11 +241,12 @@ fn open_new(
     requires named { 0 < length path.now }
     requires directory { is_directory_at store.old.nodes parent ≡ true }
     requires missing { entry_of store.old.nodes parent (last_of path.now) ≡ None }
-    ensures ok { OnOk result (OpenedNew store.old store.new (to_open session number parent (last_of path.now) (marks_of flags)) (record {
-      label = number;
-      file_type = file_type.File;
-      metadata = metadata;
-    })) }
+    ensures ok { OnOk result (OpenedNew store.old store.new
+        (to_open session number parent (last_of path.now) (marks_of flags)) (record {
+          label = number;
+          file_type = file_type.File;
+          metadata = metadata;
+        })) }
     ensures err { OnErr result (IsAlike store.old store.new) }
     ensures look_ups { store.new.look_ups ≡ store.old.look_ups }
 {

@@ -147,7 +147,8 @@ pub(crate) fn insert_last(
     made: NewNode,
 ) -> Result<NodeId, AllocError>
     requires { 0 < length path.now }
-    ensures ok { IfOk result (λ id. Inserted store.old store.new (new_entry parent (last_of path.now) id)
+    ensures ok { IfOk result (λ id. Inserted store.old store.new
+        (new_entry parent (last_of path.now) id)
         (new_node made)) }
     ensures err { OnErr result (store.new ≡ store.old) }
 {
