@@ -1,4 +1,8 @@
-//! Bytes from hexadecimal, for the tests of all crates.
+//! Bytes from hexadecimal, for the tests of all crates. The program uses none of it.
+//!
+//! Start with `hex_bytes`: the bytes of one text, whose spaces only group them. `hex_packets` gives those of
+//! several texts, one after the other, as a session gets packets. `specs/Digits.antt` says which bytes a text
+//! spells; a text that spells none is refused.
 #![tactic(auto)]
 
 ghost use Rattle.std.specs.Prelude.{List, ℕ, IfOk, IsOkUnless};

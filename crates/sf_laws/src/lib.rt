@@ -1,5 +1,6 @@
-//! Laws of the tree, of calls on it and of histories, which no other crate rests on: what a reader
-//! may expect of a file server, said without the cases of any request; and its cases worked out.
+//! Laws of the tree, of calls on it and of histories: what a reader may expect of a file server, said
+//! without the cases of any request; and its cases worked out. No code rests on them; of the crates above
+//! the proof of `sf_core` does, on what a request leaves alone, and so does the example of `sf_engine`.
 //!
 //! The definitions are those of `sf_call`. Each function here does nothing: its contract is the law.
 //! Start with `left_alone` and `own_changes` in `change_laws.rt` (what a request may change at all), then

@@ -1,5 +1,8 @@
 //! Two sessions on one engine, turn by turn: prints each event with what came of it, and then what
 //! each session was sent.
+//!
+//! Start with `schedule`, which has the events: the second session looks for `/a` while the first one makes
+//! it. docs/ENGINE.md explains the program, and what it prints.
 #![tactic(auto)]
 
 use sf_engine::{Engine, Event};
