@@ -38,17 +38,6 @@ fn outcome_of(reply: &Reply) -> Told {
     }
 }
 
-fn is_same(reply: &Reply, other: &Reply) -> bool {
-    match (reply, other) {
-        (Reply::Status(code), Reply::Status(other)) => code == other,
-        (Reply::Handle(number), Reply::Handle(other)) => number == other,
-        (Reply::Data(bytes), Reply::Data(other)) => bytes.as_slice() == other.as_slice(),
-        (Reply::Names(listing), Reply::Names(other)) => listing.as_slice() == other.as_slice(),
-        (Reply::Attrs(attrs), Reply::Attrs(other)) => attrs == other,
-        _ => false,
-    }
-}
-
 fn made(rt: &impl Abort, alloc: Global) -> Core {
     match Core::new(alloc) {
         Ok(core) => core,

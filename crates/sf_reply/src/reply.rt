@@ -95,6 +95,28 @@ impl Model for Listing {
     ghost view = { λ l. arc_slice_items l.entries };
 }
 
+impl PartialEq for Listing {
+    ghost use Rattle.std.specs.Cmp.{partial_equiv_from_equiv};
+    ghost use Rattle.std.specs.Cmp.Lexicographic.{pointwise, lists_equiv};
+    ghost use Rattle.sf_reply.specs.contracts.reply.EntryPartialEq.TheImpl.{ghosts};
+    ghost use Rattle.sf_reply.specs.contracts.reply.EntryEq.TheImpl.Laws.{laws-law};
+
+    ghost eq = { pointwise ghosts.eq };
+
+    ghost laws = { partial_equiv_from_equiv (lists_equiv laws-law) };
+
+    fn eq(&self, other: &Listing) -> bool {
+        self.as_slice() == other.as_slice()
+    }
+}
+
+impl Eq for Listing {
+    ghost use Rattle.std.specs.Cmp.Lexicographic.{lists_equiv};
+    ghost use Rattle.sf_reply.specs.contracts.reply.EntryEq.TheImpl.Laws.{laws-law};
+
+    ghost laws = { lists_equiv laws-law };
+}
+
 impl Listing {
     /// Copies no name, and takes memory for the count of owners.
     pub fn from_vec(entries: Vec<Entry>) -> Result<Listing, AllocError>
@@ -134,7 +156,7 @@ impl Listing {
 }
 
 /// A reply by its fields.
-#[derive(Debug, Drop)]
+#[derive(Debug, PartialEq, Eq, Drop)]
 pub enum Reply {
     Status(StatusCode),
     /// The memory for the request's work was refused: FAILURE with a message of its own.

@@ -30,17 +30,6 @@ mod steps;
 /// A call makes fewer steps than this.
 const MANY_STEPS: usize = 32;
 
-fn is_same(reply: &Reply, other: &Reply) -> bool {
-    match (reply, other) {
-        (Reply::Status(code), Reply::Status(other)) => code == other,
-        (Reply::Handle(number), Reply::Handle(other)) => number == other,
-        (Reply::Data(bytes), Reply::Data(other)) => bytes.as_slice() == other.as_slice(),
-        (Reply::Names(listing), Reply::Names(other)) => listing.as_slice() == other.as_slice(),
-        (Reply::Attrs(attrs), Reply::Attrs(other)) => attrs == other,
-        _ => false,
-    }
-}
-
 /// How the calls on a store are made.
 #[derive(Clone, Copy)]
 enum Manner {
@@ -113,7 +102,7 @@ impl Pair {
         let plain = self.of_plain(rt, &request);
         if let Some(reply) = self.of_store(rt, request) {
             assert!(rt;
-                is_same(&plain, &reply),
+                plain == reply,
                 "call {}: {plain:?} of the slow tree, {reply:?} of the store",
                 self.number
             );

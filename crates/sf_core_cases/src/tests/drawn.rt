@@ -321,10 +321,7 @@ fn replayed(rt: &impl Abort, alloc: Global, core: &Core) -> Result<PlainTree, Fa
                 reply,
             } => {
                 let want = plain.apply(*session, *number, *moment, request)?;
-                assert!(rt;
-                    is_same(reply, &want),
-                    "call {number}: {reply:?}, not {want:?}"
-                );
+                assert!(rt; *reply == want, "call {number}: {reply:?}, not {want:?}");
             }
             Record::Left { session } => plain.leave(*session),
         }
@@ -359,10 +356,7 @@ fn tell_alike(
     lane.abandon();
     let want = plain.apply(given.session(), given.number(), 100, &request)?;
     let reply = given.reply();
-    assert!(rt;
-        is_same(reply, &want),
-        "path {text:?}: {reply:?}, not {want:?}"
-    );
+    assert!(rt; *reply == want, "path {text:?}: {reply:?}, not {want:?}");
     Ok(())
 }
 

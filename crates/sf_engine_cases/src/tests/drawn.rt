@@ -172,17 +172,6 @@ fn settle(
     panic!(rt; "no rest")
 }
 
-fn is_same(reply: &Reply, other: &Reply) -> bool {
-    match (reply, other) {
-        (Reply::Status(code), Reply::Status(other)) => code == other,
-        (Reply::Handle(number), Reply::Handle(other)) => number == other,
-        (Reply::Data(bytes), Reply::Data(other)) => bytes.as_slice() == other.as_slice(),
-        (Reply::Names(listing), Reply::Names(other)) => listing.as_slice() == other.as_slice(),
-        (Reply::Attrs(attrs), Reply::Attrs(other)) => attrs == other,
-        _ => false,
-    }
-}
-
 /// A client takes the next reply of its session's output: it is of its next request, and is what
 /// the slow tree gives.
 fn takes_reply(
@@ -202,7 +191,7 @@ fn takes_reply(
     match read_reply(alloc, body)? {
         Some((id, reply)) => {
             assert_eq!(rt; id, client.count_reply(len));
-            assert!(rt; is_same(&reply, want), "{reply:?}, not {want:?}");
+            assert!(rt; reply == *want, "{reply:?}, not {want:?}");
         }
         None => panic!(rt; "no reply's spelling"),
     }
