@@ -36,9 +36,10 @@ pub use Rattle.sf_call.proofs.Orders.{exact_names, exact_paths}
 pub use Rattle.sf_call.proofs.MovedNames.{is_equal, same_path_is, same_name_is, same_name_itself}
 -- what follows a front of a path, and the order of two paths with one front
 pub use Rattle.sf_call.proofs.MovedNames.{after_front-append, append-after_front, path_cmp-front}
--- lists of entries in the order of their keys: what is found in one, and what after an entry was put, set or removed
+-- lists of entries in the order of their keys: what is found in one, what after an entry was put, set or removed, and that
+-- they stay in order
 pub use Rattle.sf_call.proofs.Orders.{find_is}
-pub use Rattle.sf_call.proofs.Ordered.{put_is, and_first, and_second}
+pub use Rattle.sf_call.proofs.Ordered.{put_is, and_both, and_first, and_second, sorted_put, sorted_removed, sorted_set, sorted_filtered}
 pub use Rattle.sf_call.proofs.LookUps.{lookup-put, set_there, none_set, not_at, other_put, other_set, other_removed}
 -- what holds of all is kept by a choice and by a beginning, and by entries that are put, set and removed
 pub use Rattle.sf_call.proofs.FittingTrees.{all_made, all_filtered, all_removed, all_put, all_set, found_value}
@@ -52,6 +53,8 @@ pub use Rattle.sf_call.proofs.Used.{object_kept}
 -- a path that doesn't begin with another has no front that does, and no parent begins with its path
 pub use Rattle.sf_call.proofs.MovedNames.{no_front}
 pub use Rattle.sf_call.proofs.Requests.{no_parent}
+-- what holds of both
+pub use Rattle.sf_call.proofs.Requests.{both_true}
 -- what stands where a path leads, and of what kind
 pub use Rattle.sf_call.proofs.Requests.{place_label, directory_there, is_there_directory, kind_by, kind_at}
 pub use Rattle.sf_call.proofs.Founded.{is_directory_object, is_directory_label, is_directory_is}
@@ -61,6 +64,8 @@ pub use Rattle.sf_call.proofs.Founded.{kept_object}
 -- what holds of the root alone, and still holds after each call that may come and each leaving, holds after each legal
 -- history
 pub use Rattle.sf_call.proofs.Growth.{CallsKeep, holds_after}
+-- a number that is new to a history and a record behind it is new to both
+pub use Rattle.sf_call.proofs.Growth.{front_new, last_other}
 -- what a request is since its type holds it
 pub use Rattle.sf_call.proofs.Held.{held_request}
 

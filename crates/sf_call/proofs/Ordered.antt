@@ -21,7 +21,7 @@ use Rattle.sf_call.specs.Changes.Change.{SetObject, NewPath, GonePath, Move, Ope
 use Rattle.sf_call.specs.Calls.{answer_to, apply, leave}
 use Rattle.sf_call.specs.Histories.{after, after_reply, replay}
 
-and_both : (a b : Bool) → T a → T b → T (a && b)
+pub and_both : (a b : Bool) → T a → T b → T (a && b)
 and_both true b p q = q
 and_both false b p q = p
 
@@ -43,25 +43,25 @@ module _ {K X : Type 0} (R : K → K → Ordering) where
         | Greater ↦ ap (λ (rest : List (K × X)). e ∷ rest) (put_is es k v)
       ]
 
-  sorted_insert : IsTotalOrder R → (es : List (K × X)) (k : K) (v : X) → T (is_sorted R es) → T (is_sorted R (insert_entry R es k v))
-  sorted_insert o es k v h = subst (λ (fs : List (K × X)). T (is_sorted R fs)) (sym (put_is es k v)) (is_sorted-put R o k v es h)
+  pub sorted_put : IsTotalOrder R → (es : List (K × X)) (k : K) (v : X) → T (is_sorted R es) → T (is_sorted R (insert_entry R es k v))
+  sorted_put o es k v h = subst (λ (fs : List (K × X)). T (is_sorted R fs)) (sym (put_is es k v)) (is_sorted-put R o k v es h)
 
-  below_remove : (x : K) (test : K → Bool) (es : List (K × X)) → T (below_all R x es) → T (below_all R x (remove_entry test es))
-  below_remove x test [] h = tt
-  below_remove x test (e ∷ es) h =
+  below_removed : (x : K) (test : K → Bool) (es : List (K × X)) → T (below_all R x es) → T (below_all R x (remove_entry test es))
+  below_removed x test [] h = tt
+  below_removed x test (e ∷ es) h =
       elim (test e.0) as (λ b. T (below_all R x (cond b es (e ∷ remove_entry test es)))) [
         | true ↦ and_second (is_lt (R x e.0)) (below_all R x es) h
-        | false ↦ and_both (is_lt (R x e.0)) _ (and_first (is_lt (R x e.0)) (below_all R x es) h) (below_remove x test es (and_second (is_lt (R x e.0)) (below_all R x es) h))
+        | false ↦ and_both (is_lt (R x e.0)) _ (and_first (is_lt (R x e.0)) (below_all R x es) h) (below_removed x test es (and_second (is_lt (R x e.0)) (below_all R x es) h))
       ]
 
-  sorted_remove : (test : K → Bool) (es : List (K × X)) → T (is_sorted R es) → T (is_sorted R (remove_entry test es))
-  sorted_remove test [] h = tt
-  sorted_remove test (e ∷ es) h =
+  pub sorted_removed : (test : K → Bool) (es : List (K × X)) → T (is_sorted R es) → T (is_sorted R (remove_entry test es))
+  sorted_removed test [] h = tt
+  sorted_removed test (e ∷ es) h =
       let below = and_first (below_all R e.0 es) (is_sorted R es) h in
       let rest = and_second (below_all R e.0 es) (is_sorted R es) h in
       elim (test e.0) as (λ b. T (is_sorted R (cond b es (e ∷ remove_entry test es)))) [
         | true ↦ rest
-        | false ↦ and_both (below_all R e.0 (remove_entry test es)) _ (below_remove e.0 test es below) (sorted_remove test es rest)
+        | false ↦ and_both (below_all R e.0 (remove_entry test es)) _ (below_removed e.0 test es below) (sorted_removed test es rest)
       ]
 
   below_set : (x : K) (test : K → Bool) (v : X) (es : List (K × X)) → below_all R x (set_value test es v) ≡ below_all R x es
@@ -72,7 +72,7 @@ module _ {K X : Type 0} (R : K → K → Ordering) where
         | false ↦ ap (λ b. is_lt (R x e.0) && b) (below_set x test v es)
       ]
 
-  sorted_set : (test : K → Bool) (v : X) (es : List (K × X)) → T (is_sorted R es) → T (is_sorted R (set_value test es v))
+  pub sorted_set : (test : K → Bool) (v : X) (es : List (K × X)) → T (is_sorted R es) → T (is_sorted R (set_value test es v))
   sorted_set test v [] h = tt
   sorted_set test v (e ∷ es) h =
       let below = and_first (below_all R e.0 es) (is_sorted R es) h in
@@ -81,32 +81,32 @@ module _ {K X : Type 0} (R : K → K → Ordering) where
         | false ↦ and_both (below_all R e.0 (set_value test es v)) _ (subst (λ b. T b) (sym (below_set e.0 test v es)) below) (sorted_set test v es (and_second (below_all R e.0 es) (is_sorted R es) h))
       ]
 
-  below_filter : (x : K) (p : K × X → Bool) (es : List (K × X)) → T (below_all R x es) → T (below_all R x (filter p es))
-  below_filter x p [] h = tt
-  below_filter x p (e ∷ es) h =
-      let rest = below_filter x p es (and_second (is_lt (R x e.0)) (below_all R x es) h) in
+  below_filtered : (x : K) (p : K × X → Bool) (es : List (K × X)) → T (below_all R x es) → T (below_all R x (filter p es))
+  below_filtered x p [] h = tt
+  below_filtered x p (e ∷ es) h =
+      let rest = below_filtered x p es (and_second (is_lt (R x e.0)) (below_all R x es) h) in
       elim (p e) as (λ b. T (below_all R x (cond b (e ∷ filter p es) (filter p es)))) [
         | true ↦ and_both (is_lt (R x e.0)) _ (and_first (is_lt (R x e.0)) (below_all R x es) h) rest
         | false ↦ rest
       ]
 
-  sorted_filter : (p : K × X → Bool) (es : List (K × X)) → T (is_sorted R es) → T (is_sorted R (filter p es))
-  sorted_filter p [] h = tt
-  sorted_filter p (e ∷ es) h =
-      let rest = sorted_filter p es (and_second (below_all R e.0 es) (is_sorted R es) h) in
+  pub sorted_filtered : (p : K × X → Bool) (es : List (K × X)) → T (is_sorted R es) → T (is_sorted R (filter p es))
+  sorted_filtered p [] h = tt
+  sorted_filtered p (e ∷ es) h =
+      let rest = sorted_filtered p es (and_second (below_all R e.0 es) (is_sorted R es) h) in
       elim (p e) as (λ b. T (is_sorted R (cond b (e ∷ filter p es) (filter p es)))) [
-        | true ↦ and_both (below_all R e.0 (filter p es)) _ (below_filter e.0 p es (and_first (below_all R e.0 es) (is_sorted R es) h)) rest
+        | true ↦ and_both (below_all R e.0 (filter p es)) _ (below_filtered e.0 p es (and_first (below_all R e.0 es) (is_sorted R es) h)) rest
         | false ↦ rest
       ]
 
 sorted_entries : (names es : List (Path × ℕ)) → T (is_sorted path_cmp names) → T (is_sorted path_cmp (with_entries names es))
 sorted_entries names [] h = h
-sorted_entries names (e ∷ es) h = sorted_insert path_cmp path_total (with_entries names es) e.0 e.1 (sorted_entries names es h)
+sorted_entries names (e ∷ es) h = sorted_put path_cmp path_total (with_entries names es) e.0 e.1 (sorted_entries names es h)
 
 pub ordered_kept : (tree : Tree) → IsOrderedTree tree → IsOrderedTree (kept tree)
 ordered_kept tree o = record {
   names = o.names;
-  objects = sorted_filter nat_cmp (λ e. is_used tree.names tree.handles e.0) tree.objects o.objects;
+  objects = sorted_filtered nat_cmp (λ e. is_used tree.names tree.handles e.0) tree.objects o.objects;
   handles = o.handles;
 }
 
@@ -117,24 +117,24 @@ ordered_changed tree (SetObject label object) o = record {
   handles = o.handles;
 }
 ordered_changed tree (NewPath path label object) o = record {
-  names = sorted_insert path_cmp path_total tree.names path label o.names;
-  objects = sorted_insert nat_cmp nat_cmp_total tree.objects label object o.objects;
+  names = sorted_put path_cmp path_total tree.names path label o.names;
+  objects = sorted_put nat_cmp nat_cmp_total tree.objects label object o.objects;
   handles = o.handles;
 }
 ordered_changed tree (GonePath path) o = ordered_kept _ (record {
-  names = sorted_remove path_cmp (is_at (path_cmp path)) tree.names o.names;
+  names = sorted_removed path_cmp (is_at (path_cmp path)) tree.names o.names;
   objects = o.objects;
   handles = o.handles;
 })
 ordered_changed tree (Move old new) o = ordered_kept _ (record {
-  names = sorted_entries _ (filter_map (carried old new) tree.names) (sorted_filter path_cmp (λ e. is_outside old new e.0) tree.names o.names);
+  names = sorted_entries _ (filter_map (carried old new) tree.names) (sorted_filtered path_cmp (λ e. is_outside old new e.0) tree.names o.names);
   objects = o.objects;
   handles = o.handles;
 })
 ordered_changed tree (OpenHandle number handle) o = record {
   names = o.names;
   objects = o.objects;
-  handles = sorted_insert nat_cmp nat_cmp_total tree.handles number handle o.handles;
+  handles = sorted_put nat_cmp nat_cmp_total tree.handles number handle o.handles;
 }
 ordered_changed tree (SetHandle number handle) o = record {
   names = o.names;
@@ -144,7 +144,7 @@ ordered_changed tree (SetHandle number handle) o = record {
 ordered_changed tree (CloseHandle number) o = ordered_kept _ (record {
   names = o.names;
   objects = o.objects;
-  handles = sorted_remove nat_cmp (is_at (nat_cmp number)) tree.handles o.handles;
+  handles = sorted_removed nat_cmp (is_at (nat_cmp number)) tree.handles o.handles;
 })
 
 pub ordered_done : (tree : Tree) (cs : List Change) → IsOrderedTree tree → IsOrderedTree (done tree cs)
@@ -163,7 +163,7 @@ pub ordered_left : (tree : Tree) (session : ℕ) → IsOrderedTree tree → IsOr
 ordered_left tree session o = ordered_kept _ (record {
   names = o.names;
   objects = o.objects;
-  handles = sorted_filter nat_cmp (λ e. not (nat_eq e.1.session session)) tree.handles o.handles;
+  handles = sorted_filtered nat_cmp (λ e. not (nat_eq e.1.session session)) tree.handles o.handles;
 })
 
 ordered_after : (tree : Tree) (r : Record) → IsOrderedTree tree → IsOrderedTree (after tree r)

@@ -158,7 +158,7 @@ kind_at tree path label some e =
     kind_told (object_of tree.objects label) some
     ∙ ap (λ b. Some (kind_by b)) (ap (is_directory_label tree.objects) (sym e) ∙ sym (is_directory_is tree path))
 
-both_true : (a b : Bool) → a && b ≡ true → (a ≡ true) × (b ≡ true)
+pub both_true : (a b : Bool) → a && b ≡ true → (a ≡ true) × (b ≡ true)
 both_true true b t = (refl, t)
 both_true false b t = cc
 

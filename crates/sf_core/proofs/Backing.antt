@@ -55,7 +55,7 @@ same_parts p history sound = record {
   these = tt;
 }
 
-freed_looks : (g : Stage) (s : StoreState) → (freed g s).look_ups ≡ s.look_ups
+pub freed_looks : (g : Stage) (s : StoreState) → (freed g s).look_ups ≡ s.look_ups
 freed_looks stage.Fresh s = refl
 freed_looks (stage.At w node) s = refl
 freed_looks (stage.Ends common old new) s = refl

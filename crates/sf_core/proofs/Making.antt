@@ -46,7 +46,8 @@ use Rattle.sf_walk.specs.declared.walking.Walk.TheVariants as walked
 use Rattle.sf_walk.specs.Ways.{path_of, other_of, names_of, IsLocated}
 use Rattle.sf_walk.specs.Served.{LookedUp}
 use Rattle.sf_walk.specs.Steps.{Waits, LooksAt, Decides as Ends_at, LeadsNowhere, EndsAt, MayDecideAt, IsFree, IsFreeAt, IsFreeThere, AreFree, IsOnWay, IsShort, Stands}
-use Rattle.sf_core.proofs.LookUps.{looked_nodes, looks_between, looks_fit, looks_of_looked}
+use Rattle.sf_walk.proofs.Laws.{looked_nodes}
+use Rattle.sf_core.proofs.LookUps.{looks_between, looks_fit, looks_of_looked}
 use Rattle.sf_core.specs.Lanes.{LaneView}
 use Rattle.sf_core.specs.Cores.{call_at, session_at, slot_of}
 use Rattle.sf_core.specs.Progress.{reply_of, left_at, depth_at, EndsWalk, MayDecideBy, did, has_passed, overtaken}
@@ -54,7 +55,7 @@ use Rattle.sf_core.specs.Sure.{IsSure, AreSure}
 use Rattle.sf_core.specs.Events.{KeepsRecords, Goes, IsBlocked, AreRecordsOf, IsOfOther, IsHelped, Decides}
 use Rattle.sf_core.specs.Parts.{PartsView, seen}
 use Rattle.sf_core.specs.Sound.{spot_on, standing_at, standing_of, standings, CallSound, Sound, IsWritten}
-use Rattle.sf_core.specs.Stepping.{session_set, freed, Finished, Walked, Overtakes}
+use Rattle.sf_core.specs.Stepping.{session_set, Finished, Walked, Overtakes}
 use Rattle.sf_core.proofs.Coupled.{led_once}
 use Rattle.sf_core.proofs.Sounds.{some_eq, none_some, reply_is, with_store, sound_looked}
 use Rattle.sf_core.proofs.Going.{one_more, sound_took}
@@ -64,6 +65,7 @@ use Rattle.sf_core.proofs.Finishing.{sound_finished, given_now, new_to, session_
 use Rattle.sf_core.proofs.Handing.{written_put, few_deeds}
 use Rattle.sf_core.proofs.Overtaken.{all_found}
 use Rattle.sf_core.proofs.Preparing.{three_true, same_test, Prepared, prepared}
+use Rattle.sf_core.proofs.Backing.{freed_looks}
 
 -- ---- what look-ups leave
 free_node_on : (old new : StoreState) → new.nodes ≡ old.nodes → (n node : ℕ) → IsFree old n node → IsFree new n node
@@ -160,11 +162,6 @@ may_by s t keeps (Some path) None (stage.Ends cm a b) named at h = absurd h
 may_by s t keeps (Some path) (Some other) (stage.Ends cm a b) named at (inl h) =
     (at.0.part, inl (h.0, at.0.in_turn h.0, nothing_next s t keeps path a.walked a.node at.1.0 (slice_get path a.walked) refl h.0 h.1))
 may_by s t keeps (Some path) (Some other) (stage.Ends cm a b) named at (inr h) = (at.0.part, inr (h.0, at.0.new_below, ends_by s t keeps other b.walked b.node at.1.1 h.1))
-
-freed_looks : (g : Stage) (s : StoreState) → (freed g s).look_ups ≡ s.look_ups
-freed_looks stage.Fresh s = refl
-freed_looks (stage.At w node) s = refl
-freed_looks (stage.Ends common old new) s = refl
 
 goes_first : (len old new : ℕ) → old + 1 < len → (if nat_le len (old + 1) then new + 1 else old + 1) ≡ old + 1
 goes_first len old new less = elim (nat_le len (old + 1)) as (λ b. nat_le len (old + 1) ≡ b → (if b then new + 1 else old + 1) ≡ old + 1) [

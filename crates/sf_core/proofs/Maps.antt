@@ -8,8 +8,8 @@ use Rattle.std.specs.Map.{lookup, set_value, remove_entry}
 use Rattle.std.specs.BTreeMap.{is_at, insert_entry}
 use Rattle.std.specs.FinMap.{is_sorted}
 use Rattle.std.proofs.lemmas.Map.{length-set_value}
-use Rattle.sf_call.proofs.Laws.{lookup-put}
-use Rattle.sf_keeps.proofs.Laws.{lookup-set, lookup-removed, at_is, nat_at_itself, sorted_put, sorted_removed, sorted_set}
+use Rattle.sf_call.proofs.Laws.{lookup-put, sorted_put, sorted_removed, sorted_set}
+use Rattle.sf_keeps.proofs.Laws.{lookup-set, lookup-removed, at_is, nat_at_itself}
 
 pub itself : (k : ℕ) → is_at (nat_cmp k) k ≡ true
 itself k = nat_at_itself k

@@ -21,7 +21,7 @@ use Rattle.sf_coupling.proofs.Laws.{same_or_not}
 use Rattle.sf_walk.specs.Ways.{path_of, other_of}
 use Rattle.sf_walk.specs.Served.{LookedUp}
 use Rattle.sf_walk.specs.Steps.{IsShort}
-use Rattle.sf_core.proofs.LookUps.{looked_nodes, looked_root, keeps_counted}
+use Rattle.sf_walk.proofs.Laws.{looked_nodes, looked_root, keeps_counted}
 use Rattle.sf_core.specs.Cores.{call_at, session_at}
 use Rattle.sf_core.specs.Progress.{reply_of, did, undecided_in}
 use Rattle.sf_core.specs.Parts.{PartsView}

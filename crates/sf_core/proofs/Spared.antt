@@ -25,7 +25,7 @@ use Rattle.sf_path.specs.Order.{same_path, path_total}
 use Rattle.sf_inode.specs.declared.node.Node.{Node}
 use Rattle.sf_inode.specs.declared.node.Content.{Content}
 use Rattle.sf_inode.specs.declared.node.Content.TheVariants as content
-use Rattle.sf_inode.specs.Nodes.{object_in, entry_in, is_directory_content}
+use Rattle.sf_inode.specs.Nodes.{object_in, is_directory_content}
 use Rattle.sf_inode.specs.Stores.{StoreState, node_in, entry_of, holder_of, is_directory_at}
 use Rattle.sf_keeps.specs.Steps.{walk}
 use Rattle.sf_keeps.specs.Keeps.{Keeps}
@@ -37,6 +37,7 @@ use Rattle.sf_call.specs.Requests.Target.{ByHandle, OnPath, OnPaths}
 use Rattle.sf_walk.specs.Ways.{way_from, missing}
 use Rattle.sf_walk.specs.Served.{IsAsBefore, NodesStay, IsRefused, IsCarriedOut}
 use Rattle.sf_walk.specs.Steps.{IsFreeAt, MayDecideAt}
+use Rattle.sf_walk.proofs.Laws.{has_entry}
 
 on_path : (p : Path) (h : ℕ) → OnPath p ≡ ByHandle h → ⊥
 on_path p h e = cc
@@ -128,18 +129,6 @@ root_by t session number moment (request.Write handle offset bytes) e = other_la
 root_by t session number moment (request.ReadDir handle) e = other_labels t session number moment (request.ReadDir handle) [] (λ o. o)
 root_by t session number moment (request.Rename old new) e = absurd (path_paths [] old new (sym e))
 root_by t session number moment (request.PosixRename old new) e = absurd (path_paths [] old new (sym e))
-
-content_has : (c : Content) (n : Name) (y : ℕ) → entry_in c n ≡ Some y → is_directory_content c ≡ true
-content_has (content.Directory es) n y e = refl
-content_has (content.File b) n y e = cc
-
--- what has an entry is a directory
-has_entry : (nodes : List (Option Node)) (x : ℕ) (n : Name) (y : ℕ) → entry_of nodes x n ≡ Some y → is_directory_at nodes x ≡ true
-has_entry nodes x n y e = by_node (node_in nodes x) e
-  where
-    by_node : (o : Option Node) → option_and_then (λ (node : Node). entry_in node.content n) o ≡ Some y → option_map_or (λ (node : Node). is_directory_content node.content) o false ≡ true
-    by_node None f = cc
-    by_node (Some node) f = content_has node.content n y f
 
 -- what walking finds is located there
 pub located_at : (nodes : List (Option Node)) (q : Path) (above x l : ℕ) → walk (entry_of nodes) x q ≡ Some l → (parent : ℕ) × (way_from nodes above x q ≡ located.At parent l)

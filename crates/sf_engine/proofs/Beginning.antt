@@ -20,18 +20,13 @@ use Rattle.sf_engine.specs.Laws.{Began, begins_at, FollowsBeginning}
 use Rattle.sf_engine.proofs.Moving.{get_set_same, get_set_other}
 use Rattle.sf_engine.proofs.Tracing.{Runs-push, runs_nil}
 use Rattle.sf_engine.proofs.Orders.{leads_records}
-use Rattle.sf_engine.proofs.Reading.{new_get}
+use Rattle.sf_engine.proofs.Reading.{new_get, among_front}
 
 among_either : (r : Record) (h more : List Record) → IsAmong r (h ++ more) → IsAmong r h ⊎ IsAmong r more
 unfolding IsAmong
 among_either r [] more k = inr k
 among_either r (x ∷ h) more (inl e) = inl (inl e)
 among_either r (x ∷ h) more (inr k) = elim (among_either r h more k) [ inl a ↦ inl (inr a) | inr b ↦ inr b ]
-
-among_front : (r : Record) (h more : List Record) → IsAmong r h → IsAmong r (h ++ more)
-unfolding IsAmong
-among_front r [] more k = absurd k
-among_front r (x ∷ h) more k = elim k [ inl e ↦ inl e | inr b ↦ inr (among_front r h more b) ]
 
 among_back : (r : Record) (h more : List Record) → IsAmong r more → IsAmong r (h ++ more)
 unfolding IsAmong

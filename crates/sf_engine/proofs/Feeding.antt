@@ -19,10 +19,11 @@ use Rattle.sf_engine.proofs.Tracing.{Steps}
 use Rattle.sf_engine.proofs.Moving.{moves_none, keeps_agrees}
 use Rattle.sf_engine.proofs.Turning.{engine, told_at, refused_steps, same_engine}
 
--- a session's place doesn't look at what is unread
-place_fed : (v : CoreView) (s : ℕ) (x : SessionView) (bytes : List ℕ) (f : Phase) (p : Place) → PlaceAgrees v s x f p → PlaceAgrees v s (record x { unread = x.unread ++ bytes }) f p
-place_fed v s x bytes Resting p h = record { lane = h.lane; session = h.session; idle = h.idle; place_is = h.place_is; slot = h.slot; waiting = h.waiting; ended = h.ended }
-place_fed v s x bytes (UnderWay id n m q moves) p h = record {
+-- a session's place doesn't look at what is unread, nor at its output
+pub place_stays : (v : CoreView) (s : ℕ) (x : SessionView) (unread output : List ℕ) (f : Phase) (p : Place) → PlaceAgrees v s x f p
+    → PlaceAgrees v s (record x { unread = unread; output = output }) f p
+place_stays v s x unread output Resting p h = record { lane = h.lane; session = h.session; idle = h.idle; place_is = h.place_is; slot = h.slot; waiting = h.waiting; ended = h.ended }
+place_stays v s x unread output (UnderWay id n m q moves) p h = record {
   lane = h.lane;
   call = h.call;
   session = h.session;
@@ -35,7 +36,7 @@ place_fed v s x bytes (UnderWay id n m q moves) p h = record {
   waiting = h.waiting;
   ended = h.ended;
 }
-place_fed v s x bytes (Decided id n q given) p h = record {
+place_stays v s x unread output (Decided id n q given) p h = record {
   lane = h.lane;
   answer = h.answer;
   session = h.session;
@@ -46,7 +47,7 @@ place_fed v s x bytes (Decided id n q given) p h = record {
   waiting = h.waiting;
   ended = h.ended;
 }
-place_fed v s x bytes (Gone cause) p h = h
+place_stays v s x unread output (Gone cause) p h = h
 
 -- a session that has not ended is there, and one that has isn't
 here_if : (v : CoreView) (s : ℕ) (x : SessionView) (f : Phase) (p : Place) → PlaceAgrees v s x f p → x.ended ≡ None → is_here_in f ≡ true
@@ -84,7 +85,7 @@ any_feed_steps v seats at s bytes p q (Ok r) num was ok err why w agrees =
       output = t.3.output;
       begun = t.3.begun;
       closed = t.3.closed;
-      at = place_fed v (at + 1) p.session bytes.items t.0.phase p.place t.3.at;
+      at = place_stays v (at + 1) p.session (p.session.unread ++ bytes.items) p.session.output t.0.phase p.place t.3.at;
     }) in
     let P : List Record → Type 0 = λ h. IsHistory v h in
     let steps : Steps (engine v seats) (event.Feed (at + 1) bytes) (Ok r) (engine v (slice_set seats at q)) w = record {

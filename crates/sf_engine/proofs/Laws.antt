@@ -3,5 +3,7 @@
 
 -- a session's bodies are those of its stream, and its replies those of its calls' records
 pub use Rattle.sf_engine.proofs.Reading.{told_sessions}
+-- a body more that was read, and what it asks for; the bytes of a body, and those behind its packet
+pub use Rattle.sf_engine.proofs.Asked.{all_push, begun_after, begun_is, begun_stays, begun_push, asked_push, asked_each, map_push, whole_bytes, rest_bytes}
 -- a number has no session, or one
 pub use Rattle.sf_engine.proofs.Waiting.{told_of_none}

@@ -2,6 +2,7 @@ pub mod Tracing
 pub mod Moving
 pub mod Deciding
 pub mod Working
+pub mod Asked
 pub mod Resting
 pub mod Under
 pub mod Writing

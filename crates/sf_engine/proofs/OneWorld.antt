@@ -1,9 +1,9 @@
 -- A trace tells one world.
-use Rattle.std.proofs.Common.{◌≡◌, ℕ, ◌+◌, ◌-◌, ◌<◌, List, [], ◌∷◌, ◌++◌, Some, Bool, true, false, Result, Ok, Err, slice_get, slice_set, length, take, drop, refl, ap, sym, ◌∙◌, subst, arith, inl, inr, append_assoc}
-use Rattle.std.proofs.Math.Seq.{drop-append_seam, take-append_seam}
+use Rattle.std.proofs.Common.{◌≡◌, ℕ, ◌+◌, ◌-◌, ◌<◌, List, [], ◌∷◌, ◌++◌, Some, Bool, true, false, Result, Ok, Err, slice_get, slice_set, length, drop, refl, ap, sym, ◌∙◌, subst, arith, inl, inr, append_assoc}
+use Rattle.std.proofs.Math.Seq.{drop-append_seam}
 use Rattle.std.proofs.lemmas.Bool.{cases_eq}
-use Rattle.std.proofs.lemmas.List.Elements.{All-append, All-take, All-drop, All-nil, All-same}
-use Rattle.sf_field.specs.Fields.{AreBytes, be32, packet}
+use Rattle.std.proofs.lemmas.List.Elements.{All-append, All-nil, All-same}
+use Rattle.sf_field.specs.Fields.{AreBytes, packet}
 use Rattle.sf_wire.proofs.Laws.{one_packet}
 use Rattle.sf_request.proofs.Laws.{one_question}
 use Rattle.sf_request.specs.declared.request.Asked.{Asked}
@@ -14,6 +14,7 @@ use Rattle.sf_call.specs.declared.request.Request.{Request}
 use Rattle.sf_call.specs.declared.record.Record.{Record}
 use Rattle.sf_call.specs.declared.record.Record.TheVariants.{Did}
 use Rattle.sf_call.specs.Histories.{IsLegal, IsLegalAfter, IsAmong, IsOther, IsNewNumber, MayFollow}
+use Rattle.sf_call.proofs.Laws.{front_new, last_other}
 use Rattle.sf_session.specs.declared.asking.Ask.{Ask}
 use Rattle.sf_session.specs.declared.asking.Ask.TheVariants as ask
 use Rattle.sf_session.specs.Asking.{AsksFor, ask_in}
@@ -31,19 +32,9 @@ use Rattle.sf_engine.specs.Fits.{Fits, IsSentBy}
 use Rattle.sf_engine.proofs.Moving.{get_set_same, get_set_other}
 use Rattle.sf_engine.proofs.Orders.{leads_records}
 use Rattle.sf_engine.proofs.Reading.{new_get}
+use Rattle.sf_engine.proofs.Asked.{whole_bytes, rest_bytes}
 
 -- ---- one reading of a body
-
-whole_bytes : (body rest : List ℕ) → AreBytes (packet body ++ rest) → AreBytes body
-whole_bytes body rest h =
-    let P : ℕ → Type 0 = λ b. b < 256 in
-    let front : AreBytes (packet body) = All-same P (packet body) (take (length (packet body)) (packet body ++ rest)) (sym (take-append_seam (packet body) rest)) (All-take P (length (packet body)) (packet body ++ rest) h) in
-    All-same P body (drop (length (be32 (length body))) (packet body)) (sym (drop-append_seam (be32 (length body)) body)) (All-drop P (length (be32 (length body))) (packet body) front)
-
-rest_bytes : (body rest : List ℕ) → AreBytes (packet body ++ rest) → AreBytes rest
-rest_bytes body rest h =
-    let P : ℕ → Type 0 = λ b. b < 256 in
-    All-same P rest (drop (length (packet body)) (packet body ++ rest)) (sym (drop-append_seam (packet body) rest)) (All-drop P (length (packet body)) (packet body ++ rest) h)
 
 -- what begins the bytes
 one_body : (unread body rest body' rest' : List ℕ) → Begins unread body rest → Begins unread body' rest' → (body ≡ body') × (rest ≡ rest')
@@ -92,20 +83,12 @@ last_same [] (y ∷ ys) a b e = absurd (nil_push ys b (let w : [] ≡ ys ++ b �
 last_same (x ∷ xs) [] a b e = absurd (nil_push xs a (let w : [] ≡ xs ++ a ∷ [] = cc in w))
 last_same (x ∷ xs) (y ∷ ys) a b e = last_same xs ys a b (let w : xs ++ a ∷ [] ≡ ys ++ b ∷ [] = cc in w)
 
-new_front : (number : ℕ) (before : List Record) (x : Record) → IsNewNumber number (before ++ x ∷ []) → IsNewNumber number before
-new_front number [] x new = tt
-new_front number (y ∷ before) x new = (new.0, new_front number before x new.1)
-
-new_last : (number : ℕ) (before : List Record) (x : Record) → IsNewNumber number (before ++ x ∷ []) → IsOther number x
-new_last number [] x new = new.0
-new_last number (y ∷ before) x new = new_last number before x new.1
-
 -- a later call's number is none of those before
 number_new : (n s k : ℕ) (q : Request) (given : Reply) (before rs : List Record) → IsLegalAfter before rs → IsAmong (Did n s k q given) rs → IsNewNumber n before
 unfolding IsLegalAfter IsAmong
 number_new n s k q given before [] legal among = absurd among
 number_new n s k q given before (x ∷ rs) legal (inl e) = let here = subst (λ (y : Record). MayFollow before y) e legal.0 in here.new_number
-number_new n s k q given before (x ∷ rs) legal (inr later) = new_front n before x (number_new n s k q given (before ++ x ∷ []) rs legal.1 later)
+number_new n s k q given before (x ∷ rs) legal (inr later) = front_new n before x (number_new n s k q given (before ++ x ∷ []) rs legal.1 later)
 
 -- so a legal order has one record of a call
 one_record : (n s k : ℕ) (q : Request) (a b : Reply) (before rs : List Record) → IsLegalAfter before rs → IsAmong (Did n s k q a) rs → IsAmong (Did n s k q b) rs → a ≡ b
@@ -113,9 +96,9 @@ unfolding IsLegalAfter IsAmong
 one_record n s k q a b before [] legal h g = absurd h
 one_record n s k q a b before (x ∷ rs) legal (inl e) (inl f) = let w : Did n s k q a ≡ Did n s k q b = sym e ∙ f in cc
 one_record n s k q a b before (x ∷ rs) legal (inl e) (inr g) =
-    let other = subst (λ (y : Record). IsOther n y) e (new_last n before x (number_new n s k q b (before ++ x ∷ []) rs legal.1 g)) in absurd (other refl)
+    let other = subst (λ (y : Record). IsOther n y) e (last_other n before x (number_new n s k q b (before ++ x ∷ []) rs legal.1 g)) in absurd (other refl)
 one_record n s k q a b before (x ∷ rs) legal (inr h) (inl f) =
-    let other = subst (λ (y : Record). IsOther n y) f (new_last n before x (number_new n s k q a (before ++ x ∷ []) rs legal.1 h)) in absurd (other refl)
+    let other = subst (λ (y : Record). IsOther n y) f (last_other n before x (number_new n s k q a (before ++ x ∷ []) rs legal.1 h)) in absurd (other refl)
 one_record n s k q a b before (x ∷ rs) legal (inr h) (inr g) = one_record n s k q a b (before ++ x ∷ []) rs legal.1 h g
 
 one_legal : (n s k : ℕ) (q : Request) (a b : Reply) (h : List Record) → IsLegal h → IsAmong (Did n s k q a) h → IsAmong (Did n s k q b) h → a ≡ b

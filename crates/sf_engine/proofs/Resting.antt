@@ -25,10 +25,11 @@ use Rattle.sf_engine.specs.declared.seat.Place.{Place}
 use Rattle.sf_engine.specs.declared.event.Happened.{Happened}
 use Rattle.sf_engine.specs.declared.event.Happened.TheVariants as happened
 use Rattle.sf_engine.specs.Worlds.{Answered, Version, Locally, Refused, asked_by, packet_for, transcript, Resting, UnderWay, Told, World, with_phase}
-use Rattle.sf_engine.specs.Traces.{has_begun, IsAtOnce, RestLeads, left_for, calls_begun}
+use Rattle.sf_engine.specs.Traces.{IsAtOnce, RestLeads, left_for, calls_begun}
 use Rattle.sf_engine.specs.Turns.{seated, new_part, Reads}
 use Rattle.sf_engine.specs.Fits.{IsResting, SeatAgrees}
 use Rattle.sf_engine.proofs.Moving.{Moves, moves_none, here_in}
+use Rattle.sf_engine.proofs.Asked.{begun_push}
 
 -- what an event leaves of one session, and of the core for it
 pub record Turned (v v' : CoreView) (s : ℕ) (t : Told) (more : ℕ) (q : Seat) (leads : Told → Type 0) : Type 0 where
@@ -40,10 +41,6 @@ pub record Turned (v v' : CoreView) (s : ℕ) (t : Told) (more : ℕ) (q : Seat)
 -- what an engine has for a session, by its parts
 abbrev pub seat : SessionView → Place → Bool → Seat
 seat x p closed = record { session = x; place = p; closed = closed }
-
-pub begun_push : (bodies : List (List ℕ)) (body : List ℕ) → has_begun (bodies ++ body ∷ []) ≡ true
-begun_push [] body = refl
-begun_push (b ∷ bodies) body = refl
 
 pub transcript_push : (answers : List Answered) (a : Answered) → transcript answers ++ packet_for a ≡ transcript (answers ++ a ∷ [])
 unfolding transcript

@@ -3,56 +3,26 @@ use Rattle.std.proofs.Common.{◌≡◌, ℕ, ◌+◌, ◌<◌, ◌≤◌, List,
 use Rattle.std.proofs.Math.Seq.{drop-append_seam}
 use Rattle.std.proofs.lemmas.List.{take-append-drop}
 use Rattle.sf_call.specs.declared.record.Record.{Record}
-use Rattle.sf_session.specs.Sessions.{SessionView}
 use Rattle.sf_core.specs.Cores.{CoreView}
 use Rattle.sf_core.specs.Histories.{IsHistory}
 use Rattle.sf_engine.specs.declared.seat.Seat.{Seat}
-use Rattle.sf_engine.specs.declared.seat.Place.{Place}
 use Rattle.sf_engine.specs.declared.event.Event.TheVariants as event
 use Rattle.sf_engine.specs.declared.event.Happened.{Happened}
 use Rattle.sf_engine.specs.declared.event.EngineFault.{EngineFault}
 use Rattle.sf_engine.specs.declared.event.EngineFault.TheVariants as fault
-use Rattle.sf_engine.specs.Worlds.{transcript, output_of, Phase, Resting, UnderWay, Decided, Gone, Told, World, with_told}
+use Rattle.sf_engine.specs.Worlds.{transcript, output_of, Told, World, with_told}
 use Rattle.sf_engine.specs.Traces.{IsSession, MayRefuse, sent_more}
 use Rattle.sf_engine.specs.Turns.{SentGives, SentFault}
 use Rattle.sf_engine.specs.Views.{EngineView}
-use Rattle.sf_engine.specs.Fits.{PlaceAgrees, SeatAgrees, Agrees}
+use Rattle.sf_engine.specs.Fits.{SeatAgrees, Agrees}
 use Rattle.sf_engine.proofs.Tracing.{Steps}
 use Rattle.sf_engine.proofs.Moving.{moves_none, keeps_agrees}
 use Rattle.sf_engine.proofs.Turning.{engine, told_at, refused_steps, same_engine}
+use Rattle.sf_engine.proofs.Feeding.{place_stays}
 
 -- what an engine has for a session to be sent is what waits by the trace
 output_is : (v : CoreView) (s : ℕ) (t : Told) (p : Seat) → SeatAgrees v s t p → output_of t ≡ p.session.output
 output_is v s t p h = ap (λ (b : List ℕ). drop (length t.sent) b) h.output ∙ drop-append_seam t.sent p.session.output
-
--- a session's place doesn't look at its output
-place_sent : (v : CoreView) (s : ℕ) (x : SessionView) (rest : List ℕ) (f : Phase) (p : Place) → PlaceAgrees v s x f p → PlaceAgrees v s (record x { output = rest }) f p
-place_sent v s x rest Resting p h = record { lane = h.lane; session = h.session; idle = h.idle; place_is = h.place_is; slot = h.slot; waiting = h.waiting; ended = h.ended }
-place_sent v s x rest (UnderWay id n m q moves) p h = record {
-  lane = h.lane;
-  call = h.call;
-  session = h.session;
-  number_is = h.number_is;
-  place_is = h.place_is;
-  slot = h.slot;
-  own = h.own;
-  few = h.few;
-  walked = h.walked;
-  waiting = h.waiting;
-  ended = h.ended;
-}
-place_sent v s x rest (Decided id n q given) p h = record {
-  lane = h.lane;
-  answer = h.answer;
-  session = h.session;
-  idle = h.idle;
-  place_is = h.place_is;
-  reply = h.reply;
-  slot = h.slot;
-  waiting = h.waiting;
-  ended = h.ended;
-}
-place_sent v s x rest (Gone cause) p h = h
 
 sent_fault : (w : World) (v : CoreView) (at s n : ℕ) (p : Seat) (t : Told) (f : EngineFault) → IsSession w s t → SeatAgrees v (at + 1) t p → SentFault p n f → MayRefuse w (event.Sent s n) f
 sent_fault w v at s n p t fault.NotSent session h why = (t, session, subst (λ (b : List ℕ). length b < n) (sym (output_is v (at + 1) t p h)) why)
@@ -81,7 +51,7 @@ any_send_steps v seats at s n p q (Ok r) num was ok err why w agrees =
       output = output_sent v (at + 1) n t.0 p t.3;
       begun = t.3.begun;
       closed = t.3.closed;
-      at = place_sent v (at + 1) p.session (drop n p.session.output) t.0.phase p.place t.3.at;
+      at = place_stays v (at + 1) p.session p.session.unread (drop n p.session.output) t.0.phase p.place t.3.at;
     }) in
     let P : List Record → Type 0 = λ h. IsHistory v h in
     let steps : Steps (engine v seats) (event.Sent (at + 1) n) (Ok r) (engine v (slice_set seats at q)) w = record {

@@ -9,6 +9,7 @@ use Rattle.std.specs.FinMap.{is_sorted}
 use Rattle.sf_call.specs.Tree.{Tree, handle_of}
 use Rattle.sf_call.specs.Changes.{Change as change, changed}
 use Rattle.sf_call.specs.Calls.{leave}
+use Rattle.sf_call.proofs.Laws.{sorted_removed}
 use Rattle.sf_inode.specs.declared.node.Node.{Node}
 use Rattle.sf_inode.specs.declared.handle.OpenHandle.{OpenHandle}
 use Rattle.sf_inode.specs.Nodes.{with_opened, is_unused}
@@ -16,7 +17,6 @@ use Rattle.sf_keeps.specs.Shows.{View, Shows}
 use Rattle.sf_inode.specs.Stores.{StoreState, node_in, handle_at, handles_of, shown_handle, with_nodes, with_sessions, edited, released_if, let_go, handle_dropped, closed_by, closed, each_let_go, closed_each, closed_all}
 use Rattle.sf_keeps.specs.Keeps.{view_of, Keeps}
 use Rattle.sf_keeps.proofs.Keyed.{lookup-set, lookup-removed}
-use Rattle.sf_keeps.proofs.Orderly.{sorted_removed}
 use Rattle.sf_keeps.proofs.Shown.{nat_at_itself}
 use Rattle.sf_keeps.proofs.Less.{handle_there}
 use Rattle.sf_keeps.proofs.StoreLaws.{same_view}

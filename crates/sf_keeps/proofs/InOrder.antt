@@ -5,12 +5,12 @@ use Rattle.std.proofs.Common.{sym, subst}
 use Rattle.std.specs.FinMap.{is_sorted}
 use Rattle.sf_path.specs.Names.{Name}
 use Rattle.sf_path.specs.Order.{same_name, name_cmp, name_total}
+use Rattle.sf_call.proofs.Laws.{sorted_put, sorted_removed}
 use Rattle.sf_inode.specs.declared.node.Node.{Node}
 use Rattle.sf_inode.specs.declared.node.Content.{Content}
 use Rattle.sf_inode.specs.declared.node.Content.TheVariants as content
 use Rattle.sf_inode.specs.Nodes.{entries_in, less_content, more_content, with_bytes}
 use Rattle.sf_inode.specs.Stores.{node_in, entries_at}
-use Rattle.sf_keeps.proofs.Orderly.{sorted_put, sorted_removed}
 
 abbrev pub IsInOrder : Content → Type 0
 IsInOrder c = T (is_sorted name_cmp (entries_in c))

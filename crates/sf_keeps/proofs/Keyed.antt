@@ -2,21 +2,16 @@
 use Rattle.std.specs.Prelude.{◌≡◌, Bool, true, false, cond, T, ◌||◌, List, [], ◌∷◌, Some, None, IsSome, refl}
 use Rattle.std.proofs.Common.{sym, ap, ◌∙◌}
 use Rattle.std.specs.List.{list_any, IsDistinct, AllByRecursion}
-use Rattle.std.specs.Ordering.{is_eq, is_lt, eq_by_cmp}
+use Rattle.std.specs.Ordering.{is_eq, eq_by_cmp}
 use Rattle.std.specs.declared.cmp.Ordering.{Ordering}
-use Rattle.std.specs.declared.cmp.Ordering.TheVariants.{Less, Equal, Greater}
+use Rattle.std.specs.declared.cmp.Ordering.TheVariants.{Equal}
 use Rattle.std.specs.Cmp.{IsTotalOrder, tied_itself, eq_by_cmp_equiv}
 use Rattle.std.specs.Map.{lookup, remove_entry, set_value, keys_of}
 use Rattle.std.specs.BTreeMap.{is_at}
 use Rattle.std.specs.FinMap.{is_sorted}
 use Rattle.std.specs.FinMap.Entries.{below_all}
-use Rattle.sf_call.proofs.Laws.{and_first, and_second, is_equal}
+use Rattle.sf_call.proofs.Laws.{and_first, and_second, is_equal, not_at}
 use Rattle.std.proofs.lemmas.Map.{lookup-set_value, lookup-remove_entry}
-
-less_not_equal : (r : Ordering) → T (is_lt r) → is_eq r ≡ false
-less_not_equal Less p = refl
-less_not_equal Equal p = absurd p
-less_not_equal Greater p = refl
 
 tied_alike : {K : Type 0} {R : K → K → Ordering} → IsTotalOrder R → (k x y : K) → is_at (R k) x ≡ true → is_at (R k) y ≡ eq_by_cmp R x y
 tied_alike {R = R} o k x y t = ap is_eq (o.congr k x y (is_equal (R k x) t))
@@ -46,7 +41,7 @@ module _ {K X : Type 0} (R : K → K → Ordering) where
 
     apart : (x : K) (es : List (K × X)) → T (below_all R x es) → AllByRecursion (λ y. eq_by_cmp R x y ≡ false) (keys_of es)
     apart x [] h = tt
-    apart x (e ∷ es) h = (less_not_equal _ (and_first _ _ h), apart x es (and_second _ _ h))
+    apart x (e ∷ es) h = (not_at _ (and_first _ _ h), apart x es (and_second _ _ h))
 
     pub distinct : (es : List (K × X)) → T (is_sorted R es) → IsDistinct (eq_by_cmp R) (keys_of es)
     unfolding IsDistinct
@@ -59,7 +54,7 @@ module _ {K X : Type 0} (R : K → K → Ordering) where
     pub lookup_below : (q k : K) (es : List (K × X)) → R q k ≡ Equal → T (below_all R k es) → lookup (is_at (R q)) es ≡ None
     lookup_below q k [] e h = refl
     lookup_below q k (f ∷ es) e h =
-        ap (λ b. cond b (Some f.1) (lookup (is_at (R q)) es)) (ap is_eq (o.congr q k f.0 e) ∙ less_not_equal _ (and_first _ _ h))
+        ap (λ b. cond b (Some f.1) (lookup (is_at (R q)) es)) (ap is_eq (o.congr q k f.0 e) ∙ not_at _ (and_first _ _ h))
         ∙ lookup_below q k es e (and_second _ _ h)
 
     pub lookup_any : (f : X → Bool) (es : List (K × X)) → T (is_sorted R es) → list_any (λ e. f e.1) es ≡ true → (q : K) × (v : X) × (lookup (is_at (R q)) es ≡ Some v) × (f v ≡ true)

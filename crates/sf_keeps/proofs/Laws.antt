@@ -4,11 +4,16 @@
 -- one tree at most, and a new store's
 pub use Rattle.sf_keeps.proofs.Whole.{shows_one}
 pub use Rattle.sf_keeps.proofs.KeepsFirst.{keeps_first}
+-- a way of two parts, and the last step of a way
+pub use Rattle.sf_keeps.proofs.Walks.{walk-append}
+pub use Rattle.sf_keeps.proofs.Sound.{last_step}
 -- what a node shows, and what a path and an entry lead to
 pub use Rattle.sf_keeps.proofs.KeepsShown.{node_shown, directory_shown, file_shown}
 pub use Rattle.sf_keeps.proofs.Openings.{object_there, one_node, entry_node}
 pub use Rattle.sf_keeps.proofs.Finding.{walk_on, reached_node, label_found, way_found, place_found, object_found, directory_found, absent_found, no_way_on, file_in_way}
 pub use Rattle.sf_keeps.proofs.Bare.{bare_found}
+-- a node put in the place of another
+pub use Rattle.sf_keeps.proofs.StoreLaws.{node_in-set}
 -- what a change leaves alone
 pub use Rattle.sf_keeps.proofs.Untouched.{edited_apart, edited_itself, inserted_alike, unlinked_alike, relinked_alike}
 -- the same tree: a look-up, a holder, reserved memory
@@ -28,8 +33,7 @@ pub use Rattle.sf_keeps.proofs.ClosingAll.{keeps_closed_all}
 pub use Rattle.sf_keeps.proofs.NodesKept.{nodes_kept, looks_kept, holder_kept, holder_was, directory_kept, way_kept}
 -- a directory's entries and its listing
 pub use Rattle.sf_keeps.proofs.Listings.{path_found, label_listed, nodes_listed, names_listed}
--- lists of entries in the order of their keys: look-ups after each change, and the order; a number's own test
+-- lists of entries in the order of their keys: look-ups after each change; a number's own test
 pub use Rattle.sf_keeps.proofs.Keyed.{lookup-set, lookup-removed}
-pub use Rattle.sf_keeps.proofs.Orderly.{sorted_put, sorted_removed, sorted_set}
 pub use Rattle.sf_keeps.proofs.StoreHandles.{at_is}
 pub use Rattle.sf_keeps.proofs.Shown.{nat_at_itself}

@@ -13,9 +13,10 @@ use Rattle.sf_call.specs.Tree.{Tree, object_of, handle_of, is_used, kept}
 use Rattle.sf_call.specs.Handles.{handle_in}
 use Rattle.sf_call.specs.Changes.{Change as change, changed}
 use Rattle.sf_call.specs.Calls.{leave}
+use Rattle.sf_call.proofs.Laws.{sorted_filtered}
 use Rattle.sf_keeps.specs.Shows.{View, Shows}
 use Rattle.sf_keeps.proofs.Keyed.{lookup_any}
-use Rattle.sf_keeps.proofs.Orderly.{sorted_filtered, same_sorted}
+use Rattle.sf_keeps.proofs.Orderly.{same_sorted}
 use Rattle.sf_keeps.proofs.Less.{kept_object, cond_used, handle_here}
 use Rattle.sf_keeps.proofs.Whole.{or_grows_right}
 

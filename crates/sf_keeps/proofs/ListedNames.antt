@@ -15,10 +15,9 @@ use Rattle.sf_path.specs.Names.{Name, Path}
 use Rattle.sf_path.specs.Order.{same_name, same_path, name_cmp, path_cmp}
 use Rattle.sf_call.specs.Tree.{after_front, only_name, label_at}
 use Rattle.sf_call.specs.Listings.{is_past, name_past}
-use Rattle.sf_call.proofs.Laws.{is_equal, same_path_is, same_name_is, same_name_itself, after_front-append, append-after_front, path_cmp-front, and_first, and_second}
+use Rattle.sf_call.proofs.Laws.{is_equal, same_path_is, same_name_is, same_name_itself, after_front-append, append-after_front, path_cmp-front, and_first, and_second, and_both, sorted_filtered}
 use Rattle.sf_inode.specs.Nodes.{entries_past}
 use Rattle.sf_keeps.proofs.Keyed.{lookup_below}
-use Rattle.sf_keeps.proofs.Orderly.{and_both, sorted_filtered}
 use Rattle.sf_keeps.proofs.Shown.{same_path_itself}
 
 -- ---- what holds of all that look-ups find, holds of each entry

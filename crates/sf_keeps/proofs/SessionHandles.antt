@@ -15,13 +15,14 @@ use Rattle.std.proofs.lemmas.Map.Entries.{option_filter, lookup-filter-values}
 use Rattle.sf_call.specs.declared.handle.Handle.{Handle}
 use Rattle.sf_call.specs.Tree.{Tree, handle_of, object_of}
 use Rattle.sf_call.specs.Handles.{if_of}
+use Rattle.sf_call.proofs.Laws.{sorted_filtered}
 use Rattle.sf_inode.specs.declared.node.Node.{Node}
 use Rattle.sf_inode.specs.declared.handle.OpenHandle.{OpenHandle}
 use Rattle.sf_inode.specs.Nodes.{object_in}
 use Rattle.sf_inode.specs.Stores.{StoreState, node_in, handle_at, handles_of, shown_handle}
 use Rattle.sf_keeps.specs.Keeps.{Keeps}
 use Rattle.sf_keeps.proofs.Keyed.{distinct}
-use Rattle.sf_keeps.proofs.Orderly.{sorted_mapped, sorted_filtered, same_sorted}
+use Rattle.sf_keeps.proofs.Orderly.{sorted_mapped, same_sorted}
 use Rattle.sf_keeps.proofs.Openings.{object_there}
 
 filtered_is : (session : ℕ) (o : Option Handle) → option_filter (λ (h : Handle). nat_eq h.session session) o ≡ option_and_then (if_of session) o

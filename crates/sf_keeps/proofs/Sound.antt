@@ -5,7 +5,7 @@ use Rattle.sf_path.specs.Names.{Name, Path}
 use Rattle.sf_path.specs.Order.{same_name}
 use Rattle.sf_call.specs.Attributes.{Object}
 use Rattle.sf_call.specs.Tree.{directory_metadata}
-use Rattle.sf_call.proofs.Laws.{same_name_is, same_name_itself}
+use Rattle.sf_call.proofs.Laws.{same_name_is, same_name_itself, both_true}
 use Rattle.sf_keeps.specs.Steps.{Steps, walk, changed_step}
 use Rattle.sf_keeps.specs.Shows.{Shown, IsSound, is_directory_by, changed_shown}
 
@@ -25,7 +25,7 @@ abbrev pub IsBare : Steps → ℕ → Type 0
 IsBare step c = (m : Name) → step c m ≡ None
 
 -- the last step of a way
-last_step : (step : Steps) (q : Path) (x c : ℕ) → walk step x q ≡ Some c → (x ≡ c) ⊎ ((y : ℕ) × (m : Name) × (step y m ≡ Some c))
+pub last_step : (step : Steps) (q : Path) (x c : ℕ) → walk step x q ≡ Some c → (x ≡ c) ⊎ ((y : ℕ) × (m : Name) × (step y m ≡ Some c))
 last_step step [] x c w = let e : x ≡ c = cc in inl e
 last_step step (m ∷ q) x c w =
     elim (step x m) as (λ o. step x m ≡ o → option_and_then (λ y. walk step y q) o ≡ Some c → (x ≡ c) ⊎ ((y : ℕ) × (k : Name) × (step y k ≡ Some c))) [
@@ -50,15 +50,11 @@ module _ (step : Steps) (d : ℕ) (n : Name) where
   pub step_less : (x c : ℕ) (m : Name) → changed_step step d n None x m ≡ Some c → step x m ≡ Some c
   step_less x c m = elim (nat_eq d x && same_name n m) as (λ b. cond b None (step x m) ≡ Some c → step x m ≡ Some c) [ true ↦ λ e. cc | false ↦ λ e. e ]
 
-  split : (a b : Bool) → a && b ≡ true → (a ≡ true) × (b ≡ true)
-  split true b = λ t. (refl, t)
-  split false b = λ t. cc
-
   -- a step after the change: the new one, or one from before
   pub step_more : (c x y : ℕ) (m : Name) → changed_step step d n (Some c) x m ≡ Some y → ((d ≡ x) × (n ≡ m) × (c ≡ y)) ⊎ (step x m ≡ Some y)
   step_more c x y m =
       elim (nat_eq d x && same_name n m) as (λ b. nat_eq d x && same_name n m ≡ b → cond b (Some c) (step x m) ≡ Some y → ((d ≡ x) × (n ≡ m) × (c ≡ y)) ⊎ (step x m ≡ Some y)) [
-        | true ↦ λ t e. let s = split _ _ t in let same : c ≡ y = cc in inl (eqb-true d x s.0, same_name_is n m s.1, same)
+        | true ↦ λ t e. let s = both_true _ _ t in let same : c ≡ y = cc in inl (eqb-true d x s.0, same_name_is n m s.1, same)
         | false ↦ λ t e. inr e
       ] refl
 

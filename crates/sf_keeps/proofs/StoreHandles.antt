@@ -7,13 +7,12 @@ use Rattle.std.specs.Map.{lookup, set_value, remove_entry}
 use Rattle.std.specs.BTreeMap.{is_at, insert_entry}
 use Rattle.std.specs.FinMap.{is_sorted}
 use Rattle.sf_path.specs.Names.{Name}
-use Rattle.sf_call.proofs.Laws.{lookup-put}
+use Rattle.sf_call.proofs.Laws.{lookup-put, sorted_put, sorted_set, sorted_removed}
 use Rattle.sf_inode.specs.declared.handle.OpenHandle.{OpenHandle}
 use Rattle.sf_keeps.specs.Shows.{with_opens}
 use Rattle.sf_inode.specs.Stores.{StoreState, handle_at, handles_of, shown_handle, with_sessions, handles_put, handle_put, handle_dropped, with_last, listed_by, listed_at, handle_listed}
 use Rattle.sf_keeps.specs.Keeps.{view_of}
 use Rattle.sf_keeps.proofs.Keyed.{lookup-set, lookup-removed}
-use Rattle.sf_keeps.proofs.Orderly.{sorted_put, sorted_set, sorted_removed}
 use Rattle.sf_keeps.proofs.Shown.{nat_same, nat_at_itself, nat_eq_apart}
 use Rattle.sf_keeps.proofs.StoreLaws.{same_view}
 

@@ -8,7 +8,7 @@ use Rattle.sf_call.specs.Attributes.{Object}
 use Rattle.sf_call.specs.Tree.{Tree, after_front, directory_metadata}
 use Rattle.sf_call.specs.Changes.{changed}
 use Rattle.sf_call.specs.Changes.Change.{Move}
-use Rattle.sf_call.proofs.Laws.{same_name_is}
+use Rattle.sf_call.proofs.Laws.{same_name_is, both_true}
 use Rattle.sf_inode.specs.declared.node.Node.{Node}
 use Rattle.sf_inode.specs.declared.node.Content.{Content}
 use Rattle.sf_inode.specs.declared.node.Content.TheVariants as content
@@ -23,10 +23,6 @@ use Rattle.sf_keeps.proofs.Shown.{once, nat_eq_apart, after_front-self}
 use Rattle.sf_keeps.proofs.Less.{IsClosed}
 use Rattle.sf_keeps.proofs.Relinked.{shows_move, shows_replaced, shows_replaced_open}
 use Rattle.sf_keeps.proofs.StoreLaws.{same_view, node_in-edited, step_changed, shown_same, view_taken, more_says, view_stays, view_goes, unused_left}
-
-both_true : (a b : Bool) → a && b ≡ true → (a ≡ true) × (b ≡ true)
-both_true true b = λ t. (refl, t)
-both_true false b = λ t. cc
 
 swapped : (a b : Bool) (c : ℕ) (x : Option ℕ) → (a ≡ true → b ≡ true → ⊥) → cond a None (cond b (Some c) x) ≡ cond b (Some c) (cond a None x)
 swapped true true c x h = absurd (h refl refl)

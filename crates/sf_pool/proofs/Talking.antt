@@ -20,9 +20,10 @@ use Rattle.sf_session.specs.Sessions.{SessionView}
 use Rattle.sf_engine.specs.Worlds.{Answered, asked_by, packet_for, transcript, Phase, Resting as AtRest, Gone as Left, Told, new_told}
 use Rattle.sf_engine.specs.Traces.{has_begun}
 use Rattle.sf_engine.specs.Laws.{pending, asks_of, AreAsked, IsRest, IsRead}
+use Rattle.sf_engine.proofs.Laws.{all_push, begun_is, begun_push, asked_push, asked_each, map_push}
 use Rattle.sf_serving.specs.Ends.{IsEnd, IsWhole}
 use Rattle.sf_serving.specs.Serving.{progress, IsPromptAt}
-use Rattle.sf_serving.proofs.Laws.{all_push, transcript_append, front_more, front_all, prompt_further, nothing_after, prompt_push, prompt_writes, given_more, taken_more, writes_give_none}
+use Rattle.sf_serving.proofs.Laws.{transcript_append, front_more, front_all, prompt_further, nothing_after, prompt_push, prompt_writes, given_more, taken_more, writes_give_none}
 use Rattle.sf_pool.specs.declared.desk.Begin.{Begin}
 use Rattle.sf_pool.specs.Audits.{Deed}
 use Rattle.sf_pool.specs.Desks.{DeskView, Notes}
@@ -53,36 +54,6 @@ begins_more tl tl1 tl2 b b1 b2 xs ys p q =
       subst (λ (l : List ℕ). Appends tl tl2 l) (sym moments) (Appends-trans tl tl1 tl2 (map moment_of p.0) (map moment_of q.0) p.2 q.2),
       map-append attempt_of p.0 q.0 ∙ ap (λ (l : List Attempt). l ++ map attempt_of q.0) p.3 ∙ ap (λ (l : List Attempt). xs ++ l) q.3,
     )
-
-map_push : (answers : List Answered) (a : Answered) → map asked_by (answers ++ a ∷ []) ≡ map asked_by answers ++ asked_by a ∷ []
-map_push [] a = refl
-map_push (b ∷ answers) a = ap (λ (xs : List Ask). asked_by b ∷ xs) (map_push answers a)
-
-abbrev begun_after : Bool → List (List ℕ) → Bool
-begun_after begun [] = begun
-begun_after begun (b ∷ bodies) = true
-
-begun_stays : (bodies : List (List ℕ)) → begun_after true bodies ≡ true
-begun_stays [] = refl
-begun_stays (b ∷ bodies) = refl
-
-begun_is : (bodies : List (List ℕ)) → has_begun bodies ≡ begun_after false bodies
-begun_is [] = refl
-begun_is (b ∷ bodies) = refl
-
-asked_push : (begun : Bool) (bodies : List (List ℕ)) (asks : List Ask) (body : List ℕ) (a : Ask) → AreAsked begun bodies asks → AsksFor (begun_after begun bodies) body a → AreAsked begun (bodies ++ body ∷ []) (asks ++ a ∷ [])
-unfolding AreAsked
-asked_push begun [] [] body a h k = (k, tt)
-asked_push begun [] (b ∷ asks) body a h k = absurd h
-asked_push begun (c ∷ bodies) [] body a h k = absurd h
-asked_push begun (c ∷ bodies) (b ∷ asks) body a h k = (h.0, asked_push true bodies asks body a h.1 (subst (λ (g : Bool). AsksFor g body a) (sym (begun_stays bodies)) k))
-
-asked_each : (begun : Bool) (bodies : List (List ℕ)) (asks : List Ask) → AreAsked begun bodies asks → length asks ≡ length bodies
-unfolding AreAsked
-asked_each begun [] [] h = refl
-asked_each begun (body ∷ bodies) (a ∷ asks) h = let rec : length asks ≡ length bodies = asked_each true bodies asks h.1 in omega (arith, rec)
-asked_each begun [] (a ∷ asks) h = absurd h
-asked_each begun (body ∷ bodies) [] h = absurd h
 
 none_asked : AreAsked false [] []
 unfolding AreAsked
@@ -263,10 +234,6 @@ answer_serves start now told' begins' desk' t body rest a S at whole is_body ask
       prompt = prompt_further (progress 0 t [] t.sent) (progress 0 t' [] t.sent) S.log
           (record { stream = front_all t.stream; bodies = (body ∷ [], refl); answers = (a ∷ [], refl); written = front_all t.sent }) S.prompt;
     }
-
-begun_push : (bodies : List (List ℕ)) (body : List ℕ) → has_begun (bodies ++ body ∷ []) ≡ true
-begun_push [] body = refl
-begun_push (b ∷ bodies) body = refl
 
 -- its output follows
 pub answer_goes : (v w : SessionView) (t : Told) (body rest : List ℕ) (a : Answered) → Goes v t → w.unread ≡ rest → w.begun ≡ true → w.ended ≡ None → w.output ≡ v.output ++ packet_for a

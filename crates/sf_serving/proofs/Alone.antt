@@ -13,10 +13,11 @@ use Rattle.sf_engine.specs.Worlds.{Entry, asked_by, transcript, Told, World}
 use Rattle.sf_engine.specs.Traces.{has_begun, IsSession}
 use Rattle.sf_engine.specs.Views.{EngineView}
 use Rattle.sf_engine.specs.Fits.{Fits, IsSentBy}
+use Rattle.sf_engine.proofs.Laws.{begun_is}
 use Rattle.sf_serving.specs.Ends.{IsEnd, IsWhole}
 use Rattle.sf_serving.specs.Serving.{Scene, IsEntryOf, IsFront, Progress, Served, ServesLine}
 use Rattle.sf_serving.specs.Alone.{answers_alone, moments_begun, HadMemory, EndsAlone, ServesAlone, supply}
-use Rattle.sf_serving.proofs.OneStream.{after_false, Reads, one_reading}
+use Rattle.sf_serving.proofs.OneStream.{Reads, one_reading}
 use Rattle.sf_serving.proofs.Reaching.{one_session, answered_alone}
 
 -- ---- bytes more
@@ -54,7 +55,7 @@ reads_of t input cause whole front all =
       rest = whole.rest ++ more;
       are_bodies = whole.are_bodies;
       stream = front.1 ∙ ap (λ (b : List ℕ). b ++ more) whole.stream ∙ append_assoc (flat_map packet t.bodies) whole.rest more;
-      end = subst (λ (b : Bool). IsEnd b (whole.rest ++ more) cause) (after_false t.bodies) (end_more (has_begun t.bodies) whole.rest more cause none whole.end);
+      end = subst (λ (b : Bool). IsEnd b (whole.rest ++ more) cause) (begun_is t.bodies) (end_more (has_begun t.bodies) whole.rest more cause none whole.end);
       asked = whole.asked;
     }
 

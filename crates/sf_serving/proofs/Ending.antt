@@ -1,5 +1,5 @@
 -- What is known of a session at rest, and of one that has left.
-use Rattle.std.proofs.Common.{◌≡◌, ◌≢◌, ◌⊎◌, ℕ, List, [], ◌∷◌, ◌++◌, Bool, true, false, map, length, refl, ap, sym, ◌∙◌, subst, inl, inr, append-nil, append_assoc, arith}
+use Rattle.std.proofs.Common.{◌≡◌, ◌≢◌, ◌⊎◌, ℕ, List, [], ◌∷◌, ◌++◌, Bool, false, map, length, refl, ap, sym, ◌∙◌, subst, inl, inr, append-nil, append_assoc}
 use Rattle.std.specs.List.{AllByRecursion, flat_map}
 use Rattle.std.proofs.lemmas.List.{length-map}
 use Rattle.sf_field.specs.Fields.{packet}
@@ -15,6 +15,7 @@ use Rattle.sf_engine.specs.Worlds.{Entry, Answered, asked_by, transcript, Phase,
 use Rattle.sf_engine.specs.Traces.{has_begun, IsSession, Tells, left_for}
 use Rattle.sf_engine.specs.Laws.{pending, asks_of, AreAsked, IsRest, IsRead, AreRecorded}
 use Rattle.sf_engine.specs.Fits.{Fits}
+use Rattle.sf_engine.proofs.Laws.{asked_each}
 use Rattle.sf_serving.specs.Ends.{IsEnd, IsWhole}
 use Rattle.sf_serving.specs.Serving.{Scene, Progress, IsPromptAt, IsPrompt, Served, Rests}
 use Rattle.sf_serving.proofs.Following.{front_all}
@@ -30,13 +31,6 @@ read_of law start now trace fits p S = (law (trace ++ S.entries) S.fit.world S.f
 cuts_of : (bodies : List (List ℕ)) (rest : List ℕ) → AllByRecursion IsBody bodies → IsCut rest cut.More → Cuts (flat_map packet bodies ++ rest) bodies (More rest)
 cuts_of [] rest bs c = (refl, c)
 cuts_of (body ∷ bodies) rest bs c = (flat_map packet bodies ++ rest, bs.0, append_assoc (packet body) (flat_map packet bodies) rest, cuts_of bodies rest bs.1 c)
-
-asked_each : (begun : Bool) (bodies : List (List ℕ)) (asks : List Ask) → AreAsked begun bodies asks → length asks ≡ length bodies
-unfolding AreAsked
-asked_each begun [] [] h = refl
-asked_each begun (body ∷ bodies) (a ∷ asks) h = let rec : length asks ≡ length bodies = asked_each true bodies asks h.1 in omega (arith, rec)
-asked_each begun [] (a ∷ asks) h = absurd h
-asked_each begun (body ∷ bodies) [] h = absurd h
 
 -- nothing is pending
 settled : (bodies : List (List ℕ)) (answers : List Answered) (phase : Phase) → pending phase ≡ [] → AreAsked false bodies (asks_of answers phase) → AreAsked false bodies (map asked_by answers)

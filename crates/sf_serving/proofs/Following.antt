@@ -1,6 +1,5 @@
 -- One event more of a session that is served.
 use Rattle.std.proofs.Common.{◌≡◌, ℕ, List, [], ◌∷◌, ◌++◌, Option, Result, Some, length, refl, ap, sym, ◌∙◌, subst, append-nil, append_assoc}
-use Rattle.std.specs.List.{AllByRecursion}
 use Rattle.std.specs.Io.KnownBytes.{Appends, Consumes}
 use Rattle.std.proofs.KnownBytes.{Appends-trans}
 use Rattle.std.proofs.lemmas.List.Concat.{flat_map-append}
@@ -14,11 +13,8 @@ use Rattle.sf_engine.specs.Worlds.{Entry, Answered, packet_for, transcript, Told
 use Rattle.sf_engine.specs.Traces.{LeadsBy, Leads, Tells, order, IsSession}
 use Rattle.sf_engine.specs.Views.{EngineView}
 use Rattle.sf_engine.specs.Fits.{Fits, GoesOnTrace, entry_of}
+use Rattle.sf_engine.proofs.Laws.{all_push}
 use Rattle.sf_serving.specs.Serving.{Scene, scene, IsOf, IsEntryOf, IsTimed, AreTimed, IsLowAt, RunsLow, IsFront, Progress, progress, IsPrompt, Served}
-
-pub all_push : {A : Type 0} (P : A → Type 0) (xs : List A) (x : A) → AllByRecursion P xs → P x → AllByRecursion P (xs ++ x ∷ [])
-all_push P [] x h p = (p, tt)
-all_push P (y ∷ xs) x h p = (h.0, all_push P xs x h.1 p)
 
 pub transcript_append : (answers more : List Answered) → transcript (answers ++ more) ≡ transcript answers ++ transcript more
 unfolding transcript

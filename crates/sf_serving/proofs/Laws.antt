@@ -2,7 +2,7 @@
 -- files here are private to this crate.
 
 -- fronts: what begins with what, and what stays prompt as a session goes further
-pub use Rattle.sf_serving.proofs.Following.{all_push, transcript_append, front_more, front_all, prompt_further}
+pub use Rattle.sf_serving.proofs.Following.{transcript_append, front_more, front_all, prompt_further}
 -- one call more on a line, and writes alone
 pub use Rattle.sf_serving.proofs.Ending.{nothing_after, prompt_push, prompt_writes}
 -- how many bytes the calls of a line moved

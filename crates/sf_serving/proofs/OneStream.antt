@@ -1,9 +1,7 @@
 -- A stream has one reading: its bodies, what each asks for, and how it ends.
-use Rattle.std.proofs.Common.{◌≡◌, ℕ, ◌+◌, ◌<◌, ◌^◌, List, [], ◌∷◌, ◌++◌, Bool, true, false, length, take, drop, refl, ap, sym, ◌∙◌, subst, arith, inl, inr, append_assoc, map}
+use Rattle.std.proofs.Common.{◌≡◌, ℕ, ◌+◌, ◌<◌, ◌^◌, List, [], ◌∷◌, ◌++◌, Bool, true, length, refl, ap, sym, ◌∙◌, subst, arith, inl, inr, append_assoc, map}
 use Rattle.std.specs.Int.{w32}
 use Rattle.std.specs.List.{AllByRecursion, flat_map}
-use Rattle.std.proofs.Math.Seq.{drop-append_seam, take-append_seam}
-use Rattle.std.proofs.lemmas.List.Elements.{All-take, All-drop, All-same}
 use Rattle.std.proofs.lemmas.List.{length-append}
 use Rattle.std.proofs.lemmas.Option.{some_pair_parts}
 use Rattle.sf_field.specs.Fields.{AreBytes, be32, packet}
@@ -21,8 +19,8 @@ use Rattle.sf_session.specs.declared.cause.Cause.{Cause}
 use Rattle.sf_session.specs.Asking.{AsksFor, ask_in}
 use Rattle.sf_session.specs.Sessions.{Begins, BeginsWrong, EndsBy}
 use Rattle.sf_engine.specs.Worlds.{Answered, Version, Locally, ByCall, Refused, asked_by}
-use Rattle.sf_engine.specs.Traces.{has_begun}
 use Rattle.sf_engine.specs.Laws.{AreAsked}
+use Rattle.sf_engine.proofs.Laws.{begun_after, begun_stays, whole_bytes, rest_bytes}
 use Rattle.sf_serving.specs.Ends.{IsEnd}
 
 -- ---- one front
@@ -93,17 +91,6 @@ one_wrong bytes a b (inr x) (inr y) = x.1 ∙ sym y.1
 
 -- ---- one question of a body
 
-whole_bytes : (body rest : List ℕ) → AreBytes (packet body ++ rest) → AreBytes body
-whole_bytes body rest h =
-    let P : ℕ → Type 0 = λ b. b < 256 in
-    let front : AreBytes (packet body) = All-same P (packet body) (take (length (packet body)) (packet body ++ rest)) (sym (take-append_seam (packet body) rest)) (All-take P (length (packet body)) (packet body ++ rest) h) in
-    All-same P body (drop (length (be32 (length body))) (packet body)) (sym (drop-append_seam (be32 (length body)) body)) (All-drop P (length (be32 (length body))) (packet body) front)
-
-rest_bytes : (body rest : List ℕ) → AreBytes (packet body ++ rest) → AreBytes rest
-rest_bytes body rest h =
-    let P : ℕ → Type 0 = λ b. b < 256 in
-    All-same P rest (drop (length (packet body)) (packet body ++ rest)) (sym (drop-append_seam (packet body) rest)) (All-drop P (length (packet body)) (packet body ++ rest) h)
-
 one_ask : (begun : Bool) (body : List ℕ) (a b : Ask) → AreBytes body → AsksFor begun body a → AsksFor begun body b → a ≡ b
 one_ask begun body a b bytes h k = h.2 ∙ ap (λ (z : Asked). ask_in begun z) (one_question body h.0 k.0 bytes h.1 k.1) ∙ sym k.2
 
@@ -152,18 +139,6 @@ module _ (begun : Bool) (bytes : List ℕ) (are : AreBytes bytes) where
 
 -- ---- one reading
 
-abbrev pub begun_after : Bool → List (List ℕ) → Bool
-begun_after begun [] = begun
-begun_after begun (body ∷ bodies) = true
-
-after_true : (bodies : List (List ℕ)) → begun_after true bodies ≡ true
-after_true [] = refl
-after_true (body ∷ bodies) = refl
-
-pub after_false : (bodies : List (List ℕ)) → has_begun bodies ≡ begun_after false bodies
-after_false [] = refl
-after_false (body ∷ bodies) = refl
-
 -- The bytes are the packets of these bodies, each answered as it asks for, and an end.
 pub record Reads (begun : Bool) (bytes : List ℕ) (bodies : List (List ℕ)) (answers : List Answered) (cause : Cause) : Type 0 where
   pub rest : List ℕ
@@ -196,7 +171,7 @@ first_of begun bytes body bodies (a ∷ answers) cause r = record {
     rest = r.rest;
     are_bodies = r.are_bodies.1;
     stream = refl;
-    end = subst (λ (b : Bool). IsEnd b r.rest cause) (sym (after_true bodies)) r.end;
+    end = subst (λ (b : Bool). IsEnd b r.rest cause) (sym (begun_stays bodies)) r.end;
     asked = r.asked.1;
   };
 }

@@ -25,7 +25,7 @@ use Rattle.sf_walk.specs.declared.finding.Located.TheVariants as located
 use Rattle.sf_walk.specs.Ways.{is_rooted, are_nested, way_from, found_content, found_node, IsThere, AreWays}
 use Rattle.sf_walk.specs.Renames.{may_replace, MayMove}
 use Rattle.sf_walk.proofs.Fits.{Known, no_way, name_missing, node_at, directory_says}
-use Rattle.sf_walk.proofs.Parents.{entry_owns}
+use Rattle.sf_walk.proofs.Onward.{has_entry}
 use Rattle.sf_walk.proofs.PathCalls.{file_bare, found_no_way, found_missing}
 
 abbrev AreNoRoots : Path → Path → Type 0
@@ -122,7 +122,7 @@ module _ (s : StoreState) (t : Tree) (k : Keeps s t) (moment : ℕ) (old new : P
       may_move_over : (into target : ℕ) → way_from s.nodes s.root s.root new ≡ located.At into target → is_bare_at s.nodes target ≡ true → MayMove s old new from into
       may_move_over into target e bare =
           let f = last_known s.nodes s.root new into target ne.1 (node_at s t k new into target e).1 in
-          may_move f.0 f.1 into f.2 f.3 (entry_owns s.nodes into f.1 target f.4)
+          may_move f.0 f.1 into f.2 f.3 (has_entry s.nodes into f.1 target f.4)
           (λ other some. let h : Some target ≡ Some other = sym f.4 ∙ some in let same : target ≡ other = cc in ap (is_bare_at s.nodes) (sym same) ∙ bare)
 
       -- ---- RENAME

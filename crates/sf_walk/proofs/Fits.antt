@@ -12,33 +12,14 @@ use Rattle.sf_inode.specs.declared.node.Node.{Node}
 use Rattle.sf_inode.specs.declared.node.Content.{Content}
 use Rattle.sf_inode.specs.declared.node.Content.TheVariants as content
 use Rattle.sf_inode.specs.Nodes.{object_in, is_directory_content}
-use Rattle.sf_keeps.specs.Steps.{Steps, walk}
+use Rattle.sf_keeps.specs.Steps.{walk}
 use Rattle.sf_keeps.specs.Shows.{label_by, is_directory_by}
 use Rattle.sf_inode.specs.Stores.{StoreState, node_in, entry_of, is_directory_at, shown_node, shown_of}
 use Rattle.sf_keeps.specs.Keeps.{Keeps}
+use Rattle.sf_keeps.proofs.Laws.{walk-append, last_step}
 use Rattle.sf_walk.specs.declared.finding.Located.{Located}
 use Rattle.sf_walk.specs.declared.finding.Located.TheVariants as located
 use Rattle.sf_walk.specs.Ways.{missing, way_from, found_content, found_node}
-
-pub walk-append : (step : Steps) (x : ℕ) (p q : Path) → walk step x (p ++ q) ≡ option_and_then (λ y. walk step y q) (walk step x p)
-walk-append step x [] q = refl
-walk-append step x (n ∷ p) q =
-    elim (step x n) as (λ y. option_and_then (λ z. walk step z (p ++ q)) y ≡ option_and_then (λ z. walk step z q) (option_and_then (λ z. walk step z p) y)) [
-      | None ↦ refl
-      | Some y ↦ walk-append step y p q
-    ]
-
--- the last step of a way
-last_step : (step : Steps) (q : Path) (x c : ℕ) → walk step x q ≡ Some c → (x ≡ c) ⊎ ((y : ℕ) × (m : Name) × (step y m ≡ Some c))
-last_step step [] x c w = let e : x ≡ c = cc in inl e
-last_step step (m ∷ q) x c w =
-    elim (step x m) as (λ o. step x m ≡ o → option_and_then (λ y. walk step y q) o ≡ Some c → (x ≡ c) ⊎ ((y : ℕ) × (k : Name) × (step y k ≡ Some c))) [
-      | None ↦ λ s e. cc
-      | Some y ↦ λ s e. elim (last_step step q y c e) [
-        | inl h ↦ inr (x, m, s ∙ ap Some h)
-        | inr h ↦ inr h
-      ]
-    ] refl w
 
 -- whether a front of the path behind `front` is no directory
 abbrev pub fails_behind : Tree → Path → Path → Bool

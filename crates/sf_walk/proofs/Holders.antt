@@ -1,34 +1,23 @@
 -- What the store's methods leave of holders and of the count of look-ups.
-use Rattle.std.specs.Prelude.{◌≡◌, ℕ, zero, suc, ◌+◌, ◌-◌, ◌<◌, ◌^◌, min, nat_eq, true, false, cond, List, [], ◌∷◌, length, Option, Some, None, slice_set, if◌then◌else◌, refl}
+use Rattle.std.specs.Prelude.{◌≡◌, ℕ, zero, suc, ◌+◌, ◌-◌, ◌^◌, min, nat_eq, true, false, cond, List, Option, Some, None, slice_set, if◌then◌else◌, refl}
 use Rattle.std.specs.Option.{option_map_or}
-use Rattle.std.proofs.Common.{sym, ap, subst, ◌∙◌, eqb-true, eq-eqb, arith, get_or-set_same, get_or-set_other}
+use Rattle.std.proofs.Common.{sym, ap, subst, ◌∙◌, eqb-true, eq-eqb}
 use Rattle.sf_path.specs.Names.{Name}
 use Rattle.sf_inode.specs.declared.node.Node.{Node}
 use Rattle.sf_inode.specs.declared.handle.OpenHandle.{OpenHandle}
 use Rattle.sf_inode.specs.declared.handle.Marks.{Marks}
 use Rattle.sf_inode.specs.Nodes.{less_content, more_content, with_content, with_bytes, with_opened, without_name, is_unused}
 use Rattle.sf_inode.specs.Stores.{StoreState, node_in, entry_of, edited_by, edited, bytes_set, entry_taken, entry_put, moved_entry, relinked_from, relinked, with_nodes, released_if, released, unlinked_from, unlinked, handles_of, handles_put, handle_put, new_handle, opened_by, opened, handle_dropped, closed_by, closed, handle_at, Inserted, spot, new_entry}
+use Rattle.sf_keeps.proofs.Laws.{node_in-set}
 use Rattle.sf_walk.specs.Served.{IsAsBefore, Stays, HoldersStay, IsAlike, LookedUp, after_look_ups}
-use Rattle.sf_walk.proofs.LookUps.{looked_nodes}
+use Rattle.sf_walk.proofs.LookUps.{looked_nodes, looked_root}
 
 -- a change of a node that leaves its holder and its label
 abbrev pub LeavesHolder : (Node → Node) → Type 0
 LeavesHolder f = (node : Node) → ((f node).holder ≡ node.holder) × ((f node).label ≡ node.label)
 
-within : (nodes : List (Option Node)) (id : ℕ) (node : Node) → node_in nodes id ≡ Some node → id < length nodes
-within [] id node = λ e. cc
-within (x ∷ xs) zero node = λ e. omega arith
-within (x ∷ xs) (suc id) node = λ e. let h = within xs id node e in omega arith
-
 pub apart : (a b : ℕ) → nat_eq a b ≡ false → a ≡ b → ⊥
 apart a b e h = let t = eq-eqb a b h in cc
-
-pub node_in-set : (nodes : List (Option Node)) (id : ℕ) (node : Node) (v : Option Node) → node_in nodes id ≡ Some node → (i : ℕ) → node_in (slice_set nodes id v) i ≡ cond (nat_eq id i) v (node_in nodes i)
-node_in-set nodes id node v at i =
-    elim (nat_eq id i) as (λ b. nat_eq id i ≡ b → node_in (slice_set nodes id v) i ≡ cond b v (node_in nodes i)) [
-      | true ↦ λ e. ap (node_in (slice_set nodes id v)) (sym (eqb-true id i e)) ∙ get_or-set_same nodes id v None (within nodes id node at)
-      | false ↦ λ e. get_or-set_other nodes id i v None (λ h. apart id i e (sym h))
-    ] refl
 
 -- ---- holders
 as_it_was : (N : Option ℕ → ℕ → Type 0) (o : Option Node) (node : Node) → o ≡ Some node → IsAsBefore N o node
@@ -153,13 +142,7 @@ stays_closed {N} old s session number h =
       | Some x ↦ stays_released old (edited (λ node. with_opened (node.opens - 1) node) mid x.node) x.node (stays_edited (λ node. with_opened (node.opens - 1) node) (λ node. (refl, refl)) old mid x.node kept)
     ]
 
--- ---- look-ups
-
 -- ---- nothing but look-ups
-after_root : (k : ℕ) (s : StoreState) → (after_look_ups k s).root ≡ s.root
-after_root zero s = refl
-after_root (suc k) s = after_root k s
-
 after_sessions : (k : ℕ) (s : StoreState) → (after_look_ups k s).sessions ≡ s.sessions
 after_sessions zero s = refl
 after_sessions (suc k) s = after_sessions k s
@@ -167,6 +150,6 @@ after_sessions (suc k) s = after_sessions k s
 pub alike_looked : (old new : StoreState) (most : ℕ) → LookedUp old new most → IsAlike old new
 alike_looked old new most h = record {
   nodes = λ id. ap (λ (ns : List (Option Node)). node_in ns id) (looked_nodes old new most h);
-  root = ap (λ (s : StoreState). s.root) h.state ∙ after_root h.count old;
+  root = looked_root old new most h;
   sessions = ap (λ (s : StoreState). s.sessions) h.state ∙ after_sessions h.count old;
 }

@@ -19,6 +19,13 @@ after_nodes (suc k) s = after_nodes k s
 pub looked_nodes : (old new : StoreState) (most : ℕ) → LookedUp old new most → new.nodes ≡ old.nodes
 looked_nodes old new most h = ap (λ (s : StoreState). s.nodes) h.state ∙ after_nodes h.count old
 
+after_root : (k : ℕ) (s : StoreState) → (after_look_ups k s).root ≡ s.root
+after_root zero s = refl
+after_root (suc k) s = after_root k s
+
+pub looked_root : (old new : StoreState) (most : ℕ) → LookedUp old new most → new.root ≡ old.root
+looked_root old new most h = ap (λ (s : StoreState). s.root) h.state ∙ after_root h.count old
+
 after_more : (k j : ℕ) (s : StoreState) → after_look_ups k (after_look_ups j s) ≡ after_look_ups (k + j) s
 after_more zero j s = let e : j ≡ 0 + j = omega arith in ap (λ i. after_look_ups i s) e
 after_more (suc k) j s = let e : suc (k + j) ≡ suc k + j = omega arith in ap looked_up (after_more k j s) ∙ ap (λ i. after_look_ups i s) e

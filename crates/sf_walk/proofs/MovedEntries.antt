@@ -24,7 +24,8 @@ use Rattle.sf_walk.specs.Served.{IsCarriedOut}
 use Rattle.sf_walk.specs.Renames.{MayMove}
 use Rattle.sf_walk.proofs.Holders.{apart}
 use Rattle.sf_walk.proofs.LastNames.{last_is, parent_is}
-use Rattle.sf_walk.proofs.Parents.{shown_directory, entry_owns, bare_above, touches}
+use Rattle.sf_walk.proofs.Parents.{shown_directory, bare_above, touches}
+use Rattle.sf_walk.proofs.Onward.{has_entry}
 
 done-append : (t : Tree) (cs ds : List Change) → done t (cs ++ ds) ≡ done (done t cs) ds
 done-append t [] ds = refl
@@ -81,7 +82,7 @@ module _ (s : StoreState) (t : Tree) (k : Keeps s t) (moment : ℕ) (old new : P
   tree_old = done (changed t (Move Old New)) (touched t moment (parent Old))
 
   from_is : is_directory_at s.nodes from ≡ true
-  from_is = entry_owns s.nodes from m.name m.node m.there
+  from_is = has_entry s.nodes from m.name m.node m.there
 
   from_same : shown_of mid.nodes from ≡ shown_of s.nodes from
   from_same = (relinked_alike s from m.name into m.last from other_from).0

@@ -12,6 +12,7 @@ use Rattle.sf_inode.specs.declared.node.Content.TheVariants as content
 use Rattle.sf_inode.specs.Nodes.{entry_in, is_directory_content}
 use Rattle.sf_inode.specs.Stores.{StoreState, node_in, entry_of, holder_of, is_directory_at}
 use Rattle.sf_keeps.specs.Steps.{Steps, walk}
+use Rattle.sf_keeps.proofs.Laws.{walk-append}
 use Rattle.sf_walk.specs.declared.finding.Located.TheVariants as located
 use Rattle.sf_walk.specs.Ways.{way_from, missing}
 use Rattle.sf_walk.specs.Steps.{IsOnWay, IsFree, LeadsNowhere, reached}
@@ -41,14 +42,6 @@ walked_way nodes (m ∷ front) n rest above above' x y e =
       | Some z ↦ λ f w. ap (λ b. cond b (way_from nodes x z (front ++ n ∷ rest)) located.NoWay) (has_entry nodes x m z f) ∙ walked_way nodes front n rest x above' z y w
     ] refl e
 
-walk_append : (step : Steps) (x : ℕ) (p q : Path) → walk step x (p ++ q) ≡ option_and_then (λ y. walk step y q) (walk step x p)
-walk_append step x [] q = refl
-walk_append step x (n ∷ p) q =
-    elim (step x n) as (λ y. option_and_then (λ z. walk step z (p ++ q)) y ≡ option_and_then (λ z. walk step z q) (option_and_then (λ z. walk step z p) y)) [
-      | None ↦ refl
-      | Some y ↦ walk_append step y p q
-    ]
-
 one_name : (o : Option ℕ) → option_and_then (λ y. Some y) o ≡ o
 one_name None = refl
 one_name (Some y) = refl
@@ -59,7 +52,7 @@ take_next p i n h g = ap (λ j. take j p) (add-one i) ∙ take-suc p i [] h ∙ 
 -- one name further
 pub walk_next : (step : Steps) (x : ℕ) (p : Path) (i : ℕ) (n : Name) (y : ℕ) → i < length p → slice_get p i ≡ Some n → walk step x (take i p) ≡ Some y → walk step x (take (i + 1) p) ≡ step y n
 walk_next step x p i n y h g w =
-    ap (walk step x) (take_next p i n h g) ∙ walk_append step x (take i p) (n ∷ []) ∙ ap (option_and_then (λ z. walk step z (n ∷ []))) w ∙ one_name (step y n)
+    ap (walk step x) (take_next p i n h g) ∙ walk-append step x (take i p) (n ∷ []) ∙ ap (option_and_then (λ z. walk step z (n ∷ []))) w ∙ one_name (step y n)
 
 module _ (s : StoreState) (path : Path) (walked node : ℕ) (way : IsOnWay s path walked node) where
   on_way : way_from s.nodes s.root s.root path ≡ way_from s.nodes node node (drop walked path)

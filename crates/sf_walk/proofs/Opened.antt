@@ -40,7 +40,7 @@ use Rattle.sf_walk.proofs.Holders.{put_nodes, stays_inserted, stays_opened}
 use Rattle.sf_walk.proofs.LookUps.{looked_nodes}
 use Rattle.sf_walk.proofs.Fits.{no_way, name_missing, node_at}
 use Rattle.sf_walk.proofs.Undone.{edited_node, edited_itself}
-use Rattle.sf_walk.proofs.Looked.{keeps_looked, way_looked, alike_after}
+use Rattle.sf_walk.proofs.Looked.{keeps_counted, way_looked, alike_after}
 use Rattle.sf_walk.proofs.LastNames.{last_is}
 use Rattle.sf_walk.proofs.Told.{tells_served, past_root, past_root_gives, on_err_map}
 use Rattle.sf_walk.proofs.Parents.{shown_directory, touches}
@@ -234,7 +234,7 @@ module _ (old mid : StoreState) (t : Tree) (p : Path) (most : ℕ) (looked : Loo
     pub open_no_way : (l : Located) (code : StatusCode) → (p ≡ [] → ⊥) → (code ≡ NoSuchFile) × (l ≡ located.NoWay) → l ≡ way_from old.nodes old.root old.root p
         → IsCarriedOut mid t (unless_root p (answer (place_at t p))) (reply.Status code)
     open_no_way l code ne not e =
-        let k = keeps_looked old mid t most looked h in
+        let k = keeps_counted old mid t most looked h in
         past_root mid t p (answer (place_at t p)) (reply.Status code) ne
         (tells_served mid t (answer (place_at t p)) (reply.Status code)
         (ap answer (no_way mid t k p (way_looked old mid p most located.NoWay looked (sym not.1 ∙ e))) ∙ ap refuses (sym not.0)) k)
@@ -243,7 +243,7 @@ module _ (old mid : StoreState) (t : Tree) (p : Path) (most : ℕ) (looked : Loo
         → ((front : Path) → p ≡ front ++ last_of p ∷ [] → walk (entry_of mid.nodes) mid.root front ≡ Some d → Gives new t (answer Absent) r)
         → Gives new t (unless_root p (answer (place_at t p))) r
     open_missing new d {E} r ne e served =
-        let k = keeps_looked old mid t most looked h in
+        let k = keeps_counted old mid t most looked h in
         let f = name_missing mid t k p d (way_looked old mid p most (located.Missing d) looked e) in
         let last : last_of p ≡ f.1.1 = ap last_of f.1.2 ∙ last_is f.1.0 f.1.1 in
         let there : p ≡ f.1.0 ++ last_of p ∷ [] = f.1.2 ∙ ap (λ (m : Name). f.1.0 ++ m ∷ []) (sym last) in
@@ -251,7 +251,7 @@ module _ (old mid : StoreState) (t : Tree) (p : Path) (most : ℕ) (looked : Loo
 
     pub open_exclusive : (above y : ℕ) → (p ≡ [] → ⊥) → located.At above y ≡ way_from old.nodes old.root old.root p → (flags.create && flags.exclusive) ≡ true → IsCarriedOut mid t (unless_root p (answer (place_at t p))) (reply.Status Failure)
     open_exclusive above y ne e both =
-        let k = keeps_looked old mid t most looked h in
+        let k = keeps_counted old mid t most looked h in
         let f = node_at mid t k p above y (way_looked old mid p most (located.At above y) looked e) in
         let at_label = ap answer f.2.2 ∙ ap (λ b. cond b (refuses Failure) (open_present t session (stamp number moment) flags (found_object f.2.0.label (object_of t.objects f.2.0.label)))) both in
         past_root mid t p (answer (place_at t p)) (reply.Status Failure) ne (tells_served mid t (answer (place_at t p)) (reply.Status Failure) at_label k)
@@ -260,7 +260,7 @@ module _ (old mid : StoreState) (t : Tree) (p : Path) (most : ℕ) (looked : Loo
         → ((it : Node) → node_in mid.nodes y ≡ Some it → Gives new t (open_present t session (stamp number moment) flags (found_node it)) r)
         → Gives new t (unless_root p (answer (place_at t p))) r
     open_located new above y {E} r ne e both served =
-        let k = keeps_looked old mid t most looked h in
+        let k = keeps_counted old mid t most looked h in
         let f = node_at mid t k p above y (way_looked old mid p most (located.At above y) looked e) in
         let is : found_object f.2.0.label (object_of t.objects f.2.0.label) ≡ found_node f.2.0 = sym (ap (found_place t.objects) f.2.2) ∙ f.2.3 in
         let at_label : answer (place_at t p) ≡ open_present t session (stamp number moment) flags (found_node f.2.0) =

@@ -27,8 +27,9 @@ use Rattle.sf_walk.specs.declared.finding.Located.TheVariants as located
 use Rattle.sf_walk.specs.Ways.{way_from, last_of}
 use Rattle.sf_walk.specs.Served.{LookedUp, IsCarriedOut}
 use Rattle.sf_walk.proofs.Fits.{name_missing, node_at}
-use Rattle.sf_walk.proofs.Looked.{keeps_looked, way_looked}
+use Rattle.sf_walk.proofs.Looked.{keeps_counted, way_looked}
 use Rattle.sf_walk.proofs.LastNames.{last_is, parent_is}
+use Rattle.sf_walk.proofs.Onward.{has_entry}
 
 abbrev pub IsShownDirectory : List (Option Node) → ℕ → Type 0
 IsShownDirectory nodes id = (label : ℕ) × ((m : Metadata) × (shown_of nodes id ≡ Some (label, Directory m)))
@@ -45,17 +46,6 @@ shown_directory nodes id d =
           directory_content nodes id node.label node.metadata node.content (ap (option_map shown_node) e)
           (sym (ap (λ (o : Option Node). option_map_or (λ (it : Node). is_directory_content it.content) o false) e) ∙ d)
     ] refl
-
-content_owns : (c : Content) (n : Name) (y : ℕ) → entry_in c n ≡ Some y → is_directory_content c ≡ true
-content_owns (content.Directory es) n y e = refl
-content_owns (content.File contents) n y e = cc
-
-pub entry_owns : (nodes : List (Option Node)) (d : ℕ) (n : Name) (y : ℕ) → entry_of nodes d n ≡ Some y → is_directory_at nodes d ≡ true
-entry_owns nodes d n y =
-    elim (node_in nodes d) as (λ o. option_and_then (λ (node : Node). entry_in node.content n) o ≡ Some y → option_map_or (λ (node : Node). is_directory_content node.content) o false ≡ true) [
-      | None ↦ λ e. cc
-      | Some node ↦ λ e. content_owns node.content n y e
-    ]
 
 content_bare : (c : Content) (n : Name) → is_bare_content c ≡ true → entry_in c n ≡ None
 content_bare (content.Directory []) n e = refl
@@ -86,7 +76,7 @@ pub make_served : (old mid made new : StoreState) (t : Tree) (p : Path) (most nu
     → new ≡ edited (with_metadata (modified_at moment)) made dir
     → IsCarriedOut new t (make_directory t (stamp number moment) p attrs (place_at t p)) (reply.Status Success)
 make_served old mid made new t p most number moment attrs dir id it looked h fresh e did label object state =
-    let k = keeps_looked old mid t most looked h in
+    let k = keeps_counted old mid t most looked h in
     let f = name_missing mid t k p dir (way_looked old mid p most (located.Missing dir) looked e) in
     let r = f.1.0 in
     let n = f.1.1 in
@@ -117,7 +107,7 @@ goes_served s new t p moment dir y h some e bare state = elim (node_at s t h p d
       let kept : Keeps (unlinked s dir n) (changed t (GonePath (r ++ n ∷ []))) = keeps_unlinked s t r dir n y h f.3 f.4 bare in
       let other : entry_of s.nodes dir n ≢ Some dir = λ own. (let same : dir ≡ y = (let g = f.4 in cc) in let none = bare_above s.nodes dir n (ap (is_bare_at s.nodes) same ∙ bare) in let x : ⊥ = cc in x) in
       let after : Keeps (edited (with_metadata (modified_at moment)) (unlinked s dir n) dir) (done (changed t (GonePath (r ++ n ∷ []))) (touched t moment (parent (r ++ n ∷ [])))) =
-      touches s (unlinked s dir n) t (changed t (GonePath (r ++ n ∷ []))) r n dir moment h f.3 (entry_owns s.nodes dir n y f.4) kept (unlinked_alike s dir n dir other).0 in
+      touches s (unlinked s dir n) t (changed t (GonePath (r ++ n ∷ []))) r n dir moment h f.3 (has_entry s.nodes dir n y f.4) kept (unlinked_alike s dir n dir other).0 in
       let whole : Keeps new (done t (GonePath p ∷ touched t moment (parent p))) =
       subst (λ (x : StoreState). Keeps x (done t (GonePath p ∷ touched t moment (parent p)))) (sym state)
       (subst (λ (x : Name). Keeps (edited (with_metadata (modified_at moment)) (unlinked s dir x) dir) (done t (GonePath p ∷ touched t moment (parent p)))) (sym (ap last_of is ∙ last_is r n))

@@ -28,7 +28,7 @@ use Rattle.sf_walk.specs.Ways.{way_from, found_content, found_node, IsThere}
 use Rattle.sf_walk.specs.Served.{LookedUp, IsCarriedOut, Gives, Stays, is_success}
 use Rattle.sf_walk.proofs.Holders.{stays_looked, stays_edited, stays_unlinked}
 use Rattle.sf_walk.proofs.Fits.{no_way, name_missing, node_at}
-use Rattle.sf_walk.proofs.Looked.{keeps_looked, way_looked}
+use Rattle.sf_walk.proofs.Looked.{keeps_counted, way_looked}
 use Rattle.sf_walk.proofs.Told.{tells_served, past_root_gives, past_root_wants}
 
 -- after look-ups an entry was taken out, and its directory modified
@@ -56,7 +56,7 @@ module _ (s : StoreState) (t : Tree) (p : Path) (h : Keeps s t) where
 
 module _ (old mid : StoreState) (t : Tree) (p : Path) (most : ℕ) (looked : LookedUp old mid most) (h : Keeps old t) where
   mid_keeps : Keeps mid t
-  mid_keeps = keeps_looked old mid t most looked h
+  mid_keeps = keeps_counted old mid t most looked h
 
   -- a path that leads nowhere, for any call that looks at what is found
   nothing_told : (f : Found → Answer) (code : StatusCode) → f (found_at t p) ≡ refuses NoSuchFile → code ≡ NoSuchFile → IsCarriedOut mid t (f (found_at t p)) (reply.Status code)

@@ -14,8 +14,9 @@ use Rattle.sf_inode.specs.declared.node.Content.{Content}
 use Rattle.sf_inode.specs.declared.node.Content.TheVariants as content
 use Rattle.sf_inode.specs.Nodes.{entry_in, is_directory_content, less_content, more_content, with_content, without_name}
 use Rattle.sf_inode.specs.Stores.{StoreState, node_in, entry_of, is_directory_at, with_nodes, edited_by, edited, entry_taken, released_if, unlinked_from, unlinked, Inserted, new_entry}
+use Rattle.sf_keeps.proofs.Laws.{node_in-set}
 use Rattle.sf_walk.specs.Served.{IsAlike}
-use Rattle.sf_walk.proofs.Holders.{apart, node_in-set}
+use Rattle.sf_walk.proofs.Holders.{apart}
 
 same_name_itself : (n : Name) → same_name n n ≡ true
 same_name_itself n = (eq_by_cmp_equiv name_total).refl n

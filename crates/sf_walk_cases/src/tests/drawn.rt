@@ -1,6 +1,7 @@
 //! Pseudo-random calls of two sessions over a few names.
 
 use super::*;
+use sf_cases::Numbers;
 use sf_field::{ByteString, OpenFlags};
 use sf_path::Path;
 
@@ -43,20 +44,15 @@ const KINDS: [Kind; 9] = [
     Kind::Attrs,
 ];
 
-/// Numbers by a linear congruence modulo 2^64, with Knuth's factor for MMIX.
+/// Drawn values.
 #[derive(Clone, Copy)]
 struct Draws {
-    state: u64,
+    numbers: Numbers,
 }
 
 impl Draws {
-    /// The next number, below the limit, or 0. The upper bits alone are as good as random.
     fn below(&mut self, limit: u64) -> u64 {
-        self.state = self
-            .state
-            .wrapping_mul(6_364_136_223_846_793_005)
-            .wrapping_add(1_442_695_040_888_963_407);
-        (self.state / 4_294_967_296) % limit.max(1)
+        self.numbers.below(limit)
     }
 
     fn small(&mut self, limit: u32) -> u32 {
@@ -317,7 +313,9 @@ fn call(
 /// Draws calls, and makes them from the root, or by their steps.
 fn draw(rt: &impl Abort, alloc: Global, manner: Manner) -> Result<(), Fail> {
     let mut pair = Pair::in_manner(rt, alloc, manner);
-    let mut draws = Draws { state: 1 };
+    let mut draws = Draws {
+        numbers: Numbers::new(1),
+    };
     let mut handles = Handles { numbers: [0; 32] };
     let mut kinds = Vec::new(alloc);
     for _ in 0..CALLS {

@@ -2,19 +2,18 @@
 
 use super::*;
 use sf_cases::requests::set_stat;
-use sf_cases::sized;
+use sf_cases::{Numbers, sized};
 use sf_path::Path;
 use sf_reply::StatusCode;
 
 /// The names in the root.
 const NAMES: &[u8] = b"abcde";
 
-/// Numbers by a linear congruence modulo 2^64, with Knuth's factor for MMIX; the latest handles;
-/// and the name in the root below which most calls go: renames move it, and requests that are asked
-/// later follow it.
+/// Drawn numbers; the latest handles; and the name in the root below which most calls go: renames
+/// move it, and requests that are asked later follow it.
 #[derive(Clone, Copy)]
 pub(super) struct Draws {
-    state: u64,
+    numbers: Numbers,
     handles: [u64; 16],
     home: u8,
 }
@@ -22,19 +21,14 @@ pub(super) struct Draws {
 impl Draws {
     pub(super) fn new(seed: u64) -> Draws {
         Draws {
-            state: seed,
+            numbers: Numbers::new(seed),
             handles: [0; 16],
             home: b'a',
         }
     }
 
-    /// The next number, below the limit, or 0. The upper bits alone are as good as random.
     pub(super) fn below(&mut self, limit: u64) -> u64 {
-        self.state = self
-            .state
-            .wrapping_mul(6_364_136_223_846_793_005)
-            .wrapping_add(1_442_695_040_888_963_407);
-        (self.state / 4_294_967_296) % limit.max(1)
+        self.numbers.below(limit)
     }
 
     pub(super) fn place(&mut self, places: usize) -> usize {

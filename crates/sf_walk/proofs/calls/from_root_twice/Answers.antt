@@ -1,6 +1,6 @@
 use Rattle.sf_call.specs.Requests.{target_of}
 use Rattle.sf_walk.specs.Ways.{names_of}
-use Rattle.sf_walk.proofs.Looked.{keeps_looked, stays_after}
+use Rattle.sf_walk.proofs.Looked.{keeps_counted, stays_after}
 use Rattle.sf_walk.proofs.Rooted.{located_after, served_after}
 use Rattle.sf_walk.proofs.calls.from_root_twice.Goals as goal
 
@@ -11,10 +11,10 @@ decide-requires c =
 pub returns-clause-served : goal.returns-clause-served
 returns-clause-served c = λ t kept fresh.
     served_after c.args.store.now c.locate_all-ways.new.store c.decide.new.store (names_of c.args.call.now.request) t _ c.decide.result.0 c.locate_all-ways.ensures.looked
-    (c.decide.ensures.served t (keeps_looked _ _ t _ c.locate_all-ways.ensures.looked kept) fresh)
+    (c.decide.ensures.served t (keeps_counted _ _ t _ c.locate_all-ways.ensures.looked kept) fresh)
 
 pub returns-clause-sure : goal.returns-clause-sure
-returns-clause-sure c = λ t kept fresh sure. c.decide.ensures.sure t (keeps_looked _ _ t _ c.locate_all-ways.ensures.looked kept) fresh sure
+returns-clause-sure c = λ t kept fresh sure. c.decide.ensures.sure t (keeps_counted _ _ t _ c.locate_all-ways.ensures.looked kept) fresh sure
 
 pub returns-clause-nodes : goal.returns-clause-nodes
 returns-clause-nodes c = stays_after c.args.store.now c.locate_all-ways.new.store c.decide.new.store (names_of c.args.call.now.request) c.locate_all-ways.ensures.looked c.decide.ensures.nodes

@@ -3,7 +3,7 @@ use Rattle.sf_walk.proofs.LookUps.{looked_none}
 use Rattle.std.proofs.Common.{◌∙◌, sym, ◌≡◌, false, ap, subst, ◌&&◌}
 use Rattle.sf_walk.proofs.Holders.{stays_none_new}
 use Rattle.sf_walk.proofs.LastNames.{not_root}
-use Rattle.sf_walk.proofs.Looked.{keeps_looked, stays_after}
+use Rattle.sf_walk.proofs.Looked.{keeps_counted, stays_after}
 use Rattle.sf_walk.proofs.Opened.{open_no_way, open_missing, open_exclusive, open_located, missing_directory, missing_entry}
 use Rattle.sf_walk.proofs.opening.open.Goals.{else-flags-via-then-flags+else-flags-2, else-flags-via-else-flags}
 use Rattle.sf_walk.proofs.opening.open.Goals as goal
@@ -28,7 +28,7 @@ pub returns-in-Ok-Missing-clause-served : goal.returns-in-Ok-Missing-clause-serv
 returns-in-Ok-Missing-clause-served c = λ t k fresh.
     open_missing c.args.store.now c.args.store.now t c.args.path.now _ (looked_none c.args.store.now) k c.args.session c.args.number c.args.moment c.args.flags c.args.attrs.now
     c.open_absent.new.store c.in-Ok-Missing.parent c.open_absent.result (not_root c.is_root.result c.args.path.now c.is_root.ensures c.if-is_root.false) (sym (subst (IsSlot c.args.located) c.in-Ok-Missing.field-0-is c.in-Ok-Missing.ensures.on_way) ∙ c.requires)
-    (λ front. c.open_absent.ensures.served t front (keeps_looked c.args.store.now c.args.store.now t _ (looked_none c.args.store.now) k) fresh)
+    (λ front. c.open_absent.ensures.served t front (keeps_counted c.args.store.now c.args.store.now t _ (looked_none c.args.store.now) k) fresh)
 
 pub returns-else-flags-clause-served : goal.returns-else-flags-clause-served
 returns-else-flags-clause-served c = λ t k fresh.
@@ -38,7 +38,7 @@ returns-else-flags-clause-served c = λ t k fresh.
     ] in
     open_located c.args.store.now c.args.store.now t c.args.path.now _ (looked_none c.args.store.now) k c.args.session c.args.number c.args.moment c.args.flags c.args.attrs.now
     c.open_present.new.store _ _ c.open_present.result (not_root c.is_root.result c.args.path.now c.is_root.ensures c.if-is_root.false) (sym (subst (IsSlot c.args.located) c.in-Ok-Taken.field-0-is c.in-Ok-Taken.ensures.on_way).1 ∙ c.requires) not_both
-    (λ it. c.open_present.ensures.served t it (keeps_looked c.args.store.now c.args.store.now t _ (looked_none c.args.store.now) k) fresh)
+    (λ it. c.open_present.ensures.served t it (keeps_counted c.args.store.now c.args.store.now t _ (looked_none c.args.store.now) k) fresh)
 
 pub returns-else-flags-clause-holders : goal.returns-else-flags-clause-holders
 returns-else-flags-clause-holders c = stays_after c.args.store.now c.args.store.now c.open_present.new.store _ (looked_none c.args.store.now) (stays_none_new _ _ c.open_present.ensures.holders)
