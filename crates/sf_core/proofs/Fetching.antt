@@ -25,7 +25,7 @@ use Rattle.sf_core.specs.Sound.{terrain, standing_at, standing_of, standings, Ca
 use Rattle.sf_core.specs.Stepping.{session_set_by, session_set, Fetched}
 use Rattle.sf_core.proofs.Maps.{set_same, set_other, removed_same, removed_other, count_set, rise_removed, rise_set, passing_removed}
 use Rattle.sf_core.proofs.Sounds.{some_eq, none_some, is_undecided, decided_none, call_kept}
-use Rattle.sf_core.proofs.Telling.{slot_kept, slot_idle}
+use Rattle.sf_core.proofs.Telling.{slot_kept, slot_idle, left_one}
 use Rattle.sf_core.proofs.Stepped.{own_session, own, apart, same_book}
 
 module _ (p : PartsView) (h : List Record) (sound : Sound p h) (lane : LaneView) (n : ℕ) (c : Call) (at : call_at p.calls n ≡ Some c) (busy : session_at p.sessions lane.session ≡ Some (Some n)) (call : lane.call ≡ Some n) (fits : p.store.look_ups < 2 ^ 64)
@@ -137,6 +137,7 @@ module _ (p : PartsView) (h : List Record) (sound : Sound p h) (lane : LaneView)
       record {
         own = own p h sound lane n c at busy call fits;
         decided = decided;
+        some = let one = left_one c given decided in omega (arith, one);
         recorded = (own_sound.recorded given decided).1;
         none = refl;
         slot = record {

@@ -24,6 +24,7 @@ history_of p h sound written = record {
   later = sound.later;
   sessions = λ s o at. (sound.sessions s o at).present;
   newcomers = sound.newcomers;
+  few = sound.few;
 }
 
 pub written_of : (p : PartsView) (h : List Record) → IsHistory (seen p) h → IsWritten p.book h

@@ -22,3 +22,5 @@ pub mod Making
 pub mod Beginning
 pub mod Steps
 pub mod UnderWay
+pub mod Stuck
+pub mod Laws

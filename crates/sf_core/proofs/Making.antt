@@ -514,6 +514,7 @@ module _ (p : PartsView) (history : List Record) (sound : Sound p history) (lane
             record {
               own = own p history sound lane n it at_it busy call fits;
               undecided = undecided;
+              some = let many = left_is it undecided in let some = some_left (path_of it.request) (other_of it.request) it.stage (names_of it.request) (sound.calls n it at_it).short (names_fit it.request) in omega (arith, many, some);
               new_number = subst (λ k. IsNewNumber k history) (sym number_is) ((sound.calls n it at_it).new_number undecided);
               way = may_by p.store (replay history) sound.keeps (path_of it.request) (other_of it.request) it.stage (not_root it.request) (stands p history sound n it at_it) at_end.may;
               helped = made.helped;

@@ -21,7 +21,7 @@ use Rattle.sf_core.specs.Lanes.{LaneView, at_rest}
 use Rattle.sf_core.specs.Cores.{CoreView, Slot, call_at, slot_of, joined, last_number, most_sessions}
 use Rattle.sf_core.specs.Cores.Slot.{Gone, Idle, Busy}
 use Rattle.sf_core.specs.Histories.{IsHistory}
-use Rattle.sf_core.specs.Progress.{reply_of, left_of, bound_of, depth_of, WalksOn, MayDecide, did, new_call, SameCall, overtaken, names_of, number_at}
+use Rattle.sf_core.specs.Progress.{reply_of, left_of, bound_of, IsBehind, WalksOn, MayDecide, did, new_call, SameCall, overtaken, names_of, number_at}
 
 -- the lane's call, if the lane is this core's
 pub record OwnCall (v : CoreView) (lane : LaneView) (c : Call) : Type 0 where
@@ -79,7 +79,7 @@ pub record IsBlocked (v w : CoreView) (lane : LaneView) (c : Call) (holder : ℕ
   pub slot : slot_of v other ≡ Busy call
   pub holds : reply_of call ≡ None
   pub number : call.number ≡ holder
-  pub deeper : depth_of c < depth_of call
+  pub deeper : IsBehind c call
   pub looks : LooksOnly v w 2
 
 -- a core with its history, and a lane, before a step; and after it, with the records that were added
@@ -97,6 +97,7 @@ pub record After : Type 0 where
 pub record Fetches (b : Before) (a : After) (c : Call) (given : Reply) : Type 0 where
   pub own : OwnCall b.core b.lane c
   pub decided : reply_of c ≡ Some given
+  pub some : 0 < left_of c
   pub recorded : IsAmong (did c given) b.history
   pub none : a.added ≡ []
   pub slot : SetsSlot b.core a.core b.lane.session Idle
@@ -144,6 +145,7 @@ IsOfOther v session (Left s) = ⊥
 pub record Decides (b : Before) (a : After) (c : Call) (given : Reply) : Type 0 where
   pub own : OwnCall b.core b.lane c
   pub undecided : reply_of c ≡ None
+  pub some : 0 < left_of c
   pub new_number : IsNewNumber c.number b.history
   pub way : MayDecide (replay b.history) c.request c.stage
   pub helped : List Record

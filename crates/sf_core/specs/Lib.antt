@@ -7,3 +7,4 @@ pub mod Stepping
 pub mod Sound
 pub mod Histories
 pub mod Events
+pub mod Stuck

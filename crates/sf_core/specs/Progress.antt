@@ -48,6 +48,10 @@ depth_at (Some path) (stage.Ends common old new) =
 abbrev pub depth_of : Call → ℕ
 depth_of c = depth_at (path_of c.request) c.stage
 
+-- a call that another blocks is behind that one: it looks less far down
+abbrev pub IsBehind : Call → Call → Type 0
+IsBehind c d = depth_of c < depth_of d
+
 -- It took the root, or walked one name further. Where a rename's paths part, it stands there with
 -- both ends, and then one of them goes on.
 abbrev pub WalksOn : Stage → Stage → Type 0

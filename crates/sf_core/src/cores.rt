@@ -6,6 +6,7 @@ ghost use Rattle.sf_call.specs.declared.record.Record.TheVariants.{Left};
 ghost use Rattle.sf_core.specs.Cores.{Slot, new_core, slot_of, joined, last_number, most_sessions};
 ghost use Rattle.sf_core.specs.Cores.Slot.{Idle};
 ghost use Rattle.sf_core.specs.Histories.{IsHistory};
+ghost use Rattle.sf_core.specs.Stuck.{IsNeverStuck};
 ghost use Rattle.sf_core.specs.Events.{StepsOn, Walks, Joins, Begins, begun, Leaves, RefusesJoin, RefusesBegin, came};
 
 use crate::lane::{Lane, Share};
@@ -157,6 +158,14 @@ impl Core {
         ensures { StepsOn self.old lane.old result self.new lane.new }
     {
         self.walk(lane, 1)
+    }
+
+    /// A law, for readers: where a call is unanswered, some session's call can go on. Whatever its next step comes
+    /// to, it moves the call or answers it.
+    pub fn never_stuck(&self)
+        ensures { IsNeverStuck self.now }
+    {
+        let _parts = &self.parts;
     }
 
     /// Steps of the lane's call, one after the other, up to one that doesn't move, and `most` at most: what

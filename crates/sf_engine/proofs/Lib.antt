@@ -21,3 +21,5 @@ pub mod SentBytes
 pub mod OneWorld
 pub mod Sending
 pub mod Examples
+pub mod Short
+pub mod Rounds

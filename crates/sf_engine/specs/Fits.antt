@@ -7,7 +7,6 @@ use Rattle.sf_call.specs.declared.call.Call.{Call}
 use Rattle.sf_call.specs.declared.call.Stage.{Stage}
 use Rattle.sf_call.specs.declared.call.Stage.TheVariants as stage
 use Rattle.sf_call.specs.declared.record.Record.{Record}
-use Rattle.sf_call.specs.declared.request.Request.{Request}
 use Rattle.sf_call.specs.Answers.{Answered as Answer}
 use Rattle.sf_call.specs.Histories.{IsLegal}
 use Rattle.sf_session.specs.Sessions.{SessionView}
@@ -20,7 +19,6 @@ use Rattle.sf_engine.specs.declared.seat.Seat.{Seat}
 use Rattle.sf_engine.specs.declared.seat.Place.{Place}
 use Rattle.sf_engine.specs.declared.seat.Place.TheVariants as place
 use Rattle.sf_engine.specs.declared.event.Event.{Event}
-use Rattle.sf_engine.specs.declared.event.Event.TheVariants as event
 use Rattle.sf_engine.specs.declared.event.Happened.{Happened}
 use Rattle.sf_engine.specs.declared.event.EngineFault.{EngineFault}
 use Rattle.sf_engine.specs.Worlds.{Entry, Phase, Resting, UnderWay, Decided, Gone as left, Told, World, transcript, here}
@@ -118,9 +116,9 @@ pub record Fits (e : EngineView) (trace : List Entry) : Type 0 where
 abbrev pub entry_of : Event → Result Happened EngineFault → List Record → Entry
 entry_of event result added = record { event = event; result = result; added = added }
 
--- what is true of every engine: there is a world that it agrees with
+-- what is true of every engine: there is a trace that it fits
 abbrev pub IsEngine : CoreView → List Seat → Type 0
-IsEngine core seats = (w : World) × Agrees w (record { core = core; seats = seats })
+IsEngine core seats = (trace : List Entry) × Fits (record { core = core; seats = seats }) trace
 
 -- from an engine that fits a trace to another, which added records
 abbrev pub passage : EngineView → List Record → List Record → EngineView → Passage

@@ -7,3 +7,4 @@ pub mod Fits
 pub mod Turns
 pub mod Laws
 pub mod Examples
+pub mod Rounds

@@ -1,11 +1,15 @@
 //! Many sessions on one core.
 
-ghost use Rattle.std.specs.Prelude.{◌≡◌, ◌<◌, ◌≤◌, ◌+◌, ◌-◌, ◌^◌, ◌⊎◌, ℕ, true, List, [], length, Some, None, OnErr, IfOk, IfSome, IfNone};
+ghost use Rattle.std.specs.Prelude.{◌≡◌, ◌<◌, ◌≤◌, ◌+◌, ◌-◌, ◌^◌, ◌⊎◌, ℕ, true, false, List, [], length, slice_get, Some, None, OnErr, IfOk, IfSome, IfNone};
 ghost use Rattle.std.specs.Global.{Vec};
 ghost use Rattle.sf_core.specs.Cores.{new_core};
 ghost use Rattle.sf_core.specs.Histories.{IsHistory};
 ghost use Rattle.sf_engine.specs.Traces.{goes_on_at, refusals};
-ghost use Rattle.sf_engine.specs.Fits.{Fits, GoesOnTrace, HasTurns, RunsTrace, IsSentBy, IsUnknown, WantsBytesBy, IsQuietBy};
+ghost use Rattle.sf_engine.specs.declared.seat.Seat.{Seat};
+ghost use Rattle.sf_engine.specs.Turns.{is_under_way};
+ghost use Rattle.sf_engine.specs.Worlds.{Entry};
+ghost use Rattle.sf_engine.specs.Rounds.{AreUnderWay, IsRound, HasRounds, IsWithinBounds, left_to};
+ghost use Rattle.sf_engine.specs.Fits.{IsEngine, Fits, GoesOnTrace, HasTurns, RunsTrace, IsSentBy, IsUnknown, WantsBytesBy, IsQuietBy};
 
 use crate::event::{EngineFault, Event, Happened};
 use crate::seat::{
@@ -178,6 +182,56 @@ impl Engine {
             return Err(EngineFault::NoSuchSession);
         };
         turns_seat(&mut self.core, &mut self.seats[at], moment)
+    }
+
+    /// How many sessions there ever were.
+    fn count(&self) -> usize
+        ensures count { result ≡ length self.now.seats }
+        ensures engine { IsEngine self.now.core self.now.seats }
+    {
+        self.seats.len()
+    }
+
+    /// Whether the call of the session at this seat is under way.
+    fn is_under_way(&self, at: usize) -> bool
+        requires { at < length self.now.seats }
+        ensures { (seat : Seat) → slice_get self.now.seats at ≡ Some seat
+            → result ≡ is_under_way seat.place }
+    {
+        self.seats[at].place.is_under_way()
+    }
+
+    /// One step of each session whose call is under way, by rising number. Whether there was one is told.
+    fn round(&mut self) -> bool
+        ensures some { result ≡ true
+            → IsRound self.old self.new × (left_to self.new < left_to self.old) }
+        ensures none { result ≡ false → (self.new ≡ self.old) × AreUnderWay [] self.old }
+    {
+        let mut any = false;
+        'seats: for at in 0..self.count() {
+            if self.is_under_way(at) {
+                any = true;
+                let _stepped = self.turn(at as u64 + 1, 0);
+            }
+        }
+        any
+    }
+
+    /// Rounds, up to where no call is under way: in each, every session whose call is under way makes one
+    /// step, by rising number, which is a turn at the moment 0. How many there were is told. Answers wait for
+    /// later turns. Takes no memory, and isn't refused.
+    pub fn run_all(&mut self) -> u64
+        ensures rounds { HasRounds result self.old self.new }
+        ensures few { IsWithinBounds result self.old }
+        ensures done { AreUnderWay [] self.new }
+    {
+        // A look into the engine, by which the proof knows it from the start.
+        let _core = &self.core;
+        let mut rounds: u64 = 0;
+        'rounds: while self.round() {
+            rounds += 1;
+        }
+        rounds
     }
 
     /// Applies the events in order, and answers how many were refused.

@@ -99,6 +99,13 @@ impl Place {
         }
     }
 
+    /// Whether its call is in the core.
+    pub(crate) fn is_under_way(&self) -> bool
+        ensures { result ≡ is_under_way self.now }
+    {
+        matches!(self, Place::UnderWay(_))
+    }
+
     /// Its lane.
     fn into_lane(self) -> Lane
         requires { has_lane self ≡ true }

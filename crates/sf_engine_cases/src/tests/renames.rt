@@ -305,9 +305,8 @@ fn helped_rename_comes_last(rt: HostRuntime) {
 }
 
 /// `/a`, `/a/x`, `/b` and `/b/y` are calls 1 to 4. Session 1 has RENAME of `/a/x` to `/b/y/x` (call
-/// 5), session 2 RENAME of `/b/y` to `/a/x/y` (call 6). They take turns, one each, until the call
-/// of that session which is first has decided; the other one waits for the root as long.
-fn cross(rt: &impl Abort, alloc: Global, first: u64, call: u64) -> Engine {
+/// 5), session 2 RENAME of `/b/y` to `/a/x/y` (call 6). Neither has made a step.
+fn begun_across(rt: &impl Abort, alloc: Global) -> Engine {
     let mut engine = four_sessions(
         rt,
         alloc,
@@ -322,6 +321,13 @@ fn cross(rt: &impl Abort, alloc: Global, first: u64, call: u64) -> Engine {
     starts(rt, alloc, &mut engine, 1, to_b, 0);
     let to_a = "00000017 12 00000007 00000004 2f622f79 00000006 2f612f782f79";
     starts(rt, alloc, &mut engine, 2, to_a, 0);
+    engine
+}
+
+/// They take turns, one each, until the call of that session which is first has decided; the other
+/// one waits for the root as long.
+fn cross(rt: &impl Abort, alloc: Global, first: u64, call: u64) -> Engine {
+    let mut engine = begun_across(rt, alloc);
     let second = 3_u64.saturating_sub(first);
     for _ in 0..4 {
         turns(rt, &mut engine, first, Happened::Moved);
@@ -356,4 +362,25 @@ fn crossing_renames_the_other_way(rt: HostRuntime) {
     starts(&rt, alloc, &mut engine, 3, stat, 3);
     ends(&rt, &mut engine, &[3]);
     was_sent(&rt, alloc, &engine, 3, &[OK_1, OK_2, OK_3, OK_4, ATTRS_A]);
+}
+
+/// So many rounds are made.
+fn rounds_are(rt: &impl Abort, engine: &mut Engine, want: u64) {
+    let rounds = engine.run_all();
+    assert!(rt; rounds == want, "{rounds} rounds");
+}
+
+/// In rounds the first session is ahead: five of them until its call is decided, in the last of which the
+/// other one takes the root, and three more. Where no call is under way there is none.
+#[test]
+fn crossing_renames_in_rounds(rt: HostRuntime) {
+    let alloc = rt.alloc();
+    let mut engine = begun_across(&rt, alloc);
+    rounds_are(&rt, &mut engine, 8);
+    records_are(&rt, &engine, &[1, 2, 3, 4, 5, 6]);
+    turns(&rt, &mut engine, 2, Happened::Wrote);
+    turns(&rt, &mut engine, 1, Happened::Wrote);
+    was_sent(&rt, alloc, &engine, 1, &[OK_7]);
+    was_sent(&rt, alloc, &engine, 2, &[ABSENT_7]);
+    rounds_are(&rt, &mut engine, 0);
 }

@@ -1,15 +1,14 @@
 use Rattle.std.proofs.Common.{[], subst}
 use Rattle.sf_core.specs.Cores.{CoreView}
 use Rattle.sf_core.specs.Histories.{IsHistory}
-use Rattle.sf_engine.specs.Worlds.{start}
-use Rattle.sf_engine.proofs.Opening.{agrees_first, fits_first}
+use Rattle.sf_engine.proofs.Opening.{fits_first}
 use Rattle.sf_engine.proofs.engine.Engine.over.Goals as goal
 
 pub invariant_of-result : goal.invariant_of-result
 invariant_of-result c =
     let core = c.requires.core in
     let P : CoreView → Type 0 = λ v. IsHistory v [] in
-    rw (core, c.new.ensures.items) (start, agrees_first c.args.core.keep c.args.core.store (subst P core c.requires.history))
+    rw (core, c.new.ensures.items) ([], fits_first c.args.core.keep c.args.core.store (subst P core c.requires.history))
 
 pub returns-clause-fits : goal.returns-clause-fits
 returns-clause-fits c =

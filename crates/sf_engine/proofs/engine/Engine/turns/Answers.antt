@@ -25,7 +25,7 @@ turns_seat-requires c =
     let at : ℕ = c.in-Some.at in
     let was : slice_get i.seats.items at ≡ Some c.index_mut.result.now =
     slice_get_read i.seats.items (length i.seats.items) at c.index_mut.result.now refl (omega (arith, c.in-Some.ensures.some.1, c.len.ensures, i.seats.ok.0)) c.index_mut.ensures.value in
-    is_ready c.self.invariant.0 i.core i.seats.items at c.index_mut.result.now c.self.invariant.1 was
+    is_ready c.self.invariant.1.world i.core i.seats.items at c.index_mut.result.now c.self.invariant.1.agrees was
 
 pub invariant_of-self : goal.invariant_of-self
 invariant_of-self c =

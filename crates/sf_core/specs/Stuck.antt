@@ -1,0 +1,41 @@
+-- Where a call is unanswered, some call goes on; and how many steps are left to all of them.
+use Rattle.std.specs.Prelude.{◌≡◌, ◌+◌, ℕ, zero, suc, Bool, true, false}
+use Rattle.sf_call.specs.declared.call.Call.{Call}
+use Rattle.sf_core.specs.declared.step.Step.{Step}
+use Rattle.sf_core.specs.declared.step.Step.TheVariants.{Moved, Blocked, Answered, Stranger}
+use Rattle.sf_core.specs.Lanes.{LaneView}
+use Rattle.sf_core.specs.Cores.{CoreView, Slot, slot_of}
+use Rattle.sf_core.specs.Cores.Slot.{Gone, Idle, Busy}
+use Rattle.sf_core.specs.Progress.{left_of}
+use Rattle.sf_core.specs.Events.{OwnCall, StepsOn}
+
+-- whether a step moved the call, or answered it
+abbrev pub is_onward : Step → Bool
+is_onward Moved = true
+is_onward (Blocked holder) = false
+is_onward (Answered given) = true
+is_onward Stranger = false
+
+-- The session has an unanswered call, and each step that its lane may make moves the call, or answers it.
+pub record CanGoOn (v : CoreView) (session : ℕ) : Type 0 where
+  pub call : Call
+  pub slot : slot_of v session ≡ Busy call
+  pub own : call.session ≡ session
+  pub steps : (lane : LaneView) → OwnCall v lane call → (s : Step) (w : CoreView)
+      (lane' : LaneView) → StepsOn v lane s w lane' → is_onward s ≡ true
+
+-- where a session has an unanswered call, there is a session whose call can go on
+abbrev pub IsNeverStuck : CoreView → Type 0
+IsNeverStuck v =
+    (session : ℕ) (call : Call) → slot_of v session ≡ Busy call → (other : ℕ) × CanGoOn v other
+
+-- how many steps are left to a session's call, if it has one
+abbrev pub left_in : Slot → ℕ
+left_in Gone = 0
+left_in Idle = 0
+left_in (Busy call) = left_of call
+
+-- and to the calls of all sessions below a number
+abbrev pub left_below : CoreView → ℕ → ℕ
+left_below v zero = 0
+left_below v (suc n) = left_below v n + left_in (slot_of v n)

@@ -1,0 +1,473 @@
+-- Rounds: each leaves less to the calls, since the step of a call that is behind none isn't blocked.
+use Rattle.std.proofs.Common.{◌≡◌, ℕ, zero, suc, ◌+◌, ◌-◌, ◌<◌, ◌≤◌, ◌⊎◌, ◌^◌, List, [], ◌∷◌, ◌++◌, Some, Bool, true, false, Result, Ok, Err, slice_get, length, take, get_or, refl, ap, sym, ◌∙◌, subst, arith, inl, inr, add-one, append-nil, length-set}
+use Rattle.std.specs.Prelude.{if◌then◌else◌}
+use Rattle.std.specs.List.{sum_by}
+use Rattle.std.proofs.lemmas.Bool.{cases_lt}
+use Rattle.std.proofs.lemmas.Option.{slice_get_within, get_or_from_slice_get}
+use Rattle.std.proofs.lemmas.List.{length-take-le, take_more, take_all}
+use Rattle.std.proofs.lemmas.List.Sums.{sum_by_more}
+use Rattle.sf_call.specs.declared.call.Call.{Call}
+use Rattle.sf_session.specs.Sessions.{SessionView}
+use Rattle.sf_core.specs.Cores.Slot.{Gone as nobody, Idle, Busy}
+use Rattle.sf_core.specs.Cores.{CoreView, slot_of}
+use Rattle.sf_core.specs.Progress.{IsBehind}
+use Rattle.sf_core.specs.Events.{Before, After}
+use Rattle.sf_core.specs.Stuck.{left_in, left_below}
+use Rattle.sf_core.proofs.Laws.{furthest, one_call, busy_left, idle_left, gone_left, left_stays, goes_falls, fetches_falls, decides_falls}
+use Rattle.sf_engine.specs.declared.seat.Seat.{Seat}
+use Rattle.sf_engine.specs.declared.seat.Place.{Place}
+use Rattle.sf_engine.specs.declared.event.Event.TheVariants as event
+use Rattle.sf_engine.specs.declared.event.Happened.{Happened}
+use Rattle.sf_engine.specs.declared.event.Happened.TheVariants as happened
+use Rattle.sf_engine.specs.declared.event.EngineFault.{EngineFault}
+use Rattle.sf_engine.specs.declared.event.EngineFault.TheVariants as fault
+use Rattle.sf_engine.specs.Worlds.{Entry, Phase, Resting, UnderWay, Decided, Gone, Told, World}
+use Rattle.sf_engine.specs.Traces.{IsSession, Turn, Walking, walking, StepLeads, TurnLeads, MayRefuse, MayWantMemory}
+use Rattle.sf_engine.specs.Turns.{is_under_way}
+use Rattle.sf_engine.specs.Works.{Passage, IsStep}
+use Rattle.sf_engine.specs.Views.{EngineView}
+use Rattle.sf_engine.specs.Fits.{IsEngine, PlaceAgrees, Agrees, Fits, GoesOnTrace, entry_of, passage}
+use Rattle.sf_engine.specs.Rounds.{is_unanswered, under_way_from, under_way, AreUnderWay, HasSteps, IsRound, HasRounds, bound_at, bounds, IsWithinBounds, left_to}
+use Rattle.sf_engine.proofs.Moving.{get_within, get_set_other}
+use Rattle.sf_engine.proofs.Waiting.{told_of_none}
+use Rattle.sf_engine.proofs.Short.{bounds_short}
+
+-- ---- whose calls are under way
+-- the sessions whose calls are under way, as the seats show
+abbrev pub seats_from : ℕ → List Seat → List ℕ
+seats_from s [] = []
+seats_from s (p ∷ ps) = if is_under_way p.place then s ∷ seats_from (s + 1) ps else seats_from (s + 1) ps
+
+phase_place : (v : CoreView) (s : ℕ) (x : SessionView) (f : Phase) (p : Place) → PlaceAgrees v s x f p → is_unanswered f ≡ is_under_way p
+phase_place v s x Resting p h = sym (ap is_under_way h.place_is)
+phase_place v s x (UnderWay id n m q moves) p h = sym (ap is_under_way h.place_is)
+phase_place v s x (Decided id n q given) p h = sym (ap is_under_way h.place_is)
+phase_place v s x (Gone cause) p h = sym (ap is_under_way h.0)
+
+same_list : (ts : List Told) (ps : List Seat) (s : ℕ) → length ps ≡ length ts
+    → ((i : ℕ) (t : Told) (p : Seat) → slice_get ts i ≡ Some t → slice_get ps i ≡ Some p → is_unanswered t.phase ≡ is_under_way p.place) → under_way_from s ts ≡ seats_from s ps
+same_list [] [] s e each = refl
+same_list [] (p ∷ ps) s e each = absurd (let no : ⊥ = omega (arith, e) in no)
+same_list (t ∷ ts) [] s e each = absurd (let no : ⊥ = omega (arith, e) in no)
+same_list (t ∷ ts) (p ∷ ps) s e each =
+    let rest = same_list ts ps (s + 1) (omega (arith, e)) (λ i u q a b. each (suc i) u q a b) in
+    let one = each zero t p refl refl in
+    ap (λ (b : Bool). if b then s ∷ under_way_from (s + 1) ts else under_way_from (s + 1) ts) one
+    ∙ ap (λ (xs : List ℕ). if is_under_way p.place then s ∷ xs else xs) rest
+
+under_way_seats : (w : World) (e : EngineView) → Agrees w e → under_way w ≡ seats_from 1 e.seats
+under_way_seats w e agrees = same_list w.sessions e.seats 1 agrees.count (λ i t p a b. phase_place e.core (i + 1) p.session t.phase p.place (agrees.each i t p a b).at)
+
+are_under_way : (e : EngineView) (xs : List ℕ) → seats_from 1 e.seats ≡ xs → AreUnderWay xs e
+are_under_way e xs is trace fits = under_way_seats fits.world e fits.agrees ∙ is
+
+if_push : (b : Bool) (s : ℕ) (xs all ys : List ℕ) → all ≡ xs ++ ys → (if b then s ∷ all else all) ≡ (if b then s ∷ xs else xs) ++ ys
+if_push true s xs all ys e = ap (λ (zs : List ℕ). s ∷ zs) e
+if_push false s xs all ys e = e
+
+seats_push : (ps : List Seat) (p : Seat) (s : ℕ) → seats_from s (ps ++ p ∷ []) ≡ seats_from s ps ++ (if is_under_way p.place then (s + length ps) ∷ [] else [])
+seats_push [] p s = let e : s ≡ s + 0 = omega arith in ap (λ (k : ℕ). if is_under_way p.place then k ∷ [] else []) e
+seats_push (q ∷ ps) p s =
+    let e : s + 1 + length ps ≡ s + length (q ∷ ps) = omega arith in
+    let rest = seats_push ps p (s + 1) ∙ ap (λ (k : ℕ). seats_from (s + 1) ps ++ (if is_under_way p.place then k ∷ [] else [])) e in
+    if_push (is_under_way q.place) s (seats_from (s + 1) ps) (seats_from (s + 1) (ps ++ p ∷ [])) (if is_under_way p.place then (s + length (q ∷ ps)) ∷ [] else []) rest
+
+seats_more : (seats : List Seat) (at : ℕ) (p : Seat) → slice_get seats at ≡ Some p
+    → seats_from 1 (take (at + 1) seats) ≡ seats_from 1 (take at seats) ++ (if is_under_way p.place then (at + 1) ∷ [] else [])
+seats_more seats at p was =
+    let within = slice_get_within seats at p was in
+    let len = length-take-le at seats (omega (arith, within)) in
+    let num : 1 + length (take at seats) ≡ at + 1 = omega (arith, len) in
+    let here : get_or seats at p ≡ p = get_or_from_slice_get seats at p p was in
+    ap (λ (xs : List Seat). seats_from 1 xs) (take_more seats at p within ∙ ap (λ (z : Seat). take at seats ++ z ∷ []) here)
+    ∙ seats_push (take at seats) p 1
+    ∙ ap (λ (k : ℕ). seats_from 1 (take at seats) ++ (if is_under_way p.place then k ∷ [] else [])) num
+
+abbrev is_some_list : List ℕ → Bool
+is_some_list [] = false
+is_some_list (x ∷ xs) = true
+
+is_empty : (xs : List ℕ) → is_some_list xs ≡ false → xs ≡ []
+is_empty [] e = refl
+is_empty (x ∷ xs) e = absurd (let no : true ≡ false = e in cc)
+
+some_list : (xs : List ℕ) → is_some_list xs ≡ true → (x : ℕ) × (ys : List ℕ) × (xs ≡ x ∷ ys)
+some_list [] e = absurd (let no : false ≡ true = e in cc)
+some_list (x ∷ xs) e = (x, xs, refl)
+
+some_push : (xs : List ℕ) (x : ℕ) → is_some_list (xs ++ x ∷ []) ≡ true
+some_push [] x = refl
+some_push (y ∷ xs) x = refl
+
+abbrev SomeSeat : List Seat → Type 0
+SomeSeat ps = (i : ℕ) × (p : Seat) × (slice_get ps i ≡ Some p) × (is_under_way p.place ≡ true)
+
+first_or : (p : Seat) (ps : List Seat) (s : ℕ) → is_some_list (seats_from s (p ∷ ps)) ≡ true → (is_some_list (seats_from (s + 1) ps) ≡ true → SomeSeat ps) → (b : Bool) → is_under_way p.place ≡ b → SomeSeat (p ∷ ps)
+first_or p ps s e rest true is = (zero, p, refl, is)
+first_or p ps s e rest false is =
+    let k = rest (sym (ap (λ (c : Bool). is_some_list (if c then s ∷ seats_from (s + 1) ps else seats_from (s + 1) ps)) is) ∙ e) in
+    (suc k.0, k.1, k.2, k.3)
+
+some_seat : (ps : List Seat) (s : ℕ) → is_some_list (seats_from s ps) ≡ true → SomeSeat ps
+some_seat [] s e = absurd (let no : false ≡ true = e in cc)
+some_seat (p ∷ ps) s e = first_or p ps s e (some_seat ps (s + 1)) (is_under_way p.place) refl
+
+-- ---- steps and rounds
+pub steps_nil : (e : EngineView) → HasSteps [] e e
+unfolding HasSteps
+steps_nil e = refl
+
+steps_none : (e e' : EngineView) → HasSteps [] e e' → e' ≡ e
+unfolding HasSteps
+steps_none e e' steps = steps
+
+pub steps_push : (sessions : List ℕ) (s : ℕ) (e mid e' : EngineView) (h : Happened) → HasSteps sessions e mid → GoesOnTrace mid (event.Turn s 0) (Ok h) e' → HasSteps (sessions ++ s ∷ []) e e'
+unfolding HasSteps
+steps_push [] s e mid e' h steps turn = (e', h, subst (λ (z : EngineView). GoesOnTrace z (event.Turn s 0) (Ok h) e') steps turn, refl)
+steps_push (x ∷ sessions) s e mid e' h steps turn = (steps.0, steps.1, steps.2, steps_push sessions s steps.0 mid e' h steps.3 turn)
+
+pub rounds_nil : (e : EngineView) → HasRounds 0 e e
+unfolding HasRounds
+rounds_nil e = refl
+
+pub rounds_push : (n : ℕ) (e mid e' : EngineView) → HasRounds n e mid → IsRound mid e' → HasRounds (suc n) e e'
+unfolding HasRounds
+rounds_push n e mid e' rounds round = (mid, rounds, round)
+
+-- ---- one step
+-- a call is behind another one
+pub record Waits (v : CoreView) (c : Call) : Type 0 where
+  pub other : ℕ
+  pub call : Call
+  pub slot : slot_of v other ≡ Busy call
+  pub deeper : IsBehind c call
+
+abbrev pub SameSlots : CoreView → CoreView → Type 0
+SameSlots v w = (s : ℕ) → slot_of w s ≡ slot_of v s
+
+-- the session's step was blocked, and no slot is another; or less is left to the calls
+abbrev pub StepDoes : CoreView → ℕ → CoreView → Type 0
+StepDoes v s w = (SameSlots v w × ((c : Call) → slot_of v s ≡ Busy c → Waits v c))
+    ⊎ ((n : ℕ) → s < n → left_below w n < left_below v n)
+
+does : (x : Turn) (call : Walking) (s m : ℕ) (p : Passage) (h : Happened) → StepLeads x call h → IsStep (event.Turn s m) (Ok h) p → StepDoes p.old s p.new
+does x call s m p happened.Moved leads step =
+    let own : step.0.session ≡ s = step.2 in
+    inr (λ n below. goes_falls p.old p.new step.0 step.3.0 step.3.1 n step.3.2 (omega (arith, below, own)))
+does x call s m p (happened.Blocked holder) leads step =
+    let own : step.0.session ≡ s = step.2 in
+    let b = step.3.1 in (
+    let waits : SameSlots p.old p.new × ((c : Call) → slot_of p.old s ≡ Busy c → Waits p.old c) = (
+      b.looks.slots,
+      λ c busy.
+          let same = one_call p.old s step.0.session c step.3.0 (sym own) busy b.own.slot in
+          record { other = b.other; call = b.call; slot = b.slot; deeper = subst (λ (z : Call). IsBehind z b.call) (sym same) b.deeper },
+    ) in
+    inl waits
+    )
+does x call s m p happened.Decided leads step =
+    let own : step.0.session ≡ s = step.2 in
+    let before : Before = record { core = p.old; history = p.history; lane = step.0 } in
+    let after : After = record { core = p.new; added = p.added; lane = step.1 } in
+    elim step.3.2 [
+      | inl f ↦ inr (λ n below. fetches_falls before after step.3.0 step.3.1 n f (omega (arith, below, own)))
+      | inr d ↦ inr (λ n below. decides_falls before after step.3.0 step.3.1 n d (omega (arith, below, own)))
+    ]
+does x call s m p (happened.Opened k) leads step = absurd leads
+does x call s m p happened.Fed leads step = absurd leads
+does x call s m p happened.Wrote leads step = absurd leads
+does x call s m p happened.Begun leads step = absurd leads
+does x call s m p happened.Idle leads step = absurd leads
+does x call s m p (happened.Ended k) leads step = absurd leads
+does x call s m p happened.Closed leads step = absurd leads
+does x call s m p happened.Sent leads step = absurd leads
+
+phase_does : (x : Turn) (f : Phase) (s m : ℕ) (p : Passage) (h : Happened) → is_unanswered f ≡ true → TurnLeads m x f h → IsStep (event.Turn s m) (Ok h) p → StepDoes p.old s p.new
+phase_does x Resting s m p h under leads step = absurd (let no : false ≡ true = under in cc)
+phase_does x (UnderWay id n k q moves) s m p h under leads step = does x (walking id n k q moves) s m p h leads step
+phase_does x (Decided id n q given) s m p h under leads step = absurd (let no : false ≡ true = under in cc)
+phase_does x (Gone cause) s m p h under leads step = absurd (let no : false ≡ true = under in cc)
+
+-- a step is never refused
+never_wants : (f : Phase) → is_unanswered f ≡ true → MayWantMemory f → ⊥
+never_wants Resting under may = let no : false ≡ true = under in cc
+never_wants (UnderWay id n k q moves) under may = may
+never_wants (Decided id n q given) under may = let no : false ≡ true = under in cc
+never_wants (Gone cause) under may = may
+
+never_refused : (w : World) (s m : ℕ) (t : Told) → IsSession w s t → is_unanswered t.phase ≡ true → (f : EngineFault) → MayRefuse w (event.Turn s m) f → ⊥
+never_refused w s m t session under fault.OutOfMemory may =
+    let same : t ≡ may.0 = let one : Some t ≡ Some may.0 = sym session.1 ∙ may.1.1 in cc in
+    never_wants may.0.phase (sym (ap (λ (z : Told). is_unanswered z.phase) same) ∙ under) may.2
+never_refused w s m t session under fault.NoSuchSession may = told_of_none w s t may session
+never_refused w s m t session under fault.Sessions may = may
+never_refused w s m t session under fault.Ended may = may
+never_refused w s m t session under fault.NumbersSpent may = may
+never_refused w s m t session under fault.NotSent may = may
+
+-- what a step makes of an engine that fits a trace which tells this world
+pub record HasStepped (e : EngineView) (w : World) (at : ℕ) (r : Result Happened EngineFault) (e' : EngineView) : Type 0 where
+  pub happened : Happened
+  pub is : r ≡ Ok happened
+  pub trace : List Entry
+  pub fits : Fits e' trace
+  pub count : length fits.world.sessions ≡ length w.sessions
+  pub others : (i : ℕ) → (i ≡ at → ⊥) → slice_get fits.world.sessions i ≡ slice_get w.sessions i
+  pub does : StepDoes e.core (at + 1) e'.core
+
+stepped : (e e' : EngineView) (at : ℕ) (r : Result Happened EngineFault) (trace : List Entry) (fits : Fits e trace) (t : Told) → slice_get fits.world.sessions at ≡ Some t → is_unanswered t.phase ≡ true
+    → GoesOnTrace e (event.Turn (at + 1) 0) r e' → HasStepped e fits.world at r e'
+stepped e e' at (Ok h) trace fits t told under turn =
+    let o = turn trace fits in
+    let l = o.2 in
+    let num : at + 1 - 1 ≡ at = omega arith in
+    let same : t ≡ l.0 = let one : Some t ≡ Some l.0 = sym told ∙ sym (ap (λ (n : ℕ). slice_get fits.world.sessions n) num) ∙ l.2.1 in cc in
+    let still = sym (ap (λ (z : Told). is_unanswered z.phase) same) ∙ under in
+    record {
+      happened = h;
+      is = refl;
+      trace = trace ++ entry_of (event.Turn (at + 1) 0) (Ok h) o.0 ∷ [];
+      fits = o.1;
+      count = ap (λ (z : World). length z.sessions) l.4 ∙ length-set fits.world.sessions (at + 1 - 1) l.1;
+      others = λ i ne. ap (λ (z : World). slice_get z.sessions i) l.4 ∙ get_set_other fits.world.sessions (at + 1 - 1) i l.1 (λ e. ne (e ∙ num));
+      does = phase_does (record { world = fits.world; session = at + 1; told = l.0; added = o.0; now = l.1 }) l.0.phase (at + 1) 0 (passage e fits.world.records o.0 e') h still l.3 o.3;
+    }
+stepped e e' at (Err f) trace fits t told under turn =
+    let o = turn trace fits in
+    let num : at + 1 - 1 ≡ at = omega arith in
+    absurd (never_refused fits.world (at + 1) 0 t (omega arith, ap (λ (n : ℕ). slice_get fits.world.sessions n) num ∙ told) under f o.2.0)
+
+-- ---- part of a round
+-- the steps of sessions up to a number were all blocked, and no slot is another
+abbrev pub AllBlocked : CoreView → ℕ → CoreView → Type 0
+AllBlocked v at w = SameSlots v w × ((s : ℕ) (c : Call) → s ≤ at → slot_of v s ≡ Busy c → Waits v c)
+
+-- of so many seats those whose calls are under way have made their step: all were blocked, or less is left to the calls
+pub record RoundSoFar (e : EngineView) (at : ℕ) (any : Bool) (e' : EngineView) : Type 0 where
+  pub trace : List Entry
+  pub first : Fits e trace
+  pub further : List Entry
+  pub now : Fits e' further
+  pub count : length now.world.sessions ≡ length first.world.sessions
+  pub later : (i : ℕ) → at ≤ i → slice_get now.world.sessions i ≡ slice_get first.world.sessions i
+  pub steps : HasSteps (seats_from 1 (take at e.seats)) e e'
+  pub some : any ≡ is_some_list (seats_from 1 (take at e.seats))
+  pub work : AllBlocked e.core at e'.core ⊎ (left_below e'.core (length e.seats + 1) < left_below e.core (length e.seats + 1))
+
+pub same_count : (e : EngineView) (at : ℕ) (any : Bool) (e' : EngineView) → RoundSoFar e at any e' → length e'.seats ≡ length e.seats
+same_count e at any e' k = k.now.agrees.count ∙ k.count ∙ sym k.first.agrees.count
+
+no_seat : (e : EngineView) → IsEngine e.core e.seats → (c : Call) → slot_of e.core 0 ≡ Busy c → ⊥
+no_seat e is c busy = let no : nobody ≡ Busy c = sym (is.1.agrees.nobody 0 (inl refl)) ∙ busy in cc
+
+pub round_start : (e : EngineView) → IsEngine e.core e.seats → RoundSoFar e 0 false e
+round_start e is = record {
+  trace = is.0;
+  first = is.1;
+  further = is.0;
+  now = is.1;
+  count = refl;
+  later = λ i le. refl;
+  steps = steps_nil e;
+  some = refl;
+  work = inl (λ s. refl, λ s c le busy. let z : s ≡ 0 = omega (arith, le) in absurd (no_seat e is c (sym (ap (λ (k : ℕ). slot_of e.core k) z) ∙ busy)));
+}
+
+-- whose call the core has, its call is unanswered
+busy_phase : (v : CoreView) (s : ℕ) (x : SessionView) (f : Phase) (p : Place) (c : Call) → PlaceAgrees v s x f p → slot_of v s ≡ Busy c → is_unanswered f ≡ true
+busy_phase v s x Resting p c h busy = absurd (let no : Idle ≡ Busy c = sym h.slot ∙ busy in cc)
+busy_phase v s x (UnderWay id n m q moves) p c h busy = refl
+busy_phase v s x (Decided id n q given) p c h busy = absurd (let no : Idle ≡ Busy c = sym h.slot ∙ busy in cc)
+busy_phase v s x (Gone cause) p c h busy = absurd (let no : nobody ≡ Busy c = sym h.1 ∙ busy in cc)
+
+-- a seat that has not had its turn is as it was
+record SeatStill (e e' : EngineView) (at : ℕ) (w w' : World) (p : Seat) : Type 0 where
+  was : Seat
+  here : slice_get e.seats at ≡ Some was
+  told : Told
+  first : slice_get w.sessions at ≡ Some told
+  now : slice_get w'.sessions at ≡ Some told
+  same : is_under_way was.place ≡ is_under_way p.place
+  phase : is_unanswered told.phase ≡ is_under_way p.place
+
+still : (e : EngineView) (at : ℕ) (any : Bool) (e' : EngineView) (k : RoundSoFar e at any e') (p : Seat) → slice_get e'.seats at ≡ Some p → SeatStill e e' at k.first.world k.now.world p
+still e at any e' k p was =
+    let here = slice_get_within e'.seats at p was in
+    let all = k.now.agrees.count in
+    let t = get_within k.now.world.sessions at (omega (arith, here, all)) in
+    let first : slice_get k.first.world.sessions at ≡ Some t.0 = sym (k.later at (omega arith)) ∙ t.1 in
+    let seats = same_count e at any e' k in
+    let q = get_within e.seats at (omega (arith, here, seats)) in
+    let now = phase_place e'.core (at + 1) p.session t.0.phase p.place (k.now.agrees.each at t.0 p t.1 was).at in
+    let old = phase_place e.core (at + 1) q.0.session t.0.phase q.0.place (k.first.agrees.each at t.0 q.0 first q.1).at in
+    record { was = q.0; here = q.1; told = t.0; first = first; now = t.1; same = sym old ∙ now; phase = now }
+
+-- ---- one seat more
+-- its call isn't under way
+pub round_skips : (e : EngineView) (at : ℕ) (any : Bool) (e' : EngineView) → RoundSoFar e at any e' → (p : Seat) → slice_get e'.seats at ≡ Some p → is_under_way p.place ≡ false → RoundSoFar e (at + 1) any e'
+round_skips e at any e' k p was rests =
+    let o = still e at any e' k p was in
+    let none : is_under_way o.was.place ≡ false = o.same ∙ rests in
+    let list : seats_from 1 (take (at + 1) e.seats) ≡ seats_from 1 (take at e.seats) =
+    seats_more e.seats at o.was o.here
+    ∙ ap (λ (b : Bool). seats_from 1 (take at e.seats) ++ (if b then (at + 1) ∷ [] else [])) none
+    ∙ append-nil (seats_from 1 (take at e.seats)) in
+    record {
+      trace = k.trace;
+      first = k.first;
+      further = k.further;
+      now = k.now;
+      count = k.count;
+      later = λ i le. k.later i (omega (arith, le));
+      steps = subst (λ (xs : List ℕ). HasSteps xs e e') (sym list) k.steps;
+      some = k.some ∙ ap is_some_list (sym list);
+      work = elim k.work [
+        | inl blocked ↦ inl (
+          blocked.0,
+          λ s c le busy. elim (cases_lt at s) [
+            | inl last ↦
+                let num : s ≡ at + 1 = omega (arith, last, le) in
+                let here : slot_of e.core (at + 1) ≡ Busy c = sym (ap (λ (n : ℕ). slot_of e.core n) num) ∙ busy in
+                let under = busy_phase e.core (at + 1) o.was.session o.told.phase o.was.place c (k.first.agrees.each at o.told o.was o.first o.here).at here in
+                absurd (let no : true ≡ false = sym under ∙ o.phase ∙ rests in cc)
+            | inr before ↦ blocked.1 s c before busy
+          ],
+        )
+        | inr less ↦ inr less
+      ];
+    }
+
+-- its step: what it does to what is left
+work_on : (e : EngineView) (at : ℕ) (e' e'' : EngineView) → at < length e.seats → AllBlocked e.core at e'.core ⊎ (left_below e'.core (length e.seats + 1) < left_below e.core (length e.seats + 1)) → StepDoes e'.core (at + 1) e''.core
+    → AllBlocked e.core (at + 1) e''.core ⊎ (left_below e''.core (length e.seats + 1) < left_below e.core (length e.seats + 1))
+work_on e at e' e'' within (inl blocked) (inl again) = inl (
+  λ s. again.0 s ∙ blocked.0 s,
+  λ s c le busy. elim (cases_lt at s) [
+    | inl last ↦
+        let num : s ≡ at + 1 = omega (arith, last, le) in
+        let here : slot_of e'.core (at + 1) ≡ Busy c = sym (ap (λ (n : ℕ). slot_of e'.core n) num) ∙ blocked.0 s ∙ busy in
+        let w = again.1 c here in
+        record { other = w.other; call = w.call; slot = sym (blocked.0 w.other) ∙ w.slot; deeper = w.deeper }
+    | inr before ↦ blocked.1 s c before busy
+  ],
+)
+work_on e at e' e'' within (inl blocked) (inr falls) =
+    let less = falls (length e.seats + 1) (omega (arith, within)) in
+    let same = left_stays e.core e'.core (length e.seats + 1) (λ s. let n = ap left_in (blocked.0 s) in omega (arith, n)) in
+    inr (omega (arith, less, same))
+work_on e at e' e'' within (inr less) (inl again) =
+    let same = left_stays e'.core e''.core (length e.seats + 1) (λ s. let n = ap left_in (again.0 s) in omega (arith, n)) in
+    inr (omega (arith, less, same))
+work_on e at e' e'' within (inr less) (inr falls) =
+    let more = falls (length e.seats + 1) (omega (arith, within)) in
+    inr (omega (arith, less, more))
+
+pub round_steps : (e : EngineView) (at : ℕ) (any : Bool) (e' : EngineView) → RoundSoFar e at any e' → (p : Seat) → slice_get e'.seats at ≡ Some p → is_under_way p.place ≡ true
+    → (r : Result Happened EngineFault) (e'' : EngineView) → GoesOnTrace e' (event.Turn (at + 1) 0) r e'' → RoundSoFar e (at + 1) true e''
+round_steps e at any e' k p was goes r e'' turn =
+    let o = still e at any e' k p was in
+    let here = slice_get_within e.seats at o.was o.here in
+    let now : is_under_way o.was.place ≡ true = o.same ∙ goes in
+    let list : seats_from 1 (take (at + 1) e.seats) ≡ seats_from 1 (take at e.seats) ++ (at + 1) ∷ [] =
+    seats_more e.seats at o.was o.here
+    ∙ ap (λ (b : Bool). seats_from 1 (take at e.seats) ++ (if b then (at + 1) ∷ [] else [])) now in
+    let d = stepped e' e'' at r k.further k.now o.told o.now (o.phase ∙ goes) turn in
+    record {
+      trace = k.trace;
+      first = k.first;
+      further = d.trace;
+      now = d.fits;
+      count = d.count ∙ k.count;
+      later = λ i le. d.others i (λ e. let no : ⊥ = omega (arith, le, e) in no) ∙ k.later i (omega (arith, le));
+      steps = subst (λ (xs : List ℕ). HasSteps xs e e'') (sym list)
+          (steps_push (seats_from 1 (take at e.seats)) (at + 1) e e' e'' d.happened k.steps (subst (λ (z : Result Happened EngineFault). GoesOnTrace e' (event.Turn (at + 1) 0) z e'') d.is turn));
+      some = sym (ap is_some_list list ∙ some_push (seats_from 1 (take at e.seats)) (at + 1));
+      work = work_on e at e' e'' here k.work d.does;
+    }
+
+-- ---- the whole round
+-- whose call the core has, its number is a session's
+within : (w : World) (e : EngineView) → Agrees w e → (s : ℕ) (c : Call) → slot_of e.core s ≡ Busy c → s ≤ length e.seats
+within w e agrees s c busy = elim (cases_lt (length w.sessions) s) [
+  | inl past ↦ absurd (let no : nobody ≡ Busy c = sym (agrees.nobody s (inr past)) ∙ busy in cc)
+  | inr le ↦ let all = agrees.count in omega (arith, le, all)
+]
+
+-- not all steps are blocked
+not_blocked : (w : World) (e : EngineView) (v : CoreView) → Agrees w e → AllBlocked e.core (length e.seats) v → (s : ℕ) (c : Call) → slot_of e.core s ≡ Busy c → ⊥
+not_blocked w e v agrees blocked s c busy = elim (furthest e.core (length e.seats + 1)) [
+  | inl none ↦ let le = within w e agrees s c busy in none s c (omega (arith, le)) busy
+  | inr f ↦
+      let waits = blocked.1 f.session f.call (within w e agrees f.session f.call f.slot) f.slot in
+      let le = within w e agrees waits.other waits.call waits.slot in
+      f.first waits.other waits.call (omega (arith, le)) waits.slot waits.deeper
+]
+
+under_busy : (v : CoreView) (s : ℕ) (x : SessionView) (f : Phase) (p : Place) → PlaceAgrees v s x f p → is_under_way p ≡ true → (c : Call) × (slot_of v s ≡ Busy c)
+under_busy v s x Resting p h e = absurd (let no : false ≡ true = ap is_under_way (sym h.place_is) ∙ e in cc)
+under_busy v s x (UnderWay id n m q moves) p h e = (h.call, h.slot)
+under_busy v s x (Decided id n q given) p h e = absurd (let no : false ≡ true = ap is_under_way (sym h.place_is) ∙ e in cc)
+under_busy v s x (Gone cause) p h e = absurd (let no : false ≡ true = ap is_under_way (sym h.0) ∙ e in cc)
+
+pub round_none : (e : EngineView) (at : ℕ) (any : Bool) (e' : EngineView) → RoundSoFar e at any e' → length e.seats ≤ at → any ≡ false → (e' ≡ e) × AreUnderWay [] e
+round_none e at any e' k all none =
+    let whole : take at e.seats ≡ e.seats = take_all at e.seats all in
+    let list = ap (λ (xs : List Seat). seats_from 1 xs) whole in
+    let empty : seats_from 1 e.seats ≡ [] = is_empty (seats_from 1 e.seats) (sym (ap is_some_list list) ∙ sym k.some ∙ none) in
+    (steps_none e e' (subst (λ (xs : List ℕ). HasSteps xs e e') (list ∙ empty) k.steps), are_under_way e [] empty)
+
+pub round_some : (e : EngineView) (at : ℕ) (any : Bool) (e' : EngineView) → RoundSoFar e at any e' → length e.seats ≡ at → any ≡ true → IsRound e e' × (left_to e' < left_to e)
+round_some e at any e' k all some =
+    let whole : take at e.seats ≡ e.seats = take_all at e.seats (omega (arith, all)) in
+    let list = ap (λ (xs : List Seat). seats_from 1 xs) whole in
+    let is : is_some_list (seats_from 1 e.seats) ≡ true = sym (ap is_some_list list) ∙ sym k.some ∙ some in
+    let l = some_list (seats_from 1 e.seats) is in
+    let seat = some_seat e.seats 1 is in
+    let here = slice_get_within e.seats seat.0 seat.1 seat.2 in
+    let many = k.first.agrees.count in
+    let t = get_within k.first.world.sessions seat.0 (omega (arith, here, many)) in
+    let call = under_busy e.core (seat.0 + 1) seat.1.session t.0.phase seat.1.place (k.first.agrees.each seat.0 t.0 seat.1 t.1 seat.2).at seat.3 in
+    let same = ap (λ (n : ℕ). left_below e'.core (n + 1)) (same_count e at any e' k) in
+    let less : left_below e'.core (length e.seats + 1) < left_below e.core (length e.seats + 1) = elim k.work [
+      | inl blocked ↦ absurd (not_blocked k.first.world e e'.core k.first.agrees (subst (λ (n : ℕ). AllBlocked e.core n e'.core) (sym all) blocked) (seat.0 + 1) call.0 call.1)
+      | inr less ↦ less
+    ] in
+    ((l.0, l.1, are_under_way e (l.0 ∷ l.1) l.2, subst (λ (xs : List ℕ). HasSteps xs e e') (list ∙ l.2) k.steps), omega (arith, less, same))
+
+-- ---- the bound
+phase_bound : (v : CoreView) (s : ℕ) (x : SessionView) (f : Phase) (p : Place) → PlaceAgrees v s x f p → left_in (slot_of v s) ≤ bound_at f
+phase_bound v s x Resting p h = let e = idle_left v s h.slot in omega (arith, e)
+phase_bound v s x (UnderWay id n m q moves) p h = let e = busy_left v s h.call h.slot in let few = h.few in omega (arith, e, few)
+phase_bound v s x (Decided id n q given) p h = let e = idle_left v s h.slot in omega (arith, e)
+phase_bound v s x (Gone cause) p h = let e = gone_left v s h.1 in omega (arith, e)
+
+bounded : (w : World) (e : EngineView) → Agrees w e → (k : ℕ) → k ≤ length w.sessions → left_below e.core (suc k) ≤ sum_by (λ (t : Told). bound_at t.phase) (take k w.sessions)
+bounded w e agrees zero le = let none = gone_left e.core 0 (agrees.nobody 0 (inl refl)) in omega (arith, none)
+bounded w e agrees (suc k) le =
+    let rest = bounded w e agrees k (omega (arith, le)) in
+    let t = get_within w.sessions k (omega (arith, le)) in
+    let all = agrees.count in
+    let p = get_within e.seats k (omega (arith, le, all)) in
+    let one = phase_bound e.core (k + 1) p.0.session t.0.phase p.0.place (agrees.each k t.0 p.0 t.1 p.1).at in
+    let num : k + 1 ≡ suc k = add-one k in
+    let slot = ap (λ (n : ℕ). left_in (slot_of e.core n)) num in
+    let more = sum_by_more (λ (u : Told). bound_at u.phase) w.sessions k t.0 (omega (arith, le)) in
+    let here = ap (λ (u : Told). bound_at u.phase) (get_or_from_slice_get w.sessions k t.0 t.0 t.1) in
+    let taken = ap (λ (n : ℕ). sum_by (λ (u : Told). bound_at u.phase) (take n w.sessions)) num in
+    omega (arith, rest, one, slot, more, here, taken)
+
+pub left_bounded : (w : World) (e : EngineView) → Agrees w e → left_to e ≤ bounds w
+left_bounded w e agrees =
+    let n = length w.sessions in
+    let few = bounded w e agrees n (omega arith) in
+    let num : length e.seats + 1 ≡ suc n = ap (λ (k : ℕ). k + 1) agrees.count ∙ add-one n in
+    let same = ap (λ (k : ℕ). left_below e.core k) num in
+    let whole = ap (λ (ts : List Told). sum_by (λ (u : Told). bound_at u.phase) ts) (take_all n w.sessions (omega arith)) in
+    omega (arith, few, same, whole)
+
+pub within_bounds : (n : ℕ) (e : EngineView) → n ≤ left_to e → IsWithinBounds n e
+within_bounds n e few trace fits = let most = left_bounded fits.world e fits.agrees in omega (arith, few, most)
+
+-- so few that they can be counted
+pub few_left : (e : EngineView) → IsEngine e.core e.seats → left_to e < 2 ^ 64
+few_left e is = let most = left_bounded is.1.world e is.1.agrees in let few = bounds_short e is.0 is.1 in omega (arith, most, few)
