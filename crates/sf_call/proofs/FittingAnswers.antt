@@ -17,16 +17,16 @@ use Rattle.sf_reply.specs.declared.reply.Reply.TheVariants as reply
 use Rattle.sf_field.specs.Attributes.{AttrsFit, OwnerFits, TimesFit}
 use Rattle.sf_reply.specs.Longname.{longname_text}
 use Rattle.sf_reply.proofs.Laws.{longname_short}
-use Rattle.sf_call.specs.declared.limits.TheConstants.{MAX_FILE_SIZE, MAX_READ, MAX_ENTRIES}
+use Rattle.sf_call.specs.declared.limits.TheConstants.{MAX_FILE_SIZE, MAX_READ, MAX_ENTRIES, MAX_LINKS}
 use Rattle.sf_call.specs.declared.metadata.Metadata.{Metadata}
 use Rattle.sf_call.specs.declared.place.Place.{Place}
 use Rattle.sf_call.specs.declared.place.Place.TheVariants.{NoWay, Absent, At}
 use Rattle.sf_call.specs.declared.request.Request.{Request}
-use Rattle.sf_call.specs.declared.request.Request.TheVariants.{Stat, SetStat, Mkdir, Rmdir, Remove, OpenDir, Open, Close, FStat, FSetStat, Read, Write, ReadDir, Rename, PosixRename}
+use Rattle.sf_call.specs.declared.request.Request.TheVariants.{Stat, SetStat, Mkdir, Rmdir, Remove, OpenDir, Open, Close, FStat, FSetStat, Read, Write, ReadDir, Rename, PosixRename, Link}
 use Rattle.sf_call.specs.Attributes.{Object, made_at, modified_at, with_parts, attrs_of}
 use Rattle.sf_call.specs.Attributes.Object.{Directory, File}
 use Rattle.sf_block.specs.Contents.{resized, written}
-use Rattle.sf_call.specs.Tree.{Tree, Handle, Found, label_at, object_of, directory_metadata, directory_at, place_at, found_object, found_place, found_at, after_front, only_name, is_nil, is_empty}
+use Rattle.sf_call.specs.Tree.{Tree, Handle, Found, label_at, object_of, links, directory_metadata, directory_at, place_at, found_object, found_place, found_at, after_front, only_name, is_nil, is_empty}
 use Rattle.sf_call.specs.Tree.Found.{Nowhere, Nothing, DirectoryAt, FileAt}
 use Rattle.sf_call.specs.Handles.{Opened, handle_in, opened_object, opened_by, opened}
 use Rattle.sf_call.specs.Handles.Opened.{NotOpen, OpenDirectory, OpenFile}
@@ -34,7 +34,7 @@ use Rattle.sf_call.specs.Listings.{path_of, is_past, name_past, entry_of, listed
 use Rattle.sf_call.specs.Changes.{touch, touched}
 use Rattle.sf_call.specs.Values.{IsRequest, IsCall}
 use Rattle.sf_call.specs.Calls.{Answer, answer_to, stat, refuses_size, with_size, sets, set_stat, make_directory, remove_directory, remove_file, has_all_handles, open_directory, open_present, open_file, close, stat_opened, set_opened, read, start_of, write, lists, read_directory, unless_root, moves, opening, stamp}
-use Rattle.sf_call.proofs.RenameCases.{rename_cases, posix_rename_cases}
+use Rattle.sf_call.proofs.RenameCases.{rename_cases, posix_rename_cases, link_cases, link_to_cases}
 use Rattle.sf_call.proofs.FittingTrees.{MetadataFits, ObjectFits, TreeFits, ChangeFits, all_made, found_value, rest_names}
 
 -- what holds of the elements of two lists holds of those of both
@@ -111,29 +111,29 @@ taken_short P zero xs all = tt
 taken_short P (suc n) [] all = tt
 taken_short P (suc n) (x ∷ xs) all = (all.0, taken_short P n xs all.1)
 
-shown_short : (attrs : Attrs) (name : Name) → AttrsFit attrs → length name ≤ 255 → (line : Option (List ℕ)) → longname_text attrs 1 name ≡ line → length (unwrap_or line []) ≤ 343
-shown_short attrs name fits short None e = omega arith
-shown_short attrs name fits short (Some line) e = omega (arith, longname_short attrs 1 name line fits (omega arith) e)
+shown_short : (attrs : Attrs) (count : ℕ) (name : Name) → AttrsFit attrs → count ≤ MAX_LINKS → length name ≤ 255 → (line : Option (List ℕ)) → longname_text attrs count name ≡ line → length (unwrap_or line []) ≤ 343
+shown_short attrs count name fits few short None e = omega arith
+shown_short attrs count name fits few short (Some line) e = omega (arith, longname_short attrs count name line fits (omega (arith, few)) e)
 
-entry_short : (name : Name) (object : Object) → IsName name → ObjectFits object → EntryIsShort (entry_of name object)
-entry_short name object is_name fits = record {
+entry_short : (name : Name) (count : ℕ) (object : Object) → IsName name → count ≤ MAX_LINKS → ObjectFits object → EntryIsShort (entry_of name count object)
+entry_short name count object is_name few fits = record {
   filename = is_name.part.short;
-  longname = shown_short (attrs_of object) name (attrs_fit object fits) is_name.part.short (longname_text (attrs_of object) 1 name) refl;
+  longname = shown_short (attrs_of object) count name (attrs_fit object fits) few is_name.part.short (longname_text (attrs_of object) count name) refl;
   attrs = attrs_fit object fits;
 }
 
-module _ (tree : Tree) (fits : TreeFits tree) where
+module _ (tree : Tree) (fits : TreeFits tree) (few : (label : ℕ) → links tree.names label ≤ MAX_LINKS) where
   there : (label : ℕ) → IfSome (object_of tree.objects label) ObjectFits
   there label = found_value ObjectFits (is_at (nat_cmp label)) tree.objects fits.objects
 
   listed_short : (directory : Path) (last : Option Name) (e : Path × ℕ) → IsPath e.0 → IfSome (listed_entry tree directory last e) EntryIsShort
   listed_short directory last e names =
-      elim (name_past directory last e.0) as (λ o. IfSome o IsName → IfSome (option_and_then (λ name. option_map (entry_of name) (object_of tree.objects e.1)) o) EntryIsShort) [
+      elim (name_past directory last e.0) as (λ o. IfSome o IsName → IfSome (option_and_then (λ name. option_map (entry_of name (links tree.names e.1)) (object_of tree.objects e.1)) o) EntryIsShort) [
         | None ↦ λ _. tt
         | Some name ↦ λ is_name.
-            elim (object_of tree.objects e.1) as (λ o. IfSome o ObjectFits → IfSome (option_map (entry_of name) o) EntryIsShort) [
+            elim (object_of tree.objects e.1) as (λ o. IfSome o ObjectFits → IfSome (option_map (entry_of name (links tree.names e.1)) o) EntryIsShort) [
               | None ↦ λ _. tt
-              | Some object ↦ λ object_fits. entry_short name object is_name object_fits
+              | Some object ↦ λ object_fits. entry_short name (links tree.names e.1) object is_name (few e.1) object_fits
             ] (there e.1)
       ] (past_name directory last e.0 names)
 
@@ -335,7 +335,10 @@ module _ (tree : Tree) (fits : TreeFits tree) where
     answered (ReadDir handle) r = directory_read handle (opened tree session handle)
     answered (Rename old new) r = rename_cases AnswerFits (λ code. (tt, tt)) (tt, tt) tree moment old new (λ _ _. moved_fits old new r.1) session number
     answered (PosixRename old new) r = posix_rename_cases AnswerFits (λ code. (tt, tt)) (tt, tt) tree moment old new (λ _ _. moved_fits old new r.1) session number
+    answered (Link old new) r =
+        link_cases AnswerFits (λ code. (tt, tt)) tree moment old new
+        (λ label _ _ _. link_to_cases AnswerFits (λ code. (tt, tt)) tree moment new label (place_at tree new) refl (λ _ _. (tt, (r.1, touched_fits (parent new))))) session number
 
 -- the answer to a call
-pub answer_fits : (tree : Tree) (session number moment : ℕ) (request : Request) → TreeFits tree → IsCall number session moment request → AnswerFits (answer_to tree session number moment request)
-answer_fits tree session number moment request fits call = answered tree fits session number moment call.number_fits call.moment_fits request call.request_fits
+pub answer_fits : (tree : Tree) (session number moment : ℕ) (request : Request) → TreeFits tree → ((label : ℕ) → links tree.names label ≤ MAX_LINKS) → IsCall number session moment request → AnswerFits (answer_to tree session number moment request)
+answer_fits tree session number moment request fits few call = answered tree fits few session number moment call.number_fits call.moment_fits request call.request_fits

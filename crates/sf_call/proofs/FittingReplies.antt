@@ -11,6 +11,7 @@ use Rattle.sf_call.specs.declared.record.Record.{Record}
 use Rattle.sf_call.specs.Calls.{answer_to}
 use Rattle.sf_call.specs.Histories.{replay, IsLegal, IsGiven}
 use Rattle.sf_call.proofs.Growth.{holds_after}
+use Rattle.sf_call.proofs.Sound.{sound_replay}
 use Rattle.sf_call.proofs.FittingTrees.{TreeFits, fits_done, fits_left, fits_empty}
 use Rattle.sf_call.proofs.FittingAnswers.{EntryIsShort, IsShort, answer_fits}
 
@@ -20,13 +21,13 @@ pub fits_replay : (history : List Record) → IsLegal history → TreeFits (repl
 fits_replay =
     holds_after TreeFits
     (λ history number session moment request given legal may fits.
-    fits_done (replay history) (answer_to (replay history) session number moment request).changes (answer_fits (replay history) session number moment request fits may.is_call).1 fits)
+    fits_done (replay history) (answer_to (replay history) session number moment request).changes (answer_fits (replay history) session number moment request fits (sound_replay history legal).labelled.few may.is_call).1 fits)
     fits_left fits_empty
 
 pub given_short : (number session : ℕ) (given : Reply) → IsGiven number session given → IsShort given
 given_short number session given (before, moment, request, legal, may) =
     elim may.answered [
-      | inl tells ↦ subst IsShort (sym tells) (answer_fits (replay before) session number moment request (fits_replay before legal) may.is_call).0
+      | inl tells ↦ subst IsShort (sym tells) (answer_fits (replay before) session number moment request (fits_replay before legal) (sound_replay before legal).labelled.few may.is_call).0
       | inr none ↦ subst IsShort (sym none) tt
     ]
 

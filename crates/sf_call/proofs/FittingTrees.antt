@@ -17,7 +17,7 @@ use Rattle.sf_call.specs.Attributes.Object.{Directory, File}
 use Rattle.sf_call.specs.Tree.{Tree, label_at, is_used, kept, with_names, with_handles, after_front, empty_tree}
 use Rattle.sf_call.specs.Moves.{is_outside, carried, with_entries, moved}
 use Rattle.sf_call.specs.Changes.{Change, changed, done}
-use Rattle.sf_call.specs.Changes.Change.{SetObject, NewPath, GonePath, Move, OpenHandle, SetHandle, CloseHandle}
+use Rattle.sf_call.specs.Changes.Change.{SetObject, NewPath, NewName, GonePath, Move, OpenHandle, SetHandle, CloseHandle}
 use Rattle.sf_call.proofs.MovedNames.{same_path_is}
 use Rattle.sf_call.proofs.Used.{all_inserted}
 
@@ -36,6 +36,7 @@ pub record TreeFits (tree : Tree) : Type 0 where
 abbrev pub ChangeFits : Change → Type 0
 ChangeFits (SetObject label object) = ObjectFits object
 ChangeFits (NewPath path label object) = IsPath path × ObjectFits object
+ChangeFits (NewName path label) = IsPath path
 ChangeFits (GonePath path) = Unit {0}
 ChangeFits (Move old new) = IsPath new
 ChangeFits (OpenHandle number handle) = Unit {0}
@@ -139,6 +140,10 @@ fits_changed tree (SetObject label object) object_fits fits = record { names = f
 fits_changed tree (NewPath path label object) new_fits fits = record {
   names = all_inserted path_cmp path label IsPath tree.names new_fits.0 fits.names;
   objects = all_put ObjectFits nat_cmp label object tree.objects new_fits.1 fits.objects;
+}
+fits_changed tree (NewName path label) new_fits fits = record {
+  names = all_inserted path_cmp path label IsPath tree.names new_fits fits.names;
+  objects = fits.objects;
 }
 fits_changed tree (GonePath path) _ fits =
     fits_kept (with_names tree (remove_entry (is_at (path_cmp path)) tree.names)) (record {

@@ -15,12 +15,12 @@ use Rattle.sf_path.specs.Order.{path_cmp, same_path}
 use Rattle.sf_call.specs.declared.metadata.Metadata.{Metadata}
 use Rattle.sf_call.specs.Attributes.{Object}
 use Rattle.sf_call.specs.Attributes.Object.{Directory, File}
-use Rattle.sf_call.specs.Tree.{Tree, IsOrderedTree, label_at, object_of, directory_metadata, is_directory, is_faulty_way, after_front, is_used, kept, with_names, with_handles, empty_tree}
+use Rattle.sf_call.specs.Tree.{Tree, IsOrderedTree, label_at, object_of, directory_metadata, is_directory_object, is_directory, is_faulty_way, after_front, is_used, kept, with_names, with_handles, empty_tree}
 use Rattle.sf_call.specs.Changes.{Change, changed}
-use Rattle.sf_call.specs.Changes.Change.{SetObject, NewPath, GonePath, Move, OpenHandle, SetHandle, CloseHandle}
+use Rattle.sf_call.specs.Changes.Change.{SetObject, NewPath, NewName, GonePath, Move, OpenHandle, SetHandle, CloseHandle}
 use Rattle.sf_call.specs.declared.metadata.FileType.TheVariants as file_type
 use Rattle.sf_call.specs.Moves.{moved}
-use Rattle.sf_call.specs.Allowed.{kind_of, IsSetRightly, IsMove, MayChange}
+use Rattle.sf_call.specs.Allowed.{kind_of, IsSetRightly, IsNewName, IsMove, MayChange}
 use Rattle.sf_call.proofs.Orders.{exact_paths, find_is}
 use Rattle.sf_call.proofs.Ordered.{put_is}
 use Rattle.sf_call.proofs.LookUps.{found_removed, other_removed}
@@ -55,10 +55,6 @@ file_of_kind : (o : Option Object) → option_map kind_of o ≡ Some file_type.F
 file_of_kind None e = cc
 file_of_kind (Some (Directory m)) e = cc
 file_of_kind (Some (File m contents)) e = refl
-
--- a directory or none, as a test
-abbrev pub is_directory_object : Option Object → Bool
-is_directory_object o = is_some (option_and_then directory_metadata o)
 
 directory_set : (objects : List (ℕ × Object)) (label l : ℕ) (m : Metadata) → is_directory_object (object_of objects l) ≡ true → is_directory_object (object_of (set_value (is_at (nat_cmp label)) objects (Directory m)) l) ≡ true
 directory_set [] label l m h = h
@@ -153,6 +149,44 @@ module _ (tree : Tree) (path : Path) (number : ℕ) (object : Object) (free : la
     way = λ q label e. way_stays tree (changed tree (NewPath path number object)) new_keeps q
         (elim (same_path q path) as (λ b. same_path q path ≡ b → cond b (Some number) (label_at tree.names q) ≡ Some label → is_faulty_way tree q ≡ false) [
           | true ↦ λ same k. ap (is_faulty_way tree) (same_path_is q path same) ∙ open_before
+          | false ↦ λ other k. f.way q label k
+        ] refl (sym (lookup-insert_entry tree.names path number q) ∙ e));
+  }
+
+-- ---- a further path of a file
+module _ (tree : Tree) (path : Path) (number : ℕ) (may : IsNewName tree path number) where
+  abbrev named_anew : Tree
+  named_anew = changed tree (NewName path number)
+
+  label_stays : (q : Path) (label : ℕ) → label_at tree.names q ≡ Some label → label_at (insert_entry path_cmp tree.names path number) q ≡ Some label
+  label_stays q label e =
+      lookup-insert_entry tree.names path number q
+      ∙ elim (same_path q path) as (λ b. same_path q path ≡ b → cond b (Some number) (label_at tree.names q) ≡ Some label) [
+        | true ↦ λ same. let is : label_at tree.names q ≡ label_at tree.names path = ap (label_at tree.names) (same_path_is q path same) in let free = may.free in cc
+        | false ↦ λ other. e
+      ] refl
+
+  name_keeps : KeepsDirectories tree named_anew
+  name_keeps q h =
+      is_directory_is named_anew q
+      ∙ some_label (label_at tree.names q) (λ o. label_at tree.names q ≡ o → is_directory_label tree.objects o ≡ true → is_directory_label tree.objects (label_at (insert_entry path_cmp tree.names path number) q) ≡ true)
+      (λ label e _ k. ap (is_directory_label tree.objects) (label_stays q label e) ∙ k)
+      (λ e _ k. cc)
+      refl (sym (is_directory_is tree q) ∙ h)
+
+  file_there : (o : Option Object) → option_map kind_of o ≡ Some file_type.File → is_some o ≡ true
+  file_there None e = cc
+  file_there (Some o) e = refl
+
+  name_founded : IsFounded tree → IsFounded named_anew
+  name_founded f = record {
+    object = λ q label e. elim (same_path q path) as (λ b. cond b (Some number) (label_at tree.names q) ≡ Some label → is_some (object_of tree.objects label) ≡ true) [
+      | true ↦ λ k. let is : number ≡ label = cc in file_there (object_of tree.objects label) (ap (λ (l : ℕ). option_map kind_of (object_of tree.objects l)) (sym is) ∙ may.of_file)
+      | false ↦ λ k. f.object q label k
+    ] (sym (lookup-insert_entry tree.names path number q) ∙ e);
+    way = λ q label e. way_stays tree named_anew name_keeps q
+        (elim (same_path q path) as (λ b. same_path q path ≡ b → cond b (Some number) (label_at tree.names q) ≡ Some label → is_faulty_way tree q ≡ false) [
+          | true ↦ λ same k. ap (is_faulty_way tree) (same_path_is q path same) ∙ may.way
           | false ↦ λ other k. f.way q label k
         ] refl (sym (lookup-insert_entry tree.names path number q) ∙ e));
   }
@@ -297,6 +331,7 @@ module _ (tree : Tree) (old new : Path) (may : IsMove tree old new) where
 pub founded_changed : (number : ℕ) (tree : Tree) (change : Change) → MayChange number tree change → IsOrderedTree tree → IsFounded tree → IsFounded (changed tree change)
 founded_changed number tree (SetObject label object) may o f = set_founded tree label object may f
 founded_changed number tree (NewPath path label object) may o f = new_founded tree path label object may.free may.unused may.way f
+founded_changed number tree (NewName path label) may o f = name_founded tree path label may f
 founded_changed number tree (GonePath gone) may o f = kept_founded _ (gone_founded tree gone may o f)
 founded_changed number tree (Move old new) may o f = kept_founded _ (move_founded tree old new may f)
 founded_changed number tree (OpenHandle handle opened) may o f = record { object = f.object; way = f.way }

@@ -6,7 +6,7 @@ use Rattle.sf_path.proofs.Laws.{held_path}
 use Rattle.sf_field.proofs.Laws.{held_attrs, held_bytes}
 use Rattle.sf_call.specs.Values.{IsRequest}
 use Rattle.sf_call.specs.declared.request.Request.{Request}
-use Rattle.sf_call.specs.declared.request.Request.TheVariants.{Stat, SetStat, Mkdir, Rmdir, Remove, OpenDir, Open, Close, FStat, FSetStat, Read, Write, ReadDir, Rename, PosixRename}
+use Rattle.sf_call.specs.declared.request.Request.TheVariants.{Stat, SetStat, Mkdir, Rmdir, Remove, OpenDir, Open, Close, FStat, FSetStat, Read, Write, ReadDir, Rename, PosixRename, Link}
 use Rattle.sf_call.specs.contracts.request.Request.{the_row}
 
 pub held_request : (request : Request) (vs : List Val) → Is the_row request vs → IsRequest request
@@ -25,3 +25,4 @@ held_request (Write handle offset bytes) vs is = (is.1.1.1.1.0.1, is.1.1.1.1.1.0
 held_request (ReadDir handle) vs is = is.1.1.1.1.0.1
 held_request (Rename old new) vs is = (held_path old _ is.1.1.1.1.0, held_path new _ is.1.1.1.1.1.0)
 held_request (PosixRename old new) vs is = (held_path old _ is.1.1.1.1.0, held_path new _ is.1.1.1.1.1.0)
+held_request (Link old new) vs is = (held_path old _ is.1.1.1.1.0, held_path new _ is.1.1.1.1.1.0)

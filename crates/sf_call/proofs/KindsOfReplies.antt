@@ -10,7 +10,7 @@ use Rattle.sf_reply.specs.declared.reply.Reply.TheVariants as reply
 use Rattle.sf_call.specs.Histories.{after_reply}
 use Rattle.sf_call.specs.declared.limits.TheConstants.{MAX_FILE_SIZE}
 use Rattle.sf_call.specs.declared.request.Request.{Request}
-use Rattle.sf_call.specs.declared.request.Request.TheVariants.{Stat, SetStat, Mkdir, Rmdir, Remove, OpenDir, Open, Close, FStat, FSetStat, Read, Write, ReadDir, Rename, PosixRename}
+use Rattle.sf_call.specs.declared.request.Request.TheVariants.{Stat, SetStat, Mkdir, Rmdir, Remove, OpenDir, Open, Close, FStat, FSetStat, Read, Write, ReadDir, Rename, PosixRename, Link}
 use Rattle.sf_call.specs.declared.place.Place.{Place}
 use Rattle.sf_call.specs.declared.place.Place.TheVariants.{NoWay, Absent, At}
 use Rattle.sf_call.specs.Attributes.{Object}
@@ -22,7 +22,7 @@ use Rattle.sf_call.specs.Handles.Opened.{NotOpen, OpenDirectory, OpenFile}
 use Rattle.sf_call.specs.Listings.{path_of, listing_of}
 use Rattle.sf_call.specs.Calls.{Answer, apply, stat, refuses_size, sets, set_stat, make_directory, remove_directory, remove_file, has_all_handles, open_directory, open_present, open_file, close, stat_opened, set_opened, read, start_of, write, lists, read_directory, unless_root, opening, stamp}
 use Rattle.sf_call.specs.ReplyKinds.{IsStatus, IsStatusOrAttrs, IsStatusOrHandle, IsStatusOrData, IsStatusOrNames, IsReplyTo}
-use Rattle.sf_call.proofs.RenameCases.{rename_cases, posix_rename_cases}
+use Rattle.sf_call.proofs.RenameCases.{rename_cases, posix_rename_cases, link_cases, link_to_cases}
 
 -- a choice of two replies of a kind is of the kind
 choice : (Kind : Reply → Type 0) (b : Bool) (this that : Answer) → Kind this.reply → Kind that.reply → Kind (cond b this that).reply
@@ -136,6 +136,9 @@ applied tree session number moment (Write handle offset bytes) = was_written mom
 applied tree session number moment (ReadDir handle) = directory_read tree handle (opened tree session handle)
 applied tree session number moment (Rename old new) = rename_cases (λ answer. IsStatus answer.reply) (λ code. tt) tt tree moment old new (λ _ _. tt) session number
 applied tree session number moment (PosixRename old new) = posix_rename_cases (λ answer. IsStatus answer.reply) (λ code. tt) tt tree moment old new (λ _ _. tt) session number
+applied tree session number moment (Link old new) =
+    link_cases (λ answer. IsStatus answer.reply) (λ code. tt) tree moment old new
+    (λ label _ _ _. link_to_cases (λ answer. IsStatus answer.reply) (λ code. tt) tree moment new label (place_at tree new) refl (λ _ _. tt)) session number
 
 pub never_refused : (number : ℕ) (request : Request) → IsReplyTo number request reply.NoMemory → ⊥
 never_refused number (Stat path) k = k
@@ -153,6 +156,7 @@ never_refused number (Write handle offset bytes) k = k
 never_refused number (ReadDir handle) k = k
 never_refused number (Rename old new) k = k
 never_refused number (PosixRename old new) k = k
+never_refused number (Link old new) k = k
 
 goes_on : (tree next : Tree) (number : ℕ) (request : Request) (given : Reply) → IsReplyTo number request given → after_reply tree next given ≡ next
 goes_on tree next number request reply.NoMemory k = absurd (never_refused number request k)

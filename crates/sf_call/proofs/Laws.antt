@@ -1,6 +1,6 @@
 -- For the crates above: laws of trees and histories. They speak of definitions alone. All other files here are
 -- private to this crate.
-use Rattle.std.proofs.Common.{◌≡◌, ◌≢◌, ◌<◌, ◌≤◌, ◌↔◌, ℕ, true, false, List, [], ◌∷◌, ◌++◌, length, take, Option, Some, None, IsSome, IfSome, subst}
+use Rattle.std.proofs.Common.{◌≡◌, ◌≢◌, ◌<◌, ◌≤◌, ◌↔◌, ℕ, true, false, List, [], ◌∷◌, ◌++◌, length, take, Option, Some, None, IsSome, IfSome, sym, ap, ◌∙◌, subst}
 use Rattle.std.specs.Ordering.{nat_cmp}
 use Rattle.std.specs.BTreeMap.{is_at}
 use Rattle.sf_path.specs.Names.{Name, Path, IsPath}
@@ -8,14 +8,14 @@ use Rattle.sf_reply.specs.Longname.{HasType, longname_text}
 use Rattle.sf_reply.specs.Replies.{ReplyFits, reply_body}
 use Rattle.sf_reply.specs.declared.reply.Reply.{Reply}
 use Rattle.sf_reply.specs.declared.reply.Reply.TheVariants.{NoMemory}
-use Rattle.sf_call.specs.declared.limits.TheConstants.{MAX_FILE_SIZE}
+use Rattle.sf_call.specs.declared.limits.TheConstants.{MAX_FILE_SIZE, MAX_LINKS}
 use Rattle.sf_call.specs.declared.metadata.Metadata.{Metadata}
 use Rattle.sf_call.specs.declared.request.Request.{Request}
 use Rattle.sf_call.specs.declared.record.Record.{Record}
 use Rattle.sf_call.specs.declared.record.Record.TheVariants.{Did}
 use Rattle.sf_call.specs.Attributes.{Object, attrs_of}
 use Rattle.sf_call.specs.Attributes.Object.{File}
-use Rattle.sf_call.specs.Tree.{Tree, label_at, object_of, handle_of, is_directory, is_faulty_way, kept}
+use Rattle.sf_call.specs.Tree.{Tree, label_at, object_of, handle_of, links, is_directory, is_faulty_way, kept}
 use Rattle.sf_call.specs.Listings.{entry_of}
 use Rattle.sf_call.specs.Changes.{Change, done}
 use Rattle.sf_call.specs.Allowed.{AreAllowed, IsWellFormed}
@@ -29,6 +29,7 @@ use Rattle.sf_call.proofs.KindsOfReplies as kinds
 use Rattle.sf_call.proofs.FittingReplies as fitting
 use Rattle.sf_call.proofs.Sound as sound
 use Rattle.sf_call.proofs.Used.{kept-used}
+use Rattle.sf_call.proofs.Founded.{is_directory_label, is_directory_is}
 use Rattle.sf_call.proofs.FittingTrees.{ObjectFits, found_path}
 use Rattle.sf_call.proofs.Sound.{FreeAfter, allowed_by_sound, sound_replay}
 -- names that compare alike are one; a test that passes tells two names, or two paths, equal
@@ -52,14 +53,17 @@ pub use Rattle.sf_call.proofs.MovedNames.{at_old, label_after_move, lookup-moved
 pub use Rattle.sf_call.proofs.Used.{object_kept}
 -- a path that doesn't begin with another has no front that does, and no parent begins with its path
 pub use Rattle.sf_call.proofs.MovedNames.{no_front}
-pub use Rattle.sf_call.proofs.Requests.{no_parent}
+pub use Rattle.sf_call.proofs.Requests.{no_parent, front_itself}
 -- what holds of both
 pub use Rattle.sf_call.proofs.Requests.{both_true}
 -- what stands where a path leads, and of what kind
-pub use Rattle.sf_call.proofs.Requests.{place_label, directory_there, is_there_directory, kind_by, kind_at}
-pub use Rattle.sf_call.proofs.Founded.{is_directory_object, is_directory_label, is_directory_is}
--- what each rename answers: it is refused, does nothing or moves
-pub use Rattle.sf_call.proofs.RenameCases.{rename_cases, posix_rename_cases}
+pub use Rattle.sf_call.proofs.Requests.{place_label, place_free, directory_there, is_there_directory, kind_by, kind_at}
+pub use Rattle.sf_call.proofs.Founded.{is_directory_label, is_directory_is}
+pub use Rattle.sf_call.proofs.ObjectKinds.{directory_by_kind, no_directory}
+-- how many paths name an object
+pub use Rattle.sf_call.proofs.Links.{sum_removed, sum_removed_less, sum_inserted, is_link, is_link_itself, is_link_other, links_more, links_less, links_same, links_fewer, links_moved, named_linked, linked_path, none_linked, only_path}
+-- what each rename answers: it is refused, does nothing or moves; and what a link answers
+pub use Rattle.sf_call.proofs.RenameCases.{rename_cases, posix_rename_cases, link_cases, link_to_cases}
 pub use Rattle.sf_call.proofs.Founded.{kept_object}
 -- what holds of the root alone, and still holds after each call that may come and each leaving, holds after each legal
 -- history
@@ -83,7 +87,7 @@ pub has_type : (object : Object) → HasType (attrs_of object).permissions
 has_type = listed.has_type
 
 -- the line of an entry is that of its attributes
-pub has_line : (name : Name) (object : Object) → longname_text (attrs_of object) 1 name ≡ Some (entry_of name object).longname
+pub has_line : (name : Name) (count : ℕ) (object : Object) → longname_text (attrs_of object) count name ≡ Some (entry_of name count object).longname
 has_line = listed.has_line
 
 -- a record with the tree's own reply leads to the tree after it
@@ -124,10 +128,14 @@ pub no_handle : (history : List Record) (number : ℕ) → IsLegal history → 0
     → handle_of (replay history).handles number ≡ None
 no_handle history number legal above new = (sound_replay history legal).labelled.unopened number (above, new)
 
--- one path at most has a label
-pub one_path : (history : List Record) (path other : Path) (label : ℕ) → IsLegal history
+-- one path at most names a directory, and so many at most a file
+pub one_path : (history : List Record) (path other : Path) (label : ℕ) → IsLegal history → is_directory (replay history) path ≡ true
     → label_at (replay history).names path ≡ Some label → label_at (replay history).names other ≡ Some label → path ≡ other
-one_path history path other label legal = (sound_replay history legal).labelled.one_path path other label
+one_path history path other label legal is e f =
+    (sound_replay history legal).labelled.one_path path other label (sym (ap (is_directory_label (replay history).objects) e) ∙ sym (is_directory_is (replay history) path) ∙ is) e f
+
+pub few_paths : (history : List Record) (label : ℕ) → IsLegal history → links (replay history).names label ≤ MAX_LINKS
+few_paths history label legal = (sound_replay history legal).labelled.few label
 
 -- a path that is named leads over directories to an object
 pub named_object : (history : List Record) (path : Path) (label : ℕ) → IsLegal history

@@ -6,6 +6,8 @@ pub mod Ordered
 pub mod LookUps
 pub mod RenameCases
 pub mod KindsOfReplies
+pub mod Links
+pub mod ObjectKinds
 pub mod Labels
 pub mod Founded
 pub mod Used

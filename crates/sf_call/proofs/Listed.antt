@@ -1,5 +1,5 @@
 -- What is shown of an object has all parts, and its type.
-use Rattle.std.proofs.Common.{◌≡◌, Some, refl, inl, inr, arith}
+use Rattle.std.proofs.Common.{◌≡◌, ℕ, Some, refl, inl, inr, arith}
 use Rattle.sf_path.specs.Names.{Name}
 use Rattle.sf_reply.specs.Longname.{HasType, longname_text}
 use Rattle.sf_call.specs.Attributes.{Object, attrs_of}
@@ -16,6 +16,6 @@ has_type (Directory m) = inr (omega arith)
 has_type (File m contents) = inl (omega arith)
 
 -- the line of an entry is that of its attributes
-pub has_line : (name : Name) (object : Object) → longname_text (attrs_of object) 1 name ≡ Some (entry_of name object).longname
-has_line name (Directory m) = refl
-has_line name (File m contents) = refl
+pub has_line : (name : Name) (count : ℕ) (object : Object) → longname_text (attrs_of object) count name ≡ Some (entry_of name count object).longname
+has_line name count (Directory m) = refl
+has_line name count (File m contents) = refl

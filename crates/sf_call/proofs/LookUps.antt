@@ -76,7 +76,7 @@ not_at Greater t = absurd t
 
 module _ {K X : Type 0} (R : K → K → Ordering) (exact : IsAntisymmetric R) where
   -- nothing is found at a key below all
-  none_below : (q : K) (es : List (K × X)) → T (below_all R q es) → lookup (is_at (R q)) es ≡ None
+  pub none_below : (q : K) (es : List (K × X)) → T (below_all R q es) → lookup (is_at (R q)) es ≡ None
   none_below q [] below = refl
   none_below q (e ∷ es) below =
       ap (λ b. cond b (Some e.1) (lookup (is_at (R q)) es)) (not_at (R q e.0) (and_first (is_lt (R q e.0)) (below_all R q es) below))
@@ -99,6 +99,19 @@ module _ {K X : Type 0} (R : K → K → Ordering) (exact : IsAntisymmetric R) w
           | false ↦ λ k. found_removed test es q v (and_second (below_all R x.0 es) (is_sorted R es) sorted) k
         ]
       ] e
+
+  -- a removal leaves nothing at its key
+  pub removed_itself : (p : K) (es : List (K × X)) → T (is_sorted R es) → lookup (is_at (R p)) (remove_entry (is_at (R p)) es) ≡ None
+  removed_itself p [] sorted = refl
+  removed_itself p (x ∷ xs) sorted =
+      elim (is_at (R p) x.0) as (λ b. is_at (R p) x.0 ≡ b → lookup (is_at (R p)) (cond b xs (x ∷ remove_entry (is_at (R p)) xs)) ≡ None) [
+        | true ↦ λ tied.
+            let same : p ≡ x.0 = exact p x.0 (is_equal (R p x.0) tied) in
+            ap (λ (k : K). lookup (is_at (R k)) xs) same ∙ none_below x.0 xs (and_first (below_all R x.0 xs) (is_sorted R xs) sorted)
+        | false ↦ λ other.
+            ap (λ b. cond b (Some x.1) (lookup (is_at (R p)) (remove_entry (is_at (R p)) xs))) other
+            ∙ removed_itself p xs (and_second (below_all R x.0 xs) (is_sorted R xs) sorted)
+      ] refl
 
   -- a removal leaves what stands at other keys
   pub other_removed : (p q : K) (es : List (K × X)) → q ≢ p → lookup (is_at (R q)) (remove_entry (is_at (R p)) es) ≡ lookup (is_at (R q)) es

@@ -17,7 +17,7 @@ use Rattle.sf_call.specs.declared.record.Record.TheVariants.{Did, Left}
 use Rattle.sf_call.specs.Tree.{Tree, IsOrderedTree, is_used, kept, empty_tree}
 use Rattle.sf_call.specs.Moves.{with_entries, carried, is_outside}
 use Rattle.sf_call.specs.Changes.{Change, changed, done}
-use Rattle.sf_call.specs.Changes.Change.{SetObject, NewPath, GonePath, Move, OpenHandle, SetHandle, CloseHandle}
+use Rattle.sf_call.specs.Changes.Change.{SetObject, NewPath, NewName, GonePath, Move, OpenHandle, SetHandle, CloseHandle}
 use Rattle.sf_call.specs.Calls.{answer_to, apply, leave}
 use Rattle.sf_call.specs.Histories.{after, after_reply, replay}
 
@@ -99,7 +99,7 @@ module _ {K X : Type 0} (R : K → K → Ordering) where
         | false ↦ rest
       ]
 
-sorted_entries : (names es : List (Path × ℕ)) → T (is_sorted path_cmp names) → T (is_sorted path_cmp (with_entries names es))
+pub sorted_entries : (names es : List (Path × ℕ)) → T (is_sorted path_cmp names) → T (is_sorted path_cmp (with_entries names es))
 sorted_entries names [] h = h
 sorted_entries names (e ∷ es) h = sorted_put path_cmp path_total (with_entries names es) e.0 e.1 (sorted_entries names es h)
 
@@ -119,6 +119,11 @@ ordered_changed tree (SetObject label object) o = record {
 ordered_changed tree (NewPath path label object) o = record {
   names = sorted_put path_cmp path_total tree.names path label o.names;
   objects = sorted_put nat_cmp nat_cmp_total tree.objects label object o.objects;
+  handles = o.handles;
+}
+ordered_changed tree (NewName path label) o = record {
+  names = sorted_put path_cmp path_total tree.names path label o.names;
+  objects = o.objects;
   handles = o.handles;
 }
 ordered_changed tree (GonePath path) o = ordered_kept _ (record {

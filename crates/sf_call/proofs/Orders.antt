@@ -20,7 +20,7 @@ pub find_is : {K X : Type 0} (R : K → K → Ordering) (es : List (K × X)) (q 
 find_is R [] q = refl
 find_is R (e ∷ es) q = ap (cond (is_at (R q) e.0) (Some e.1)) (find_is R es q)
 
-same_entries : {K X : Type 0} {R : K → K → Ordering} → IsTotalOrder R → IsAntisymmetric R → (es fs : List (K × X)) → T (is_sorted R es) → T (is_sorted R fs)
+pub same_entries : {K X : Type 0} {R : K → K → Ordering} → IsTotalOrder R → IsAntisymmetric R → (es fs : List (K × X)) → T (is_sorted R es) → T (is_sorted R fs)
     → ((q : K) → lookup (is_at (R q)) es ≡ lookup (is_at (R q)) fs) → es ≡ fs
 same_entries {R = R} o exact es fs s t same = entries.same_entries R o exact es fs s t (λ q. sym (find_is R es q) ∙ same q ∙ find_is R fs q)
 

@@ -1,15 +1,20 @@
--- What a rename answers: it is refused, does nothing, or moves, where neither path begins with the other.
-use Rattle.std.proofs.Common.{◌≡◌, ℕ, Bool, true, false, cond, ◌&&◌, ◌||◌, [], ◌∷◌, Some, None, is_some, refl}
+-- What a rename answers: it is refused, does nothing, or moves, where neither path begins with the other. And what a link
+-- answers: it is refused, or names a file anew.
+use Rattle.std.proofs.Common.{◌≡◌, ℕ, Bool, true, false, cond, ◌&&◌, ◌||◌, nat_eq, nat_le, List, [], ◌∷◌, Some, None, is_some, refl}
 use Rattle.sf_path.specs.Names.{Path}
-use Rattle.sf_path.specs.Order.{same_path}
+use Rattle.sf_path.specs.Order.{same_path, parent}
 use Rattle.sf_reply.specs.declared.reply.StatusCode.{StatusCode}
 use Rattle.sf_reply.specs.declared.reply.StatusCode.TheVariants.{NoSuchFile, Failure}
+use Rattle.sf_call.specs.declared.limits.TheConstants.{MAX_LINKS}
 use Rattle.sf_call.specs.declared.place.Place.{Place}
 use Rattle.sf_call.specs.declared.place.Place.TheVariants.{NoWay, Absent, At}
-use Rattle.sf_call.specs.declared.request.Request.TheVariants.{Rename, PosixRename}
-use Rattle.sf_call.specs.Tree.{Tree, Found, after_front, place_at, found_at, is_directory, is_empty}
+use Rattle.sf_call.specs.declared.request.Request.TheVariants.{Rename, PosixRename, Link}
+use Rattle.sf_call.specs.declared.metadata.Metadata.{Metadata}
+use Rattle.sf_call.specs.Tree.{Tree, Found, after_front, links, place_at, found_at, is_directory, is_empty}
 use Rattle.sf_call.specs.Tree.Found.{Nowhere, Nothing, DirectoryAt, FileAt}
-use Rattle.sf_call.specs.Calls.{Answer, answer_to, refuses, succeeds, moves, unless_nested, unless_root, rename_to, rename, replace_by, posix_rename}
+use Rattle.sf_call.specs.Changes.{touched}
+use Rattle.sf_call.specs.Changes.Change.{NewName}
+use Rattle.sf_call.specs.Calls.{Answer, answer_to, refuses, succeeds, moves, unless_nested, unless_root, rename_to, rename, replace_by, posix_rename, link_to, link}
 
 -- what holds of an answer unless one path begins with the other
 pub apart : (P : Answer → Type 0) (old new : Path) (answer : Answer) → P (refuses Failure)
@@ -43,21 +48,47 @@ module _ (P : Answer → Type 0) (refused : (code : StatusCode) → P (refuses c
   renamed Absent = refused NoSuchFile
   renamed (At label) = apart P old new _ (refused Failure) (λ not_inside not_around. moved_to (place_at tree new) (moved not_inside not_around))
 
-  replaced : (found : Found) → P (moves tree moment old new) → P (replace_by tree moment old new found)
-  replaced Nowhere p = refused NoSuchFile
-  replaced Nothing p = p
-  replaced (DirectoryAt label m) p = either (is_directory tree old && is_empty tree.names new) _ _ p (refused Failure)
-  replaced (FileAt label m contents) p = either (is_directory tree old) _ _ (refused Failure) p
+  replaced : (label : ℕ) (found : Found) → P (moves tree moment old new) → P (replace_by tree moment old new label found)
+  replaced label Nowhere p = refused NoSuchFile
+  replaced label Nothing p = p
+  replaced label (DirectoryAt at m) p = either (is_directory tree old && is_empty tree.names new) _ _ p (refused Failure)
+  replaced label (FileAt at m contents) p = either (nat_eq label at) _ _ idle (either (is_directory tree old) _ _ (refused Failure) p)
 
   posix_renamed : (place : Place) → P (posix_rename tree moment old new place)
   posix_renamed NoWay = refused NoSuchFile
   posix_renamed Absent = refused NoSuchFile
   posix_renamed (At label) =
       either (same_path old new) _ _ idle
-      (apart P old new _ (refused Failure) (λ not_inside not_around. replaced (found_at tree new) (moved not_inside not_around)))
+      (apart P old new _ (refused Failure) (λ not_inside not_around. replaced label (found_at tree new) (moved not_inside not_around)))
 
   pub rename_cases : (session number : ℕ) → P (answer_to tree session number moment (Rename old new))
   rename_cases session number = rooted old _ (rooted new _ (renamed (place_at tree old)))
 
   pub posix_rename_cases : (session number : ℕ) → P (answer_to tree session number moment (PosixRename old new))
   posix_rename_cases session number = rooted old _ (rooted new _ (posix_renamed (place_at tree old)))
+
+module _ (P : Answer → Type 0) (refused : (code : StatusCode) → P (refuses code)) (tree : Tree) (moment : ℕ) (old new : Path)
+    (linked : (label : ℕ) (m : Metadata) (contents : List ℕ) → found_at tree old ≡ FileAt label m contents → P (link_to tree moment new label (place_at tree new))) where
+  link_found : (found : Found) → found_at tree old ≡ found → P (link tree moment new found)
+  link_found Nowhere e = refused NoSuchFile
+  link_found Nothing e = refused NoSuchFile
+  link_found (DirectoryAt label m) e = refused Failure
+  link_found (FileAt label m contents) e = linked label m contents e
+
+  if_rooted : (path : Path) (answer : Answer) → P answer → P (unless_root path answer)
+  if_rooted [] answer p = refused Failure
+  if_rooted (n ∷ path) answer p = p
+
+  pub link_cases : (session number : ℕ) → P (answer_to tree session number moment (Link old new))
+  link_cases session number = if_rooted old _ (if_rooted new _ (link_found (found_at tree old) refl))
+
+-- a link to a path is refused, or may be made
+pub link_to_cases : (P : Answer → Type 0) → ((code : StatusCode) → P (refuses code)) → (tree : Tree) (moment : ℕ) (new : Path) (label : ℕ) (place : Place) → place_at tree new ≡ place
+    → (place_at tree new ≡ Absent → nat_le MAX_LINKS (links tree.names label) ≡ false → P (succeeds (NewName new label ∷ touched tree moment (parent new)))) → P (link_to tree moment new label place)
+link_to_cases P refused tree moment new label NoWay e made = refused NoSuchFile
+link_to_cases P refused tree moment new label (At other) e made = refused Failure
+link_to_cases P refused tree moment new label Absent e made =
+    elim (nat_le MAX_LINKS (links tree.names label)) as (λ b. nat_le MAX_LINKS (links tree.names label) ≡ b → P (cond b (refuses Failure) (succeeds (NewName new label ∷ touched tree moment (parent new))))) [
+      | true ↦ λ t. refused Failure
+      | false ↦ λ f. made e f
+    ] refl

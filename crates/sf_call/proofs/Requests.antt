@@ -1,5 +1,5 @@
 -- What a request changes is allowed.
-use Rattle.std.proofs.Common.{◌≡◌, ◌≢◌, ◌<◌, ℕ, Bool, true, false, cond, not, nat_eq, nat_lt, nat_le, ◌+◌, ◌-◌, ◌&&◌, List, [], ◌∷◌, ◌++◌, length, length-append, length-take, take, Option, Some, None, IsSome, option_map, option_and_then, refl, sym, ap, ◌∙◌, append_assoc, arith}
+use Rattle.std.proofs.Common.{◌≡◌, ◌≢◌, ◌<◌, ℕ, Bool, true, false, cond, not, nat_eq, nat_lt, nat_le, ◌+◌, ◌-◌, ◌&&◌, List, [], ◌∷◌, ◌++◌, length, length-append, length-take, take, Option, Some, None, IsSome, option_map, option_and_then, refl, sym, ap, ◌∙◌, append_assoc, eq-eqb, arith}
 use Rattle.std.specs.List.{cons_option}
 use Rattle.std.specs.Ordering.{nat_cmp}
 use Rattle.std.specs.Cmp.{nat_cmp_total}
@@ -7,38 +7,40 @@ use Rattle.std.specs.Map.{remove_entry, set_value}
 use Rattle.std.specs.BTreeMap.{insert_entry, is_at}
 use Rattle.std.specs.FinMap.{nat_cmp-IsAntisymmetric}
 use Rattle.std.specs.Option.{is_some}
+use Rattle.std.proofs.lemmas.Bool.{leb-false}
 use Rattle.std.proofs.lemmas.List.{take_all, take-append-le}
 use Rattle.sf_path.specs.Names.{Name, Path}
 use Rattle.sf_path.specs.Order.{same_path, path_cmp, parent}
 use Rattle.sf_field.specs.declared.attrs.Attrs.{Attrs}
 use Rattle.sf_field.specs.declared.open_flags.OpenFlags.{OpenFlags}
 use Rattle.sf_reply.specs.declared.reply.Entry.{Entry}
-use Rattle.sf_call.specs.declared.limits.TheConstants.{MAX_FILE_SIZE}
+use Rattle.sf_call.specs.declared.limits.TheConstants.{MAX_FILE_SIZE, MAX_LINKS}
 use Rattle.sf_call.specs.declared.metadata.Metadata.{Metadata}
 use Rattle.sf_call.specs.declared.metadata.FileType.{FileType}
 use Rattle.sf_call.specs.declared.metadata.FileType.TheVariants as file_type
 use Rattle.sf_call.specs.declared.place.Place.{Place}
 use Rattle.sf_call.specs.declared.place.Place.TheVariants.{NoWay, Absent, At}
 use Rattle.sf_call.specs.declared.request.Request.{Request}
-use Rattle.sf_call.specs.declared.request.Request.TheVariants.{Stat, SetStat, Mkdir, Rmdir, Remove, OpenDir, Open, Close, FStat, FSetStat, Read, Write, ReadDir, Rename, PosixRename}
+use Rattle.sf_call.specs.declared.request.Request.TheVariants.{Stat, SetStat, Mkdir, Rmdir, Remove, OpenDir, Open, Close, FStat, FSetStat, Read, Write, ReadDir, Rename, PosixRename, Link}
 use Rattle.sf_call.specs.Attributes.{Object, modified_at}
 use Rattle.sf_call.specs.Attributes.Object.{Directory, File}
-use Rattle.sf_call.specs.Tree.{Tree, Handle, Found, label_at, object_of, handle_of, with_names, directory_metadata, directory_at, is_directory, is_faulty_way, place_of, place_at, found_object, found_place, found_at, after_front, only_name, children, is_nil, is_empty}
+use Rattle.sf_call.specs.Tree.{Tree, Handle, Found, label_at, object_of, handle_of, with_names, directory_metadata, directory_at, links, is_directory_object, is_directory, is_faulty_way, place_of, place_at, found_object, found_place, found_at, after_front, only_name, children, is_nil, is_empty}
 use Rattle.sf_call.specs.Tree.Found.{Nowhere, Nothing, DirectoryAt, FileAt}
 use Rattle.sf_call.specs.Handles.{Opened, if_of, handle_in, opened_object, opened_by, opened}
 use Rattle.sf_call.specs.Handles.Opened.{NotOpen, OpenDirectory, OpenFile}
 use Rattle.sf_call.specs.Listings.{path_of, listing_of}
 use Rattle.sf_call.specs.Moves.{moved}
 use Rattle.sf_call.specs.Changes.{touch, touched, changed}
-use Rattle.sf_call.specs.Changes.Change.{SetObject, Move}
+use Rattle.sf_call.specs.Changes.Change.{SetObject, NewName, Move}
 use Rattle.sf_call.specs.Allowed.{kind_of, IsSetRightly, IsNewHandle, AreAllowed, IsMove}
-use Rattle.sf_call.specs.Calls.{Answer, answer_to, stat, refuses_size, with_size, sets, set_stat, make_directory, goes, remove_directory, remove_file, has_all_handles, open_directory, open_present, open_file, close, stat_opened, set_opened, read, start_of, write, lists, read_directory, unless_root, moves, rename_to, rename, replace_by, posix_rename, opening, stamp}
+use Rattle.sf_call.specs.Calls.{Answer, answer_to, stat, refuses_size, with_size, sets, set_stat, make_directory, goes, remove_directory, remove_file, has_all_handles, open_directory, open_present, open_file, close, stat_opened, set_opened, read, start_of, write, lists, read_directory, unless_root, moves, rename_to, rename, replace_by, posix_rename, link_to, link, opening, stamp}
 use Rattle.sf_call.proofs.Ways.{open_way}
-use Rattle.sf_call.proofs.MovedNames.{same_path_is, after_front-append, no_front, no_proper_front, moved_outside}
+use Rattle.sf_call.proofs.ObjectKinds.{kinds_set}
+use Rattle.sf_call.proofs.MovedNames.{same_path_is, same_name_itself, after_front-append, no_front, no_proper_front, moved_outside}
 use Rattle.sf_call.proofs.Orders.{exact_paths}
-use Rattle.sf_call.proofs.RenameCases.{apart}
+use Rattle.sf_call.proofs.RenameCases.{apart, link_to_cases}
 use Rattle.sf_call.proofs.LookUps.{other_put, other_removed}
-use Rattle.sf_call.proofs.Founded.{IsFounded, is_file, kept_object, is_directory_object, is_directory_label, is_directory_is, not_both}
+use Rattle.sf_call.proofs.Founded.{IsFounded, is_file, kept_object, is_directory_label, is_directory_is, not_both}
 
 -- the place of a path that has a label
 pub place_label : (tree : Tree) (path : Path) (label : ℕ) → place_at tree path ≡ At label → label_at tree.names path ≡ Some label
@@ -49,7 +51,7 @@ place_label tree path label e =
     ] e
 
 -- the place of a path that is free
-place_free : (tree : Tree) (path : Path) → place_at tree path ≡ Absent → (is_faulty_way tree path ≡ false) × (label_at tree.names path ≡ None)
+pub place_free : (tree : Tree) (path : Path) → place_at tree path ≡ Absent → (is_faulty_way tree path ≡ false) × (label_at tree.names path ≡ None)
 place_free tree path e =
     elim (is_faulty_way tree path) as (λ b. cond b NoWay (place_of (label_at tree.names path)) ≡ Absent → (b ≡ false) × (label_at tree.names path ≡ None)) [
       | true ↦ λ k. cc
@@ -126,23 +128,6 @@ other_parent (n ∷ path) not_root same =
     let lengths : length (take (length (n ∷ path) - 1) (n ∷ path)) ≡ length (n ∷ path) = ap length same in
     let short = length-take (length (n ∷ path) - 1) (n ∷ path) in omega arith
 
--- a set object keeps the kinds of all
-kinds_set : (objects : List (ℕ × Object)) (label l : ℕ) (object : Object) → option_map kind_of (object_of objects label) ≡ Some (kind_of object)
-    → option_map kind_of (object_of (set_value (is_at (nat_cmp label)) objects object) l) ≡ option_map kind_of (object_of objects l)
-kinds_set [] label l object right = refl
-kinds_set (e ∷ es) label l object right =
-    elim (is_at (nat_cmp label) e.0) as (λ b. option_map kind_of (cond b (Some e.1) (object_of es label)) ≡ Some (kind_of object)
-    → option_map kind_of (object_of (cond b ((e.0, object) ∷ es) (e ∷ set_value (is_at (nat_cmp label)) es object)) l) ≡ option_map kind_of (cond (is_at (nat_cmp l) e.0) (Some e.1) (object_of es l))) [
-      | true ↦ λ here. elim (is_at (nat_cmp l) e.0) as (λ b. option_map kind_of (cond b (Some object) (object_of es l)) ≡ option_map kind_of (cond b (Some e.1) (object_of es l))) [
-        | true ↦ sym here
-        | false ↦ refl
-      ]
-      | false ↦ λ later. elim (is_at (nat_cmp l) e.0) as (λ b. option_map kind_of (cond b (Some e.1) (object_of (set_value (is_at (nat_cmp label)) es object) l)) ≡ option_map kind_of (cond b (Some e.1) (object_of es l))) [
-        | true ↦ refl
-        | false ↦ kinds_set es label l object later
-      ]
-    ] right
-
 -- the kind of what is a directory or a file
 abbrev pub kind_by : Bool → FileType
 kind_by b = cond b file_type.Directory file_type.File
@@ -162,12 +147,21 @@ pub both_true : (a b : Bool) → a && b ≡ true → (a ≡ true) × (b ≡ true
 both_true true b t = (refl, t)
 both_true false b t = cc
 
+-- a path begins with itself
+pub front_itself : (p : Path) → after_front p p ≡ Some []
+front_itself [] = refl
+front_itself (n ∷ p) = ap (λ b. cond b (after_front p p) None) (same_name_itself n) ∙ front_itself p
+
+not_itself : (p q : Path) → p ≡ q → after_front p q ≡ None → ⊥
+not_itself p q same none = let some : Some [] ≡ None = sym (front_itself p) ∙ ap (after_front p) same ∙ none in cc
+
 -- a path that isn't the front of all paths isn't a front of its parent
 pub no_parent : (p q : Path) → after_front p q ≡ None → after_front p (parent p) ≡ None
 no_parent [] q none = cc
 no_parent (n ∷ p) q none = no_proper_front (n ∷ p) (length (n ∷ p) - 1) (omega arith)
 
-module _ (tree : Tree) (number moment : ℕ) (unused : (q : Path) → label_at tree.names q ≢ Some number) (no_object : object_of tree.objects number ≡ None) (unopened : handle_of tree.handles number ≡ None) (f : IsFounded tree) where
+module _ (tree : Tree) (number moment : ℕ) (unused : (q : Path) → label_at tree.names q ≢ Some number) (no_object : object_of tree.objects number ≡ None) (unopened : handle_of tree.handles number ≡ None) (f : IsFounded tree)
+    (one : (path other : Path) (label : ℕ) → is_directory_object (object_of tree.objects label) ≡ true → label_at tree.names path ≡ Some label → label_at tree.names other ≡ Some label → path ≡ other) where
   abbrev pub IsRight : Answer → Type 0
   IsRight answer = AreAllowed number tree answer.changes
 
@@ -385,11 +379,12 @@ module _ (tree : Tree) (number moment : ℕ) (unused : (q : Path) → label_at t
           way = free.0;
           bare = λ name rest. label_or_none (label_at tree.names (new ++ name ∷ rest)) (λ l there. below_none new free.1 name rest l there);
           alike = λ replaced at. let found : Some replaced ≡ None = sym at ∙ free.1 in cc;
+          other = λ at. let found : Some label ≡ None = sym at ∙ free.1 in cc;
         })
 
     over : (at : ℕ) → label_at tree.names new ≡ Some at → ((name : Name) (rest : Path) (l : ℕ) → label_at tree.names (new ++ name ∷ rest) ≡ Some l → ⊥)
-        → option_map kind_of (object_of tree.objects at) ≡ Some (kind_by (is_directory tree old)) → IsRight (moves tree moment old new)
-    over at here below kind =
+        → option_map kind_of (object_of tree.objects at) ≡ Some (kind_by (is_directory tree old)) → (at ≡ label → ⊥) → IsRight (moves tree moment old new)
+    over at here below kind another =
         may_move old new (record {
           label = label;
           named = named;
@@ -399,6 +394,7 @@ module _ (tree : Tree) (number moment : ℕ) (unused : (q : Path) → label_at t
           bare = λ name rest. label_or_none (label_at tree.names (new ++ name ∷ rest)) (λ l there. below name rest l there);
           alike = λ replaced there. let same : Some replaced ≡ Some at = sym there ∙ here in let is : replaced ≡ at = cc in
               ap (λ (l : ℕ). option_map kind_of (object_of tree.objects l)) is ∙ kind ∙ sym (kind_at tree old label (f.object old label named) named);
+          other = λ there. let same : Some at ≡ Some label = sym here ∙ there in another cc;
         })
 
     moved_to : (place : Place) → place_at tree new ≡ place → IsRight (rename_to tree moment old new place)
@@ -406,23 +402,26 @@ module _ (tree : Tree) (number moment : ℕ) (unused : (q : Path) → label_at t
     moved_to (At at) e = tt
     moved_to Absent e = to_free e
 
-    replaced : (place : Place) → place_at tree new ≡ place → IsRight (replace_by tree moment old new (found_place tree.objects place))
+    replaced : (place : Place) → place_at tree new ≡ place → IsRight (replace_by tree moment old new label (found_place tree.objects place))
     replaced NoWay e = tt
     replaced Absent e = to_free e
     replaced (At at) e = replaced_object (object_of tree.objects at) refl where
       here : label_at tree.names new ≡ Some at
       here = place_label tree new at e
 
-      replaced_object : (o : Option Object) → object_of tree.objects at ≡ o → IsRight (replace_by tree moment old new (found_object at o))
+      replaced_object : (o : Option Object) → object_of tree.objects at ≡ o → IsRight (replace_by tree moment old new label (found_object at o))
       replaced_object None is = let some : is_some (object_of tree.objects at) ≡ true = f.object new at here in let none : is_some (object_of tree.objects at) ≡ false = ap (λ (o : Option Object). is_some o) is in cc
       replaced_object (Some (Directory m)) is =
           either_if (is_directory tree old && is_empty tree.names new) _ _
           (λ both. let two = both_true (is_directory tree old) (is_empty tree.names new) both in
-          over at here (below_empty new two.1) (ap (option_map kind_of) is ∙ ap (λ b. Some (kind_by b)) (sym two.0)))
+          over at here (below_empty new two.1) (ap (option_map kind_of) is ∙ ap (λ b. Some (kind_by b)) (sym two.0))
+          (λ same. not_itself old new (one old new label (ap (λ (l : ℕ). is_directory_object (object_of tree.objects l)) (sym same) ∙ ap is_directory_object is) named (here ∙ ap Some same)) not_inside))
           (λ other. tt)
       replaced_object (Some (File m contents)) is =
-          either_if (is_directory tree old) _ _ (λ directory. tt)
-          (λ file. over at here (below_file new at here (ap is_file is)) (ap (option_map kind_of) is ∙ ap (λ b. Some (kind_by b)) (sym file)))
+          either_if (nat_eq label at) _ _ (λ _. tt)
+          (λ apart. either_if (is_directory tree old) _ _ (λ directory. tt)
+          (λ file. over at here (below_file new at here (ap is_file is)) (ap (option_map kind_of) is ∙ ap (λ b. Some (kind_by b)) (sym file))
+          (λ same. let tied : nat_eq label at ≡ true = eq-eqb label at (sym same) in cc)))
 
   renamed : (old new : Path) (place : Place) → place_at tree old ≡ place → IsRight (rename tree moment old new place)
   renamed old new NoWay e = tt
@@ -436,6 +435,26 @@ module _ (tree : Tree) (number moment : ℕ) (unused : (q : Path) → label_at t
   posix_renamed old new (At label) e =
       either (same_path old new) _ _ tt
       (apart IsRight old new _ tt (λ not_inside not_around. replaced old new label (place_label tree old label e) not_inside not_around (place_at tree new) refl))
+
+  -- ---- links
+
+  linked_to : (new : Path) (label : ℕ) (m : Metadata) (contents : List ℕ) → object_of tree.objects label ≡ Some (File m contents) → IsRight (link_to tree moment new label (place_at tree new))
+  linked_to new label m contents is =
+      link_to_cases IsRight (λ code. tt) tree moment new label (place_at tree new) refl
+      (λ e few.
+      let free = place_free tree new e in (
+        record { free = free.1; way = free.0; of_file = ap (option_map kind_of) is; fewer = leb-false MAX_LINKS (links tree.names label) few },
+        allowed_touch _ (parent new) (directory_at tree (parent new)) refl (λ l named. refl),
+      ))
+
+  linked : (new : Path) (place : Place) → IsRight (link tree moment new (found_place tree.objects place))
+  linked new NoWay = tt
+  linked new Absent = tt
+  linked new (At label) = linked_object (object_of tree.objects label) refl where
+    linked_object : (o : Option Object) → object_of tree.objects label ≡ o → IsRight (link tree moment new (found_object label o))
+    linked_object None is = tt
+    linked_object (Some (Directory m)) is = tt
+    linked_object (Some (File m contents)) is = linked_to new label m contents is
 
   pub allowed : (session : ℕ) (request : Request) → AreAllowed number tree (answer_to tree session number moment request).changes
   allowed session (Stat path) = found_stat (found_at tree path)
@@ -453,3 +472,4 @@ module _ (tree : Tree) (number moment : ℕ) (unused : (q : Path) → label_at t
   allowed session (ReadDir handle) = directory_read session handle (handle_in tree session handle) refl
   allowed session (Rename old new) = rooted old _ (λ _. rooted new _ (λ _. renamed old new (place_at tree old) refl))
   allowed session (PosixRename old new) = rooted old _ (λ _. rooted new _ (λ _. posix_renamed old new (place_at tree old) refl))
+  allowed session (Link old new) = rooted old _ (λ _. rooted new _ (λ _. linked new (place_at tree old)))

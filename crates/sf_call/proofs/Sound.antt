@@ -1,5 +1,5 @@
 -- What holds of the tree after every legal history.
-use Rattle.std.proofs.Common.{◌≢◌, ◌<◌, ℕ, List, [], ◌∷◌, ◌++◌, refl, sym, subst, append_assoc}
+use Rattle.std.proofs.Common.{◌≢◌, ◌<◌, ℕ, List, [], ◌∷◌, ◌++◌, refl, sym, ap, ◌∙◌, subst, append_assoc}
 use Rattle.std.proofs.lemmas.List.{append-nil}
 use Rattle.sf_reply.specs.declared.reply.Reply.{Reply}
 use Rattle.sf_reply.specs.declared.reply.Reply.TheVariants as reply
@@ -14,7 +14,7 @@ use Rattle.sf_call.specs.Histories.{after, after_reply, replay, IsNewNumber, May
 use Rattle.sf_call.proofs.Growth.{replay-push, front_new, last_other}
 use Rattle.sf_call.proofs.Ordered.{ordered_changed, ordered_left}
 use Rattle.sf_call.proofs.Labels.{IsLabelled, labelled_less, labelled_changed, labelled_left, labelled_empty}
-use Rattle.sf_call.proofs.Founded.{IsFounded, founded_changed, founded_left, founded_empty}
+use Rattle.sf_call.proofs.Founded.{IsFounded, is_directory_label, is_directory_is, founded_changed, founded_left, founded_empty}
 use Rattle.sf_call.proofs.Used.{AllUsed, kept-used, used_changed, used_left, used_empty}
 use Rattle.sf_call.proofs.Requests.{allowed}
 
@@ -60,7 +60,7 @@ sound_less history r tree s = record {
 -- what a request that may follow changes is allowed
 pub allowed_by_sound : (Free : ℕ → Type 0) (tree : Tree) (session number moment : ℕ) (request : Request) → Free number → IsSound Free tree → AreAllowed number tree (answer_to tree session number moment request).changes
 allowed_by_sound Free tree session number moment request free s =
-    allowed tree number moment (s.labelled.unused number free) (s.labelled.no_object number free) (s.labelled.unopened number free) s.founded session request
+    allowed tree number moment (s.labelled.unused number free) (s.labelled.no_object number free) (s.labelled.unopened number free) s.founded s.labelled.one_path session request
 
 sound_after : (history : List Record) (tree : Tree) (r : Record) → MayFollow history r → IsSound (FreeAfter history) tree → IsSound (FreeAfter (history ++ r ∷ [])) (after tree r)
 sound_after history tree (Did number session moment request given) may s =
@@ -114,6 +114,7 @@ well_formed history number changes legal may =
       ordered = after.ordered;
       object = after.founded.object;
       way = after.founded.way;
-      one_path = after.labelled.one_path;
+      one_path = λ path other label is e f. after.labelled.one_path path other label (sym (ap (is_directory_label (done (replay history) changes).objects) e) ∙ sym (is_directory_is (done (replay history) changes) path) ∙ is) e f;
+      few_paths = after.labelled.few;
       used = kept-used _ after.used;
     }

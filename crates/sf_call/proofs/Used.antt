@@ -13,7 +13,7 @@ use Rattle.sf_path.specs.Names.{Path}
 use Rattle.sf_call.specs.Attributes.{Object}
 use Rattle.sf_call.specs.Tree.{Tree, Handle, label_at, object_of, handle_of, is_used, kept, with_names, with_handles, empty_tree}
 use Rattle.sf_call.specs.Changes.{Change, changed}
-use Rattle.sf_call.specs.Changes.Change.{SetObject, NewPath, GonePath, Move, OpenHandle, SetHandle, CloseHandle}
+use Rattle.sf_call.specs.Changes.Change.{SetObject, NewPath, NewName, GonePath, Move, OpenHandle, SetHandle, CloseHandle}
 use Rattle.sf_call.specs.Moves.{moved}
 use Rattle.sf_call.specs.Allowed.{MayChange}
 use Rattle.sf_call.proofs.MovedNames.{is_equal}
@@ -128,6 +128,12 @@ same_uses label number before after (h ∷ hs) there same =
 pub used_changed : (number : ℕ) (tree : Tree) (change : Change) → MayChange number tree change → AllUsed tree → AllUsed (changed tree change)
 used_changed number tree (SetObject label object) may used = all_set (is_at (nat_cmp label)) _ (λ l. is_used tree.names tree.handles l ≡ true) tree.objects used
 used_changed number tree (NewPath path label object) may used = used_new tree path label object may.free used
+used_changed number tree (NewName path label) may used =
+    let names = insert_entry path_cmp tree.names path label in
+    all_by (λ e. is_used tree.names tree.handles e.0 ≡ true) (λ e. is_used names tree.handles e.0 ≡ true) tree.objects
+    (λ e t. or_left (list_any (λ n. nat_eq n.1 e.0) tree.names) (list_any (λ n. nat_eq n.1 e.0) names) (list_any (λ h. nat_eq h.1.label e.0) tree.handles)
+    (any_still path_cmp path label (λ n. nat_eq n e.0) tree.names may.free) t)
+    used
 used_changed number tree (GonePath path) may used = used_kept (with_names tree (remove_entry (is_at (path_cmp path)) tree.names))
 used_changed number tree (Move old new) may used = used_kept (with_names tree (moved tree.names old new))
 used_changed number tree (OpenHandle handle opened) may used =

@@ -9,20 +9,20 @@ use Rattle.sf_reply.specs.declared.reply.StatusCode.{StatusCode}
 use Rattle.sf_reply.specs.declared.reply.StatusCode.TheVariants.{Success, EndOfFile, NoSuchFile, PermissionDenied, Failure}
 use Rattle.sf_path.specs.Order.{parent, same_path}
 use Rattle.sf_path.specs.Names.{Path}
-use Rattle.sf_call.specs.declared.limits.TheConstants.{MAX_FILE_SIZE, MAX_READ, MAX_HANDLES}
+use Rattle.sf_call.specs.declared.limits.TheConstants.{MAX_FILE_SIZE, MAX_READ, MAX_HANDLES, MAX_LINKS}
 use Rattle.sf_call.specs.declared.request.Request.{Request}
-use Rattle.sf_call.specs.declared.request.Request.TheVariants.{Stat, SetStat, Mkdir, Rmdir, Remove, OpenDir, Open, Close, FStat, FSetStat, Read, Write, ReadDir, Rename, PosixRename}
+use Rattle.sf_call.specs.declared.request.Request.TheVariants.{Stat, SetStat, Mkdir, Rmdir, Remove, OpenDir, Open, Close, FStat, FSetStat, Read, Write, ReadDir, Rename, PosixRename, Link}
 use Rattle.sf_call.specs.declared.place.Place.TheVariants.{NoWay, Absent, At}
 use Rattle.sf_call.specs.Attributes.{Metadata, Object, new_metadata, with_parts, modified_at, attrs_of}
 use Rattle.sf_call.specs.Attributes.Object.{Directory, File}
 use Rattle.sf_block.specs.Contents.{resized, written}
-use Rattle.sf_call.specs.Tree.{Tree, Handle, Place, Found, place_at, found_object, found_at, object_of, is_directory, after_front, is_empty, is_nil, kept, with_handles}
+use Rattle.sf_call.specs.Tree.{Tree, Handle, Place, Found, place_at, found_object, found_at, object_of, links, is_directory, after_front, is_empty, is_nil, kept, with_handles}
 use Rattle.sf_call.specs.Tree.Found.{Nowhere, Nothing, DirectoryAt, FileAt}
 use Rattle.sf_call.specs.Handles.{Opened, handle_in, opened, with_listed}
 use Rattle.sf_call.specs.Handles.Opened.{NotOpen, OpenDirectory, OpenFile}
 use Rattle.sf_call.specs.Listings.{path_of, listing_of, last_name}
 use Rattle.sf_call.specs.Changes.{Change, done, touched}
-use Rattle.sf_call.specs.Changes.Change.{SetObject, NewPath, GonePath, Move, OpenHandle, SetHandle, CloseHandle}
+use Rattle.sf_call.specs.Changes.Change.{SetObject, NewPath, NewName, GonePath, Move, OpenHandle, SetHandle, CloseHandle}
 
 -- what a request is answered, and what it changes
 pub record Answer : Type 0 where
@@ -212,22 +212,42 @@ rename tree moment old new Absent = refuses NoSuchFile
 rename tree moment old new (At label) =
     unless_nested old new (rename_to tree moment old new (place_at tree new))
 
--- the extension posix-rename (POSIX, rename): a file also takes a file's place, and a directory an empty directory's
-abbrev pub replace_by : Tree → ℕ → Path → Path → Found → Answer
-replace_by tree moment old new Nowhere = refuses NoSuchFile
-replace_by tree moment old new Nothing = moves tree moment old new
-replace_by tree moment old new (DirectoryAt label m) =
+-- the extension posix-rename (POSIX, rename): a file also takes a file's place, and a directory an empty directory's;
+-- where both paths name one file, nothing is done
+abbrev pub replace_by : Tree → ℕ → Path → Path → ℕ → Found → Answer
+replace_by tree moment old new label Nowhere = refuses NoSuchFile
+replace_by tree moment old new label Nothing = moves tree moment old new
+replace_by tree moment old new label (DirectoryAt at m) =
     if is_directory tree old && is_empty tree.names new then moves tree moment old new
     else refuses Failure
-replace_by tree moment old new (FileAt label m contents) =
-    if is_directory tree old then refuses Failure else moves tree moment old new
+replace_by tree moment old new label (FileAt at m contents) =
+    if nat_eq label at then succeeds []
+    else if is_directory tree old then refuses Failure else moves tree moment old new
 
 abbrev pub posix_rename : Tree → ℕ → Path → Path → Place → Answer
 posix_rename tree moment old new NoWay = refuses NoSuchFile
 posix_rename tree moment old new Absent = refuses NoSuchFile
 posix_rename tree moment old new (At label) =
     if same_path old new then succeeds []
-    else unless_nested old new (replace_by tree moment old new (found_at tree new))
+    else unless_nested old new (replace_by tree moment old new label (found_at tree new))
+
+-- ---- links
+
+-- to a path where nothing stands, unless as many paths name the file as may; the new path's parent is modified
+abbrev pub link_to : Tree → ℕ → Path → ℕ → Place → Answer
+link_to tree moment new label NoWay = refuses NoSuchFile
+link_to tree moment new label (At other) = refuses Failure
+link_to tree moment new label Absent =
+    if nat_le MAX_LINKS (links tree.names label) then refuses Failure
+    else succeeds (NewName new label ∷ touched tree moment (parent new))
+
+-- the extension hardlink (POSIX, link): a further path names the file that the old one names
+abbrev pub link : Tree → ℕ → Path → Found → Answer
+link tree moment new Nowhere = refuses NoSuchFile
+link tree moment new Nothing = refuses NoSuchFile
+link tree moment new (DirectoryAt label m) = refuses Failure
+link tree moment new (FileAt label m contents) =
+    link_to tree moment new label (place_at tree new)
 
 -- ---- calls by handle
 
@@ -292,7 +312,7 @@ read_directory tree number (OpenDirectory handle m) =
 
 -- ---- all calls
 
--- the root is neither made, set, removed nor moved
+-- the root is neither made, set, removed, moved nor linked
 abbrev pub unless_root : Path → Answer → Answer
 unless_root [] answer = refuses Failure
 unless_root (name ∷ path) answer = answer
@@ -327,6 +347,8 @@ answer_to tree session number moment (Rename old new) =
     unless_root old (unless_root new (rename tree moment old new (place_at tree old)))
 answer_to tree session number moment (PosixRename old new) =
     unless_root old (unless_root new (posix_rename tree moment old new (place_at tree old)))
+answer_to tree session number moment (Link old new) =
+    unless_root old (unless_root new (link tree moment new (found_at tree old)))
 
 -- the reply, and the tree after it
 pub record Applied : Type 0 where

@@ -10,11 +10,12 @@ use Rattle.sf_path.specs.Names.{Path}
 use Rattle.sf_call.specs.Tree.{Tree, Handle, with_names, with_objects, with_handles, directory_at, kept}
 use Rattle.sf_call.specs.Moves.{moved}
 
--- another object at a label; a new path, with its label and its object; a path gone; a move of what begins with a path;
+-- another object at a label; a new path, with its label and its object; a further path of a file; a path gone; a move of what begins with a path;
 -- a handle opened, changed or closed
 pub data Change : Type 0 where
   SetObject : (label : ℕ) → (object : Object) → Change
   NewPath : (path : Path) → (label : ℕ) → (object : Object) → Change
+  NewName : (path : Path) → (label : ℕ) → Change
   GonePath : (path : Path) → Change
   Move : (old : Path) → (new : Path) → Change
   OpenHandle : (number : ℕ) → (handle : Handle) → Change
@@ -28,6 +29,8 @@ changed tree (SetObject label object) =
 changed tree (NewPath path label object) =
     with_objects (with_names tree (insert_entry path_cmp tree.names path label))
     (insert_entry nat_cmp tree.objects label object)
+changed tree (NewName path label) =
+    with_names tree (insert_entry path_cmp tree.names path label)
 changed tree (GonePath path) =
     kept (with_names tree (remove_entry (is_at (path_cmp path)) tree.names))
 changed tree (Move old new) = kept (with_names tree (moved tree.names old new))
@@ -56,6 +59,7 @@ moved_by [] = None
 moved_by (Move old new ∷ changes) = Some old
 moved_by (SetObject label object ∷ changes) = moved_by changes
 moved_by (NewPath path label object ∷ changes) = moved_by changes
+moved_by (NewName path label ∷ changes) = moved_by changes
 moved_by (GonePath path ∷ changes) = moved_by changes
 moved_by (OpenHandle number handle ∷ changes) = moved_by changes
 moved_by (SetHandle number handle ∷ changes) = moved_by changes

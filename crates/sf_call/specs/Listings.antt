@@ -8,7 +8,7 @@ use Rattle.sf_reply.specs.declared.reply.Entry.{Entry}
 use Rattle.sf_reply.specs.Longname.{longname_text}
 use Rattle.sf_call.specs.declared.limits.TheConstants.{MAX_ENTRIES}
 use Rattle.sf_call.specs.Attributes.{Object, attrs_of}
-use Rattle.sf_call.specs.Tree.{Tree, object_of, after_front, only_name}
+use Rattle.sf_call.specs.Tree.{Tree, object_of, links, after_front, only_name}
 
 -- the path of a directory's label: the first that has it
 abbrev pub path_of : List (Path × ℕ) → ℕ → Option Path
@@ -24,17 +24,17 @@ abbrev pub name_past : Path → Option Name → Path → Option Name
 name_past directory last path = option_and_then (λ name. if is_past last name then Some name
     else None) (only_name (after_front directory path))
 
--- as it is listed, with the attributes that it has and one link
-abbrev pub entry_of : Name → Object → Entry
-entry_of name object = record {
+-- as it is listed, with the number of paths that name it and the attributes that it has
+abbrev pub entry_of : Name → ℕ → Object → Entry
+entry_of name count object = record {
   filename = name;
-  longname = unwrap_or (longname_text (attrs_of object) 1 name) [];
+  longname = unwrap_or (longname_text (attrs_of object) count name) [];
   attrs = attrs_of object;
 }
 
 abbrev pub listed_entry : Tree → Path → Option Name → Path × ℕ → Option Entry
 listed_entry tree directory last e =
-    option_and_then (λ name. option_map (entry_of name) (object_of tree.objects e.1))
+    option_and_then (λ name. option_map (entry_of name (links tree.names e.1)) (object_of tree.objects e.1))
     (name_past directory last e.0)
 
 -- the first 32 entries of a directory, in the order of their names, after the last one that was given

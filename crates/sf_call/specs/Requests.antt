@@ -2,7 +2,7 @@
 use Rattle.std.specs.Prelude.{ℕ}
 use Rattle.sf_path.specs.Names.{Path}
 use Rattle.sf_call.specs.declared.request.Request.{Request}
-use Rattle.sf_call.specs.declared.request.Request.TheVariants.{Stat, SetStat, Mkdir, Rmdir, Remove, OpenDir, Open, Close, FStat, FSetStat, Read, Write, ReadDir, Rename, PosixRename}
+use Rattle.sf_call.specs.declared.request.Request.TheVariants.{Stat, SetStat, Mkdir, Rmdir, Remove, OpenDir, Open, Close, FStat, FSetStat, Read, Write, ReadDir, Rename, PosixRename, Link}
 
 -- a handle, one path, or two
 pub data Target : Type 0 where
@@ -26,6 +26,7 @@ target_of (Write handle offset bytes) = ByHandle handle
 target_of (ReadDir handle) = ByHandle handle
 target_of (Rename old new) = OnPaths old new
 target_of (PosixRename old new) = OnPaths old new
+target_of (Link old new) = OnPaths old new
 
 -- nothing but a status, or beside it attributes, a handle, a file's bytes, or names
 pub data Wanted : Type 0 where
@@ -51,3 +52,4 @@ wanted_by (Write handle offset bytes) = StatusAlone
 wanted_by (ReadDir handle) = Entries
 wanted_by (Rename old new) = StatusAlone
 wanted_by (PosixRename old new) = StatusAlone
+wanted_by (Link old new) = StatusAlone

@@ -1,6 +1,6 @@
 -- The tree of files: what each path names, the directories and files, and the open handles.
 -- Each map is the list of its entries in the order of the keys, so trees that map alike are equal.
-use Rattle.std.specs.Prelude.{◌≡◌, ℕ, Bool, true, false, not, ◌||◌, if◌then◌else◌, T, List, [], ◌∷◌, map, filter, filter_map, Option, Some, None, option_map, option_and_then, is_some, nat_eq}
+use Rattle.std.specs.Prelude.{◌≡◌, ℕ, Bool, true, false, not, ◌||◌, if◌then◌else◌, T, List, [], ◌∷◌, map, filter, filter_map, count_by, Option, Some, None, option_map, option_and_then, is_some, nat_eq}
 use Rattle.std.specs.List.{list_any}
 use Rattle.std.specs.Ordering.{nat_cmp}
 use Rattle.std.specs.Map.{lookup}
@@ -51,6 +51,14 @@ handle_of handles number = lookup (is_at (nat_cmp number)) handles
 abbrev pub directory_metadata : Object → Option Metadata
 directory_metadata (Directory m) = Some m
 directory_metadata (File m contents) = None
+
+-- whether an object is there and is a directory
+abbrev pub is_directory_object : Option Object → Bool
+is_directory_object o = is_some (option_and_then directory_metadata o)
+
+-- how many paths name the object of a label: a file may have several, a directory has one
+abbrev pub links : List (Path × ℕ) → ℕ → ℕ
+links names label = count_by (λ e. nat_eq e.1 label) names
 
 -- the label of the directory that a path names, and its metadata
 abbrev pub directory_at : Tree → Path → Option (ℕ × Metadata)

@@ -4,7 +4,7 @@ use Rattle.sf_path.specs.Names.{IsPath}
 use Rattle.sf_field.specs.Attributes.{AttrsFit}
 use Rattle.sf_field.specs.Fields.{AreBytes}
 use Rattle.sf_call.specs.declared.request.Request.{Request}
-use Rattle.sf_call.specs.declared.request.Request.TheVariants.{Stat, SetStat, Mkdir, Rmdir, Remove, OpenDir, Open, Close, FStat, FSetStat, Read, Write, ReadDir, Rename, PosixRename}
+use Rattle.sf_call.specs.declared.request.Request.TheVariants.{Stat, SetStat, Mkdir, Rmdir, Remove, OpenDir, Open, Close, FStat, FSetStat, Read, Write, ReadDir, Rename, PosixRename, Link}
 
 -- the parts of a request are values of their types
 abbrev pub IsRequest : Request → Type 0
@@ -23,6 +23,7 @@ IsRequest (Write handle offset bytes) = (handle < 2 ^ 64) × (offset < 2 ^ 64) �
 IsRequest (ReadDir handle) = handle < 2 ^ 64
 IsRequest (Rename old new) = IsPath old × IsPath new
 IsRequest (PosixRename old new) = IsPath old × IsPath new
+IsRequest (Link old new) = IsPath old × IsPath new
 
 -- so are a call's number, its session, its moment and its request
 pub record IsCall (number session moment : ℕ) (request : Request) : Type 0 where

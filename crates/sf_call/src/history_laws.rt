@@ -1,13 +1,13 @@
 //! Laws of histories, which no call needs.
 
-ghost use Rattle.std.specs.Prelude.{◌≡◌, ◌≢◌, ◌<◌, ◌≤◌, ℕ, false, List, [], ◌∷◌, ◌++◌, length, Some, None, IsSome};
+ghost use Rattle.std.specs.Prelude.{◌≡◌, ◌≢◌, ◌<◌, ◌≤◌, ℕ, true, false, List, [], ◌∷◌, ◌++◌, length, Some, None, IsSome};
 ghost use Rattle.sf_field.specs.Fields.{max_body};
 ghost use Rattle.sf_reply.specs.declared.reply.Reply.{Reply};
 ghost use Rattle.sf_call.specs.declared.request.Request.{Request};
 ghost use Rattle.sf_call.specs.declared.record.Record.{Record};
 ghost use Rattle.sf_call.specs.declared.record.Record.TheVariants.{Did};
 ghost use Rattle.sf_path.specs.Names.{Path};
-ghost use Rattle.sf_call.specs.Tree.{label_at, object_of, handle_of, is_faulty_way};
+ghost use Rattle.sf_call.specs.Tree.{label_at, object_of, handle_of, links, is_directory, is_faulty_way};
 ghost use Rattle.sf_call.specs.Changes.{Change, done};
 ghost use Rattle.sf_call.specs.Calls.{answer_to};
 ghost use Rattle.sf_reply.specs.Replies.{ReplyFits, reply_body};
@@ -38,7 +38,8 @@ pub fn found_by_number()
         → record_of number history ≡ Some (Did number session moment request reply) }
 {}
 
-/// After a legal history no path, no object and no handle has the number of a call to come, and one path at most has a label.
+/// After a legal history no path, no object and no handle has the number of a call to come, one path at most names a
+/// directory, and 1024 at most a file.
 pub fn labels_of_paths()
     ensures unused { (history : List Record) (number : ℕ) (path : Path) → IsLegal history
         → 0 < number → IsNewNumber number history
@@ -48,8 +49,11 @@ pub fn labels_of_paths()
     ensures no_handle { (history : List Record) (number : ℕ) → IsLegal history → 0 < number
         → IsNewNumber number history → handle_of (replay history).handles number ≡ None }
     ensures one_path { (history : List Record) (path other : Path) (label : ℕ) → IsLegal history
+        → is_directory (replay history) path ≡ true
         → label_at (replay history).names path ≡ Some label
         → label_at (replay history).names other ≡ Some label → path ≡ other }
+    ensures few_paths { (history : List Record) (label : ℕ) → IsLegal history
+        → links (replay history).names label ≤ 1024 }
 {}
 
 /// After a legal history each path that is named leads over directories to an object.

@@ -29,7 +29,7 @@ pub use history_laws::{
     allowed_changes, found_by_number, given_by_history, labels_of_paths, one_record_more,
     replies_fit, ways_of_paths,
 };
-pub use limits::{MAX_ENTRIES, MAX_FILE_SIZE, MAX_HANDLES, MAX_READ};
+pub use limits::{MAX_ENTRIES, MAX_FILE_SIZE, MAX_HANDLES, MAX_LINKS, MAX_READ};
 pub use metadata::{FileType, Metadata};
 pub use place::Place;
 pub use record::Record;

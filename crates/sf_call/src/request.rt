@@ -6,7 +6,7 @@ use sf_field::{Attrs, ByteString, OpenFlags};
 use sf_path::Path;
 use std::alloc::AllocError;
 
-/// LSTAT is `Stat` too: the tree has no links. A handle is the number of the call that opened it.
+/// LSTAT is `Stat` too: the tree has no symbolic links. A handle is the number of the call that opened it.
 #[derive(Debug, PartialEq, Eq, Drop)]
 pub enum Request {
     Stat(Path),
@@ -34,6 +34,8 @@ pub enum Request {
     Rename(Path, Path),
     /// OpenSSH's rename, which replaces what the new path names.
     PosixRename(Path, Path),
+    /// OpenSSH's hardlink: the new path names the file that the old one names.
+    Link(Path, Path),
 }
 
 impl Request {
@@ -74,6 +76,7 @@ impl Request {
             Request::ReadDir(handle) => Request::ReadDir(*handle),
             Request::Rename(old, new) => Request::Rename(old.share()?, new.share()?),
             Request::PosixRename(old, new) => Request::PosixRename(old.share()?, new.share()?),
+            Request::Link(old, new) => Request::Link(old.share()?, new.share()?),
         })
     }
 }

@@ -69,10 +69,10 @@ pub fn told_replies()
 pub fn listed_attributes()
     ensures parts { (object : Object) → HasAllParts (attrs_of object) }
     ensures kind { (object : Object) → HasType (attrs_of object).permissions }
-    ensures shown { (name : Name) (object : Object)
-        → (entry_of name object).attrs ≡ attrs_of object }
-    ensures line { (name : Name) (object : Object)
-        → longname_text (attrs_of object) 1 name ≡ Some (entry_of name object).longname }
+    ensures shown { (name : Name) (count : ℕ) (object : Object)
+        → (entry_of name count object).attrs ≡ attrs_of object }
+    ensures line { (name : Name) (count : ℕ) (object : Object)
+        → longname_text (attrs_of object) count name ≡ Some (entry_of name count object).longname }
 {}
 
 /// The limits in numbers: the most that passes, and what is refused.

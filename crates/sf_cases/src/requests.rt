@@ -109,6 +109,15 @@ pub fn posix_rename(alloc: Global, old: &[u8], new: &[u8]) -> Result<Request, Fa
     Ok(Request::PosixRename(old_path, new_path))
 }
 
+/// The extension `hardlink@openssh.com`.
+pub fn link(alloc: Global, old: &[u8], new: &[u8]) -> Result<Request, Fail>
+    ensures { IfOk result (λ made. made ≡ request.Link (norm old.now) (norm new.now)) }
+{
+    let old_path = path(alloc, old)?;
+    let new_path = path(alloc, new)?;
+    Ok(Request::Link(old_path, new_path))
+}
+
 /// CLOSE.
 pub fn close(handle: u64) -> Result<Request, Fail>
     ensures { IfOk result (λ made. made ≡ request.Close handle) }

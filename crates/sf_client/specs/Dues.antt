@@ -28,6 +28,7 @@ due_of (request.RealPath path) = due.Names
 due_of (request.Stat path) = due.Attrs
 due_of (request.Rename old new) = due.Success
 due_of (request.PosixRename old new) = due.Success
+due_of (request.Link old new) = due.Success
 
 -- Whether the reply is the due one: STATUS OK, a handle, one byte at least and no more than were asked for, one name at
 -- least, or attributes.

@@ -97,4 +97,15 @@ impl<L: Line + Drop> Client<L> {
         let new = ByteStr::new(new);
         self.done(&WireRequest::PosixRename { old, new })
     }
+
+    /// Makes `new` a further name of the file at `old`, which fails where `new` is there.
+    pub fn hardlink(&mut self, old: &[u8], new: &[u8]) -> Result<(), ClientFault>
+        requires { length old.now + length new.now < 2 ^ 31 }
+        ensures { Comes (λ _. reply.Status Success) self.old
+            (request.Link old.now new.now) result self.new }
+    {
+        let old = ByteStr::new(old);
+        let new = ByteStr::new(new);
+        self.done(&WireRequest::Link { old, new })
+    }
 }

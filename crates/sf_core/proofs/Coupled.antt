@@ -1,18 +1,17 @@
 -- The facts about walks after a step and after a decision.
-use Rattle.std.specs.Prelude.{◌≡◌, ◌≢◌, ◌⊎◌, ℕ, List, [], ◌∷◌, ◌++◌, length, option_map, option_and_then, Option, Some, None, refl}
+use Rattle.std.specs.Prelude.{◌≡◌, ◌≢◌, ◌⊎◌, ℕ, true, List, [], ◌∷◌, ◌++◌, length, option_map, option_and_then, Option, Some, None, refl}
 use Rattle.std.proofs.Common.{sym, ap, subst, ◌∙◌, inl, inr, arith}
 use Rattle.std.proofs.lemmas.List.{length-append}
 use Rattle.sf_path.specs.Names.{Name, Path}
 use Rattle.sf_call.specs.declared.record.Record.{Record}
 use Rattle.sf_call.specs.Tree.{label_at}
 use Rattle.sf_call.specs.Histories.{replay, IsLegal}
-use Rattle.sf_call.proofs.Laws.{one_path}
 use Rattle.sf_inode.specs.declared.node.Node.{Node}
 use Rattle.sf_inode.specs.Nodes.{with_holder}
-use Rattle.sf_inode.specs.Stores.{StoreState, node_in, entry_of, holder_of, looked_up, edited}
+use Rattle.sf_inode.specs.Stores.{StoreState, node_in, entry_of, holder_of, looked_up, edited, is_directory_at}
 use Rattle.sf_keeps.specs.Steps.{walk}
 use Rattle.sf_keeps.specs.Keeps.{Keeps}
-use Rattle.sf_keeps.proofs.Laws.{reached_node, label_found}
+use Rattle.sf_keeps.proofs.Laws.{reached_node, one_way}
 use Rattle.sf_coupling.specs.Walks.{Spot, Standing, Holds, LeadsTo, scene, AreWalks, HoldsInstead}
 use Rattle.sf_coupling.specs.Walks.Standing.{Fresh, At}
 use Rattle.sf_coupling.proofs.Laws.{same_or_not}
@@ -25,14 +24,10 @@ use Rattle.sf_core.proofs.Holding.{SameTerrain, leads_same, same_trans, same_nod
 some_is : (a b : ℕ) → Some a ≡ Some b → a ≡ b
 some_is a b e = cc
 
--- one path at most leads to a node
-pub led_once : (s : StoreState) (history : List Record) → IsLegal history → Keeps s (replay history) → (p q : Path) (l : ℕ)
-    → walk (entry_of s.nodes) s.root p ≡ Some l → walk (entry_of s.nodes) s.root q ≡ Some l → p ≡ q
-led_once s history legal keeps p q l wp wq =
-    let node = reached_node s (replay history) keeps p l wp in
-    let label : (x : Path) → walk (entry_of s.nodes) s.root x ≡ Some l → label_at (replay history).names x ≡ Some node.0.label =
-    λ x w. label_found s (replay history) keeps x ∙ ap (λ (o : Option ℕ). option_map (λ (y : Node). y.label) (option_and_then (node_in s.nodes) o)) w ∙ ap (option_map (λ (y : Node). y.label)) node.1 in
-    one_path history p q node.0.label legal (label p wp) (label q wq)
+-- one path at most leads to a directory
+pub led_once : (s : StoreState) (history : List Record) → Keeps s (replay history) → (p q : Path) (l : ℕ)
+    → walk (entry_of s.nodes) s.root p ≡ Some l → walk (entry_of s.nodes) s.root q ≡ Some l → is_directory_at s.nodes l ≡ true → p ≡ q
+led_once s history keeps p q l wp wq directory = one_way s (replay history) keeps p q l wp wq directory
 
 -- ---- a step to a directory that no other call holds
 module _ (old : StoreState) (history : List Record) (legal : IsLegal history) (keeps : Keeps old (replay history))
@@ -51,7 +46,7 @@ module _ (old : StoreState) (history : List Record) (legal : IsLegal history) (k
   -- one name further is another directory
   differ : (p : Spot) (x : Name) → LeadsTo (terrain old) p → q.path ≡ p.path ++ x ∷ [] → q.node ≢ p.node
   differ p x leads is e =
-      let same = led_once old history legal keeps q.path p.path p.node (led.names ∙ ap Some e) leads.names in
+      let same = led_once old history keeps q.path p.path p.node (led.names ∙ ap Some e) leads.names leads.directory in
       let lengths = ap (λ (r : Path). length r) (sym same ∙ is) in
       absurd (omega (arith, lengths, length-append p.path (x ∷ [])))
 

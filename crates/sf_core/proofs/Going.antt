@@ -13,7 +13,7 @@ use Rattle.sf_call.specs.Tree.{Tree}
 use Rattle.sf_call.specs.Histories.{replay}
 use Rattle.sf_call.specs.Unanswered.{staged}
 use Rattle.sf_inode.specs.Nodes.{with_holder}
-use Rattle.sf_inode.specs.Stores.{StoreState, entry_of, holder_of, looked_up, edited}
+use Rattle.sf_inode.specs.Stores.{StoreState, entry_of, holder_of, looked_up, edited, is_directory_at}
 use Rattle.sf_keeps.specs.Steps.{walk}
 use Rattle.sf_keeps.specs.Keeps.{Keeps}
 use Rattle.sf_keeps.proofs.Laws.{keeps_looked, keeps_held}
@@ -224,8 +224,8 @@ module _ (p : PartsView) (history : List Record) (sound : Sound p history) (n : 
     names_b : walk (entry_of p.store.nodes) p.store.root (take b.walked other) ≡ Some b.node
     names_b = (leads_at sb (inr (inr refl))).names
 
-    once : (v w : Path) (k l : ℕ) → walk (entry_of p.store.nodes) p.store.root v ≡ Some k → walk (entry_of p.store.nodes) p.store.root w ≡ Some l → k ≡ l → v ≡ w
-    once v w k l ev ew same = led_once p.store history sound.legal sound.keeps v w l (ev ∙ ap Some same) ew
+    once : (v w : Path) (k l : ℕ) → walk (entry_of p.store.nodes) p.store.root v ≡ Some k → walk (entry_of p.store.nodes) p.store.root w ≡ Some l → is_directory_at p.store.nodes l ≡ true → k ≡ l → v ≡ w
+    once v w k l ev ew directory same = led_once p.store history sound.keeps v w l (ev ∙ ap Some same) ew directory
 
     -- an end is at the common directory where it has walked no further
     same_a : a.walked ≡ cm.walked → a.node ≡ cm.node
@@ -237,15 +237,15 @@ module _ (p : PartsView) (history : List Record) (sound : Sound p history) (n : 
         (sym names_b ∙ ap (λ (k : ℕ). walk (entry_of p.store.nodes) p.store.root (take k other)) e ∙ ap (walk (entry_of p.store.nodes) p.store.root) (sym ends.part.alike) ∙ names_c)
 
     below_a : a.walked ≢ cm.walked → a.node ≢ cm.node
-    below_a ne same = ne (same_count path path a.walked cm.walked ends.short ends.part.short (once (take a.walked path) (take cm.walked path) a.node cm.node names_a names_c same))
+    below_a ne same = ne (same_count path path a.walked cm.walked ends.short ends.part.short (once (take a.walked path) (take cm.walked path) a.node cm.node names_a names_c (leads_at sc (inl refl)).directory same))
 
     below_b : b.walked ≢ cm.walked → b.node ≢ cm.node
-    below_b ne same = ne (same_count other path b.walked cm.walked ends.short_new ends.part.short (once (take b.walked other) (take cm.walked path) b.node cm.node names_b names_c same))
+    below_b ne same = ne (same_count other path b.walked cm.walked ends.short_new ends.part.short (once (take b.walked other) (take cm.walked path) b.node cm.node names_b names_c (leads_at sc (inl refl)).directory same))
 
     split : a.node ≡ b.node → a.node ≡ cm.node
     split same =
         same_a (parted path other cm.walked a.walked b.walked ends.part ends.short ends.short_new ends.old_below
-        (once (take a.walked path) (take b.walked other) a.node b.node names_a names_b same))
+        (once (take a.walked path) (take b.walked other) a.node b.node names_a names_b (leads_at sb (inr (inr refl))).directory same))
 
     after_old : takes.next.to ≡ take (a.walked + 1) path → takes.next.after ≡ stage.Ends cm (reached (a.walked + 1) takes.next.node) b → standings (staged p.calls n after) n ≡ Some (Ends sc q sb)
     after_old to e =

@@ -1,6 +1,6 @@
 -- Calls that another one carries out while their sessions wait.
 use Rattle.std.specs.Prelude.{◌≡◌, ◌≢◌, ◌⊎◌, ◌<◌, ◌≤◌, ◌+◌, ◌^◌, ◌||◌, ℕ, T, true, false, is_some, List, [], ◌∷◌, ◌++◌, map, option_map, option_and_then, filter_map, Option, Some, None, refl}
-use Rattle.std.proofs.Common.{sym, ap, subst, ◌∙◌, inl, inr, arith, append-nil}
+use Rattle.std.proofs.Common.{sym, ap, subst, ◌∙◌, inl, inr, arith, append-nil, IsSome}
 use Rattle.std.proofs.lemmas.List.{append_assoc}
 use Rattle.std.proofs.lemmas.List.Sums.{sum_by-cons}
 use Rattle.std.specs.List.{AllByRecursion}
@@ -22,8 +22,8 @@ use Rattle.sf_call.specs.Changes.{Change, moved_by, done}
 use Rattle.sf_call.specs.Calls.{answer_to, apply}
 use Rattle.sf_call.specs.Histories.{after, replay, IsLegal, IsNewNumber, IsPresent, IsOther, IsNoLeaving, MayFollow, IsAmong}
 use Rattle.sf_call.specs.Unanswered.{with_reply, answered, answered_by}
-use Rattle.sf_call.proofs.Laws.{replay-push, IsLegal-push, after_told, never_wants}
-use Rattle.sf_laws.proofs.Laws.{below_labels, other_labels, unmoved_tree, moved_old}
+use Rattle.sf_call.proofs.Laws.{replay-push, IsLegal-push, after_told, never_wants, named_way}
+use Rattle.sf_laws.proofs.Laws.{below_labels, other_labels, unmoved_nested, moved_old}
 use Rattle.sf_book.specs.Books.{BookView, put}
 use Rattle.sf_inode.specs.declared.node.Node.{Node}
 use Rattle.sf_inode.specs.Stores.{node_in, entry_of, holder_of, is_directory_at}
@@ -92,6 +92,13 @@ nested_none from to nested a b =
     let x : false ≡ true = (λ i. is_some (sym a i) || is_some (sym b i)) ∙ nested in
     let z : ⊥ = cc in z
 
+nested_either : (from to : Path) → are_nested from to ≡ true → IsSome (after_front from to) ⊎ IsSome (after_front to from)
+nested_either from to nested =
+    elim (is_some (after_front from to)) as (λ b. is_some (after_front from to) ≡ b → (b || is_some (after_front to from)) ≡ true → IsSome (after_front from to) ⊎ IsSome (after_front to from)) [
+      | true ↦ λ e _. inl e
+      | false ↦ λ e f. inr f
+    ] refl nested
+
 -- a request that lies below a path leaves the labels of paths that don't lead strictly below it
 lies_labels : (h : List Record) (number session moment : ℕ) (r : Request) (old x : Path) → IsLegal h → 0 < number → IsNewNumber number h → IsAside old x
     → (g : Target) → target_of r ≡ g → LiesBelow old g → label_at (apply (replay h) session number moment r).tree.names x ≡ label_at (replay h).names x
@@ -104,7 +111,8 @@ lies_labels h number session moment r old x legal above fresh aside (OnPaths fro
     ])
 lies_labels h number session moment r old x legal above fresh aside (OnPaths from to) e (inl nested) =
     elim (moved_by (answer_to (replay h) session number moment r).changes) as (λ o. moved_by (answer_to (replay h) session number moment r).changes ≡ o → label_at (apply (replay h) session number moment r).tree.names x ≡ label_at (replay h).names x) [
-      | None ↦ λ none. ap (λ (changes : List Change). label_at (done (replay h) changes).names x) (unmoved_tree (replay h) session number moment r from to e none)
+      | None ↦ λ none. ap (λ (changes : List Change). label_at (done (replay h) changes).names x)
+          (unmoved_nested (replay h) session number moment r from to e (λ path label. named_way h path label legal) none (nested_either from to nested))
       | Some p ↦ λ moved.
           let is = (moved_old h number session moment r from to p legal above fresh e moved).1 in
           absurd (nested_none from to nested is.not_inside is.not_around)
@@ -153,7 +161,7 @@ module _ (old : Path) (p : PartsView) (history : List Record) (sound : Sound p h
   labels x l holder w held other =
       let s = sound.walks.holds l holder held in
       let leads = sound.walks.leads holder s.0 s.1 s.2 s.3 in
-      let same : s.1.path ≡ x = led_once p.store history sound.legal sound.keeps s.1.path x l (leads.names ∙ ap Some s.4) w in
+      let same : s.1.path ≡ x = led_once p.store history sound.keeps s.1.path x l (leads.names ∙ ap Some s.4) w (ap (is_directory_at p.store.nodes) (sym s.4) ∙ leads.directory) in
       label_aside x (aside_none x (ap (after_front old) (sym same) ∙ clear holder s.0 s.1 s.2 s.3))
 
   set_is : answered p.calls c.number given ≡ set_value (is_at (nat_cmp c.number)) p.calls (with_reply given c)

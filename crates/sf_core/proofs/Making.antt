@@ -303,7 +303,7 @@ module _ (p : PartsView) (history : List Record) (sound : Sound p history) (lane
   deeper_by holder None u (stage.At w node) is short s hold other mine own_is wanted below leads = absurd short
   deeper_by holder (Some path) u (stage.At w node) is short s hold other mine own_is wanted below leads =
       let there = sound.walks.leads holder (standing_at (Some path) u (stage.At w node)) s is hold in
-      let same : take w path ≡ wanted = sym (ap (λ (x : Spot). x.path) hold) ∙ led_once p.store history sound.legal sound.keeps s.path wanted s.node there.names leads in
+      let same : take w path ≡ wanted = sym (ap (λ (x : Spot). x.path) hold) ∙ led_once p.store history sound.keeps s.path wanted s.node there.names leads there.directory in
       let e = ap (λ (x : Path). length x) same in
       let less = short.0 in
       omega (arith, e, length-take w path, less)
@@ -312,7 +312,7 @@ module _ (p : PartsView) (history : List Record) (sound : Sound p history) (lane
   deeper_by holder (Some path) (Some to) (stage.Ends cm a b) is short s hold other mine own_is wanted below leads =
       let g = stage.Ends cm a b in
       let there = sound.walks.leads holder (standing_at (Some path) (Some to) g) s is hold in
-      let same : s.path ≡ wanted = led_once p.store history sound.legal sound.keeps s.path wanted s.node there.names leads in
+      let same : s.path ≡ wanted = led_once p.store history sound.keeps s.path wanted s.node there.names leads there.directory in
       let few = at_common holder (Some path) (Some to) g is other mine own_is (spot_on (Some path) cm.walked cm.node) (spot_on (Some path) a.walked a.node) (spot_on (Some to) b.walked b.node) s refl hold wanted same below in
       let common = length-take cm.walked path in
       let x = short.old_below in

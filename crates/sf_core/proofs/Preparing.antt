@@ -24,7 +24,7 @@ use Rattle.sf_call.specs.Unanswered.{at_stage, with_reply}
 use Rattle.sf_call.specs.Tree.{place_of, place_at}
 use Rattle.sf_call.specs.declared.place.Place.TheVariants as place
 use Rattle.sf_call.proofs.Laws.{after_front-append, append-after_front}
-use Rattle.sf_laws.proofs.Laws.{unmoved_tree, moved_changes, moved_old, never_moved, spared_labels}
+use Rattle.sf_laws.proofs.Laws.{unmoved_labels, moved_changes, moved_old, never_moved, spared_labels}
 use Rattle.sf_walk.proofs.Laws.{no_way}
 use Rattle.sf_book.specs.Books.{BookView}
 use Rattle.std.proofs.lemmas.List.{append_assoc, length-append, length-take, take-append-drop}
@@ -119,9 +119,11 @@ module _ (p : PartsView) (h : List Record) (sound : Sound p h) (c : Call) (at : 
     labels_by (OnPath x) e w f m given mid served stays path l holder leads held other =
         label_still p.store mid h c.number c.session c.moment c.request given sound.legal above fresh sound.keeps served stays x e c.stage ways.path w f m path l holder leads held other
     labels_by (OnPaths old new) e w f m given mid served stays path l holder leads held other =
-        let none = unmoved_tree (replay h) c.session c.number c.moment c.request old new e unmoved in
+        let it = reached_node p.store (replay h) sound.keeps path l leads in
+        let some : label_at (replay h).names path ≡ Some it.0.label =
+        label_found p.store (replay h) sound.keeps path ∙ ap (λ (o : Option ℕ). option_map (λ (y : Node). y.label) (option_and_then (node_in p.store.nodes) o)) leads ∙ ap (option_map (λ (y : Node). y.label)) it.1 in
         label_after p.store mid h c.number c.session c.moment c.request given sound.legal above fresh sound.keeps served stays path
-        (ap (λ (changes : List Change). label_at (done (replay h) changes).names path) none)
+        (unmoved_labels (replay h) c.session c.number c.moment c.request old new e unmoved path (ap (λ (o : Option ℕ). is_some o) some))
 
     prepared_here : Prepared p p h c ways
     prepared_here = record {
@@ -528,7 +530,8 @@ module _ (p : PartsView) (h : List Record) (sound : Sound p h) (fits : p.store.l
     the = now.walks.holds l holder held
 
     same_path : the.1.path ≡ path
-    same_path = led_once m.store (h ++ all.helped) now.legal now.keeps the.1.path path l ((now.walks.leads holder the.0 the.1 the.2 the.3).names ∙ ap Some the.4) leads
+    same_path = led_once m.store (h ++ all.helped) now.keeps the.1.path path l ((now.walks.leads holder the.0 the.1 the.2 the.3).names ∙ ap Some the.4) leads
+        (ap (is_directory_at m.store.nodes) (sym the.4) ∙ (now.walks.leads holder the.0 the.1 the.2 the.3).directory)
 
     in_b : standings b.calls holder ≡ Some the.0
     in_b = all.led.stood holder the.0 the.1 the.2 the.3

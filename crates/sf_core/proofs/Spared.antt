@@ -1,7 +1,7 @@
 -- A decision leaves the ways of all other calls as they were: no node that another call holds goes, and none takes its place.
 use Rattle.std.specs.Prelude.{◌≡◌, ◌≢◌, ◌⊎◌, ◌<◌, ℕ, true, false, cond, List, [], ◌∷◌, option_map, option_and_then, Option, Some, None, IsSome, refl}
 use Rattle.std.specs.Option.{option_map_or}
-use Rattle.std.proofs.Common.{sym, ap, subst, ◌∙◌, inl, inr}
+use Rattle.std.proofs.Common.{sym, ap, subst, ◌∙◌, inl, inr, is_some}
 use Rattle.sf_path.specs.Names.{Name, Path}
 use Rattle.sf_reply.specs.declared.reply.Reply.{Reply}
 use Rattle.sf_call.specs.declared.request.Request.{Request}
@@ -18,7 +18,7 @@ use Rattle.sf_laws.specs.Own.{IsOwnPath}
 use Rattle.sf_laws.proofs.Laws.{other_labels, kinds_stay}
 use Rattle.sf_call.specs.Allowed.{kind_of}
 use Rattle.sf_call.specs.Histories.{after, replay, IsLegal, IsNewNumber}
-use Rattle.sf_call.proofs.Laws.{after_told, no_object, same_path_is}
+use Rattle.sf_call.proofs.Laws.{after_told, no_object, same_path_is, front_itself}
 use Rattle.std.specs.Ordering.{is_eq}
 use Rattle.std.specs.Cmp.{tied_itself}
 use Rattle.sf_path.specs.Order.{same_path, path_total}
@@ -65,6 +65,8 @@ own_either (request.Write handle offset bytes) old new q e own = absurd own
 own_either (request.ReadDir handle) old new q e own = absurd own
 own_either (request.Rename a b) old new q e own = let f : a ≡ old = cc in let g : b ≡ new = cc in subst (λ (x : Path). IsSome (after_front x q) ⊎ IsSome (after_front new q)) f (subst (λ (x : Path). IsSome (after_front a q) ⊎ IsSome (after_front x q)) g own)
 own_either (request.PosixRename a b) old new q e own = let f : a ≡ old = cc in let g : b ≡ new = cc in subst (λ (x : Path). IsSome (after_front x q) ⊎ IsSome (after_front new q)) f (subst (λ (x : Path). IsSome (after_front a q) ⊎ IsSome (after_front x q)) g own)
+own_either (request.Link a b) old new q e own =
+    let g : b ≡ new = cc in inr (subst (λ (x : Path). IsSome (after_front x q)) g (ap (λ (o : Option Path). is_some o) (ap (after_front b) own ∙ front_itself b)))
 
 -- the own path of a request with one path is that one
 by_path : (r : Request) (q path : Path) → target_of r ≡ OnPath path → IsOwnPath r q → q ≡ path
@@ -83,6 +85,7 @@ by_path (request.Write handle offset bytes) q path e own = absurd own
 by_path (request.ReadDir handle) q path e own = absurd own
 by_path (request.Rename old new) q path e own = absurd (path_paths path old new (sym e))
 by_path (request.PosixRename old new) q path e own = absurd (path_paths path old new (sym e))
+by_path (request.Link old new) q path e own = absurd (path_paths path old new (sym e))
 
 own_is : (r : Request) (q path : Path) → target_of r ≡ OnPath path → IsOwnPath r q → q ≡ path
 own_is r q path e own = by_path r q path e own
@@ -107,6 +110,7 @@ by_handle (request.Write handle offset bytes) h q e own = own
 by_handle (request.ReadDir handle) h q e own = own
 by_handle (request.Rename old new) h q e own = on_paths old new h e
 by_handle (request.PosixRename old new) h q e own = on_paths old new h e
+by_handle (request.Link old new) h q e own = on_paths old new h e
 
 -- no call on the root's path changes the root's label
 root_by : (t : Tree) (session number moment : ℕ) (r : Request) → target_of r ≡ OnPath [] → label_at (apply t session number moment r).tree.names [] ≡ label_at t.names []
@@ -129,6 +133,7 @@ root_by t session number moment (request.Write handle offset bytes) e = other_la
 root_by t session number moment (request.ReadDir handle) e = other_labels t session number moment (request.ReadDir handle) [] (λ o. o)
 root_by t session number moment (request.Rename old new) e = absurd (path_paths [] old new (sym e))
 root_by t session number moment (request.PosixRename old new) e = absurd (path_paths [] old new (sym e))
+root_by t session number moment (request.Link old new) e = absurd (path_paths [] old new (sym e))
 
 -- what walking finds is located there
 pub located_at : (nodes : List (Option Node)) (q : Path) (above x l : ℕ) → walk (entry_of nodes) x q ≡ Some l → (parent : ℕ) × (way_from nodes above x q ≡ located.At parent l)

@@ -404,12 +404,12 @@ fn copy_of(request: &Request) -> Result<Option<Request>, AllocError>
     }
 }
 
-/// The path that a rename moves.
+/// The old path of a request on two paths, which a rename moves.
 fn old_path(request: &Request) -> Option<&Path>
     ensures { option_copied result ≡ old_at (target_of request.now) }
 {
     match request {
-        Request::Rename(old, _) | Request::PosixRename(old, _) => Some(old),
+        Request::Rename(old, _) | Request::PosixRename(old, _) | Request::Link(old, _) => Some(old),
         _ => None,
     }
 }

@@ -1,7 +1,7 @@
 //! Calls of several sessions on one core, step by step, with what each step comes to.
 
 use sf_call::{CoreFault, Record, Request};
-use sf_cases::requests::{mkdir, path, posix_rename, rename, rmdir, stat};
+use sf_cases::requests::{link, mkdir, open, path, posix_rename, rename, rmdir, stat};
 use sf_core::{Core, Lane, Share, Step};
 use sf_reply::{Reply, StatusCode};
 use std::alloc::Global;

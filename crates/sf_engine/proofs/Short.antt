@@ -96,6 +96,7 @@ call_short (wire.RealPath text) = tt
 call_short (wire.Stat text) = one_path call.Stat (λ path. refl) (path_at text) (path_short text)
 call_short (wire.Rename old new) = two_paths call.Rename (λ a b. refl) (path_at old) (path_at new) (path_short old) (path_short new)
 call_short (wire.PosixRename old new) = two_paths call.PosixRename (λ a b. refl) (path_at old) (path_at new) (path_short old) (path_short new)
+call_short (wire.Link old new) = two_paths call.Link (λ a b. refl) (path_at old) (path_at new) (path_short old) (path_short new)
 call_short (wire.Close handle) = by_handle call.Close (λ n. refl) (handle_at handle)
 call_short (wire.Read handle offset len) = by_handle (λ n. call.Read n offset len) (λ n. refl) (handle_at handle)
 call_short (wire.Write handle offset bytes) = by_handle (λ n. call.Write n offset bytes) (λ n. refl) (handle_at handle)

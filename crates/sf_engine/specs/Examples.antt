@@ -62,10 +62,11 @@ example first second =
     ∷ turn 1 102 happened.Wrote []
     ∷ []
 
--- VERSION, with its one extension
+-- VERSION, with its two extensions
 abbrev pub version_packet : List ℕ
-version_packet = (0 ∷ 0 ∷ 0 ∷ 38 ∷ 2 ∷ 0 ∷ 0 ∷ 0 ∷ 3 ∷ 0 ∷ 0 ∷ 0 ∷ 24
-    ∷ codes "posix-rename@openssh.com") ++ (0 ∷ 0 ∷ 0 ∷ 1 ∷ 49 ∷ [])
+version_packet = (0 ∷ 0 ∷ 0 ∷ 67 ∷ 2 ∷ 0 ∷ 0 ∷ 0 ∷ 3 ∷ 0 ∷ 0 ∷ 0 ∷ 24
+    ∷ codes "posix-rename@openssh.com") ++ (0 ∷ 0 ∷ 0 ∷ 1 ∷ 49
+    ∷ 0 ∷ 0 ∷ 0 ∷ 20 ∷ codes "hardlink@openssh.com") ++ (0 ∷ 0 ∷ 0 ∷ 1 ∷ 49 ∷ [])
 
 -- STATUS of the id 7: OK
 abbrev pub ok_packet : List ℕ

@@ -1,5 +1,5 @@
 -- What a node is, and its changes.
-use Rattle.std.specs.Prelude.{ℕ, ◌-◌, nat_eq, ◌&&◌, Bool, true, false, filter, List, [], Option, None}
+use Rattle.std.specs.Prelude.{ℕ, ◌+◌, ◌-◌, ◌^◌, min, nat_eq, ◌&&◌, Bool, true, false, filter, List, [], Option, None}
 use Rattle.std.specs.Map.{lookup, remove_entry}
 use Rattle.std.specs.BTreeMap.{insert_entry}
 use Rattle.sf_path.specs.Names.{Name}
@@ -99,6 +99,10 @@ with_metadata f node = record node { metadata = f node.metadata }
 
 abbrev pub with_holder : Option ℕ → Node → Node
 with_holder holder node = record node { holder = holder }
+
+-- one name more leads to it
+abbrev pub with_name : Node → Node
+with_name node = record node { names = min (node.names + 1) (2 ^ 64 - 1) }
 
 -- one name less leads to it
 abbrev pub without_name : Node → Node

@@ -11,7 +11,7 @@ use Rattle.sf_inode.specs.declared.node.Node.{Node}
 use Rattle.sf_inode.specs.declared.node.Content.TheVariants as content
 use Rattle.sf_inode.specs.declared.handle.OpenHandle.{OpenHandle}
 use Rattle.sf_inode.specs.declared.handle.Marks.{Marks}
-use Rattle.sf_inode.specs.Nodes.{entry_in, entries_in, object_in, is_directory_content, is_bare_content, less_content, more_content, bytes_in, is_file_content, with_bytes, with_content, without_name, with_opened, is_unused}
+use Rattle.sf_inode.specs.Nodes.{entry_in, entries_in, object_in, is_directory_content, is_bare_content, less_content, more_content, bytes_in, is_file_content, with_bytes, with_content, with_name, without_name, with_opened, is_unused}
 
 -- a node or nothing at each number from 0 on, each session's handles by their numbers, and how many look-ups were made
 pub record StoreState : Type 0 where
@@ -90,6 +90,14 @@ let_go s id = released (edited (λ node. with_opened (node.opens - 1) node) s id
 abbrev pub unlinked_from : StoreState → ℕ → Name → Option ℕ → StoreState
 unlinked_from s dir n None = s
 unlinked_from s dir n (Some id) = forgotten (entry_taken s dir n) id
+
+-- how many names lead to a node
+abbrev pub names_at : List (Option Node) → ℕ → ℕ
+names_at nodes id = option_map_or (λ node. node.names) (node_in nodes id) 0
+
+-- a further name leads to a node
+abbrev pub linked : StoreState → ℕ → Name → ℕ → StoreState
+linked s dir n id = edited with_name (entry_put s dir n id) id
 
 -- an entry is taken out, and its node goes if nothing else leads to it
 abbrev pub unlinked : StoreState → ℕ → Name → StoreState

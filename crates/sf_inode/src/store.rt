@@ -5,7 +5,7 @@ ghost use Rattle.std.specs.Option.{option_map_or};
 ghost use Rattle.std.specs.declared.alloc.Global.{Global};
 ghost use Rattle.sf_call.specs.Attributes.{attrs_of, with_parts, modified_at};
 ghost use Rattle.sf_inode.specs.Nodes.{new_node, object_in, with_metadata, with_holder, entries_past};
-ghost use Rattle.sf_inode.specs.Stores.{IsFirst, Inserted, with_nodes, node_in, entry_of, holder_of, looked_up, edited, entry_taken, entry_put, released, forgotten, let_go, unlinked, relinked, bytes_of, is_file_at, file_size, is_directory_at, is_bare_at, bytes_set, opened, handle_put, handle_at, handles_of, handle_dropped, handle_listed, entries_at, closed, each_let_go, closed_all, new_entry};
+ghost use Rattle.sf_inode.specs.Stores.{IsFirst, Inserted, with_nodes, node_in, entry_of, holder_of, looked_up, edited, entry_taken, entry_put, released, forgotten, let_go, unlinked, names_at, linked, relinked, bytes_of, is_file_at, file_size, is_directory_at, is_bare_at, bytes_set, opened, handle_put, handle_at, handles_of, handle_dropped, handle_listed, entries_at, closed, each_let_go, closed_all, new_entry};
 ghost use Rattle.std.specs.Option.{option_copied};
 ghost use Rattle.sf_block.specs.Contents.{resized, written};
 
@@ -282,6 +282,28 @@ impl Store {
         if let Some(node) = self.take_entry(dir, name) {
             self.forget(node);
         }
+    }
+
+    /// How many names lead to a node.
+    pub fn links(&self, node: NodeId) -> u64
+        ensures { result ≡ names_at self.now.nodes node }
+    {
+        match self.nodes.get(node) {
+            Some(it) => it.names,
+            None => 0,
+        }
+    }
+
+    /// A further name of a directory leads to a node.
+    pub fn link(&mut self, dir: NodeId, name: Name, node: NodeId) -> Result<(), AllocError>
+        ensures ok { OnOk result (self.new ≡ linked self.old dir name node) }
+        ensures err { OnErr result (self.new ≡ self.old) }
+    {
+        self.put_entry(dir, name, node)?;
+        if let Some(it) = self.nodes.get_mut(node) {
+            it.names = it.names.saturating_add(1);
+        }
+        Ok(())
     }
 
     /// Moves an entry to another name: a new one, or one that leads to another node, which goes if

@@ -1,13 +1,12 @@
 -- What stays true of a store that keeps a tree, where entries and what nodes are stay.
-use Rattle.std.specs.Prelude.{◌≡◌, ◌⊎◌, ℕ, ◌≤◌, nat_eq, true, false, cond, List, option_and_then, Option, Some, None, refl}
+use Rattle.std.specs.Prelude.{◌≡◌, ◌⊎◌, ℕ, nat_eq, true, false, cond, List, option_and_then, Option, Some, None, refl}
 use Rattle.std.proofs.Common.{sym, ap, subst, ◌∙◌, inl, inr, eqb-true}
-use Rattle.sf_path.specs.Names.{Name, Path}
-use Rattle.sf_call.specs.Tree.{Tree}
+use Rattle.sf_path.specs.Names.{Name}
+use Rattle.sf_call.specs.Tree.{Tree, links}
 use Rattle.sf_inode.specs.declared.node.Node.{Node}
 use Rattle.sf_inode.specs.Nodes.{entry_in, with_opened}
-use Rattle.sf_keeps.specs.Steps.{walk}
 use Rattle.sf_inode.specs.Stores.{StoreState, node_in, entry_of}
-use Rattle.sf_keeps.specs.Keeps.{Keeps, IsUnlinked, times_open}
+use Rattle.sf_keeps.specs.Keeps.{Keeps, times_open}
 use Rattle.sf_keeps.proofs.Sound.{IsBare}
 use Rattle.sf_keeps.proofs.Shown.{nat_eq_apart, same_apart}
 use Rattle.sf_keeps.proofs.StoreLaws.{entry_same}
@@ -26,29 +25,16 @@ pub record AreAlike (before after : List (Option Node)) : Type 0 where
   pub back : (i : ℕ) (node : Node) → node_in after i ≡ Some node → Before before i node
   pub ordered : InOrder before → InOrder after
 
-module _ (s : StoreState) (t : Tree) (k : Keeps s t) (after : StoreState) (root : after.root ≡ s.root) (a : AreAlike s.nodes after.nodes) where
-  walk_alike : (path : Path) → walk (entry_of after.nodes) after.root path ≡ walk (entry_of s.nodes) s.root path
-  walk_alike path = λ i. walk (λ x n. a.steps x n i) (root i) path
-
-  pub single_alike : (x y id : ℕ) (n m : Name) → entry_of after.nodes x n ≡ Some id → entry_of after.nodes y m ≡ Some id → (x ≡ y) × (n ≡ m)
-  single_alike x y id n m e f = k.single x y id n m (sym (a.steps x n) ∙ e) (sym (a.steps y m) ∙ f)
-
-  pub unlinked_alike : (id : ℕ) (node : Node) → node_in after.nodes id ≡ Some node → node.names ≡ 0 → IsUnlinked after id
-  unlinked_alike id node at named =
+module _ (s : StoreState) (t : Tree) (k : Keeps s t) (after : StoreState) (a : AreAlike s.nodes after.nodes) where
+  pub linked_alike : (id : ℕ) (node : Node) → node_in after.nodes id ≡ Some node → node.names ≡ links t.names node.label
+  linked_alike id node at =
       let b = a.back id node at in
-      let u = k.unlinked id b.node b.there (sym b.named ∙ named) in
-      record { free = λ x n e. u.free x n (sym (a.steps x n) ∙ e); other = λ e. u.other (sym root ∙ e); bare = λ n. a.steps id n ∙ u.bare n }
+      b.named ∙ k.linked id b.node b.there ∙ ap (links t.names) (sym b.label)
 
-  pub named_alike : (id : ℕ) (node : Node) → node_in after.nodes id ≡ Some node → node.names ≡ 1 → (path : Path) × (walk (entry_of after.nodes) after.root path ≡ Some id)
-  named_alike id node at named =
+  pub bare_alike : (id : ℕ) (node : Node) → node_in after.nodes id ≡ Some node → node.names ≡ 0 → (n : Name) → entry_of after.nodes id n ≡ None
+  bare_alike id node at none n =
       let b = a.back id node at in
-      let w = k.named id b.node b.there (sym b.named ∙ named) in
-      (w.0, walk_alike w.0 ∙ w.1)
-
-  pub once_alike : (id : ℕ) (node : Node) → node_in after.nodes id ≡ Some node → node.names ≤ 1
-  once_alike id node at =
-      let b = a.back id node at in
-      subst (λ (n : ℕ). n ≤ 1) (sym b.named) (k.once id b.node b.there)
+      a.steps id n ∙ k.bare id b.node b.there (sym b.named ∙ none) n
 
 -- ---- another count at a node
 module _ (s : StoreState) (t : Tree) (k : Keeps s t) (c n : ℕ) (node : Node) (here : node_in s.nodes c ≡ Some node) (nodes : List (Option Node))

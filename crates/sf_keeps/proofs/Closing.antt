@@ -23,14 +23,8 @@ use Rattle.sf_keeps.proofs.Handled.{by_closed, shows_closed_last, shows_closed}
 use Rattle.sf_keeps.proofs.StoreLaws.{node_in-set, node_in-edited, view_stays, view_goes}
 use Rattle.sf_keeps.proofs.StoreHandles.{HandleSet, dropped_set, view_set}
 use Rattle.sf_keeps.proofs.Counts.{closed_times}
-use Rattle.sf_keeps.proofs.Openings.{any_counted, none_counted, one_name}
-use Rattle.sf_keeps.proofs.Alike.{single_alike, unlinked_alike, named_alike, once_alike, counted_alike, counted_now, counted_there, gone_alike, gone_now, gone_there}
-
-is_unnamed : (names n : ℕ) → nat_eq names 0 && nat_eq n 0 ≡ true → (names ≡ 0) × (n ≡ 0)
-is_unnamed names n = elim (nat_eq names 0) as (λ b. nat_eq names 0 ≡ b → b && nat_eq n 0 ≡ true → (names ≡ 0) × (n ≡ 0)) [
-  | true ↦ λ none e. (eqb-true names 0 none, eqb-true n 0 e)
-  | false ↦ λ none e. cc
-] refl
+use Rattle.sf_keeps.proofs.Openings.{any_counted, none_counted, some_names, linked_named, both_zero, unnamed_node}
+use Rattle.sf_keeps.proofs.Alike.{linked_alike, bare_alike, counted_alike, counted_now, counted_there, gone_alike, gone_now, gone_there}
 
 module _ (s : StoreState) (t : Tree) (k : Keeps s t) (session number : ℕ) (h : OpenHandle) (at : handle_at s session number ≡ Some h) (node : Node) (here : node_in s.nodes h.node ≡ Some node) (same : node.label ≡ h.label) where
   abbrev less : Node → Node
@@ -79,12 +73,8 @@ module _ (s : StoreState) (t : Tree) (k : Keeps s t) (session number : ℕ) (h :
       any_counted (λ e. nat_eq e.1.label node.label) rest.handles
       (ap (is_opened rest) (same ∙ sym label) ∙ opened_by seen rest (by_closed (view_of s) t k.shows session number shown opens) a b x e) none
 
-  named_used : node.names ≡ 1 → is_named t h.label ≡ true
-  named_used named =
-      let w = k.named h.node node here named in
-      any_lookup path_cmp (λ v. nat_eq v h.label) t.names w.0 node.label
-      (k.shows.by.names w.0 ∙ ap (option_and_then (label_by (view_of s).shown)) w.1 ∙ ap (λ (o : Option Node). option_map (λ (x : ℕ × Object). x.0) (option_map shown_node o)) here)
-      (eq-eqb node.label h.label same)
+  named_used : 0 < node.names → is_named t h.label ≡ true
+  named_used some = ap (is_named t) (sym same) ∙ linked_named t.names node.label (subst (λ (n : ℕ). 0 < n) (k.linked h.node node here) some)
 
   opened_used : nat_eq (node.opens - 1) 0 ≡ false → is_opened rest h.label ≡ true
   opened_used some = elim (is_opened rest h.label) as (λ b. is_opened rest h.label ≡ b → b ≡ true) [
@@ -96,7 +86,7 @@ module _ (s : StoreState) (t : Tree) (k : Keeps s t) (session number : ℕ) (h :
 
   still_used : is_unused (less node) ≡ false → is_used rest.names rest.handles h.label ≡ true
   still_used used = elim (nat_eq node.names 0) as (λ b. nat_eq node.names 0 ≡ b → b && nat_eq (node.opens - 1) 0 ≡ false → is_used rest.names rest.handles h.label ≡ true) [
-    | false ↦ λ e _. or_true (is_named rest h.label) (is_opened rest h.label) (named_used (one_name node.names (k.once h.node node here) e))
+    | false ↦ λ e _. or_true (is_named rest h.label) (is_opened rest h.label) (named_used (some_names node.names e))
     | true ↦ λ e some. or_right (is_named rest h.label) (is_opened rest h.label) (opened_used some)
   ] refl used
 
@@ -133,10 +123,8 @@ module _ (s : StoreState) (t : Tree) (k : Keeps s t) (session number : ℕ) (h :
           shows = subst (λ (v : View). Shows v after) (sym (ap view_of (sym is) ∙ view_stays less mid h.node node here (λ m. refl) refl used ∙ view_mid))
               (shows_closed (view_of s) t k.shows session number shown opens h.node (object_in node.metadata node.content) object (still_used used));
           entries = alike.ordered k.entries;
-          single = single_alike s t k stays refl alike;
-          unlinked = unlinked_alike s t k stays refl alike;
-          named = named_alike s t k stays refl alike;
-          once = once_alike s t k stays refl alike;
+          linked = linked_alike s t k stays alike;
+          bare = bare_alike s t k stays alike;
           counted = counted_now s t k h.node (less node).opens node here stays.nodes put after counted others;
           led = λ a b x e.
               let w = k.led a b x (still_there a b x e) in
@@ -158,18 +146,16 @@ module _ (s : StoreState) (t : Tree) (k : Keeps s t) (session number : ℕ) (h :
     keeps_goes : is_unused (less node) ≡ true → Keeps (let_go mid h.node) after
     keeps_goes unused =
         let is : released stays h.node ≡ goes = ap (released_if stays h.node) put_here ∙ ap (λ (b : Bool). if b then with_nodes stays (slice_set stays.nodes h.node None) else stays) unused in
-        let why = is_unnamed node.names (node.opens - 1) unused in
-        let u : IsUnlinked s h.node = k.unlinked h.node node here why.0 in
+        let why = both_zero node.names (node.opens - 1) unused in
+        let u : IsUnlinked s h.node = unnamed_node s t k h.node node here why.0 in
         let last : IsClosed seen h.label = closed_label (sym counted ∙ why.1) in
         let alike = gone_alike s t k h.node node here goes.nodes gone u.bare in
         subst (λ (x : StoreState). Keeps x after) (sym is) (record {
           shows = subst (λ (v : View). Shows v after) (sym (ap view_of (sym is) ∙ view_goes less mid h.node node here (λ m. refl) refl u.bare unused ∙ ap (λ (v : View). with_shown v h.node None) view_mid))
               (shows_closed_last (view_of s) t k.shows session number shown opens h.node (object_in node.metadata node.content) object u.free u.other u.bare last);
           entries = alike.ordered k.entries;
-          single = single_alike s t k goes refl alike;
-          unlinked = unlinked_alike s t k goes refl alike;
-          named = named_alike s t k goes refl alike;
-          once = once_alike s t k goes refl alike;
+          linked = linked_alike s t k goes alike;
+          bare = bare_alike s t k goes alike;
           counted = gone_now s t k h.node node here goes.nodes gone after others;
           led = λ a b x e.
               let w = k.led a b x (still_there a b x e) in (

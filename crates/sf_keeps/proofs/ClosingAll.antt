@@ -21,7 +21,6 @@ use Rattle.sf_keeps.proofs.Shown.{nat_at_itself}
 use Rattle.sf_keeps.proofs.Less.{handle_there}
 use Rattle.sf_keeps.proofs.StoreLaws.{same_view}
 use Rattle.sf_keeps.proofs.StoreHandles.{AreOrdered, at_is}
-use Rattle.sf_keeps.proofs.Alike.{unlinked_alike}
 use Rattle.sf_keeps.proofs.Closing.{keeps_closed}
 use Rattle.sf_keeps.proofs.Leaving.{removed_set, leave_closed, leave_none}
 
@@ -48,10 +47,8 @@ module _ (s : StoreState) (t : Tree) (k : Keeps s t) (new : Sessions) (same : (a
   keeps_same = record {
     shows = subst (λ (v : View). Shows v t) (sym (same_view (view_of s) (view_of (with_sessions s new)) (λ x m. refl) (λ x. refl) refl (λ a b. ap (option_map (shown_handle a)) (same a b)))) k.shows;
     entries = k.entries;
-    single = k.single;
-    unlinked = unlinked_alike s t k (with_sessions s new) refl (record { steps = λ x m. refl; back = λ i x e. record { node = x; there = e; label = refl; named = refl }; ordered = λ h. h });
-    named = k.named;
-    once = k.once;
+    linked = k.linked;
+    bare = k.bare;
     counted = k.counted;
     led = λ a b x e. k.led a b x (sym (same a b) ∙ e);
     sessions = sorted;

@@ -1,19 +1,19 @@
 -- What the nodes of a kept store count, over functions: each node's label, its names, and what opens it.
-use Rattle.std.specs.Prelude.{◌≡◌, ℕ, ◌≤◌, nat_eq, Bool, true, false, cond, T, List, option_map, Option, Some, None, refl}
-use Rattle.std.proofs.Common.{sym, ap, subst, ◌∙◌, arith, eqb-true}
+use Rattle.std.specs.Prelude.{◌≡◌, ℕ, nat_eq, Bool, true, false, cond, T, List, option_map, Option, Some, None, refl}
+use Rattle.std.proofs.Common.{sym, ap, subst, ◌∙◌, eqb-true}
 use Rattle.std.specs.List.{count_by}
 use Rattle.std.specs.Ordering.{nat_cmp}
 use Rattle.std.specs.FinMap.{is_sorted}
-use Rattle.sf_path.specs.Names.{Name, Path}
+use Rattle.sf_path.specs.Names.{Name}
 use Rattle.sf_call.specs.declared.handle.Handle.{Handle}
-use Rattle.sf_call.specs.Tree.{Tree, handle_of}
+use Rattle.sf_call.specs.Tree.{Tree, handle_of, links}
 use Rattle.sf_inode.specs.declared.node.Node.{Node}
 use Rattle.sf_inode.specs.declared.handle.OpenHandle.{OpenHandle}
-use Rattle.sf_keeps.specs.Steps.{Steps, walk}
+use Rattle.sf_keeps.specs.Steps.{Steps}
 use Rattle.sf_keeps.specs.Shows.{Shows}
 use Rattle.sf_inode.specs.Stores.{StoreState, node_in, entry_of, handle_at, handles_of, with_sessions}
 use Rattle.sf_keeps.specs.Keeps.{view_of, Keeps, times_open}
-use Rattle.sf_keeps.proofs.Sound.{HasNoEntry, IsBare}
+use Rattle.sf_keeps.proofs.Sound.{IsBare}
 use Rattle.sf_keeps.proofs.InOrder.{InOrder}
 
 -- a label, how many names lead there, and how many handles do
@@ -29,24 +29,9 @@ mark_of node = (node.label, node.names, node.opens)
 abbrev pub marks_of : List (Option Node) → Marks
 marks_of nodes id = option_map mark_of (node_in nodes id)
 
--- two entries never lead to one node
-abbrev pub Single : Steps → Type 0
-Single step = (x y id : ℕ) (n m : Name) → step x n ≡ Some id → step y m ≡ Some id → (x ≡ y) × (n ≡ m)
-
--- no entry leads to it, it is not the root, and it has no entries
-pub record Loose (step : Steps) (root id : ℕ) : Type 0 where
-  pub free : HasNoEntry step id
-  pub other : root ≡ id → ⊥
-  pub bare : IsBare step id
-
-abbrev pub Reached : Steps → ℕ → ℕ → Type 0
-Reached step root id = (path : Path) × (walk step root path ≡ Some id)
-
-pub record IsMarked (step : Steps) (root : ℕ) (marks : Marks) (count : ℕ → ℕ) (handles : ℕ → ℕ → Option OpenHandle) : Type 0 where
-  pub single : Single step
-  pub loose : (id label opens : ℕ) → marks id ≡ Some (label, 0, opens) → Loose step root id
-  pub named : (id label opens : ℕ) → marks id ≡ Some (label, 1, opens) → Reached step root id
-  pub once : (id label names opens : ℕ) → marks id ≡ Some (label, names, opens) → names ≤ 1
+pub record IsMarked (step : Steps) (marks : Marks) (paths count : ℕ → ℕ) (handles : ℕ → ℕ → Option OpenHandle) : Type 0 where
+  pub bare : (id label opens : ℕ) → marks id ≡ Some (label, 0, opens) → IsBare step id
+  pub linked : (id label names opens : ℕ) → marks id ≡ Some (label, names, opens) → names ≡ paths label
   pub counted : (id label names opens : ℕ) → marks id ≡ Some (label, names, opens) → opens ≡ count label
   pub led : (session number : ℕ) (h : OpenHandle) → handles session number ≡ Some h → (names : ℕ) × (opens : ℕ) × (marks h.node ≡ Some (h.label, names, opens))
 
@@ -64,36 +49,27 @@ marks_found nodes id label names opens at =
     ] refl at
 
 -- ---- a kept store is so
-pub marked : (s : StoreState) (t : Tree) → Keeps s t → IsMarked (entry_of s.nodes) s.root (marks_of s.nodes) (times_open t) (handle_at s)
+pub marked : (s : StoreState) (t : Tree) → Keeps s t → IsMarked (entry_of s.nodes) (marks_of s.nodes) (links t.names) (times_open t) (handle_at s)
 marked s t k = record {
-  single = k.single;
-  loose = λ id label opens e.
-      let w = marks_found s.nodes id label 0 opens e in
-      let u = k.unlinked id w.0 w.1 w.3 in
-      record { free = u.free; other = u.other; bare = u.bare };
-  named = λ id label opens e. let w = marks_found s.nodes id label 1 opens e in k.named id w.0 w.1 w.3;
-  once = λ id label names opens e. let w = marks_found s.nodes id label names opens e in subst (λ (n : ℕ). n ≤ 1) w.3 (k.once id w.0 w.1);
+  bare = λ id label opens e. let w = marks_found s.nodes id label 0 opens e in k.bare id w.0 w.1 w.3;
+  linked = λ id label names opens e. let w = marks_found s.nodes id label names opens e in sym w.3 ∙ k.linked id w.0 w.1 ∙ ap (links t.names) w.2;
   counted = λ id label names opens e. let w = marks_found s.nodes id label names opens e in sym w.4 ∙ k.counted id w.0 w.1 ∙ ap (times_open t) w.2;
   led = λ session number h e. let w = k.led session number h e in (w.0.names, w.0.opens, ap (option_map mark_of) w.1.0 ∙ (λ i. Some (w.1.1 i, w.0.names, w.0.opens)));
 }
 
 -- what is so is kept, where handles stay
 pub keeps_marked : (s new : StoreState) (t after : Tree) (step : Steps) (marks : Marks) → Keeps s t → Shows (view_of new) after
-    → ((x : ℕ) (m : Name) → entry_of new.nodes x m ≡ step x m) → ((i : ℕ) → marks_of new.nodes i ≡ marks i) → new.root ≡ s.root → new.sessions ≡ s.sessions → after.handles ≡ t.handles
-    → IsMarked step s.root marks (times_open t) (handle_at s) → InOrder new.nodes → Keeps new after
-keeps_marked s new t after step marks k shows steps says root sessions handles m ordered =
-    let is : IsMarked (entry_of new.nodes) new.root (marks_of new.nodes) (times_open t) (handle_at s) =
-    subst (λ (w : Steps × ℕ × Marks). IsMarked w.0 w.1 w.2 (times_open t) (handle_at s)) (sym (λ i. ((λ x n. steps x n i), root i, (λ x. says x i)))) m in
+    → ((x : ℕ) (m : Name) → entry_of new.nodes x m ≡ step x m) → ((i : ℕ) → marks_of new.nodes i ≡ marks i) → new.sessions ≡ s.sessions → after.handles ≡ t.handles
+    → IsMarked step marks (links after.names) (times_open t) (handle_at s) → InOrder new.nodes → Keeps new after
+keeps_marked s new t after step marks k shows steps says sessions handles m ordered =
+    let is : IsMarked (entry_of new.nodes) (marks_of new.nodes) (links after.names) (times_open t) (handle_at s) =
+    subst (λ (w : Steps × Marks). IsMarked w.0 w.1 (links after.names) (times_open t) (handle_at s)) (sym (λ i. ((λ x n. steps x n i), (λ x. says x i)))) m in
     let alike : (session number : ℕ) → handle_at new session number ≡ handle_at s session number = λ session number. ap (λ (hs : List (ℕ × List (ℕ × OpenHandle))). handle_at (with_sessions s hs) session number) sessions in
     record {
       shows = shows;
       entries = ordered;
-      single = is.single;
-      unlinked = λ id node at e.
-          let l = is.loose id node.label node.opens (ap (option_map mark_of) at ∙ (λ i. Some (node.label, e i, node.opens))) in
-          record { free = l.free; other = l.other; bare = l.bare };
-      named = λ id node at e. is.named id node.label node.opens (ap (option_map mark_of) at ∙ (λ i. Some (node.label, e i, node.opens)));
-      once = λ id node at. is.once id node.label node.names node.opens (ap (option_map mark_of) at);
+      linked = λ id node at. is.linked id node.label node.names node.opens (ap (option_map mark_of) at);
+      bare = λ id node at e. is.bare id node.label node.opens (ap (option_map mark_of) at ∙ (λ i. Some (node.label, e i, node.opens)));
       counted = λ id node at. is.counted id node.label node.names node.opens (ap (option_map mark_of) at) ∙ ap (λ (hs : List (ℕ × Handle)). count_by (λ (e : ℕ × Handle). nat_eq e.1.label node.label) hs) (sym handles);
       led = λ session number h e.
           let w = is.led session number h (sym (alike session number) ∙ e) in
@@ -105,60 +81,55 @@ keeps_marked s new t after step marks k shows steps says root sessions handles m
     }
 
 -- ---- other entries
-module _ (step new : Steps) (root : ℕ) (marks : Marks) (count : ℕ → ℕ) (handles : ℕ → ℕ → Option OpenHandle) (m : IsMarked step root marks count handles)
-    (single : Single new) (loose : (id : ℕ) → Loose step root id → Loose new root id) where
-  -- the same nodes are reached
-  pub marked_same : ((id : ℕ) → Reached step root id → Reached new root id) → IsMarked new root marks count handles
-  marked_same reach = record {
-    single = single;
-    loose = λ id label opens e. loose id (m.loose id label opens e);
-    named = λ id label opens e. reach id (m.named id label opens e);
-    once = m.once;
+module _ (step new : Steps) (marks : Marks) (paths after count : ℕ → ℕ) (handles : ℕ → ℕ → Option OpenHandle) (m : IsMarked step marks paths count handles) where
+  -- as many paths of each node
+  pub marked_same : ((id label opens : ℕ) → marks id ≡ Some (label, 0, opens) → IsBare step id → IsBare new id) → ((label : ℕ) → after label ≡ paths label) → IsMarked new marks after count handles
+  marked_same bare same = record {
+    bare = λ id label opens e. bare id label opens e (m.bare id label opens e);
+    linked = λ id label names opens e. m.linked id label names opens e ∙ sym (same label);
     counted = m.counted;
     led = m.led;
   }
 
-  -- all nodes but one, which stays if handles open it
-  module _ (c label names opens : ℕ) (at : marks c ≡ Some (label, names, opens)) (gone : Loose new root c) (reach : (id : ℕ) → nat_eq c id ≡ false → Reached step root id → Reached new root id)
+  -- another mark of one node, of its label, that a handle's node doesn't lose; or none
+  module _ (c label names opens : ℕ) (at : marks c ≡ Some (label, names, opens)) (named : ℕ) (lost : Bool) (bare : IsBare new c)
+      (bares : (id l o : ℕ) → marks id ≡ Some (l, 0, o) → IsBare step id → IsBare new id)
+      (others : (id l b o : ℕ) → nat_eq c id ≡ false → marks id ≡ Some (l, b, o) → after l ≡ paths l) (own : named ≡ after label)
+      (stays : nat_eq opens 0 ≡ false → lost ≡ false)
       (used : (session number : ℕ) (h : OpenHandle) → handles session number ≡ Some h → nat_eq (count h.label) 0 ≡ false) where
-    abbrev pub lost : Option Mark
-    lost = cond (nat_eq opens 0) None (Some (label, 0, opens))
+    abbrev pub left : Option Mark
+    left = cond lost None (Some (label, named, opens))
 
-    lost_is : (l b o : ℕ) → lost ≡ Some (l, b, o) → ◌≡◌ {A = Mark} (label, 0, opens) (l, b, o)
-    lost_is l b o = elim (nat_eq opens 0) as (λ z. ◌≡◌ {A = Option Mark} (cond z None (Some (label, 0, opens))) (Some (l, b, o)) → ◌≡◌ {A = Mark} (label, 0, opens) (l, b, o)) [
+    left_is : (v : Mark) → left ≡ Some v → ◌≡◌ {A = Mark} (label, named, opens) v
+    left_is v = elim lost as (λ z. ◌≡◌ {A = Option Mark} (cond z None (Some (label, named, opens))) (Some v) → ◌≡◌ {A = Mark} (label, named, opens) v) [
       | true ↦ λ e. cc
-      | false ↦ λ e. mark_same (label, 0, opens) (l, b, o) e
+      | false ↦ λ e. mark_same (label, named, opens) v e
     ]
 
-    led_lost : (session number : ℕ) (h : OpenHandle) → handles session number ≡ Some h → (b : ℕ) × (o : ℕ) × (cond (nat_eq c h.node) lost (marks h.node) ≡ Some (h.label, b, o))
-    led_lost session number h e =
+    led_left : (session number : ℕ) (h : OpenHandle) → handles session number ≡ Some h → (b : ℕ) × (o : ℕ) × (cond (nat_eq c h.node) left (marks h.node) ≡ Some (h.label, b, o))
+    led_left session number h e =
         let w = m.led session number h e in
-        elim (nat_eq c h.node) as (λ z. nat_eq c h.node ≡ z → (b : ℕ) × (o : ℕ) × (cond z lost (marks h.node) ≡ Some (h.label, b, o))) [
+        elim (nat_eq c h.node) as (λ z. nat_eq c h.node ≡ z → (b : ℕ) × (o : ℕ) × (cond z left (marks h.node) ≡ Some (h.label, b, o))) [
           | true ↦ λ f.
               let same = mark_same (label, names, opens) (h.label, w.0, w.1) (sym at ∙ ap marks (eqb-true c h.node f) ∙ w.2) in
               let opened : nat_eq opens 0 ≡ false = ap (λ (z : ℕ). nat_eq z 0) (m.counted c label names opens at) ∙ ap (λ (z : Mark). nat_eq (count z.0) 0) same ∙ used session number h e in
-              (0, opens, ap (λ (z : Bool). cond z None (Some (label, 0, opens))) opened ∙ (λ i. Some ((same i).0, 0, opens)))
+              (named, opens, ap (λ (z : Bool). cond z None (Some (label, named, opens))) (stays opened) ∙ (λ i. Some ((same i).0, named, opens)))
           | false ↦ λ f. w
         ] refl
 
-    pub marked_lost : IsMarked new root (λ i. cond (nat_eq c i) lost (marks i)) count handles
-    marked_lost = record {
-      single = single;
-      loose = λ id l o e. elim (nat_eq c id) as (λ z. nat_eq c id ≡ z → cond z lost (marks id) ≡ Some (l, 0, o) → Loose new root id) [
-        | true ↦ λ f _. subst (λ (x : ℕ). Loose new root x) (eqb-true c id f) gone
-        | false ↦ λ f g. loose id (m.loose id l o g)
+    pub marked_left : IsMarked new (λ i. cond (nat_eq c i) left (marks i)) after count handles
+    marked_left = record {
+      bare = λ id l o e. elim (nat_eq c id) as (λ z. nat_eq c id ≡ z → cond z left (marks id) ≡ Some (l, 0, o) → IsBare new id) [
+        | true ↦ λ f _. subst (λ (x : ℕ). IsBare new x) (eqb-true c id f) bare
+        | false ↦ λ f g. bares id l o g (m.bare id l o g)
       ] refl e;
-      named = λ id l o e. elim (nat_eq c id) as (λ z. nat_eq c id ≡ z → cond z lost (marks id) ≡ Some (l, 1, o) → Reached new root id) [
-        | true ↦ λ f g. let not : 0 ≡ 1 = ap (λ (z : Mark). z.1) (lost_is l 1 o g) in absurd (omega (arith, not))
-        | false ↦ λ f g. reach id f (m.named id l o g)
+      linked = λ id l b o e. elim (nat_eq c id) as (λ z. nat_eq c id ≡ z → cond z left (marks id) ≡ Some (l, b, o) → b ≡ after l) [
+        | true ↦ λ f g. let same = left_is (l, b, o) g in sym (ap (λ (z : Mark). z.1) same) ∙ own ∙ ap (λ (z : Mark). after z.0) same
+        | false ↦ λ f g. m.linked id l b o g ∙ sym (others id l b o f g)
       ] refl e;
-      once = λ id l b o e. elim (nat_eq c id) as (λ z. nat_eq c id ≡ z → cond z lost (marks id) ≡ Some (l, b, o) → b ≤ 1) [
-        | true ↦ λ f g. let none : 0 ≡ b = ap (λ (z : Mark). z.1) (lost_is l b o g) in omega (arith, none)
-        | false ↦ λ f g. m.once id l b o g
-      ] refl e;
-      counted = λ id l b o e. elim (nat_eq c id) as (λ z. nat_eq c id ≡ z → cond z lost (marks id) ≡ Some (l, b, o) → o ≡ count l) [
-        | true ↦ λ f g. let same = lost_is l b o g in sym (ap (λ (z : Mark). z.2) same) ∙ m.counted c label names opens at ∙ ap (λ (z : Mark). count z.0) same
+      counted = λ id l b o e. elim (nat_eq c id) as (λ z. nat_eq c id ≡ z → cond z left (marks id) ≡ Some (l, b, o) → o ≡ count l) [
+        | true ↦ λ f g. let same = left_is (l, b, o) g in sym (ap (λ (z : Mark). z.2) same) ∙ m.counted c label names opens at ∙ ap (λ (z : Mark). count z.0) same
         | false ↦ λ f g. m.counted id l b o g
       ] refl e;
-      led = led_lost;
+      led = led_left;
     }

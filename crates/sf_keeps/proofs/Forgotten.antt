@@ -1,11 +1,11 @@
 -- What a kept store keeps after a node has lost its entry.
-use Rattle.std.specs.Prelude.{◌≡◌, ℕ, ◌-◌, nat_eq, Bool, true, false, cond, List, [], ◌∷◌, option_map, option_and_then, slice_set, Option, Some, None, refl}
+use Rattle.std.specs.Prelude.{◌≡◌, ◌≢◌, ℕ, ◌-◌, nat_eq, Bool, true, false, cond, ◌&&◌, List, [], ◌∷◌, option_map, option_and_then, slice_set, Option, Some, None, refl}
 use Rattle.std.specs.Option.{option_map_or}
 use Rattle.std.proofs.Common.{sym, ap, subst, ◌∙◌}
 use Rattle.std.specs.Map.{lookup}
 use Rattle.sf_path.specs.Names.{Name}
 use Rattle.sf_path.specs.Order.{same_name}
-use Rattle.sf_call.specs.Tree.{Tree, is_nil}
+use Rattle.sf_call.specs.Tree.{Tree, is_nil, links}
 use Rattle.sf_inode.specs.declared.node.Node.{Node}
 use Rattle.sf_inode.specs.declared.node.Content.{Content}
 use Rattle.sf_inode.specs.declared.node.Content.TheVariants as content
@@ -15,9 +15,10 @@ use Rattle.sf_keeps.specs.Shows.{View, Shows}
 use Rattle.sf_inode.specs.Stores.{StoreState, node_in, entry_of, handle_at, with_nodes, edited, released_if, forgotten}
 use Rattle.sf_keeps.specs.Keeps.{view_of, Keeps, times_open}
 use Rattle.sf_keeps.proofs.Sound.{IsBare}
-use Rattle.sf_keeps.proofs.StoreLaws.{node_in-edited, node_in-set, view_stays, view_goes, changed_there, unused_left}
-use Rattle.sf_keeps.proofs.Openings.{counted_handle}
-use Rattle.sf_keeps.proofs.Counted.{Single, Loose, Reached, Mark, mark_of, marks_of, marked, keeps_marked, marked_lost}
+use Rattle.sf_keeps.proofs.StoreLaws.{node_in-edited, node_in-set, view_stays, view_goes, changed_there}
+use Rattle.sf_keeps.proofs.Openings.{counted_handle, one_node}
+use Rattle.sf_keeps.proofs.Shown.{same_apart}
+use Rattle.sf_keeps.proofs.Counted.{Mark, mark_of, mark_same, marks_of, marked, keeps_marked, marked_left}
 use Rattle.sf_keeps.proofs.InOrder.{InOrder, IsInOrder, node_in_order, in_order_put}
 use Rattle.sf_keeps.proofs.KeepsEdited.{marks_same}
 
@@ -57,41 +58,48 @@ bare_at nodes c is m =
       | Some node ↦ λ e. bare_content node.content m e
     ] is
 
+-- the node of a mark
+pub mark_node : (nodes : List (Option Node)) (id : ℕ) (v : Mark) → marks_of nodes id ≡ Some v → (node : Node) × (node_in nodes id ≡ Some node) × (mark_of node ≡ v)
+mark_node nodes id v at =
+    elim (node_in nodes id) as (λ o. node_in nodes id ≡ o → option_map mark_of o ≡ Some v → (node : Node) × (node_in nodes id ≡ Some node) × (mark_of node ≡ v)) [
+      | None ↦ λ e f. absurd (cc)
+      | Some node ↦ λ e f. (node, e, mark_same (mark_of node) v f)
+    ] refl at
+
 -- ---- a node that no entry leads to any more
 kept_released : {A : Type 0} (f : StoreState → A) (s : StoreState) (id : ℕ) (o : Option Node) → ((nodes : List (Option Node)) → f (with_nodes s nodes) ≡ f s) → f (released_if s id o) ≡ f s
 kept_released f s id None same = refl
 kept_released f s id (Some node) same =
     elim (is_unused node) as (λ b. f (cond b (with_nodes s (slice_set s.nodes id None)) s) ≡ f s) [ true ↦ same (slice_set s.nodes id None) | false ↦ refl ]
 
-module _ (s : StoreState) (c : ℕ) (node : Node) (here : node_in s.nodes c ≡ Some node) (one : node.names ≡ 1) (bare : IsBare (entry_of s.nodes) c) where
+module _ (s : StoreState) (c : ℕ) (node : Node) (here : node_in s.nodes c ≡ Some node) (bare : IsBare (entry_of s.nodes) c) where
   abbrev pub mark_left : Option Mark
-  mark_left = cond (nat_eq node.opens 0) None (Some (node.label, 0, node.opens))
+  mark_left = cond (is_unused (without_name node)) None (Some (node.label, node.names - 1, node.opens))
 
   abbrev unnamed : StoreState
   unnamed = edited without_name s c
 
   pub steps_forgotten : (x : ℕ) (m : Name) → entry_of (forgotten s c).nodes x m ≡ entry_of s.nodes x m
-  steps_forgotten x m = elim (nat_eq node.opens 0) as (λ b. nat_eq node.opens 0 ≡ b → entry_of (forgotten s c).nodes x m ≡ entry_of s.nodes x m) [
-    | true ↦ λ e. ap (λ (v : View). v.step x m) (view_goes without_name s c node here (λ m. refl) refl bare (unused_left node one ∙ e))
-    | false ↦ λ e. ap (λ (v : View). v.step x m) (view_stays without_name s c node here (λ m. refl) refl (unused_left node one ∙ e))
+  steps_forgotten x m = elim (is_unused (without_name node)) as (λ b. is_unused (without_name node) ≡ b → entry_of (forgotten s c).nodes x m ≡ entry_of s.nodes x m) [
+    | true ↦ λ e. ap (λ (v : View). v.step x m) (view_goes without_name s c node here (λ m. refl) refl bare e)
+    | false ↦ λ e. ap (λ (v : View). v.step x m) (view_stays without_name s c node here (λ m. refl) refl e)
   ] refl
 
-  marks_released : (i : ℕ) (b : Bool) → marks_of (cond b (with_nodes unnamed (slice_set unnamed.nodes c None)) unnamed).nodes i ≡ cond (nat_eq c i) (cond b None (Some (node.label, 0, node.opens))) (marks_of s.nodes i)
+  marks_released : (i : ℕ) (b : Bool) → marks_of (cond b (with_nodes unnamed (slice_set unnamed.nodes c None)) unnamed).nodes i ≡ cond (nat_eq c i) (cond b None (Some (node.label, node.names - 1, node.opens))) (marks_of s.nodes i)
   marks_released i true =
       ap (option_map mark_of) (node_in-set unnamed.nodes c (without_name node) None (changed_there without_name s c node here (λ m. refl) refl) i ∙ ap (cond (nat_eq c i) None) (node_in-edited without_name s c node here i))
       ∙ elim (nat_eq c i) as (λ z. option_map mark_of (cond z None (cond z (Some (without_name node)) (node_in s.nodes i))) ≡ cond z None (marks_of s.nodes i)) [ true ↦ refl | false ↦ refl ]
   marks_released i false =
       ap (option_map mark_of) (node_in-edited without_name s c node here i)
-      ∙ elim (nat_eq c i) as (λ z. option_map mark_of (cond z (Some (without_name node)) (node_in s.nodes i)) ≡ cond z (Some (node.label, 0, node.opens)) (marks_of s.nodes i)) [
-        | true ↦ ap (λ (n : ℕ). Some (node.label, n - 1, node.opens)) one
+      ∙ elim (nat_eq c i) as (λ z. option_map mark_of (cond z (Some (without_name node)) (node_in s.nodes i)) ≡ cond z (Some (node.label, node.names - 1, node.opens)) (marks_of s.nodes i)) [
+        | true ↦ refl
         | false ↦ refl
       ]
 
   pub marks_forgotten : (i : ℕ) → marks_of (forgotten s c).nodes i ≡ cond (nat_eq c i) mark_left (marks_of s.nodes i)
   marks_forgotten i =
       ap (λ (o : Option Node). marks_of (released_if unnamed c o).nodes i) (changed_there without_name s c node here (λ m. refl) refl)
-      ∙ ap (λ (b : Bool). marks_of (cond b (with_nodes unnamed (slice_set unnamed.nodes c None)) unnamed).nodes i) (unused_left node one)
-      ∙ marks_released i (nat_eq node.opens 0)
+      ∙ marks_released i (is_unused (without_name node))
 
   -- the entries of the others stay
   pub in_order_forgotten : InOrder s.nodes → InOrder (forgotten s c).nodes
@@ -103,22 +111,31 @@ module _ (s : StoreState) (c : ℕ) (node : Node) (here : node_in s.nodes c ≡ 
         | false ↦ less
       ])
 
--- a kept store with another entry, whose node then has none
-pub keeps_forgotten : (s mid : StoreState) (t after : Tree) (step : Steps) (c : ℕ) (node : Node) → Keeps s t → node_in mid.nodes c ≡ Some node → node.names ≡ 1 → InOrder mid.nodes → ((x : ℕ) (m : Name) → entry_of mid.nodes x m ≡ step x m)
-    → ((i : ℕ) → marks_of mid.nodes i ≡ marks_of s.nodes i) → mid.root ≡ s.root → mid.sessions ≡ s.sessions → Single step → ((id : ℕ) → Loose (entry_of s.nodes) s.root id → Loose step s.root id) → Loose step s.root c
-    → ((id : ℕ) → nat_eq c id ≡ false → Reached (entry_of s.nodes) s.root id → Reached step s.root id) → after.handles ≡ t.handles → Shows (view_of (forgotten mid c)) after → Keeps (forgotten mid c) after
-keeps_forgotten s mid t after step c node k here one ordered steps marks root sessions single loose gone reach handles shows =
-    let bare : IsBare (entry_of mid.nodes) c = λ m. steps c m ∙ gone.bare m in
+-- what is open is not unused
+opened_stays : (names opens : ℕ) → nat_eq opens 0 ≡ false → nat_eq names 0 && nat_eq opens 0 ≡ false
+opened_stays names opens e = ap (λ b. nat_eq names 0 && b) e ∙ elim (nat_eq names 0) as (λ b. b && false ≡ false) [ true ↦ refl | false ↦ refl ]
+
+-- a kept store with another entry, whose node then has a name less
+pub keeps_forgotten : (s mid : StoreState) (t after : Tree) (step : Steps) (c : ℕ) (node : Node) → Keeps s t → node_in mid.nodes c ≡ Some node → InOrder mid.nodes → ((x : ℕ) (m : Name) → entry_of mid.nodes x m ≡ step x m)
+    → ((i : ℕ) → marks_of mid.nodes i ≡ marks_of s.nodes i) → mid.sessions ≡ s.sessions → IsBare step c → ((id l o : ℕ) → marks_of s.nodes id ≡ Some (l, 0, o) → IsBare (entry_of s.nodes) id → IsBare step id)
+    → ((label : ℕ) → label ≢ node.label → links after.names label ≡ links t.names label) → node.names - 1 ≡ links after.names node.label → after.handles ≡ t.handles → Shows (view_of (forgotten mid c)) after → Keeps (forgotten mid c) after
+keeps_forgotten s mid t after step c node k here ordered steps marks sessions gone bares others own handles shows =
+    let bare : IsBare (entry_of mid.nodes) c = λ m. steps c m ∙ gone m in
     let unnamed = edited without_name mid c in
-    keeps_marked s (forgotten mid c) t after step (λ i. cond (nat_eq c i) (mark_left mid c node here one bare) (marks_of s.nodes i)) k shows
-    (λ x m. steps_forgotten mid c node here one bare x m ∙ steps x m)
-    (λ i. marks_forgotten mid c node here one bare i ∙ ap (cond (nat_eq c i) (mark_left mid c node here one bare)) (marks i))
-    (kept_released (λ (x : StoreState). x.root) unnamed c (node_in unnamed.nodes c) (λ _. refl) ∙ root)
+    let at : marks_of s.nodes c ≡ Some (mark_of node) = sym (marks c) ∙ ap (option_map mark_of) here in
+    let was = mark_node s.nodes c (mark_of node) at in
+    keeps_marked s (forgotten mid c) t after step (λ i. cond (nat_eq c i) (mark_left mid c node here bare) (marks_of s.nodes i)) k shows
+    (λ x m. steps_forgotten mid c node here bare x m ∙ steps x m)
+    (λ i. marks_forgotten mid c node here bare i ∙ ap (cond (nat_eq c i) (mark_left mid c node here bare)) (marks i))
     (kept_released (λ (x : StoreState). x.sessions) unnamed c (node_in unnamed.nodes c) (λ _. refl) ∙ sessions)
     handles
-    (marked_lost (entry_of s.nodes) step s.root (marks_of s.nodes) (times_open t) (handle_at s) (marked s t k) single loose c node.label node.names node.opens
-    (sym (marks c) ∙ ap (option_map mark_of) here) gone reach (counted_handle s t k))
-    (in_order_forgotten mid c node here one bare ordered)
+    (marked_left (entry_of s.nodes) step (marks_of s.nodes) (links t.names) (links after.names) (times_open t) (handle_at s) (marked s t k) c node.label node.names node.opens at
+    (node.names - 1) (is_unused (without_name node)) gone bares
+    (λ id l b o other e. others l (λ same.
+    let w = mark_node s.nodes id (l, b, o) e in
+    same_apart c id other (one_node s t k c id was.0 w.0 was.1 w.1 (ap (λ (z : Mark). z.0) was.2 ∙ sym same ∙ sym (ap (λ (z : Mark). z.0) w.2)))))
+    own (opened_stays (node.names - 1) node.opens) (counted_handle s t k))
+    (in_order_forgotten mid c node here bare ordered)
 
 -- an entry changes no node's marks
 pub marks_entries : (f : Content → Content) (s : StoreState) (d : ℕ) (above : Node) → node_in s.nodes d ≡ Some above → (i : ℕ) → marks_of (edited (with_content f) s d).nodes i ≡ marks_of s.nodes i

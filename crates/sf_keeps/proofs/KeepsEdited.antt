@@ -2,11 +2,11 @@
 use Rattle.std.specs.Prelude.{◌≡◌, ℕ, nat_eq, true, false, cond, List, is_some, option_map, Option, Some, None, refl}
 use Rattle.std.specs.Option.{option_map_or}
 use Rattle.std.proofs.Common.{sym, ap, subst, ◌∙◌, eqb-true}
-use Rattle.sf_path.specs.Names.{Name}
+use Rattle.sf_path.specs.Names.{Name, Path}
 use Rattle.sf_call.specs.declared.metadata.Metadata.{Metadata}
 use Rattle.sf_call.specs.Attributes.{Object}
 use Rattle.sf_call.specs.Attributes.Object.{File}
-use Rattle.sf_call.specs.Tree.{Tree, directory_metadata}
+use Rattle.sf_call.specs.Tree.{Tree, directory_metadata, links}
 use Rattle.sf_call.specs.Changes.{changed}
 use Rattle.sf_call.specs.Changes.Change.{SetObject}
 use Rattle.sf_inode.specs.declared.node.Node.{Node}
@@ -14,12 +14,12 @@ use Rattle.sf_inode.specs.declared.node.Content.{Content}
 use Rattle.sf_inode.specs.declared.node.Content.TheVariants as content
 use Rattle.sf_inode.specs.Nodes.{entry_in, object_in, is_file_content, with_content, with_metadata, with_bytes, with_holder}
 use Rattle.sf_keeps.specs.Shows.{View, Shows}
-use Rattle.sf_inode.specs.Stores.{StoreState, node_in, entry_of, shown_node, edited, edited_by, with_nodes, looked_up, is_file_at, bytes_set}
-use Rattle.sf_keeps.specs.Keeps.{view_of, Keeps}
+use Rattle.sf_inode.specs.Stores.{StoreState, node_in, entry_of, handle_at, shown_node, edited, edited_by, with_nodes, looked_up, is_file_at, bytes_set}
+use Rattle.sf_keeps.specs.Keeps.{view_of, Keeps, times_open}
 use Rattle.sf_keeps.proofs.StoreLaws.{node_in-edited, entry_same, shows_edited, view_unseen, kind_metadata}
 use Rattle.sf_keeps.proofs.StoreBytes.{entry_stored, kind_stored}
 use Rattle.sf_keeps.proofs.InOrder.{IsInOrder, node_in_order, in_order_put, stored_in_order}
-use Rattle.sf_keeps.proofs.Counted.{Mark, mark_of, marks_of, marked, keeps_marked}
+use Rattle.sf_keeps.proofs.Counted.{Mark, mark_of, marks_of, marked, keeps_marked, marked_same}
 
 -- marks that stay where one node has changed
 pub marks_same : (before after : List (Option Node)) (d : ℕ) (node node' : Node) → node_in before d ≡ Some node → ((i : ℕ) → node_in after i ≡ cond (nat_eq d i) (Some node') (node_in before i))
@@ -33,23 +33,24 @@ marks_same before after d node node' at put same i =
 
 module _ (f : Node → Node) (s : StoreState) (t : Tree) (id : ℕ) (node : Node) (k : Keeps s t) (here : node_in s.nodes id ≡ Some node)
     (entries : (m : Name) → entry_in (f node).content m ≡ entry_in node.content m) (same : mark_of (f node) ≡ mark_of node) (own : IsInOrder (f node).content) where
-  keeps_by : (after : Tree) → after.handles ≡ t.handles → Shows (view_of (edited f s id)) after → Keeps (edited f s id) after
-  keeps_by after handles shows =
+  keeps_by : (after : Tree) → after.names ≡ t.names → after.handles ≡ t.handles → Shows (view_of (edited f s id)) after → Keeps (edited f s id) after
+  keeps_by after names handles shows =
       keeps_marked s (edited f s id) t after (entry_of s.nodes) (marks_of s.nodes) k shows
       (entry_same s.nodes (edited f s id).nodes id node (f node) here (node_in-edited f s id node here) entries)
       (marks_same s.nodes (edited f s id).nodes id node (f node) here (node_in-edited f s id node here) same)
-      refl refl handles (marked s t k)
+      refl handles
+      (marked_same (entry_of s.nodes) (entry_of s.nodes) (marks_of s.nodes) (links t.names) (links after.names) (times_open t) (handle_at s) (marked s t k) (λ i l o e bare. bare) (λ label. ap (λ (ns : List (Path × ℕ)). links ns label) names))
       (in_order_put s.nodes (edited f s id).nodes id (Some (f node)) k.entries (node_in-edited f s id node here) own)
 
   -- another object of the node
   pub keeps_edited : is_some (directory_metadata (object_in node.metadata node.content)) ≡ is_some (directory_metadata (object_in (f node).metadata (f node).content))
       → Keeps (edited f s id) (changed t (SetObject node.label (object_in (f node).metadata (f node).content)))
-  keeps_edited kind = keeps_by (changed t (SetObject node.label (object_in (f node).metadata (f node).content))) refl
+  keeps_edited kind = keeps_by (changed t (SetObject node.label (object_in (f node).metadata (f node).content))) refl refl
       (shows_edited f s t id node k.shows here entries (ap (λ (w : Mark). w.0) same) kind)
 
   -- the same object
   pub keeps_unseen : shown_node (f node) ≡ shown_node node → Keeps (edited f s id) t
-  keeps_unseen alike = keeps_by t refl (subst (λ (v : View). Shows v t) (sym (view_unseen f s id node here entries alike)) k.shows)
+  keeps_unseen alike = keeps_by t refl refl (subst (λ (v : View). Shows v t) (sym (view_unseen f s id node here entries alike)) k.shows)
 
 -- other metadata
 pub keeps_metadata : (f : Metadata → Metadata) (s : StoreState) (t : Tree) (id : ℕ) (node : Node) → Keeps s t → node_in s.nodes id ≡ Some node
@@ -93,4 +94,4 @@ pub keeps_held : (r : Option ℕ) (s : StoreState) (t : Tree) (id : ℕ) → Kee
 keeps_held r s t id k = keeps_always (with_holder r) s t id k (λ node e m. refl) (λ node. refl) (λ node h. h) (λ node e. refl)
 
 pub keeps_looked : (s : StoreState) (t : Tree) → Keeps s t → Keeps (looked_up s) t
-keeps_looked s t k = keeps_marked s (looked_up s) t t (entry_of s.nodes) (marks_of s.nodes) k k.shows (λ x m. refl) (λ i. refl) refl refl refl (marked s t k) k.entries
+keeps_looked s t k = keeps_marked s (looked_up s) t t (entry_of s.nodes) (marks_of s.nodes) k k.shows (λ x m. refl) (λ i. refl) refl refl (marked s t k) k.entries

@@ -1,28 +1,32 @@
 -- What a store keeps after an entry was moved.
-use Rattle.std.specs.Prelude.{◌≡◌, ℕ, nat_eq, Bool, true, false, ◌&&◌, List, [], ◌∷◌, ◌++◌, Some, None, refl}
+use Rattle.std.specs.Prelude.{◌≡◌, ℕ, ◌-◌, ◌<◌, nat_eq, true, false, List, [], ◌∷◌, ◌++◌, option_and_then, Some, None, refl}
 use Rattle.std.specs.Option.{option_map_or}
-use Rattle.std.proofs.Common.{sym, ap, subst, ◌∙◌, eqb-true, eq-eqb}
+use Rattle.std.proofs.Common.{sym, ap, subst, ◌∙◌, arith}
 use Rattle.sf_path.specs.Names.{Name, Path}
-use Rattle.sf_path.specs.Order.{same_name}
-use Rattle.sf_call.specs.Tree.{Tree, after_front}
+use Rattle.sf_path.specs.Order.{path_cmp}
+use Rattle.std.specs.Map.{remove_entry}
+use Rattle.std.specs.BTreeMap.{is_at}
+use Rattle.sf_call.specs.Tree.{Tree, label_at, links, after_front}
 use Rattle.sf_call.specs.Changes.{changed}
 use Rattle.sf_call.specs.Changes.Change.{Move}
-use Rattle.sf_call.proofs.Laws.{same_name_itself}
+use Rattle.sf_call.proofs.Laws.{after_front-append, links_less, links_same, links_moved, is_link_itself, is_link_other}
 use Rattle.sf_inode.specs.declared.node.Node.{Node}
 use Rattle.sf_inode.specs.declared.node.Content.TheVariants as content
-use Rattle.sf_inode.specs.Nodes.{is_directory_content, is_bare_content, more_content, less_content, with_content}
+use Rattle.sf_inode.specs.Nodes.{is_directory_content, is_bare_content, more_content, less_content, with_content, without_name, is_unused}
 use Rattle.sf_keeps.specs.Steps.{Steps, walk, changed_step}
-use Rattle.sf_keeps.specs.Shows.{View, Shows, is_directory_by, with_step}
+use Rattle.sf_keeps.specs.Shows.{View, Shows, label_by, is_directory_by, with_step}
 use Rattle.sf_inode.specs.Stores.{StoreState, node_in, entry_of, handle_at, shown_of, entry_put, moved_entry, relinked, relinked_from, spot}
 use Rattle.sf_keeps.specs.Keeps.{view_of, Keeps, times_open}
 use Rattle.sf_keeps.proofs.Sound.{IsBare}
-use Rattle.sf_keeps.proofs.Shown.{same_apart}
+use Rattle.sf_keeps.proofs.Shown.{below}
 use Rattle.sf_keeps.proofs.InOrder.{InOrder}
-use Rattle.sf_keeps.proofs.StoreMoves.{still_there, is_to, apart, view_moved, in_order_moved, is_relinked, target_there, shows_relinked, shows_relinked_gone, shows_relinked_open}
-use Rattle.sf_keeps.proofs.Openings.{closed_label, opener, entry_node}
-use Rattle.sf_keeps.proofs.Counted.{Loose, marks_of, marked, keeps_marked, marked_same}
-use Rattle.sf_keeps.proofs.CountedSteps.{leads_nowhere, ends_there, single_moved, loose_moved, loose_replaced, reach_moved}
+use Rattle.sf_keeps.proofs.StoreMoves.{still_there, is_to, view_moved, in_order_moved, is_relinked, target_there, shows_relinked, shows_relinked_gone, shows_relinked_used}
+use Rattle.sf_keeps.proofs.Openings.{closed_label, entry_node, both_zero, path_label, one_entry, used_still}
+use Rattle.sf_keeps.proofs.Whole.{one_more, free_name}
+use Rattle.sf_keeps.proofs.Counted.{marks_of, marked, keeps_marked, marked_same}
+use Rattle.sf_keeps.proofs.CountedSteps.{bare_moved, bare_apart, none_replaced}
 use Rattle.sf_keeps.proofs.Forgotten.{directory_at, entry_above, bare_at, keeps_forgotten, marks_entries}
+use Rattle.sf_keeps.proofs.KeepsNames.{away}
 
 module _ (s : StoreState) (t : Tree) (po : Path) (od : ℕ) (on : Name) (c : ℕ) (pn : Path) (nd : ℕ) (nn : Name) (k : Keeps s t)
     (at_from : walk (entry_of s.nodes) s.root po ≡ Some od) (there : entry_of s.nodes od on ≡ Some c) (at_to : walk (entry_of s.nodes) s.root pn ≡ Some nd)
@@ -53,59 +57,77 @@ module _ (s : StoreState) (t : Tree) (po : Path) (od : ℕ) (on : Name) (c : ℕ
   to_is : is_directory_by (shown_of s.nodes) nd ≡ true
   to_is = is_to s t k.shows po od on pn nd nn c from.0 to.0 to.1 at_from from.1 there at_to to.2 to.3 not_inside k.entries
 
+  abbrev old : Path
+  old = po ++ on ∷ []
+
+  abbrev new : Path
+  new = pn ++ nn ∷ []
+
+  to_away : (id l o : ℕ) → marks_of s.nodes id ≡ Some (l, 0, o) → nat_eq nd id ≡ false
+  to_away = away s t k pn nd to.0 at_to to.2
+
+  bares : (id l o : ℕ) → marks_of s.nodes id ≡ Some (l, 0, o) → IsBare (entry_of s.nodes) id → IsBare moved id
+  bares id l o e = bare_moved (entry_of s.nodes) od on nd nn c id (to_away id l o e)
+
+  -- as many paths as without what the new one named, where nothing is below it
+  counted_paths : ((name : Name) (rest : Path) → label_at t.names (new ++ name ∷ rest) ≡ None) → (label : ℕ) → links after.names label ≡ links (remove_entry (is_at (path_cmp new)) t.names) label
+  counted_paths nothing label = links_moved t.names old new k.shows.ordered.names not_inside nothing label
+
+  below_new : (name : Name) (rest : Path) → walk (entry_of s.nodes) s.root (new ++ name ∷ rest) ≡ option_and_then (λ y. walk (entry_of s.nodes) y (name ∷ rest)) (entry_of s.nodes nd nn)
+  below_new name rest = below (view_of s) t k.shows.by pn nd nn at_to (new ++ name ∷ rest) (name ∷ rest) (after_front-append new (name ∷ rest))
+
   -- ---- onto nothing
   pub keeps_moved : entry_of s.nodes nd nn ≡ None → Keeps (relinked s od on nd nn) (changed t (Move (po ++ on ∷ []) (pn ++ nn ∷ [])))
   keeps_moved none =
       let is : relinked s od on nd nn ≡ moved_entry s (spot od on) (spot nd nn) c = ap (λ o. relinked_from s (spot od on) (spot nd nn) o (entry_of s.nodes nd nn)) there ∙ ap (relinked_from s (spot od on) (spot nd nn) (Some c)) none in
       let shows = shows_relinked s t k.shows po od on pn nd nn c from.0 to.0 to.1 at_from from.1 there at_to to.2 to.3 not_inside k.entries none in
+      let nothing : (name : Name) (rest : Path) → label_at t.names (new ++ name ∷ rest) ≡ None =
+      λ name rest. k.shows.by.names (new ++ name ∷ rest) ∙ ap (option_and_then (label_by (view_of s).shown)) (below_new name rest ∙ ap (option_and_then (λ y. walk (entry_of s.nodes) y (name ∷ rest))) none) in
+      let free = free_name (view_of s) t k.shows pn nd nn at_to none in
       subst (λ (x : StoreState). Keeps x after) (sym is)
       (keeps_marked s (moved_entry s (spot od on) (spot nd nn) c) t after moved (marks_of s.nodes) k (subst (λ (x : StoreState). Shows (view_of x) after) is shows)
-      (λ x m. ap (λ (v : View). v.step x m) is_view) marks_moved refl refl refl
-      (marked_same (entry_of s.nodes) moved s.root (marks_of s.nodes) (times_open t) (handle_at s) (marked s t k)
-      (single_moved (view_of s) t k.shows.by po od on pn nd nn c at_from there at_to to_is not_inside k.single)
-      (loose_moved (view_of s) t k.shows.by po od on pn nd nn c at_from there at_to to_is not_inside k.single)
-      (λ id. reach_moved (view_of s) t k.shows.by po od on pn nd nn c at_from there at_to to_is not_inside k.single id
-      (λ q r e w. leads_nowhere (view_of s) t k.shows.by pn nd nn at_to none q r id e w))) ordered_moved)
+      (λ x m. ap (λ (v : View). v.step x m) is_view) marks_moved refl refl
+      (marked_same (entry_of s.nodes) moved (marks_of s.nodes) (links t.names) (links after.names) (times_open t) (handle_at s) (marked s t k) bares
+      (λ label. counted_paths nothing label ∙ links_same t.names label new free)) ordered_moved)
 
   -- ---- in the place of another
-  module _ (target : ℕ) (stood_at : entry_of s.nodes nd nn ≡ Some target) (is_bare : option_map_or (λ (it : Node). is_bare_content it.content) (node_in s.nodes target) false ≡ true) where
-    gone : (node : Node) × (node_in s.nodes target ≡ Some node) × (node.names ≡ 1)
+  module _ (target : ℕ) (stood_at : entry_of s.nodes nd nn ≡ Some target) (is_bare : option_map_or (λ (it : Node). is_bare_content it.content) (node_in s.nodes target) false ≡ true) (other : c ≡ target → ⊥) where
+    gone : (node : Node) × (node_in s.nodes target ≡ Some node) × (0 < node.names)
     gone = entry_node s t k nd target nn stood_at
 
     bare : IsBare (entry_of s.nodes) target
     bare = bare_at s.nodes target is_bare
 
-    -- the two entries lead to two nodes
-    other : c ≡ target → ⊥
-    other e =
-        let same = k.single od nd target on nn (there ∙ ap Some e) stood_at in
-        apart s t k.shows po od on pn nd nn c from.0 to.0 to.1 at_from from.1 there at_to to.2 to.3 not_inside k.entries nd nn
-        (ap (λ (b : Bool). b && same_name on nn) (eq-eqb od nd same.0) ∙ ap (λ (z : Name). same_name z nn) same.1 ∙ same_name_itself nn)
-        (ap (λ (b : Bool). b && same_name nn nn) (eq-eqb nd nd refl) ∙ same_name_itself nn)
+    nothing : (name : Name) (rest : Path) → label_at t.names (new ++ name ∷ rest) ≡ None
+    nothing name rest =
+        k.shows.by.names (new ++ name ∷ rest) ∙ ap (option_and_then (label_by (view_of s).shown))
+        (below_new name rest ∙ ap (option_and_then (λ y. walk (entry_of s.nodes) y (name ∷ rest))) stood_at ∙ ap (option_and_then (λ y. walk (entry_of s.nodes) y rest)) (bare name))
 
-    lone : Loose moved s.root target
-    lone = loose_replaced (view_of s) t k.shows.by po od on pn nd nn c at_from there at_to to_is not_inside k.single target stood_at bare other
+    at_new : label_at t.names new ≡ Some gone.0.label
+    at_new = path_label s t k new target gone.0 gone.1 (one_more (view_of s) t k.shows pn nd nn at_to ∙ stood_at)
+
+    own : gone.0.names - 1 ≡ links after.names gone.0.label
+    own = omega (arith, k.linked target gone.0 gone.1, counted_paths nothing gone.0.label, links_less t.names gone.0.label new gone.0.label at_new, is_link_itself gone.0.label)
 
     shows_there : Shows (view_of (relinked s od on nd nn)) after
-    shows_there = elim (nat_eq gone.0.opens 0) as (λ b. nat_eq gone.0.opens 0 ≡ b → Shows (view_of (relinked s od on nd nn)) after) [
-      | true ↦ λ e. shows_relinked_gone s t k.shows po od on pn nd nn c from.0 to.0 to.1 at_from from.1 there at_to to.2 to.3 not_inside k.entries target gone.0 stood_at gone.1 gone.2 bare lone.free
-          (closed_label s t k gone.0.label (sym (k.counted target gone.0 gone.1) ∙ eqb-true gone.0.opens 0 e)) e
-      | false ↦ λ e.
-          let o = opener s t k gone.0.label (ap (λ (x : ℕ). nat_eq x 0) (sym (k.counted target gone.0 gone.1)) ∙ e) in
-          shows_relinked_open s t k.shows po od on pn nd nn c from.0 to.0 to.1 at_from from.1 there at_to to.2 to.3 not_inside k.entries target gone.0 stood_at gone.1 gone.2 bare o.session o.number o.handle o.opens o.same e
+    shows_there = elim (is_unused (without_name gone.0)) as (λ b. is_unused (without_name gone.0) ≡ b → Shows (view_of (relinked s od on nd nn)) after) [
+      | true ↦ λ e.
+          let none = both_zero (gone.0.names - 1) gone.0.opens e in
+          shows_relinked_gone s t k.shows po od on pn nd nn c from.0 to.0 to.1 at_from from.1 there at_to to.2 to.3 not_inside k.entries target gone.0 stood_at gone.1 bare
+          (none_replaced (entry_of s.nodes) od on nd nn c target (one_entry s t k target gone.0 gone.1 (omega (arith, gone.2, none.0))) stood_at other)
+          (closed_label s t k gone.0.label (sym (k.counted target gone.0 gone.1) ∙ none.1)) e
+      | false ↦ λ e. shows_relinked_used s t k.shows po od on pn nd nn c from.0 to.0 to.1 at_from from.1 there at_to to.2 to.3 not_inside k.entries target gone.0 stood_at gone.1 bare
+          (used_still s t k after.names target (gone.0.names - 1) gone.0 gone.1 own e) e
     ] refl
 
     pub keeps_replaced : Keeps (relinked s od on nd nn) (changed t (Move (po ++ on ∷ []) (pn ++ nn ∷ [])))
     keeps_replaced =
-        let is = is_relinked s t k.shows po od on pn nd nn c from.0 to.0 to.1 at_from from.1 there at_to to.2 to.3 not_inside k.entries target gone.0 stood_at gone.1 gone.2 bare in
+        let is = is_relinked s t k.shows po od on pn nd nn c from.0 to.0 to.1 at_from from.1 there at_to to.2 to.3 not_inside k.entries target gone.0 stood_at gone.1 bare in
         subst (λ (x : StoreState). Keeps x after) (sym is)
         (keeps_forgotten s (moved_entry s (spot od on) (spot nd nn) c) t after moved target gone.0 k
-        (target_there s t k.shows po od on pn nd nn c from.0 to.0 to.1 at_from from.1 there at_to to.2 to.3 not_inside k.entries target gone.0 stood_at gone.1 gone.2 bare) gone.2 ordered_moved
+        (target_there s t k.shows po od on pn nd nn c from.0 to.0 to.1 at_from from.1 there at_to to.2 to.3 not_inside k.entries target gone.0 stood_at gone.1 bare) ordered_moved
         (λ x m. ap (λ (v : View). v.step x m) is_view)
-        marks_moved refl refl
-        (single_moved (view_of s) t k.shows.by po od on pn nd nn c at_from there at_to to_is not_inside k.single)
-        (loose_moved (view_of s) t k.shows.by po od on pn nd nn c at_from there at_to to_is not_inside k.single)
-        lone
-        (λ id no. reach_moved (view_of s) t k.shows.by po od on pn nd nn c at_from there at_to to_is not_inside k.single id
-        (λ q r e w. same_apart target id no (ends_there (view_of s) t k.shows.by pn nd nn at_to target stood_at bare q r id e w)))
-        refl (subst (λ (x : StoreState). Shows (view_of x) after) is shows_there))
+        marks_moved refl
+        (bare_moved (entry_of s.nodes) od on nd nn c target (bare_apart (entry_of s.nodes) nd target nn target stood_at bare) bare) bares
+        (λ label apart. omega (arith, counted_paths nothing label, links_less t.names label new gone.0.label at_new, is_link_other label gone.0.label (λ same. apart (sym same))))
+        own refl (subst (λ (x : StoreState). Shows (view_of x) after) is shows_there))

@@ -1,12 +1,13 @@
 -- What a store keeps after an entry was put in or taken out.
-use Rattle.std.specs.Prelude.{◌≡◌, ℕ, nat_eq, true, false, cond, ◌&&◌, List, [], ◌∷◌, ◌++◌, option_map, option_and_then, is_some, Option, Some, None, refl}
+use Rattle.std.specs.Prelude.{◌≡◌, ℕ, ◌-◌, nat_eq, true, false, cond, ◌&&◌, List, [], ◌∷◌, ◌++◌, option_map, option_and_then, is_some, Option, Some, None, refl}
 use Rattle.std.specs.Option.{option_map_or}
-use Rattle.std.proofs.Common.{sym, ap, subst, ◌∙◌, eqb-true}
+use Rattle.std.proofs.Common.{sym, ap, subst, ◌∙◌, eqb-true, arith}
 use Rattle.std.specs.Map.{lookup}
 use Rattle.sf_path.specs.Names.{Name, Path}
 use Rattle.sf_path.specs.Order.{same_name}
 use Rattle.sf_call.specs.Attributes.{Object}
-use Rattle.sf_call.specs.Tree.{Tree, directory_metadata, object_of}
+use Rattle.sf_call.specs.Tree.{Tree, directory_metadata, object_of, links}
+use Rattle.sf_call.proofs.Laws.{links_more, links_less, is_link_itself, is_link_other, none_linked}
 use Rattle.sf_call.specs.Changes.{changed}
 use Rattle.sf_call.specs.Changes.Change.{NewPath, GonePath}
 use Rattle.sf_call.specs.declared.metadata.FileType.{FileType}
@@ -15,19 +16,35 @@ use Rattle.sf_inode.specs.declared.node.Node.{Node}
 use Rattle.sf_inode.specs.declared.node.NewNode.{NewNode}
 use Rattle.sf_inode.specs.declared.node.Content.{Content}
 use Rattle.sf_inode.specs.declared.node.Content.TheVariants as content
-use Rattle.sf_inode.specs.Nodes.{entry_in, object_in, is_directory_content, is_bare_content, new_content, new_node, more_content, less_content, with_content}
+use Rattle.sf_inode.specs.Nodes.{entry_in, object_in, is_directory_content, is_bare_content, new_content, new_node, more_content, less_content, with_content, without_name, is_unused}
 use Rattle.sf_keeps.specs.Steps.{walk, changed_step}
 use Rattle.sf_keeps.specs.Shows.{View, Shows, is_directory_by}
 use Rattle.sf_inode.specs.Stores.{StoreState, node_in, entry_of, shown_node, shown_of, handle_at, entry_put, entry_taken, forgotten, unlinked, unlinked_from, Inserted, new_entry}
 use Rattle.sf_keeps.specs.Keeps.{view_of, Keeps, times_open}
-use Rattle.sf_keeps.proofs.Sound.{directory_there}
+use Rattle.sf_keeps.proofs.Sound.{IsBare}
 use Rattle.sf_keeps.proofs.Shown.{nat_eq_apart, same_apart}
-use Rattle.sf_keeps.proofs.StoreLaws.{node_in-edited, step_changed, more_says, view_taken, shows_inserted, shows_unlinked_gone, shows_unlinked_open}
-use Rattle.sf_keeps.proofs.Openings.{closed_label, opener, entry_node, unopened}
-use Rattle.sf_keeps.proofs.Counted.{Loose, Mark, mark_of, marks_of, marked, keeps_marked}
-use Rattle.sf_keeps.proofs.CountedSteps.{single_less, loose_less, none_left, bare_less, bare_apart, reach_less, marked_new}
-use Rattle.sf_keeps.proofs.Forgotten.{directory_at, entry_above, bare_at, keeps_forgotten, marks_entries, in_order_entries}
+use Rattle.sf_keeps.proofs.StoreLaws.{node_in-edited, step_changed, more_says, view_taken, shows_inserted, shows_unlinked_gone, shows_unlinked_used}
+use Rattle.sf_keeps.proofs.Openings.{closed_label, entry_node, unopened, both_zero, path_label, path_named, one_entry, used_still, labelled_object, object_there}
+use Rattle.sf_keeps.proofs.Whole.{one_more, free_name}
+use Rattle.sf_keeps.proofs.Counted.{Mark, mark_of, mark_same, marks_of, marked, keeps_marked}
+use Rattle.sf_keeps.proofs.CountedSteps.{none_left, bare_less, bare_apart, marked_new}
+use Rattle.sf_keeps.proofs.Forgotten.{directory_at, entry_above, bare_at, mark_node, keeps_forgotten, marks_entries, in_order_entries}
 use Rattle.sf_keeps.proofs.InOrder.{InOrder, IsInOrder, node_in_order, in_order_put, less_in_order, more_in_order}
+
+-- a node that a path leads to is not one without a name
+pub away : (s : StoreState) (t : Tree) (k : Keeps s t) (p : Path) (d : ℕ) (above : Node) → walk (entry_of s.nodes) s.root p ≡ Some d → node_in s.nodes d ≡ Some above
+    → (id l o : ℕ) → marks_of s.nodes id ≡ Some (l, 0, o) → nat_eq d id ≡ false
+away s t k p d above at here id l o e = nat_eq_apart d id (λ same.
+    let is : ◌≡◌ {A = Mark} (mark_of above) (l, 0, o) = mark_same (mark_of above) (l, 0, o) (sym (ap (option_map mark_of) here) ∙ ap (marks_of s.nodes) same ∙ e) in
+    let none : above.names ≡ 0 = ap (λ (z : Mark). z.1) is in
+    absurd (omega (arith, path_named s t k p d above here at, none)))
+
+-- a node's label has an object
+labelled_node : (s : StoreState) (t : Tree) (k : Keeps s t) (id l b o : ℕ) → marks_of s.nodes id ≡ Some (l, b, o) → object_of t.objects l ≡ None → ⊥
+labelled_node s t k id l b o e none =
+    let w = mark_node s.nodes id (l, b, o) e in
+    let some = object_there s t k id w.0 w.1 in
+    let gone : object_of t.objects w.0.label ≡ None = ap (object_of t.objects) (ap (λ (z : Mark). z.0) w.2) ∙ none in cc
 
 -- ---- an entry taken out
 pub keeps_unlinked : (s : StoreState) (t : Tree) (p : Path) (d : ℕ) (n : Name) (c : ℕ) → Keeps s t → walk (entry_of s.nodes) s.root p ≡ Some d → entry_of s.nodes d n ≡ Some c
@@ -42,20 +59,24 @@ keeps_unlinked s t p d n c k at there is_bare =
     let mid = entry_taken s d n in
     let here : node_in mid.nodes c ≡ Some node.0 =
     node_in-edited (with_content (less_content n)) s d above.0 above.1 c ∙ ap (λ b. cond b (Some (with_content (less_content n) above.0)) (node_in s.nodes c)) (bare_apart (entry_of s.nodes) d c n c there bare) ∙ node.1 in
+    let at_path = path_label s t k (p ++ n ∷ []) c node.0 node.1 (one_more (view_of s) t k.shows p d n at ∙ there) in
+    let own : node.0.names - 1 ≡ links after.names node.0.label =
+    omega (arith, k.linked c node.0 node.1, links_less t.names node.0.label (p ++ n ∷ []) node.0.label at_path, is_link_itself node.0.label) in
     let shows : Shows (view_of (unlinked s d n)) after =
-    elim (nat_eq node.0.opens 0) as (λ b. nat_eq node.0.opens 0 ≡ b → Shows (view_of (unlinked s d n)) after) [
-      | true ↦ λ e. shows_unlinked_gone s t k.shows p d n c above.0 node.0 ordered at above.1 there node.1 node.2 bare (none_left (entry_of s.nodes) d n c k.single there)
-          (closed_label s t k node.0.label (sym (k.counted c node.0 node.1) ∙ eqb-true node.0.opens 0 e)) e
-      | false ↦ λ e.
-          let o = opener s t k node.0.label (ap (λ (x : ℕ). nat_eq x 0) (sym (k.counted c node.0 node.1)) ∙ e) in
-          shows_unlinked_open s t k.shows p d n c above.0 node.0 ordered at above.1 there node.1 node.2 bare o.session o.number o.handle o.opens o.same e
+    elim (is_unused (without_name node.0)) as (λ b. is_unused (without_name node.0) ≡ b → Shows (view_of (unlinked s d n)) after) [
+      | true ↦ λ e.
+          let none = both_zero (node.0.names - 1) node.0.opens e in
+          shows_unlinked_gone s t k.shows p d n c above.0 node.0 ordered at above.1 there node.1 bare
+          (none_left (entry_of s.nodes) d n c (one_entry s t k c node.0 node.1 (omega (arith, node.2, none.0))) there)
+          (closed_label s t k node.0.label (sym (k.counted c node.0 node.1) ∙ none.1)) e
+      | false ↦ λ e. shows_unlinked_used s t k.shows p d n c above.0 node.0 ordered at above.1 there node.1 bare (used_still s t k after.names c (node.0.names - 1) node.0 node.1 own e) e
     ] refl in
     let is : unlinked s d n ≡ forgotten mid c = ap (unlinked_from s d n) there in
     subst (λ (x : StoreState). Keeps x after) (sym is)
-    (keeps_forgotten s mid t after step c node.0 k here node.2 (in_order_entries (less_content n) s d above.0 above.1 k.entries (less_in_order n above.0.content ordered)) (λ x m. ap (λ (v : View). v.step x m) (view_taken s d n above.0 ordered above.1)) (marks_entries (less_content n) s d above.0 above.1) refl refl
-    (single_less (entry_of s.nodes) d n k.single) (loose_less (entry_of s.nodes) d n s.root)
-    (record { free = none_left (entry_of s.nodes) d n c k.single there; other = λ e. k.shows.by.sound.top d n (there ∙ ap Some (sym e)); bare = bare_less (entry_of s.nodes) d n c bare })
-    (reach_less (view_of s) t k.shows.by p d n at c there bare) refl (subst (λ (x : StoreState). Shows (view_of x) after) is shows))
+    (keeps_forgotten s mid t after step c node.0 k here (in_order_entries (less_content n) s d above.0 above.1 k.entries (less_in_order n above.0.content ordered)) (λ x m. ap (λ (v : View). v.step x m) (view_taken s d n above.0 ordered above.1)) (marks_entries (less_content n) s d above.0 above.1) refl
+    (bare_less (entry_of s.nodes) d n c bare) (λ id l o e. bare_less (entry_of s.nodes) d n id)
+    (λ l other. omega (arith, links_less t.names l (p ++ n ∷ []) node.0.label at_path, is_link_other l node.0.label (λ same. other (sym same))))
+    own refl (subst (λ (x : StoreState). Shows (view_of x) after) is shows))
 
 -- ---- a new node
 new_bare : (kind : FileType) (m : Name) → entry_in (new_content kind) m ≡ None
@@ -105,14 +126,18 @@ keeps_inserted old new t p d n c made k did at is_dir free fresh =
     let none : lookup (same_name n) w.1 ≡ None = sym (ap (option_and_then (λ (z : Node). entry_in z.content n)) w.2 ∙ ap (λ (z : Content). entry_in z n) w.3) ∙ free in
     let is : is_directory_by (shown_of old.nodes) d ≡ true = ap (λ (v : Option Node). is_some (option_and_then (λ (w : ℕ × Object). directory_metadata w.1) (option_map shown_node v))) w.2 ∙ ap (λ (z : Content). is_some (directory_metadata (object_in w.0.metadata z))) w.3 in
     let gone : shown_of old.nodes c ≡ None = ap (option_map shown_node) did.fresh in
-    let lone : Loose (entry_of old.nodes) old.root c = record {
-      free = λ x m e. k.shows.by.sound.to x c m e gone;
-      other = λ e. directory_there (shown_of old.nodes) old.root k.shows.by.sound.rooted (ap (shown_of old.nodes) e ∙ gone);
-      bare = λ m. ap (option_and_then (λ (z : Node). entry_in z.content m)) did.fresh;
-    } in
-    keeps_marked old new t (changed t (NewPath (p ++ n ∷ []) made.label (object_in made.metadata (new_content made.file_type)))) (changed_step (entry_of old.nodes) d n (Some c))
+    let bare_c : IsBare (entry_of old.nodes) c = λ m. ap (option_and_then (λ (z : Node). entry_in z.content m)) did.fresh in
+    let q : Path = p ++ n ∷ [] in
+    let free_path = free_name (view_of old) t k.shows p d n at free in
+    let after = changed t (NewPath q made.label (object_in made.metadata (new_content made.file_type))) in
+    keeps_marked old new t after (changed_step (entry_of old.nodes) d n (Some c))
     (λ i. cond (nat_eq c i) (Some (made.label, 1, 0)) (marks_of old.nodes i)) k
     (shows_inserted old new t p d n c (new_node made) w.0 w.1 did k.shows at w.2 w.3 none bare fresh)
-    (steps_new old new d n c (new_node made) w.0 w.1 did w.2 w.3 bare) (marks_new old new d n c (new_node made) w.0 w.1 did w.2 w.3 bare) did.root did.sessions refl
-    (marked_new (view_of old) t k.shows.by p d n c made.label (marks_of old.nodes) (times_open t) (handle_at old) (marked old t k) at is free (ap (option_map mark_of) did.fresh) lone (unopened old t k made.label fresh))
+    (steps_new old new d n c (new_node made) w.0 w.1 did w.2 w.3 bare) (marks_new old new d n c (new_node made) w.0 w.1 did w.2 w.3 bare) did.sessions refl
+    (marked_new (entry_of old.nodes) d n c made.label (marks_of old.nodes) (links t.names) (links after.names) (times_open t) (handle_at old) (marked old t k) (ap (option_map mark_of) did.fresh) bare_c
+    (nat_eq_apart d c (λ e. let g = ap (node_in old.nodes) e in let h = did.fresh in let i = w.2 in cc))
+    (away old t k p d w.0 at w.2)
+    (λ id l b o e. omega (arith, links_more t.names l q made.label free_path, is_link_other l made.label (λ same. labelled_node old t k id l b o e (ap (object_of t.objects) (sym same) ∙ fresh))))
+    (omega (arith, links_more t.names made.label q made.label free_path, is_link_itself made.label, none_linked t.names made.label k.shows.ordered.names (λ z e. labelled_object old t k z made.label e fresh)))
+    (unopened old t k made.label fresh))
     (in_order_new old new d n c (new_node made) w.0 w.1 did w.2 w.3 bare k.entries (new_in_order made.file_type))

@@ -24,6 +24,7 @@ pub use Rattle.sf_keeps.proofs.KeepsShown.{keeps_directory, keeps_file, keeps_co
 -- a path more, a path less, a path moved
 pub use Rattle.sf_keeps.proofs.KeepsNames.{keeps_inserted, keeps_unlinked}
 pub use Rattle.sf_keeps.proofs.KeepsMoved.{keeps_moved, keeps_replaced}
+pub use Rattle.sf_keeps.proofs.KeepsLinked.{keeps_linked}
 -- handles found, counted, opened, listed by, closed
 pub use Rattle.sf_keeps.proofs.SessionHandles.{found_node, free_handles, handle_count}
 pub use Rattle.sf_keeps.proofs.Opening.{keeps_opened, keeps_listed}
@@ -32,7 +33,7 @@ pub use Rattle.sf_keeps.proofs.ClosingAll.{keeps_closed_all}
 -- what stays of nodes where a session's handles are closed
 pub use Rattle.sf_keeps.proofs.NodesKept.{nodes_kept, looks_kept, holder_kept, holder_was, directory_kept, way_kept}
 -- a directory's entries and its listing
-pub use Rattle.sf_keeps.proofs.Listings.{path_found, label_listed, nodes_listed, names_listed}
+pub use Rattle.sf_keeps.proofs.Listings.{one_way, path_found, label_listed, nodes_listed, names_listed}
 -- lists of entries in the order of their keys: look-ups after each change; a number's own test
 pub use Rattle.sf_keeps.proofs.Keyed.{lookup-set, lookup-removed}
 pub use Rattle.sf_keeps.proofs.StoreHandles.{at_is}

@@ -21,6 +21,7 @@ pub mod KeepsFirst
 pub mod KeepsEdited
 pub mod Forgotten
 pub mod KeepsNames
+pub mod KeepsLinked
 pub mod KeepsMoved
 pub mod Finding
 pub mod Bare

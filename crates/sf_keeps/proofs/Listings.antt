@@ -11,7 +11,7 @@ use Rattle.sf_path.specs.Order.{same_name, same_path, name_cmp, path_cmp, name_t
 use Rattle.sf_reply.specs.declared.reply.Entry.{Entry}
 use Rattle.sf_call.specs.declared.limits.TheConstants.{MAX_ENTRIES}
 use Rattle.sf_call.specs.Attributes.{Object}
-use Rattle.sf_call.specs.Tree.{Tree, directory_metadata, label_at, object_of}
+use Rattle.sf_call.specs.Tree.{Tree, directory_metadata, label_at, object_of, links}
 use Rattle.sf_call.specs.Listings as listings
 use Rattle.sf_call.specs.Listings.{is_past, name_past, listing, listing_of, names_of, path_of}
 use Rattle.sf_call.proofs.Laws.{exact_names, same_name_itself}
@@ -28,7 +28,8 @@ use Rattle.sf_keeps.proofs.Shown.{once}
 use Rattle.sf_keeps.proofs.Sound.{never_reached}
 use Rattle.sf_keeps.proofs.Less.{led_by, unnamed}
 use Rattle.sf_keeps.proofs.Whole.{one_more}
-use Rattle.sf_keeps.proofs.Openings.{object_there, entry_node, one_name}
+use Rattle.sf_keeps.proofs.Forgotten.{directory_at}
+use Rattle.sf_keeps.proofs.Openings.{object_there, entry_node, some_names, named_path, unnamed_node}
 use Rattle.sf_keeps.proofs.ListedNames.{each_found, past_sorted, past_lookup, with_label, child, child_found, child_sorted}
 
 -- ---- a directory's path
@@ -100,14 +101,14 @@ module _ (s : StoreState) (t : Tree) (k : Keeps s t) (d : ℕ) where
 
     -- what is listed of a label
     abbrev shown_label : Name × ℕ → Option Entry
-    shown_label e = option_map (listings.entry_of e.0) (object_of t.objects e.1)
+    shown_label e = option_map (listings.entry_of e.0 (links t.names e.1)) (object_of t.objects e.1)
 
     abbrev shown_object : Node → Object
     shown_object node = object_in node.metadata node.content
 
     -- its node is there, and the same is listed of the label and of the node
     abbrev IsListed : Name × ℕ → Type 0
-    IsListed e = (node : Node) × (node_in s.nodes e.1 ≡ Some node) × (shown_label (labelled e) ≡ Some (listings.entry_of e.0 (shown_object node)))
+    IsListed e = (node : Node) × (node_in s.nodes e.1 ≡ Some node) × (shown_label (labelled e) ≡ Some (listings.entry_of e.0 node.names (shown_object node)))
 
     past_found : (q : Name) (c : ℕ) → lookup (same_name q) past ≡ Some c → entry_of s.nodes d q ≡ Some c
     past_found q c l =
@@ -121,7 +122,8 @@ module _ (s : StoreState) (t : Tree) (k : Keeps s t) (d : ℕ) where
         let w = entry_node s t k d c q (past_found q c l) in (
           w.0,
           w.1,
-          ap (λ (x : Option Node). option_map (listings.entry_of q) (object_of t.objects (option_map_or (λ (y : Node). y.label) x 0))) w.1 ∙ ap (option_map (listings.entry_of q)) (object_there s t k c w.0 w.1),
+          ap (λ (x : Option Node). shown_label (q, option_map_or (λ (y : Node). y.label) x 0)) w.1 ∙ ap (option_map (listings.entry_of q (links t.names w.0.label))) (object_there s t k c w.0 w.1)
+              ∙ ap (λ (l : ℕ). Some (listings.entry_of q l (shown_object w.0))) (sym (k.linked c w.0 w.1)),
         )
 
     all_listed : AllByRecursion IsListed past
@@ -133,15 +135,15 @@ module _ (s : StoreState) (t : Tree) (k : Keeps s t) (d : ℕ) where
     listed_first (suc n) [] all = refl
     listed_first (suc n) (e ∷ es) all =
         ap (λ (o : Option Entry). take (suc n) (cons_option o (filter_map shown_label (map labelled es)))) all.0.2
-        ∙ ap (λ (xs : List Entry). listings.entry_of e.0 (shown_object all.0.0) ∷ xs) (listed_first n es all.1)
-        ∙ sym (ap (λ (o : Option Node). cons_option (option_map (λ (x : Node). listings.entry_of e.0 (shown_object x)) o) (filter_map (listed_entry s.nodes) (take n es))) all.0.1)
+        ∙ ap (λ (xs : List Entry). listings.entry_of e.0 all.0.0.names (shown_object all.0.0) ∷ xs) (listed_first n es all.1)
+        ∙ sym (ap (λ (o : Option Node). cons_option (option_map (λ (x : Node). listings.entry_of e.0 x.names (shown_object x)) o) (filter_map (listed_entry s.nodes) (take n es))) all.0.1)
 
     first_names : (n : ℕ) (es : List (Name × ℕ)) → AllByRecursion IsListed es → names_of (filter_map (listed_entry s.nodes) (take n es)) ≡ map (λ e. e.0) (take n es)
     first_names zero [] all = refl
     first_names zero (e ∷ es) all = refl
     first_names (suc n) [] all = refl
     first_names (suc n) (e ∷ es) all =
-        ap (λ (o : Option Node). names_of (cons_option (option_map (λ (x : Node). listings.entry_of e.0 (shown_object x)) o) (filter_map (listed_entry s.nodes) (take n es)))) all.0.1
+        ap (λ (o : Option Node). names_of (cons_option (option_map (λ (x : Node). listings.entry_of e.0 x.names (shown_object x)) o) (filter_map (listed_entry s.nodes) (take n es)))) all.0.1
         ∙ ap (λ (xs : List Name). e.0 ∷ xs) (first_names n es all.1)
 
     first_there : (n : ℕ) (es : List (Name × ℕ)) → AllByRecursion IsListed es → AllByRecursion (λ e. (node : Node) × (node_in s.nodes e.1 ≡ Some node)) (take n es)
@@ -183,10 +185,10 @@ module _ (s : StoreState) (t : Tree) (k : Keeps s t) (d : ℕ) where
       by_labels : (names : List (Path × ℕ)) → filter_map (listings.listed_entry t p last) names ≡ filter_map shown_label (filter_map (child last p) names)
       by_labels [] = refl
       by_labels (e ∷ names) =
-          elim (name_past p last e.0) as (λ o. cons_option (option_and_then (λ (n : Name). option_map (listings.entry_of n) (object_of t.objects e.1)) o) (filter_map (listings.listed_entry t p last) names)
+          elim (name_past p last e.0) as (λ o. cons_option (option_and_then (λ (n : Name). option_map (listings.entry_of n (links t.names e.1)) (object_of t.objects e.1)) o) (filter_map (listings.listed_entry t p last) names)
           ≡ filter_map shown_label (cons_option (option_map (with_label e.1) o) (filter_map (child last p) names))) [
             | None ↦ by_labels names
-            | Some n ↦ ap (cons_option (option_map (listings.entry_of n) (object_of t.objects e.1))) (by_labels names)
+            | Some n ↦ ap (cons_option (option_map (listings.entry_of n (links t.names e.1)) (object_of t.objects e.1))) (by_labels names)
           ]
 
       listing_found : listing t last p ≡ filter_map (listed_entry s.nodes) (take MAX_ENTRIES past)
@@ -196,10 +198,18 @@ module _ (s : StoreState) (t : Tree) (k : Keeps s t) (d : ℕ) where
     pub label_listed : (node : Node) → node_in s.nodes d ≡ Some node → is_directory_content node.content ≡ true → listing_of t last (path_of t.names node.label) ≡ filter_map (listed_entry s.nodes) (take MAX_ENTRIES past)
     label_listed node here dir = elim (nat_eq node.names 0) as (λ b. nat_eq node.names 0 ≡ b → listing_of t last (path_of t.names node.label) ≡ filter_map (listed_entry s.nodes) (take MAX_ENTRIES past)) [
       | false ↦ λ e.
-          let w = k.named d node here (one_name node.names (k.once d node here) e) in
+          let w = named_path s t k d node here (some_names node.names e) in
           ap (listing_of t last) (path_found node here w.0 w.1 dir) ∙ listing_found w.0 w.1
       | true ↦ λ e.
-          let u = k.unlinked d node here (eqb-true node.names 0 e) in
+          let u = unnamed_node s t k d node here (eqb-true node.names 0 e) in
           ap (listing_of t last) (no_path node here u)
           ∙ sym (ap (λ (es : List (Name × ℕ)). filter_map (listed_entry s.nodes) (take MAX_ENTRIES (entries_past last es))) (no_entries (entries_at s.nodes d) (λ q. sym (entries_found q) ∙ u.bare q)))
     ] refl
+
+-- one path alone leads to a directory
+pub one_way : (s : StoreState) (t : Tree) (k : Keeps s t) (p q : Path) (d : ℕ) → walk (entry_of s.nodes) s.root p ≡ Some d → walk (entry_of s.nodes) s.root q ≡ Some d → is_directory_at s.nodes d ≡ true → p ≡ q
+one_way s t k p q d to_p to_q dir =
+    let w = directory_at s.nodes d dir in
+    let is : is_directory_by (view_of s).shown d ≡ true =
+    ap (λ (v : Option Node). is_some (option_and_then (λ (x : ℕ × Object). directory_metadata x.1) (option_map shown_node v))) w.2 ∙ ap (λ c. is_some (directory_metadata (object_in w.0.metadata c))) w.3 in
+    once (view_of s) t k.shows.by q d is to_q p to_p

@@ -25,7 +25,7 @@ use Rattle.sf_keeps.proofs.Handled.{shows_open, shows_listed}
 use Rattle.sf_keeps.proofs.StoreLaws.{node_in-edited, view_unseen}
 use Rattle.sf_keeps.proofs.StoreHandles.{HandleSet, put_handle_set, listed_set, view_set}
 use Rattle.sf_keeps.proofs.Counts.{opened_times, set_times, few_handles}
-use Rattle.sf_keeps.proofs.Alike.{AreAlike, single_alike, unlinked_alike, named_alike, once_alike, counted_alike, counted_now, counted_there}
+use Rattle.sf_keeps.proofs.Alike.{AreAlike, linked_alike, bare_alike, counted_alike, counted_now, counted_there}
 
 -- ---- a handle opened
 module _ (s : StoreState) (t : Tree) (k : Keeps s t) (session number id : ℕ) (marks : Marks) (node : Node)
@@ -93,10 +93,8 @@ module _ (s : StoreState) (t : Tree) (k : Keeps s t) (session number id : ℕ) (
       shows = subst (λ (v : View). Shows v after) (sym (view_unseen more mid id node here (λ m. refl) refl ∙ view_set s new session number (Some own) set))
           (shows_open (view_of s) t k.shows number shown (λ a. sym (k.shows.by.handles a number) ∙ ap (option_and_then (if_of a)) free));
       entries = alike.ordered k.entries;
-      single = single_alike s t k (edited more mid id) refl alike;
-      unlinked = unlinked_alike s t k (edited more mid id) refl alike;
-      named = named_alike s t k (edited more mid id) refl alike;
-      once = once_alike s t k (edited more mid id) refl alike;
+      linked = linked_alike s t k (edited more mid id) alike;
+      bare = bare_alike s t k (edited more mid id) alike;
       counted = counted_now s t k id (more node).opens node here nodes put after counted others;
       led = led_after;
       sessions = set.sessions;
@@ -130,9 +128,6 @@ module _ (s : StoreState) (t : Tree) (k : Keeps s t) (session number : ℕ) (h :
         | false ↦ λ b f. k.numbers q x f
       ] refl (sym (lookup-set nat_cmp nat_cmp_total t.handles number set_handle q (subst (λ o. IsSome o) (sym there) refl)) ∙ e)
 
-  same_alike : AreAlike s.nodes s.nodes
-  same_alike = record { steps = λ x m. refl; back = λ i x e. record { node = x; there = e; label = refl; named = refl }; ordered = λ h. h }
-
   module _ (new : List (ℕ × List (ℕ × OpenHandle))) (set : HandleSet s new session number (Some (with_last name h))) where
     led_listed : (a b : ℕ) (x : OpenHandle) → handle_at (with_sessions s new) a b ≡ Some x → (y : Node) × ((node_in s.nodes x.node ≡ Some y) × (y.label ≡ x.label))
     led_listed a b x e =
@@ -147,10 +142,8 @@ module _ (s : StoreState) (t : Tree) (k : Keeps s t) (session number : ℕ) (h :
     keeps_set = record {
       shows = subst (λ (v : View). Shows v listed) (sym (view_set s new session number (Some (with_last name h)) set)) (shows_listed (view_of s) t k.shows session number (shown_handle session h) opens set_handle refl refl);
       entries = k.entries;
-      single = k.single;
-      unlinked = unlinked_alike s t k (with_sessions s new) refl same_alike;
-      named = k.named;
-      once = k.once;
+      linked = k.linked;
+      bare = k.bare;
       counted = λ i x e. k.counted i x e ∙ sym (set_times t number (shown_handle session h) x.label set_handle there refl);
       led = led_listed;
       sessions = set.sessions;

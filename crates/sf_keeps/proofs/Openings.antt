@@ -1,20 +1,25 @@
 -- What opens a node of a kept store, and what names it.
-use Rattle.std.specs.Prelude.{◌≡◌, ℕ, zero, suc, ◌+◌, ◌≤◌, nat_eq, Bool, true, false, cond, ◌||◌, List, [], ◌∷◌, option_map, Some, None, refl}
-use Rattle.std.proofs.Common.{sym, ap, ◌∙◌, arith, eqb-true}
+use Rattle.std.specs.Prelude.{◌≡◌, ℕ, zero, suc, ◌+◌, ◌<◌, nat_eq, Bool, true, false, cond, ◌&&◌, ◌||◌, List, [], ◌∷◌, ◌++◌, length, option_map, option_and_then, Option, Some, None, refl}
+use Rattle.std.proofs.Common.{sym, ap, subst, ◌∙◌, arith, eqb-true, length-append}
 use Rattle.std.specs.List.{list_any, count_by}
 use Rattle.std.proofs.lemmas.List.Sums.{sum_by-cons}
 use Rattle.std.specs.Ordering.{nat_cmp}
 use Rattle.std.specs.Cmp.{nat_cmp_total}
-use Rattle.sf_path.specs.Names.{Name}
+use Rattle.sf_path.specs.Names.{Name, Path}
 use Rattle.sf_call.specs.declared.handle.Handle.{Handle}
-use Rattle.sf_call.specs.Tree.{Tree, object_of}
+use Rattle.sf_call.specs.Attributes.{Object}
+use Rattle.sf_call.specs.Tree.{Tree, object_of, label_at, links, is_used}
+use Rattle.sf_call.proofs.Laws.{linked_path, named_linked, only_path}
 use Rattle.sf_inode.specs.declared.node.Node.{Node}
 use Rattle.sf_inode.specs.declared.handle.OpenHandle.{OpenHandle}
-use Rattle.sf_inode.specs.Nodes.{object_in}
+use Rattle.sf_inode.specs.Nodes.{object_in, entry_in}
+use Rattle.sf_keeps.specs.Steps.{walk}
+use Rattle.sf_keeps.specs.Shows.{label_by}
 use Rattle.sf_inode.specs.Stores.{StoreState, node_in, entry_of, handle_at, shown_node, shown_handle}
-use Rattle.sf_keeps.specs.Keeps.{view_of, Keeps, times_open}
+use Rattle.sf_keeps.specs.Keeps.{view_of, Keeps, IsUnlinked, times_open}
 use Rattle.sf_keeps.proofs.Keyed.{lookup_any}
-use Rattle.sf_keeps.proofs.Less.{is_opened, IsClosed, handle_here, opened_by}
+use Rattle.sf_keeps.proofs.Less.{is_opened, IsClosed, handle_here, opened_by, led_by}
+use Rattle.sf_keeps.proofs.Whole.{or_true, or_right, one_more}
 
 -- what passes a test is counted
 pub any_counted : {X : Type 0} (f : X → Bool) (es : List X) → list_any f es ≡ true → count_by f es ≡ 0 → ⊥
@@ -34,10 +39,33 @@ none_counted f (e ∷ es) a =
       | false ↦ λ a. omega (arith, none_counted f es a)
     ] a
 
--- a name at most that is not none
-pub one_name : (n : ℕ) → n ≤ 1 → nat_eq n 0 ≡ false → n ≡ 1
-one_name zero h e = cc
-one_name (suc n) h e = omega (arith, h)
+-- a name or more
+pub some_names : (n : ℕ) → nat_eq n 0 ≡ false → 0 < n
+some_names zero e = cc
+some_names (suc n) e = omega arith
+
+-- what is named so often is named
+pub linked_named : (names : List (Path × ℕ)) (label : ℕ) → 0 < links names label → list_any (λ e. nat_eq e.1 label) names ≡ true
+linked_named names label some = elim (list_any (λ e. nat_eq e.1 label) names) as (λ b. list_any (λ e. nat_eq e.1 label) names ≡ b → b ≡ true) [
+  | true ↦ λ e. refl
+  | false ↦ λ e. let none = none_counted (λ (e : Path × ℕ). nat_eq e.1 label) names e in absurd (omega (arith, some, none))
+] refl
+
+pub both_zero : (names n : ℕ) → nat_eq names 0 && nat_eq n 0 ≡ true → (names ≡ 0) × (n ≡ 0)
+both_zero names n = elim (nat_eq names 0) as (λ b. nat_eq names 0 ≡ b → b && nat_eq n 0 ≡ true → (names ≡ 0) × (n ≡ 0)) [
+  | true ↦ λ none e. (eqb-true names 0 none, eqb-true n 0 e)
+  | false ↦ λ none e. cc
+] refl
+
+-- paths that end by a name
+pub last_same : (p q : Path) (n m : Name) → p ++ n ∷ [] ≡ q ++ m ∷ [] → (p ≡ q) × (n ≡ m)
+last_same [] [] n m e = (refl, cc)
+last_same [] (b ∷ q) n m e = let lengths = ap (λ (x : Path). length x) e in absurd (omega (arith, lengths, length-append q (m ∷ [])))
+last_same (a ∷ p) [] n m e = let lengths = ap (λ (x : Path). length x) e in absurd (omega (arith, lengths, length-append p (n ∷ [])))
+last_same (a ∷ p) (b ∷ q) n m e =
+    let head : a ≡ b = cc in
+    let tail : p ++ n ∷ [] ≡ q ++ m ∷ [] = cc in
+    let rest = last_same p q n m tail in (λ i. head i ∷ rest.0 i, rest.1)
 
 -- a handle of the label
 pub record Opener (s : StoreState) (label : ℕ) : Type 0 where
@@ -83,20 +111,84 @@ module _ (s : StoreState) (t : Tree) (k : Keeps s t) where
   pub object_there : (i : ℕ) (x : Node) → node_in s.nodes i ≡ Some x → object_of t.objects x.label ≡ Some (object_in x.metadata x.content)
   object_there i x at = k.shows.by.objects i x.label (object_in x.metadata x.content) (ap (option_map shown_node) at)
 
-  -- an entry leads to a node that has one
-  pub entry_node : (x c : ℕ) (n : Name) → entry_of s.nodes x n ≡ Some c → (node : Node) × (node_in s.nodes c ≡ Some node) × (node.names ≡ 1)
+  -- a path that leads to a node has its label
+  pub path_label : (path : Path) (id : ℕ) (node : Node) → node_in s.nodes id ≡ Some node → walk (entry_of s.nodes) s.root path ≡ Some id → label_at t.names path ≡ Some node.label
+  path_label path id node here at =
+      k.shows.by.names path ∙ ap (option_and_then (label_by (view_of s).shown)) at ∙ ap (λ (o : Option Node). option_map (λ (x : ℕ × Object). x.0) (option_map shown_node o)) here
+
+  -- a path leads to a node with a name, and a node that a path leads to has one
+  pub named_path : (id : ℕ) (node : Node) → node_in s.nodes id ≡ Some node → 0 < node.names → (path : Path) × (walk (entry_of s.nodes) s.root path ≡ Some id)
+  named_path id node here some =
+      let w = linked_path t.names node.label k.shows.ordered.names (subst (λ (n : ℕ). 0 < n) (k.linked id node here) some) in
+      (w.0, led_by (view_of s) t k.shows.by id node.label (object_in node.metadata node.content) (ap (option_map shown_node) here) w.0 w.1)
+
+  pub path_named : (path : Path) (id : ℕ) (node : Node) → node_in s.nodes id ≡ Some node → walk (entry_of s.nodes) s.root path ≡ Some id → 0 < node.names
+  path_named path id node here at = subst (λ (n : ℕ). 0 < n) (sym (k.linked id node here)) (named_linked t.names path node.label (path_label path id node here at))
+
+  -- a path leads to where an entry stands
+  pub entry_path : (x c : ℕ) (n : Name) → entry_of s.nodes x n ≡ Some c → (path : Path) × (walk (entry_of s.nodes) s.root path ≡ Some x)
+  entry_path x c n there =
+      elim (node_in s.nodes x) as (λ o. node_in s.nodes x ≡ o → option_and_then (λ (z : Node). entry_in z.content n) o ≡ Some c → (path : Path) × (walk (entry_of s.nodes) s.root path ≡ Some x)) [
+        | None ↦ λ e f. absurd (cc)
+        | Some node ↦ λ e f. elim (nat_eq node.names 0) as (λ b. nat_eq node.names 0 ≡ b → (path : Path) × (walk (entry_of s.nodes) s.root path ≡ Some x)) [
+          | true ↦ λ g. let none = k.bare x node e (eqb-true node.names 0 g) n in absurd (cc)
+          | false ↦ λ g. named_path x node e (some_names node.names g)
+        ] refl
+      ] refl there
+
+  -- an entry leads to a node that has a name
+  pub entry_node : (x c : ℕ) (n : Name) → entry_of s.nodes x n ≡ Some c → (node : Node) × (node_in s.nodes c ≡ Some node) × (0 < node.names)
   entry_node x c n there =
-      elim (node_in s.nodes c) as (λ o. node_in s.nodes c ≡ o → (node : Node) × (o ≡ Some node) × (node.names ≡ 1)) [
+      elim (node_in s.nodes c) as (λ o. node_in s.nodes c ≡ o → (node : Node) × (o ≡ Some node) × (0 < node.names)) [
         | None ↦ λ e. absurd (k.shows.by.sound.to x c n there (ap (option_map shown_node) e))
-        | Some node ↦ λ e. (
-          node,
-          refl,
-          elim (nat_eq node.names 0) as (λ b. nat_eq node.names 0 ≡ b → node.names ≡ 1) [
-            | true ↦ λ f. absurd ((k.unlinked c node e (eqb-true node.names 0 f)).free x n there)
-            | false ↦ λ f. one_name node.names (k.once c node e) f
-          ] refl,
-        )
+        | Some node ↦ λ e. let p = entry_path x c n there in (node, refl, path_named (p.0 ++ n ∷ []) c node e (one_more (view_of s) t k.shows p.0 x n p.1 ∙ there))
       ] refl
+
+  -- a node without a name
+  pub unnamed_node : (id : ℕ) (node : Node) → node_in s.nodes id ≡ Some node → node.names ≡ 0 → IsUnlinked s id
+  unnamed_node id node here none = record {
+    free = λ x n e.
+        let w = entry_node x id n e in
+        let two : Some w.0 ≡ Some node = sym w.1 ∙ here in
+        let same : w.0 ≡ node = cc in
+        let zero : w.0.names ≡ 0 = ap (λ (y : Node). y.names) same ∙ none in
+        absurd (omega (arith, w.2, zero));
+    other = λ e. absurd (omega (arith, path_named [] id node here (ap Some e), none));
+    bare = k.bare id node here none;
+  }
+
+  -- one entry alone leads to a node with one name
+  pub one_entry : (c : ℕ) (node : Node) → node_in s.nodes c ≡ Some node → node.names ≡ 1 → (x y : ℕ) (n m : Name) → entry_of s.nodes x n ≡ Some c → entry_of s.nodes y m ≡ Some c → (x ≡ y) × (n ≡ m)
+  one_entry c node here one x y n m a b =
+      let p = entry_path x c n a in
+      let q = entry_path y c m b in
+      let same = only_path t.names node.label (p.0 ++ n ∷ []) (q.0 ++ m ∷ []) (sym (k.linked c node here) ∙ one)
+      (path_label (p.0 ++ n ∷ []) c node here (one_more (view_of s) t k.shows p.0 x n p.1 ∙ a)) (path_label (q.0 ++ m ∷ []) c node here (one_more (view_of s) t k.shows q.0 y m q.1 ∙ b)) in
+      let parts = last_same p.0 q.0 n m same in
+      let led : Some x ≡ Some y = sym p.1 ∙ ap (walk (entry_of s.nodes) s.root) parts.0 ∙ q.1 in
+      (cc, parts.1)
+
+  -- what is not unused is named or open
+  pub used_still : (names : List (Path × ℕ)) (c count : ℕ) (node : Node) → node_in s.nodes c ≡ Some node → count ≡ links names node.label → nat_eq count 0 && nat_eq node.opens 0 ≡ false → is_used names t.handles node.label ≡ true
+  used_still names c count node here own kept =
+      elim (nat_eq count 0) as (λ b. nat_eq count 0 ≡ b → b && nat_eq node.opens 0 ≡ false → is_used names t.handles node.label ≡ true) [
+        | false ↦ λ e _. or_true (list_any (λ e. nat_eq e.1 node.label) names) (is_opened t node.label) (linked_named names node.label (subst (λ (n : ℕ). 0 < n) own (some_names count e)))
+        | true ↦ λ e some. or_right (list_any (λ e. nat_eq e.1 node.label) names) (is_opened t node.label) (label_opened node.label (ap (λ (n : ℕ). nat_eq n 0) (sym (k.counted c node here)) ∙ some))
+      ] refl kept
+
+  -- a path's label has an object
+  pub labelled_object : (q : Path) (label : ℕ) → label_at t.names q ≡ Some label → object_of t.objects label ≡ None → ⊥
+  labelled_object q label at none =
+      elim (walk (entry_of s.nodes) s.root q) as (λ w. option_and_then (label_by (view_of s).shown) w ≡ Some label → ⊥) [
+        | None ↦ λ e. cc
+        | Some y ↦ elim (node_in s.nodes y) as (λ o. node_in s.nodes y ≡ o → option_map (λ (x : ℕ × Object). x.0) (option_map shown_node o) ≡ Some label → ⊥) [
+          | None ↦ λ e f. cc
+          | Some node ↦ λ e f.
+              let same : node.label ≡ label = cc in
+              let some = object_there y node e in
+              let gone : object_of t.objects node.label ≡ None = ap (object_of t.objects) same ∙ none in cc
+        ] refl
+      ] (sym (k.shows.by.names q) ∙ at)
 
   -- a label without an object opens nowhere
   pub unopened : (label : ℕ) → object_of t.objects label ≡ None → times_open t label ≡ 0

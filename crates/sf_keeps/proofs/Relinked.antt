@@ -214,12 +214,10 @@ module _ (view : View) (t : Tree) (h : Shows view t) (po : Path) (on : Name) (fr
       used = kept_used moved_tree;
     }
 
-    -- a handle opens it
-    pub shows_replaced_open : (session number : ℕ) (handle : Handle) → view.opens session number ≡ Some handle → handle.label ≡ label → Shows relinked_view (changed t (Move old new))
-    shows_replaced_open session number handle opens same =
-        let opened : is_opened t label ≡ true = ap (is_opened t) (sym same) ∙ opened_by view t h.by session number handle opens in
-        record {
-          by = shows_kept_used relinked_view moved_tree by_moved ordered_moved target label o is others_moved (or_right (is_named moved_tree label) (is_opened t label) opened);
-          ordered = ordered_changed t (Move old new) h.ordered;
-          used = kept_used moved_tree;
-        }
+    -- something else names or opens it
+    pub shows_replaced_used : is_used moved_tree.names t.handles label ≡ true → Shows relinked_view (changed t (Move old new))
+    shows_replaced_used used = record {
+      by = shows_kept_used relinked_view moved_tree by_moved ordered_moved target label o is others_moved used;
+      ordered = ordered_changed t (Move old new) h.ordered;
+      used = kept_used moved_tree;
+    }

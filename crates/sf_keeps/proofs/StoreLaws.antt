@@ -1,13 +1,14 @@
 -- What can be seen of a store after each change of its nodes.
 use Rattle.std.specs.Prelude.{◌≡◌, ℕ, suc, zero, ◌-◌, ◌<◌, nat_eq, Bool, true, false, cond, ◌&&◌, List, [], ◌∷◌, ◌++◌, length, is_some, option_map, option_and_then, Option, Some, None, slice_set, refl}
 use Rattle.std.proofs.Common.{sym, ap, subst, ◌∙◌, eqb-true, eq-eqb, arith, get_or-set_same, get_or-set_other}
-use Rattle.std.specs.Map.{lookup}
+use Rattle.std.specs.Map.{lookup, remove_entry}
+use Rattle.std.specs.BTreeMap.{is_at}
 use Rattle.sf_path.specs.Names.{Name, Path}
-use Rattle.sf_path.specs.Order.{same_name, name_cmp, name_total}
+use Rattle.sf_path.specs.Order.{same_name, name_cmp, path_cmp, name_total}
 use Rattle.sf_call.specs.declared.handle.Handle.{Handle}
 use Rattle.sf_call.specs.declared.metadata.Metadata.{Metadata}
 use Rattle.sf_call.specs.Attributes.{Object}
-use Rattle.sf_call.specs.Tree.{Tree, directory_metadata, object_of}
+use Rattle.sf_call.specs.Tree.{Tree, directory_metadata, object_of, is_used}
 use Rattle.sf_call.specs.Changes.{changed}
 use Rattle.sf_call.specs.Changes.Change.{SetObject, NewPath, GonePath}
 use Rattle.sf_call.proofs.Laws.{same_name_is, same_name_itself, lookup-put}
@@ -25,7 +26,7 @@ use Rattle.sf_keeps.proofs.InOrder.{IsInOrder}
 use Rattle.sf_keeps.proofs.Sound.{HasNoEntry, IsBare}
 use Rattle.sf_keeps.proofs.Shown.{nat_eq_apart, same_apart}
 use Rattle.sf_keeps.proofs.Less.{IsClosed}
-use Rattle.sf_keeps.proofs.Whole.{shows_set, shows_new, shows_gone, shows_gone_open}
+use Rattle.sf_keeps.proofs.Whole.{shows_set, shows_new, shows_gone, shows_gone_used}
 
 -- views that show the same are one
 pub same_view : (v w : View) → ((x : ℕ) (m : Name) → w.step x m ≡ v.step x m) → ((x : ℕ) → w.shown x ≡ v.shown x) → w.root ≡ v.root → ((a b : ℕ) → w.opens a b ≡ v.opens a b) → w ≡ v
@@ -206,13 +207,9 @@ module _ (f : Node → Node) (s : StoreState) (c : ℕ) (node : Node) (here : no
       refl (λ a b. refl)
       ∙ ap (λ (v : View). with_shown v c None) view_unseen
 
--- what lost its only name is unused unless it is open
-pub unused_left : (node : Node) → node.names ≡ 1 → is_unused (without_name node) ≡ nat_eq node.opens 0
-unused_left node one = ap (λ (n : ℕ). nat_eq (n - 1) 0 && nat_eq node.opens 0) one
-
 -- ---- an entry taken out, and its node let go
 module _ (s : StoreState) (t : Tree) (h : Shows (view_of s) t) (p : Path) (d : ℕ) (n : Name) (c : ℕ) (above node : Node)
-    (ordered : IsInOrder above.content) (at : walk (entry_of s.nodes) s.root p ≡ Some d) (here : node_in s.nodes d ≡ Some above) (there : entry_of s.nodes d n ≡ Some c) (is : node_in s.nodes c ≡ Some node) (one : node.names ≡ 1) (bare : IsBare (entry_of s.nodes) c) where
+    (ordered : IsInOrder above.content) (at : walk (entry_of s.nodes) s.root p ≡ Some d) (here : node_in s.nodes d ≡ Some above) (there : entry_of s.nodes d n ≡ Some c) (is : node_in s.nodes c ≡ Some node) (bare : IsBare (entry_of s.nodes) c) where
   apart : nat_eq d c ≡ false
   apart = nat_eq_apart d c (λ e. let f = ap (λ (x : ℕ). entry_of s.nodes x n) e in let g = bare n in cc)
 
@@ -228,15 +225,15 @@ module _ (s : StoreState) (t : Tree) (h : Shows (view_of s) t) (p : Path) (d : �
   is_unlinked : unlinked s d n ≡ forgotten (entry_taken s d n) c
   is_unlinked = ap (unlinked_from s d n) there
 
-  pub shows_unlinked_gone : HasNoEntry (changed_step (entry_of s.nodes) d n None) c → IsClosed (view_of s) node.label → nat_eq node.opens 0 ≡ true → Shows (view_of (unlinked s d n)) (changed t (GonePath (p ++ n ∷ [])))
-  shows_unlinked_gone free closed unopened =
+  pub shows_unlinked_gone : HasNoEntry (changed_step (entry_of s.nodes) d n None) c → IsClosed (view_of s) node.label → is_unused (without_name node) ≡ true → Shows (view_of (unlinked s d n)) (changed t (GonePath (p ++ n ∷ [])))
+  shows_unlinked_gone free closed unused =
       let bare_step : IsBare (changed_step (entry_of s.nodes) d n None) c = λ m. sym (ap (λ (v : View). v.step c m) view_less) ∙ bare_less m in
       subst (λ (v : View). Shows v (changed t (GonePath (p ++ n ∷ []))))
-      (sym (ap view_of is_unlinked ∙ view_goes without_name (entry_taken s d n) c node still (λ m. refl) refl bare_less (unused_left node one ∙ unopened) ∙ ap (λ (v : View). with_shown v c None) view_less))
+      (sym (ap view_of is_unlinked ∙ view_goes without_name (entry_taken s d n) c node still (λ m. refl) refl bare_less unused ∙ ap (λ (v : View). with_shown v c None) view_less))
       (shows_gone (view_of s) t h p d n c node.label (object_in node.metadata node.content) at there bare (ap (option_map shown_node) is) free bare_step closed)
 
-  pub shows_unlinked_open : (session number : ℕ) (handle : Handle) → (view_of s).opens session number ≡ Some handle → handle.label ≡ node.label → nat_eq node.opens 0 ≡ false → Shows (view_of (unlinked s d n)) (changed t (GonePath (p ++ n ∷ [])))
-  shows_unlinked_open session number handle opens same opened =
+  pub shows_unlinked_used : is_used (remove_entry (is_at (path_cmp (p ++ n ∷ []))) t.names) t.handles node.label ≡ true → is_unused (without_name node) ≡ false → Shows (view_of (unlinked s d n)) (changed t (GonePath (p ++ n ∷ [])))
+  shows_unlinked_used used kept =
       subst (λ (v : View). Shows v (changed t (GonePath (p ++ n ∷ []))))
-      (sym (ap view_of is_unlinked ∙ view_stays without_name (entry_taken s d n) c node still (λ m. refl) refl (unused_left node one ∙ opened) ∙ view_less))
-      (shows_gone_open (view_of s) t h p d n c node.label (object_in node.metadata node.content) at there bare (ap (option_map shown_node) is) session number handle opens same)
+      (sym (ap view_of is_unlinked ∙ view_stays without_name (entry_taken s d n) c node still (λ m. refl) refl kept ∙ view_less))
+      (shows_gone_used (view_of s) t h p d n c node.label (object_in node.metadata node.content) at there bare (ap (option_map shown_node) is) used)

@@ -5,14 +5,15 @@ use Rattle.sf_path.specs.Names.{Name, Path}
 use Rattle.sf_path.specs.Order.{same_name}
 use Rattle.sf_call.specs.declared.handle.Handle.{Handle}
 use Rattle.sf_call.specs.Attributes.{Object}
-use Rattle.sf_call.specs.Tree.{Tree, after_front, directory_metadata}
+use Rattle.sf_call.specs.Tree.{Tree, after_front, directory_metadata, is_used}
+use Rattle.sf_call.specs.Moves.{moved}
 use Rattle.sf_call.specs.Changes.{changed}
 use Rattle.sf_call.specs.Changes.Change.{Move}
 use Rattle.sf_call.proofs.Laws.{same_name_is, both_true}
 use Rattle.sf_inode.specs.declared.node.Node.{Node}
 use Rattle.sf_inode.specs.declared.node.Content.{Content}
 use Rattle.sf_inode.specs.declared.node.Content.TheVariants as content
-use Rattle.sf_inode.specs.Nodes.{entry_in, object_in, less_content, more_content, with_content, without_name}
+use Rattle.sf_inode.specs.Nodes.{entry_in, object_in, less_content, more_content, with_content, without_name, is_unused}
 use Rattle.sf_keeps.specs.Steps.{walk, changed_step}
 use Rattle.sf_keeps.specs.Shows.{View, Shows, is_directory_by, with_step, with_shown}
 use Rattle.sf_inode.specs.Stores.{StoreState, node_in, entry_of, shown_node, shown_of, edited, entry_put, forgotten, moved_entry, relinked_from, relinked, spot}
@@ -21,8 +22,8 @@ use Rattle.sf_keeps.proofs.InOrder.{InOrder, node_in_order, in_order_put, less_i
 use Rattle.sf_keeps.proofs.Sound.{HasNoEntry, IsBare}
 use Rattle.sf_keeps.proofs.Shown.{once, nat_eq_apart, after_front-self}
 use Rattle.sf_keeps.proofs.Less.{IsClosed}
-use Rattle.sf_keeps.proofs.Relinked.{shows_move, shows_replaced, shows_replaced_open}
-use Rattle.sf_keeps.proofs.StoreLaws.{same_view, node_in-edited, step_changed, shown_same, view_taken, more_says, view_stays, view_goes, unused_left}
+use Rattle.sf_keeps.proofs.Relinked.{shows_move, shows_replaced, shows_replaced_used}
+use Rattle.sf_keeps.proofs.StoreLaws.{same_view, node_in-edited, step_changed, shown_same, view_taken, more_says, view_stays, view_goes}
 
 swapped : (a b : Bool) (c : ℕ) (x : Option ℕ) → (a ≡ true → b ≡ true → ⊥) → cond a None (cond b (Some c) x) ≡ cond b (Some c) (cond a None x)
 swapped true true c x h = absurd (h refl refl)
@@ -105,7 +106,7 @@ module _ (s : StoreState) (t : Tree) (h : Shows (view_of s) t) (po : Path) (od :
       (shows_move (view_of s) t h po on od pn nn nd c at_from there at_to is_to not_inside none)
 
   -- ---- onto another node
-  module _ (target : ℕ) (gone : Node) (stood : entry_of s.nodes nd nn ≡ Some target) (is : node_in s.nodes target ≡ Some gone) (one : gone.names ≡ 1) (bare : IsBare (entry_of s.nodes) target) where
+  module _ (target : ℕ) (gone : Node) (stood : entry_of s.nodes nd nn ≡ Some target) (is : node_in s.nodes target ≡ Some gone) (bare : IsBare (entry_of s.nodes) target) where
     pub is_relinked : relinked s od on nd nn ≡ forgotten (moved_entry s (spot od on) (spot nd nn) c) target
     is_relinked = ap (λ o. relinked_from s (spot od on) (spot nd nn) o (entry_of s.nodes nd nn)) there ∙ ap (relinked_from s (spot od on) (spot nd nn) (Some c)) stood
 
@@ -121,19 +122,19 @@ module _ (s : StoreState) (t : Tree) (h : Shows (view_of s) t) (po : Path) (od :
         ap (λ b. cond (b && same_name nn m) (Some c) (changed_step (entry_of s.nodes) od on None target m)) (nat_eq_apart nd target (λ e. let a = ap (λ (x : ℕ). entry_of s.nodes x nn) e in let b = bare nn in cc))
         ∙ ap (λ b. cond (b && same_name on m) None (entry_of s.nodes target m)) (nat_eq_apart od target (λ e. let a = ap (λ (x : ℕ). entry_of s.nodes x on) e in let b = bare on in cc)) ∙ bare m
 
-    pub shows_relinked_gone : HasNoEntry (changed_step (changed_step (entry_of s.nodes) od on None) nd nn (Some c)) target → IsClosed (view_of s) gone.label → nat_eq gone.opens 0 ≡ true
+    pub shows_relinked_gone : HasNoEntry (changed_step (changed_step (entry_of s.nodes) od on None) nd nn (Some c)) target → IsClosed (view_of s) gone.label → is_unused (without_name gone) ≡ true
         → Shows (view_of (relinked s od on nd nn)) (changed t (Move (po ++ on ∷ []) (pn ++ nn ∷ [])))
-    shows_relinked_gone free closed unopened =
+    shows_relinked_gone free closed unused =
         let after = moved_entry s (spot od on) (spot nd nn) c in
         let bare_after : IsBare (entry_of after.nodes) target = λ m. ap (λ (v : View). v.step target m) view_moved ∙ bare_moved m in
         subst (λ (v : View). Shows v (changed t (Move (po ++ on ∷ []) (pn ++ nn ∷ []))))
-        (sym (ap view_of is_relinked ∙ view_goes without_name after target gone target_there (λ m. refl) refl bare_after (unused_left gone one ∙ unopened) ∙ ap (λ (v : View). with_shown v target None) view_moved))
+        (sym (ap view_of is_relinked ∙ view_goes without_name after target gone target_there (λ m. refl) refl bare_after unused ∙ ap (λ (v : View). with_shown v target None) view_moved))
         (shows_replaced (view_of s) t h po on od pn nn nd c at_from there at_to is_to not_inside target gone.label (object_in gone.metadata gone.content) stood (ap (option_map shown_node) is) bare free bare_moved closed)
 
-    pub shows_relinked_open : (session number : ℕ) (handle : Handle) → (view_of s).opens session number ≡ Some handle → handle.label ≡ gone.label → nat_eq gone.opens 0 ≡ false
+    pub shows_relinked_used : is_used (moved t.names (po ++ on ∷ []) (pn ++ nn ∷ [])) t.handles gone.label ≡ true → is_unused (without_name gone) ≡ false
         → Shows (view_of (relinked s od on nd nn)) (changed t (Move (po ++ on ∷ []) (pn ++ nn ∷ [])))
-    shows_relinked_open session number handle opens same opened =
+    shows_relinked_used used kept =
         let after = moved_entry s (spot od on) (spot nd nn) c in
         subst (λ (v : View). Shows v (changed t (Move (po ++ on ∷ []) (pn ++ nn ∷ []))))
-        (sym (ap view_of is_relinked ∙ view_stays without_name after target gone target_there (λ m. refl) refl (unused_left gone one ∙ opened) ∙ view_moved))
-        (shows_replaced_open (view_of s) t h po on od pn nn nd c at_from there at_to is_to not_inside target gone.label (object_in gone.metadata gone.content) stood (ap (option_map shown_node) is) bare session number handle opens same)
+        (sym (ap view_of is_relinked ∙ view_stays without_name after target gone target_there (λ m. refl) refl kept ∙ view_moved))
+        (shows_replaced_used (view_of s) t h po on od pn nn nd c at_from there at_to is_to not_inside target gone.label (object_in gone.metadata gone.content) stood (ap (option_map shown_node) is) bare used)

@@ -56,7 +56,7 @@ pub or_right : (a b : Bool) → b ≡ true → a || b ≡ true
 or_right true b e = refl
 or_right false b e = e
 
-named_more : (t : Tree) (q : Path) (label l : ℕ) (o : Object) → T (is_sorted path_cmp t.names) → label_at t.names q ≡ None → is_named t l ≡ true → is_named (changed t (NewPath q label o)) l ≡ true
+pub named_more : (t : Tree) (q : Path) (label l : ℕ) (o : Object) → T (is_sorted path_cmp t.names) → label_at t.names q ≡ None → is_named t l ≡ true → is_named (changed t (NewPath q label o)) l ≡ true
 named_more t q label l o sorted free any =
     let w = lookup_any path_cmp path_total (λ v. nat_eq v l) t.names sorted any in
     any_lookup path_cmp (λ v. nat_eq v l) (changed t (NewPath q label o)).names w.0 w.1
@@ -122,16 +122,13 @@ module _ (view : View) (t : Tree) (h : Shows view t) where
       used = kept_used less;
     }
 
-    -- a handle opens the node
-    pub shows_gone_open : (session number : ℕ) (handle : Handle) → view.opens session number ≡ Some handle → handle.label ≡ label
-        → Shows (with_step view d n None) (changed t (GonePath (p ++ n ∷ [])))
-    shows_gone_open session number handle opens same =
-        let opened : is_opened t label ≡ true = ap (is_opened t) (sym same) ∙ opened_by view t h.by session number handle opens in
-        record {
-          by = shows_kept_used (with_step view d n None) less by_less ordered_less c label o is others_less (or_right (is_named less label) (is_opened t label) opened);
-          ordered = ordered_changed t (GonePath (p ++ n ∷ [])) h.ordered;
-          used = kept_used less;
-        }
+    -- something else names or opens the node
+    pub shows_gone_used : is_used less.names t.handles label ≡ true → Shows (with_step view d n None) (changed t (GonePath (p ++ n ∷ [])))
+    shows_gone_used used = record {
+      by = shows_kept_used (with_step view d n None) less by_less ordered_less c label o is others_less used;
+      ordered = ordered_changed t (GonePath (p ++ n ∷ [])) h.ordered;
+      used = kept_used less;
+    }
 
 -- ---- one tree
 module _ (view : View) (s t : Tree) (hs : Shows view s) (ht : Shows view t) where

@@ -1,15 +1,14 @@
 -- When a store keeps a tree: it shows the tree, and what its nodes count agrees with it.
-use Rattle.std.specs.Prelude.{◌≡◌, ℕ, ◌<◌, ◌≤◌, ◌^◌, nat_eq, T, List, Option, Some, None, option_map}
+use Rattle.std.specs.Prelude.{◌≡◌, ℕ, ◌<◌, ◌^◌, nat_eq, T, List, Option, Some, None, option_map}
 use Rattle.std.specs.List.{count_by}
 use Rattle.std.specs.Ordering.{nat_cmp}
 use Rattle.std.specs.FinMap.{is_sorted}
-use Rattle.sf_path.specs.Names.{Name, Path}
+use Rattle.sf_path.specs.Names.{Name}
 use Rattle.sf_path.specs.Order.{name_cmp}
 use Rattle.sf_call.specs.declared.handle.Handle.{Handle}
-use Rattle.sf_call.specs.Tree.{Tree, handle_of}
+use Rattle.sf_call.specs.Tree.{Tree, handle_of, links}
 use Rattle.sf_inode.specs.declared.node.Node.{Node}
 use Rattle.sf_inode.specs.declared.handle.OpenHandle.{OpenHandle}
-use Rattle.sf_keeps.specs.Steps.{walk}
 use Rattle.sf_keeps.specs.Shows.{View, Shows}
 use Rattle.sf_inode.specs.Stores.{StoreState, node_in, entry_of, entries_at, shown_of, handles_of, handle_at, shown_handle}
 
@@ -32,19 +31,16 @@ pub record IsUnlinked (s : StoreState) (id : ℕ) : Type 0 where
   pub other : s.root ≡ id → ⊥
   pub bare : (n : Name) → entry_of s.nodes id n ≡ None
 
--- The store shows the tree. A directory's entries stand in the order of their names, each once, and two entries never lead to
--- one node. A node counts its names, one at most, and its handles; a handle knows its node. Handles stand in order, and their
--- numbers are above 0 and fit 64 bits.
+-- The store shows the tree. A directory's entries stand in the order of their names, each once. A node counts the paths that
+-- name it, and has no entries where there are none; and it counts its handles. A handle knows its node. Handles stand in order,
+-- and their numbers are above 0 and fit 64 bits.
 pub record Keeps (s : StoreState) (t : Tree) : Type 0 where
   pub shows : Shows (view_of s) t
   pub entries : (id : ℕ) → T (is_sorted name_cmp (entries_at s.nodes id))
-  pub single : (x y id : ℕ) (n m : Name) → entry_of s.nodes x n ≡ Some id
-      → entry_of s.nodes y m ≡ Some id → (x ≡ y) × (n ≡ m)
-  pub unlinked : (id : ℕ) (node : Node) → node_in s.nodes id ≡ Some node → node.names ≡ 0
-      → IsUnlinked s id
-  pub named : (id : ℕ) (node : Node) → node_in s.nodes id ≡ Some node → node.names ≡ 1
-      → (path : Path) × (walk (entry_of s.nodes) s.root path ≡ Some id)
-  pub once : (id : ℕ) (node : Node) → node_in s.nodes id ≡ Some node → node.names ≤ 1
+  pub linked : (id : ℕ) (node : Node) → node_in s.nodes id ≡ Some node
+      → node.names ≡ links t.names node.label
+  pub bare : (id : ℕ) (node : Node) → node_in s.nodes id ≡ Some node → node.names ≡ 0
+      → (n : Name) → entry_of s.nodes id n ≡ None
   pub counted : (id : ℕ) (node : Node) → node_in s.nodes id ≡ Some node
       → node.opens ≡ times_open t node.label
   pub led : (session number : ℕ) (h : OpenHandle) → handle_at s session number ≡ Some h

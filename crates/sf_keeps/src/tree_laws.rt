@@ -1,20 +1,20 @@
 //! What a store keeps of the tree. `Keeps s t` says that a store's nodes, entries and handles are the
 //! tree's, and that its counts agree; these laws say what each method makes of the tree.
 
-ghost use Rattle.std.specs.Prelude.{◌≡◌, ◌≢◌, ℕ, true, false, List, [], ◌∷◌, ◌++◌, Option, Some, None, option_map, option_and_then};
+ghost use Rattle.std.specs.Prelude.{◌≡◌, ◌≢◌, ◌<◌, ℕ, true, false, List, [], ◌∷◌, ◌++◌, Option, Some, None, option_map, option_and_then};
 ghost use Rattle.sf_path.specs.Names.{Name, Path};
 ghost use Rattle.sf_call.specs.declared.metadata.Metadata.{Metadata};
 ghost use Rattle.sf_call.specs.Attributes.{Object};
 ghost use Rattle.sf_call.specs.Attributes.Object.{Directory, File};
-ghost use Rattle.sf_call.specs.Tree.{Tree, empty_tree, after_front, directory_at, label_at, object_of, is_faulty_way, place_at, found_object, found_at, is_empty};
+ghost use Rattle.sf_call.specs.Tree.{Tree, empty_tree, after_front, directory_at, label_at, object_of, is_faulty_way, place_at, found_object, found_at, is_empty, links};
 ghost use Rattle.sf_call.specs.declared.place.Place.TheVariants.{NoWay, Absent, At};
 ghost use Rattle.sf_call.specs.Changes.{changed};
-ghost use Rattle.sf_call.specs.Changes.Change.{SetObject, NewPath, GonePath, Move};
+ghost use Rattle.sf_call.specs.Changes.Change.{SetObject, NewPath, NewName, GonePath, Move};
 ghost use Rattle.sf_inode.specs.declared.node.Node.{Node};
 ghost use Rattle.sf_inode.specs.declared.node.NewNode.{NewNode};
 ghost use Rattle.sf_inode.specs.Nodes.{object_in, new_content, new_node, with_metadata, with_holder};
 ghost use Rattle.sf_keeps.specs.Steps.{walk};
-ghost use Rattle.sf_inode.specs.Stores.{StoreState, IsFirst, Inserted, node_in, entry_of, shown_of, holder_of, looked_up, edited, unlinked, relinked, bytes_of, is_file_at, is_directory_at, is_bare_at, bytes_set, new_entry};
+ghost use Rattle.sf_inode.specs.Stores.{StoreState, IsFirst, Inserted, node_in, entry_of, shown_of, holder_of, looked_up, edited, unlinked, linked, relinked, bytes_of, is_file_at, is_directory_at, is_bare_at, bytes_set, new_entry};
 ghost use Rattle.sf_keeps.specs.Keeps.{Keeps};
 
 /// A store keeps at most one tree, and a new one the root alone.
@@ -23,8 +23,8 @@ pub fn kept_trees()
     ensures first { (s : StoreState) → IsFirst s → Keeps s empty_tree }
 {}
 
-/// A node's object is the tree's under its label, a label is one node's alone, and a path and an entry
-/// lead to nodes that are there.
+/// A node's object is the tree's under its label, a label is one node's alone, a path and an entry lead to nodes that are
+/// there, and a node counts the paths that name its object.
 pub fn kept_nodes()
     ensures object { (s : StoreState) (t : Tree) (id : ℕ) (node : Node) → Keeps s t
         → node_in s.nodes id ≡ Some node
@@ -36,7 +36,9 @@ pub fn kept_nodes()
         × (node_in s.nodes id ≡ Some node) }
     ensures there { (s : StoreState) (t : Tree) (dir id : ℕ) (n : Name) → Keeps s t
         → entry_of s.nodes dir n ≡ Some id → (node : Node) × (node_in s.nodes id ≡ Some node)
-        × (node.names ≡ 1) }
+        × (0 < node.names) }
+    ensures names { (s : StoreState) (t : Tree) (id : ℕ) (node : Node) → Keeps s t
+        → node_in s.nodes id ≡ Some node → node.names ≡ links t.names node.label }
 {}
 
 /// What a number shows is the label and the object of a node that is there: a directory, or a file with
@@ -153,8 +155,17 @@ pub fn new_path()
         (object_in made.metadata (new_content made.file_type)))) }
 {}
 
+/// A further name of a directory for a file, which the directory has not, is a further path of the file.
+pub fn new_name()
+    ensures { (s : StoreState) (t : Tree) (p : Path) (dir : ℕ) (n : Name) (id : ℕ) (node : Node)
+        → Keeps s t → walk (entry_of s.nodes) s.root p ≡ Some dir
+        → is_directory_at s.nodes dir ≡ true → entry_of s.nodes dir n ≡ None
+        → node_in s.nodes id ≡ Some node → is_file_at s.nodes id ≡ true → node.names < 1024
+        → Keeps (linked s dir n id) (changed t (NewName (p ++ n ∷ []) node.label)) }
+{}
+
 /// A file or an empty directory taken out of its directory is a path less. Its object goes unless a
-/// handle opens it.
+/// handle opens it or another path names it.
 pub fn gone_path()
     ensures { (s : StoreState) (t : Tree) (p : Path) (dir : ℕ) (n : Name) (id : ℕ) → Keeps s t
         → walk (entry_of s.nodes) s.root p ≡ Some dir → entry_of s.nodes dir n ≡ Some id
@@ -163,8 +174,8 @@ pub fn gone_path()
 {}
 
 /// An entry put under another name, not at or below itself, is the move of its path with all that lies
-/// below it: onto nothing, or in the place of a file or an empty directory, whose object goes unless a
-/// handle opens it.
+/// below it: onto nothing, or in the place of another file or an empty directory, whose object goes unless a
+/// handle opens it or another path names it.
 pub fn moved_path()
     ensures to_nothing { (s : StoreState) (t : Tree) (p : Path) (dir : ℕ) (n : Name) (id : ℕ)
         (q : Path) (to : ℕ) (m : Name) → Keeps s t → walk (entry_of s.nodes) s.root p ≡ Some dir
@@ -177,6 +188,6 @@ pub fn moved_path()
         → walk (entry_of s.nodes) s.root p ≡ Some dir → entry_of s.nodes dir n ≡ Some id
         → walk (entry_of s.nodes) s.root q ≡ Some to → is_directory_at s.nodes to ≡ true
         → after_front (p ++ n ∷ []) (q ++ m ∷ []) ≡ None → entry_of s.nodes to m ≡ Some target
-        → is_bare_at s.nodes target ≡ true
+        → is_bare_at s.nodes target ≡ true → id ≢ target
         → Keeps (relinked s dir n to m) (changed t (Move (p ++ n ∷ []) (q ++ m ∷ []))) }
 {}

@@ -10,26 +10,26 @@ use Rattle.sf_path.specs.Names.{Name, Path}
 use Rattle.sf_path.specs.Order.{name_cmp, path_cmp}
 use Rattle.sf_reply.specs.declared.reply.Entry.{Entry}
 use Rattle.sf_call.specs.Attributes.{Object}
-use Rattle.sf_call.specs.Tree.{Tree, IsOrderedTree, object_of, after_front, only_name}
+use Rattle.sf_call.specs.Tree.{Tree, IsOrderedTree, object_of, links, after_front, only_name}
 use Rattle.sf_call.specs.Listings.{is_past, entry_of, listed_entry, listing, names_of}
 use Rattle.sf_call.proofs.Laws.{and_first, and_second}
 use Rattle.sf_call.proofs.Laws.{append-after_front, path_cmp-front}
 
-named : (name : Name) (o : Option Object) (entry : Entry) → option_map (entry_of name) o ≡ Some entry → name ≡ entry.filename
-named name None entry e = cc
-named name (Some object) entry e = let same : entry_of name object ≡ entry = cc in ap (λ (x : Entry). x.filename) same
+named : (name : Name) (count : ℕ) (o : Option Object) (entry : Entry) → option_map (entry_of name count) o ≡ Some entry → name ≡ entry.filename
+named name count None entry e = cc
+named name count (Some object) entry e = let same : entry_of name count object ≡ entry = cc in ap (λ (x : Entry). x.filename) same
 
 -- an entry that is listed has a name right below the directory, after the last one
-entry_name : (last : Option Name) (o : Option Object) (rest : Option Path) (entry : Entry)
-    → option_and_then (λ name. option_map (entry_of name) o) (option_and_then (λ name. cond (is_past last name) (Some name) None) (only_name rest)) ≡ Some entry
+entry_name : (last : Option Name) (count : ℕ) (o : Option Object) (rest : Option Path) (entry : Entry)
+    → option_and_then (λ name. option_map (entry_of name count) o) (option_and_then (λ name. cond (is_past last name) (Some name) None) (only_name rest)) ≡ Some entry
     → (rest ≡ Some (entry.filename ∷ [])) × (is_past last entry.filename ≡ true)
-entry_name last o None entry e = cc
-entry_name last o (Some []) entry e = cc
-entry_name last o (Some (n ∷ m ∷ path)) entry e = cc
-entry_name last o (Some (n ∷ [])) entry e =
-    elim (is_past last n) as (λ b. is_past last n ≡ b → option_and_then (λ name. option_map (entry_of name) o) (cond b (Some n) None) ≡ Some entry
+entry_name last count o None entry e = cc
+entry_name last count o (Some []) entry e = cc
+entry_name last count o (Some (n ∷ m ∷ path)) entry e = cc
+entry_name last count o (Some (n ∷ [])) entry e =
+    elim (is_past last n) as (λ b. is_past last n ≡ b → option_and_then (λ name. option_map (entry_of name count) o) (cond b (Some n) None) ≡ Some entry
     → (Some (n ∷ []) ≡ Some (entry.filename ∷ [])) × (is_past last entry.filename ≡ true)) [
-      | true ↦ λ past k. let same = named n o entry k in (ap (λ (m : Name). Some (m ∷ [])) same, ap (is_past last) (sym same) ∙ past)
+      | true ↦ λ past k. let same = named n count o entry k in (ap (λ (m : Name). Some (m ∷ [])) same, ap (is_past last) (sym same) ∙ past)
       | false ↦ λ past k. cc
     ] refl e
 
@@ -47,7 +47,7 @@ module _ (tree : Tree) (last : Option Name) (directory : Path) where
 
   pub at_name : (e : Path × ℕ) (entry : Entry) → listed_entry tree directory last e ≡ Some entry → (e.0 ≡ directory ++ entry.filename ∷ []) × (is_past last entry.filename ≡ true)
   at_name e entry is =
-      let there = entry_name last (object_of tree.objects e.1) (after_front directory e.0) entry is in
+      let there = entry_name last (links tree.names e.1) (object_of tree.objects e.1) (after_front directory e.0) entry is in
       (append-after_front directory e.0 (entry.filename ∷ []) there.0, there.1)
 
   -- what holds of each entry's name holds of the names of those that are listed

@@ -14,8 +14,9 @@ use Rattle.sf_laws.proofs.OwnChanges.{own, other_paths}
 use Rattle.sf_laws.specs.Examples.{a, b, history}
 -- no request makes a file of a directory or a directory of a file
 pub use Rattle.sf_laws.proofs.SameKinds.{kinds_stay}
--- What a rename moves is its old path, where a move may be made, and else nothing changes; no other request moves.
-pub use Rattle.sf_laws.proofs.Renames.{unmoved_tree, moved_changes, moved_old, never_moved}
+-- What a rename moves is its old path, where a move may be made. A call on two paths that moves nothing leaves the labels
+-- of paths that are there, and all where one path begins with the other. No other request moves.
+pub use Rattle.sf_laws.proofs.Renames.{unmoved_labels, unmoved_nested, moved_changes, moved_old, never_moved}
 -- A rename leaves the labels of paths that begin with neither of its two. A request with one path, strictly below old,
 -- leaves those that aren't strictly below old, and the move of old.
 pub use Rattle.sf_laws.proofs.Renames.{spared_labels, below_labels, still_move}

@@ -9,6 +9,7 @@ mod OpenHandles
 mod MovingRenames
 mod StillMoves
 mod Renames
+mod LinkedFiles
 mod InOrder
 mod ListedAll
 mod SameReplies

@@ -12,7 +12,7 @@ use Rattle.sf_path.specs.Order.{name_cmp, path_cmp, path_total, same_path}
 use Rattle.sf_reply.specs.declared.reply.Entry.{Entry}
 use Rattle.sf_call.specs.declared.limits.TheConstants.{MAX_ENTRIES}
 use Rattle.sf_call.specs.Attributes.{Object}
-use Rattle.sf_call.specs.Tree.{Tree, IsOrderedTree, label_at, object_of, after_front, only_name}
+use Rattle.sf_call.specs.Tree.{Tree, IsOrderedTree, label_at, object_of, links, after_front, only_name}
 use Rattle.sf_call.specs.Listings.{is_past, entry_of, listed_entry, listing, names_of}
 use Rattle.sf_call.proofs.Laws.{after_front-append, same_path_is}
 use Rattle.sf_laws.proofs.InOrder.{listed, at_name, in_order}
@@ -46,25 +46,25 @@ of_name P x (e ∷ es) all is = elim is [
 ]
 
 module _ (tree : Tree) (last : Option Name) (directory : Path) (name : Name) (object : Object) (past : is_past last name ≡ true) where
-  is_entry : (path : Path) (label : ℕ) → path ≡ directory ++ name ∷ [] → object_of tree.objects label ≡ Some object → listed_entry tree directory last (path, label) ≡ Some (entry_of name object)
+  is_entry : (path : Path) (label : ℕ) → path ≡ directory ++ name ∷ [] → object_of tree.objects label ≡ Some object → listed_entry tree directory last (path, label) ≡ Some (entry_of name (links tree.names label) object)
   is_entry path label at there =
       ap (λ (p : Path). listed_entry tree directory last (p, label)) at
-      ∙ ap (λ (rest : Option Path). option_and_then (λ n. option_map (entry_of n) (object_of tree.objects label)) (option_and_then (λ n. cond (is_past last n) (Some n) None) (only_name rest)))
+      ∙ ap (λ (rest : Option Path). option_and_then (λ n. option_map (entry_of n (links tree.names label)) (object_of tree.objects label)) (option_and_then (λ n. cond (is_past last n) (Some n) None) (only_name rest)))
       (after_front-append directory (name ∷ []))
-      ∙ ap (λ b. option_and_then (λ n. option_map (entry_of n) (object_of tree.objects label)) (cond b (Some name) None)) past
-      ∙ ap (option_map (entry_of name)) there
+      ∙ ap (λ b. option_and_then (λ n. option_map (entry_of n (links tree.names label)) (object_of tree.objects label)) (cond b (Some name) None)) past
+      ∙ ap (option_map (entry_of name (links tree.names label))) there
 
   found : (names : List (Path × ℕ)) (label : ℕ) → label_at names (directory ++ name ∷ []) ≡ Some label → object_of tree.objects label ≡ Some object
-      → IsIn (entry_of name object) (listed tree last directory names)
+      → IsIn (entry_of name (links tree.names label) object) (listed tree last directory names)
   found [] label at there = cc
   found (e ∷ es) label at there =
       elim (same_path (directory ++ name ∷ []) e.0) as (λ b. same_path (directory ++ name ∷ []) e.0 ≡ b → cond b (Some e.1) (label_at es (directory ++ name ∷ [])) ≡ Some label
-      → IsIn (entry_of name object) (cons_option (listed_entry tree directory last e) (listed tree last directory es))) [
+      → IsIn (entry_of name (links tree.names label) object) (cons_option (listed_entry tree directory last e) (listed tree last directory es))) [
         | true ↦ λ tied k.
             let same : e.1 ≡ label = cc in
-            let is = is_entry e.0 e.1 (sym (same_path_is (directory ++ name ∷ []) e.0 tied)) (ap (object_of tree.objects) same ∙ there) in
-            subst (λ (o : Option Entry). IsIn (entry_of name object) (cons_option o (listed tree last directory es))) (sym is) (inl refl)
-        | false ↦ λ _ k. behind (entry_of name object) (listed_entry tree directory last e) (listed tree last directory es) (found es label k there)
+            let is = is_entry e.0 e.1 (sym (same_path_is (directory ++ name ∷ []) e.0 tied)) (ap (object_of tree.objects) same ∙ there) ∙ ap (λ (l : ℕ). Some (entry_of name (links tree.names l) object)) same in
+            subst (λ (o : Option Entry). IsIn (entry_of name (links tree.names label) object) (cons_option o (listed tree last directory es))) (sym is) (inl refl)
+        | false ↦ λ _ k. behind (entry_of name (links tree.names label) object) (listed_entry tree directory last e) (listed tree last directory es) (found es label k there)
       ] refl at
 
 -- of entries in order, one is among the first n, or there are n before it
@@ -84,12 +84,12 @@ taken (suc n) x (e ∷ es) sorted is = elim is [
 
 pub listing_complete : (tree : Tree) (last : Option Name) (directory : Path) (name : Name) (label : ℕ) (object : Object) → IsOrderedTree tree
     → label_at tree.names (directory ++ name ∷ []) ≡ Some label → object_of tree.objects label ≡ Some object → is_past last name ≡ true
-    → Contains (listing tree last directory) (entry_of name object)
+    → Contains (listing tree last directory) (entry_of name (links tree.names label) object)
     ⊎ ((length (listing tree last directory) ≡ MAX_ENTRIES) × AllByRecursion (λ listed. is_lt (name_cmp listed name) ≡ true) (names_of (listing tree last directory)))
 listing_complete tree last directory name label object o at there past =
-    elim (taken 32 (entry_of name object) (listed tree last directory tree.names) (in_order tree last directory tree.names o.names)
+    elim (taken 32 (entry_of name (links tree.names label) object) (listed tree last directory tree.names) (in_order tree last directory tree.names o.names)
     (found tree last directory name object past tree.names label at there)) [
-      | inl is ↦ inl (contained (entry_of name object) (listing tree last directory) is)
+      | inl is ↦ inl (contained (entry_of name (links tree.names label) object) (listing tree last directory) is)
       | inr full ↦ inr full
     ]
 
@@ -109,35 +109,35 @@ each_found (e ∷ es) sorted = (
   past_first e es es (and_first (below_all path_cmp e.0 es) (is_sorted path_cmp es) sorted) (each_found es (and_second (below_all path_cmp e.0 es) (is_sorted path_cmp es) sorted)),
 )
 
-shown : (name : Name) (o : Option Object) (entry : Entry) → option_map (entry_of name) o ≡ Some entry → (object : Object) × (o ≡ Some object) × (entry ≡ entry_of entry.filename object)
-shown name None entry e = cc
-shown name (Some object) entry e = let same : entry_of name object ≡ entry = cc in (object, refl, subst (λ (x : Entry). x ≡ entry_of x.filename object) same refl)
+shown : (name : Name) (count : ℕ) (o : Option Object) (entry : Entry) → option_map (entry_of name count) o ≡ Some entry → (object : Object) × (o ≡ Some object) × (entry ≡ entry_of entry.filename count object)
+shown name count None entry e = cc
+shown name count (Some object) entry e = let same : entry_of name count object ≡ entry = cc in (object, refl, subst (λ (x : Entry). x ≡ entry_of x.filename count object) same refl)
 
 -- an entry that is listed shows its label's object
-shows_object : (last : Option Name) (o : Option Object) (rest : Option Path) (entry : Entry)
-    → option_and_then (λ name. option_map (entry_of name) o) (option_and_then (λ name. cond (is_past last name) (Some name) None) (only_name rest)) ≡ Some entry
-    → (object : Object) × (o ≡ Some object) × (entry ≡ entry_of entry.filename object)
-shows_object last o None entry e = cc
-shows_object last o (Some []) entry e = cc
-shows_object last o (Some (n ∷ m ∷ path)) entry e = cc
-shows_object last o (Some (n ∷ [])) entry e =
-    elim (is_past last n) as (λ b. option_and_then (λ name. option_map (entry_of name) o) (cond b (Some n) None) ≡ Some entry
-    → (object : Object) × (o ≡ Some object) × (entry ≡ entry_of entry.filename object)) [
-      | true ↦ λ k. shown n o entry k
+shows_object : (last : Option Name) (count : ℕ) (o : Option Object) (rest : Option Path) (entry : Entry)
+    → option_and_then (λ name. option_map (entry_of name count) o) (option_and_then (λ name. cond (is_past last name) (Some name) None) (only_name rest)) ≡ Some entry
+    → (object : Object) × (o ≡ Some object) × (entry ≡ entry_of entry.filename count object)
+shows_object last count o None entry e = cc
+shows_object last count o (Some []) entry e = cc
+shows_object last count o (Some (n ∷ m ∷ path)) entry e = cc
+shows_object last count o (Some (n ∷ [])) entry e =
+    elim (is_past last n) as (λ b. option_and_then (λ name. option_map (entry_of name count) o) (cond b (Some n) None) ≡ Some entry
+    → (object : Object) × (o ≡ Some object) × (entry ≡ entry_of entry.filename count object)) [
+      | true ↦ λ k. shown n count o entry k
       | false ↦ λ k. cc
     ] e
 
 -- an entry is of what stands in the directory under its name
 abbrev pub IsThere : Tree → Path → Entry → Type 0
 IsThere tree directory entry =
-    (label : ℕ) × (object : Object) × (label_at tree.names (directory ++ entry.filename ∷ []) ≡ Some label) × (object_of tree.objects label ≡ Some object) × (entry ≡ entry_of entry.filename object)
+    (label : ℕ) × (object : Object) × (label_at tree.names (directory ++ entry.filename ∷ []) ≡ Some label) × (object_of tree.objects label ≡ Some object) × (entry ≡ entry_of entry.filename (links tree.names label) object)
 
 entry_there : (tree : Tree) (last : Option Name) (directory : Path) (e : Path × ℕ) → label_at tree.names e.0 ≡ Some e.1 → IfSome (listed_entry tree directory last e) (IsThere tree directory)
 entry_there tree last directory e at =
     elim (listed_entry tree directory last e) as (λ o. listed_entry tree directory last e ≡ o → IfSome o (IsThere tree directory)) [
       | None ↦ λ _. tt
       | Some entry ↦ λ is.
-          let of_object = shows_object last (object_of tree.objects e.1) (after_front directory e.0) entry is in
+          let of_object = shows_object last (links tree.names e.1) (object_of tree.objects e.1) (after_front directory e.0) entry is in
           (e.1, of_object.0, subst (λ (p : Path). label_at tree.names p ≡ Some e.1) (at_name tree last directory e entry is).0 at, of_object.1, of_object.2)
     ] refl
 

@@ -1,7 +1,8 @@
 -- Where a move may be made, the renames make it.
-use Rattle.std.proofs.Common.{◌≡◌, ℕ, Bool, true, false, cond, ◌&&◌, ◌||◌, List, [], ◌∷◌, ◌++◌, Option, Some, None, IsSome, is_some, option_map, refl, sym, ap, ◌∙◌}
+use Rattle.std.proofs.Common.{◌≡◌, ℕ, Bool, true, false, cond, ◌&&◌, ◌||◌, nat_eq, List, [], ◌∷◌, ◌++◌, Option, Some, None, IsSome, is_some, option_map, refl, sym, ap, ◌∙◌}
 use Rattle.std.specs.List.{cons_option}
 use Rattle.std.specs.Ordering.{is_eq}
+use Rattle.std.proofs.lemmas.Bool.{eqb-true}
 use Rattle.std.specs.Cmp.{tied_itself}
 use Rattle.sf_path.specs.Names.{Name, Path}
 use Rattle.sf_path.specs.Order.{same_path, path_total}
@@ -91,23 +92,32 @@ module _ (tree : Tree) (moment : ℕ) (old new : Path) (object : (path : Path) (
   kind_false true e = cc
   kind_false false e = refl
 
-  replaces_object : (at : ℕ) (o : Option Object) → is_some o ≡ true → option_map kind_of o ≡ Some (kind_by (is_directory tree old)) → replace_by tree moment old new (found_object at o) ≡ moves tree moment old new
-  replaces_object at None some kind = cc
-  replaces_object at (Some (Directory m)) some kind =
+  replaces_object : (at : ℕ) (o : Option Object) → nat_eq may.label at ≡ false → is_some o ≡ true → option_map kind_of o ≡ Some (kind_by (is_directory tree old)) → replace_by tree moment old new may.label (found_object at o) ≡ moves tree moment old new
+  replaces_object at None apart some kind = cc
+  replaces_object at (Some (Directory m)) apart some kind =
       ap (λ b. cond (b && is_empty tree.names new) (moves tree moment old new) (refuses Failure)) (kind_true (is_directory tree old) kind)
       ∙ ap (λ b. cond b (moves tree moment old new) (refuses Failure)) (bare_empty tree.names new (λ name. may.bare name []))
-  replaces_object at (Some (File m contents)) some kind = ap (λ b. cond b (refuses Failure) (moves tree moment old new)) (kind_false (is_directory tree old) kind)
+  replaces_object at (Some (File m contents)) apart some kind =
+      ap (λ b. cond b (succeeds []) (cond (is_directory tree old) (refuses Failure) (moves tree moment old new))) apart
+      ∙ ap (λ b. cond b (refuses Failure) (moves tree moment old new)) (kind_false (is_directory tree old) kind)
 
-  replaces : (o : Option ℕ) → label_at tree.names new ≡ o → replace_by tree moment old new (found_place tree.objects (place_of o)) ≡ moves tree moment old new
+  another : (at : ℕ) → label_at tree.names new ≡ Some at → nat_eq may.label at ≡ false
+  another at there =
+      elim (nat_eq may.label at) as (λ b. nat_eq may.label at ≡ b → b ≡ false) [
+        | true ↦ λ t. absurd (may.other (there ∙ ap Some (sym (eqb-true may.label at t))))
+        | false ↦ λ f. refl
+      ] refl
+
+  replaces : (o : Option ℕ) → label_at tree.names new ≡ o → replace_by tree moment old new may.label (found_place tree.objects (place_of o)) ≡ moves tree moment old new
   replaces None e = refl
-  replaces (Some at) e = replaces_object at (object_of tree.objects at) (object new at e) (may.alike at e ∙ kind_at tree old may.label (object old may.label may.named) may.named)
+  replaces (Some at) e = replaces_object at (object_of tree.objects at) (another at e) (object new at e) (may.alike at e ∙ kind_at tree old may.label (object old may.label may.named) may.named)
 
   posix_moves : posix_rename tree moment old new (place_at tree old) ≡ moves tree moment old new
   posix_moves =
       ap (posix_rename tree moment old new) old_place
-      ∙ ap (λ b. cond b (succeeds []) (unless_nested old new (replace_by tree moment old new (found_place tree.objects (place_at tree new))))) (apart_paths old new may.not_inside)
-      ∙ not_nested (replace_by tree moment old new (found_place tree.objects (place_at tree new)))
-      ∙ ap (λ place. replace_by tree moment old new (found_place tree.objects place)) (place_open tree new (label_at tree.names new) may.way refl)
+      ∙ ap (λ b. cond b (succeeds []) (unless_nested old new (replace_by tree moment old new may.label (found_place tree.objects (place_at tree new))))) (apart_paths old new may.not_inside)
+      ∙ not_nested (replace_by tree moment old new may.label (found_place tree.objects (place_at tree new)))
+      ∙ ap (λ place. replace_by tree moment old new may.label (found_place tree.objects place)) (place_open tree new (label_at tree.names new) may.way refl)
       ∙ replaces (label_at tree.names new) refl
 
   plain_answer : (session number : ℕ) → label_at tree.names new ≡ None → answer_to tree session number moment (Rename old new) ≡ moves tree moment old new

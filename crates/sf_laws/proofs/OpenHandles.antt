@@ -19,7 +19,7 @@ use Rattle.sf_call.specs.declared.handle.Handle.{Handle}
 use Rattle.sf_call.specs.declared.place.Place.{Place}
 use Rattle.sf_call.specs.declared.place.Place.TheVariants.{NoWay, Absent, At}
 use Rattle.sf_call.specs.declared.request.Request.{Request}
-use Rattle.sf_call.specs.declared.request.Request.TheVariants.{Stat, SetStat, Mkdir, Rmdir, Remove, OpenDir, Open, Close, FStat, FSetStat, Read, Write, ReadDir, Rename, PosixRename}
+use Rattle.sf_call.specs.declared.request.Request.TheVariants.{Stat, SetStat, Mkdir, Rmdir, Remove, OpenDir, Open, Close, FStat, FSetStat, Read, Write, ReadDir, Rename, PosixRename, Link}
 use Rattle.sf_call.specs.declared.record.Record.{Record}
 use Rattle.sf_call.specs.Attributes.{Object, new_metadata}
 use Rattle.sf_call.specs.Attributes.Object.{Directory, File}
@@ -30,10 +30,10 @@ use Rattle.sf_call.specs.Handles.Opened.{NotOpen, OpenDirectory, OpenFile}
 use Rattle.sf_call.specs.Listings.{path_of, listing_of}
 use Rattle.sf_call.specs.Moves.{moved}
 use Rattle.sf_call.specs.Changes.{changed, done, touch, touched}
-use Rattle.sf_call.specs.Changes.Change.{SetObject, NewPath, GonePath, Move, OpenHandle, SetHandle, CloseHandle}
+use Rattle.sf_call.specs.Changes.Change.{SetObject, NewPath, NewName, GonePath, Move, OpenHandle, SetHandle, CloseHandle}
 use Rattle.sf_call.specs.Calls.{Answer, answer_to, leave, stat, refuses_size, sets, set_stat, make_directory, remove_directory, remove_file, has_all_handles, directory_handle, file_handle, open_directory, open_present, open_file, close, stat_opened, set_opened, read, start_of, write, lists, read_directory, unless_root, moves, opening, stamp}
 use Rattle.sf_call.specs.Histories.{replay, IsLegal}
-use Rattle.sf_call.proofs.Laws.{lookup-put, object_kept, all_filtered, all_removed, all_put, all_set, found_value, holds_after, rename_cases, posix_rename_cases}
+use Rattle.sf_call.proofs.Laws.{lookup-put, object_kept, all_filtered, all_removed, all_put, all_set, found_value, holds_after, rename_cases, posix_rename_cases, link_cases, link_to_cases}
 
 -- the handles of a session
 abbrev pub is_of_session : ℕ → ℕ × Handle → Bool
@@ -172,6 +172,9 @@ new_holds tree path label object h = record {
   few = h.few;
   founded = all_by (IsFounded tree.objects) _ tree.handles (λ e. still_put tree.objects label object e.1.label) h.founded;
 }
+
+name_holds : (tree : Tree) (path : Path) (label : ℕ) → HandlesHold tree → HandlesHold (changed tree (NewName path label))
+name_holds tree path label h = record { few = h.few; founded = h.founded }
 
 gone_holds : (tree : Tree) (path : Path) → HandlesHold tree → HandlesHold (changed tree (GonePath path))
 gone_holds tree path h = kept_holds (with_names tree (remove_entry (is_at (path_cmp path)) tree.names)) (record { few = h.few; founded = h.founded })
@@ -377,6 +380,10 @@ module _ (tree : Tree) (session number moment : ℕ) (h : HandlesHold tree) wher
   answer_holds (ReadDir handle) = read_by_handle handle (handle_in tree session handle) refl
   answer_holds (Rename old new) = rename_cases Keeps (λ code. h) h tree moment old new (λ _ _. moved_holds old new) session number
   answer_holds (PosixRename old new) = posix_rename_cases Keeps (λ code. h) h tree moment old new (λ _ _. moved_holds old new) session number
+  answer_holds (Link old new) =
+      link_cases Keeps (λ code. h) tree moment old new
+      (λ label _ _ _. link_to_cases Keeps (λ code. h) tree moment new label (place_at tree new) refl
+      (λ _ _. touch_holds _ moment (directory_at tree (parent new)) (name_holds tree new label h))) session number
 
 pub handles_hold : (history : List Record) → IsLegal history → HandlesHold (replay history)
 handles_hold =

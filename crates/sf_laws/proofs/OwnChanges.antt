@@ -9,7 +9,7 @@ use Rattle.sf_reply.specs.declared.reply.Entry.{Entry}
 use Rattle.sf_call.specs.declared.limits.TheConstants.{MAX_FILE_SIZE}
 use Rattle.sf_call.specs.declared.metadata.Metadata.{Metadata}
 use Rattle.sf_call.specs.declared.request.Request.{Request}
-use Rattle.sf_call.specs.declared.request.Request.TheVariants.{Stat, SetStat, Mkdir, Rmdir, Remove, OpenDir, Open, Close, FStat, FSetStat, Read, Write, ReadDir, Rename, PosixRename}
+use Rattle.sf_call.specs.declared.request.Request.TheVariants.{Stat, SetStat, Mkdir, Rmdir, Remove, OpenDir, Open, Close, FStat, FSetStat, Read, Write, ReadDir, Rename, PosixRename, Link}
 use Rattle.sf_call.specs.declared.place.Place.{Place}
 use Rattle.sf_call.specs.declared.place.Place.TheVariants.{NoWay, Absent, At}
 use Rattle.sf_call.specs.Attributes.{Object}
@@ -21,11 +21,11 @@ use Rattle.sf_call.specs.Handles.{Opened, handle_in, opened_object, opened_by, o
 use Rattle.sf_call.specs.Handles.Opened.{NotOpen, OpenDirectory, OpenFile}
 use Rattle.sf_call.specs.Listings.{path_of, listing_of}
 use Rattle.sf_call.specs.Changes.{Change, changed, done, touch, touched}
-use Rattle.sf_call.specs.Changes.Change.{SetObject, NewPath, GonePath, Move, OpenHandle, SetHandle, CloseHandle}
+use Rattle.sf_call.specs.Changes.Change.{SetObject, NewPath, NewName, GonePath, Move, OpenHandle, SetHandle, CloseHandle}
 use Rattle.sf_laws.specs.LeftAlone.{IsOfPath, IsOfLabel, IsOfNumber}
 use Rattle.sf_laws.specs.Own.{IsOwnPath, IsOwnObject, IsOwnHandle}
 use Rattle.sf_call.specs.Calls.{Answer, answer_to, stat, refuses_size, sets, set_stat, make_directory, remove_directory, remove_file, has_all_handles, open_directory, open_present, open_file, close, stat_opened, set_opened, read, start_of, write, lists, read_directory, unless_root, moves, opening, stamp}
-use Rattle.sf_call.proofs.Laws.{directory_there, place_label, rename_cases, posix_rename_cases}
+use Rattle.sf_call.proofs.Laws.{directory_there, place_label, rename_cases, posix_rename_cases, link_cases, link_to_cases}
 use Rattle.sf_laws.proofs.LeftAlone.{other_path, other_object, other_handle}
 
 module _ (tree : Tree) (session number : ℕ) where
@@ -33,6 +33,7 @@ module _ (tree : Tree) (session number : ℕ) where
   abbrev pub IsOwnChange : Request → Change → Type 0
   IsOwnChange request (SetObject label object) = IsOwnObject tree session request label
   IsOwnChange request (NewPath path label object) = IsOwnPath request path × (label ≡ number)
+  IsOwnChange request (NewName path label) = IsOwnPath request path
   IsOwnChange request (GonePath path) = IsOwnPath request path
   IsOwnChange request (Move old new) = (path : Path) → IsOfPath (Move old new) path → IsOwnPath request path
   IsOwnChange request (OpenHandle handle opened) = IsOwnHandle tree session number request handle
@@ -199,11 +200,16 @@ module _ (tree : Tree) (session number : ℕ) where
     own (PosixRename old new) =
         posix_rename_cases (λ answer. AreOwn (PosixRename old new) answer.changes) (λ code. tt) tt tree moment old new
         (λ _ _. moved_own (PosixRename old new) old new (λ path of. of) (λ label at. inl at) (λ label at. inr at)) session number
+    own (Link old new) =
+        link_cases (λ answer. AreOwn (Link old new) answer.changes) (λ code. tt) tree moment old new
+        (λ label _ _ _. link_to_cases (λ answer. AreOwn (Link old new) answer.changes) (λ code. tt) tree moment new label (place_at tree new) refl
+        (λ _ _. (refl, touch_own (Link old new) (parent new) (directory_at tree (parent new)) refl (λ l at. at)))) session number
 
   module _ (request : Request) where
     own_path : (change : Change) (path : Path) → IsOwnChange request change → IsOfPath change path → IsOwnPath request path
     own_path (SetObject label object) path is of = absurd of
     own_path (NewPath new label object) path is of = subst (IsOwnPath request) (sym of) is.0
+    own_path (NewName new label) path is of = subst (IsOwnPath request) (sym of) is
     own_path (GonePath gone) path is of = subst (IsOwnPath request) (sym of) is
     own_path (Move old new) path is of = is path of
     own_path (OpenHandle handle opened) path is of = absurd of
@@ -213,6 +219,7 @@ module _ (tree : Tree) (session number : ℕ) where
     own_label : (change : Change) (label : ℕ) → IsOwnChange request change → IsOfLabel change label → (label ≡ number) ⊎ IsOwnObject tree session request label
     own_label (SetObject set object) label is of = inr (subst (IsOwnObject tree session request) (sym of) is)
     own_label (NewPath path new object) label is of = inl (of ∙ is.1)
+    own_label (NewName path new) label is of = absurd of
     own_label (GonePath path) label is of = absurd of
     own_label (Move old new) label is of = absurd of
     own_label (OpenHandle handle opened) label is of = absurd of
@@ -222,6 +229,7 @@ module _ (tree : Tree) (session number : ℕ) where
     own_handle : (change : Change) (handle : ℕ) → IsOwnChange request change → IsOfNumber change handle → IsOwnHandle tree session number request handle
     own_handle (SetObject label object) handle is of = absurd of
     own_handle (NewPath path label object) handle is of = absurd of
+    own_handle (NewName path label) handle is of = absurd of
     own_handle (GonePath path) handle is of = absurd of
     own_handle (Move old new) handle is of = absurd of
     own_handle (OpenHandle opened h) handle is of = subst (IsOwnHandle tree session number request) (sym of) is

@@ -15,16 +15,16 @@ use Rattle.sf_call.specs.declared.metadata.Metadata.{Metadata}
 use Rattle.sf_call.specs.declared.place.Place.{Place}
 use Rattle.sf_call.specs.declared.place.Place.TheVariants.{NoWay, Absent, At}
 use Rattle.sf_call.specs.declared.request.Request.{Request}
-use Rattle.sf_call.specs.declared.request.Request.TheVariants.{Stat, SetStat, Mkdir, Rmdir, Remove, OpenDir, Open, Close, FStat, FSetStat, Read, Write, ReadDir, Rename, PosixRename}
+use Rattle.sf_call.specs.declared.request.Request.TheVariants.{Stat, SetStat, Mkdir, Rmdir, Remove, OpenDir, Open, Close, FStat, FSetStat, Read, Write, ReadDir, Rename, PosixRename, Link}
 use Rattle.sf_call.specs.Attributes.{Object, modified_at}
 use Rattle.sf_call.specs.Attributes.Object.{Directory, File}
 use Rattle.sf_call.specs.Tree.{Tree, Found, label_at, object_of, directory_at, place_at, found_object, found_at, is_empty, after_front, with_names}
 use Rattle.sf_call.specs.Moves.{moved}
 use Rattle.sf_call.specs.Tree.Found.{Nowhere, Nothing, DirectoryAt, FileAt}
 use Rattle.sf_call.specs.Changes.{changed, done, touch, touched}
-use Rattle.sf_call.specs.Changes.Change.{SetObject, NewPath, GonePath, Move}
+use Rattle.sf_call.specs.Changes.Change.{SetObject, NewPath, NewName, GonePath, Move}
 use Rattle.sf_call.specs.Calls.{Answer, answer_to, make_directory, remove_directory, remove_file, has_all_handles, open_present, open_file, moves, opening, stamp}
-use Rattle.sf_call.proofs.Laws.{exact_paths, other_put, other_set, other_removed, set_there, kept_object, directory_there, moved_outside, no_front, no_parent, rename_cases, posix_rename_cases}
+use Rattle.sf_call.proofs.Laws.{exact_paths, other_put, other_set, other_removed, set_there, kept_object, directory_there, moved_outside, no_front, no_parent, rename_cases, posix_rename_cases, link_cases, link_to_cases}
 use Rattle.sf_laws.specs.Own.{IsOneOf, IsEntryOf}
 
 -- a path that isn't the root's has another parent
@@ -183,3 +183,7 @@ module _ (tree : Tree) (session number moment label : ℕ) (m : Metadata) (apart
   parents (PosixRename old new) path own = λ named.
       posix_rename_cases StillThere (λ code. inl is) (inl is) tree moment old new
       (λ not_inside not_around. both_ends tree moment label m is old new path own not_inside not_around named) session number
+  parents (Link old new) path own = λ named.
+      link_cases StillThere (λ code. inl is) tree moment old new
+      (λ l _ _ _. link_to_cases StillThere (λ code. inl is) tree moment new l (place_at tree new) refl
+      (λ _ _. touched_or_not tree moment label m is (changed tree (NewName new l)) (parent new) (directory_at tree (parent new)) refl (inl is))) session number

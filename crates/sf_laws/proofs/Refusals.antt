@@ -11,7 +11,7 @@ use Rattle.sf_reply.specs.declared.reply.StatusCode.{StatusCode}
 use Rattle.sf_reply.specs.declared.reply.StatusCode.TheVariants.{Success, EndOfFile, NoSuchFile, PermissionDenied, Failure, BadMessage, OpUnsupported}
 use Rattle.sf_call.specs.declared.limits.TheConstants.{MAX_FILE_SIZE}
 use Rattle.sf_call.specs.declared.request.Request.{Request}
-use Rattle.sf_call.specs.declared.request.Request.TheVariants.{Stat, SetStat, Mkdir, Rmdir, Remove, OpenDir, Open, Close, FStat, FSetStat, Read, Write, ReadDir, Rename, PosixRename}
+use Rattle.sf_call.specs.declared.request.Request.TheVariants.{Stat, SetStat, Mkdir, Rmdir, Remove, OpenDir, Open, Close, FStat, FSetStat, Read, Write, ReadDir, Rename, PosixRename, Link}
 use Rattle.sf_call.specs.declared.place.Place.{Place}
 use Rattle.sf_call.specs.declared.place.Place.TheVariants.{NoWay, Absent, At}
 use Rattle.sf_call.specs.Attributes.{Object}
@@ -24,7 +24,7 @@ use Rattle.sf_call.specs.Handles.Opened.{NotOpen, OpenDirectory, OpenFile}
 use Rattle.sf_call.specs.Listings.{path_of, listing_of}
 use Rattle.sf_call.specs.Calls.{Answer, answer_to, stat, refuses_size, sets, set_stat, make_directory, remove_directory, remove_file, has_all_handles, open_directory, open_present, open_file, close, stat_opened, set_opened, read, start_of, write, lists, read_directory, unless_root, refuses, opening, stamp}
 use Rattle.sf_call.specs.Changes.{Change}
-use Rattle.sf_call.proofs.Laws.{rename_cases, posix_rename_cases}
+use Rattle.sf_call.proofs.Laws.{rename_cases, posix_rename_cases, link_cases, link_to_cases}
 
 -- with a refusal there are no changes
 abbrev pub IsStill : Reply → List Change → Type 0
@@ -162,6 +162,9 @@ answered tree session number moment (Write handle offset bytes) = was_written mo
 answered tree session number moment (ReadDir handle) = directory_read tree handle (opened tree session handle)
 answered tree session number moment (Rename old new) = rename_cases RefusesStill refused tt tree moment old new (λ _ _. tt) session number
 answered tree session number moment (PosixRename old new) = posix_rename_cases RefusesStill refused tt tree moment old new (λ _ _. tt) session number
+answered tree session number moment (Link old new) =
+    link_cases RefusesStill refused tree moment old new
+    (λ label _ _ _. link_to_cases RefusesStill refused tree moment new label (place_at tree new) refl (λ _ _. tt)) session number
 
 no_changes : (given : Reply) (changes : List Change) (code : StatusCode) → IsStill given changes → given ≡ reply.Status code → code ≢ Success → changes ≡ []
 no_changes (reply.Status Success) changes code still is other = absurd (other (let e : Success ≡ code = cc in sym e))

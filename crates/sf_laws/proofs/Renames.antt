@@ -1,19 +1,26 @@
 -- What a rename moves, which labels stay, and which requests leave a move possible.
-use Rattle.std.proofs.Common.{◌≡◌, ◌≢◌, ◌<◌, ◌⊎◌, ℕ, List, [], ◌∷◌, ◌++◌, length, Option, Some, None, IsSome, is_some, refl, sym, ap, ◌∙◌, subst, inl, inr, arith, length-append}
-use Rattle.std.proofs.lemmas.List.{append-nil}
+use Rattle.std.proofs.Common.{true, false, ◌≡◌, ◌≢◌, ◌<◌, ◌⊎◌, ℕ, List, [], ◌∷◌, ◌++◌, length, Option, Some, None, IsSome, is_some, refl, sym, ap, ◌∙◌, subst, inl, inr, arith, length-append, take}
+use Rattle.std.proofs.lemmas.List.{append-nil, take_all, take-append-le}
 use Rattle.sf_path.specs.Names.{Name, Path}
+use Rattle.sf_path.specs.Order.{parent}
+use Rattle.sf_call.specs.declared.metadata.Metadata.{Metadata}
+use Rattle.sf_call.specs.declared.place.Place.{Place}
+use Rattle.sf_call.specs.declared.place.Place.TheVariants.{NoWay, Absent, At}
+use Rattle.sf_call.specs.Attributes.{Object}
+use Rattle.sf_call.specs.Attributes.Object.{Directory, File}
 use Rattle.sf_call.specs.declared.request.Request.{Request}
 use Rattle.sf_call.specs.declared.request.Request.TheVariants as request
 use Rattle.sf_call.specs.declared.record.Record.{Record}
 use Rattle.sf_call.specs.Requests.{Target, target_of}
 use Rattle.sf_call.specs.Requests.Target.{ByHandle, OnPath, OnPaths}
-use Rattle.sf_call.specs.Tree.{Tree, label_at, after_front}
-use Rattle.sf_call.specs.Changes.{Change, done, moved_by}
-use Rattle.sf_call.specs.Changes.Change.{SetObject, NewPath, GonePath, Move, OpenHandle, SetHandle, CloseHandle}
+use Rattle.sf_call.specs.Tree.{Tree, Found, label_at, object_of, directory_at, is_directory_object, is_directory, is_faulty_way, place_at, found_object, found_place, found_at, after_front}
+use Rattle.sf_call.specs.Tree.Found.{Nowhere, Nothing, DirectoryAt, FileAt}
+use Rattle.sf_call.specs.Changes.{Change, done, touch, moved_by}
+use Rattle.sf_call.specs.Changes.Change.{SetObject, NewPath, NewName, GonePath, Move, OpenHandle, SetHandle, CloseHandle}
 use Rattle.sf_call.specs.Allowed.{AreAllowed, IsMove}
 use Rattle.sf_call.specs.Calls.{answer_to, apply, moves}
 use Rattle.sf_call.specs.Histories.{replay, IsNewNumber, IsLegal}
-use Rattle.sf_call.proofs.Laws.{after_front-append, append-after_front, allowed_changes, rename_cases, posix_rename_cases}
+use Rattle.sf_call.proofs.Laws.{after_front-append, append-after_front, front_itself, place_label, place_free, open_way, is_directory_label, is_directory_is, is_there_directory, allowed_changes, rename_cases, posix_rename_cases, link_cases, link_to_cases}
 use Rattle.sf_laws.specs.LeftAlone.{BeginsWithEither}
 use Rattle.sf_laws.specs.Own.{IsOwnPath}
 use Rattle.sf_laws.proofs.OwnChanges.{IsOwnChange, AreOwn, own, other_paths}
@@ -43,6 +50,7 @@ own_of_target (request.Write handle offset bytes) q own = absurd own
 own_of_target (request.ReadDir handle) q own = absurd own
 own_of_target (request.Rename old new) q own = own
 own_of_target (request.PosixRename old new) q own = own
+own_of_target (request.Link old new) q own = inr (ap (λ o. is_some o) (ap (after_front new) own ∙ front_itself new))
 
 own_of : (r : Request) (target : Target) (q : Path) → target_of r ≡ target → IsOwnPath r q → IsOfTarget target q
 own_of r target q e own = subst (λ (t : Target). IsOfTarget t q) e (own_of_target r q own)
@@ -55,8 +63,8 @@ labels_by_target tree session number moment r target q e other =
 
 -- ---- what moves
 
--- the request is one of the renames
-by_target : (r : Request) (old new : Path) → target_of r ≡ OnPaths old new → (r ≡ request.Rename old new) ⊎ (r ≡ request.PosixRename old new)
+-- the request is one of the renames, or a link
+by_target : (r : Request) (old new : Path) → target_of r ≡ OnPaths old new → (r ≡ request.Rename old new) ⊎ ((r ≡ request.PosixRename old new) ⊎ (r ≡ request.Link old new))
 by_target (request.Stat path) old new e = cc
 by_target (request.SetStat path attrs) old new e = cc
 by_target (request.Mkdir path attrs) old new e = cc
@@ -71,32 +79,143 @@ by_target (request.Read handle offset len) old new e = cc
 by_target (request.Write handle offset bytes) old new e = cc
 by_target (request.ReadDir handle) old new e = cc
 by_target (request.Rename a b) old new e = let first : a ≡ old = cc in let second : b ≡ new = cc in inl cc
-by_target (request.PosixRename a b) old new e = let first : a ≡ old = cc in let second : b ≡ new = cc in inr cc
+by_target (request.PosixRename a b) old new e = let first : a ≡ old = cc in let second : b ≡ new = cc in inr (inl cc)
+by_target (request.Link a b) old new e = let first : a ≡ old = cc in let second : b ≡ new = cc in inr (inr cc)
+
+-- touching a directory moves nothing
+touch_moves : (moment : ℕ) (o : Option (ℕ × Metadata)) → moved_by (touch moment o) ≡ None
+touch_moves moment None = refl
+touch_moves moment (Some e) = refl
+
+-- where the way of a path is open, what it begins with is a directory
+front_is_directory : (tree : Tree) (path : Path) (name : Name) (rest : Path) → is_faulty_way tree (path ++ name ∷ rest) ≡ false → is_directory tree path ≡ true
+front_is_directory tree path name rest way =
+    ap (is_directory tree) (sym (take-append-le (length path) path (name ∷ rest) (omega arith) ∙ take_all (length path) path (omega arith)))
+    ∙ (open_way tree (path ++ name ∷ rest)).0 way (length path) (omega (arith, length-append path (name ∷ rest)))
+
+begins : (o : Option Path) → IsSome o → ((rest : Path) → o ≡ Some rest → ⊥) → ⊥
+begins None some nowhere = cc
+begins (Some rest) some nowhere = nowhere rest refl
+
+-- a file that is found is named, and its object is there
+found_file : (tree : Tree) (path : Path) (label : ℕ) (m : Metadata) (contents : List ℕ) → found_at tree path ≡ FileAt label m contents
+    → (label_at tree.names path ≡ Some label) × (object_of tree.objects label ≡ Some (File m contents))
+found_file tree path label m contents e = by_place (place_at tree path) refl e where
+  by_object : (at : ℕ) (o : Option Object) → object_of tree.objects at ≡ o → place_at tree path ≡ At at → found_object at o ≡ FileAt label m contents
+      → (label_at tree.names path ≡ Some label) × (object_of tree.objects label ≡ Some (File m contents))
+  by_object at None is here f = cc
+  by_object at (Some (Directory x)) is here f = cc
+  by_object at (Some (File x bytes)) is here f =
+      let same : at ≡ label = ap label_in f in
+      let object : Some (File x bytes) ≡ Some (File m contents) = ap object_found f in
+      (place_label tree path at here ∙ ap Some same, ap (object_of tree.objects) (sym same) ∙ is ∙ object) where
+        label_in : Found → ℕ
+        label_in Nowhere = 0
+        label_in Nothing = 0
+        label_in (DirectoryAt l x) = l
+        label_in (FileAt l x bytes) = l
+
+        object_found : Found → Option Object
+        object_found Nowhere = None
+        object_found Nothing = None
+        object_found (DirectoryAt l x) = Some (Directory x)
+        object_found (FileAt l x bytes) = Some (File x bytes)
+
+  by_place : (place : Place) → place_at tree path ≡ place → found_place tree.objects place ≡ FileAt label m contents
+      → (label_at tree.names path ≡ Some label) × (object_of tree.objects label ≡ Some (File m contents))
+  by_place NoWay here f = cc
+  by_place Absent here f = cc
+  by_place (At at) here f = by_object at (object_of tree.objects at) refl here f
 
 module _ (tree : Tree) (session number moment : ℕ) (r : Request) (old new : Path) (e : target_of r ≡ OnPaths old new) where
-  -- a rename changes nothing, or moves
+  -- a file is named by the new path as well, which was free
+  pub record Links (changes : List Change) : Type 0 where
+    pub label : ℕ
+    pub metadata : Metadata
+    pub contents : List ℕ
+    pub is_link : r ≡ request.Link old new
+    pub file : found_at tree old ≡ FileAt label metadata contents
+    pub free : place_at tree new ≡ Absent
+    pub unmoved : moved_by changes ≡ None
+
+  -- a rename changes nothing, or moves; a link changes nothing, or names
   abbrev pub IsStillOrMoves : List Change → Type 0
-  IsStillOrMoves changes = (changes ≡ []) ⊎ (changes ≡ (moves tree moment old new).changes)
+  IsStillOrMoves changes = (changes ≡ []) ⊎ ((changes ≡ (moves tree moment old new).changes) ⊎ Links changes)
 
   still_or_moves : IsStillOrMoves (answer_to tree session number moment r).changes
   still_or_moves = elim (by_target r old new e) [
     | inl is ↦ subst (λ (q : Request). IsStillOrMoves (answer_to tree session number moment q).changes) (sym is)
-        (rename_cases (λ answer. IsStillOrMoves answer.changes) (λ code. inl refl) (inl refl) tree moment old new (λ _ _. inr refl) session number)
-    | inr is ↦ subst (λ (q : Request). IsStillOrMoves (answer_to tree session number moment q).changes) (sym is)
-        (posix_rename_cases (λ answer. IsStillOrMoves answer.changes) (λ code. inl refl) (inl refl) tree moment old new (λ _ _. inr refl) session number)
-  ]
-
-  pub unmoved_tree : moved_by (answer_to tree session number moment r).changes ≡ None → (answer_to tree session number moment r).changes ≡ []
-  unmoved_tree none = elim still_or_moves [
-    | inl still ↦ still
-    | inr is ↦ let some : Some old ≡ None = ap (λ (changes : List Change). moved_by changes) (sym is) ∙ none in cc
+        (rename_cases (λ answer. IsStillOrMoves answer.changes) (λ code. inl refl) (inl refl) tree moment old new (λ _ _. inr (inl refl)) session number)
+    | inr other ↦ elim other [
+      | inl is ↦ subst (λ (q : Request). IsStillOrMoves (answer_to tree session number moment q).changes) (sym is)
+          (posix_rename_cases (λ answer. IsStillOrMoves answer.changes) (λ code. inl refl) (inl refl) tree moment old new (λ _ _. inr (inl refl)) session number)
+      | inr is ↦ subst (λ (q : Request). IsStillOrMoves (answer_to tree session number moment q).changes) (sym is)
+          (link_cases (λ answer. IsStillOrMoves answer.changes) (λ code. inl refl) tree moment old new
+          (λ label m contents file. link_to_cases (λ answer. IsStillOrMoves answer.changes) (λ code. inl refl) tree moment new label (place_at tree new) refl
+          (λ free _. inr (inr (record { label = label; metadata = m; contents = contents; is_link = is; file = file; free = free; unmoved = touch_moves moment (directory_at tree (parent new)) })))) session number)
+    ]
   ]
 
   pub moved_changes : (p : Path) → moved_by (answer_to tree session number moment r).changes ≡ Some p → (p ≡ old) × ((answer_to tree session number moment r).changes ≡ (moves tree moment old new).changes)
   moved_changes p some = elim still_or_moves [
     | inl still ↦ let none : None ≡ Some p = ap (λ (changes : List Change). moved_by changes) (sym still) ∙ some in cc
-    | inr is ↦ let same : Some old ≡ Some p = ap (λ (changes : List Change). moved_by changes) (sym is) ∙ some in (cc, is)
+    | inr other ↦ elim other [
+      | inl is ↦ let same : Some old ≡ Some p = ap (λ (changes : List Change). moved_by changes) (sym is) ∙ some in (cc, is)
+      | inr links ↦ let none : None ≡ Some p = sym links.unmoved ∙ some in cc
+    ]
   ]
+
+  -- a call that moves nothing leaves the labels of paths that are there
+  pub unmoved_labels : moved_by (answer_to tree session number moment r).changes ≡ None → (q : Path) → IsSome (label_at tree.names q)
+      → label_at (apply tree session number moment r).tree.names q ≡ label_at tree.names q
+  unmoved_labels none q some = elim still_or_moves [
+    | inl still ↦ ap (λ (cs : List Change). label_at (done tree cs).names q) still
+    | inr other ↦ elim other [
+      | inl is ↦ let moves_old : Some old ≡ None = ap (λ (changes : List Change). moved_by changes) (sym is) ∙ none in cc
+      | inr links ↦
+          other_paths tree session number r (answer_to tree session number moment r).changes tree q (own tree session number moment r)
+          (λ owned.
+          let at : q ≡ new = subst (λ (x : Request). IsOwnPath x q) links.is_link owned in
+          let gone : label_at tree.names q ≡ None = ap (label_at tree.names) at ∙ (place_free tree new links.free).1 in
+          let nothing = ap (λ (o : Option ℕ). is_some o) (sym gone) ∙ some in cc)
+    ]
+  ]
+
+  -- and where one path begins with the other, it changes nothing
+  module _ (way : (path : Path) (label : ℕ) → label_at tree.names path ≡ Some label → is_faulty_way tree path ≡ false) where
+    named_old : (links : Links (answer_to tree session number moment r).changes) → label_at tree.names old ≡ Some links.label
+    named_old links = (found_file tree old links.label links.metadata links.contents links.file).0
+
+    no_inside : Links (answer_to tree session number moment r).changes → (rest : Path) → new ≡ old ++ rest → ⊥
+    no_inside links [] is =
+        let same : label_at tree.names old ≡ None = ap (label_at tree.names) (sym (is ∙ append-nil old)) ∙ (place_free tree new links.free).1 in
+        let some = named_old links in cc
+    no_inside links (name ∷ rest) is =
+        let file = found_file tree old links.label links.metadata links.contents links.file in
+        let directory : is_directory tree old ≡ true = front_is_directory tree old name rest (ap (is_faulty_way tree) (sym is) ∙ (place_free tree new links.free).0) in
+        let no : is_directory tree old ≡ false = is_directory_is tree old ∙ ap (is_directory_label tree.objects) file.0 ∙ ap (λ (o : Option Object). is_directory_object o) file.1 in cc
+
+    no_around : Links (answer_to tree session number moment r).changes → (rest : Path) → old ≡ new ++ rest → ⊥
+    no_around links [] is =
+        let same : label_at tree.names old ≡ None = ap (label_at tree.names) (is ∙ append-nil new) ∙ (place_free tree new links.free).1 in
+        let some = named_old links in cc
+    no_around links (name ∷ rest) is =
+        let directory : is_directory tree new ≡ true = front_is_directory tree new name rest (ap (is_faulty_way tree) (sym is) ∙ way old links.label (named_old links)) in
+        let there = is_there_directory tree new directory in
+        let none = (place_free tree new links.free).1 in
+        let some = there.1 in cc
+
+    pub unmoved_nested : moved_by (answer_to tree session number moment r).changes ≡ None → IsSome (after_front old new) ⊎ IsSome (after_front new old) → (answer_to tree session number moment r).changes ≡ []
+    unmoved_nested none nested = elim still_or_moves [
+      | inl still ↦ still
+      | inr other ↦ elim other [
+        | inl is ↦ let moves_old : Some old ≡ None = ap (λ (changes : List Change). moved_by changes) (sym is) ∙ none in cc
+        | inr links ↦ absurd (elim nested [
+          | inl inside ↦ begins (after_front old new) inside (λ rest at. no_inside links rest (append-after_front old new rest at))
+          | inr around ↦ begins (after_front new old) around (λ rest at. no_around links rest (append-after_front new old rest at))
+        ])
+      ]
+    ]
 
 pub moved_old : (history : List Record) (number session moment : ℕ) (r : Request) (old new p : Path) → IsLegal history → 0 < number → IsNewNumber number history
     → target_of r ≡ OnPaths old new → moved_by (answer_to (replay history) session number moment r).changes ≡ Some p → (p ≡ old) × IsMove (replay history) old new
@@ -123,6 +242,7 @@ module _ (tree : Tree) (session number : ℕ) (r : Request) (other : (old new : 
   none_moved (Move old new ∷ cs) all = absurd (no_own_move old new all.0)
   none_moved (SetObject label object ∷ cs) all = none_moved cs all.1
   none_moved (NewPath path label object ∷ cs) all = none_moved cs all.1
+  none_moved (NewName path label ∷ cs) all = none_moved cs all.1
   none_moved (GonePath path ∷ cs) all = none_moved cs all.1
   none_moved (OpenHandle handle opened ∷ cs) all = none_moved cs all.1
   none_moved (SetHandle handle opened ∷ cs) all = none_moved cs all.1
@@ -158,7 +278,7 @@ spared_labels history number session moment r old new q legal above fresh e some
       changes = (answer_to (replay history) session number moment r).changes
 
       by_move : (o : Option Path) → moved_by changes ≡ o → label_at (done (replay history) changes).names q ≡ label_at (replay history).names q
-      by_move None none = ap (λ (cs : List Change). label_at (done (replay history) cs).names q) (unmoved_tree (replay history) session number moment r old new e none)
+      by_move None none = unmoved_labels (replay history) session number moment r old new e none q some
       by_move (Some p) moved =
           let may = (moved_old history number session moment r old new p legal above fresh e moved).1 in
           labels_by_target (replay history) session number moment r (OnPaths old new) q e

@@ -11,7 +11,7 @@ use Rattle.sf_call.specs.declared.record.Record.{Record}
 use Rattle.sf_call.specs.Attributes.{Object}
 use Rattle.sf_call.specs.Tree.{Tree, object_of, is_used, kept}
 use Rattle.sf_call.specs.Changes.{Change, changed, done}
-use Rattle.sf_call.specs.Changes.Change.{SetObject, NewPath, GonePath, Move, OpenHandle, SetHandle, CloseHandle}
+use Rattle.sf_call.specs.Changes.Change.{SetObject, NewPath, NewName, GonePath, Move, OpenHandle, SetHandle, CloseHandle}
 use Rattle.sf_call.specs.Allowed.{kind_of, IsSetRightly, MayChange, AreAllowed}
 use Rattle.sf_call.specs.Calls.{answer_to, apply}
 use Rattle.sf_call.specs.Histories.{replay, IsNewNumber, IsLegal}
@@ -60,6 +60,7 @@ module _ (number label : ℕ) (other : label ≢ number) (kind : FileType) where
   kind_changed tree (SetObject set object) may h = once_set tree set object may h
   kind_changed tree (NewPath path new object) may h =
       as_before (object_of tree.objects label) _ (other_put nat_cmp nat_cmp-IsAntisymmetric nat_cmp_total tree.objects new object label (λ same. other (same ∙ may.is_number))) h
+  kind_changed tree (NewName path new) may h = h
   kind_changed tree (GonePath path) may h = once_kept _ h
   kind_changed tree (Move old new) may h = once_kept _ h
   kind_changed tree (OpenHandle handle opened) may h = h

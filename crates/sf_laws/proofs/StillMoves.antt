@@ -5,20 +5,15 @@ use Rattle.sf_path.specs.Order.{same_name}
 use Rattle.sf_call.specs.declared.request.Request.{Request}
 use Rattle.sf_call.specs.declared.record.Record.{Record}
 use Rattle.sf_call.specs.Attributes.{Object}
-use Rattle.sf_call.specs.Attributes.Object.{Directory, File}
 use Rattle.sf_call.specs.Tree.{Tree, label_at, object_of, is_directory, after_front}
 use Rattle.sf_call.specs.Changes.{Change, done}
 use Rattle.sf_laws.specs.Own.{IsOwnPath}
 use Rattle.sf_call.specs.Allowed.{kind_of, IsMove, IsWellFormed}
 use Rattle.sf_call.specs.Calls.{answer_to, apply}
 use Rattle.sf_call.specs.Histories.{replay, IsNewNumber, IsLegal}
-use Rattle.sf_call.proofs.Laws.{open_way, same_name_is, same_name_itself, no_front, is_directory_object, is_directory_label, is_directory_is, is_there_directory, named_object, allowed_changes, well_formed}
+use Rattle.sf_call.proofs.Laws.{open_way, same_name_is, same_name_itself, no_front, is_directory_label, is_directory_is, is_there_directory, named_object, allowed_changes, well_formed, front_itself, directory_by_kind}
 use Rattle.sf_laws.proofs.OwnChanges.{own, other_paths}
 use Rattle.sf_laws.proofs.SameKinds.{kinds_stay}
-
-front_itself : (p : Path) → after_front p p ≡ Some []
-front_itself [] = refl
-front_itself (n ∷ p) = ap (λ b. cond b (after_front p p) None) (same_name_itself n) ∙ front_itself p
 
 -- what lies below one of two separate paths doesn't lie below the other
 apart_below : (p q r : Path) → after_front p q ≡ None → after_front q p ≡ None → after_front p (q ++ r) ≡ None
@@ -31,13 +26,6 @@ apart_below (n ∷ p) (m ∷ q) r a b =
     ] refl a where
       back : same_name n m ≡ true → same_name m n ≡ true
       back same = ap (λ (x : Name). same_name m x) (same_name_is n m same) ∙ same_name_itself m
-
-directory_by_kind : (a b : Option Object) → option_map kind_of a ≡ option_map kind_of b → is_directory_object b ≡ true → is_directory_object a ≡ true
-directory_by_kind a None e h = cc
-directory_by_kind a (Some (File m contents)) e h = cc
-directory_by_kind None (Some (Directory m)) e h = cc
-directory_by_kind (Some (Directory n)) (Some (Directory m)) e h = refl
-directory_by_kind (Some (File n contents)) (Some (Directory m)) e h = cc
 
 -- a path isn't strictly below another
 abbrev pub IsNotUnder : Path → Path → Type 0
@@ -59,7 +47,7 @@ module _ (tree next : Tree) (old new : Path)
       let still : label_at next.names path ≡ Some there.0 = labels path (outside path none) ∙ there.1 in
       is_directory_is next path ∙ ap (is_directory_label next.objects) still
       ∙ directory_by_kind (object_of next.objects there.0) (object_of tree.objects there.0) (kinds path there.0 there.1 still)
-      (ap (is_directory_label tree.objects) (sym there.1) ∙ sym (is_directory_is tree path) ∙ h)
+      ∙ ap (is_directory_label tree.objects) (sym there.1) ∙ sym (is_directory_is tree path) ∙ h
 
   pub still : IsMove next old new
   still = record {
@@ -72,6 +60,7 @@ module _ (tree next : Tree) (old new : Path)
     alike = λ replaced there.
         let was : label_at tree.names new ≡ Some replaced = sym (labels new (outside new may.not_inside)) ∙ there in
         kinds new replaced was there ∙ may.alike replaced was ∙ sym (kinds old may.label may.named (labels old not_itself ∙ may.named));
+    other = λ at. may.other (sym (labels new (outside new may.not_inside)) ∙ at);
   }
 
 -- the kinds of two objects that are there

@@ -3,7 +3,7 @@ use Rattle.std.specs.Prelude.{◌≡◌, ◌⊎◌, ℕ, IsSome}
 use Rattle.sf_path.specs.Names.{Path}
 use Rattle.sf_call.specs.Tree.{after_front}
 use Rattle.sf_call.specs.Changes.{Change}
-use Rattle.sf_call.specs.Changes.Change.{SetObject, NewPath, GonePath, Move, OpenHandle, SetHandle, CloseHandle}
+use Rattle.sf_call.specs.Changes.Change.{SetObject, NewPath, NewName, GonePath, Move, OpenHandle, SetHandle, CloseHandle}
 
 -- what begins with this path or that
 abbrev pub BeginsWithEither : Path → Path → Path → Type 0
@@ -13,6 +13,7 @@ BeginsWithEither this that path = IsSome (after_front this path) ⊎ IsSome (aft
 abbrev pub IsOfPath : Change → Path → Type 0
 IsOfPath (SetObject label object) path = ⊥
 IsOfPath (NewPath new label object) path = path ≡ new
+IsOfPath (NewName new label) path = path ≡ new
 IsOfPath (GonePath gone) path = path ≡ gone
 IsOfPath (Move old new) path = BeginsWithEither old new path
 IsOfPath (OpenHandle number handle) path = ⊥
@@ -23,6 +24,7 @@ IsOfPath (CloseHandle number) path = ⊥
 abbrev pub IsOfLabel : Change → ℕ → Type 0
 IsOfLabel (SetObject set object) label = label ≡ set
 IsOfLabel (NewPath path new object) label = label ≡ new
+IsOfLabel (NewName path of) label = ⊥
 IsOfLabel (GonePath path) label = ⊥
 IsOfLabel (Move old new) label = ⊥
 IsOfLabel (OpenHandle number handle) label = ⊥
@@ -33,6 +35,7 @@ IsOfLabel (CloseHandle number) label = ⊥
 abbrev pub IsOfNumber : Change → ℕ → Type 0
 IsOfNumber (SetObject label object) number = ⊥
 IsOfNumber (NewPath path label object) number = ⊥
+IsOfNumber (NewName path label) number = ⊥
 IsOfNumber (GonePath path) number = ⊥
 IsOfNumber (Move old new) number = ⊥
 IsOfNumber (OpenHandle opened handle) number = number ≡ opened

@@ -3,14 +3,14 @@ use Rattle.std.specs.Prelude.{◌≡◌, ◌⊎◌, ℕ, Option, Some, IsSome}
 use Rattle.sf_path.specs.Names.{Path}
 use Rattle.sf_path.specs.Order.{parent}
 use Rattle.sf_call.specs.declared.request.Request.{Request}
-use Rattle.sf_call.specs.declared.request.Request.TheVariants.{SetStat, Mkdir, Rmdir, Remove, OpenDir, Open, Close, FSetStat, Write, ReadDir, Rename, PosixRename}
+use Rattle.sf_call.specs.declared.request.Request.TheVariants.{SetStat, Mkdir, Rmdir, Remove, OpenDir, Open, Close, FSetStat, Write, ReadDir, Rename, PosixRename, Link}
 use Rattle.sf_call.specs.declared.handle.Handle.{Handle}
 use Rattle.sf_call.specs.Attributes.{Object}
 use Rattle.sf_call.specs.Tree.{Tree, label_at}
 use Rattle.sf_call.specs.Handles.{handle_in}
 use Rattle.sf_laws.specs.LeftAlone.{BeginsWithEither}
 
--- the path that it names anew or removes; of a rename both
+-- the path that it names anew or removes; of a rename both, of a link the new one
 abbrev pub IsEntryOf : Request → Path → Type 0
 IsEntryOf (Mkdir path attrs) other = other ≡ path
 IsEntryOf (Rmdir path) other = other ≡ path
@@ -18,6 +18,7 @@ IsEntryOf (Remove path) other = other ≡ path
 IsEntryOf (Open path flags attrs) other = other ≡ path
 IsEntryOf (Rename old new) other = (other ≡ old) ⊎ (other ≡ new)
 IsEntryOf (PosixRename old new) other = (other ≡ old) ⊎ (other ≡ new)
+IsEntryOf (Link old new) other = other ≡ new
 IsEntryOf request other = ⊥
 
 -- that path; of a rename all that begins with one of its two
@@ -47,6 +48,7 @@ IsOwnObject tree session (Rename old new) label =
     IsAt tree (parent old) label ⊎ IsAt tree (parent new) label
 IsOwnObject tree session (PosixRename old new) label =
     IsAt tree (parent old) label ⊎ IsAt tree (parent new) label
+IsOwnObject tree session (Link old new) label = IsAt tree (parent new) label
 IsOwnObject tree session request label = ⊥
 
 -- the handle that the call with this number opens, or one of the session that it closes or lists by

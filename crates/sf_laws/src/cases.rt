@@ -64,7 +64,7 @@ pub fn file_cases()
     ensures listed { replies (new_file f ∷ Write 1 5 (codes "x") ∷ OpenDir [] ∷ ReadDir 3
         ∷ ReadDir 3 ∷ [])
         ≡ reply.Handle 1 ∷ ok ∷ reply.Handle 3 ∷ reply.Names
-        (entry_of f (File (metadata 0 0 0o644 100 100) (0 ∷ 0 ∷ 0 ∷ 0 ∷ 0 ∷ 120 ∷ [])) ∷ [])
+        (entry_of f 1 (File (metadata 0 0 0o644 100 100) (0 ∷ 0 ∷ 0 ∷ 0 ∷ 0 ∷ 120 ∷ [])) ∷ [])
         ∷ reply.Status EndOfFile ∷ [] }
     ensures past_limit { replies (new_file f ∷ Write 1 16777216 (codes "x")
         ∷ Write 1 18446744073709551615 (codes "x") ∷ SetStat (f ∷ []) (sized 16777217)

@@ -2,7 +2,7 @@
 
 ghost use Rattle.std.specs.Prelude.{◌≡◌, ◌≢◌, ◌<◌, ℕ, true, List, [], ◌∷◌, Some, None, IsSome};
 ghost use Rattle.sf_call.specs.declared.request.Request.{Request};
-ghost use Rattle.sf_call.specs.declared.request.Request.TheVariants.{Stat, SetStat, FStat, FSetStat, Read, Write, Rename, PosixRename};
+ghost use Rattle.sf_call.specs.declared.request.Request.TheVariants.{Stat, SetStat, FStat, FSetStat, Read, Write, Rename, PosixRename, Link};
 ghost use Rattle.sf_call.specs.declared.record.Record.{Record};
 ghost use Rattle.sf_path.specs.Names.{Name, Path};
 ghost use Rattle.sf_path.specs.Order.{parent};
@@ -18,6 +18,7 @@ ghost use Rattle.sf_field.specs.Attributes.{no_attrs};
 ghost use Rattle.sf_call.specs.Attributes.{Object, modified_at};
 ghost use Rattle.sf_call.specs.Attributes.Object.{Directory};
 ghost use Rattle.sf_laws.specs.Own.{IsOneOf, IsEntryOf, IsOwnPath, IsOwnObject, IsOwnHandle};
+ghost use Rattle.sf_laws.specs.Linked.{IsLinked};
 ghost use Rattle.sf_call.specs.Allowed.{IsMove, kind_of};
 ghost use Rattle.sf_call.specs.Histories.{replay, IsNewNumber, IsLegal};
 
@@ -128,4 +129,12 @@ pub fn still_moves()
         → (name : Name) × (rest : Path) × (after_front old path ≡ Some (name ∷ rest)))
         → IsMove (replay history) old new
         → IsMove (apply (replay history) session number moment request).tree old new }
+{}
+
+/// A link that is told OK names the file at the old path by the new one too, which named nothing; so one path more names
+/// it, and never more than 1024.
+pub fn linked_files()
+    ensures { (tree : Tree) (session number moment : ℕ) (old new : Path)
+        → (apply tree session number moment (Link old new)).reply ≡ Status Success
+        → IsLinked tree (apply tree session number moment (Link old new)).tree old new }
 {}

@@ -2,7 +2,7 @@
 
 ghost use Rattle.std.specs.Prelude.{◌≡◌, ℕ, true, [], ◌∷◌, ◌++◌, length, Some, Option, ◌⊎◌};
 ghost use Rattle.sf_path.specs.Names.{Name, Path};
-ghost use Rattle.sf_call.specs.Tree.{Tree, IsOrderedTree, label_at, object_of};
+ghost use Rattle.sf_call.specs.Tree.{Tree, IsOrderedTree, label_at, object_of, links};
 ghost use Rattle.sf_call.specs.Listings.{entry_of, is_past, listing, names_of};
 ghost use Rattle.std.specs.List.{AllByRecursion, Contains};
 ghost use Rattle.std.specs.Ordering.{is_lt};
@@ -28,7 +28,7 @@ pub fn listed_all()
         (label : ℕ) (object : Object) → IsOrderedTree tree
         → label_at tree.names (directory ++ name ∷ []) ≡ Some label
         → object_of tree.objects label ≡ Some object → is_past last name ≡ true
-        → Contains (listing tree last directory) (entry_of name object)
+        → Contains (listing tree last directory) (entry_of name (links tree.names label) object)
         ⊎ ((length (listing tree last directory) ≡ MAX_ENTRIES)
         × AllByRecursion (λ listed. is_lt (name_cmp listed name)
         ≡ true) (names_of (listing tree last directory))) }
@@ -36,5 +36,5 @@ pub fn listed_all()
         → AllByRecursion (λ entry. (label : ℕ) × (object : Object)
         × (label_at tree.names (directory ++ entry.filename ∷ []) ≡ Some label)
         × (object_of tree.objects label ≡ Some object)
-        × (entry ≡ entry_of entry.filename object)) (listing tree last directory) }
+        × (entry ≡ entry_of entry.filename (links tree.names label) object)) (listing tree last directory) }
 {}

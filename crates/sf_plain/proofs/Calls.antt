@@ -1,5 +1,5 @@
 -- What calls answer where an object is there.
-use Rattle.std.proofs.Common.{◌≡◌, ℕ, nat_eq, not, ◌&&◌, ◌||◌, Bool, true, false, cond, [], Some, refl}
+use Rattle.std.proofs.Common.{◌≡◌, ℕ, nat_eq, not, ◌&&◌, ◌||◌, Bool, true, false, cond, [], Option, Some, None, refl}
 use Rattle.std.specs.Option.{is_some}
 use Rattle.sf_path.specs.Names.{Path}
 use Rattle.sf_field.specs.declared.attrs.Attrs.{Attrs}
@@ -8,9 +8,10 @@ use Rattle.sf_reply.specs.declared.reply.Reply.TheVariants as reply
 use Rattle.sf_call.specs.Attributes.{Object, attrs_of}
 use Rattle.sf_call.specs.Attributes.Object.{Directory, File}
 use Rattle.sf_call.specs.declared.handle.Handle.{Handle}
-use Rattle.sf_call.specs.Tree.{Tree, directory_metadata, is_directory, found_object, is_empty}
+use Rattle.sf_call.specs.Tree.{Tree, directory_metadata, is_directory, place_at, found_object, is_empty}
 use Rattle.sf_call.specs.Handles.{opened_object}
-use Rattle.sf_call.specs.Calls.{Answer, refuses, sets, set_stat, goes, moves, replace_by, remove_directory, remove_file, has_all_handles, opens, directory_handle, open_directory, set_opened, tells, stat_opened}
+use Rattle.sf_plain.specs.Nodes.{is_file}
+use Rattle.sf_call.specs.Calls.{Answer, refuses, sets, set_stat, succeeds, goes, moves, replace_by, link_to, link, remove_directory, remove_file, has_all_handles, opens, directory_handle, open_directory, set_opened, tells, stat_opened}
 
 abbrev pub is_directory_node : Object → Bool
 is_directory_node o = is_some (directory_metadata o)
@@ -48,8 +49,30 @@ pub tells_opened : (h : Handle) (o : Object) → stat_opened (opened_object h (S
 tells_opened h (Directory m) = refl
 tells_opened h (File m contents) = refl
 
-pub replaces_object : (tree : Tree) (moment : ℕ) (old new : Path) (label : ℕ) (o : Object)
-    → replace_by tree moment old new (found_object label (Some o))
+pub replaces_object : (tree : Tree) (moment : ℕ) (old new : Path) (label at : ℕ) (o : Object) → (nat_eq label at && is_file (Some o)) ≡ false
+    → replace_by tree moment old new label (found_object at (Some o))
     ≡ cond (cond (is_directory_node o) (is_directory tree old && is_empty tree.names new) (not (is_directory tree old))) (moves tree moment old new) (refuses Failure)
-replaces_object tree moment old new label (Directory m) = refl
-replaces_object tree moment old new label (File m contents) = negated (is_directory tree old) (refuses Failure) (moves tree moment old new)
+replaces_object tree moment old new label at (Directory m) apart = refl
+replaces_object tree moment old new label at (File m contents) apart =
+    elim (nat_eq label at) as (λ b. (b && true) ≡ false
+    → cond b (succeeds []) (cond (is_directory tree old) (refuses Failure) (moves tree moment old new)) ≡ cond (not (is_directory tree old)) (moves tree moment old new) (refuses Failure)) [
+      | true ↦ λ e. cc
+      | false ↦ λ e. negated (is_directory tree old) (refuses Failure) (moves tree moment old new)
+    ] apart
+
+pub same_file : (tree : Tree) (moment : ℕ) (old new : Path) (label at : ℕ) (o : Option Object) → (nat_eq label at && is_file o) ≡ true
+    → replace_by tree moment old new label (found_object at o) ≡ succeeds []
+same_file tree moment old new label at None same = elim (nat_eq label at) as (λ b. (b && false) ≡ true → moves tree moment old new ≡ succeeds []) [ true ↦ λ e. cc | false ↦ λ e. cc ] same
+same_file tree moment old new label at (Some (Directory m)) same =
+    elim (nat_eq label at) as (λ b. (b && false) ≡ true → replace_by tree moment old new label (found_object at (Some (Directory m))) ≡ succeeds []) [ true ↦ λ e. cc | false ↦ λ e. cc ] same
+same_file tree moment old new label at (Some (File m contents)) same =
+    elim (nat_eq label at) as (λ b. (b && true) ≡ true
+    → cond b (succeeds []) (cond (is_directory tree old) (refuses Failure) (moves tree moment old new)) ≡ succeeds []) [
+      | true ↦ λ e. refl
+      | false ↦ λ e. cc
+    ] same
+
+pub links_object : (tree : Tree) (moment : ℕ) (new : Path) (label : ℕ) (o : Object)
+    → link tree moment new (found_object label (Some o)) ≡ cond (is_directory_node o) (refuses Failure) (link_to tree moment new label (place_at tree new))
+links_object tree moment new label (Directory m) = refl
+links_object tree moment new label (File m contents) = refl

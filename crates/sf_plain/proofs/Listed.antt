@@ -9,5 +9,5 @@ use Rattle.sf_call.specs.Listings.{entry_of}
 abbrev pub entry_with : Name → List ℕ → Object → Entry
 entry_with name line o = record { filename = name; longname = line; attrs = attrs_of o }
 
-pub entry_is : (name line : List ℕ) (o : Object) → longname_text (attrs_of o) 1 name ≡ Some line → entry_with name line o ≡ entry_of name o
-entry_is name line o e = ap (λ (l : Option (List ℕ)). entry_with name (unwrap_or l []) o) (sym e)
+pub entry_is : (name line : List ℕ) (count : ℕ) (o : Object) → longname_text (attrs_of o) count name ≡ Some line → entry_with name line o ≡ entry_of name count o
+entry_is name line count o e = ap (λ (l : Option (List ℕ)). entry_with name (unwrap_or l []) o) (sym e)

@@ -1,6 +1,8 @@
 -- The object that a node is.
+use Rattle.std.specs.Prelude.{ℕ, nat_eq, Bool, true, false, ◌&&◌, Option, Some, None}
 use Rattle.sf_call.specs.Attributes.{Object}
 use Rattle.sf_call.specs.Attributes.Object.{Directory, File}
+use Rattle.sf_call.specs.Tree.{Tree, object_of}
 use Rattle.sf_plain.specs.declared.node.Kind.{Kind}
 use Rattle.sf_plain.specs.declared.node.Kind.TheVariants as kind
 use Rattle.sf_plain.specs.declared.node.Parts.{Parts}
@@ -13,3 +15,12 @@ object_of_kind (kind.File m contents) = File m contents
 abbrev pub object_of_parts : Parts → Object
 object_of_parts (parts.Directory m) = Directory m
 object_of_parts (parts.File m contents) = File m contents.now
+
+abbrev pub is_file : Option Object → Bool
+is_file None = false
+is_file (Some (Directory m)) = false
+is_file (Some (File m contents)) = true
+
+-- both labels are one file's
+abbrev pub is_same_file : Tree → ℕ → ℕ → Bool
+is_same_file tree label other = nat_eq label other && is_file (object_of tree.objects other)

@@ -22,6 +22,7 @@ use std::collections::BTreeMap;
 use std::marker::Model;
 
 mod handle_calls;
+mod links;
 mod listing;
 mod path_calls;
 mod renames;
@@ -111,6 +112,7 @@ impl PlainTree {
             Request::ReadDir(handle) => self.read_directory(session, *handle),
             Request::Rename(old, new) => self.rename(moment, old, new),
             Request::PosixRename(old, new) => self.posix_rename(moment, old, new),
+            Request::Link(old, new) => self.link(moment, old, new),
         }
     }
 

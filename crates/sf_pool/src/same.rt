@@ -83,6 +83,7 @@ pub(crate) fn same_request(a: &Request, b: &Request) -> bool
         (Request::PosixRename(a, c), Request::PosixRename(b, d)) => {
             same_path(a, b) && same_path(c, d)
         }
+        (Request::Link(a, c), Request::Link(b, d)) => same_path(a, b) && same_path(c, d),
         _ => false,
     }
 }

@@ -61,9 +61,10 @@ fields_of (reply.Attrs a) = attrs_text a
 abbrev pub reply_body : ℕ → Reply → List ℕ
 reply_body id r = kind_of_reply r ∷ be32 id ++ fields_of r
 
--- version 3, and one pair of strings
+-- version 3, and two pairs of strings
 abbrev pub version_body : List ℕ
 version_body = 2 ∷ be32 3 ++ string (codes "posix-rename@openssh.com") ++ string (codes "1")
+    ++ string (codes "hardlink@openssh.com") ++ string (codes "1")
 
 -- A reply that holds no list: a copy of it takes no memory, and its packet is short.
 abbrev pub IsPlain : Reply → Type 0

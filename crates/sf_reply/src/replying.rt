@@ -55,19 +55,22 @@ fn put_entry(out: &mut BytesMut, entry: &Entry)
     put_attrs(out, &entry.attrs);
 }
 
-/// Appends the packet VERSION whole, or nothing: version 3, with the one extension
-/// `posix-rename@openssh.com` of version `1`. A buffer with the packet's room takes no memory.
+/// Appends the packet VERSION whole, or nothing: version 3, with the extensions
+/// `posix-rename@openssh.com` and `hardlink@openssh.com`, each of version `1`. A buffer with the packet's
+/// room takes no memory.
 pub fn write_version(out: &mut BytesMut) -> Result<(), AllocError>
     ensures ok { OnOk result (out.new.items ≡ out.old.items ++ packet version_body) }
     ensures err { OnErr result (out.new.items ≡ out.old.items) }
     ensures spare { UsesSpare result out.old.spare out.new.spare (length (packet version_body)) }
     ensures enough { length (packet version_body) ≤ out.old.spare → IsOk result }
 {
-    out.reserve(42)?;
-    put_u32(out, 38);
+    out.reserve(71)?;
+    put_u32(out, 67);
     out.extend_reserved(&[VERSION]);
     put_u32(out, 3);
     put_string(out, b"posix-rename@openssh.com");
+    put_string(out, b"1");
+    put_string(out, b"hardlink@openssh.com");
     put_string(out, b"1");
     Ok(())
 }

@@ -1,5 +1,5 @@
 -- What a body asks is read, and what is read is asked.
-use Rattle.std.proofs.Common.{◌≡◌, ◌≢◌, ℕ, suc, Bool, true, false, cond, eqb, not, List, [], ◌∷◌, ◌++◌, Option, Some, None, refl, sym, ap, subst, ◌∙◌, append_assoc, arith, lit<, inl, inr, length, ◌<◌}
+use Rattle.std.proofs.Common.{◌≡◌, ◌≢◌, ℕ, suc, Bool, true, false, cond, eqb, not, ◌||◌, List, [], ◌∷◌, ◌++◌, Option, Some, None, refl, sym, ap, subst, ◌∙◌, append_assoc, arith, lit<, inl, inr, length, ◌<◌}
 use Rattle.std.specs.Str.{bytes_eq}
 use Rattle.std.specs.Int.{w32}
 use Rattle.std.proofs.lemmas.Bool.{eqb-true, eqb-false, ne_eqb}
@@ -9,7 +9,7 @@ use Rattle.sf_request.specs.declared.request.WireRequest.TheVariants as request
 use Rattle.sf_request.specs.declared.request.Asked.{Asked}
 use Rattle.sf_request.specs.declared.request.Asked.TheVariants.{Init, Request, BadFields, Unknown, NoVersion, NoId}
 use Rattle.sf_field.specs.Fields.{be32}
-use Rattle.sf_request.specs.Requests.{kind_of, is_request, posix_rename, SpellsFields, HasId, HasOtherName, IsUnknown, Asks}
+use Rattle.sf_request.specs.Requests.{kind_of, is_request, posix_rename, hardlink, SpellsFields, HasId, HasOtherName, IsUnknown, Asks}
 use Rattle.sf_field.specs.Reading.{number_at, string_at}
 use Rattle.sf_request.specs.Reading.{other_name, is_unknown, request_at, asked_by, asked_under, asked_of}
 use Rattle.sf_field.proofs.Laws.{IsBytes, IsBytes-rest, reads_u32, reads_string, number_none, number_short}
@@ -26,6 +26,11 @@ not_false : (b : Bool) → not b ≡ false → b ≡ true
 not_false true e = refl
 not_false false e = absurd cc
 
+neither : (a b : Bool) → not (a || b) ≡ true → (a ≡ false) × (b ≡ false)
+neither true b e = absurd cc
+neither false true e = absurd cc
+neither false false e = (refl, refl)
+
 name_found : (o : Option (List ℕ × List ℕ)) (rest : List ℕ) → IsBytes rest → string_at rest ≡ o → other_name o ≡ true → HasOtherName rest
 name_found None rest fits e is = absurd cc
 name_found (Some name) rest fits e is =
@@ -35,17 +40,19 @@ name_found (Some name) rest fits e is =
       more = name.1;
       short = t.1;
       parts = t.0.parts;
-      other = λ same. let yes : bytes_eq name.0 posix_rename ≡ true = (bytes_eq-Decides name.0 posix_rename).1 same in let no : bytes_eq name.0 posix_rename ≡ false = not_true (bytes_eq name.0 posix_rename) is in absurd cc;
+      no_rename = λ same. let yes : bytes_eq name.0 posix_rename ≡ true = (bytes_eq-Decides name.0 posix_rename).1 same in let other = (neither (bytes_eq name.0 posix_rename) (bytes_eq name.0 hardlink) is).0 in absurd cc;
+      no_link = λ same. let yes : bytes_eq name.0 hardlink ≡ true = (bytes_eq-Decides name.0 hardlink).1 same in let other = (neither (bytes_eq name.0 posix_rename) (bytes_eq name.0 hardlink) is).1 in absurd cc;
     }
 
-test_false : (b : Bool) → (b ≡ true → ⊥) → not b ≡ true
-test_false true h = absurd (h refl)
-test_false false h = refl
+both_false : (a b : Bool) → (a ≡ true → ⊥) → (b ≡ true → ⊥) → not (a || b) ≡ true
+both_false true b h k = absurd (h refl)
+both_false false true h k = absurd (k refl)
+both_false false false h k = refl
 
 name_only : (rest : List ℕ) → HasOtherName rest → other_name (string_at rest) ≡ true
 name_only rest h =
     let read : string_at rest ≡ Some (h.name, h.more) = ap string_at h.parts ∙ reads_string.again h.name h.more h.short in
-    ap other_name read ∙ test_false (bytes_eq h.name posix_rename) (λ e. h.other ((bytes_eq-Decides h.name posix_rename).0 e))
+    ap other_name read ∙ both_false (bytes_eq h.name posix_rename) (bytes_eq h.name hardlink) (λ e. h.no_rename ((bytes_eq-Decides h.name posix_rename).0 e)) (λ e. h.no_link ((bytes_eq-Decides h.name hardlink).0 e))
 
 unknown_by : (extended : Bool) (kind : ℕ) (rest : List ℕ) → eqb kind 200 ≡ extended → IsBytes rest → kind ≢ 1 → cond extended (other_name (string_at rest)) (not (is_request kind)) ≡ true → IsUnknown kind rest
 unknown_by true kind rest p fits no_init e = inr (eqb-true kind 200 p, name_found (string_at rest) rest fits refl e)
@@ -142,6 +149,7 @@ request_kind (request.RealPath path) = refl
 request_kind (request.Stat path) = refl
 request_kind (request.Rename old new) = refl
 request_kind (request.PosixRename old new) = refl
+request_kind (request.Link old new) = refl
 
 -- A request's type is known, and so is an extension's name.
 request_known : (r : WireRequest) (text more : List ℕ) → SpellsFields text r → is_unknown (kind_of r) (text ++ more) ≡ false
@@ -165,6 +173,9 @@ request_known (request.Rename old new) text more h = refl
 request_known (request.PosixRename old new) text more h =
     let parts : text ++ more ≡ h.front ++ (h.back ++ more) = ap (λ (t : List ℕ). t ++ more) h.parts ∙ append_assoc h.front h.back more in
     ap (λ (t : List ℕ). other_name (string_at t)) parts ∙ ap other_name (as_string.again posix_rename h.front (h.back ++ more) h.first)
+request_known (request.Link old new) text more h =
+    let parts : text ++ more ≡ h.front ++ (h.back ++ more) = ap (λ (t : List ℕ). t ++ more) h.parts ∙ append_assoc h.front h.back more in
+    ap (λ (t : List ℕ). other_name (string_at t)) parts ∙ ap other_name (as_string.again hardlink h.front (h.back ++ more) h.first)
 
 no_init : (kind : ℕ) → is_request kind ≡ true → eqb kind 1 ≡ false
 no_init kind known = ne_eqb kind 1 (λ e. let f : is_request 1 ≡ true = ap is_request (sym e) ∙ known in cc)

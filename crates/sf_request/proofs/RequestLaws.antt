@@ -9,7 +9,7 @@ use Rattle.std.proofs.lemmas.Slice.Eq.{bytes_eq-Decides}
 use Rattle.sf_field.specs.declared.attrs.Attrs.{Attrs}
 use Rattle.sf_request.specs.declared.request.WireRequest.{WireRequest}
 use Rattle.sf_request.specs.declared.request.WireRequest.TheVariants as request
-use Rattle.sf_request.specs.Requests.{kind_of, posix_rename, IsU32, IsU64, IsString, IsAttrs, IsFlags, ◌⨾◌, SpellsFields}
+use Rattle.sf_request.specs.Requests.{kind_of, posix_rename, hardlink, IsU32, IsU64, IsString, IsAttrs, IsFlags, ◌⨾◌, SpellsFields}
 use Rattle.sf_field.specs.Reading.{number_at, string_at, attrs_at, flags_at}
 use Rattle.sf_request.specs.Reading.{both_at, fields, two_strings_at, rename_at, string_request_at, attrs_request_at, extended_by, extended_at, readers, by_kind, request_at}
 use Rattle.sf_field.proofs.Laws.{IsBytes, some_is}
@@ -66,29 +66,35 @@ two_strings : (make : List ℕ → List ℕ → WireRequest) (kind : ℕ) → ((
 two_strings make kind of_kind spells =
     record { finds = finds_made (both_at string_at string_at) (Both IsString IsString) as_two_strings (λ x. make x.0 x.1) kind (λ x. of_kind x.0 x.1) (λ text x h. spells text x.0 x.1 h) }
 
--- ---- the extension
+-- ---- the extensions
 
-named : (same : Bool) (bytes name more : List ℕ) (r : WireRequest) → IsBytes bytes → string_at bytes ≡ Some (name, more) → bytes_eq name posix_rename ≡ same
-    → cond same (rename_at request.PosixRename more) None ≡ Some r → Found 200 bytes r
-named true bytes name more r fits read same e =
+named : (make : List ℕ → List ℕ → WireRequest) (known bytes name more : List ℕ) (r : WireRequest) → ((s t : List ℕ) → kind_of (make s t) ≡ 200)
+    → ((text s t : List ℕ) → (IsString known ⨾ IsString s ⨾ IsString t) text → SpellsFields text (make s t))
+    → IsBytes bytes → string_at bytes ≡ Some (name, more) → bytes_eq name known ≡ true → rename_at make more ≡ Some r → Found 200 bytes r
+named make known bytes name more r of_kind spells fits read same e =
     let t = as_string.takes bytes name more fits read in
-    let m = mapped_some (λ (x : List ℕ × List ℕ). request.PosixRename x.0 x.1) (two_strings_at more) r e in
+    let m = mapped_some (λ (x : List ℕ × List ℕ). make x.0 x.1) (two_strings_at more) r e in
     let u = fields_take (both_at string_at string_at) (Both IsString IsString) as_two_strings more m.0 t.1.rest_fits m.1 in
-    let name_is : name ≡ posix_rename = (bytes_eq-Decides name posix_rename).0 same in
+    let name_is : name ≡ known = (bytes_eq-Decides name known).0 same in
     subst (Found 200 bytes) m.2 (
     record {
       text = t.0 ++ u.0;
       more = u.1;
       parts = t.1.parts ∙ ap (λ (x : List ℕ). t.0 ++ x) u.2 ∙ sym (append_assoc t.0 u.0 u.1);
-      spelled = record { front = t.0; back = u.0; first = subst (λ (s : List ℕ). IsString s t.0) name_is t.2; second = u.3; parts = refl };
-      kind_is = refl;
+      spelled = spells (t.0 ++ u.0) m.0.0 m.0.1 (record { front = t.0; back = u.0; first = subst (λ (s : List ℕ). IsString s t.0) name_is t.2; second = u.3; parts = refl });
+      kind_is = of_kind m.0.0 m.0.1;
     }
     )
-named false bytes name more r fits read same e = absurd cc
+
+by_name : (posix link : Bool) (bytes name more : List ℕ) (r : WireRequest) → IsBytes bytes → string_at bytes ≡ Some (name, more) → bytes_eq name posix_rename ≡ posix → bytes_eq name hardlink ≡ link
+    → cond posix (rename_at request.PosixRename more) (cond link (rename_at request.Link more) None) ≡ Some r → Found 200 bytes r
+by_name true link bytes name more r fits read posix is_link e = named request.PosixRename posix_rename bytes name more r (λ s t. refl) (λ text s t h. h) fits read posix e
+by_name false true bytes name more r fits read posix is_link e = named request.Link hardlink bytes name more r (λ s t. refl) (λ text s t h. h) fits read is_link e
+by_name false false bytes name more r fits read posix is_link e = absurd cc
 
 extension : (o : Option (List ℕ × List ℕ)) (bytes : List ℕ) (r : WireRequest) → IsBytes bytes → string_at bytes ≡ o → extended_by o ≡ Some r → Found 200 bytes r
 extension None bytes r fits read e = absurd cc
-extension (Some name) bytes r fits read e = named (bytes_eq name.0 posix_rename) bytes name.0 name.1 r fits read refl e
+extension (Some name) bytes r fits read e = by_name (bytes_eq name.0 posix_rename) (bytes_eq name.0 hardlink) bytes name.0 name.1 r fits read refl refl e
 
 all_sound : AllByRecursion IsSound readers
 all_sound = (
@@ -168,10 +174,11 @@ strings_back : (make : List ℕ → List ℕ → WireRequest) (s t text more : L
 strings_back make s t text more h =
     ap (option_map (λ (x : List ℕ × List ℕ). make x.0 x.1)) (fields_again (both_at string_at string_at) (Both IsString IsString) as_two_strings (s, t) text more h)
 
-extension_back : (old new text more : List ℕ) → (IsString posix_rename ⨾ IsString old ⨾ IsString new) text → extended_at (text ++ more) ≡ Some (request.PosixRename old new)
-extension_back old new text more h =
+extension_back : (make : List ℕ → List ℕ → WireRequest) (known old new text more : List ℕ) → ((rest : List ℕ) → extended_by (Some (known, rest)) ≡ rename_at make rest)
+    → (IsString known ⨾ IsString old ⨾ IsString new) text → extended_at (text ++ more) ≡ Some (make old new)
+extension_back make known old new text more by h =
     let parts : text ++ more ≡ h.front ++ (h.back ++ more) = ap (λ (t : List ℕ). t ++ more) h.parts ∙ append_assoc h.front h.back more in
-    ap extended_at parts ∙ ap extended_by (as_string.again posix_rename h.front (h.back ++ more) h.first) ∙ strings_back request.PosixRename old new h.back more h.second
+    ap extended_at parts ∙ ap extended_by (as_string.again known h.front (h.back ++ more) h.first) ∙ by (h.back ++ more) ∙ strings_back make old new h.back more h.second
 
 pub request_again : (r : WireRequest) (text more : List ℕ) → SpellsFields text r → request_at (kind_of r) (text ++ more) ≡ Some r
 unfolding request_at
@@ -194,4 +201,5 @@ request_again (request.Rmdir path) text more h = string_back request.Rmdir path 
 request_again (request.RealPath path) text more h = string_back request.RealPath path text more h
 request_again (request.Stat path) text more h = string_back request.Stat path text more h
 request_again (request.Rename old new) text more h = strings_back request.Rename old new text more h
-request_again (request.PosixRename old new) text more h = extension_back old new text more h
+request_again (request.PosixRename old new) text more h = extension_back request.PosixRename posix_rename old new text more (λ rest. refl) h
+request_again (request.Link old new) text more h = extension_back request.Link hardlink old new text more (λ rest. refl) h

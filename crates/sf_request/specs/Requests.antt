@@ -29,6 +29,7 @@ kind_of (request.RealPath path) = 16
 kind_of (request.Stat path) = 17
 kind_of (request.Rename old new) = 18
 kind_of (request.PosixRename old new) = 200
+kind_of (request.Link old new) = 200
 
 -- 3 to 18, and the extensions
 abbrev pub is_request : ℕ → Bool
@@ -36,6 +37,9 @@ is_request kind = nat_lt 2 kind && nat_lt kind 19 || kind == 200
 
 abbrev pub posix_rename : List ℕ
 posix_rename = codes "posix-rename@openssh.com"
+
+abbrev pub hardlink : List ℕ
+hardlink = codes "hardlink@openssh.com"
 
 -- the texts that spell one field
 pub record IsU32 (n : ℕ) (text : List ℕ) : Type 0 where
@@ -91,6 +95,7 @@ SpellsFields text (request.Stat path) = IsString path text
 SpellsFields text (request.Rename old new) = (IsString old ⨾ IsString new) text
 SpellsFields text (request.PosixRename old new) =
     (IsString posix_rename ⨾ IsString old ⨾ IsString new) text
+SpellsFields text (request.Link old new) = (IsString hardlink ⨾ IsString old ⨾ IsString new) text
 
 -- the body of a packet, with its type and its id
 pub record HasId (body : List ℕ) (kind id : ℕ) (rest : List ℕ) : Type 0 where
@@ -103,7 +108,8 @@ pub record HasOtherName (rest : List ℕ) : Type 0 where
   pub more : List ℕ
   pub short : length name < 2 ^ 32
   pub parts : rest ≡ string name ++ more
-  pub other : name ≢ posix_rename
+  pub no_rename : name ≢ posix_rename
+  pub no_link : name ≢ hardlink
 
 abbrev pub IsUnknown : ℕ → List ℕ → Type 0
 IsUnknown kind rest = ((is_request kind ≡ false) × (kind ≢ 1)) ⊎ ((kind ≡ 200) × HasOtherName rest)
@@ -145,6 +151,7 @@ fields_text (request.RealPath path) = string path
 fields_text (request.Stat path) = string path
 fields_text (request.Rename old new) = string old ++ string new
 fields_text (request.PosixRename old new) = string posix_rename ++ string old ++ string new
+fields_text (request.Link old new) = string hardlink ++ string old ++ string new
 
 -- the body of a request: its type, its id, and its fields
 abbrev pub request_body : ℕ → WireRequest → List ℕ
@@ -176,3 +183,4 @@ RequestFits (request.RealPath path) = IsShort path
 RequestFits (request.Stat path) = IsShort path
 RequestFits (request.Rename old new) = IsShort old × IsShort new
 RequestFits (request.PosixRename old new) = IsShort old × IsShort new
+RequestFits (request.Link old new) = IsShort old × IsShort new

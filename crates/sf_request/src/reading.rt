@@ -47,8 +47,10 @@ pub(crate) const RENAME: u8 = 18;
 
 pub(crate) const EXTENDED: u8 = 200;
 
-/// The name of the one extension that is known, of OpenSSH.
+// The names of the extensions that are known, of OpenSSH.
 pub(crate) const POSIX_RENAME: &[u8] = b"posix-rename@openssh.com";
+
+pub(crate) const HARDLINK: &[u8] = b"hardlink@openssh.com";
 
 #[tactic(auto, unfolding(crate::specs::Reading::fields))]
 fn string(bytes: &[u8]) -> Option<ByteStr<'_>>
@@ -157,12 +159,18 @@ fn extended(id: u32, bytes: &[u8]) -> Asked<'_>
     let Some((name, rest)) = bytes_at(bytes) else {
         return Asked::BadFields(id);
     };
-    if name != b"posix-rename@openssh.com".as_slice() {
-        return Asked::Unknown(id);
-    }
-    match two_strings(rest) {
-        Some((old, new)) => Asked::Request(id, WireRequest::PosixRename { old, new }),
-        None => Asked::BadFields(id),
+    if name == b"posix-rename@openssh.com".as_slice() {
+        match two_strings(rest) {
+            Some((old, new)) => Asked::Request(id, WireRequest::PosixRename { old, new }),
+            None => Asked::BadFields(id),
+        }
+    } else if name == b"hardlink@openssh.com".as_slice() {
+        match two_strings(rest) {
+            Some((old, new)) => Asked::Request(id, WireRequest::Link { old, new }),
+            None => Asked::BadFields(id),
+        }
+    } else {
+        Asked::Unknown(id)
     }
 }
 

@@ -9,8 +9,8 @@ ghost use Rattle.sf_field.specs.Fields.{be64, packet, string};
 
 use crate::byte_str::ByteStr;
 use crate::reading::{
-    CLOSE, EXTENDED, FSETSTAT, FSTAT, INIT, LSTAT, MKDIR, OPEN, OPENDIR, POSIX_RENAME, READ,
-    READDIR, REALPATH, REMOVE, RENAME, RMDIR, SETSTAT, STAT, WRITE,
+    CLOSE, EXTENDED, FSETSTAT, FSTAT, HARDLINK, INIT, LSTAT, MKDIR, OPEN, OPENDIR, POSIX_RENAME,
+    READ, READDIR, REALPATH, REMOVE, RENAME, RMDIR, SETSTAT, STAT, WRITE,
 };
 use crate::request::WireRequest;
 use bytes::BytesMut;
@@ -44,6 +44,7 @@ fn fields_len(request: &WireRequest) -> usize
         WireRequest::Stat { path } => 4 + path.len(),
         WireRequest::Rename { old, new } => 8 + old.len() + new.len(),
         WireRequest::PosixRename { old, new } => { 12 + POSIX_RENAME.len() + old.len() + new.len() }
+        WireRequest::Link { old, new } => 12 + HARDLINK.len() + old.len() + new.len(),
     }
 }
 
@@ -121,6 +122,10 @@ fn put_fields(out: &mut BytesMut, request: &WireRequest)
             put_string(out, POSIX_RENAME);
             put_both(out, old, new);
         }
+        WireRequest::Link { old, new } => {
+            put_string(out, HARDLINK);
+            put_both(out, old, new);
+        }
         WireRequest::Close { handle: text }
         | WireRequest::FStat { handle: text }
         | WireRequest::ReadDir { handle: text }
@@ -153,7 +158,7 @@ fn kind(request: &WireRequest) -> u8
         WireRequest::RealPath { .. } => REALPATH,
         WireRequest::Stat { .. } => STAT,
         WireRequest::Rename { .. } => RENAME,
-        WireRequest::PosixRename { .. } => EXTENDED,
+        WireRequest::PosixRename { .. } | WireRequest::Link { .. } => EXTENDED,
     }
 }
 

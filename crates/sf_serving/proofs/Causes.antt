@@ -39,6 +39,7 @@ no_request_ends id (wire.RealPath a) cause e = no_path_ends id (path_at a) cause
 no_request_ends id (wire.Stat a) cause e = no_call_ends id (call_of (wire.Stat a)) cause e
 no_request_ends id (wire.Rename a b) cause e = no_call_ends id (call_of (wire.Rename a b)) cause e
 no_request_ends id (wire.PosixRename a b) cause e = no_call_ends id (call_of (wire.PosixRename a b)) cause e
+no_request_ends id (wire.Link a b) cause e = no_call_ends id (call_of (wire.Link a b)) cause e
 
 no_version_closes : (old : Bool) → ask.End Closed ≡ (if old then ask.End OldVersion else ask.Version) → ⊥
 no_version_closes true e = cc

@@ -63,7 +63,7 @@ handle_call (wire.ReadDir handle) = option_map call.ReadDir (handle_at handle)
 handle_call request = None
 
 -- The call that a request asks for, if its paths have no fault and its handle is a number. LSTAT is STAT: there are no
--- links. REALPATH asks for none.
+-- symbolic links. REALPATH asks for none.
 abbrev pub call_of : WireRequest → Option Request
 call_of (wire.Open text flags attrs) =
     option_map (λ path. call.Open path flags attrs) (path_at text)
@@ -78,6 +78,7 @@ call_of (wire.Stat text) = option_map call.Stat (path_at text)
 call_of (wire.Rename old new) = option_map (λ paths. call.Rename paths.0 paths.1) (paths_at old new)
 call_of (wire.PosixRename old new) =
     option_map (λ paths. call.PosixRename paths.0 paths.1) (paths_at old new)
+call_of (wire.Link old new) = option_map (λ paths. call.Link paths.0 paths.1) (paths_at old new)
 call_of request = handle_call request
 
 -- a path that is refused, or a handle that is no number, is answered FAILURE

@@ -65,6 +65,10 @@ pub(crate) fn call_of(
             let paths = paths_of(alloc, old.as_slice(), new.as_slice())?;
             Ok(paths.map(|(old, new)| Request::PosixRename(old, new)))
         }
+        WireRequest::Link { old, new } => {
+            let paths = paths_of(alloc, old.as_slice(), new.as_slice())?;
+            Ok(paths.map(|(old, new)| Request::Link(old, new)))
+        }
         request => handle_call(alloc, request),
     }
 }

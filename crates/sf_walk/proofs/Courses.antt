@@ -1,7 +1,7 @@
 -- What a rename comes to, in the store and in the tree that it keeps.
-use Rattle.std.specs.Prelude.{◌≡◌, ℕ, Bool, true, false, cond, not, ◌&&◌, ◌||◌, List, [], ◌∷◌, ◌++◌, is_some, Option, Some, None, refl}
+use Rattle.std.specs.Prelude.{◌≡◌, ◌≢◌, ℕ, nat_eq, Bool, true, false, cond, not, ◌&&◌, ◌||◌, List, [], ◌∷◌, ◌++◌, is_some, Option, Some, None, refl}
 use Rattle.std.specs.Option.{option_map_or}
-use Rattle.std.proofs.Common.{sym, ap, subst, ◌∙◌, inl, inr}
+use Rattle.std.proofs.Common.{sym, ap, subst, ◌∙◌, inl, inr, eq-eqb, eqb-true}
 use Rattle.sf_path.specs.Names.{Name, Path}
 use Rattle.sf_path.specs.Order.{same_path}
 use Rattle.sf_reply.specs.declared.reply.StatusCode.TheVariants.{NoSuchFile, Failure}
@@ -18,7 +18,8 @@ use Rattle.sf_inode.specs.Nodes.{is_directory_content}
 use Rattle.sf_inode.specs.Stores.{StoreState, node_in, entry_of, is_directory_at, is_bare_at}
 use Rattle.sf_keeps.specs.Steps.{walk}
 use Rattle.sf_keeps.specs.Keeps.{Keeps}
-use Rattle.sf_keeps.proofs.Laws.{bare_found}
+use Rattle.sf_call.proofs.Laws.{front_itself as is_front}
+use Rattle.sf_keeps.proofs.Laws.{bare_found, one_node, one_way}
 use Rattle.sf_walk.specs.declared.finding.Ways.{Ways}
 use Rattle.sf_walk.specs.declared.finding.Located.{Located}
 use Rattle.sf_walk.specs.declared.finding.Located.TheVariants as located
@@ -28,7 +29,7 @@ use Rattle.sf_walk.proofs.Fits.{Known, no_way, name_missing, node_at, directory_
 use Rattle.sf_walk.proofs.Onward.{has_entry}
 use Rattle.sf_walk.proofs.PathCalls.{file_bare, found_no_way, found_missing}
 
-abbrev AreNoRoots : Path → Path → Type 0
+abbrev pub AreNoRoots : Path → Path → Type 0
 AreNoRoots old new = (old ≡ [] → ⊥) × (new ≡ [] → ⊥)
 
 not_rooted : (p q : Path) → AreNoRoots p q → is_rooted p q ≡ false
@@ -61,7 +62,7 @@ last_known nodes root p above y ne (inl e) = absurd (ne e)
 last_known nodes root p above y ne (inr h) = h
 
 module _ (s : StoreState) (t : Tree) (k : Keeps s t) (moment : ℕ) (old new : Path) (ne : AreNoRoots old new) where
-  past_roots : (a : Answer) → unless_root old (unless_root new a) ≡ a
+  pub past_roots : (a : Answer) → unless_root old (unless_root new a) ≡ a
   past_roots a = no_root old (unless_root new a) ne.0 ∙ no_root new a ne.1
 
   -- ---- old isn't there
@@ -73,20 +74,23 @@ module _ (s : StoreState) (t : Tree) (k : Keeps s t) (moment : ℕ) (old new : P
 
   -- ---- old is there
   module _ (from node : ℕ) (at : way_from s.nodes s.root s.root old ≡ located.At from node) where
-    there : (f : Place → Answer) → unless_root old (unless_root new (f (place_at t old))) ≡ f (place.At (node_at s t k old from node at).2.0.label)
+    abbrev label : ℕ
+    label = (node_at s t k old from node at).2.0.label
+
+    there : (f : Place → Answer) → unless_root old (unless_root new (f (place_at t old))) ≡ f (place.At label)
     there f = past_roots (f (place_at t old)) ∙ ap f (node_at s t k old from node at).2.2
 
     pub rename_nested : are_nested old new ≡ true → unless_root old (unless_root new (rename t moment old new (place_at t old))) ≡ refuses Failure
     rename_nested nested = there (rename t moment old new) ∙ ap (λ b. cond {A = Answer} b (refuses Failure) (rename_to t moment old new (place_at t new))) nested
 
     pub posix_same : same_path old new ≡ true → unless_root old (unless_root new (posix_rename t moment old new (place_at t old))) ≡ succeeds []
-    posix_same same = there (posix_rename t moment old new) ∙ ap (λ b. cond {A = Answer} b (succeeds []) (unless_nested old new (replace_by t moment old new (found_at t new)))) same
+    posix_same same = there (posix_rename t moment old new) ∙ ap (λ b. cond {A = Answer} b (succeeds []) (unless_nested old new (replace_by t moment old new label (found_at t new)))) same
 
-    posix_other : same_path old new ≡ false → unless_root old (unless_root new (posix_rename t moment old new (place_at t old))) ≡ unless_nested old new (replace_by t moment old new (found_at t new))
-    posix_other other = there (posix_rename t moment old new) ∙ ap (λ b. cond {A = Answer} b (succeeds []) (unless_nested old new (replace_by t moment old new (found_at t new)))) other
+    posix_other : same_path old new ≡ false → unless_root old (unless_root new (posix_rename t moment old new (place_at t old))) ≡ unless_nested old new (replace_by t moment old new label (found_at t new))
+    posix_other other = there (posix_rename t moment old new) ∙ ap (λ b. cond {A = Answer} b (succeeds []) (unless_nested old new (replace_by t moment old new label (found_at t new)))) other
 
     pub posix_nested : same_path old new ≡ false → are_nested old new ≡ true → unless_root old (unless_root new (posix_rename t moment old new (place_at t old))) ≡ refuses Failure
-    posix_nested other nested = posix_other other ∙ ap (λ b. cond {A = Answer} b (refuses Failure) (replace_by t moment old new (found_at t new))) nested
+    posix_nested other nested = posix_other other ∙ ap (λ b. cond {A = Answer} b (refuses Failure) (replace_by t moment old new label (found_at t new))) nested
 
     module _ (apart : are_nested old new ≡ false) where
       rename_is : (place : Place) → place_at t new ≡ place → unless_root old (unless_root new (rename t moment old new (place_at t old))) ≡ rename_to t moment old new place
@@ -95,8 +99,9 @@ module _ (s : StoreState) (t : Tree) (k : Keeps s t) (moment : ℕ) (old new : P
 
       -- ---- the entry moves
       may_move : (beside : Path) (last : Name) (into : ℕ) → new ≡ beside ++ last ∷ [] → walk (entry_of s.nodes) s.root beside ≡ Some into → is_directory_at s.nodes into ≡ true
-          → ((target : ℕ) → entry_of s.nodes into last ≡ Some target → is_bare_at s.nodes target ≡ true) → MayMove s old new from into
-      may_move beside last into is leads dir bare =
+          → ((target : ℕ) → entry_of s.nodes into last ≡ Some target → is_bare_at s.nodes target ≡ true)
+          → ((target : ℕ) → entry_of s.nodes into last ≡ Some target → node ≢ target) → MayMove s old new from into
+      may_move beside last into is leads dir bare another =
           let f = last_known s.nodes s.root old from node ne.0 (node_at s t k old from node at).1 in
           record {
             above = f.0;
@@ -112,18 +117,21 @@ module _ (s : StoreState) (t : Tree) (k : Keeps s t) (moment : ℕ) (old new : P
             directory = dir;
             not_inside = none_first (after_front old new) (is_some (after_front new old)) apart;
             bare = bare;
+            other = another;
           }
 
       may_move_free : (into : ℕ) → way_from s.nodes s.root s.root new ≡ located.Missing into → MayMove s old new from into
       may_move_free into e =
           let f = (name_missing s t k new into e).1 in
           may_move f.0 f.1 into f.2 f.3 f.5 (λ target some. let h : None ≡ Some target = sym f.4 ∙ some in absurd (let x : ⊥ = cc in x))
+          (λ target some. let h : None ≡ Some target = sym f.4 ∙ some in absurd (let x : ⊥ = cc in x))
 
-      may_move_over : (into target : ℕ) → way_from s.nodes s.root s.root new ≡ located.At into target → is_bare_at s.nodes target ≡ true → MayMove s old new from into
-      may_move_over into target e bare =
+      may_move_over : (into target : ℕ) → way_from s.nodes s.root s.root new ≡ located.At into target → is_bare_at s.nodes target ≡ true → node ≢ target → MayMove s old new from into
+      may_move_over into target e bare another =
           let f = last_known s.nodes s.root new into target ne.1 (node_at s t k new into target e).1 in
           may_move f.0 f.1 into f.2 f.3 (has_entry s.nodes into f.1 target f.4)
           (λ other some. let h : Some target ≡ Some other = sym f.4 ∙ some in let same : target ≡ other = cc in ap (is_bare_at s.nodes) (sym same) ∙ bare)
+          (λ other some is. let h : Some target ≡ Some other = sym f.4 ∙ some in let same : target ≡ other = cc in another (is ∙ sym same))
 
       -- ---- RENAME
       pub rename_no_way : way_from s.nodes s.root s.root new ≡ located.NoWay → unless_root old (unless_root new (rename t moment old new (place_at t old))) ≡ refuses NoSuchFile
@@ -138,9 +146,9 @@ module _ (s : StoreState) (t : Tree) (k : Keeps s t) (moment : ℕ) (old new : P
 
       -- ---- the extension
       module _ (other : same_path old new ≡ false) where
-        posix_is : (found : Found) → found_at t new ≡ found → unless_root old (unless_root new (posix_rename t moment old new (place_at t old))) ≡ replace_by t moment old new found
+        posix_is : (found : Found) → found_at t new ≡ found → unless_root old (unless_root new (posix_rename t moment old new (place_at t old))) ≡ replace_by t moment old new label found
         posix_is found e =
-            posix_other other ∙ ap (λ b. cond {A = Answer} b (refuses Failure) (replace_by t moment old new (found_at t new))) apart ∙ ap (replace_by t moment old new) e
+            posix_other other ∙ ap (λ b. cond {A = Answer} b (refuses Failure) (replace_by t moment old new label (found_at t new))) apart ∙ ap (replace_by t moment old new label) e
 
         pub posix_no_way : way_from s.nodes s.root s.root new ≡ located.NoWay → unless_root old (unless_root new (posix_rename t moment old new (place_at t old))) ≡ refuses NoSuchFile
         posix_no_way e = posix_is _ (found_no_way s t new k e)
@@ -149,42 +157,78 @@ module _ (s : StoreState) (t : Tree) (k : Keeps s t) (moment : ℕ) (old new : P
             → (unless_root old (unless_root new (posix_rename t moment old new (place_at t old))) ≡ moves t moment old new) × MayMove s old new from into
         posix_moves into e = (posix_is _ (found_missing s t new k into e), may_move_free into e)
 
-        replace_content : (l : ℕ) (m : Metadata) (c : Content) → replace_by t moment old new (found_content l m c)
-            ≡ cond (cond (is_directory_content c) (is_directory t old && is_empty t.names new) (not (is_directory t old))) (moves t moment old new) (refuses Failure)
-        replace_content l m (content.Directory es) = refl
-        replace_content l m (content.File contents) = either (is_directory t old) (refuses Failure) (moves t moment old new)
-
-        replaces : (into target : ℕ) → way_from s.nodes s.root s.root new ≡ located.At into target
-            → unless_root old (unless_root new (posix_rename t moment old new (place_at t old))) ≡ cond (may_replace s.nodes node target) (moves t moment old new) (refuses Failure)
-        replaces into target e =
+        -- both paths lead to one node, which then is a file: its paths are apart
+        pub posix_one : (into target : ℕ) → way_from s.nodes s.root s.root new ≡ located.At into target → node ≡ target
+            → unless_root old (unless_root new (posix_rename t moment old new (place_at t old))) ≡ succeeds []
+        posix_one into target e one =
             let w = node_at s t k new into target e in
-            let it = w.2.0 in
-            posix_is (found_node it) w.2.3 ∙ replace_content it.label it.metadata it.content
-            ∙ ap (λ b. cond {A = Answer} (cond b (is_directory t old && is_empty t.names new) (not (is_directory t old))) (moves t moment old new) (refuses Failure))
-            (sym (ap (λ (o : Option Node). option_map_or (λ (x : Node). is_directory_content x.content) o false) w.2.1))
-            ∙ ap (λ d. cond {A = Answer} (cond (is_directory_at s.nodes target) (d && is_empty t.names new) (not d)) (moves t moment old new) (refuses Failure))
-            (directory_says s t k old node (node_at s t k old from node at).0)
-            ∙ ap (λ b. cond {A = Answer} (cond (is_directory_at s.nodes target) (is_directory_at s.nodes node && b) (not (is_directory_at s.nodes node))) (moves t moment old new) (refuses Failure))
-            (bare_found s t k new target w.0)
+            let o = node_at s t k old from node at in
+            let same : Some o.2.0 ≡ Some w.2.0 = sym o.2.1 ∙ ap (node_in s.nodes) one ∙ w.2.1 in
+            let labels : label ≡ w.2.0.label = ap (λ (x : Option Node). option_map_or (λ (y : Node). y.label) x 0) same in
+            posix_is (found_node w.2.0) w.2.3
+            ∙ one_content w.2.0.label w.2.0.metadata w.2.0.content labels (λ directory. no_directory target (o.0 ∙ ap Some one) w.0
+            (ap (λ (x : Option Node). option_map_or (λ (y : Node). is_directory_content y.content) x false) w.2.1 ∙ directory))
+          where
+            front_itself : (p : Path) → is_some (after_front p p) ≡ true
+            front_itself p = ap (λ (x : Option Path). is_some x) (is_front p)
 
-        pub posix_refused : (into target : ℕ) → way_from s.nodes s.root s.root new ≡ located.At into target → may_replace s.nodes node target ≡ false
-            → unless_root old (unless_root new (posix_rename t moment old new (place_at t old))) ≡ refuses Failure
-        posix_refused into target e may = replaces into target e ∙ ap (λ b. cond {A = Answer} b (moves t moment old new) (refuses Failure)) may
+            no_directory : (d : ℕ) → walk (entry_of s.nodes) s.root old ≡ Some d → walk (entry_of s.nodes) s.root new ≡ Some d → is_directory_at s.nodes d ≡ true → ⊥
+            no_directory d to_old to_new directory =
+                let paths : old ≡ new = one_way s t k old new d to_old to_new directory in
+                let nested : are_nested old new ≡ true = ap (λ (p : Path). is_some (after_front old p) || is_some (after_front p old)) (sym paths) ∙ ap (λ b. b || is_some (after_front old old)) (front_itself old) in
+                let x : ⊥ = cc in x
 
-        second : (a b : Bool) → (a && b) ≡ true → b ≡ true
-        second true b e = e
-        second false b e = cc
+            one_content : (l : ℕ) (m : Metadata) (c : Content) → label ≡ l → (is_directory_content c ≡ true → ⊥) → replace_by t moment old new label (found_content l m c) ≡ succeeds []
+            one_content l m (content.Directory es) labels never = absurd (never refl)
+            one_content l m (content.File contents) labels never = ap (λ b. cond {A = Answer} b (succeeds []) (cond (is_directory t old) (refuses Failure) (moves t moment old new))) (eq-eqb label l labels)
 
-        bare : (target : ℕ) (it : Node) → node_in s.nodes target ≡ Some it → may_replace s.nodes node target ≡ true → is_bare_at s.nodes target ≡ true
-        bare target it here =
-            elim (is_directory_at s.nodes target) as (λ b. is_directory_at s.nodes target ≡ b
-            → cond b (is_directory_at s.nodes node && is_bare_at s.nodes target) (not (is_directory_at s.nodes node)) ≡ true → is_bare_at s.nodes target ≡ true) [
-              | true ↦ λ d e. second (is_directory_at s.nodes node) (is_bare_at s.nodes target) e
-              | false ↦ λ d e. file_bare s.nodes target it here d
-            ] refl
+        -- they lead to two nodes
+        module _ (into target : ℕ) (e : way_from s.nodes s.root s.root new ≡ located.At into target) (two : node ≢ target) where
+          replace_content : (l : ℕ) (m : Metadata) (c : Content) → nat_eq label l ≡ false → replace_by t moment old new label (found_content l m c)
+              ≡ cond (cond (is_directory_content c) (is_directory t old && is_empty t.names new) (not (is_directory t old))) (moves t moment old new) (refuses Failure)
+          replace_content l m (content.Directory es) ne = refl
+          replace_content l m (content.File contents) ne =
+              ap (λ b. cond {A = Answer} b (succeeds []) (cond (is_directory t old) (refuses Failure) (moves t moment old new))) ne
+              ∙ either (is_directory t old) (refuses Failure) (moves t moment old new)
 
-        pub posix_replaces : (into target : ℕ) → way_from s.nodes s.root s.root new ≡ located.At into target → may_replace s.nodes node target ≡ true
-            → (unless_root old (unless_root new (posix_rename t moment old new (place_at t old))) ≡ moves t moment old new) × MayMove s old new from into
-        posix_replaces into target e may =
-            let w = node_at s t k new into target e in
-            (replaces into target e ∙ ap (λ b. cond {A = Answer} b (moves t moment old new) (refuses Failure)) may, may_move_over into target e (bare target w.2.0 w.2.1 may))
+          labels_differ : nat_eq label (node_at s t k new into target e).2.0.label ≡ false
+          labels_differ =
+              let w = node_at s t k new into target e in
+              let o = node_at s t k old from node at in
+              elim (nat_eq label w.2.0.label) as (λ b. nat_eq label w.2.0.label ≡ b → b ≡ false) [
+                | true ↦ λ same. absurd (two (one_node s t k node target o.2.0 w.2.0 o.2.1 w.2.1 (eqb-true label w.2.0.label same)))
+                | false ↦ λ f. refl
+              ] refl
+
+          replaces : unless_root old (unless_root new (posix_rename t moment old new (place_at t old))) ≡ cond (may_replace s.nodes node target) (moves t moment old new) (refuses Failure)
+          replaces =
+              let w = node_at s t k new into target e in
+              let it = w.2.0 in
+              posix_is (found_node it) w.2.3 ∙ replace_content it.label it.metadata it.content labels_differ
+              ∙ ap (λ b. cond {A = Answer} (cond b (is_directory t old && is_empty t.names new) (not (is_directory t old))) (moves t moment old new) (refuses Failure))
+              (sym (ap (λ (o : Option Node). option_map_or (λ (x : Node). is_directory_content x.content) o false) w.2.1))
+              ∙ ap (λ d. cond {A = Answer} (cond (is_directory_at s.nodes target) (d && is_empty t.names new) (not d)) (moves t moment old new) (refuses Failure))
+              (directory_says s t k old node (node_at s t k old from node at).0)
+              ∙ ap (λ b. cond {A = Answer} (cond (is_directory_at s.nodes target) (is_directory_at s.nodes node && b) (not (is_directory_at s.nodes node))) (moves t moment old new) (refuses Failure))
+              (bare_found s t k new target w.0)
+
+          pub posix_refused : may_replace s.nodes node target ≡ false → unless_root old (unless_root new (posix_rename t moment old new (place_at t old))) ≡ refuses Failure
+          posix_refused may = replaces ∙ ap (λ b. cond {A = Answer} b (moves t moment old new) (refuses Failure)) may
+
+          second : (a b : Bool) → (a && b) ≡ true → b ≡ true
+          second true b e = e
+          second false b e = cc
+
+          bare : (it : Node) → node_in s.nodes target ≡ Some it → may_replace s.nodes node target ≡ true → is_bare_at s.nodes target ≡ true
+          bare it here =
+              elim (is_directory_at s.nodes target) as (λ b. is_directory_at s.nodes target ≡ b
+              → cond b (is_directory_at s.nodes node && is_bare_at s.nodes target) (not (is_directory_at s.nodes node)) ≡ true → is_bare_at s.nodes target ≡ true) [
+                | true ↦ λ d e. second (is_directory_at s.nodes node) (is_bare_at s.nodes target) e
+                | false ↦ λ d e. file_bare s.nodes target it here d
+              ] refl
+
+          pub posix_replaces : may_replace s.nodes node target ≡ true
+              → (unless_root old (unless_root new (posix_rename t moment old new (place_at t old))) ≡ moves t moment old new) × MayMove s old new from into
+          posix_replaces may =
+              let w = node_at s t k new into target e in
+              (replaces ∙ ap (λ b. cond {A = Answer} b (moves t moment old new) (refuses Failure)) may, may_move_over into target e (bare w.2.0 w.2.1 may) two)

@@ -28,3 +28,4 @@ pub mod NoMoves
 pub mod Begins
 pub mod Courses
 pub mod MovedEntries
+pub mod Linking

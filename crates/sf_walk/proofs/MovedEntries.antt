@@ -65,7 +65,7 @@ module _ (s : StoreState) (t : Tree) (k : Keeps s t) (moment : ℕ) (old new : P
   moved : Keeps mid (changed t (Move Old New))
   moved = elim (entry_of s.nodes into m.last) as (λ o. entry_of s.nodes into m.last ≡ o → Keeps mid (changed t (Move Old New))) [
     | None ↦ λ e. keeps_moved s t m.above from m.name m.node m.beside into m.last k m.leads m.there m.leads_new m.directory not_inside e
-    | Some target ↦ λ e. keeps_replaced s t m.above from m.name m.node m.beside into m.last k m.leads m.there m.leads_new m.directory not_inside target e (m.bare target e)
+    | Some target ↦ λ e. keeps_replaced s t m.above from m.name m.node m.beside into m.last k m.leads m.there m.leads_new m.directory not_inside target e (m.bare target e) (m.other target e)
   ] refl
 
   -- neither directory is what is replaced

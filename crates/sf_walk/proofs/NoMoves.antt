@@ -22,6 +22,7 @@ use Rattle.sf_call.specs.Handles.Opened.{NotOpen, OpenDirectory, OpenFile}
 use Rattle.sf_call.specs.Listings.{path_of, listing_of}
 use Rattle.sf_call.specs.Changes.{touch, moved_by}
 use Rattle.sf_call.specs.Calls.{Answer, answer_to, stat, set_stat, sets, refuses_size, make_directory, remove_directory, remove_file, open_directory, open_present, open_file, has_all_handles, close, stat_opened, set_opened, read, write, start_of, read_directory, lists, unless_root, opening, stamp}
+use Rattle.sf_call.proofs.Laws.{link_cases, link_to_cases}
 use Rattle.sf_inode.specs.Stores.{StoreState}
 use Rattle.sf_walk.specs.declared.renames.Course.{Course}
 use Rattle.sf_walk.specs.declared.renames.Course.TheVariants.{Told, Moves}
@@ -142,6 +143,9 @@ others_stay t session number moment (request.Write handle offset bytes) a b = wr
 others_stay t session number moment (request.ReadDir handle) a b = list_stays t session handle moment (opened t session handle)
 others_stay t session number moment (request.Rename old new) a b = absurd (a old new refl)
 others_stay t session number moment (request.PosixRename old new) a b = absurd (b old new refl)
+others_stay t session number moment (request.Link old new) a b =
+    link_cases Stays (λ code. refl) t moment old new
+    (λ label _ _ _. link_to_cases Stays (λ code. refl) t moment new label (place_at t new) refl (λ _ _. touches moment (directory_at t (parent new)))) session number
 
 -- what a rename comes to tells whether it moves
 pub course_moves : (s : StoreState) (t : Tree) (moment : ℕ) (old new : Path) (answer : Answer) (course : Course) → IsCourse s t (renaming old new moment) answer course → does_move course ≡ is_some (moved_by answer.changes)

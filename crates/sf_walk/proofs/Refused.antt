@@ -6,13 +6,12 @@ use Rattle.std.specs.Ordering.{nat_cmp}
 use Rattle.std.specs.Map.{lookup}
 use Rattle.std.specs.BTreeMap.{is_at}
 use Rattle.std.specs.FinMap.{is_sorted}
-use Rattle.sf_path.specs.Names.{Name, Path}
+use Rattle.sf_path.specs.Names.{Name}
 use Rattle.sf_path.specs.Order.{name_cmp}
 use Rattle.sf_call.specs.Tree.{Tree}
 use Rattle.sf_inode.specs.declared.handle.OpenHandle.{OpenHandle}
 use Rattle.sf_inode.specs.declared.node.Node.{Node}
 use Rattle.sf_inode.specs.Nodes.{entry_in, entries_in}
-use Rattle.sf_keeps.specs.Steps.{walk}
 use Rattle.sf_keeps.specs.Shows.{View, Shows}
 use Rattle.sf_inode.specs.Stores.{StoreState, entry_of, shown_node, shown_handle, handles_of, handle_at}
 use Rattle.sf_keeps.specs.Keeps.{view_of, Keeps}
@@ -21,9 +20,6 @@ use Rattle.sf_walk.specs.Served.{IsAlike}
 module _ (old new : StoreState) (t : Tree) (same : IsAlike old new) (kept : Keeps old t) where
   step_same : (x : ℕ) (n : Name) → entry_of new.nodes x n ≡ entry_of old.nodes x n
   step_same x n i = option_and_then (λ node. entry_in node.content n) (same.nodes x i)
-
-  walk_same : (p : Path) → walk (entry_of new.nodes) new.root p ≡ walk (entry_of old.nodes) old.root p
-  walk_same p i = walk (λ x n. step_same x n i) (same.root i) p
 
   handles_same : (session : ℕ) → handles_of new session ≡ handles_of old session
   handles_same session = ap (lookup (is_at (nat_cmp session))) same.sessions
@@ -43,12 +39,8 @@ module _ (old new : StoreState) (t : Tree) (same : IsAlike old new) (kept : Keep
   keeps_alike = record {
     shows = subst (λ (v : View). Shows v t) (sym view_same) kept.shows;
     entries = λ id. subst (λ (o : Option Node). T (is_sorted name_cmp (option_map_or (λ (it : Node). entries_in it.content) o []))) (sym (same.nodes id)) (kept.entries id);
-    single = λ x y id n m a b. kept.single x y id n m (sym (step_same x n) ∙ a) (sym (step_same y m) ∙ b);
-    unlinked = λ id node at unnamed.
-        let u = kept.unlinked id node (sym (same.nodes id) ∙ at) unnamed in
-        record { free = λ x n e. u.free x n (sym (step_same x n) ∙ e); other = λ e. u.other (sym same.root ∙ e); bare = λ n. step_same id n ∙ u.bare n };
-    named = λ id node at is. let w = kept.named id node (sym (same.nodes id) ∙ at) is in (w.0, walk_same w.0 ∙ w.1);
-    once = λ id node at. kept.once id node (sym (same.nodes id) ∙ at);
+    linked = λ id node at. kept.linked id node (sym (same.nodes id) ∙ at);
+    bare = λ id node at unnamed n. step_same id n ∙ kept.bare id node (sym (same.nodes id) ∙ at) unnamed n;
     counted = λ id node at. kept.counted id node (sym (same.nodes id) ∙ at);
     led = λ session number x e. let w = kept.led session number x (sym (handle_same session number) ∙ e) in (w.0, (same.nodes x.node ∙ w.1.0, w.1.1));
     sessions = subst (λ (ss : List (ℕ × List (ℕ × OpenHandle))). T (is_sorted nat_cmp ss)) (sym same.sessions) kept.sessions;

@@ -5,3 +5,4 @@ pub mod Served
 pub mod Steps
 pub mod Further
 pub mod Renames
+pub mod Links

@@ -1,5 +1,5 @@
 -- What a rename comes to in the store.
-use Rattle.std.specs.Prelude.{◌≡◌, ◌<◌, ℕ, Bool, true, false, not, ◌&&◌, if◌then◌else◌, List, [], ◌∷◌, ◌++◌, length, Option, Some, None}
+use Rattle.std.specs.Prelude.{◌≡◌, ◌≢◌, ◌<◌, ℕ, Bool, true, false, not, ◌&&◌, if◌then◌else◌, List, [], ◌∷◌, ◌++◌, length, Option, Some, None}
 use Rattle.sf_path.specs.Names.{Name, Path}
 use Rattle.sf_reply.specs.declared.reply.Reply.TheVariants as reply
 use Rattle.sf_call.specs.Tree.{Tree, after_front}
@@ -16,7 +16,8 @@ may_replace nodes node target =
     if is_directory_at nodes target then is_directory_at nodes node && is_bare_at nodes target
     else not (is_directory_at nodes node)
 
--- A path's entry may move from one directory into another, not below itself: what stands at the new path is bare.
+-- A path's entry may move from one directory into another, not below itself: what stands at the new path is bare, and is
+-- another node.
 pub record MayMove (s : StoreState) (old new : Path) (from into : ℕ) : Type 0 where
   pub above : Path
   pub name : Name
@@ -32,6 +33,7 @@ pub record MayMove (s : StoreState) (old new : Path) (from into : ℕ) : Type 0 
   pub not_inside : after_front old new ≡ None
   pub bare : (target : ℕ) → entry_of s.nodes into last ≡ Some target
       → is_bare_at s.nodes target ≡ true
+  pub other : (target : ℕ) → entry_of s.nodes into last ≡ Some target → node ≢ target
 
 -- What a rename asks for, and its moment.
 pub record Renaming : Type 0 where

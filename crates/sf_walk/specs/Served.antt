@@ -105,6 +105,7 @@ takes_memory (request.SetStat path attrs) = is_some attrs.size
 takes_memory (request.FSetStat handle attrs) = is_some attrs.size
 takes_memory (request.Rename old new) = true
 takes_memory (request.PosixRename old new) = not (same_path old new)
+takes_memory (request.Link old new) = true
 takes_memory other = wants_room (wanted_by other)
 
 -- want of memory may be told in place of this reply to the request

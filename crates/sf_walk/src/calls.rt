@@ -13,6 +13,7 @@ ghost use Rattle.sf_walk.specs.Served.{IsCarriedOut, IsRefused, IsAlike, LooksUp
 
 use crate::finding::{Ways, locate_all, paths_of};
 use crate::handle_calls::{close, read, set_stat_handle, stat_handle, write};
+use crate::links::link;
 use crate::listing::read_directory;
 use crate::opening::{open, open_directory};
 use crate::path_calls::{mkdir, remove, rmdir, set_stat, stat};
@@ -173,6 +174,7 @@ fn answer(store: &mut Store, call: &Call, ways: Ways) -> Result<(Reply, Reply), 
         Request::ReadDir(handle) => read_directory(store, session, *handle),
         Request::Rename(old, new) => twice_ok(rename(store, moment, old, new, ways)),
         Request::PosixRename(old, new) => twice_ok(posix_rename(store, moment, old, new, ways)),
+        Request::Link(old, new) => twice_ok(link(store, moment, old, new, ways)),
     }
 }
 

@@ -124,7 +124,9 @@ pub(crate) fn paths_of(request: &Request) -> (Option<&Path>, Option<&Path>)
         | Request::Remove(path)
         | Request::OpenDir(path)
         | Request::Open(path, _, _) => (Some(path), None),
-        Request::Rename(old, new) | Request::PosixRename(old, new) => (Some(old), Some(new)),
+        Request::Rename(old, new) | Request::PosixRename(old, new) | Request::Link(old, new) => {
+            (Some(old), Some(new))
+        }
         Request::Close(_)
         | Request::FStat(_)
         | Request::FSetStat(_, _)

@@ -12,6 +12,7 @@ mod calls;
 mod ends;
 mod finding;
 mod handle_calls;
+mod links;
 mod listing;
 mod looking;
 mod opening;

@@ -67,21 +67,21 @@ fn entries_of(store: &Store, found: &[(Name, NodeId)]) -> Result<Listing, AllocE
     let mut entries = Vec::with_capacity(store.alloc(), found.len())?;
     'entries: for (name, node) in found {
         if let Some(attrs) = store.attrs(*node) {
-            entries.push(entry_of(store.alloc(), name, attrs)?)?;
+            entries.push(entry_of(store.alloc(), name, store.links(*node), attrs)?)?;
         }
     }
     Listing::from_vec(entries)
 }
 
-/// A node as it is listed, with one link. The name's bytes are those at the end of its line.
-fn entry_of(alloc: Global, name: &Name, attrs: Attrs) -> Result<Entry, AllocError>
+/// A node as it is listed, with the number of names that lead to it. The name's bytes are those at the end of its line.
+fn entry_of(alloc: Global, name: &Name, links: u64, attrs: Attrs) -> Result<Entry, AllocError>
     requires parts { HasAllParts attrs }
     requires kind { HasType attrs.permissions }
     ensures name { IfOk result (λ entry. entry.filename ≡ name.now) }
-    ensures line { IfOk result (λ entry. longname_text attrs 1 name.now ≡ Some entry.longname) }
+    ensures line { IfOk result (λ entry. longname_text attrs links name.now ≡ Some entry.longname) }
     ensures attrs { IfOk result (λ entry. entry.attrs ≡ attrs) }
 {
-    let line = ByteString::from_vec(longname(alloc, &attrs, 1, name.as_slice())?)?;
+    let line = ByteString::from_vec(longname(alloc, &attrs, links, name.as_slice())?)?;
     Ok(Entry {
         filename: line.part(line.len() - name.len(), line.len())?,
         longname: line,

@@ -123,7 +123,8 @@ fn rename_course(old: &Path, new: &Path, ways: Ways) -> Course
     }
 }
 
-/// The extension posix-rename also moves to where something stands that may be replaced.
+/// The extension posix-rename also moves to where something stands that may be replaced, and does nothing where both paths
+/// name one file.
 fn posix_course(store: &Store, old: &Path, new: &Path, ways: Ways) -> Course
     requires { AreWays store.now (OnPaths old.now new.now) ways }
     ensures course { (t : Tree) (moment : ℕ) → Keeps store.now t
@@ -153,7 +154,9 @@ fn posix_course(store: &Store, old: &Path, new: &Path, ways: Ways) -> Course
                     parent: into,
                     node: target,
                 } => {
-                    if may_replace(store, node, target) {
+                    if node == target {
+                        Course::Told(StatusCode::Success)
+                    } else if may_replace(store, node, target) {
                         Course::Moves { from: parent, into }
                     } else {
                         Course::Told(StatusCode::Failure)

@@ -2,7 +2,7 @@
 
 use sf_call::{Call, Request, Stage};
 use sf_cases::requests::{
-    close, mkdir, open, open_dir, path, posix_rename, read, read_dir, remove, rename, rmdir,
+    close, link, mkdir, open, open_dir, path, posix_rename, read, read_dir, remove, rename, rmdir,
     set_handle, set_stat, stat, stat_handle, write,
 };
 use sf_cases::{sized, whole};
@@ -22,6 +22,7 @@ mod directories;
 mod drawn;
 mod files;
 mod handles;
+mod links;
 mod listings;
 mod opening;
 mod renames;

@@ -30,6 +30,7 @@ paths_len (command.Rmdir path) = length path.now
 paths_len (command.Remove path) = length path.now
 paths_len (command.Rename old new) = length old.now + length new.now
 paths_len (command.PosixRename old new) = length old.now + length new.now
+paths_len (command.Link old new) = length old.now + length new.now
 
 -- one record is kept at least, or the paths of the command have together fewer than 2^31 bytes
 abbrev pub CanBeDone : Action → Type 0
@@ -96,6 +97,8 @@ IsDone (command.Rename old new) bytes printed v w =
     (printed ≡ []) × Succeeds v (request.Rename old.now new.now) w
 IsDone (command.PosixRename old new) bytes printed v w =
     (printed ≡ []) × Succeeds v (request.PosixRename old.now new.now) w
+IsDone (command.Link old new) bytes printed v w =
+    (printed ≡ []) × Succeeds v (request.Link old.now new.now) w
 
 -- The same of a session that was opened over a line, by what the line gives and has taken.
 abbrev pub IsDoneOver : ClientCommand → List ℕ → List ℕ → Option (List ℕ) → Option (List ℕ) → Type 0

@@ -105,6 +105,10 @@ fn printed<L: Line + Drop>(
             client.posix_rename(old, new)?;
             Ok(Vec::new(alloc))
         }
+        ClientCommand::Link(old, new) => {
+            client.hardlink(old, new)?;
+            Ok(Vec::new(alloc))
+        }
     }
 }
 

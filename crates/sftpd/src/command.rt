@@ -15,6 +15,7 @@ pub enum ClientCommand<'a> {
     Remove(&'a [u8]),
     Rename(&'a [u8], &'a [u8]),
     PosixRename(&'a [u8], &'a [u8]),
+    Link(&'a [u8], &'a [u8]),
 }
 
 /// The paths of a command, in bytes, are fewer than these.
@@ -60,6 +61,7 @@ impl<'a> ClientCommand<'a> {
         match name {
             "rename" => Some(ClientCommand::Rename(old, new)),
             "posix-rename" => Some(ClientCommand::PosixRename(old, new)),
+            "hardlink" => Some(ClientCommand::Link(old, new)),
             _ => None,
         }
     }

@@ -168,6 +168,7 @@ pub(super) fn drawn_request(alloc: Global, draws: &mut Draws) -> Result<Request,
         0 | 1 => by_handle(alloc, draws),
         2 => removal(alloc, draws),
         3..=12 => drawn_rename(alloc, draws),
+        13 => drawn_link(alloc, draws),
         _ => on_path(alloc, draws),
     }
 }
@@ -220,6 +221,20 @@ fn drawn_rename(alloc: Global, draws: &mut Draws) -> Result<Request, Fail> {
     } else {
         Request::Rename(old, new)
     })
+}
+
+/// A link of any paths, or within a directory of the root.
+fn drawn_link(alloc: Global, draws: &mut Draws) -> Result<Request, Fail> {
+    let (old, new) = if draws.once_in(4) {
+        (draws.path(alloc)?, draws.path(alloc)?)
+    } else {
+        let directory = draws.first();
+        (
+            within(alloc, directory, draws)?,
+            within(alloc, directory, draws)?,
+        )
+    };
+    Ok(Request::Link(old, new))
 }
 
 /// One of two names in a directory of the root.

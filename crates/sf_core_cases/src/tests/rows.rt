@@ -223,6 +223,59 @@ fn rename_at_old_path(rt: HostRuntime) {
     c.abandon();
 }
 
+/// Call 3, a link of `/a/f` to `/a/g`, stands in `/a`, which a rename moves to `/z`.
+#[test]
+fn rename_overtakes_link(rt: HostRuntime) {
+    let alloc = rt.alloc();
+    let (mut core, mut a) = with_a(&rt, alloc);
+    let mut b = join(&rt, &mut core);
+    let success = Told::Status(StatusCode::Success);
+    let absent = Told::Status(StatusCode::NoSuchFile);
+    let file = open(alloc, b"/a/f", b"rwc");
+    comes_to(&rt, &mut core, &mut a, file, Told::Handle(2));
+    begin(&rt, &mut core, &mut a, link(alloc, b"/a/f", b"/a/g"));
+    moves(&rt, &mut core, &mut a, 2);
+    begin(&rt, &mut core, &mut b, rename(alloc, b"/a", b"/z"));
+    moves(&rt, &mut core, &mut b, 1);
+    steps_to(&rt, &mut core, &mut b, success);
+    records_are(&rt, &core, &[1, 2, 3, 4]);
+    steps_to(&rt, &mut core, &mut a, success);
+    records_are(&rt, &core, &[1, 2, 3, 4]);
+    comes_to(&rt, &mut core, &mut a, stat(alloc, b"/z/f"), Told::Attrs);
+    comes_to(&rt, &mut core, &mut a, stat(alloc, b"/z/g"), Told::Attrs);
+    comes_to(&rt, &mut core, &mut a, stat(alloc, b"/a/g"), absent);
+    a.abandon();
+    b.abandon();
+}
+
+/// A link walks as a rename does, and where its new way fails looks up the old name in that step.
+#[test]
+fn links_walk(rt: HostRuntime) {
+    let alloc = rt.alloc();
+    let (mut core, mut a) = with_a(&rt, alloc);
+    let success = Told::Status(StatusCode::Success);
+    let failure = Told::Status(StatusCode::Failure);
+    let absent = Told::Status(StatusCode::NoSuchFile);
+    comes_to(&rt, &mut core, &mut a, mkdir(alloc, b"/b"), success);
+    let file = open(alloc, b"/a/f", b"rwc");
+    comes_to(&rt, &mut core, &mut a, file, Told::Handle(3));
+    let nowhere = link(alloc, b"/none/x", b"/b/x");
+    walks(&rt, &mut core, &mut a, nowhere, 1, 1, absent);
+    let to_nowhere = link(alloc, b"/a/f", b"/none/x");
+    walks(&rt, &mut core, &mut a, to_nowhere, 2, 2, absent);
+    let directory = link(alloc, b"/a", b"/none/x");
+    comes_to(&rt, &mut core, &mut a, directory, failure);
+    let inside = link(alloc, b"/a/f", b"/a/f/g");
+    walks(&rt, &mut core, &mut a, inside, 2, 1, absent);
+    let around = link(alloc, b"/a/f", b"/a");
+    comes_to(&rt, &mut core, &mut a, around, failure);
+    let rooted = link(alloc, b"/a/f", b"/");
+    walks(&rt, &mut core, &mut a, rooted, 0, 0, failure);
+    let far = link(alloc, b"/a/f", b"/b/f");
+    walks(&rt, &mut core, &mut a, far, 3, 2, success);
+    a.abandon();
+}
+
 #[test]
 fn sessions_are_limited(rt: HostRuntime) {
     let alloc = rt.alloc();

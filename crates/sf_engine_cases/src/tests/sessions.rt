@@ -184,10 +184,10 @@ fn output_that_was_sent(rt: HostRuntime) {
     comes_to(
         &rt,
         &mut engine,
-        Event::Sent(1, 43),
+        Event::Sent(1, 72),
         Err(EngineFault::NotSent),
     );
-    comes_to(&rt, &mut engine, Event::Sent(1, 40), Ok(Happened::Sent));
+    comes_to(&rt, &mut engine, Event::Sent(1, 69), Ok(Happened::Sent));
     is_sent(&rt, &engine, 1, b"\x01\x31");
     is_answered(&rt, &mut engine, 1, Steps::Call(1));
     comes_to(&rt, &mut engine, Event::Sent(1, 2), Ok(Happened::Sent));

@@ -45,11 +45,11 @@ fn name_past<'a>(directory: &Path, last: &Option<Name>, path: &'a Path) -> Optio
 }
 
 #[tactic(auto, using(crate::proofs::Listed::entry_is, sf_call::proofs::Laws::all_parts, sf_call::proofs::Laws::has_type, sf_call::proofs::Laws::has_line))]
-fn entry_of(alloc: Global, name: &Name, node: &Node) -> Result<Entry, AllocError>
-    ensures { IfOk result (λ entry. entry ≡ entry_of name.now node.now) }
+fn entry_of(alloc: Global, name: &Name, links: u64, node: &Node) -> Result<Entry, AllocError>
+    ensures { IfOk result (λ entry. entry ≡ entry_of name.now links node.now) }
 {
     let attrs = node.attrs();
-    let line = longname(alloc, &attrs, 1, name.as_slice())?;
+    let line = longname(alloc, &attrs, links, name.as_slice())?;
     Ok(Entry {
         filename: ByteString::from_slice(alloc, name.as_slice())?,
         longname: ByteString::from_vec(line)?,
@@ -102,7 +102,7 @@ impl PlainTree {
         let Some(node) = self.objects.get(&label) else {
             return Ok(None);
         };
-        let entry = entry_of(self.alloc, name, node)?;
+        let entry = entry_of(self.alloc, name, self.links(label), node)?;
         Ok(Some((entry, name.try_copy(self.alloc)?)))
     }
 

@@ -1,12 +1,13 @@
 //! Renames.
 
 ghost use Rattle.std.specs.Option.{is_some, option_map};
-ghost use Rattle.std.specs.Prelude.{◌≡◌, ◌||◌, ◌++◌, ℕ, cond, filter, IfOk, OnOk, OnErr};
+ghost use Rattle.std.specs.Prelude.{◌≡◌, ◌||◌, ◌++◌, ℕ, cond, false, filter, IfOk, OnOk, OnErr};
 ghost use Rattle.sf_reply.specs.declared.reply.StatusCode.TheVariants.{Failure};
 ghost use Rattle.sf_call.specs.Tree.{after_front, place_at, found_object, object_of};
 ghost use Rattle.sf_call.specs.Moves.{is_outside, moved};
 ghost use Rattle.sf_call.specs.Changes.{changed, done};
 ghost use Rattle.sf_call.specs.Changes.Change.{Move};
+ghost use Rattle.sf_plain.specs.Nodes.{is_file, is_same_file};
 ghost use Rattle.sf_call.specs.Calls.{moves, rename, replace_by, posix_rename, refuses, unless_root};
 
 use super::PlainTree;
@@ -139,15 +140,31 @@ impl PlainTree {
         }
     }
 
-    /// Whether what `old` names may take the place of the object that `new` names.
+    fn is_file(&self, label: u64) -> bool
+        ensures { result ≡ is_file (object_of self.now.objects label) }
+    {
+        match self.objects.get(&label) {
+            Some(node) => node.as_directory().is_none(),
+            None => false,
+        }
+    }
+
+    /// Whether both labels are one file's.
+    fn is_same_file(&self, label: u64, other: u64) -> bool
+        ensures { result ≡ is_same_file self.now label other }
+    {
+        label == other && self.is_file(other)
+    }
+
+    /// Whether what `old` names may take the place of the other object that `new` names.
     #[tactic(auto, using(crate::proofs::Calls::replaces_object))]
-    fn gives_way(&self, label: u64, old: &Path, new: &Path) -> bool
-        ensures { (moment : ℕ)
-            → replace_by self.now moment old.now new.now
-            (found_object label (object_of self.now.objects label))
+    fn gives_way(&self, at: u64, old: &Path, new: &Path) -> bool
+        ensures { (moment label : ℕ) → is_same_file self.now label at ≡ false
+            → replace_by self.now moment old.now new.now label
+            (found_object at (object_of self.now.objects at))
             ≡ cond result (moves self.now moment old.now new.now) (refuses Failure) }
     {
-        let Some(node) = self.objects.get(&label) else {
+        let Some(node) = self.objects.get(&at) else {
             return true;
         };
         let moves_directory = self.directory_at(old).is_some();
@@ -159,6 +176,7 @@ impl PlainTree {
     }
 
     /// The extension `posix-rename@openssh.com`.
+    #[tactic(auto, using(crate::proofs::Calls::same_file))]
     pub(super) fn posix_rename(
         &mut self,
         moment: u32,
@@ -176,7 +194,7 @@ impl PlainTree {
         if old.is_root() || new.is_root() {
             return Ok(Reply::Status(StatusCode::Failure));
         }
-        let Place::At(_) = self.place_at(old)? else {
+        let Place::At(label) = self.place_at(old)? else {
             return Ok(Reply::Status(StatusCode::NoSuchFile));
         };
         if old == new {
@@ -187,7 +205,10 @@ impl PlainTree {
         }
         match self.place_at(new)? {
             Place::NoWay => Ok(Reply::Status(StatusCode::NoSuchFile)),
-            Place::At(label) if !self.gives_way(label, old, new) => {
+            Place::At(at) if self.is_same_file(label, at) => {
+                Ok(Reply::Status(StatusCode::Success))
+            }
+            Place::At(at) if !self.gives_way(at, old, new) => {
                 Ok(Reply::Status(StatusCode::Failure))
             }
             Place::Absent | Place::At(_) => self.move_path(moment, old, new),

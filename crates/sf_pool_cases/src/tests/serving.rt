@@ -21,7 +21,7 @@ const ASKED: [&str; 3] = [
 
 /// VERSION; OK; the attributes of a directory that was made at the moment 100.
 const TOLD: [&str; 3] = [
-    "00000026 02 00000003 00000018 706f7369782d72656e616d65406f70656e7373682e636f6d 00000001 31",
+    "00000043 02 00000003 00000018 706f7369782d72656e616d65406f70656e7373682e636f6d 00000001 31 00000014 686172646c696e6b406f70656e7373682e636f6d 00000001 31",
     "00000018 65 00000007 00000000 00000007 53756363657373 00000000",
     "00000025 69 00000008 0000000f 0000000000000000 00000000 00000000 000041ed 00000064 00000064",
 ];
@@ -235,7 +235,7 @@ fn prompt_replies(rt: HostRuntime) -> Result<(), Fail> {
     )?;
     let want = [
         LineCall::Read(9),
-        LineCall::Write(42),
+        LineCall::Write(71),
         LineCall::Read(19),
         LineCall::Write(28),
         LineCall::Read(15),

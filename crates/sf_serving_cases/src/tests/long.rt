@@ -175,8 +175,8 @@ fn many_long_reads(rt: HostRuntime) -> Result<(), Fail> {
     }
     let mut line = CountingLine::new(&input);
     assert_eq!(rt; serve(alloc, &mut line)?, Cause::Closed);
-    // VERSION has 42 bytes, the handle 21, the status 28, and each DATA 13 before its bytes.
-    assert_eq!(rt; line.written, 91 + 1900 * (MOST_DATA + 13));
+    // VERSION has 71 bytes, the handle 21, the status 28, and each DATA 13 before its bytes.
+    assert_eq!(rt; line.written, 120 + 1900 * (MOST_DATA + 13));
     assert!(rt; line.most < 65536 + MOST_DATA + 13);
     Ok(())
 }

@@ -99,11 +99,11 @@ fn rising_moments(rt: HostRuntime) -> Result<(), Fail> {
     let mut line = MemoryLine::new(alloc, &input, all, all);
     let mut clock = RisingClock::new(1000);
     assert_eq!(rt; serve_at(alloc, &mut line, &mut clock)?, Cause::Closed);
-    // VERSION has 42 bytes, a status 28, and STAT's reply 41.
-    let first = moments_at(line.output(), 70);
-    let second = moments_at(line.output(), 139);
-    assert_eq!(rt; line.output().len(), 221);
-    assert_eq!(rt; moments_at(line.output(), 180), first);
+    // VERSION has 71 bytes, a status 28, and STAT's reply 41.
+    let first = moments_at(line.output(), 99);
+    let second = moments_at(line.output(), 168);
+    assert_eq!(rt; line.output().len(), 250);
+    assert_eq!(rt; moments_at(line.output(), 209), first);
     let (Some((accessed, made)), Some((_, made_later))) = (first, second) else {
         panic!(rt; "a reply is missing");
     };

@@ -217,6 +217,12 @@ fn posix_rename(alloc: Global, draws: &mut Draws) -> Result<Request, Fail> {
     Ok(Request::PosixRename(old, new))
 }
 
+fn link(alloc: Global, draws: &mut Draws) -> Result<Request, Fail> {
+    let old = draws.path(alloc)?;
+    let new = draws.path(alloc)?;
+    Ok(Request::Link(old, new))
+}
+
 /// A request that names a path.
 fn by_path(alloc: Global, draws: &mut Draws) -> Result<Request, Fail> {
     let path = draws.path(alloc)?;
@@ -269,7 +275,8 @@ fn request(
     match draws.below(40) {
         0 => rename(alloc, draws),
         1 => posix_rename(alloc, draws),
-        2..=19 => by_path(alloc, draws),
+        2 => link(alloc, draws),
+        3..=19 => by_path(alloc, draws),
         20..=33 => {
             let handle = handles.draw(session, false, draws);
             by_handle(alloc, draws, handle)

@@ -42,7 +42,7 @@ fn version_reply(rt: HostRuntime) -> Result<(), Fail> {
     let mut out = BytesMut::new(alloc);
     write_version(&mut out)?;
     let want =
-        "00000026 02 00000003 00000018 706f7369782d72656e616d65406f70656e7373682e636f6d 00000001 31";
+        "00000043 02 00000003 00000018 706f7369782d72656e616d65406f70656e7373682e636f6d 00000001 31 00000014 686172646c696e6b406f70656e7373682e636f6d 00000001 31";
     are_hex(&rt, alloc, out.as_slice(), want);
     is_one_packet(&rt, out.as_slice());
     Ok(())

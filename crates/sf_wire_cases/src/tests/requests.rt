@@ -72,6 +72,12 @@ fn by_two_paths(rt: HostRuntime) {
     let packet =
         "0000002e c8 00000005 00000018 706f7369782d72656e616d65406f70656e7373682e636f6d 00000002 2f61 00000003 2f622f";
     is_written(&rt, alloc, &request, packet);
+    let old = bytes("/a");
+    let new = bytes("/b/");
+    let request = WireRequest::Link { old, new };
+    let packet =
+        "0000002a c8 00000005 00000014 686172646c696e6b406f70656e7373682e636f6d 00000002 2f61 00000003 2f622f";
+    is_written(&rt, alloc, &request, packet);
 }
 
 #[test]

@@ -9,7 +9,7 @@ pub returns-clause-kind : goal.returns-clause-kind
 returns-clause-kind c = has_type
 
 pub returns-clause-shown : goal.returns-clause-shown
-returns-clause-shown c name object = refl
+returns-clause-shown c name count object = refl
 
 pub returns-clause-line : goal.returns-clause-line
 returns-clause-line c = has_line

@@ -214,7 +214,7 @@ impl Client {
             unsent: Vec::new(alloc),
             closed: false,
             replies: 0,
-            read: 42,
+            read: 71,
         }
     }
 

@@ -13,3 +13,6 @@ returns-clause-reached c = λ s t p id k. reached_node s t k p id
 
 pub returns-clause-there : goal.returns-clause-there
 returns-clause-there c = λ s t dir id n k. entry_node s t k dir id n
+
+pub returns-clause-names : goal.returns-clause-names
+returns-clause-names c = λ s t id node k. k.linked id node

@@ -1,6 +1,6 @@
 use Rattle.std.proofs.Common.{refl, sym, ◌∙◌}
 use Rattle.sf_call.specs.Calls.{posix_rename}
-use Rattle.sf_walk.proofs.Courses.{old_found, new_found, old_no_way, old_missing, posix_same, posix_nested, posix_no_way, posix_moves, posix_replaces, posix_refused}
+use Rattle.sf_walk.proofs.Courses.{old_found, new_found, old_no_way, old_missing, posix_same, posix_nested, posix_no_way, posix_moves, posix_one, posix_replaces, posix_refused}
 use Rattle.sf_walk.proofs.renames.posix_course.Goals as goal
 
 pub returns-then-eq-clause-course : goal.returns-then-eq-clause-course
@@ -27,10 +27,14 @@ pub returns-in-Missing-new-clause-course : goal.returns-in-Missing-new-clause-co
 returns-in-Missing-new-clause-course c = λ t moment k.
     posix_moves c.args.store.now t k moment c.args.old.now c.args.new.now (c.has_root.ensures.no c.if-has_root.false) c.in-At.parent c.in-At.node (old_found c.args.store.now c.args.old.now c.args.new.now c.args.ways c.requires (c.has_root.ensures.no c.if-has_root.false) _ c.in-At.is) (sym c.are_nested.ensures ∙ c.if-are_nested.false) (sym c.eq.ensures.value ∙ c.if-eq.false) c.in-Missing-new.into (new_found c.args.store.now c.args.old.now c.args.new.now c.args.ways c.requires (sym c.are_nested.ensures ∙ c.if-are_nested.false) c.in-At.parent c.in-At.node c.in-At.is _ c.in-Missing-new.is)
 
+pub returns-then-node-target-clause-course : goal.returns-then-node-target-clause-course
+returns-then-node-target-clause-course c = λ t moment k.
+    posix_one c.args.store.now t k moment c.args.old.now c.args.new.now (c.has_root.ensures.no c.if-has_root.false) c.in-At.parent c.in-At.node (old_found c.args.store.now c.args.old.now c.args.new.now c.args.ways c.requires (c.has_root.ensures.no c.if-has_root.false) _ c.in-At.is) (sym c.are_nested.ensures ∙ c.if-are_nested.false) (sym c.eq.ensures.value ∙ c.if-eq.false) c.in-At-new.into c.in-At-new.target (new_found c.args.store.now c.args.old.now c.args.new.now c.args.ways c.requires (sym c.are_nested.ensures ∙ c.if-are_nested.false) c.in-At.parent c.in-At.node c.in-At.is _ c.in-At-new.is) c.if-node-target.true
+
 pub returns-then-may_replace-clause-course : goal.returns-then-may_replace-clause-course
 returns-then-may_replace-clause-course c = λ t moment k.
-    posix_replaces c.args.store.now t k moment c.args.old.now c.args.new.now (c.has_root.ensures.no c.if-has_root.false) c.in-At.parent c.in-At.node (old_found c.args.store.now c.args.old.now c.args.new.now c.args.ways c.requires (c.has_root.ensures.no c.if-has_root.false) _ c.in-At.is) (sym c.are_nested.ensures ∙ c.if-are_nested.false) (sym c.eq.ensures.value ∙ c.if-eq.false) c.in-At-new.into c.in-At-new.target (new_found c.args.store.now c.args.old.now c.args.new.now c.args.ways c.requires (sym c.are_nested.ensures ∙ c.if-are_nested.false) c.in-At.parent c.in-At.node c.in-At.is _ c.in-At-new.is) (sym c.may_replace.ensures ∙ c.if-may_replace.true)
+    posix_replaces c.args.store.now t k moment c.args.old.now c.args.new.now (c.has_root.ensures.no c.if-has_root.false) c.in-At.parent c.in-At.node (old_found c.args.store.now c.args.old.now c.args.new.now c.args.ways c.requires (c.has_root.ensures.no c.if-has_root.false) _ c.in-At.is) (sym c.are_nested.ensures ∙ c.if-are_nested.false) (sym c.eq.ensures.value ∙ c.if-eq.false) c.in-At-new.into c.in-At-new.target (new_found c.args.store.now c.args.old.now c.args.new.now c.args.ways c.requires (sym c.are_nested.ensures ∙ c.if-are_nested.false) c.in-At.parent c.in-At.node c.in-At.is _ c.in-At-new.is) c.if-node-target.false (sym c.may_replace.ensures ∙ c.if-may_replace.true)
 
 pub returns-else-may_replace-clause-course : goal.returns-else-may_replace-clause-course
 returns-else-may_replace-clause-course c = λ t moment k.
-    posix_refused c.args.store.now t k moment c.args.old.now c.args.new.now (c.has_root.ensures.no c.if-has_root.false) c.in-At.parent c.in-At.node (old_found c.args.store.now c.args.old.now c.args.new.now c.args.ways c.requires (c.has_root.ensures.no c.if-has_root.false) _ c.in-At.is) (sym c.are_nested.ensures ∙ c.if-are_nested.false) (sym c.eq.ensures.value ∙ c.if-eq.false) c.in-At-new.into c.in-At-new.target (new_found c.args.store.now c.args.old.now c.args.new.now c.args.ways c.requires (sym c.are_nested.ensures ∙ c.if-are_nested.false) c.in-At.parent c.in-At.node c.in-At.is _ c.in-At-new.is) (sym c.may_replace.ensures ∙ c.if-may_replace.false)
+    posix_refused c.args.store.now t k moment c.args.old.now c.args.new.now (c.has_root.ensures.no c.if-has_root.false) c.in-At.parent c.in-At.node (old_found c.args.store.now c.args.old.now c.args.new.now c.args.ways c.requires (c.has_root.ensures.no c.if-has_root.false) _ c.in-At.is) (sym c.are_nested.ensures ∙ c.if-are_nested.false) (sym c.eq.ensures.value ∙ c.if-eq.false) c.in-At-new.into c.in-At-new.target (new_found c.args.store.now c.args.old.now c.args.new.now c.args.ways c.requires (sym c.are_nested.ensures ∙ c.if-are_nested.false) c.in-At.parent c.in-At.node c.in-At.is _ c.in-At-new.is) c.if-node-target.false (sym c.may_replace.ensures ∙ c.if-may_replace.false)

@@ -1,0 +1,134 @@
+//! Links: further paths of files.
+
+ghost use Rattle.std.specs.Prelude.{◌≡◌, ◌<◌, ℕ, length, OnOk, OnErr, IfOk};
+ghost use Rattle.sf_reply.specs.Replies.{IsPlain};
+ghost use Rattle.sf_call.specs.Requests.Target.{OnPaths};
+ghost use Rattle.sf_call.specs.Tree.{Tree, found_at};
+ghost use Rattle.sf_call.specs.Calls.{Answer, link, unless_root};
+ghost use Rattle.sf_inode.specs.Stores.{linked};
+ghost use Rattle.sf_keeps.specs.Keeps.{Keeps};
+ghost use Rattle.sf_walk.specs.Ways.{are_nested, last_of, AreWays};
+ghost use Rattle.sf_walk.specs.Served.{Gives, IsAlike, HoldersStay};
+ghost use Rattle.sf_walk.specs.Links.{IsLinking, IsNamed, nested_code};
+
+use crate::finding::{Located, Ways};
+use crate::renames::{are_nested, has_root};
+use sf_call::MAX_LINKS;
+use sf_inode::{NodeId, Store};
+use sf_path::Path;
+use sf_reply::{Reply, StatusCode};
+use std::alloc::AllocError;
+
+/// What a link comes to.
+#[derive(Clone, Copy)]
+pub(crate) enum LinkCourse {
+    /// It is answered this, and nothing changes.
+    Told(StatusCode),
+    /// The new path's last name leads to the node, from this directory on.
+    Names { node: NodeId, into: NodeId },
+}
+
+/// The extension hardlink.
+pub(crate) fn link(
+    store: &mut Store,
+    moment: u32,
+    old: &Path,
+    new: &Path,
+    ways: Ways,
+) -> Result<Reply, AllocError>
+    requires { AreWays store.old (OnPaths old.now new.now) ways }
+    ensures served { (t : Tree) → Keeps store.old t
+        → Gives store.new t (unless_root old.now
+        (unless_root new.now (link t moment new.now (found_at t old.now)))) result }
+    ensures err { OnErr result (IsAlike store.old store.new) }
+    ensures plain { IfOk result IsPlain }
+    ensures look_ups { store.new.look_ups ≡ store.old.look_ups }
+    ensures holders { HoldersStay store.old store.new }
+{
+    let course = link_course(store, old, new, ways);
+    name_anew(store, moment, new, course)
+}
+
+/// What a link comes to, where its paths lead. A file has nothing below it, and what lies before it is there.
+fn link_course(store: &Store, old: &Path, new: &Path, ways: Ways) -> LinkCourse
+    requires { AreWays store.now (OnPaths old.now new.now) ways }
+    ensures course { (t : Tree) (moment : ℕ) → Keeps store.now t
+        → IsLinking store.now t moment new.now
+        (unless_root old.now (unless_root new.now (link t moment new.now (found_at t old.now))))
+        result }
+    ensures named { IsNamed new.now result }
+{
+    if has_root(old, new) {
+        return LinkCourse::Told(StatusCode::Failure);
+    }
+    match ways.path {
+        Located::NoWay => LinkCourse::Told(StatusCode::NoSuchFile),
+        Located::Missing { parent: _ } => LinkCourse::Told(StatusCode::NoSuchFile),
+        Located::At { parent: _, node } => {
+            if store.is_directory(node) {
+                return LinkCourse::Told(StatusCode::Failure);
+            }
+            if are_nested(old, new) {
+                return LinkCourse::Told(nested_code(old, new));
+            }
+            match ways.new {
+                Located::NoWay => LinkCourse::Told(StatusCode::NoSuchFile),
+                Located::At { parent: _, node: _ } => LinkCourse::Told(StatusCode::Failure),
+                Located::Missing { parent: into } => {
+                    if store.links(node) >= MAX_LINKS {
+                        LinkCourse::Told(StatusCode::Failure)
+                    } else {
+                        LinkCourse::Names { node, into }
+                    }
+                }
+            }
+        }
+    }
+}
+
+/// What is told of a file's path and one that it begins with or that begins with it: nothing lies below a file, and all that
+/// lies before it is there.
+fn nested_code(old: &Path, new: &Path) -> StatusCode
+    ensures { result ≡ nested_code old.now new.now }
+{
+    if old.len() < new.len() {
+        StatusCode::NoSuchFile
+    } else {
+        StatusCode::Failure
+    }
+}
+
+/// Does what a link comes to. The directory of the new path is modified at the moment.
+fn name_anew(
+    store: &mut Store,
+    moment: u32,
+    new: &Path,
+    course: LinkCourse,
+) -> Result<Reply, AllocError>
+    requires { IsNamed new.now course }
+    ensures served { (t : Tree) (answer : Answer) → Keeps store.old t
+        → IsLinking store.old t moment new.now answer course → Gives store.new t answer result }
+    ensures err { OnErr result (IsAlike store.old store.new) }
+    ensures plain { IfOk result IsPlain }
+    ensures look_ups { store.new.look_ups ≡ store.old.look_ups }
+    ensures holders { HoldersStay store.old store.new }
+{
+    match course {
+        LinkCourse::Told(code) => Ok(Reply::Status(code)),
+        LinkCourse::Names { node, into } => {
+            link_last(store, new, into, node)?;
+            store.touch(into, moment);
+            Ok(Reply::Status(StatusCode::Success))
+        }
+    }
+}
+
+/// A path's last name leads to a node, from a directory.
+fn link_last(store: &mut Store, new: &Path, into: NodeId, node: NodeId) -> Result<(), AllocError>
+    requires { 0 < length new.now }
+    ensures ok { OnOk result (store.new ≡ linked store.old into (last_of new.now) node) }
+    ensures err { OnErr result (store.new ≡ store.old) }
+{
+    let name = new.name(new.len() - 1).try_copy(store.alloc())?;
+    store.link(into, name, node)
+}
