@@ -52,7 +52,7 @@ use Rattle.sf_core.specs.Lanes.{LaneView}
 use Rattle.sf_core.specs.Cores.{call_at, session_at, slot_of}
 use Rattle.sf_core.specs.Progress.{reply_of, left_at, depth_at, EndsWalk, MayDecideBy, did, has_passed, overtaken}
 use Rattle.sf_core.specs.Sure.{IsSure, AreSure}
-use Rattle.sf_core.specs.Events.{KeepsRecords, Goes, IsBlocked, AreRecordsOf, IsOfOther, IsHelped, Decides}
+use Rattle.sf_core.specs.Events.{KeepsRecords, Goes, HoldsNode, IsBlocked, AreRecordsOf, IsOfOther, IsHelped, Decides}
 use Rattle.sf_core.specs.Parts.{PartsView, seen}
 use Rattle.sf_core.specs.Sound.{spot_on, standing_at, standing_of, standings, CallSound, Sound, IsWritten}
 use Rattle.sf_core.specs.Stepping.{session_set, Finished, Walked, Overtakes}
@@ -204,6 +204,22 @@ looks_below (Some path) (Some other) (stage.Ends cm a b) to short (inl is) =
     inr (spot_on (Some path) a.walked a.node, get_or path a.walked [], inr (inl refl), is.1 ∙ one_more path a.walked short.short)
 looks_below (Some path) (Some other) (stage.Ends cm a b) to short (inr is) =
     inr (spot_on (Some other) b.walked b.node, get_or other b.walked [], inr (inr refl), is.1 ∙ one_more other b.walked short.short_new)
+
+-- what a call holds it has come to
+came_to : (o u : Option Path) (g : Stage) (s : Spot) (node : ℕ) → Holds (standing_at o u g) s → s.node ≡ node → HoldsNode g node
+came_to o u stage.Fresh s node hold at = hold
+came_to None u (stage.At w n) s node hold at = sym (ap (λ (x : Spot). x.node) hold) ∙ at
+came_to (Some path) u (stage.At w n) s node hold at = sym (ap (λ (x : Spot). x.node) hold) ∙ at
+came_to o u (stage.Ends cm a b) s node hold at = ends (spot_on o cm.walked cm.node) (spot_on o a.walked a.node) (spot_on u b.walked b.node) (at_node o cm.walked cm.node) (at_node o a.walked a.node) (at_node u b.walked b.node) hold
+  where
+    at_node : (p : Option Path) (w n : ℕ) → (spot_on p w n).node ≡ n
+    at_node None w n = refl
+    at_node (Some path) w n = refl
+
+    ends : (x y z : Spot) → x.node ≡ cm.node → y.node ≡ a.node → z.node ≡ b.node → Holds (Ends x y z) s → HoldsNode (stage.Ends cm a b) node
+    ends x y z i j k (inl e) = inl (sym i ∙ sym (ap (λ (v : Spot). v.node) e) ∙ at)
+    ends x y z i j k (inr (inl e)) = inr (inl (sym j ∙ sym (ap (λ (v : Spot). v.node) e) ∙ at))
+    ends x y z i j k (inr (inr e)) = inr (inr (sym k ∙ sym (ap (λ (v : Spot). v.node) e) ∙ at))
 
 -- ---- what is left of a call that is carried out
 some_left : (o u : Option Path) (g : Stage) (names : ℕ) → IsShort o u g → FitNames o u names → 1 ≤ left_at names g
@@ -358,6 +374,14 @@ module _ (p : PartsView) (history : List Record) (sound : Sound p history) (lane
           slot = slot_busy (seen p) d.0.session holder d.0 ds.session d.1;
           holds = not_decided;
           number = ds.is_number;
+          wanted = record {
+            to = waits.to;
+            node = waits.node;
+            looks = waits.looks;
+            leads = waits.leads;
+            held = waits.held ∙ ap Some (sym ds.is_number);
+            came = came_to (path_of d.0.request) (other_of d.0.request) d.0.stage d.2.0 waits.node d.2.1 d.2.2;
+          };
           deeper = omega (arith, below, deep);
           looks = record {
             records = same_book p q h.book;

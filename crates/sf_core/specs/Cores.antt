@@ -9,8 +9,8 @@ use Rattle.sf_inode.specs.Stores.{StoreState}
 
 -- the records that are kept, the oldest first; how many are kept at most, if not all; and how many calls' records went; how many
 -- call numbers and session numbers were given, from 1 on; the joined sessions by rising number, each with the number of its
--- unanswered call; the unanswered calls by rising number; how many look-ups were made; and the store, of which no clause but
--- that of the history speaks
+-- unanswered call; the unanswered calls by rising number; how many look-ups were made; and the store, of which no clauses but
+-- those of the history and of a blocked step speak
 pub record CoreView : Type 0 where
   pub records : List Record
   pub keep : Option ℕ

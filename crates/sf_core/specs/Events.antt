@@ -3,17 +3,24 @@ use Rattle.std.specs.Prelude.{◌≡◌, ◌≢◌, ◌⊎◌, ◌<◌, ◌≤�
 use Rattle.std.specs.Ordering.{nat_cmp}
 use Rattle.std.specs.List.{AllByRecursion}
 use Rattle.std.specs.List.Sorted.{IsStrictlySortedBy}
+use Rattle.sf_path.specs.Names.{Path}
 use Rattle.sf_reply.specs.declared.reply.Reply.{Reply}
 use Rattle.sf_call.specs.declared.request.Request.{Request}
 use Rattle.sf_call.specs.declared.record.Record.{Record}
 use Rattle.sf_call.specs.declared.record.Record.TheVariants.{Did, Left}
 use Rattle.sf_call.specs.declared.call.Call.{Call}
+use Rattle.sf_call.specs.declared.call.Stage.{Stage}
+use Rattle.sf_call.specs.declared.call.Stage.TheVariants as stage
 use Rattle.sf_call.specs.Answers.{Answered as Answer}
 use Rattle.sf_call.specs.declared.fault.CoreFault.{CoreFault}
 use Rattle.sf_call.specs.declared.fault.CoreFault.TheVariants as fault
 use Rattle.sf_call.specs.Changes.{moved_by}
 use Rattle.sf_call.specs.Calls.{answer_to}
 use Rattle.sf_call.specs.Histories.{replay, IsNewNumber, IsAmong}
+use Rattle.sf_inode.specs.Stores.{StoreState, entry_of, holder_of}
+use Rattle.sf_keeps.specs.Steps.{walk}
+use Rattle.sf_walk.specs.Ways.{path_of, other_of}
+use Rattle.sf_walk.specs.Steps.{LooksAt}
 use Rattle.sf_core.specs.Sure.{AreSure}
 use Rattle.sf_core.specs.declared.step.Step.{Step}
 use Rattle.sf_core.specs.declared.step.Step.TheVariants.{Moved, Blocked, Answered, Stranger}
@@ -69,6 +76,23 @@ pub record Goes (v w : CoreView) (lane : LaneView) (c d : Call) : Type 0 where
   pub more : v.look_ups ≤ w.look_ups
   pub few : w.look_ups ≤ v.look_ups + 2
 
+-- the nodes that a call at this stage has come to and holds
+abbrev pub HoldsNode : Stage → ℕ → Type 0
+HoldsNode stage.Fresh node = ⊥
+HoldsNode (stage.At walked at) node = at ≡ node
+HoldsNode (stage.Ends common old new) node =
+    (common.node ≡ node) ⊎ ((old.node ≡ node) ⊎ (new.node ≡ node))
+
+-- The names that a call looks up next lead to a node, and another call holds it: its number stands at
+-- the node, and it has come there.
+pub record HoldsWanted (s : StoreState) (c d : Call) : Type 0 where
+  pub to : Path
+  pub node : ℕ
+  pub looks : LooksAt (path_of c.request) (other_of c.request) c.stage to
+  pub leads : walk (entry_of s.nodes) s.root to ≡ Some node
+  pub held : holder_of s.nodes node ≡ Some d.number
+  pub came : HoldsNode d.stage node
+
 -- another session's undecided call, which looks further down, holds what the call wants
 pub record IsBlocked (v w : CoreView) (lane : LaneView) (c : Call) (holder : ℕ) : Type 0 where
   pub own : OwnCall v lane c
@@ -79,6 +103,7 @@ pub record IsBlocked (v w : CoreView) (lane : LaneView) (c : Call) (holder : ℕ
   pub slot : slot_of v other ≡ Busy call
   pub holds : reply_of call ≡ None
   pub number : call.number ≡ holder
+  pub wanted : HoldsWanted v.store c call
   pub deeper : IsBehind c call
   pub looks : LooksOnly v w 2
 
