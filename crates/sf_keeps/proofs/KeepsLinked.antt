@@ -149,7 +149,11 @@ module _ (s : StoreState) (t : Tree) (k : Keeps s t) (p : Path) (d : ℕ) (n : N
       (λ x m. ap (λ (v : View). v.step x m) view_linked) marks refl refl
       (marked_left (entry_of s.nodes) step (marks_of s.nodes) (links t.names) (links after.names) (times_open t) (handle_at s) (marked s t k) c node.label node.names node.opens (ap (option_map mark_of) here)
       (min (node.names + 1) (2 ^ 64 - 1)) false (bare_more (entry_of s.nodes) d n c c apart bare) (λ id l o e. bare_more (entry_of s.nodes) d n c id (away s t k p d to.0 at to.2 id l o e))
-      (λ id l b o ne e. omega (arith, links_more t.names l (p ++ n ∷ []) node.label none, is_link_other l node.label (λ same.
-      let w = mark_node s.nodes id (l, b, o) e in same_apart c id ne (one_node s t k c id node w.0 here w.1 (same ∙ sym (ap (λ (z : Mark). z.0) w.2))))))
+      (λ id l b o ne e. omega (
+        arith,
+        links_more t.names l (p ++ n ∷ []) node.label none,
+        is_link_other l node.label (λ same.
+            let w = mark_node s.nodes id (l, b, o) e in same_apart c id ne (one_node s t k c id node w.0 here w.1 (same ∙ sym (ap (λ (z : Mark). z.0) w.2)))),
+      ))
       own (λ _. refl) (counted_handle s t k))
       (in_order_put mid.nodes (linked s d n c).nodes c (Some (with_name node)) ordered_mid (node_in-edited with_name mid c node still) (node_in_order mid.nodes c node ordered_mid still))

@@ -67,12 +67,7 @@ impl PlainTree {
 
     /// The extension `hardlink@openssh.com`.
     #[tactic(auto, using(crate::proofs::Calls::links_object))]
-    pub(super) fn link(
-        &mut self,
-        moment: u32,
-        old: &Path,
-        new: &Path,
-    ) -> Result<Reply, AllocError>
+    pub(super) fn link(&mut self, moment: u32, old: &Path, new: &Path) -> Result<Reply, AllocError>
         ensures reply { IfOk result (λ reply. reply
             ≡ (unless_root old.now (unless_root new.now
             (link self.old moment new.now (found_at self.old old.now)))).reply) }

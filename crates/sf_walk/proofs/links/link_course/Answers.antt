@@ -38,4 +38,3 @@ returns-then-links-ge-MAX_LINKS-clause-course c = λ t moment k.
 pub returns-else-links-ge-MAX_LINKS-clause-course : goal.returns-else-links-ge-MAX_LINKS-clause-course
 returns-else-links-ge-MAX_LINKS-clause-course c = λ t moment k.
     link_made c.args.store.now t k moment c.args.old.now c.args.new.now (c.has_root.ensures.no c.if-has_root.false) c.in-At.parent c.in-At.node (old_found c.args.store.now c.args.old.now c.args.new.now c.args.ways c.requires (c.has_root.ensures.no c.if-has_root.false) _ c.in-At.is) (sym c.is_directory.ensures ∙ c.if-is_directory.false) c.in-Missing-new.into (new_found c.args.store.now c.args.old.now c.args.new.now c.args.ways c.requires (sym c.are_nested.ensures ∙ c.if-are_nested.false) c.in-At.parent c.in-At.node c.in-At.is _ c.in-Missing-new.is) (lt-leb 1024 (names_at c.args.store.now.nodes c.in-At.node) (omega (arith, c.if-links-ge-MAX_LINKS.false, c.links.ensures)))
-
