@@ -41,8 +41,10 @@ pub use Rattle.sf_call.proofs.MovedNames.{after_front-append, append-after_front
 -- they stay in order
 pub use Rattle.sf_call.proofs.Orders.{find_is}
 pub use Rattle.sf_call.proofs.Ordered.{put_is, and_both, and_first, and_second, sorted_put, sorted_removed, sorted_set, sorted_filtered}
-pub use Rattle.sf_call.proofs.LookUps.{lookup-put, set_there, none_set, not_at, other_put, other_set, other_removed}
--- what holds of all is kept by a choice and by a beginning, and by entries that are put, set and removed
+pub use Rattle.sf_call.proofs.LookUps.{lookup-put, set_there, none_set, not_at, other_put, other_set, other_removed, removed_itself}
+-- what holds of all is kept by a choice and by a beginning, and by entries that are put, set and removed; and what follows
+-- from it holds of all
+pub use Rattle.sf_call.proofs.Used.{all_by}
 pub use Rattle.sf_call.proofs.FittingTrees.{all_made, all_filtered, all_removed, all_put, all_set, found_value}
 pub use Rattle.sf_call.proofs.FittingAnswers.{taken_short}
 -- trees in order that map alike are equal, and a change keeps the order

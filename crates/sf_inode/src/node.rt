@@ -32,13 +32,13 @@ pub(crate) enum Content {
 
 #[derive(Drop)]
 pub(crate) struct Node {
-    // What a walk and a STAT look at comes first, side by side.
+    // What a walk, a STAT and a listing look at comes first, side by side.
     pub(crate) holder: Option<u64>,
     pub(crate) metadata: Metadata,
-    pub(crate) content: Content,
-    pub(crate) label: u64,
     /// How many names lead to it.
     pub(crate) names: u64,
+    pub(crate) content: Content,
+    pub(crate) label: u64,
     /// How many handles open it.
     pub(crate) opens: u64,
 }

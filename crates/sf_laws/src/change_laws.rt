@@ -2,23 +2,25 @@
 
 ghost use Rattle.std.specs.Prelude.{◌≡◌, ◌≢◌, ◌<◌, ℕ, true, List, [], ◌∷◌, Some, None, IsSome};
 ghost use Rattle.sf_call.specs.declared.request.Request.{Request};
-ghost use Rattle.sf_call.specs.declared.request.Request.TheVariants.{Stat, SetStat, FStat, FSetStat, Read, Write, Rename, PosixRename, Link};
+ghost use Rattle.sf_call.specs.declared.request.Request.TheVariants.{Stat, SetStat, Remove, OpenDir, Open, FStat, FSetStat, Read, Write, Rename, PosixRename, Link};
 ghost use Rattle.sf_call.specs.declared.record.Record.{Record};
 ghost use Rattle.sf_path.specs.Names.{Name, Path};
 ghost use Rattle.sf_path.specs.Order.{parent};
 ghost use Rattle.sf_call.specs.declared.metadata.Metadata.{Metadata};
-ghost use Rattle.sf_call.specs.Tree.{Tree, label_at, object_of, handle_of, is_used, kept, after_front};
+ghost use Rattle.sf_call.specs.Tree.{Tree, label_at, object_of, handle_of, links, is_directory, is_used, kept, after_front};
 ghost use Rattle.sf_call.specs.Changes.{Change, changed};
 ghost use Rattle.sf_laws.specs.LeftAlone.{IsOfPath, IsOfLabel, IsOfNumber};
 ghost use Rattle.sf_call.specs.Calls.{answer_to, apply, moves};
 ghost use Rattle.sf_reply.specs.declared.reply.Reply.TheVariants.{Status};
 ghost use Rattle.sf_reply.specs.declared.reply.StatusCode.{StatusCode};
 ghost use Rattle.sf_reply.specs.declared.reply.StatusCode.TheVariants.{Success};
+ghost use Rattle.sf_field.specs.declared.attrs.Attrs.{Attrs};
+ghost use Rattle.sf_field.specs.declared.open_flags.OpenFlags.{OpenFlags};
 ghost use Rattle.sf_field.specs.Attributes.{no_attrs};
 ghost use Rattle.sf_call.specs.Attributes.{Object, modified_at};
 ghost use Rattle.sf_call.specs.Attributes.Object.{Directory};
 ghost use Rattle.sf_laws.specs.Own.{IsOneOf, IsEntryOf, IsOwnPath, IsOwnObject, IsOwnHandle};
-ghost use Rattle.sf_laws.specs.Linked.{IsLinked};
+ghost use Rattle.sf_laws.specs.Linked.{NameOne, IsLinked, IsRemoved};
 ghost use Rattle.sf_call.specs.Allowed.{IsMove, kind_of};
 ghost use Rattle.sf_call.specs.Histories.{replay, IsNewNumber, IsLegal};
 
@@ -137,4 +139,48 @@ pub fn linked_files()
     ensures { (tree : Tree) (session number moment : ℕ) (old new : Path)
         → (apply tree session number moment (Link old new)).reply ≡ Status Success
         → IsLinked tree (apply tree session number moment (Link old new)).tree old new }
+{}
+
+/// After a legal history two paths that name one object are answered alike, and change the same: so what is set or opened
+/// by one of them is set or opened for the other. They name one object as long as no request makes, removes or moves one
+/// of them.
+pub fn names_of_one_file()
+    ensures stat { (history : List Record) (session number moment : ℕ) (path other : Path)
+        → IsLegal history → NameOne (replay history) path other
+        → answer_to (replay history) session number moment (Stat path)
+        ≡ answer_to (replay history) session number moment (Stat other) }
+    ensures set_stat { (history : List Record) (session number moment : ℕ) (attrs : Attrs)
+        (path other : Path) → IsLegal history → NameOne (replay history) path other
+        → answer_to (replay history) session number moment (SetStat path attrs)
+        ≡ answer_to (replay history) session number moment (SetStat other attrs) }
+    ensures open { (history : List Record) (session number moment : ℕ) (flags : OpenFlags)
+        (attrs : Attrs) (path other : Path) → IsLegal history
+        → NameOne (replay history) path other
+        → answer_to (replay history) session number moment (Open path flags attrs)
+        ≡ answer_to (replay history) session number moment (Open other flags attrs) }
+    ensures open_directory { (history : List Record) (session number moment : ℕ)
+        (path other : Path) → IsLegal history → NameOne (replay history) path other
+        → answer_to (replay history) session number moment (OpenDir path)
+        ≡ answer_to (replay history) session number moment (OpenDir other) }
+    ensures still { (tree : Tree) (session number moment : ℕ) (request : Request)
+        (path other : Path) → NameOne tree path other → ¬ IsOwnPath request path
+        → ¬ IsOwnPath request other
+        → NameOne (apply tree session number moment request).tree path other }
+{}
+
+/// After a legal history a REMOVE that is told OK takes one path from its file, which stays as it was while a path or a
+/// handle is left.
+pub fn removed_names()
+    ensures { (history : List Record) (session number moment : ℕ) (path : Path) → IsLegal history
+        → (apply (replay history) session number moment (Remove path)).reply ≡ Status Success
+        → IsRemoved (replay history)
+        (apply (replay history) session number moment (Remove path)).tree path }
+{}
+
+/// After a legal history one path names each directory that is named.
+pub fn directory_links()
+    ensures { (history : List Record) (path : Path) (label : ℕ) → IsLegal history
+        → is_directory (replay history) path ≡ true
+        → label_at (replay history).names path ≡ Some label
+        → links (replay history).names label ≡ 1 }
 {}

@@ -20,8 +20,9 @@ pub use cases::{
     packet_cases, path_cases, rename_cases, rmdir_cases, stat_cases,
 };
 pub use change_laws::{
-    idle_calls, kinds_stay, left_alone, linked_files, moving_renames, nothing_unused, own_changes,
-    parents_stay, refusals_change_nothing, still_moves,
+    directory_links, idle_calls, kinds_stay, left_alone, linked_files, moving_renames,
+    names_of_one_file, nothing_unused, own_changes, parents_stay, refusals_change_nothing,
+    removed_names, still_moves,
 };
 pub use handle_laws::{limits_hold, new_handles, open_handles};
 pub use history_laws::equal_replies;
