@@ -20,8 +20,8 @@ pub record IsLinked (before after : Tree) (old new : Path) : Type 0 where
   pub more : links after.names label ≡ 1 + links before.names label
   pub few : links before.names label < MAX_LINKS
 
--- The path names nothing, and one path less has the label that it had. The object is as it was where a path is left that
--- names it, or a handle that opens it, and else it is gone.
+-- The path names nothing, and one path less has the label that it had. The object is as it was
+-- where a path is left that names it, or a handle that opens it, and else it is gone.
 pub record IsRemoved (before after : Tree) (path : Path) : Type 0 where
   pub label : ℕ
   pub was : label_at before.names path ≡ Some label

@@ -24,8 +24,8 @@ ghost use Rattle.sf_laws.specs.Linked.{NameOne, IsLinked, IsRemoved};
 ghost use Rattle.sf_call.specs.Allowed.{IsMove, kind_of};
 ghost use Rattle.sf_call.specs.Histories.{replay, IsNewNumber, IsLegal};
 
-/// What is not a request's own it leaves alone: the labels of other paths, other handles, and other objects, which at most
-/// are let go of.
+/// What is not a request's own it leaves alone: the labels of other paths, other handles, and other
+/// objects, which at most are let go of.
 pub fn own_changes()
     ensures paths { (tree : Tree) (session number moment : ℕ) (request : Request) (path : Path)
         → ¬ IsOwnPath request path
@@ -42,8 +42,9 @@ pub fn own_changes()
         ≡ object_of tree.objects label }
 {}
 
-/// What each kind of change leaves alone: other paths keep their labels, other numbers their handles, and other labels
-/// their objects, which go only where nothing names or opens them any more.
+/// What each kind of change leaves alone: other paths keep their labels, other numbers their
+/// handles, and other labels their objects, which go only where nothing names or opens them any
+/// more.
 pub fn left_alone()
     ensures paths { (tree : Tree) (change : Change) (path : Path) → ¬ IsOfPath change path
         → label_at (changed tree change).names path ≡ label_at tree.names path }
@@ -57,7 +58,8 @@ pub fn left_alone()
         → object_of (changed tree change).objects label ≡ object_of tree.objects label }
 {}
 
-/// Of a directory in which a request makes or removes a name nothing changes, but the moment at which it was modified.
+/// Of a directory in which a request makes or removes a name nothing changes, but the moment at
+/// which it was modified.
 pub fn parents_stay()
     ensures { (tree : Tree) (session number moment label : ℕ) (request : Request) (path : Path)
         (m : Metadata) → IsEntryOf request path → label ≢ number
@@ -74,7 +76,8 @@ pub fn refusals_change_nothing()
         → (apply tree session number moment request).tree ≡ tree }
 {}
 
-/// STAT, FSTAT and READ leave the tree as it was; so do SETSTAT and FSETSTAT with no part given, and WRITE of no bytes.
+/// STAT, FSTAT and READ leave the tree as it was; so do SETSTAT and FSETSTAT with no part given,
+/// and WRITE of no bytes.
 pub fn idle_calls()
     ensures stat { (tree : Tree) (session number moment : ℕ) (path : Path)
         → (apply tree session number moment (Stat path)).tree ≡ tree }
@@ -90,7 +93,8 @@ pub fn idle_calls()
         → (apply tree session number moment (Write handle offset [])).tree ≡ tree }
 {}
 
-/// What was a directory stays one, and what was a file: a request that may come next changes no object's kind.
+/// What was a directory stays one, and what was a file: a request that may come next changes no
+/// object's kind.
 pub fn kinds_stay()
     ensures { (history : List Record) (number session moment label : ℕ) (request : Request)
         (before after : Object) → IsLegal history → 0 < number → IsNewNumber number history
@@ -100,7 +104,8 @@ pub fn kinds_stay()
         → kind_of after ≡ kind_of before }
 {}
 
-/// After a legal history each object is named or open, so that letting go of others changes nothing.
+/// After a legal history each object is named or open, so that letting go of others changes
+/// nothing.
 pub fn nothing_unused()
     ensures named_or_open { (history : List Record) (label : ℕ) → IsLegal history
         → IsSome (object_of (replay history).objects label)
@@ -109,7 +114,8 @@ pub fn nothing_unused()
         → kept (replay history) ≡ replay history }
 {}
 
-/// After a legal history a rename moves where a move may be made, the plain one to a path that is free.
+/// After a legal history a rename moves where a move may be made, the plain one to a path that is
+/// free.
 pub fn moving_renames()
     ensures plain { (history : List Record) (session number moment : ℕ) (old new : Path)
         → IsLegal history → IsMove (replay history) old new
@@ -122,7 +128,8 @@ pub fn moving_renames()
         ≡ moves (replay history) moment old new }
 {}
 
-/// Where a move may be made, it may be made after a request whose own paths all lie below the old one.
+/// Where a move may be made, it may be made after a request whose own paths all lie below the old
+/// one.
 pub fn still_moves()
     ensures { (history : List Record) (number session moment : ℕ) (request : Request)
         (old new : Path)
@@ -133,17 +140,17 @@ pub fn still_moves()
         → IsMove (apply (replay history) session number moment request).tree old new }
 {}
 
-/// A link that is told OK names the file at the old path by the new one too, which named nothing; so one path more names
-/// it, and never more than 1024.
+/// A link that is told OK names the file at the old path by the new one too, which named nothing;
+/// so one path more names it, and never more than 1024.
 pub fn linked_files()
     ensures { (tree : Tree) (session number moment : ℕ) (old new : Path)
         → (apply tree session number moment (Link old new)).reply ≡ Status Success
         → IsLinked tree (apply tree session number moment (Link old new)).tree old new }
 {}
 
-/// After a legal history two paths that name one object are answered alike, and change the same: so what is set or opened
-/// by one of them is set or opened for the other. They name one object as long as no request makes, removes or moves one
-/// of them.
+/// After a legal history two paths that name one object are answered alike, and change the same: so
+/// what is set or opened by one of them is set or opened for the other. They name one object as
+/// long as no request makes, removes or moves one of them.
 pub fn names_of_one_file()
     ensures stat { (history : List Record) (session number moment : ℕ) (path other : Path)
         → IsLegal history → NameOne (replay history) path other
@@ -168,8 +175,8 @@ pub fn names_of_one_file()
         → NameOne (apply tree session number moment request).tree path other }
 {}
 
-/// After a legal history a REMOVE that is told OK takes one path from its file, which stays as it was while a path or a
-/// handle is left.
+/// After a legal history a REMOVE that is told OK takes one path from its file, which stays as it
+/// was while a path or a handle is left.
 pub fn removed_names()
     ensures { (history : List Record) (session number moment : ℕ) (path : Path) → IsLegal history
         → (apply (replay history) session number moment (Remove path)).reply ≡ Status Success
