@@ -294,7 +294,7 @@ impl Store {
         }
     }
 
-    /// A further name of a directory leads to a node.
+    /// A further name of a directory, which is free, leads to a node.
     pub fn link(&mut self, dir: NodeId, name: Name, node: NodeId) -> Result<(), AllocError>
         ensures ok { OnOk result (self.new ≡ linked self.old dir name node) }
         ensures err { OnErr result (self.new ≡ self.old) }
