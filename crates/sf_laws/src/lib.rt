@@ -17,8 +17,8 @@ mod history_laws;
 mod listing_laws;
 
 pub use cases::{
-    file_cases, handle_cases, history_cases, link_cases, listing_cases, mkdir_cases, move_cases, open_cases,
-    packet_cases, path_cases, rename_cases, rmdir_cases, stat_cases,
+    file_cases, handle_cases, history_cases, link_cases, listing_cases, mkdir_cases, move_cases,
+    open_cases, packet_cases, path_cases, rename_cases, rmdir_cases, stat_cases,
 };
 pub use change_laws::{
     directory_links, idle_calls, kinds_stay, left_alone, linked_files, moving_renames,
