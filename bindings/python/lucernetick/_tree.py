@@ -98,8 +98,9 @@ class Found:
     contents: Optional[bytes]
 
     def entry(self, file: Optional[int]) -> Entry:
-        of = self.attributes
-        return Entry(of.mode, of.uid, of.gid, of.atime, of.mtime, self.contents, file)
+        seen = self.attributes
+        times = (seen.atime, seen.mtime)
+        return Entry(seen.mode, seen.uid, seen.gid, *times, self.contents, file)
 
 
 class Fields:

@@ -21,7 +21,7 @@ pub fn number_files(
     let mut numbers = BTreeMap::new();
     let mut count = 0;
     for path in found.iter().filter(|(_, one)| one.contents.is_some()).map(|(path, _)| path) {
-        let known = firsts.get(path).and_then(|first| numbers.get(*first)).copied();
+        let known = firsts.get(path.as_slice()).and_then(|first| numbers.get(*first)).copied();
         let number = known.unwrap_or_else(|| {
             count += 1;
             count
@@ -90,4 +90,52 @@ fn set_back(
         done = done.and(requests.set_times(path, before.atime, before.mtime));
     }
     done
+}
+
+#[cfg(test)]
+mod tests {
+    use super::{marks, set_back, Attributes};
+    use crate::{Engine, Fault};
+
+    const FILES: [&[u8]; 4] = [b"/a", b"/b", b"/c", b"/d"];
+
+    fn attributes() -> Attributes {
+        Attributes { size: 0, uid: 0, gid: 0, mode: 0, atime: 5, mtime: 9 }
+    }
+
+    /// Where the files' times are 5 and 9.
+    fn engine() -> Engine {
+        let mut engine = Engine::from_files([("/a", "same"), ("/b", "same")], 77).unwrap();
+        engine.hard_link("/a", "/c", 77).unwrap();
+        engine.hard_link("/b", "/d", 77).unwrap();
+        engine.requests(0, |requests| set_back(requests, &attributes(), &FILES)).unwrap();
+        engine
+    }
+
+    fn times(engine: &mut Engine) -> Vec<(u32, u32)> {
+        let told = engine.requests(0, |requests| {
+            FILES
+                .iter()
+                .map(|path| requests.stat(path).map(|found| (found.atime, found.mtime)))
+                .collect()
+        });
+        told.unwrap()
+    }
+
+    #[test]
+    fn marks_are_set_back() {
+        let mut engine = engine();
+        let told = engine.requests(0, |requests| marks(requests, &attributes(), &FILES));
+        assert_eq!(told, Ok(vec![2, 3, 2, 3]));
+        assert_eq!(times(&mut engine), [(5, 9); 4]);
+    }
+
+    #[test]
+    fn marks_are_set_back_where_one_fails() {
+        let mut engine = engine();
+        let names: [&[u8]; 4] = [b"/a", b"/b", b"/none", b"/c"];
+        let told = engine.requests(0, |requests| marks(requests, &attributes(), &names));
+        assert_eq!(told, Err(Fault::Status(2, "No such file".to_string())));
+        assert_eq!(times(&mut engine), [(5, 9); 4]);
+    }
 }

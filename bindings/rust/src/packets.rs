@@ -71,7 +71,7 @@ impl Packet {
 }
 
 /// What a reply tells of an object.
-#[derive(PartialEq, Eq, PartialOrd, Ord)]
+#[derive(Debug, PartialEq, Eq, PartialOrd, Ord)]
 pub struct Attributes {
     pub size: u64,
     pub uid: u32,

@@ -108,7 +108,7 @@ impl Engine {
     }
 
     /// What is done by a session of its own, which is closed then.
-    fn requests<T>(
+    pub(crate) fn requests<T>(
         &mut self,
         moment: u32,
         work: impl FnOnce(&mut Requests<'_>) -> Result<T, Fault>,
