@@ -6,8 +6,8 @@ import "sort"
 // as many names as that look alike, they are one file's. Where more of them do, they are several files',
 // which are told apart by their atimes: these are set, looked at, and set back.
 
-// looks are all that is seen of a file.
-type looks struct {
+// A likeness is all that is seen of a file.
+type likeness struct {
 	attributes
 	links    int
 	contents string
@@ -62,11 +62,11 @@ func (client *requests) firstNames(paths []string, found map[string]object) (map
 }
 
 // lookAlike has the names of the files that have several, by all that is seen of these files.
-func lookAlike(paths []string, found map[string]object) map[looks][]string {
-	alike := map[looks][]string{}
+func lookAlike(paths []string, found map[string]object) map[likeness][]string {
+	alike := map[likeness][]string{}
 	for _, path := range paths {
 		if one := found[path]; one.links > 1 {
-			like := looks{one.attributes, one.links, string(one.contents)}
+			like := likeness{one.attributes, one.links, string(one.contents)}
 			alike[like] = append(alike[like], path)
 		}
 	}

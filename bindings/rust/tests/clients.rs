@@ -184,7 +184,7 @@ fn link() {
     client.end();
     let found = server.server.snapshot().unwrap();
     let file = |path: &str| found[path.as_bytes()].file;
-    assert_eq!([file("/f"), file("/g"), file("/d/f")], [Some(2), Some(3), Some(2)]);
+    assert_eq!([file("/f"), file("/g"), file("/d/f")], [Some(1), Some(2), Some(1)]);
     assert_eq!(server.contents("/d/f"), b"1");
 }
 
