@@ -150,6 +150,17 @@ func TestARequestThatFailsHalfWayLeavesAllAttributes(t *testing.T) {
 	same(t, lookedAt(t, session), before)
 }
 
+func TestTimesAreSetBackPastWhatFails(t *testing.T) {
+	engine := alike(t)
+	err := engine.request(0, func(client *requests) error {
+		return client.setBack([]string{"/none", "/a"}, attributes{atime: 1, mtime: 2})
+	})
+	var status *Status
+	same(t, errors.As(err, &status), true)
+	found := snapshot(t, engine)["/d/a"]
+	same(t, []uint32{found.Atime, found.Mtime}, []uint32{1, 2})
+}
+
 func TestNoOtherSessionIsToldOfMarks(t *testing.T) {
 	engine := alike(t)
 	session := asker(t, engine)

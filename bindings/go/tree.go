@@ -43,7 +43,8 @@ const (
 )
 
 // ErrBlocked: the call of another session, which has yet to take its turns, holds what a request wants. The
-// request stays as it is, in a session that gets no further turn but by RunAll.
+// request stays as it is, in a session that gets no further turn but by RunAll: it may hold a directory until
+// then.
 var ErrBlocked = errors.New("lucernetick: the call of another session is in the way")
 
 // A Status is the answer to a request of WriteFiles, Link or Snapshot that wasn't done.

@@ -213,6 +213,22 @@ def test_a_snapshot_does_not_wait_for_a_call_under_way() -> None:
         assert list(engine.snapshot()) == ["/", "/a", "/f"]
 
 
+def test_rounds_carry_out_a_request_that_was_blocked() -> None:
+    """A snapshot that finds `/a` held is left in the root, and holds it until the rounds."""
+    with Engine.from_files({"/a/f": b"1"}) as engine:
+        held = engine.open()
+        held.feed(packet(INIT, u32(3)) + packet(STAT, u32(8), string(b"/a/f")))
+        did = [held.turn(100) for _ in range(4)]
+        assert did == [Turn.WROTE, Turn.BEGUN, Turn.MOVED, Turn.MOVED]
+        with pytest.raises(Blocked):
+            engine.snapshot()
+        assert held.settle(100) == Turn.IDLE
+        with pytest.raises(Blocked):
+            engine.snapshot()
+        assert engine.run_all() > 0
+        assert list(engine.snapshot()) == ["/", "/a", "/a/f"]
+
+
 def test_threads_share_an_engine() -> None:
     with Engine() as engine:
         threads = [

@@ -5,7 +5,7 @@ import threading
 import pytest
 
 from lucernetick import Engine, Link, Refusal, Refused, Session, Status
-from lucernetick._links import marks
+from lucernetick._links import marks, set_back
 from lucernetick._tree import Requests
 from packets import ATTRS, INIT, OK, REMOVE, SETSTAT, STAT, packet, replies, status, string, u32
 
@@ -101,6 +101,14 @@ def test_a_request_that_fails_half_way_leaves_all_attributes() -> None:
                 marks(requests, one, [b"/a", b"/b", b"/none", b"/c"])
         assert str(refused.value) == "SETSTAT /none: No such file"
         assert look(session, ALIKE_NUMBERS) == before
+
+
+def test_times_are_set_back_past_what_fails() -> None:
+    with alike() as engine, Requests(engine, 0) as requests:
+        with pytest.raises(Status):
+            set_back(requests, [b"/none", b"/a"], 1, 2)
+        found = engine.snapshot()
+    assert (found["/d/a"].atime, found["/d/a"].mtime) == (1, 2)
 
 
 def take_snapshots(engine: Engine, count: int) -> bool:

@@ -131,6 +131,16 @@ mod tests {
     }
 
     #[test]
+    fn times_are_set_back_past_what_fails() {
+        let mut engine = engine();
+        let before = Attributes { atime: 1, mtime: 2, ..attributes() };
+        let names: [&[u8]; 2] = [b"/none", b"/a"];
+        let told = engine.requests(0, |requests| set_back(requests, &before, &names));
+        assert_eq!(told, Err(Fault::Status(2, "No such file".to_string())));
+        assert_eq!(times(&mut engine), [(1, 2), (5, 9), (1, 2), (5, 9)]);
+    }
+
+    #[test]
     fn marks_are_set_back_where_one_fails() {
         let mut engine = engine();
         let names: [&[u8]; 4] = [b"/a", b"/b", b"/none", b"/c"];
