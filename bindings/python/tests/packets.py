@@ -1,7 +1,9 @@
 """The packets of these tests, made and cut (docs/PROTOCOL.md, "Packets")."""
 
-INIT, MKDIR, STAT, STATUS, ATTRS = 1, 14, 17, 101, 105
-OK = 0
+INIT, SETSTAT, REMOVE, MKDIR, STAT, RENAME, STATUS, ATTRS = 1, 9, 13, 14, 17, 18, 101, 105
+OK, NO_SUCH_FILE = 0, 2
+VERSION = 71
+"""The length of VERSION's packet."""
 
 
 def u32(value: int) -> bytes:
@@ -25,6 +27,11 @@ def replies(data: bytes) -> list[bytes]:
         found.append(data[4 : 4 + count])
         data = data[4 + count :]
     return found
+
+
+def status(number: int, code: int, message: bytes) -> bytes:
+    """The body of a STATUS."""
+    return bytes([STATUS]) + u32(number) + u32(code) + string(message) + string(b"")
 
 
 # INIT, and MKDIR of /a under the id 7.
