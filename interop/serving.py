@@ -1,6 +1,7 @@
 """`sftpd serve` for the scripts of this folder, and what its clients need."""
 
 import contextlib
+import importlib
 import os
 import re
 import shutil
@@ -10,6 +11,7 @@ import sys
 import time
 
 from checks import same
+from packets import STATUS, u32
 
 TOP = os.path.dirname(os.path.dirname(os.path.abspath(__file__)))
 PROGRAM = os.path.abspath(sys.argv[1]) if len(sys.argv) > 1 else os.path.join(TOP, "crates/sftpd/out/sftpd")
@@ -25,6 +27,18 @@ def install(command, package):
         if shutil.which(command):
             return True
     return False
+
+
+def find_paramiko():
+    """The module, installed where it is missing; None where it can't be had."""
+    for words in ([], ["update"], ["install", "-y", "--no-install-recommends", "python3-paramiko"]):
+        if words:
+            with contextlib.suppress(OSError, subprocess.TimeoutExpired):
+                subprocess.run(["apt-get", *words], capture_output=True, timeout=300)
+        importlib.invalidate_caches()
+        with contextlib.suppress(ImportError):
+            return importlib.import_module("paramiko")
+    return None
 
 
 class Server:
@@ -91,6 +105,11 @@ def run(*words, seconds=SECONDS, **options):
     if done.returncode != 0:
         raise AssertionError(f"{' '.join(words)} ended with {done.returncode}: {done.stdout}")
     return done.stdout
+
+
+def same_status(reply, code):
+    """Raises unless the packet is a STATUS of this code."""
+    same((reply[0], reply[5:9]), (STATUS, u32(code)))
 
 
 def fresh(room, name):
