@@ -11,7 +11,6 @@ import sys
 import time
 
 from checks import same
-from packets import STATUS, u32
 
 TOP = os.path.dirname(os.path.dirname(os.path.abspath(__file__)))
 PROGRAM = os.path.abspath(sys.argv[1]) if len(sys.argv) > 1 else os.path.join(TOP, "crates/sftpd/out/sftpd")
@@ -105,11 +104,6 @@ def run(*words, seconds=SECONDS, **options):
     if done.returncode != 0:
         raise AssertionError(f"{' '.join(words)} ended with {done.returncode}: {done.stdout}")
     return done.stdout
-
-
-def same_status(reply, code):
-    """Raises unless the packet is a STATUS of this code."""
-    same((reply[0], reply[5:9]), (STATUS, u32(code)))
 
 
 def fresh(room, name):

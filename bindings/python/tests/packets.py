@@ -1,6 +1,7 @@
 """The packets of these tests, made and cut (docs/PROTOCOL.md, "Packets")."""
 
 INIT, MKDIR, STAT, STATUS, ATTRS = 1, 14, 17, 101, 105
+OPEN, READ, HANDLE, DATA = 3, 5, 102, 103
 OK = 0
 
 

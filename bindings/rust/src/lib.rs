@@ -20,6 +20,7 @@
 
 mod clock;
 mod fault;
+mod line;
 mod packets;
 mod server;
 mod sys;
