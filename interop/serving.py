@@ -1,6 +1,7 @@
 """`sftpd serve` for the scripts of this folder, and what its clients need."""
 
 import contextlib
+import importlib
 import os
 import re
 import shutil
@@ -25,6 +26,18 @@ def install(command, package):
         if shutil.which(command):
             return True
     return False
+
+
+def find_paramiko():
+    """The module, installed where it is missing; None where it can't be had."""
+    for words in ([], ["update"], ["install", "-y", "--no-install-recommends", "python3-paramiko"]):
+        if words:
+            with contextlib.suppress(OSError, subprocess.TimeoutExpired):
+                subprocess.run(["apt-get", *words], capture_output=True, timeout=300)
+        importlib.invalidate_caches()
+        with contextlib.suppress(ImportError):
+            return importlib.import_module("paramiko")
+    return None
 
 
 class Server:

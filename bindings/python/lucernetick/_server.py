@@ -6,6 +6,7 @@ import contextlib
 import select
 import socket
 import threading
+from collections import deque
 from typing import Optional
 
 from ._clock import Clock, wall_clock
@@ -18,6 +19,8 @@ TURNS = 256
 """How many turns are made before the output goes out, but for those of the call that is under way then."""
 UNDER_WAY = (Turn.SPENT, Turn.BEGUN, Turn.MOVED, Turn.DECIDED)
 """After these a call may be under way."""
+MOST_AHEAD = 1 << 24
+"""How many bytes of requests are read ahead at most, while the replies before them can't be sent."""
 PATIENCE = 5.0
 """Seconds that a server which is left waits for each of its threads."""
 
@@ -30,6 +33,52 @@ class Connection(socket.socket):
 
     def recv_ready(self) -> bool:
         return bool(select.select([self], [], [], 0)[0])
+
+
+class _Line:
+    """The server's end of a connection. While it can't send, it reads on, and keeps what it read for later: so a client
+    that sends before it reads doesn't hang."""
+
+    def __init__(self, line: socket.socket) -> None:
+        self._line = line
+        self._ahead: deque[bytearray] = deque()
+        self._count = 0
+        self._has_ended = False
+
+    def recv(self) -> bytes:
+        """The next bytes, none at the end of the input."""
+        if self._ahead:
+            data = bytes(self._ahead.popleft())
+            self._count -= len(data)
+            return data
+        return b"" if self._has_ended else self._line.recv(PIECE)
+
+    def sendall(self, data: bytes) -> None:
+        rest = memoryview(data)
+        while rest:
+            try:
+                rest = rest[self._line.send(rest, socket.MSG_DONTWAIT) :]
+            except BlockingIOError:
+                self._wait()
+
+    def _wait(self) -> None:
+        """Waits until it can send, or something comes, which it reads."""
+        poll = select.poll()
+        reads = not self._has_ended and self._count < MOST_AHEAD
+        poll.register(self._line, select.POLLOUT | (select.POLLIN if reads else 0))
+        [(_, events)] = poll.poll()
+        if reads and not events & select.POLLOUT:
+            self._read_ahead()
+
+    def _read_ahead(self) -> None:
+        data = self._line.recv(PIECE)
+        self._has_ended = not data
+        self._count += len(data)
+        # Small pieces are joined, so that what is kept takes no more than its bytes.
+        if data and self._ahead and len(self._ahead[-1]) + len(data) <= PIECE:
+            self._ahead[-1] += data
+        elif data:
+            self._ahead.append(bytearray(data))
 
 
 class Server:
@@ -96,20 +145,20 @@ class Server:
         """Serves a session until its client, it or the engine ends."""
         try:
             with line, contextlib.suppress(OSError):
-                self._pump(session, line)
+                self._pump(session, _Line(line))
             self._leave(session)
         except Refused as refused:
             if refused.refusal != Refusal.BAD_POINTER:
                 raise
 
-    def _pump(self, session: Session, line: socket.socket) -> None:
+    def _pump(self, session: Session, line: _Line) -> None:
         """Passes bytes on, both ways, until the client or the session ends."""
-        while data := line.recv(PIECE):
+        while data := line.recv():
             session.feed(data)
             if self._settle(session, line).has_ended:
                 return
 
-    def _settle(self, session: Session, line: socket.socket) -> Turn:
+    def _settle(self, session: Session, line: _Line) -> Turn:
         """Takes the session's turns until it waits for bytes or has ended, and sends what it wrote."""
         while True:
             turn = self._turns(session)

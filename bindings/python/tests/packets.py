@@ -1,6 +1,7 @@
 """The packets of these tests, made and cut (docs/PROTOCOL.md, "Packets")."""
 
-INIT, SETSTAT, REMOVE, MKDIR, STAT, RENAME, STATUS, ATTRS = 1, 9, 13, 14, 17, 18, 101, 105
+INIT, OPEN, READ, SETSTAT, REMOVE, MKDIR, STAT, RENAME = 1, 3, 5, 9, 13, 14, 17, 18
+STATUS, HANDLE, DATA, ATTRS = 101, 102, 103, 105
 OK, NO_SUCH_FILE = 0, 2
 VERSION = 71
 """The length of VERSION's packet."""

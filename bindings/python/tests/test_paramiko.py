@@ -10,7 +10,7 @@ import pytest
 
 import lucernetick
 from lucernetick import Engine, Server, Turn, VirtualTime
-from packets import INIT, LOOKS, MAKES, STAT, VERSION, packet, string, u32
+from packets import DATA, HANDLE, INIT, LOOKS, MAKES, OPEN, READ, STAT, VERSION, packet, string, u32
 
 
 @pytest.fixture
@@ -179,6 +179,30 @@ def test_a_client_that_reads_nothing_keeps_nobody_waiting(sftp_tree: Server, dep
     client.sendall(LOOKS)
     client.recv(VERSION, socket.MSG_WAITALL)
     assert len(client.recv(41, socket.MSG_WAITALL)) == 41
+
+
+def reply(line: socket.socket) -> bytes:
+    """The body of the next packet."""
+    count = int.from_bytes(line.recv(4, socket.MSG_WAITALL), "big")
+    return line.recv(count, socket.MSG_WAITALL)
+
+
+def test_a_client_may_send_much_before_it_reads(sftp_tree: Server) -> None:
+    contents = bytes(range(256)) * 128
+    sftp_tree.engine.write_files({"f": contents})
+    line = sftp_tree.connect()
+    line.settimeout(20)
+    line.sendall(packet(INIT, u32(3)) + packet(OPEN, u32(0), string(b"/f"), u32(1), u32(0)))
+    reply(line)
+    opened = reply(line)
+    assert opened[0] == HANDLE
+    reads = range(5000)
+    asked = opened[5:] + bytes(8) + u32(len(contents))
+    line.sendall(b"".join(packet(READ, u32(number), asked) for number in reads))
+    for number in reads:
+        assert reply(line) == bytes([DATA]) + u32(number) + string(contents)
+    line.shutdown(socket.SHUT_WR)
+    assert line.recv(1) == b""
 
 
 def test_many_clients_at_once(sftp_tree: Server) -> None:

@@ -20,6 +20,7 @@
 
 mod clock;
 mod fault;
+mod line;
 mod links;
 mod packets;
 mod server;

@@ -1,9 +1,10 @@
 //! An engine behind connected sockets.
 
+use crate::line::Line;
 use crate::{Engine, Fault, Refusal, Session, Snapshot, Turn};
 use std::collections::BTreeMap;
 use std::fs;
-use std::io::{self, ErrorKind, Read, Write};
+use std::io::{self, ErrorKind};
 use std::net::Shutdown;
 use std::os::unix::io::OwnedFd;
 use std::os::unix::net::{UnixListener, UnixStream};
@@ -117,7 +118,7 @@ fn serve(shared: &Arc<Shared>, line: UnixStream) -> io::Result<()> {
     let name = format!("lucernetick session {}", connection.session.0);
     let work = move || {
         // Whatever ends it, the client is told by the end of its connection.
-        let _ = connection.pump(line);
+        let _ = connection.pump(Line::new(line));
     };
     thread::Builder::new().name(name).spawn(work)?;
     Ok(())
@@ -141,7 +142,7 @@ impl Connection {
     }
 
     /// Passes bytes on, both ways, until the client, the session or the server ends.
-    fn pump(&self, mut line: UnixStream) -> io::Result<()> {
+    fn pump(&self, mut line: Line) -> io::Result<()> {
         let mut room = vec![0; PIECE];
         loop {
             let count = match line.read(&mut room) {
@@ -159,7 +160,7 @@ impl Connection {
     }
 
     /// Sends the replies to all packets that are there.
-    fn answer(&self, line: &mut UnixStream) -> io::Result<Turn> {
+    fn answer(&self, line: &mut Line) -> io::Result<Turn> {
         loop {
             let (turn, output) = self.reply()?;
             line.write_all(&output)?;

@@ -388,6 +388,40 @@ fn clients_that_go_free_their_sessions() {
     }
 }
 
+/// The next packet.
+fn reply(line: &mut UnixStream) -> Vec<u8> {
+    let length = take(line, 4);
+    let count = u32::from_be_bytes([length[0], length[1], length[2], length[3]]);
+    take(line, count as usize)
+}
+
+#[test]
+fn a_client_may_send_much_before_it_reads() {
+    let contents: Vec<u8> = (0..32768_u32).map(|k| (k % 251) as u8).collect();
+    let engine = Engine::from_files([("/f", contents.clone())], 0).unwrap();
+    let server = Server::new(engine, || 0);
+    let mut line = server.connect().unwrap();
+    line.set_write_timeout(Some(Duration::from_secs(20))).unwrap();
+    line.write_all(INIT).unwrap();
+    reply(&mut line);
+    // OPEN of `/f`, to be read.
+    line.write_all(b"\0\0\0\x13\x03\0\0\0\0\0\0\0\x02/f\0\0\0\x01\0\0\0\0").unwrap();
+    let opened = reply(&mut line);
+    let asks = |number: u32| {
+        // READ of its first 32768 bytes.
+        let head = [b"\0\0\0\x1d\x05".as_slice(), &number.to_be_bytes()].concat();
+        [&head, &opened[5..], &[0; 8], b"\0\0\x80\0".as_slice()].concat()
+    };
+    line.write_all(&(0..5000).flat_map(asks).collect::<Vec<u8>>()).unwrap();
+    for number in 0..5000_u32 {
+        let got = reply(&mut line);
+        assert_eq!((got[0], &got[1..5]), (103, &number.to_be_bytes()[..]));
+        assert!(got[9..] == contents[..]);
+    }
+    line.shutdown(std::net::Shutdown::Write).unwrap();
+    assert_eq!(line.read(&mut [0]).unwrap(), 0);
+}
+
 #[test]
 fn a_session_that_ends_closes_its_connection() {
     let server = Server::new(Engine::new(1).unwrap(), || 0);

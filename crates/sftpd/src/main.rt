@@ -13,6 +13,7 @@ pub mod client;
 mod clock;
 pub mod command;
 mod connection;
+mod descriptors;
 mod listening;
 mod program;
 mod server;

@@ -7,10 +7,12 @@ use crate::client::run_client;
 use crate::clock::SystemClock;
 use crate::command::ClientCommand;
 use crate::connection::connect;
+use crate::descriptors::Descriptors;
 use crate::server::{Serving, serve};
 use crate::stdio::run_stdio;
 use clap::builder::ValueParser;
 use clap::{Arg, ArgAction, ArgMatches, Command, Error, error};
+use sf_ahead::AheadLine;
 use sf_line::StreamLine;
 use std::alloc::{AllocError, Global};
 use std::env;
@@ -71,7 +73,7 @@ fn stdio_words<'a>(alloc: Global) -> Result<Command<'a>, AllocError> {
 }
 
 /// How many workers serve sessions where the words don't say, and at most.
-const WORKERS: usize = 16;
+const WORKERS: usize = 64;
 
 const MOST_WORKERS: u64 = 64;
 
@@ -91,7 +93,7 @@ fn serve_words<'a>(alloc: Global) -> Result<Command<'a>, AllocError> {
         .long("workers")
         .value_name("N")
         .value_parser(ValueParser::unsigned(1, MOST_WORKERS))
-        .help("How many sessions are served at once: 1 to 64, by default 16");
+        .help("How many sessions are served at once: 1 to 64, by default 64");
     let sessions = Arg::new(alloc, "sessions")
         .long("sessions")
         .value_name("K")
@@ -214,7 +216,7 @@ pub(crate) fn run<T: Threads + Wait + Sync>(rt: &HostRuntime, threads: &T) -> u8
 fn stdio(rt: &HostRuntime, keep: usize) -> u8
     requires { 0 < keep }
 {
-    let mut line = StreamLine::new(rt.reader(), rt.stdout());
+    let mut line = AheadLine::new(rt.alloc(), Descriptors::standard(rt));
     let mut errors = StreamLine::new(io::empty(), rt.stderr());
     let mut clock = SystemClock::new(rt);
     run_stdio(rt.alloc(), keep, &mut line, &mut clock, &mut errors)

@@ -3,32 +3,52 @@
 ghost use Rattle.std.specs.Prelude.{◌≤◌, None};
 ghost use Rattle.sf_line.specs.Lines.{Rose};
 
-use sf_line::{Line, LineFault, StreamLine};
+use crate::descriptors::Descriptors;
+use sf_ahead::AheadLine;
+use sf_line::{Line, LineFault};
 use std::alloc::Global;
-use std::io::{self, BufWriter, Write};
+use std::io::{self, BufWriter, ErrorKind, Write};
 use std::os::unix::net::UnixStream;
 
 /// How many bytes are gathered at most.
 const ROOM: usize = 16384;
 
+/// The line below, which what was gathered is written to.
+#[derive(Drop)]
+struct Sender {
+    line: AheadLine<Descriptors<UnixStream>>,
+}
+
+impl Write for Sender {
+    fn write(&mut self, bytes: &[u8]) -> io::Result<usize> {
+        match self.line.write(bytes) {
+            Ok(n) => Ok(n),
+            Err(_) => Err(ErrorKind::Other.into()),
+        }
+    }
+
+    fn flush(&mut self) -> io::Result<()> {
+        Ok(())
+    }
+}
+
 /// A line over a Unix stream. What is written is gathered, and sent before the line reads, once there is no more
-/// room, and when it is dropped: so who waits for a reply gets it, and many replies go by one write.
+/// room, and when it is dropped: so who waits for a reply gets it, and many replies go by one write. While it can't
+/// send, it reads on, and keeps what it read for later.
 ///
 /// It tells no bytes, since a stream tells none.
 #[derive(Drop)]
 pub(crate) struct SocketLine {
-    reader: StreamLine<UnixStream, io::Sink>,
-    writer: BufWriter<UnixStream>,
+    writer: BufWriter<Sender>,
     failures: u64,
 }
 
 impl SocketLine {
     /// A line over a connection.
     pub(crate) fn new(alloc: Global, stream: UnixStream) -> io::Result<SocketLine> {
-        let reader = StreamLine::new(stream.try_clone()?, io::sink());
-        let writer = BufWriter::with_capacity(alloc, ROOM, stream)?;
+        let line = AheadLine::new(alloc, Descriptors::of_socket(stream)?);
+        let writer = BufWriter::with_capacity(alloc, ROOM, Sender { line })?;
         Ok(SocketLine {
-            reader,
             writer,
             failures: 0,
         })
@@ -56,7 +76,7 @@ impl Line for SocketLine {
         if self.writer.flush().is_err() {
             return Err(self.fail());
         }
-        match self.reader.read(buffer) {
+        match self.writer.get_mut().line.read(buffer) {
             Ok(n) => Ok(n),
             Err(_) => Err(self.fail()),
         }
