@@ -106,10 +106,11 @@ AnswersSettled before turn most n after =
     (old : EngineView) × (new : EngineView) × (before ≡ Some old) × (after ≡ Some new)
     × SettlesAt turn most old n new
 
--- An engine made so many rounds, no more than the bounds of its calls allow, and no call is under way.
+-- An engine made so many rounds, within the bounds of its calls, and then none is under way.
 abbrev pub RunsAll : Option EngineView → ℕ → Option EngineView → Type 0
-RunsAll before rounds after = (old : EngineView) × (new : EngineView) × (before ≡ Some old)
-    × (after ≡ Some new) × HasRounds rounds old new × IsWithinBounds rounds old × AreUnderWay [] new
+RunsAll before rounds after =
+    (old : EngineView) × (new : EngineView) × (before ≡ Some old) × (after ≡ Some new)
+    × HasRounds rounds old new × IsWithinBounds rounds old × AreUnderWay [] new
 
 -- a new engine keeps so many records, or all for 0
 abbrev pub IsFresh : ℕ → EngineView → Type 0

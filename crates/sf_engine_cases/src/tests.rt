@@ -64,8 +64,9 @@ fn behind(alloc: Global, front: &str, texts: &[&str]) -> Result<Vec<u8>, Fail> {
     Ok(bytes)
 }
 
-/// NAME with an entry for each of these lines, whose last byte is its name, of a directory or of a file without bytes
-/// that was made at the moment 100. The head is the packet's length, its type, its id, and how many lines there are.
+/// NAME with an entry for each of these lines, whose last byte is its name: of a directory, or of a
+/// file without bytes, that was made at the moment 100. The head is the packet's length, its type, its
+/// id, and how many lines there are.
 fn listing(alloc: Global, head: &str, lines: &[&[u8; 56]]) -> Result<Vec<u8>, Fail> {
     let mut packet = hex_bytes(alloc, head)?;
     for line in lines {

@@ -156,8 +156,9 @@ fn take_turn(
     }
 }
 
-/// All calls under way go on by rounds. A path has four names at most, so that a call makes eleven steps at most that
-/// aren't blocked, and one at least of each round isn't. Then no session's turn makes a step of a call.
+/// All calls under way go on by rounds. A path has four names at most, so that a call makes eleven
+/// steps at most that aren't blocked, and one at least of each round isn't. Then no session's turn
+/// makes a step of a call.
 fn run_all(
     rt: &impl Abort,
     engine: &mut Engine,
@@ -371,8 +372,8 @@ fn add_client(
 }
 
 /// Drawn events: three or more of one session in a row, unless its call has to wait; and a call
-/// that begins has two further ones, which may take it past the root. At some moments all calls under
-/// way go on by rounds. Where a session has left, another one opens.
+/// that begins has two further ones, which may take it past the root. At some moments all calls
+/// under way go on by rounds. Where a session has left, another one opens.
 fn draw_events(
     rt: &impl Abort,
     alloc: Global,

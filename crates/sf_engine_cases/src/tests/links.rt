@@ -2,7 +2,8 @@
 
 use super::*;
 
-/// MKDIR of `/d`, under the id 1; OPEN of `/f`, made where it is absent, under the id 2; and their replies.
+/// MKDIR of `/d`, under the id 1; OPEN of `/f`, made where it is absent, under the id 2; and their
+/// replies.
 const MAKE_D: &str = "0000000f 0e 00000001 00000002 2f64 00000000";
 
 const OPEN_F: &str = "00000013 03 00000002 00000002 2f66 0000000a 00000000";
@@ -26,8 +27,9 @@ const ASKED_FIRST: [&str; 5] = [
     "00000011 0c 00000006 00000008 0000000000000004",
 ];
 
-/// What follows: posix-rename of `/f` to `/g`, STAT of both, RENAME and a link of the same; links of `/d` to `/e`, of
-/// `/f` to `/x/y` and of `/none` to `/none`; REMOVE of `/f`; and the root is listed anew, opened by the call 15.
+/// What follows: posix-rename of `/f` to `/g`, STAT of both, RENAME and a link of the same; links of
+/// `/d` to `/e`, of `/f` to `/x/y` and of `/none` to `/none`; REMOVE of `/f`; and the root is listed
+/// anew, opened by the call 15.
 const ASKED_LATER: [&str; 11] = [
     "0000002d c8 00000007 00000018 706f7369782d72656e616d65406f70656e7373682e636f6d 00000002 2f66 00000002 2f67",
     "0000000b 11 00000008 00000002 2f66",
@@ -125,7 +127,8 @@ fn links_to(rt: &impl Abort, alloc: Global, engine: &mut Engine, number: u16, re
     assert!(rt; output.get(sent..) == Some(reply), "link {number}");
 }
 
-/// A file has 1024 names at most: with `/f` `/0002` to `/1024`. A name that goes makes room for another one.
+/// A file has 1024 names at most: with `/f` `/0002` to `/1024`. A name that goes makes room for another
+/// one.
 #[test]
 fn names_of_a_file_end(rt: HostRuntime) {
     let alloc = rt.alloc();

@@ -230,8 +230,8 @@ fn bytes_are_wanted(rt: HostRuntime) {
     assert!(rt; !engine.wants_bytes(3));
 }
 
-/// Where no call is under way there is no round: no session, one that rests with a packet unread, or one whose call is
-/// decided. A call of a session that was closed has its reply all the same.
+/// Where no call is under way there is no round: no session, one that rests with a packet unread, or
+/// one whose call is decided. A call of a session that was closed has its reply all the same.
 #[test]
 fn rounds_of_one_session(rt: HostRuntime) {
     let alloc = rt.alloc();

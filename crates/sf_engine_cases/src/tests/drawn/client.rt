@@ -354,7 +354,7 @@ impl Client {
         let fields = Fields::new(alloc).string(&old)?.string(&new)?;
         self.send(rename(alloc, &old, &new)?, 18, &fields)
     }
-    /// A request on a name in the home that files alone have: it is made, linked, renamed or removed.
+    /// A request on a name in the home that files alone have: it is made, linked, renamed, removed.
     fn ask_on_names(&mut self, alloc: Global, draws: &mut Draws) -> Result<(), Fail> {
         let path = draws.file(alloc)?;
         match draws.below(8) {
