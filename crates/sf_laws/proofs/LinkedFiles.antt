@@ -22,7 +22,7 @@ use Rattle.sf_call.specs.Calls.{Answer, answer_to, refuses, succeeds, unless_roo
 use Rattle.sf_call.proofs.Laws.{lookup-put, place_label, place_free, is_link_itself, links_more}
 use Rattle.sf_laws.specs.Linked.{IsLinked}
 
-names_touched : (t : Tree) (moment : ℕ) (at : Option (ℕ × Metadata)) → (done t (touch moment at)).names ≡ t.names
+pub names_touched : (t : Tree) (moment : ℕ) (at : Option (ℕ × Metadata)) → (done t (touch moment at)).names ≡ t.names
 names_touched t moment None = refl
 names_touched t moment (Some e) = refl
 
