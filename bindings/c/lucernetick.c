@@ -15,6 +15,7 @@ int64_t lucernetick_open(lt_engine *engine);
 int64_t lucernetick_feed(lt_engine *engine, uint64_t session, const uint8_t *bytes, size_t length);
 int64_t lucernetick_turn(lt_engine *engine, uint64_t session, uint32_t moment);
 int64_t lucernetick_settle(lt_engine *engine, uint64_t session, uint32_t moment, uint64_t most);
+uint64_t lucernetick_run_all(lt_engine *engine);
 int64_t lucernetick_close(lt_engine *engine, uint64_t session);
 int64_t lucernetick_output(lt_engine *engine, uint64_t session, uint8_t *room, size_t length);
 int64_t lucernetick_sent(lt_engine *engine, uint64_t session, size_t count);
@@ -67,6 +68,11 @@ int64_t lt_turn(lt_engine *engine, uint64_t session, uint32_t moment)
 int64_t lt_settle(lt_engine *engine, uint64_t session, uint32_t moment, uint64_t most)
 {
     return engine == NULL ? LT_BAD_POINTER : lucernetick_settle(engine, session, moment, most);
+}
+
+int64_t lt_run_all(lt_engine *engine)
+{
+    return engine == NULL ? LT_BAD_POINTER : (int64_t)lucernetick_run_all(engine);
 }
 
 int64_t lt_close(lt_engine *engine, uint64_t session)

@@ -3,6 +3,7 @@ package lucernetick
 import (
 	"bytes"
 	"errors"
+	"fmt"
 	"io"
 	"os"
 	"reflect"
@@ -160,6 +161,35 @@ func TestAConnWaitsForACallThatIsHeld(t *testing.T) {
 	_, err = held.Settle(100, 1000)
 	must(t, err)
 	must(t, <-told)
+}
+
+// A client that a held session keeps waiting goes on when the rounds have carried out both calls.
+func TestAConnGoesOnAfterRounds(t *testing.T) {
+	engine := newEngine(t)
+	held := open(t, engine, makes)
+	_, err := held.Settle(100, 3)
+	must(t, err)
+	conn, err := engine.Connect(WallClock)
+	must(t, err)
+	_, err = conn.Write([]byte(looks))
+	must(t, err)
+	_, err = io.ReadFull(conn, make([]byte, version))
+	must(t, err)
+	told := make(chan string, 1)
+	go func() {
+		reply := make([]byte, len(looked))
+		_, err := io.ReadFull(conn, reply)
+		told <- string(reply) + fmt.Sprint(err)
+	}()
+	select {
+	case reply := <-told:
+		t.Fatalf("answered %q before the other call", reply)
+	case <-time.After(200 * time.Millisecond):
+	}
+	rounds, err := engine.RunAll()
+	must(t, err)
+	same(t, rounds > 0, true)
+	same(t, <-told, looked+"<nil>")
 }
 
 func TestManyClientsAtOnce(t *testing.T) {

@@ -110,11 +110,20 @@ func (engine *Engine) Close() {
 func (engine *Engine) Open() (*Session, error) {
 	engine.lock.Lock()
 	defer engine.lock.Unlock()
-	number, err := checked(C.lt_open(engine.pointer))
-	if err != nil {
-		return nil, err
+	return engine.open()
+}
+
+// RunAll makes rounds, until no call is under way: in each, every session whose call is under way has one
+// turn, at the moment 0, by rising session numbers. It answers how many there were. What these calls are
+// answered waits for later turns, which write it. A closed engine alone refuses it.
+func (engine *Engine) RunAll() (uint64, error) {
+	engine.lock.Lock()
+	defer engine.lock.Unlock()
+	rounds, err := checked(C.lt_run_all(engine.pointer))
+	if rounds > 0 {
+		engine.moved.Broadcast()
 	}
-	return &Session{engine, C.uint64_t(number)}, nil
+	return uint64(rounds), err
 }
 
 // A Session is one client's session with an engine.
@@ -153,13 +162,7 @@ func (session *Session) Settle(moment uint32, most uint64) (Turn, error) {
 func (session *Session) Output() ([]byte, error) {
 	session.engine.lock.Lock()
 	defer session.engine.lock.Unlock()
-	waiting, err := session.waiting()
-	if err != nil {
-		return nil, err
-	}
-	data := make([]byte, waiting)
-	_, err = session.look(data)
-	return data, err
+	return session.output()
 }
 
 // Sent tells that the first count bytes that waited were sent: they are dropped.
@@ -177,6 +180,14 @@ func (session *Session) Close() error {
 }
 
 // What follows is called with the engine's lock held.
+
+func (engine *Engine) open() (*Session, error) {
+	number, err := checked(C.lt_open(engine.pointer))
+	if err != nil {
+		return nil, err
+	}
+	return &Session{engine, C.uint64_t(number)}, nil
+}
 
 func (session *Session) feed(data []byte) error {
 	_, err := checked(C.lt_feed(session.engine.pointer, session.number, start(data), C.size_t(len(data))))
@@ -202,7 +213,15 @@ func (session *Session) settled(moment uint32, most uint64) (Turn, error) {
 	return engine.told(answer)
 }
 
-func (session *Session) waiting() (int, error) { return session.look(nil) }
+func (session *Session) output() ([]byte, error) {
+	waiting, err := session.look(nil)
+	if err != nil {
+		return nil, err
+	}
+	data := make([]byte, waiting)
+	_, err = session.look(data)
+	return data, err
+}
 
 // look copies the first bytes that wait, and tells how many wait.
 func (session *Session) look(room []byte) (int, error) {

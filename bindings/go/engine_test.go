@@ -8,8 +8,11 @@ const makes = "\x00\x00\x00\x05\x01\x00\x00\x00\x03\x00\x00\x00\x0f\x0e\x00\x00\
 // INIT, and STAT of /a under the id 8.
 const looks = "\x00\x00\x00\x05\x01\x00\x00\x00\x03\x00\x00\x00\x0b\x11\x00\x00\x00\x08\x00\x00\x00\x02/a"
 
-// What the second session of the schedule is sent after VERSION, whose packet has 42 bytes: the attributes
-// of /a, size 0, nobody's, 0o755, of the moment 100.
+// version is the length of VERSION's packet.
+const version = 71
+
+// What the second session of the schedule is sent after VERSION: the attributes of /a, size 0, nobody's,
+// 0o755, of the moment 100.
 const looked = "\x00\x00\x00\x25\x69\x00\x00\x00\x08\x00\x00\x00\x0f\x00\x00\x00\x00\x00\x00\x00\x00" +
 	"\x00\x00\x00\x00\x00\x00\x00\x00\x00\x00\x41\xed\x00\x00\x00\x64\x00\x00\x00\x64"
 
@@ -50,7 +53,64 @@ func TestAScheduleGivesTheSameBytesEachTime(t *testing.T) {
 	same(t, sentAgain, sent)
 	wanted := []Turn{Wrote, Wrote, Begun, Begun, Moved, Blocked, Decided, Moved, Decided, Wrote, Wrote}
 	same(t, did, wanted)
-	same(t, sent[1][42:], looked)
+	same(t, sent[1][version:], looked)
+}
+
+// begun is a session whose rename, under the id 7, has begun.
+func begun(t *testing.T, engine *Engine, old, new string) *Session {
+	t.Helper()
+	rename := packet(18, number(7), text([]byte(old)), text([]byte(new)))
+	session := open(t, engine, looks[:9]+string(rename))
+	for _, wanted := range []Turn{Wrote, Begun} {
+		turn, err := session.Turn(100)
+		must(t, err)
+		same(t, turn, wanted)
+	}
+	must(t, session.Sent(version))
+	return session
+}
+
+// written is what a turn of the session writes.
+func written(t *testing.T, session *Session) string {
+	t.Helper()
+	turn, err := session.Turn(100)
+	must(t, err)
+	same(t, turn, Wrote)
+	output, err := session.Output()
+	must(t, err)
+	return string(output)
+}
+
+// In rounds the first rename is ahead: five of them until it is decided, in the last of which the other one
+// takes the root, and three more, since what that moves to is gone.
+func TestCrossingRenamesInRounds(t *testing.T) {
+	engine := newEngine(t)
+	must(t, engine.WriteFiles(map[string][]byte{"/a/x": nil, "/b/y": nil}, 0))
+	first, second := begun(t, engine, "/a/x", "/b/y/x"), begun(t, engine, "/b/y", "/a/x/y")
+	for _, wanted := range []uint64{8, 0} {
+		rounds, err := engine.RunAll()
+		must(t, err)
+		same(t, rounds, wanted)
+	}
+	ok := packet(101, number(7), number(0), text([]byte("Success")), number(0))
+	absent := packet(101, number(7), number(2), text([]byte("No such file")), number(0))
+	same(t, written(t, second), string(absent))
+	same(t, written(t, first), string(ok))
+	found, err := engine.Snapshot()
+	must(t, err)
+	_, there := found["/b/y/x"]
+	same(t, []interface{}{len(found), there}, []interface{}{5, true})
+}
+
+func TestNoRoundsWithoutACallUnderWay(t *testing.T) {
+	engine := newEngine(t)
+	open(t, engine, looks)
+	rounds, err := engine.RunAll()
+	must(t, err)
+	same(t, rounds, uint64(0))
+	engine.Close()
+	_, err = engine.RunAll()
+	same(t, err, EngineClosed)
 }
 
 func TestOutputWaitsUntilItWasSent(t *testing.T) {
@@ -59,13 +119,13 @@ func TestOutputWaitsUntilItWasSent(t *testing.T) {
 	must(t, err)
 	waiting, err := session.Output()
 	must(t, err)
-	same(t, len(waiting), 42)
-	must(t, session.Sent(40))
+	same(t, len(waiting), version)
+	must(t, session.Sent(version-2))
 	same(t, session.Sent(3), NotSent)
 	same(t, session.Sent(-1), NotSent)
 	rest, err := session.Output()
 	must(t, err)
-	same(t, rest, waiting[40:])
+	same(t, rest, waiting[version-2:])
 }
 
 func TestHowSessionsEnd(t *testing.T) {

@@ -5,28 +5,34 @@ import (
 	"errors"
 	"fmt"
 	"sort"
+	"strconv"
 	"strings"
 )
 
 // Types of packets, flags and codes (docs/PROTOCOL.md).
 const (
-	packetInit    = 1
-	packetOpen    = 3
-	packetClose   = 4
-	packetRead    = 5
-	packetWrite   = 6
-	packetOpendir = 11
-	packetReaddir = 12
-	packetMkdir   = 14
-	packetStat    = 17
-	replyStatus   = 101
-	replyHandle   = 102
-	replyData     = 103
-	replyName     = 104
-	replyAttrs    = 105
+	packetInit     = 1
+	packetOpen     = 3
+	packetClose    = 4
+	packetRead     = 5
+	packetWrite    = 6
+	packetSetstat  = 9
+	packetOpendir  = 11
+	packetReaddir  = 12
+	packetMkdir    = 14
+	packetStat     = 17
+	packetExtended = 200
+	replyStatus    = 101
+	replyHandle    = 102
+	replyData      = 103
+	replyName      = 104
+	replyAttrs     = 105
+
+	hardlink = "hardlink@openssh.com"
 
 	flagRead       = 0x01
 	flagWriteAnew  = 0x02 | 0x08 | 0x10
+	flagTimes      = 0x08
 	codeOK         = 0
 	codeEOF        = 1
 	codeNoSuchFile = 2
@@ -37,10 +43,11 @@ const (
 )
 
 // ErrBlocked: the call of another session, which has yet to take its turns, holds what a request wants. The
-// request stays as it is, in a session that gets no further turn.
+// request stays as it is, in a session that gets no further turn but by RunAll: it may hold a directory until
+// then.
 var ErrBlocked = errors.New("lucernetick: the call of another session is in the way")
 
-// A Status is the answer to a request of WriteFiles or Snapshot that wasn't done.
+// A Status is the answer to a request of WriteFiles, Link or Snapshot that wasn't done.
 type Status struct {
 	Code    uint32
 	Message string
@@ -57,6 +64,9 @@ type Entry struct {
 	UID, GID     uint32
 	Atime, Mtime uint32 // seconds since 1970
 	Contents     []byte // nil for a directory
+	// File is a file's number, which all of its names share and no other one has; 0 for a directory. Numbers
+	// are given by each snapshot, from 1 in the order of the paths.
+	File int
 }
 
 // IsDir tells whether it is a directory.
@@ -81,54 +91,97 @@ func FromFiles(files map[string][]byte, moment uint32) (*Engine, error) {
 // WriteFiles makes or replaces these files, by requests of a session of its own at this moment, in the
 // order of their paths. Directories on the way are made where they are missing. Nil stands for a directory.
 func (engine *Engine) WriteFiles(files map[string][]byte, moment uint32) error {
-	client, err := engine.requests(moment)
-	if err != nil {
-		return err
-	}
-	defer client.session.Close()
 	paths := make([]string, 0, len(files))
 	for path := range files {
 		paths = append(paths, path)
 	}
 	sort.Strings(paths)
-	for _, path := range paths {
-		if err := client.place(path, files[path]); err != nil {
+	return engine.request(moment, func(client *requests) error {
+		for _, path := range paths {
+			if err := client.place(path, files[path]); err != nil {
+				return err
+			}
+		}
+		return nil
+	})
+}
+
+// Link gives the file at the old path the new one too, by a request of a session of its own at this moment.
+// Directories on the new path's way are made where they are missing. It is refused with a Status where the
+// new path is there already.
+func (engine *Engine) Link(old, new string, moment uint32) error {
+	return engine.request(moment, func(client *requests) error {
+		if err := client.makeDirectories(parent(new)); err != nil {
 			return err
 		}
-	}
-	return nil
+		told, name := hardlink+" "+old+" "+new, text([]byte(hardlink))
+		return client.succeed(told, packetExtended, name, text([]byte(old)), text([]byte(new)))
+	})
 }
 
 // Snapshot is the whole tree by paths, "/" among them, read by requests of a session of its own. It is
 // refused with ErrBlocked where a call of another session is under way and holds a directory.
+//
+// The engine is locked: no other session takes a turn meanwhile. Where several files that have several names
+// look alike in all but these, their atimes are set for a moment, to tell which names are of one file. They
+// are set back, also where a request fails; only if that is refused, as for want of memory, does one of them
+// stay, and the refusal is answered.
 func (engine *Engine) Snapshot() (map[string]Entry, error) {
-	client, err := engine.requests(0)
+	var entries map[string]Entry
+	err := engine.request(0, func(client *requests) error {
+		root, err := client.stat("/")
+		if err != nil {
+			return err
+		}
+		found := map[string]object{}
+		if err := client.walk("/", object{attributes: root, links: 1}, found); err != nil {
+			return err
+		}
+		numbers, err := client.numberFiles(found)
+		entries = entriesOf(found, numbers)
+		return err
+	})
 	if err != nil {
 		return nil, err
 	}
-	defer client.session.Close()
-	root, err := client.stat("/")
-	if err != nil {
-		return nil, err
-	}
-	found := map[string]Entry{}
-	return found, client.walk("/", root, found)
+	return entries, nil
 }
 
-// requests are made one after another by a session of their own, at one moment.
+// entriesOf are what was found, with the numbers of the files.
+func entriesOf(found map[string]object, numbers map[string]int) map[string]Entry {
+	entries := make(map[string]Entry, len(found))
+	for path, one := range found {
+		entries[path] = Entry{one.mode, one.uid, one.gid, one.atime, one.mtime, one.contents, numbers[path]}
+	}
+	return entries
+}
+
+// requests are made one after another by a session of their own, at one moment, with the engine's lock held.
 type requests struct {
 	session *Session
 	moment  uint32
 }
 
-func (engine *Engine) requests(moment uint32) (*requests, error) {
-	session, err := engine.Open()
+// request makes requests by a session of their own. No other session takes a turn meanwhile.
+func (engine *Engine) request(moment uint32, work func(*requests) error) error {
+	engine.lock.Lock()
+	defer engine.lock.Unlock()
+	client, err := engine.client(moment)
+	if err != nil {
+		return err
+	}
+	defer client.session.close()
+	return work(client)
+}
+
+func (engine *Engine) client(moment uint32) (*requests, error) {
+	session, err := engine.open()
 	if err != nil {
 		return nil, err
 	}
 	client := &requests{session, moment}
 	if _, err := client.reply(packet(packetInit, number(3)), "INIT"); err != nil {
-		session.Close()
+		session.close()
 		return nil, err
 	}
 	return client, nil
@@ -137,14 +190,14 @@ func (engine *Engine) requests(moment uint32) (*requests, error) {
 // reply is the body of the reply to a packet.
 func (client *requests) reply(request []byte, told string) ([]byte, error) {
 	session := client.session
-	if err := session.Feed(request); err != nil {
+	if err := session.feed(request); err != nil {
 		return nil, err
 	}
-	turn, err := session.Settle(client.moment, 1000)
+	turn, err := session.settle(client.moment, 1000)
 	if err != nil {
 		return nil, err
 	}
-	reply, err := session.Output()
+	reply, err := session.output()
 	if err != nil {
 		return nil, err
 	}
@@ -154,7 +207,7 @@ func (client *requests) reply(request []byte, told string) ([]byte, error) {
 	if len(reply) < 5 {
 		return nil, fmt.Errorf("lucernetick: %s: no reply", told)
 	}
-	return reply[4:], session.Sent(len(reply))
+	return reply[4:], session.sent(len(reply))
 }
 
 // ask answers what follows the id in a reply, which must be of the type that is due.
@@ -201,13 +254,14 @@ func (client *requests) place(path string, contents []byte) error {
 	if contents == nil {
 		return client.makeDirectories(path)
 	}
-	if at := strings.LastIndexByte(path, '/'); at > 0 {
-		if err := client.makeDirectories(path[:at]); err != nil {
-			return err
-		}
+	if err := client.makeDirectories(parent(path)); err != nil {
+		return err
 	}
 	return client.writeFile(path, contents)
 }
+
+// parent is the path of the directory that a path's last name is in.
+func parent(path string) string { return path[:strings.LastIndexByte(path, '/')+1] }
 
 func (client *requests) makeDirectories(path string) error {
 	front := ""
@@ -217,7 +271,7 @@ func (client *requests) makeDirectories(path string) error {
 		}
 		front += "/" + part
 		found, err := client.stat(front)
-		if err == nil && found.mode&kindMask == kindDirectory {
+		if err == nil && found.isDirectory() {
 			continue
 		}
 		if err := client.succeed("MKDIR "+front, packetMkdir, text([]byte(front)), number(0)); err != nil {
@@ -266,9 +320,10 @@ func (client *requests) readFile(path string, size uint64) ([]byte, error) {
 	return contents, client.succeed("CLOSE "+path, packetClose, handle)
 }
 
-// A listed name has what its object has.
+// A listed name has what its object has, and how many names that has.
 type listed struct {
 	name  string
+	links int
 	found attributes
 }
 
@@ -287,26 +342,30 @@ func (client *requests) list(path string) ([]listed, error) {
 		if err != nil {
 			return nil, err
 		}
-		names = append(names, found.names()...)
+		more, err := found.names()
+		if err != nil {
+			return nil, err
+		}
+		names = append(names, more...)
 	}
 }
 
 // walk adds the object at a path, and all that is below it.
-func (client *requests) walk(path string, object attributes, found map[string]Entry) error {
-	entry := Entry{object.mode, object.uid, object.gid, object.atime, object.mtime, nil}
-	if !entry.IsDir() {
-		contents, err := client.readFile(path, object.size)
-		entry.Contents = contents
-		found[path] = entry
+func (client *requests) walk(path string, one object, found map[string]object) error {
+	if !one.isDirectory() {
+		contents, err := client.readFile(path, one.size)
+		one.contents = contents
+		found[path] = one
 		return err
 	}
-	found[path] = entry
+	found[path] = one
 	names, err := client.list(path)
 	if err != nil {
 		return err
 	}
 	for _, below := range names {
-		if err := client.walk(strings.TrimRight(path, "/")+"/"+below.name, below.found, found); err != nil {
+		name := strings.TrimRight(path, "/") + "/" + below.name
+		if err := client.walk(name, object{below.found, below.links, nil}, found); err != nil {
 			return err
 		}
 	}
@@ -316,6 +375,15 @@ func (client *requests) walk(path string, object attributes, found map[string]En
 type attributes struct {
 	size                         uint64
 	uid, gid, mode, atime, mtime uint32
+}
+
+func (found attributes) isDirectory() bool { return found.mode&kindMask == kindDirectory }
+
+// An object is what is seen of a file or directory.
+type object struct {
+	attributes
+	links    int    // how many names a file has; 1 for a directory
+	contents []byte // nil for a directory
 }
 
 // fields are read from a reply one after another; the server's replies are whole.
@@ -345,14 +413,20 @@ func (reply *fields) attributes() attributes {
 	return found
 }
 
-func (reply *fields) names() []listed {
+// names are those of one listing. The number of links is the second word of a line.
+func (reply *fields) names() ([]listed, error) {
 	names := make([]listed, reply.number())
 	for at := range names {
 		names[at].name = string(reply.text())
-		reply.text()
+		words := strings.Fields(string(reply.text()))
+		links, err := strconv.Atoi(words[1])
+		if err != nil {
+			return nil, err
+		}
+		names[at].links = links
 		names[at].found = reply.attributes()
 	}
-	return names
+	return names, nil
 }
 
 func number(value uint32) []byte { return binary.BigEndian.AppendUint32(nil, value) }

@@ -26,6 +26,9 @@ static const uint8_t INIT[] = {0, 0, 0, 5, 1, 0, 0, 0, 3};
 static const uint8_t MKDIR[] = {0, 0, 0, 15, 14, 0, 0, 0, 7, 0, 0, 0, 2, '/', 'a', 0, 0, 0, 0};
 static const uint8_t STAT[] = {0, 0, 0, 11, 17, 0, 0, 0, 8, 0, 0, 0, 2, '/', 'a'};
 
+/* The length of VERSION, and that of OK's STATUS. */
+enum { VERSION = 71, OK = 28 };
+
 static void null_pointers(void)
 {
     lt_engine *engine = lt_new(0);
@@ -36,6 +39,7 @@ static void null_pointers(void)
     same("feed without an engine", lt_feed(NULL, 1, &byte, 1), LT_BAD_POINTER);
     same("turn without an engine", lt_turn(NULL, 1, MOMENT), LT_BAD_POINTER);
     same("settle without an engine", lt_settle(NULL, 1, MOMENT, 1), LT_BAD_POINTER);
+    same("rounds without an engine", lt_run_all(NULL), LT_BAD_POINTER);
     same("close without an engine", lt_close(NULL, 1), LT_BAD_POINTER);
     same("output without an engine", lt_output(NULL, 1, &byte, 1), LT_BAD_POINTER);
     same("sent without an engine", lt_sent(NULL, 1, 0), LT_BAD_POINTER);
@@ -90,19 +94,19 @@ static void one_session(void)
     lt_feed(engine, 1, INIT, sizeof INIT);
     lt_feed(engine, 1, MKDIR, sizeof MKDIR);
     same("VERSION", lt_turn(engine, 1, MOMENT), LT_WROTE);
-    same("its length", lt_output(engine, 1, NULL, 0), 42);
-    same("VERSION was sent", lt_sent(engine, 1, 42), 0);
+    same("its length", lt_output(engine, 1, NULL, 0), VERSION);
+    same("VERSION was sent", lt_sent(engine, 1, VERSION), 0);
     same("MKDIR begins", lt_turn(engine, 1, MOMENT), LT_BEGUN);
     same("it takes the root", lt_turn(engine, 1, MOMENT), LT_MOVED);
     same("it is decided", lt_turn(engine, 1, MOMENT), LT_DECIDED);
     same("its turns run out", lt_settle(engine, 1, MOMENT, 1), LT_SPENT);
     lt_feed(engine, 1, STAT, sizeof STAT);
     same("STAT", lt_settle(engine, 1, MOMENT, 100), LT_IDLE);
-    same("both replies", lt_output(engine, 1, room, sizeof room), 28 + 41);
+    same("both replies", lt_output(engine, 1, room, sizeof room), OK + 41);
     same("OK's id", room[8], 7);
-    same("ATTRS' moment", room[28 + 40], MOMENT);
+    same("ATTRS' moment", room[OK + 40], MOMENT);
     memset(room, 9, sizeof room);
-    same("as much as there is room", lt_output(engine, 1, room, 5), 28 + 41);
+    same("as much as there is room", lt_output(engine, 1, room, 5), OK + 41);
     same("the last byte in the room", room[4], 101);
     same("the first one behind it", room[5], 9);
     lt_free(engine);
@@ -147,6 +151,64 @@ static void blocked(void)
     lt_free(engine);
 }
 
+/* MKDIR of /a/x, /b and /b/y, under the id 7. */
+static const uint8_t MAKE_X[] = {0, 0, 0, 17, 14, 0, 0, 0, 7, 0, 0, 0, 4, '/', 'a', '/', 'x', 0, 0, 0, 0};
+static const uint8_t MAKE_B[] = {0, 0, 0, 15, 14, 0, 0, 0, 7, 0, 0, 0, 2, '/', 'b', 0, 0, 0, 0};
+static const uint8_t MAKE_Y[] = {0, 0, 0, 17, 14, 0, 0, 0, 7, 0, 0, 0, 4, '/', 'b', '/', 'y', 0, 0, 0, 0};
+
+/* RENAME of /a/x to /b/y/x under the id 8, and of /b/y to /a/x/y under the id 9. */
+static const uint8_t TO_B[] = {0, 0, 0, 23, 18, 0, 0, 0, 8, 0, 0, 0, 4, '/', 'a', '/', 'x',
+                               0, 0, 0, 6, '/', 'b', '/', 'y', '/', 'x'};
+static const uint8_t TO_A[] = {0, 0, 0, 23, 18, 0, 0, 0, 9, 0, 0, 0, 4, '/', 'b', '/', 'y',
+                               0, 0, 0, 6, '/', 'a', '/', 'x', '/', 'y'};
+
+/* Two sessions, whose renames begin. What was written before is sent. */
+static lt_engine *crossing(void)
+{
+    lt_engine *engine = lt_new(0);
+    lt_open(engine);
+    lt_open(engine);
+    lt_feed(engine, 1, INIT, sizeof INIT);
+    lt_feed(engine, 2, INIT, sizeof INIT);
+    lt_feed(engine, 1, MKDIR, sizeof MKDIR);
+    lt_feed(engine, 1, MAKE_X, sizeof MAKE_X);
+    lt_feed(engine, 1, MAKE_B, sizeof MAKE_B);
+    lt_feed(engine, 1, MAKE_Y, sizeof MAKE_Y);
+    lt_settle(engine, 1, MOMENT, 100);
+    lt_settle(engine, 2, MOMENT, 100);
+    same("VERSION and four directories", lt_sent(engine, 1, VERSION + 4 * OK), 0);
+    same("VERSION", lt_sent(engine, 2, VERSION), 0);
+    lt_feed(engine, 1, TO_B, sizeof TO_B);
+    lt_feed(engine, 2, TO_A, sizeof TO_A);
+    same("the first rename begins", lt_turn(engine, 1, MOMENT), LT_BEGUN);
+    same("the second rename begins", lt_turn(engine, 2, MOMENT), LT_BEGUN);
+    return engine;
+}
+
+/* In rounds the first session is ahead: five of them until its rename is decided, in the last of which the
+ * other one takes the root, and three more, since /a/x is gone. */
+static void rounds(void)
+{
+    uint8_t room[64];
+    lt_engine *engine = crossing();
+    same("rounds", lt_run_all(engine), 8);
+    same("no round more", lt_run_all(engine), 0);
+    same("no reply of the first rename", lt_output(engine, 1, NULL, 0), 0);
+    same("no reply of the second rename", lt_output(engine, 2, NULL, 0), 0);
+    same("a turn writes the second one's", lt_turn(engine, 2, MOMENT), LT_WROTE);
+    same("a turn writes the first one's", lt_turn(engine, 1, MOMENT), LT_WROTE);
+    same("the first one's length", lt_output(engine, 1, room, sizeof room), OK);
+    same("its id", room[8], 8);
+    same("it is OK", room[12], 0);
+    same("the second one's length", lt_output(engine, 2, room, sizeof room), 33);
+    same("its id", room[8], 9);
+    same("it is NO_SUCH_FILE", room[12], 2);
+    lt_free(engine);
+    engine = lt_new(1);
+    same("no round without a session", lt_run_all(engine), 0);
+    lt_free(engine);
+}
+
 /* The reply of the schedule's second session, after VERSION: the attributes of /a, size 0, nobody's, 0o755,
  * of the moment 100. */
 static const uint8_t LOOKED[] = {0, 0, 0, 37, 105, 0, 0, 0, 8, 0, 0, 0, 15, 0, 0, 0, 0, 0, 0, 0, 0,
@@ -168,8 +230,8 @@ static void schedule(uint8_t first[128], uint8_t second[128])
     lt_feed(engine, 2, STAT, sizeof STAT);
     for (size_t i = 0; i < sizeof sessions / sizeof *sessions; i++)
         same("a turn of the schedule", lt_turn(engine, sessions[i], MOMENT), did[i]);
-    same("what the first one is sent", lt_output(engine, 1, first, 128), 42 + 28);
-    same("what the second one is sent", lt_output(engine, 2, second, 128), 42 + 41);
+    same("what the first one is sent", lt_output(engine, 1, first, 128), VERSION + OK);
+    same("what the second one is sent", lt_output(engine, 2, second, 128), VERSION + 41);
     lt_free(engine);
 }
 
@@ -180,7 +242,7 @@ static void replayed(void)
     schedule(first[1], second[1]);
     same("the first one's bytes again", memcmp(first[0], first[1], 128), 0);
     same("the second one's bytes again", memcmp(second[0], second[1], 128), 0);
-    same("the second one's reply", memcmp(second[0] + 42, LOOKED, sizeof LOOKED), 0);
+    same("the second one's reply", memcmp(second[0] + VERSION, LOOKED, sizeof LOOKED), 0);
 }
 
 static void many_sessions(void)
@@ -199,6 +261,7 @@ int main(void)
     lengths_of_zero();
     after_the_end();
     blocked();
+    rounds();
     replayed();
     many_sessions();
     for (int i = 0; i < MANY_ENGINES; i++)

@@ -9,7 +9,7 @@ from ._clock import Clock, VirtualTime, wall_clock
 from ._engine import Engine, Session, Turn
 from ._faults import Blocked, Ended, Fault, Refused, Refusal, Status
 from ._server import Connection, Server
-from ._tree import Entry, Files
+from ._tree import Entry, Files, Link
 
 __all__ = [
     "Blocked",
@@ -20,6 +20,7 @@ __all__ = [
     "Entry",
     "Fault",
     "Files",
+    "Link",
     "Refusal",
     "Refused",
     "Server",

@@ -89,16 +89,34 @@ class Engine:
     def write_files(self, files: Files, *, moment: int = 0) -> None:
         """Makes or replaces these files, by requests of a session of its own at this moment.
 
-        Keys are paths, values contents, or None for a directory. Directories on the way are made where
-        they are missing. Text is encoded as UTF-8.
+        Keys are paths, values contents, or None for a directory, or `Link(path)` for a further name of the
+        file at that path. Directories on the way are made where they are missing. Links are made after all
+        others, in their order; one is refused with `Status` where its own path is there already. Text is
+        encoded as UTF-8.
         """
         write_tree(self, files, moment)
 
     def snapshot(self) -> dict[str, Entry]:
         """The whole tree by paths, `/` first, in the order of their bytes, read by requests of a session of
         its own. Names that aren't UTF-8 are decoded as `os.fsdecode` does. Raises `Blocked` where a call of
-        another session is under way and holds a directory."""
+        another session is under way and holds a directory.
+
+        The engine's lock is held: no other session takes a turn meanwhile. Where several files that have
+        several names look alike in all but these, their atimes are set for a moment, to tell which names are
+        of one file. They are set back, also where a request fails; only if that is refused, as for want of
+        memory, does one of them stay, and the refusal is raised.
+        """
         return read_tree(self)
+
+    def run_all(self) -> int:
+        """Rounds, until no call is under way: in each, every session whose call is under way has one turn, at
+        the moment 0, by rising session numbers. Answers how many there were. What these calls are answered
+        waits for later turns, which write it."""
+        with self.moved:
+            rounds = checked(library.lt_run_all(self._engine))
+            if rounds:
+                self.moved.notify_all()
+            return rounds
 
     def open(self) -> Session:
         """Opens a session. At most 256 are open at a time."""

@@ -44,6 +44,7 @@ def load(path: pathlib.Path) -> ctypes.CDLL:
         ("lt_feed", count, [engine, number, data, size]),
         ("lt_turn", count, [engine, number, moment]),
         ("lt_settle", count, [engine, number, moment, number]),
+        ("lt_run_all", count, [engine]),
         ("lt_close", count, [engine, number]),
         ("lt_output", count, [engine, number, data, size]),
         ("lt_sent", count, [engine, number, size]),

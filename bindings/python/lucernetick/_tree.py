@@ -9,26 +9,40 @@ from types import TracebackType
 from typing import TYPE_CHECKING, Iterator, Mapping, Optional, Union
 
 from ._faults import Blocked, Ended, Status
+from ._links import number_files
 
 if TYPE_CHECKING:
     from ._engine import Engine
 
-INIT, OPEN, CLOSE, READ, WRITE = 1, 3, 4, 5, 6
-OPENDIR, READDIR, MKDIR, STAT = 11, 12, 14, 17
+INIT, OPEN, CLOSE, READ, WRITE, SETSTAT = 1, 3, 4, 5, 6, 9
+OPENDIR, READDIR, MKDIR, STAT, EXTENDED = 11, 12, 14, 17, 200
+HARDLINK = b"hardlink@openssh.com"
 STATUS, HANDLE, DATA, NAME, ATTRS = 101, 102, 103, 104, 105
 TO_READ, TO_WRITE_ANEW = 0x01, 0x02 | 0x08 | 0x10
 OK, EOF, NO_SUCH_FILE = 0, 1, 2
 
 NO_ATTRIBUTES = struct.pack(">I", 0)
+TIMES_ALONE = 0x8
 ALL_ATTRIBUTES = struct.Struct(">IQIIIII")
 PIECE = 131072
 
+
+@dataclass(frozen=True)
+class Link:
+    """A further name of the file that is at this path."""
+
+    path: Union[str, bytes]
+
+
+Contents = Union[bytes, Link, None]
+"""What a path is to have: a file's bytes, another name's file, or None for a directory."""
+
 Files = Union[
-    Mapping[str, Optional[bytes]],
-    Mapping[bytes, Optional[bytes]],
-    Mapping[Union[str, bytes], Optional[bytes]],
+    Mapping[str, Contents],
+    Mapping[bytes, Contents],
+    Mapping[Union[str, bytes], Contents],
 ]
-"""Contents by paths; None for a directory."""
+"""Contents by paths."""
 
 
 @dataclass(frozen=True)
@@ -44,6 +58,9 @@ class Entry:
     mtime: int
     contents: Optional[bytes]
     """A file's bytes; None for a directory."""
+    file: Optional[int]
+    """A file's number, which all of its names share and no other one has; None for a directory. Numbers are
+    given by each snapshot, from 1 in the order of the paths."""
 
     @property
     def is_directory(self) -> bool:
@@ -70,8 +87,20 @@ class Attributes:
         _flags, *values = fields.take(ALL_ATTRIBUTES)
         return cls(*values)
 
-    def entry(self, contents: Optional[bytes]) -> Entry:
-        return Entry(self.mode, self.uid, self.gid, self.atime, self.mtime, contents)
+
+@dataclass(frozen=True)
+class Found:
+    """What is seen of an object."""
+
+    attributes: Attributes
+    links: int
+    """How many names a file has; 1 for a directory."""
+    contents: Optional[bytes]
+
+    def entry(self, file: Optional[int]) -> Entry:
+        seen = self.attributes
+        times = (seen.atime, seen.mtime)
+        return Entry(seen.mode, seen.uid, seen.gid, *times, self.contents, file)
 
 
 class Fields:
@@ -93,6 +122,21 @@ class Fields:
         count = self.number()
         self.at += count
         return self.data[self.at - count : self.at]
+
+
+@dataclass(frozen=True)
+class Listed:
+    """A name of a directory, with what its object has."""
+
+    name: bytes
+    links: int
+    attributes: Attributes
+
+    @classmethod
+    def read(cls, fields: Fields) -> Listed:
+        """The number of links is the second word of the line."""
+        name, line = fields.string(), fields.string()
+        return cls(name, int(line.split()[1]), Attributes.read(fields))
 
 
 def string(data: bytes) -> bytes:
@@ -119,6 +163,10 @@ class Requests:
         self.session = engine.open()
         self.moment = moment
         self.reply(packet(INIT, struct.pack(">I", 3)), "INIT")
+
+    def another(self) -> Requests:
+        """A further session at the same moment."""
+        return Requests(self.session.engine, self.moment)
 
     def __enter__(self) -> Requests:
         return self
@@ -163,6 +211,27 @@ class Requests:
         told = f"STAT {path_text(path)}"
         return Attributes.read(self.ask(ATTRS, told, STAT, string(path)))
 
+    def set_times(self, path: bytes, atime: int, mtime: int) -> None:
+        """Sets an object's times, and nothing else."""
+        times = struct.pack(">III", TIMES_ALONE, atime, mtime)
+        self.succeed(f"SETSTAT {path_text(path)}", SETSTAT, string(path), times)
+
+    def link(self, old: bytes, new: bytes) -> None:
+        """Gives the file at the old path the new one too."""
+        told = f"{HARDLINK.decode()} {path_text(old)} {path_text(new)}"
+        self.succeed(told, EXTENDED, string(HARDLINK), string(old), string(new))
+
+    def place(self, path: bytes, contents: Contents) -> None:
+        """Makes what this path is to have, and the directories on its way where they are missing."""
+        if contents is None:
+            self.make_directories(path)
+            return
+        self.make_directories(path.rpartition(b"/")[0])
+        if isinstance(contents, Link):
+            self.link(path_bytes(contents.path), path)
+        else:
+            self.write_file(path, contents)
+
     def make_directories(self, path: bytes) -> None:
         """Makes the directory of this path, and those on its way, where they are missing."""
         parts = [part for part in path.split(b"/") if part]
@@ -201,17 +270,17 @@ class Requests:
         self.succeed(f"CLOSE {name}", CLOSE, handle)
         return bytes(contents)
 
-    def list_directory(self, path: bytes) -> list[tuple[bytes, Attributes]]:
-        """The names of a directory with what they have, in the order of their bytes."""
+    def list_directory(self, path: bytes) -> list[Listed]:
+        """The names of a directory, in the order of their bytes."""
         name = path_text(path)
         handle = self.handle(f"OPENDIR {name}", OPENDIR, string(path))
-        found: list[tuple[bytes, Attributes]] = []
+        found: list[Listed] = []
         while piece := self.listed(name, handle):
             found += piece
         self.succeed(f"CLOSE {name}", CLOSE, handle)
         return found
 
-    def listed(self, name: str, handle: bytes) -> list[tuple[bytes, Attributes]]:
+    def listed(self, name: str, handle: bytes) -> list[Listed]:
         """The next names of a listing; none at its end."""
         try:
             fields = self.ask(NAME, f"READDIR {name}", READDIR, handle)
@@ -219,36 +288,31 @@ class Requests:
             if status.code != EOF:
                 raise
             return []
-        return [self.one_name(fields) for _ in range(fields.number())]
+        return [Listed.read(fields) for _ in range(fields.number())]
 
-    @staticmethod
-    def one_name(fields: Fields) -> tuple[bytes, Attributes]:
-        filename, _longname = fields.string(), fields.string()
-        return filename, Attributes.read(fields)
-
-    def walk(self, path: bytes, found: Attributes) -> Iterator[tuple[bytes, Entry]]:
+    def walk(self, path: bytes, links: int, found: Attributes) -> Iterator[tuple[bytes, Found]]:
         """The object at a path, and all that is below it."""
         if not stat.S_ISDIR(found.mode):
-            yield path, found.entry(self.read_file(path, found.size))
+            yield path, Found(found, links, self.read_file(path, found.size))
             return
-        yield path, found.entry(None)
-        for name, below in self.list_directory(path):
-            yield from self.walk(path.rstrip(b"/") + b"/" + name, below)
+        yield path, Found(found, links, None)
+        for below in self.list_directory(path):
+            name = path.rstrip(b"/") + b"/" + below.name
+            yield from self.walk(name, below.links, below.attributes)
 
 
 def write_tree(engine: Engine, files: Files, moment: int) -> None:
+    """Links come last, in their order."""
+    parts = sorted(files.items(), key=lambda part: isinstance(part[1], Link))
     with Requests(engine, moment) as requests:
-        for name, contents in files.items():
-            path = path_bytes(name)
-            if contents is None:
-                requests.make_directories(path)
-            else:
-                requests.make_directories(path.rpartition(b"/")[0])
-                requests.write_file(path, contents)
+        for name, contents in parts:
+            requests.place(path_bytes(name), contents)
 
 
 def read_tree(engine: Engine) -> dict[str, Entry]:
-    with Requests(engine, 0) as requests:
+    """No other session takes a turn meanwhile."""
+    with engine.lock, Requests(engine, 0) as requests:
         root = requests.attributes(b"/")
-        found = sorted(requests.walk(b"/", root))
-    return {path_text(path): entry for path, entry in found}
+        found = dict(sorted(requests.walk(b"/", 1, root)))
+        numbers = number_files(requests, found)
+    return {path_text(path): one.entry(numbers.get(path)) for path, one in found.items()}

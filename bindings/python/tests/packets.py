@@ -1,8 +1,10 @@
 """The packets of these tests, made and cut (docs/PROTOCOL.md, "Packets")."""
 
-INIT, MKDIR, STAT, STATUS, ATTRS = 1, 14, 17, 101, 105
-OPEN, READ, HANDLE, DATA = 3, 5, 102, 103
-OK = 0
+INIT, OPEN, READ, SETSTAT, REMOVE, MKDIR, STAT, RENAME = 1, 3, 5, 9, 13, 14, 17, 18
+STATUS, HANDLE, DATA, ATTRS = 101, 102, 103, 105
+OK, NO_SUCH_FILE = 0, 2
+VERSION = 71
+"""The length of VERSION's packet."""
 
 
 def u32(value: int) -> bytes:
@@ -26,6 +28,11 @@ def replies(data: bytes) -> list[bytes]:
         found.append(data[4 : 4 + count])
         data = data[4 + count :]
     return found
+
+
+def status(number: int, code: int, message: bytes) -> bytes:
+    """The body of a STATUS."""
+    return bytes([STATUS]) + u32(number) + u32(code) + string(message) + string(b"")
 
 
 # INIT, and MKDIR of /a under the id 7.

@@ -5,7 +5,21 @@ import threading
 import pytest
 
 from lucernetick import Blocked, Engine, Refusal, Refused, Session, Turn
-from packets import ATTRS, INIT, LOOKS, MAKES, OK, STAT, STATUS, packet, replies, string, u32
+from packets import (
+    ATTRS,
+    INIT,
+    LOOKS,
+    MAKES,
+    NO_SUCH_FILE,
+    OK,
+    RENAME,
+    STAT,
+    packet,
+    replies,
+    status,
+    string,
+    u32,
+)
 
 # Whose turns it is. The second session looks at /a before the first one has made it.
 TURNS = (1, 2, 2, 1, 1, 2, 1, 2, 2, 2, 1)
@@ -39,10 +53,42 @@ def test_a_schedule_gives_the_same_bytes_each_time() -> None:
     assert runs[0] == runs[1] == runs[2]
     did, made, looked = runs[0]
     assert tuple(did) == DID
-    assert replies(made)[1] == bytes([STATUS]) + u32(7) + u32(OK) + string(b"Success") + string(b"")
+    assert replies(made)[1] == status(7, OK, b"Success")
     # The look began before /a was made, and is told of it: size 0, nobody's, 0o755, of the moment 100.
     directory = u32(15) + bytes(8) + u32(0) + u32(0) + u32(0o40755) + u32(100) + u32(100)
     assert replies(looked)[1] == bytes([ATTRS]) + u32(8) + directory
+
+
+def begun(engine: Engine, old: bytes, new: bytes) -> Session:
+    """A session whose rename, under the id 7, has begun."""
+    session = engine.open()
+    session.feed(packet(INIT, u32(3)) + packet(RENAME, u32(7), string(old), string(new)))
+    assert [session.turn(100), session.turn(100)] == [Turn.WROTE, Turn.BEGUN]
+    session.take()
+    return session
+
+
+def test_crossing_renames_in_rounds() -> None:
+    """Five rounds until the first rename is decided, in the last of which the other one takes the root;
+    and three more, since what it moves to is gone."""
+    with Engine.from_files({"/a/x": None, "/b/y": None}) as engine:
+        first, second = begun(engine, b"/a/x", b"/b/y/x"), begun(engine, b"/b/y", b"/a/x/y")
+        assert engine.run_all() == 8
+        assert engine.run_all() == 0
+        assert first.output() == second.output() == b""
+        assert [second.turn(100), first.turn(100)] == [Turn.WROTE, Turn.WROTE]
+        assert replies(first.take()) == [status(7, OK, b"Success")]
+        assert replies(second.take()) == [status(7, NO_SUCH_FILE, b"No such file")]
+        assert list(engine.snapshot()) == ["/", "/a", "/b", "/b/y", "/b/y/x"]
+
+
+def test_no_rounds_without_a_call_under_way() -> None:
+    with Engine() as engine:
+        assert engine.run_all() == 0
+        session = engine.open()
+        session.feed(LOOKS)
+        assert engine.run_all() == 0
+        assert session.settle(100) == Turn.IDLE
 
 
 def test_bytes_may_be_cut_anywhere() -> None:
@@ -137,7 +183,7 @@ def test_a_closed_engine_refuses() -> None:
     session = engine.open()
     engine.close()
     engine.close()
-    for action in (engine.open, session.output, engine.snapshot):
+    for action in (engine.open, session.output, engine.snapshot, engine.run_all):
         with pytest.raises(Refused) as refused:
             action()
         assert refused.value.refusal == Refusal.BAD_POINTER
@@ -165,6 +211,22 @@ def test_a_snapshot_does_not_wait_for_a_call_under_way() -> None:
             engine.snapshot()
         assert session.settle(100) == Turn.IDLE
         assert list(engine.snapshot()) == ["/", "/a", "/f"]
+
+
+def test_rounds_carry_out_a_request_that_was_blocked() -> None:
+    """A snapshot that finds `/a` held is left in the root, and holds it until the rounds."""
+    with Engine.from_files({"/a/f": b"1"}) as engine:
+        held = engine.open()
+        held.feed(packet(INIT, u32(3)) + packet(STAT, u32(8), string(b"/a/f")))
+        did = [held.turn(100) for _ in range(4)]
+        assert did == [Turn.WROTE, Turn.BEGUN, Turn.MOVED, Turn.MOVED]
+        with pytest.raises(Blocked):
+            engine.snapshot()
+        assert held.settle(100) == Turn.IDLE
+        with pytest.raises(Blocked):
+            engine.snapshot()
+        assert engine.run_all() > 0
+        assert list(engine.snapshot()) == ["/", "/a", "/a/f"]
 
 
 def test_threads_share_an_engine() -> None:

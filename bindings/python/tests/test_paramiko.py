@@ -9,8 +9,8 @@ import paramiko
 import pytest
 
 import lucernetick
-from lucernetick import Engine, Server, VirtualTime
-from packets import DATA, HANDLE, INIT, LOOKS, MAKES, OPEN, READ, STAT, packet, string, u32
+from lucernetick import Engine, Server, Turn, VirtualTime
+from packets import DATA, HANDLE, INIT, LOOKS, MAKES, OPEN, READ, STAT, VERSION, packet, string, u32
 
 
 @pytest.fixture
@@ -139,6 +139,23 @@ def test_a_connection_waits_for_a_call_that_is_held(sftp_tree: Server) -> None:
     assert found == [100]
 
 
+def test_rounds_carry_out_the_calls_of_connections(sftp_tree: Server) -> None:
+    """A client that a held session keeps waiting goes on when `run_all` has carried out both calls."""
+    held = sftp_tree.engine.open()
+    held.feed(MAKES)
+    assert [held.turn(100) for _ in range(3)] == [Turn.WROTE, Turn.BEGUN, Turn.MOVED]
+    line = sftp_tree.connect()
+    line.sendall(LOOKS)
+    line.settimeout(10)
+    line.recv(VERSION, socket.MSG_WAITALL)
+    line.settimeout(0.3)
+    with pytest.raises(socket.timeout):
+        line.recv(1)
+    assert sftp_tree.engine.run_all() > 0
+    line.settimeout(10)
+    assert line.recv(41, socket.MSG_WAITALL)[-4:] == u32(100)
+
+
 def test_a_session_that_ends_closes_its_connection(sftp_tree: Server) -> None:
     line: socket.socket = sftp_tree.connect()
     line.sendall(bytes(4))
@@ -160,7 +177,7 @@ def test_a_client_that_reads_nothing_keeps_nobody_waiting(sftp_tree: Server, dep
     client = sftp_tree.connect()
     client.settimeout(10)
     client.sendall(LOOKS)
-    client.recv(42, socket.MSG_WAITALL)
+    client.recv(VERSION, socket.MSG_WAITALL)
     assert len(client.recv(41, socket.MSG_WAITALL)) == 41
 
 

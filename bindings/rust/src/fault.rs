@@ -63,7 +63,8 @@ pub enum Fault {
     /// A request was answered by a status other than OK: its code, and its message.
     Status(u32, String),
     /// The call of another session, which has yet to take its turns, holds what a request wants.
-    /// The request stays as it is, in a session that gets no further turn.
+    /// The request stays as it is, in a session that gets no further turn but by `run_all`: it may
+    /// hold a directory until then.
     Blocked,
     /// A reply isn't what its request is answered.
     Reply,

@@ -11,7 +11,7 @@
 //! let session = engine.open()?;
 //! engine.feed(session, b"\0\0\0\x05\x01\0\0\0\x03")?;
 //! engine.settle(session, 100, 1000)?;
-//! assert_eq!(engine.take(session)?.len(), 42);
+//! assert_eq!(engine.take(session)?.len(), 71);
 //! assert_eq!(engine.snapshot()?["/a/b".as_bytes()].contents.as_deref(), Some(&b"contents"[..]));
 //! # Ok::<(), lucernetick::Fault>(())
 //! ```
@@ -21,6 +21,7 @@
 mod clock;
 mod fault;
 mod line;
+mod links;
 mod packets;
 mod server;
 mod sys;
@@ -89,6 +90,16 @@ impl Engine {
         // SAFETY: the pointer is an engine's, which `drop` alone frees.
         let answer = unsafe { sys::lt_settle(self.pointer.as_ptr(), session.0, moment, most) };
         checked(answer).map(Turn::of_number)
+    }
+
+    /// Rounds, until no call is under way: in each, every session whose call is under way has one
+    /// turn, at the moment 0, by rising session numbers. Tells how many there were. What these calls
+    /// are answered waits for later turns, which write it.
+    pub fn run_all(&mut self) -> u64 {
+        // SAFETY: the pointer is an engine's, which `drop` alone frees.
+        let rounds = unsafe { sys::lt_run_all(self.pointer.as_ptr()) };
+        // A null pointer alone is refused, by a number below 0.
+        rounds.unsigned_abs()
     }
 
     /// Ends the session's input. A call that is under way goes on to its reply by further turns.

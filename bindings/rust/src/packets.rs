@@ -7,10 +7,14 @@ pub const OPEN: u8 = 3;
 pub const CLOSE: u8 = 4;
 pub const READ: u8 = 5;
 pub const WRITE: u8 = 6;
+pub const SETSTAT: u8 = 9;
 pub const OPENDIR: u8 = 11;
 pub const READDIR: u8 = 12;
 pub const MKDIR: u8 = 14;
 pub const STAT: u8 = 17;
+pub const EXTENDED: u8 = 200;
+
+pub const HARDLINK: &[u8] = b"hardlink@openssh.com";
 
 pub const STATUS: u8 = 101;
 pub const HANDLE: u8 = 102;
@@ -20,6 +24,9 @@ pub const ATTRS: u8 = 105;
 
 pub const TO_READ: u32 = 0x01;
 pub const TO_WRITE_ANEW: u32 = 0x02 | 0x08 | 0x10;
+
+/// The flag of attributes that are times alone.
+pub const TIMES: u32 = 0x08;
 
 pub const OK: u32 = 0;
 pub const EOF: u32 = 1;
@@ -64,6 +71,7 @@ impl Packet {
 }
 
 /// What a reply tells of an object.
+#[derive(Debug, PartialEq, Eq, PartialOrd, Ord)]
 pub struct Attributes {
     pub size: u64,
     pub uid: u32,

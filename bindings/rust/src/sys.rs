@@ -15,6 +15,7 @@ extern "C" {
     pub fn lt_feed(engine: *mut Engine, session: u64, bytes: *const u8, length: usize) -> i64;
     pub fn lt_turn(engine: *mut Engine, session: u64, moment: u32) -> i64;
     pub fn lt_settle(engine: *mut Engine, session: u64, moment: u32, most: u64) -> i64;
+    pub fn lt_run_all(engine: *mut Engine) -> i64;
     pub fn lt_close(engine: *mut Engine, session: u64) -> i64;
     pub fn lt_output(engine: *mut Engine, session: u64, room: *mut u8, length: usize) -> i64;
     pub fn lt_sent(engine: *mut Engine, session: u64, count: usize) -> i64;

@@ -1,5 +1,6 @@
 //! Whole trees, written and read by a session's requests.
 
+use crate::links::{number_files, Tree};
 use crate::packets::*;
 use crate::{Engine, Fault, Session, Turn};
 use std::collections::BTreeMap;
@@ -24,6 +25,9 @@ pub struct Entry {
     pub mtime: u32,
     /// A file's bytes; none for a directory.
     pub contents: Option<Vec<u8>>,
+    /// A file's number, which all of its names share and no other one has; none for a directory.
+    /// Numbers are given by each snapshot, from 1 in the order of the paths.
+    pub file: Option<u64>,
 }
 
 impl Entry {
@@ -70,19 +74,41 @@ impl Engine {
         self.requests(moment, |requests| requests.make_directories(path.as_ref()))
     }
 
+    /// Gives the file at the old path the new one too, by a request of a session of its own at this
+    /// moment. Directories on the new path's way are made where they are missing. It is refused where
+    /// the new path is there already.
+    pub fn hard_link(
+        &mut self,
+        old: impl AsRef<[u8]>,
+        new: impl AsRef<[u8]>,
+        moment: u32,
+    ) -> Result<(), Fault> {
+        self.requests(moment, |requests| requests.link(old.as_ref(), new.as_ref()))
+    }
+
     /// The whole tree, read by requests of a session of its own. It is `Blocked` where a call of
     /// another session is under way and holds a directory.
+    ///
+    /// Where several files that have several names look alike in all but these, their atimes are set
+    /// for a moment, to tell which names are of one file. They are set back, also where a request
+    /// fails; only if that is refused, as for want of memory, does one of them stay, and the refusal
+    /// is answered.
     pub fn snapshot(&mut self) -> Result<Snapshot, Fault> {
         self.requests(0, |requests| {
-            let mut found = Snapshot::new();
+            let mut found = Tree::new();
             let root = requests.stat(b"/")?;
-            requests.walk(b"/".to_vec(), root, &mut found)?;
-            Ok(found)
+            requests.walk(b"/".to_vec(), 1, root, &mut found)?;
+            let mut numbers = number_files(requests, &found)?;
+            let entries = found.into_iter().map(|(path, one)| {
+                let number = numbers.remove(&path);
+                (path, one.entry(number))
+            });
+            Ok(entries.collect())
         })
     }
 
     /// What is done by a session of its own, which is closed then.
-    fn requests<T>(
+    pub(crate) fn requests<T>(
         &mut self,
         moment: u32,
         work: impl FnOnce(&mut Requests<'_>) -> Result<T, Fault>,
@@ -95,14 +121,39 @@ impl Engine {
     }
 }
 
+/// What is seen of an object.
+#[derive(PartialEq, Eq, PartialOrd, Ord)]
+pub struct Found {
+    pub attributes: Attributes,
+    /// How many names a file has; 1 for a directory.
+    pub links: u64,
+    /// A file's bytes; none for a directory.
+    pub contents: Option<Vec<u8>>,
+}
+
+impl Found {
+    fn entry(self, file: Option<u64>) -> Entry {
+        let Attributes { uid, gid, mode, atime, mtime, .. } = self.attributes;
+        Entry { mode, uid, gid, atime, mtime, contents: self.contents, file }
+    }
+}
+
 /// A session whose requests are made one after another at one moment.
-struct Requests<'a> {
+pub struct Requests<'a> {
     engine: &'a mut Engine,
     session: Session,
     moment: u32,
 }
 
 impl Requests<'_> {
+    /// What is done by a further session at the same moment, which is closed then.
+    pub fn another<T>(
+        &mut self,
+        work: impl FnOnce(&mut Requests<'_>) -> Result<T, Fault>,
+    ) -> Result<T, Fault> {
+        self.engine.requests(self.moment, work)
+    }
+
     /// The body of the reply to a packet.
     fn reply(&mut self, packet: Packet) -> Result<Vec<u8>, Fault> {
         self.engine.feed(self.session, &packet.bytes())?;
@@ -143,9 +194,15 @@ impl Requests<'_> {
         self.ask(STATUS, Packet::request(CLOSE).string(handle)).map(drop)
     }
 
-    fn stat(&mut self, path: &[u8]) -> Result<Attributes, Fault> {
+    pub fn stat(&mut self, path: &[u8]) -> Result<Attributes, Fault> {
         let found = self.ask(ATTRS, Packet::request(STAT).string(path))?;
         Fields(&found).attributes()
+    }
+
+    /// Sets an object's times, and nothing else.
+    pub fn set_times(&mut self, path: &[u8], atime: u32, mtime: u32) -> Result<(), Fault> {
+        let set = Packet::request(SETSTAT).string(path).number(TIMES).number(atime).number(mtime);
+        self.ask(STATUS, set).map(drop)
     }
 
     fn is_directory(&mut self, path: &[u8]) -> Result<bool, Fault> {
@@ -168,11 +225,24 @@ impl Requests<'_> {
         Ok(())
     }
 
+    /// Makes the directories on a path's way.
+    fn make_way(&mut self, path: &[u8]) -> Result<(), Fault> {
+        match path.iter().rposition(|byte| *byte == b'/') {
+            Some(at) => self.make_directories(&path[..at]),
+            None => Ok(()),
+        }
+    }
+
+    /// Gives the file at the old path the new one too, and makes the directories on its way.
+    fn link(&mut self, old: &[u8], new: &[u8]) -> Result<(), Fault> {
+        self.make_way(new)?;
+        let link = Packet::request(EXTENDED).string(HARDLINK).string(old).string(new);
+        self.ask(STATUS, link).map(drop)
+    }
+
     /// Makes a file, or replaces its contents, and the directories on its way.
     fn place(&mut self, path: &[u8], contents: &[u8]) -> Result<(), Fault> {
-        if let Some(at) = path.iter().rposition(|byte| *byte == b'/') {
-            self.make_directories(&path[..at])?;
-        }
+        self.make_way(path)?;
         let open = Packet::request(OPEN).string(path).number(TO_WRITE_ANEW).number(0);
         let handle = self.handle(open)?;
         for (count, piece) in contents.chunks(PIECE).enumerate() {
@@ -195,8 +265,8 @@ impl Requests<'_> {
         Ok(contents)
     }
 
-    /// A directory's names with what their objects have.
-    fn list(&mut self, path: &[u8]) -> Result<Vec<(Vec<u8>, Attributes)>, Fault> {
+    /// A directory's names.
+    fn list(&mut self, path: &[u8]) -> Result<Vec<Listed>, Fault> {
         let handle = self.handle(Packet::request(OPENDIR).string(path))?;
         let mut names = Vec::new();
         loop {
@@ -214,33 +284,48 @@ impl Requests<'_> {
     fn walk(
         &mut self,
         path: Vec<u8>,
-        object: Attributes,
-        found: &mut Snapshot,
+        links: u64,
+        attributes: Attributes,
+        found: &mut Tree,
     ) -> Result<(), Fault> {
-        let Attributes { size, uid, gid, mode, atime, mtime } = object;
-        let mut entry = Entry { mode, uid, gid, atime, mtime, contents: None };
-        if entry.is_directory() {
-            for (name, below) in self.list(&path)? {
+        let mut contents = None;
+        if attributes.mode & KIND == DIRECTORY {
+            for below in self.list(&path)? {
                 let front = if path == b"/" { &[][..] } else { &path };
-                self.walk([front, b"/", &name].concat(), below, found)?;
+                let name = [front, b"/", &below.name].concat();
+                self.walk(name, below.links, below.attributes, found)?;
             }
         } else {
-            entry.contents = Some(self.read_file(&path, size)?);
+            contents = Some(self.read_file(&path, attributes.size)?);
         }
-        found.insert(path, entry);
+        found.insert(path, Found { attributes, links, contents });
         Ok(())
     }
 }
 
+/// A name of a directory, with what its object has.
+struct Listed {
+    name: Vec<u8>,
+    links: u64,
+    attributes: Attributes,
+}
+
 /// The names of one NAME reply.
-fn listed(found: &[u8]) -> Result<Vec<(Vec<u8>, Attributes)>, Fault> {
+fn listed(found: &[u8]) -> Result<Vec<Listed>, Fault> {
     let mut fields = Fields(found);
     let count = fields.number()?;
     let mut names = Vec::new();
     for _ in 0..count {
         let name = fields.string()?.to_vec();
-        fields.string()?;
-        names.push((name, fields.attributes()?));
+        let links = links_of(fields.string()?)?;
+        names.push(Listed { name, links, attributes: fields.attributes()? });
     }
     Ok(names)
+}
+
+/// The number of links that a listing's line tells: its second word.
+fn links_of(line: &[u8]) -> Result<u64, Fault> {
+    let mut words = line.split(|byte| *byte == b' ').filter(|word| !word.is_empty());
+    let word = words.nth(1).and_then(|word| std::str::from_utf8(word).ok());
+    word.and_then(|word| word.parse().ok()).ok_or(Fault::Reply)
 }

@@ -18,7 +18,7 @@ const LOOKS: &[u8] = b"\0\0\0\x05\x01\0\0\0\x03\0\0\0\x0b\x11\0\0\0\x08\0\0\0\x0
 /// STAT of `/a/f` under the id 8.
 const LOOKS_BELOW: &[u8] = b"\0\0\0\x0d\x11\0\0\0\x08\0\0\0\x04/a/f";
 /// The length of VERSION's packet.
-const VERSION: usize = 42;
+const VERSION: usize = 71;
 
 /// A server that listens in a folder of its own.
 struct Listening {
@@ -173,6 +173,22 @@ fn rename() {
 }
 
 #[test]
+fn link() {
+    let engine = Engine::from_files([("/f", "1"), ("/g", "1")], 100).unwrap();
+    let server = Listening::new("link", engine);
+    let mut client = server.client();
+    client.run("mkdir /d");
+    client.run("ln /f /d/f");
+    let line = ["-rw-r--r--   2 0        0               1          100 f"];
+    assert_eq!(client.run("ls -l /d"), line);
+    client.end();
+    let found = server.server.snapshot().unwrap();
+    let file = |path: &str| found[path.as_bytes()].file;
+    assert_eq!([file("/f"), file("/g"), file("/d/f")], [Some(1), Some(2), Some(1)]);
+    assert_eq!(server.contents("/d/f"), b"1");
+}
+
+#[test]
 fn two_sessions_on_one_tree() {
     let server = Listening::empty("two_sessions");
     server.write("sent", b"from the first");
@@ -285,6 +301,25 @@ fn a_connection_waits_for_a_call_that_is_held() {
     assert_eq!(nothing.kind(), ErrorKind::WouldBlock);
 
     assert_eq!(settle(&server, held, 1000), Turn::Idle);
+    let reply = take(&mut line, 41);
+    assert_eq!((reply[4], &reply[37..]), (105, &[0, 0, 0, 100][..]));
+}
+
+/// A client that a held session keeps waiting goes on when the rounds have carried out both calls.
+#[test]
+fn rounds_carry_out_the_calls_of_connections() {
+    let server = Server::new(Engine::new(1).unwrap(), || 0);
+    let held = fed(&server, MAKES);
+    assert_eq!(settle(&server, held, 3), Turn::Spent);
+
+    let mut line = server.connect().unwrap();
+    line.write_all(LOOKS).unwrap();
+    take(&mut line, VERSION);
+    line.set_read_timeout(Some(Duration::from_millis(300))).unwrap();
+    let nothing = line.read(&mut [0]).unwrap_err();
+    assert_eq!(nothing.kind(), ErrorKind::WouldBlock);
+
+    assert!(server.with_engine(Engine::run_all) > 0);
     let reply = take(&mut line, 41);
     assert_eq!((reply[4], &reply[37..]), (105, &[0, 0, 0, 100][..]));
 }

@@ -14,6 +14,9 @@ const MAKES: &[u8] = b"\0\0\0\x05\x01\0\0\0\x03\0\0\0\x0f\x0e\0\0\0\x07\0\0\0\x0
 /// INIT, and STAT of `/a` under the id 8.
 const LOOKS: &[u8] = b"\0\0\0\x05\x01\0\0\0\x03\0\0\0\x0b\x11\0\0\0\x08\0\0\0\x02/a";
 
+/// The length of VERSION's packet.
+const VERSION: usize = 71;
+
 /// A request: its type, its id, and fields that are bytes as they are.
 fn request(kind: u8, id: u32, fields: &[&[u8]]) -> Vec<u8> {
     let body = [&[kind][..], &id.to_be_bytes(), &fields.concat()].concat();
@@ -29,7 +32,7 @@ fn client(engine: &mut Engine) -> Session {
     let session = engine.open().unwrap();
     engine.feed(session, INIT).unwrap();
     assert_eq!(engine.settle(session, 0, 10), Ok(Turn::Idle));
-    assert_eq!(engine.take(session).unwrap().len(), 42);
+    assert_eq!(engine.take(session).unwrap().len(), VERSION);
     session
 }
 
@@ -125,7 +128,48 @@ fn a_schedule_gives_the_same_bytes_each_time() {
     let mode = 0o40755_u32.to_be_bytes();
     let head = [0, 0, 0, 37, ATTRS, 0, 0, 0, 8, 0, 0, 0, 15];
     let looked = [&head[..], &[0; 16], &mode, &[0, 0, 0, 100, 0, 0, 0, 100]].concat();
-    assert_eq!(sent[1][42..], looked);
+    assert_eq!(sent[1][VERSION..], looked);
+}
+
+/// A session whose rename, under the id 7, has begun.
+fn begun(engine: &mut Engine, old: &[u8], new: &[u8]) -> Session {
+    let session = client(engine);
+    engine.feed(session, &request(18, 7, &[&string(old), &string(new)])).unwrap();
+    assert_eq!(engine.turn(session, 100), Ok(Turn::Begun));
+    session
+}
+
+/// In rounds the first rename is ahead: five of them until it is decided, in the last of which the
+/// other one takes the root, and three more, since what that moves to is gone.
+#[test]
+fn crossing_renames_in_rounds() {
+    let mut engine = Engine::new(1).unwrap();
+    engine.make_directories("/a/x", 0).unwrap();
+    engine.make_directories("/b/y", 0).unwrap();
+    let first = begun(&mut engine, b"/a/x", b"/b/y/x");
+    let second = begun(&mut engine, b"/b/y", b"/a/x/y");
+    assert_eq!(engine.run_all(), 8);
+    assert_eq!(engine.run_all(), 0);
+    for (session, code, message) in [(second, 2, "No such file"), (first, 0, "Success")] {
+        assert_eq!(engine.output(session), Ok(vec![]));
+        assert_eq!(engine.turn(session, 100), Ok(Turn::Wrote));
+        let head = [STATUS, 0, 0, 0, 7, 0, 0, 0, code];
+        let wanted = [&head[..], &string(message.as_bytes()), &string(b"")].concat();
+        assert_eq!(engine.take(session), Ok(string(&wanted)));
+    }
+    let found = engine.snapshot().unwrap();
+    let paths = ["/", "/a", "/b", "/b/y", "/b/y/x"];
+    assert!(found.keys().map(Vec::as_slice).eq(paths.iter().map(|path| path.as_bytes())));
+}
+
+#[test]
+fn no_rounds_without_a_call_under_way() {
+    let mut engine = Engine::new(1).unwrap();
+    assert_eq!(engine.run_all(), 0);
+    let session = client(&mut engine);
+    engine.feed(session, &LOOKS[INIT.len()..]).unwrap();
+    assert_eq!(engine.run_all(), 0);
+    assert_eq!(engine.turn(session, 0), Ok(Turn::Begun));
 }
 
 #[test]

@@ -1,4 +1,5 @@
--- The answers to requests whose parts are values of their types: short replies, and changes to trees of such values.
+-- The answers to requests whose parts are values of their types: short replies, and changes to
+-- trees of such values.
 use Rattle.std.proofs.Common.{◌≡◌, ℕ, zero, suc, refl, ◌+◌, ◌<◌, ◌≤◌, ◌^◌, Bool, true, false, cond, not, nat_eq, nat_lt, nat_le, ◌&&◌, List, [], ◌∷◌, ◌++◌, length, take, filter_map, Option, Some, None, option_map, option_and_then, unwrap_or, IfSome, arith}
 use Rattle.std.specs.List.{AllByRecursion}
 use Rattle.std.specs.Option.{is_some}

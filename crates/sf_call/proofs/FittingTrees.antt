@@ -1,4 +1,5 @@
--- Trees of values that types can hold, and of files below the limit; no change leads away from them.
+-- Trees of values that types can hold, and of files below the limit; no change leads away from
+-- them.
 use Rattle.std.proofs.Common.{◌≡◌, ℕ, ◌≤◌, Bool, true, false, cond, not, nat_eq, List, [], ◌∷◌, ◌++◌, length, filter, filter_map, Option, Some, None, option_map, IfSome, refl, sym, subst, arith}
 use Rattle.std.specs.List.{AllByRecursion, cons_option}
 use Rattle.std.specs.declared.cmp.Ordering.{Ordering}

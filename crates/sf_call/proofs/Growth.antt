@@ -77,8 +77,8 @@ module _ (number session moment : ℕ) (request : Request) (reply : Reply) where
   unfolding IsLegal
   record_of-legal history legal among = found_after [] history legal among
 
--- what holds of the root alone, and still holds after each call that may come and each leaving, holds after each legal
--- history
+-- what holds of the root alone, and still holds after each call that may come and each leaving,
+-- holds after each legal history
 module _ (P : Tree → Type 0) where
   -- a call that may come keeps it
   abbrev pub CallsKeep : Type 0

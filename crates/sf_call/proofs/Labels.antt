@@ -1,5 +1,6 @@
--- No number of a call to come is a label or a handle, one path at most names a directory, and so many at most a file.
-use Rattle.std.proofs.Common.{◌≡◌, ◌≢◌, ◌<◌, ◌≤◌, ◌⊎◌, ℕ, ◌+◌, true, false, cond, not, nat_eq, List, [], ◌∷◌, ◌++◌, filter, Option, Some, None, option_map, refl, sym, ap, ◌∙◌, subst, inl, inr, arith}
+-- No number of a call to come is a label or a handle, one path at most names a directory, and so
+-- many at most a file.
+use Rattle.std.proofs.Common.{◌≡◌, ◌≢◌, ◌<◌, ◌≤◌, ◌⊎◌, ℕ, true, false, cond, not, nat_eq, List, [], ◌∷◌, ◌++◌, filter, Some, None, option_map, refl, sym, ap, ◌∙◌, subst, inl, inr, arith}
 use Rattle.std.specs.Ordering.{nat_cmp}
 use Rattle.std.specs.Cmp.{nat_cmp_total}
 use Rattle.std.specs.Map.{lookup, remove_entry}
@@ -26,7 +27,8 @@ use Rattle.sf_call.proofs.ObjectKinds.{kinds_set, directory_by_kind, no_director
 use Rattle.sf_call.proofs.Links.{links_more, links_fewer, links_moved_less, is_link, none_linked}
 use Rattle.sf_call.proofs.MovedNames.{lookup-insert_entry, same_path_is, is_equal, after_front-append, came_from}
 
--- no path, no object and no handle has a free number, no two paths name one directory, and not too many one file
+-- no path, no object and no handle has a free number, no two paths name one directory, and not too
+-- many one file
 pub record IsLabelled (Free : ℕ → Type 0) (tree : Tree) : Type 0 where
   pub unused : (number : ℕ) → Free number → (path : Path) → label_at tree.names path ≢ Some number
   pub no_object : (number : ℕ) → Free number → object_of tree.objects number ≡ None

@@ -1,5 +1,5 @@
--- For the crates above: laws of trees and histories. They speak of definitions alone. All other files here are
--- private to this crate.
+-- For the crates above: laws of trees and histories. They speak of definitions alone. All other
+-- files here are private to this crate.
 use Rattle.std.proofs.Common.{◌≡◌, ◌≢◌, ◌<◌, ◌≤◌, ◌↔◌, ℕ, true, false, List, [], ◌∷◌, ◌++◌, length, take, Option, Some, None, IsSome, IfSome, sym, ap, ◌∙◌, subst}
 use Rattle.std.specs.Ordering.{nat_cmp}
 use Rattle.std.specs.BTreeMap.{is_at}
@@ -37,12 +37,14 @@ pub use Rattle.sf_call.proofs.Orders.{exact_names, exact_paths}
 pub use Rattle.sf_call.proofs.MovedNames.{is_equal, same_path_is, same_name_is, same_name_itself}
 -- what follows a front of a path, and the order of two paths with one front
 pub use Rattle.sf_call.proofs.MovedNames.{after_front-append, append-after_front, path_cmp-front}
--- lists of entries in the order of their keys: what is found in one, what after an entry was put, set or removed, and that
--- they stay in order
+-- lists of entries in the order of their keys: what is found in one, what after an entry was put,
+-- set or removed, and that they stay in order
 pub use Rattle.sf_call.proofs.Orders.{find_is}
 pub use Rattle.sf_call.proofs.Ordered.{put_is, and_both, and_first, and_second, sorted_put, sorted_removed, sorted_set, sorted_filtered}
-pub use Rattle.sf_call.proofs.LookUps.{lookup-put, set_there, none_set, not_at, other_put, other_set, other_removed}
--- what holds of all is kept by a choice and by a beginning, and by entries that are put, set and removed
+pub use Rattle.sf_call.proofs.LookUps.{lookup-put, set_there, none_set, not_at, other_put, other_set, other_removed, removed_itself}
+-- what holds of all is kept by a choice and by a beginning, and by entries that are put, set and
+-- removed; and what follows from it holds of all
+pub use Rattle.sf_call.proofs.Used.{all_by}
 pub use Rattle.sf_call.proofs.FittingTrees.{all_made, all_filtered, all_removed, all_put, all_set, found_value}
 pub use Rattle.sf_call.proofs.FittingAnswers.{taken_short}
 -- trees in order that map alike are equal, and a change keeps the order
@@ -65,8 +67,8 @@ pub use Rattle.sf_call.proofs.Links.{sum_removed, sum_removed_less, sum_inserted
 -- what each rename answers: it is refused, does nothing or moves; and what a link answers
 pub use Rattle.sf_call.proofs.RenameCases.{rename_cases, posix_rename_cases, link_cases, link_to_cases}
 pub use Rattle.sf_call.proofs.Founded.{kept_object}
--- what holds of the root alone, and still holds after each call that may come and each leaving, holds after each legal
--- history
+-- what holds of the root alone, and still holds after each call that may come and each leaving,
+-- holds after each legal history
 pub use Rattle.sf_call.proofs.Growth.{CallsKeep, holds_after}
 -- a number that is new to a history and a record behind it is new to both
 pub use Rattle.sf_call.proofs.Growth.{front_new, last_other}
@@ -170,7 +172,8 @@ short_file history label m contents legal is =
 pub named_path : (history : List Record) (path : Path) (label : ℕ) → IsLegal history → label_at (replay history).names path ≡ Some label → IsPath path
 named_path history path label legal = found_path (replay history).names path label (fitting.fits_replay history legal).names
 
--- each reply of a call that may come after a legal history fits a packet, and its numbers and its strings have a spelling
+-- each reply of a call that may come after a legal history fits a packet, and its numbers and its
+-- strings have a spelling
 pub packet_fits : (number session id : ℕ) (reply : Reply) → IsGiven number session reply → length (reply_body id reply) ≤ 262144
 packet_fits number session id reply given = fitting.short_packet id reply (fitting.given_short number session reply given)
 

@@ -1,5 +1,5 @@
 -- How many paths name an object, before and after a change of the names.
-use Rattle.std.proofs.Common.{◌≡◌, ◌≢◌, ℕ, ◌+◌, ◌<◌, ◌≤◌, nat_eq, Bool, true, false, cond, T, ◌&&◌, List, [], ◌∷◌, ◌++◌, filter, filter_map, Option, Some, None, is_none, option_map, zero, suc, refl, sym, ap, ◌∙◌, eq-eqb, arith}
+use Rattle.std.proofs.Common.{◌≡◌, ◌≢◌, ℕ, ◌+◌, ◌<◌, ◌≤◌, nat_eq, Bool, true, false, cond, T, ◌&&◌, List, [], ◌∷◌, ◌++◌, filter, filter_map, Some, None, is_none, option_map, zero, suc, refl, sym, ap, ◌∙◌, eq-eqb, arith}
 use Rattle.std.proofs.lemmas.Bool.{eqb-true}
 use Rattle.std.specs.List.{sum_by, cons_option}
 use Rattle.std.proofs.lemmas.List.Sums.{sum_by-cons}

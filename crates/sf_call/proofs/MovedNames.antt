@@ -154,7 +154,8 @@ moved_from_old names old new path rest some_old none_new =
     ∙ ap (λ (f : Option Path). option_or (at_old names old f) (cond (is_none (after_front old path) && is_none f) (label_at names path) None)) none_new
     ∙ ap (λ (f : Option Path). cond (is_none f && true) (label_at names path) None) some_old
 
--- where a label after a move was before it: below old, for a path at or below new, or at the path itself
+-- where a label after a move was before it: below old, for a path at or below new, or at the path
+-- itself
 abbrev pub IsCarried : List (Path × ℕ) → Path → Path → Path → ℕ → Type 0
 IsCarried names old new q label = (rest : Path) × (q ≡ new ++ rest) × (label_at names (old ++ rest) ≡ Some label)
 

@@ -1,5 +1,5 @@
--- What a rename answers: it is refused, does nothing, or moves, where neither path begins with the other. And what a link
--- answers: it is refused, or names a file anew.
+-- What a rename answers: it is refused, does nothing, or moves, where neither path begins with the
+-- other. And what a link answers: it is refused, or names a file anew.
 use Rattle.std.proofs.Common.{◌≡◌, ℕ, Bool, true, false, cond, ◌&&◌, ◌||◌, nat_eq, nat_le, List, [], ◌∷◌, Some, None, is_some, refl}
 use Rattle.sf_path.specs.Names.{Path}
 use Rattle.sf_path.specs.Order.{same_path, parent}

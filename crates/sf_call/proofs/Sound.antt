@@ -18,7 +18,8 @@ use Rattle.sf_call.proofs.Founded.{IsFounded, is_directory_label, is_directory_i
 use Rattle.sf_call.proofs.Used.{AllUsed, kept-used, used_changed, used_left, used_empty}
 use Rattle.sf_call.proofs.Requests.{allowed}
 
--- the tree is in order, free numbers are unused in it, its paths lead to objects, and its objects are named or open
+-- the tree is in order, free numbers are unused in it, its paths lead to objects, and its objects
+-- are named or open
 pub record IsSound (Free : ℕ → Type 0) (tree : Tree) : Type 0 where
   pub ordered : IsOrderedTree tree
   pub labelled : IsLabelled Free tree

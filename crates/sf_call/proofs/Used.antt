@@ -42,7 +42,7 @@ all_filter p (x ∷ xs) =
       | false ↦ λ t. all_filter p xs
     ] refl
 
-all_by : {X : Type 0} (P Q : X → Type 0) (xs : List X) → ((x : X) → P x → Q x) → AllByRecursion P xs → AllByRecursion Q xs
+pub all_by : {X : Type 0} (P Q : X → Type 0) (xs : List X) → ((x : X) → P x → Q x) → AllByRecursion P xs → AllByRecursion Q xs
 all_by P Q [] more all = tt
 all_by P Q (x ∷ xs) more all = (more x all.0, all_by P Q xs more all.1)
 

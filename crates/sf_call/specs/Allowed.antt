@@ -19,7 +19,8 @@ abbrev pub IsSetRightly : Tree → ℕ → Object → Type 0
 IsSetRightly tree label object =
     option_map kind_of (object_of tree.objects label) ≡ Some (kind_of object)
 
--- a new path was free, its way was open, and its label is the call's number, which no path and no object had
+-- a new path was free, its way was open, and its label is the call's number, which no path and no
+-- object had
 pub record IsNewPath (number : ℕ) (tree : Tree) (path : Path) (label : ℕ) : Type 0 where
   pub is_number : label ≡ number
   pub free : label_at tree.names path ≡ None
@@ -39,8 +40,8 @@ pub record IsNewHandle (number : ℕ) (tree : Tree) (handle : ℕ) : Type 0 wher
   pub is_number : handle ≡ number
   pub free : handle_of tree.handles handle ≡ None
 
--- A move: old is named, neither path begins with the other, new's way is open with nothing below new, and what new named
--- is of the kind of what old names, and not the same file (POSIX, rename).
+-- A move: old is named, neither path begins with the other, new's way is open with nothing below
+-- new, and what new named is of the kind of what old names, and not the same file (POSIX, rename).
 pub record IsMove (tree : Tree) (old new : Path) : Type 0 where
   pub label : ℕ
   pub named : label_at tree.names old ≡ Some label
@@ -53,8 +54,8 @@ pub record IsMove (tree : Tree) (old new : Path) : Type 0 where
       ≡ option_map kind_of (object_of tree.objects label)
   pub other : label_at tree.names new ≢ Some label
 
--- What a change of the call with this number asks of the tree before it. A path that goes has nothing below it, and a
--- handle stays with its object.
+-- What a change of the call with this number asks of the tree before it. A path that goes has
+-- nothing below it, and a handle stays with its object.
 abbrev pub MayChange : ℕ → Tree → Change → Type 0
 MayChange number tree (SetObject label object) = IsSetRightly tree label object
 MayChange number tree (NewPath path label object) = IsNewPath number tree path label
@@ -73,9 +74,9 @@ AreAllowed number tree [] = Unit {0}
 AreAllowed number tree (change ∷ changes) =
     MayChange number tree change × AreAllowed number (changed tree change) changes
 
--- What holds of the tree after a legal history, and still holds after changes that are allowed: each path that is named
--- leads over directories to an object, one path at most names a directory, so many at most a file, and each object is
--- named or open.
+-- What holds of the tree after a legal history, and still holds after changes that are allowed:
+-- each path that is named leads over directories to an object, one path at most names a directory,
+-- so many at most a file, and each object is named or open.
 pub record IsWellFormed (tree : Tree) : Type 0 where
   pub ordered : IsOrderedTree tree
   pub object : (path : Path) (label : ℕ) → label_at tree.names path ≡ Some label

@@ -27,8 +27,8 @@ modified_at moment m = record {
   times = record { atime = m.times.atime; mtime = moment };
 }
 
--- The parts that are given replace those that were kept (draft, section 5). Of the permissions the lowest twelve bits
--- count; a size is not kept here.
+-- The parts that are given replace those that were kept (draft, section 5). Of the permissions the
+-- lowest twelve bits count; a size is not kept here.
 abbrev pub with_parts : Metadata → Attrs → Metadata
 with_parts m attrs = record {
   owner = unwrap_or attrs.owner m.owner;

@@ -1,4 +1,5 @@
--- What the tree answers to each request, and what the request changes. Cases are tried in order; the first that fits answers.
+-- What the tree answers to each request, and what the request changes. Cases are tried in order;
+-- the first that fits answers.
 use Rattle.std.specs.Prelude.{ℕ, ◌+◌, not, nat_eq, nat_lt, nat_le, min, Bool, true, false, ◌&&◌, ◌||◌, if◌then◌else◌, List, [], ◌∷◌, ◌++◌, length, take, drop, filter, count_by, Option, Some, None, is_some}
 use Rattle.sf_field.specs.declared.attrs.Attrs.{Attrs}
 use Rattle.sf_field.specs.declared.open_flags.OpenFlags.{OpenFlags}
@@ -54,7 +55,8 @@ refuses_size object None = false
 refuses_size (Directory m) (Some size) = true
 refuses_size (File m contents) (Some size) = nat_lt MAX_FILE_SIZE size
 
--- A file's size is set first, and the file is modified at the moment; then the other parts (POSIX, ftruncate).
+-- A file's size is set first, and the file is modified at the moment; then the other parts (POSIX,
+-- ftruncate).
 abbrev pub with_size : ℕ → Attrs → Option ℕ → Metadata → List ℕ → Object
 with_size moment attrs None m contents = File (with_parts m attrs) contents
 with_size moment attrs (Some size) m contents =
@@ -76,7 +78,8 @@ set_stat moment attrs Nothing = refuses NoSuchFile
 set_stat moment attrs (DirectoryAt label m) = sets moment label attrs (Directory m)
 set_stat moment attrs (FileAt label m contents) = sets moment label attrs (File m contents)
 
--- A call's number, which is the label of what it makes and the number of a handle that it opens; and its moment.
+-- A call's number, which is the label of what it makes and the number of a handle that it opens;
+-- and its moment.
 pub record Stamp : Type 0 where
   pub number : ℕ
   pub moment : ℕ
@@ -212,8 +215,8 @@ rename tree moment old new Absent = refuses NoSuchFile
 rename tree moment old new (At label) =
     unless_nested old new (rename_to tree moment old new (place_at tree new))
 
--- the extension posix-rename (POSIX, rename): a file also takes a file's place, and a directory an empty directory's;
--- where both paths name one file, nothing is done
+-- the extension posix-rename (POSIX, rename): a file also takes a file's place, and a directory an
+-- empty directory's; where both paths name one file, nothing is done
 abbrev pub replace_by : Tree → ℕ → Path → Path → ℕ → Found → Answer
 replace_by tree moment old new label Nowhere = refuses NoSuchFile
 replace_by tree moment old new label Nothing = moves tree moment old new
@@ -233,7 +236,8 @@ posix_rename tree moment old new (At label) =
 
 -- ---- links
 
--- to a path where nothing stands, unless as many paths name the file as may; the new path's parent is modified
+-- to a path where nothing stands, unless as many paths name the file as may; the new path's parent
+-- is modified
 abbrev pub link_to : Tree → ℕ → Path → ℕ → Place → Answer
 link_to tree moment new label NoWay = refuses NoSuchFile
 link_to tree moment new label (At other) = refuses Failure

@@ -10,8 +10,8 @@ use Rattle.sf_path.specs.Names.{Path}
 use Rattle.sf_call.specs.Tree.{Tree, Handle, with_names, with_objects, with_handles, directory_at, kept}
 use Rattle.sf_call.specs.Moves.{moved}
 
--- another object at a label; a new path, with its label and its object; a further path of a file; a path gone; a move of what begins with a path;
--- a handle opened, changed or closed
+-- another object at a label; a new path, with its label and its object; a further path of a file; a
+-- path gone; a move of what begins with a path; a handle opened, changed or closed
 pub data Change : Type 0 where
   SetObject : (label : ℕ) → (object : Object) → Change
   NewPath : (path : Path) → (label : ℕ) → (object : Object) → Change
@@ -45,7 +45,8 @@ changed tree (CloseHandle number) =
 abbrev pub done : Tree → List Change → Tree
 done tree changes = fold changed tree changes
 
--- A change of a directory's entries marks the directory as modified at the moment (POSIX, mkdir and others).
+-- A change of a directory's entries marks the directory as modified at the moment (POSIX, mkdir and
+-- others).
 abbrev pub touch : ℕ → Option (ℕ × Metadata) → List Change
 touch moment None = []
 touch moment (Some e) = SetObject e.0 (Directory (modified_at moment e.1)) ∷ []

@@ -12,7 +12,8 @@ if_of session handle = if nat_eq handle.session session then Some handle else No
 abbrev pub handle_in : Tree → ℕ → ℕ → Option Handle
 handle_in tree session number = option_and_then (if_of session) (handle_of tree.handles number)
 
--- a handle that is open in the session, and its object; a label without an object, to which no call leads, counts as not open
+-- a handle that is open in the session, and its object; a label without an object, to which no call
+-- leads, counts as not open
 pub data Opened : Type 0 where
   NotOpen : Opened
   OpenDirectory : (handle : Handle) → (metadata : Metadata) → Opened

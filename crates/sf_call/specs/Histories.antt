@@ -1,4 +1,5 @@
--- Histories: the calls that were made, in one order, with their replies, and the leavings of sessions.
+-- Histories: the calls that were made, in one order, with their replies, and the leavings of
+-- sessions.
 use Rattle.std.specs.Prelude.{◌≡◌, ◌≢◌, ◌<◌, ◌⊎◌, ℕ, nat_eq, Bool, false, List, [], ◌∷◌, ◌++◌, fold, Option}
 use Rattle.std.specs.List.{AllByRecursion, find}
 use Rattle.sf_reply.specs.declared.reply.Reply.{Reply}
@@ -55,8 +56,8 @@ pub record DoneCall : Type 0 where
 abbrev pub due_reply : List Record → DoneCall → Reply
 due_reply history d = (apply (replay history) d.session d.number d.moment d.request).reply
 
--- a call may come next: its parts are values of their types, its number is above 0 and new, its session has not left, and
--- its reply is the tree's or want of memory
+-- a call may come next: its parts are values of their types, its number is above 0 and new, its
+-- session has not left, and its reply is the tree's or want of memory
 pub record CallMayFollow (history : List Record) (d : DoneCall) : Type 0 where
   pub is_call : IsCall d.number d.session d.moment d.request
   pub above_zero : 0 < d.number

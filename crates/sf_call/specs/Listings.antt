@@ -37,7 +37,8 @@ listed_entry tree directory last e =
     option_and_then (λ name. option_map (entry_of name (links tree.names e.1)) (object_of tree.objects e.1))
     (name_past directory last e.0)
 
--- the first 32 entries of a directory, in the order of their names, after the last one that was given
+-- the first 32 entries of a directory, in the order of their names, after the last one that was
+-- given
 abbrev pub listing : Tree → Option Name → Path → List Entry
 listing tree last directory =
     take MAX_ENTRIES (filter_map (listed_entry tree directory last) tree.names)

@@ -18,8 +18,9 @@ abbrev pub with_entries : List (Path × ℕ) → List (Path × ℕ) → List (Pa
 with_entries names [] = names
 with_entries names (e ∷ es) = insert_entry path_cmp (with_entries names es) e.0 e.1
 
--- each pair whose path begins with neither old nor new, and for each pair at old ++ rest the same label at new ++ rest
--- (POSIX, rename: what old named is named by new, and what new named before is removed)
+-- each pair whose path begins with neither old nor new, and for each pair at old ++ rest the same
+-- label at new ++ rest (POSIX, rename: what old named is named by new, and what new named before is
+-- removed)
 abbrev pub moved : List (Path × ℕ) → Path → Path → List (Path × ℕ)
 moved names old new =
     with_entries (filter (λ e. is_outside old new e.0) names) (filter_map (carried old new) names)

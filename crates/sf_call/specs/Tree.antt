@@ -74,7 +74,8 @@ abbrev pub proper_fronts : Path → List Path
 proper_fronts [] = []
 proper_fronts (name ∷ path) = [] ∷ map (λ front. name ∷ front) (proper_fronts path)
 
--- whether a proper front of the path is absent or names a file (POSIX, pathname resolution: ENOENT, ENOTDIR)
+-- whether a proper front of the path is absent or names a file (POSIX, pathname resolution: ENOENT,
+-- ENOTDIR)
 abbrev pub is_faulty_way : Tree → Path → Bool
 is_faulty_way tree path = list_any (λ front. not (is_directory tree front)) (proper_fronts path)
 
@@ -135,7 +136,8 @@ abbrev pub is_used : List (Path × ℕ) → List (ℕ × Handle) → ℕ → Boo
 is_used names handles label =
     list_any (λ e. nat_eq e.1 label) names || list_any (λ e. nat_eq e.1.label label) handles
 
--- without the objects that no path names and no handle opens (POSIX, unlink: what no link and no process refers to is let go)
+-- without the objects that no path names and no handle opens (POSIX, unlink: what no link and no
+-- process refers to is let go)
 abbrev pub kept : Tree → Tree
 kept tree = with_objects tree (filter (λ e. is_used tree.names tree.handles e.0) tree.objects)
 

@@ -7,8 +7,8 @@ ghost use Rattle.sf_call.specs.Histories.{IsGiven};
 use sf_reply::Reply;
 use std::marker::Model;
 
-/// The reply to a call of a session. Some legal history leads to it: it is what the tree after that history answers to the
-/// call's request, or want of memory.
+/// The reply to a call of a session. Some legal history leads to it: it is what the tree after that
+/// history answers to the call's request, or want of memory.
 #[derive(Debug, Drop)]
 pub struct Answer {
     number: u64,

@@ -56,7 +56,8 @@ pub struct Call {
     pub moment: u32,
     pub request: Request,
     pub stage: Stage,
-    /// The request again, for the record of a call that another one carries out while its session waits.
+    /// The request again, for the record of a call that another one carries out while its session
+    /// waits.
     pub copy: Option<Request>,
     /// The reply that waits for the session, where another call carried this one out.
     pub reply: Option<Reply>,
@@ -218,8 +219,8 @@ impl Calls {
         self.remove_reply(number)
     }
 
-    /// Takes out the call of a number, and gives its reply. Few calls come here, so that no step of another one
-    /// makes room for a whole call.
+    /// Takes out the call of a number, and gives its reply. Few calls come here, so that no step of
+    /// another one makes room for a whole call.
     #[inline(never)]
     fn remove_reply(&mut self, number: u64) -> Option<Reply>
         ensures reply { result

@@ -6,8 +6,8 @@ ghost use Rattle.sf_call.specs.declared.fault.CoreFault.TheVariants.{OutOfMemory
 use std::alloc::{AllocError, AllocFailed};
 use thiserror::Error;
 
-/// `Sessions`: the core has as many joined sessions as it takes. `NumbersSpent`: there is no further number for a
-/// session or a call. `Stranger`: the session or the call is not the core's.
+/// `Sessions`: the core has as many joined sessions as it takes. `NumbersSpent`: there is no
+/// further number for a session or a call. `Stranger`: the session or the call is not the core's.
 #[derive(Clone, Copy, Debug, PartialEq, Eq, Error)]
 pub enum CoreFault {
     #[error("out of memory")]

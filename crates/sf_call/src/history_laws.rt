@@ -38,8 +38,8 @@ pub fn found_by_number()
         → record_of number history ≡ Some (Did number session moment request reply) }
 {}
 
-/// After a legal history no path, no object and no handle has the number of a call to come, one path at most names a
-/// directory, and 1024 at most a file.
+/// After a legal history no path, no object and no handle has the number of a call to come, one
+/// path at most names a directory, and 1024 at most a file.
 pub fn labels_of_paths()
     ensures unused { (history : List Record) (number : ℕ) (path : Path) → IsLegal history
         → 0 < number → IsNewNumber number history
@@ -66,8 +66,8 @@ pub fn ways_of_paths()
         → is_faulty_way (replay history) path ≡ false }
 {}
 
-/// What a request that may come next changes is allowed there, as each kind of change asks; and what is allowed, a move
-/// too, keeps the tree well formed.
+/// What a request that may come next changes is allowed there, as each kind of change asks; and
+/// what is allowed, a move too, keeps the tree well formed.
 pub fn allowed_changes()
     ensures request { (history : List Record) (number session moment : ℕ) (request : Request)
         → IsLegal history → 0 < number → IsNewNumber number history
@@ -78,8 +78,8 @@ pub fn allowed_changes()
         → IsWellFormed (done (replay history) changes) }
 {}
 
-/// Each reply of a call that may come after a legal history fits a packet, and its numbers and its strings have a
-/// spelling.
+/// Each reply of a call that may come after a legal history fits a packet, and its numbers and its
+/// strings have a spelling.
 pub fn replies_fit()
     ensures packet { (number session id : ℕ) (reply : Reply) → IsGiven number session reply
         → length (reply_body id reply) ≤ max_body }

@@ -1,12 +1,13 @@
 //! Calls on a tree of files: what is asked, what is answered, and what the tree is after it.
 //!
-//! This crate says what the server means; it keeps no tree. Start with `specs/Tree.antt` (paths, labels,
-//! objects, handles) and `specs/Calls.antt`: `answer_to` answers each request case by case, and `apply` is
-//! the reply with the tree after it. `specs/Changes.antt` says what a change makes of a tree. A list of
-//! calls with their replies is a history; `specs/Histories.antt` says which are legal, and what tree stands
-//! at the end of one. `Request`, `Record` and `Answer` are the types that hold these; the contract of
-//! `Answer::new` is what ties a reply to a legal history. The laws in `tree_laws.rt` and `history_laws.rt`
-//! are those that crates above rest on; readers find more in `sf_laws`.
+//! This crate says what the server means; it keeps no tree. Start with `specs/Tree.antt` (paths,
+//! labels, objects, handles) and `specs/Calls.antt`: `answer_to` answers each request case by case,
+//! and `apply` is the reply with the tree after it. `specs/Changes.antt` says what a change makes
+//! of a tree. A list of calls with their replies is a history; `specs/Histories.antt` says which
+//! are legal, and what tree stands at the end of one. `Request`, `Record` and `Answer` are the
+//! types that hold these; the contract of `Answer::new` is what ties a reply to a legal history.
+//! The laws in `tree_laws.rt` and `history_laws.rt` are those that crates above rest on; readers
+//! find more in `sf_laws`.
 #![tactic(auto)]
 
 mod answer;

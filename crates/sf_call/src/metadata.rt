@@ -32,8 +32,8 @@ impl FileType {
 }
 
 impl Metadata {
-    /// Of an object made at a moment, in seconds since 1970. The parts of `attrs` that are given take the place of
-    /// user 0, group 0, the permissions and the moment; a size is ignored.
+    /// Of an object made at a moment, in seconds since 1970. The parts of `attrs` that are given
+    /// take the place of user 0, group 0, the permissions and the moment; a size is ignored.
     pub fn new_object(permissions: u32, moment: u32, attrs: &Attrs) -> Metadata
         ensures { result ≡ new_metadata permissions moment attrs.now }
     {

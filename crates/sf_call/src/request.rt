@@ -6,7 +6,8 @@ use sf_field::{Attrs, ByteString, OpenFlags};
 use sf_path::Path;
 use std::alloc::AllocError;
 
-/// LSTAT is `Stat` too: the tree has no symbolic links. A handle is the number of the call that opened it.
+/// LSTAT is `Stat` too: the tree has no symbolic links. A handle is the number of the call that
+/// opened it.
 #[derive(Debug, PartialEq, Eq, Drop)]
 pub enum Request {
     Stat(Path),
@@ -39,8 +40,8 @@ pub enum Request {
 }
 
 impl Request {
-    /// The same request once more: its paths and the bytes of a WRITE are shared, which takes no memory. It fails where
-    /// the owners can't be counted: at 2^63 of them.
+    /// The same request once more: its paths and the bytes of a WRITE are shared, which takes no
+    /// memory. It fails where the owners can't be counted: at 2^63 of them.
     pub fn share(&self) -> Result<Request, AllocError>
         ensures { IfOk result (λ copy. copy ≡ self.now) }
     {

@@ -5,22 +5,24 @@ ghost use Rattle.sf_call.specs.declared.request.Request.{Request};
 ghost use Rattle.sf_call.specs.declared.record.Record.{Record};
 ghost use Rattle.sf_call.specs.declared.record.Record.TheVariants.{Did};
 ghost use Rattle.sf_path.specs.Names.{Name, Path};
-ghost use Rattle.sf_call.specs.Tree.{Tree, IsOrderedTree, MapsAlike, label_at, is_directory, is_faulty_way, after_front};
+ghost use Rattle.sf_call.specs.Tree.{Tree, IsOrderedTree, MapsAlike, label_at, links, is_directory, is_faulty_way, after_front};
 ghost use Rattle.sf_call.specs.Moves.{moved};
 ghost use Rattle.sf_call.specs.declared.metadata.Metadata.{Metadata};
 ghost use Rattle.sf_call.specs.declared.handle.Handle.{Handle};
+ghost use Rattle.sf_call.specs.declared.place.Place.TheVariants.{Absent};
 ghost use Rattle.sf_reply.specs.declared.reply.Reply.TheVariants.{Status, Data};
 ghost use Rattle.sf_reply.specs.declared.reply.StatusCode.TheVariants.{Success, Failure};
 ghost use Rattle.sf_call.specs.Attributes.Object.{File};
 ghost use Rattle.sf_call.specs.Handles.Opened.{OpenFile};
-ghost use Rattle.sf_call.specs.Calls.{apply, refuses, tells, refuses_size, has_all_handles, read, write};
+ghost use Rattle.sf_call.specs.Calls.{apply, refuses, tells, refuses_size, has_all_handles, link_to, read, write};
 ghost use Rattle.sf_call.specs.ReplyKinds.{IsReplyTo, HasAllParts};
 ghost use Rattle.sf_reply.specs.Longname.{HasType, longname_text};
 ghost use Rattle.sf_call.specs.Listings.{entry_of, listing, listed_entry};
 ghost use Rattle.sf_call.specs.Attributes.{Object, attrs_of};
 ghost use Rattle.sf_call.specs.Histories.{after, replay};
 
-/// Trees are compared by what they map: each tree that a history leads to is in order, and two such trees that map alike are equal.
+/// Trees are compared by what they map: each tree that a history leads to is in order, and two such
+/// trees that map alike are equal.
 pub fn ordered_trees()
     ensures alike { (s t : Tree) → IsOrderedTree s → IsOrderedTree t → MapsAlike s t → s ≡ t }
     ensures replayed { (history : List Record) → IsOrderedTree (replay history) }
@@ -39,7 +41,8 @@ pub fn fronts()
         → path ≡ front ++ rest }
 {}
 
-/// A move brings what stood below the old path below the new one, in the place of what stood there, and nothing else changes.
+/// A move brings what stood below the old path below the new one, in the place of what stood there,
+/// and nothing else changes.
 pub fn moved_names()
     ensures to_new { (names : List (Path × ℕ)) (old new rest : Path)
         → label_at (moved names old new) (new ++ rest) ≡ label_at names (old ++ rest) }
@@ -64,8 +67,8 @@ pub fn told_replies()
         ≡ (apply tree session number moment request).tree }
 {}
 
-/// The attributes that a listing shows of an object have all parts, and its type among the permissions, so that its line
-/// is there.
+/// The attributes that a listing shows of an object have all parts, and its type among the
+/// permissions, so that its line is there.
 pub fn listed_attributes()
     ensures parts { (object : Object) → HasAllParts (attrs_of object) }
     ensures kind { (object : Object) → HasType (attrs_of object).permissions }
@@ -93,6 +96,11 @@ pub fn limit_cases()
     // A session has at most 128 handles open.
     ensures open { (tree : Tree) (session : ℕ) → (has_all_handles tree session ≡ true)
         ↔ (128 ≤ count_by (λ e. nat_eq e.1.session session) tree.handles) }
+    // At most 1024 paths name one file.
+    ensures linked { (tree : Tree) (moment label : ℕ) (new : Path)
+        → (links tree.names label < 1024
+        → (link_to tree moment new label Absent).reply ≡ Status Success)
+        × (1024 ≤ links tree.names label → link_to tree moment new label Absent ≡ refuses Failure) }
     // One READDIR gives at most 32 names.
     ensures listed { (tree : Tree) (last : Option Name) (directory : Path)
         → listing tree last directory

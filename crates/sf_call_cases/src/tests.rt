@@ -113,6 +113,12 @@ fn posix_rename(alloc: Global, old: &[u8], new: &[u8]) -> Result<Request, Fail> 
     Ok(Request::PosixRename(old, new))
 }
 
+fn link(alloc: Global, old: &[u8], new: &[u8]) -> Result<Request, Fail> {
+    let old = path(alloc, old)?;
+    let new = path(alloc, new)?;
+    Ok(Request::Link(old, new))
+}
+
 /// One request of each kind. No two fields of one request are alike.
 fn one_of_each(alloc: Global) -> Result<Vec<Request>, Fail> {
     let mut requests = Vec::new(alloc);
@@ -120,6 +126,7 @@ fn one_of_each(alloc: Global) -> Result<Vec<Request>, Fail> {
     add_by_handle(alloc, &mut requests)?;
     requests.push(rename(alloc, b"/a", b"/b")?)?;
     requests.push(posix_rename(alloc, b"/a", b"/b")?)?;
+    requests.push(link(alloc, b"/a", b"/b")?)?;
     Ok(requests)
 }
 
@@ -127,7 +134,7 @@ fn one_of_each(alloc: Global) -> Result<Vec<Request>, Fail> {
 fn copies_of_requests(rt: HostRuntime) -> Result<(), Fail> {
     let requests = one_of_each(rt.alloc())?;
     let made_apart = one_of_each(rt.alloc())?;
-    assert_eq!(rt; requests.len(), 15);
+    assert_eq!(rt; requests.len(), 16);
     for (request, same) in requests.iter().zip(made_apart.iter()) {
         assert_eq!(rt; &request.share()?, same);
     }

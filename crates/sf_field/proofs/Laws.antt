@@ -8,8 +8,8 @@ pub use Rattle.sf_field.proofs.AttributeLaws.{attrs_take, attrs_again}
 pub use Rattle.sf_field.proofs.SentAttributes.{sent_is_spelled}
 -- options of what was read
 pub use Rattle.sf_field.proofs.FieldLaws.{bind_some, some_is}
--- the bits of open flags, and attributes as they are sent
-pub use Rattle.sf_field.proofs.FlagBits.{bits_say}
+-- the bits of open flags, and attributes as they are sent; and two tests that hold
+pub use Rattle.sf_field.proofs.FlagBits.{bits_say, both}
 pub use Rattle.sf_field.proofs.SentReading.{reads_sent_attrs}
 -- what a value is since its type holds it
 pub use Rattle.sf_field.proofs.Held.{held_attrs, held_bytes}

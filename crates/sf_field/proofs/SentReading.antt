@@ -11,6 +11,7 @@ use Rattle.sf_field.specs.Reading.{number_at, attrs_at, sent_attrs_at}
 use Rattle.sf_field.proofs.FieldLaws.{IsBytes, bind_some, Takes, Reads, reads_u32}
 use Rattle.sf_field.proofs.AttributeLaws.{attrs_take, attrs_again}
 use Rattle.sf_field.proofs.SentAttributes.{sent_is_spelled}
+use Rattle.sf_field.proofs.FlagBits.{both}
 
 -- what a flag adds to the flags
 bit : ℕ → Bool → ℕ
@@ -23,11 +24,6 @@ flag_is flag true None e = refl
 flag_is flag false None e = absurd cc
 flag_is flag true (Some x) e = absurd cc
 flag_is flag false (Some x) e = refl
-
-both : (a b : Bool) → (a && b) ≡ true → (a ≡ true) × (b ≡ true)
-both true true e = (refl, refl)
-both true false e = absurd cc
-both false b e = absurd cc
 
 -- a test of every number below a limit
 each_below : (ℕ → Bool) → ℕ → Bool

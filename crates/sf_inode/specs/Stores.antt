@@ -13,7 +13,8 @@ use Rattle.sf_inode.specs.declared.handle.OpenHandle.{OpenHandle}
 use Rattle.sf_inode.specs.declared.handle.Marks.{Marks}
 use Rattle.sf_inode.specs.Nodes.{entry_in, entries_in, object_in, is_directory_content, is_bare_content, less_content, more_content, bytes_in, is_file_content, with_bytes, with_content, with_name, without_name, with_opened, is_unused}
 
--- a node or nothing at each number from 0 on, each session's handles by their numbers, and how many look-ups were made
+-- a node or nothing at each number from 0 on, each session's handles by their numbers, and how many
+-- look-ups were made
 pub record StoreState : Type 0 where
   pub nodes : List (Option Node)
   pub root : ℕ
@@ -111,7 +112,8 @@ pub record Spot : Type 0 where
 abbrev pub spot : ℕ → Name → Spot
 spot dir name = record { dir = dir; name = name }
 
--- An entry is moved: to a new name, or to one that leads to another node, which goes if nothing else leads to it.
+-- An entry is moved: to a new name, or to one that leads to another node, which goes if nothing
+-- else leads to it.
 abbrev pub moved_entry : StoreState → Spot → Spot → ℕ → StoreState
 moved_entry s old new id = entry_taken (entry_put s new.dir new.name id) old.dir old.name
 

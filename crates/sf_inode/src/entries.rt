@@ -62,7 +62,8 @@ impl Entries {
         Ok(())
     }
 
-    /// Takes a name out, and gives the node that it led to. A directory without names has no memory.
+    /// Takes a name out, and gives the node that it led to. A directory without names has no
+    /// memory.
     #[tactic(auto, using(crate::proofs::Absent::absent_removed))]
     pub(crate) fn remove(&mut self, name: &Name) -> Option<NodeId>
         ensures node { result ≡ lookup (same_name name.now) self.old }

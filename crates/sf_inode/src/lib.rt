@@ -1,10 +1,10 @@
 //! Nodes, entries and handles: the tree as a file system keeps it.
 //!
-//! Start with `Store` in `store`: each of its methods is one definition of `specs/Stores.antt` on the abstract
-//! store, which is a list of nodes by number and the handles of each session. A node (`specs/Nodes.antt`) has a
-//! label, attributes, a holder, counts of its names and handles, and a file's bytes or a directory's entries; the
-//! entries are a list in the order of names (`entries` keeps them in an ordered map). A method that is refused
-//! memory changes nothing.
+//! Start with `Store` in `store`: each of its methods is one definition of `specs/Stores.antt` on
+//! the abstract store, which is a list of nodes by number and the handles of each session. A node
+//! (`specs/Nodes.antt`) has a label, attributes, a holder, counts of its names and handles, and a
+//! file's bytes or a directory's entries; the entries are a list in the order of names (`entries`
+//! keeps them in an ordered map). A method that is refused memory changes nothing.
 #![tactic(auto)]
 
 mod entries;

@@ -32,19 +32,20 @@ pub(crate) enum Content {
 
 #[derive(Drop)]
 pub(crate) struct Node {
-    // What a walk and a STAT look at comes first, side by side.
+    // What a walk, a STAT and a listing look at comes first, side by side.
     pub(crate) holder: Option<u64>,
     pub(crate) metadata: Metadata,
-    pub(crate) content: Content,
-    pub(crate) label: u64,
     /// How many names lead to it.
     pub(crate) names: u64,
+    pub(crate) content: Content,
+    pub(crate) label: u64,
     /// How many handles open it.
     pub(crate) opens: u64,
 }
 
 impl Node {
-    /// A new file or directory, which a name is about to lead to; nothing holds it and no handle opens it.
+    /// A new file or directory, which a name is about to lead to; nothing holds it and no handle
+    /// opens it.
     pub(crate) fn new(alloc: Global, made: NewNode) -> Node
         ensures { result ≡ new_node made }
     {
@@ -117,7 +118,8 @@ impl Node {
         }
     }
 
-    /// Takes a name out of a directory, and gives the node that it led to; of a file nothing changes.
+    /// Takes a name out of a directory, and gives the node that it led to; of a file nothing
+    /// changes.
     pub(crate) fn remove_entry(&mut self, name: &Name) -> Option<NodeId>
         ensures node { result ≡ entry_in self.old.content name.now }
         ensures rest { self.new ≡ with_content (less_content name.now) self.old }

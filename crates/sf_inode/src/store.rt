@@ -87,9 +87,9 @@ impl Store {
         self.alloc
     }
 
-    /// Gives back the room of nodes that are gone, where few are left of many: at most once in as many
-    /// calls as a sixteenth of the room, so that a call of it after each change costs little. Nodes keep
-    /// their numbers, so the room up to the greatest of them stays.
+    /// Gives back the room of nodes that are gone, where few are left of many: at most once in as
+    /// many calls as a sixteenth of the room, so that a call of it after each change costs little.
+    /// Nodes keep their numbers, so the room up to the greatest of them stays.
     pub fn trim(&mut self)
         ensures nodes { (id : ℕ) → node_in self.new.nodes id ≡ node_in self.old.nodes id }
         ensures rest { self.new ≡ with_nodes self.old self.new.nodes }
@@ -294,7 +294,7 @@ impl Store {
         }
     }
 
-    /// A further name of a directory leads to a node.
+    /// A further name of a directory, which is free, leads to a node.
     pub fn link(&mut self, dir: NodeId, name: Name, node: NodeId) -> Result<(), AllocError>
         ensures ok { OnOk result (self.new ≡ linked self.old dir name node) }
         ensures err { OnErr result (self.new ≡ self.old) }
@@ -455,8 +455,8 @@ impl Store {
         }
     }
 
-    /// Closes a session's handle, if it is there, and tells whether it was. Its node goes if nothing else
-    /// names it.
+    /// Closes a session's handle, if it is there, and tells whether it was. Its node goes if
+    /// nothing else names it.
     pub fn close(&mut self, session: u64, number: u64) -> bool
         ensures told { result ≡ is_some (handle_at self.old session number) }
         ensures closed { self.new ≡ closed self.old session number }
@@ -511,8 +511,8 @@ impl Store {
         Ok(())
     }
 
-    /// The first entries of a directory whose names come after the last one that was given, so many at
-    /// most. Takes memory for these alone, and none where none are left.
+    /// The first entries of a directory whose names come after the last one that was given, so many
+    /// at most. Takes memory for these alone, and none where none are left.
     pub fn entries_after(
         &self,
         dir: NodeId,

@@ -114,6 +114,19 @@ impl Ground {
         given(rt, self.try_relink(parent, text, to, new_text));
     }
 
+    fn try_link(&mut self, parent: NodeId, text: &[u8], node: NodeId) -> Result<(), Fail> {
+        let name = name(self.alloc, text)?;
+        Ok(self.store.link(parent, name, node)?)
+    }
+
+    fn link(&mut self, rt: &impl Abort, parent: NodeId, text: &[u8], node: NodeId) {
+        given(rt, self.try_link(parent, text, node));
+    }
+
+    fn has_links(&self, rt: &impl Abort, node: NodeId, want: u64) {
+        assert_eq!(rt; self.store.links(node), want);
+    }
+
     fn open(&mut self, rt: &impl Abort, session: u64, number: u64, node: NodeId, read: bool) {
         let opened = self.store.open(session, number, node, marks(read));
         assert!(rt; opened.is_ok());
@@ -347,6 +360,52 @@ fn rename_with_what_lies_below_and_over_a_file(rt: HostRuntime) {
     ground.relink(&rt, a, b"/b", root, b"/f");
     ground.finds(&rt, root, b"/f", Some(b));
     ground.finds(&rt, a, b"/b", None);
+    ground.is_gone(&rt, f);
+}
+
+#[test]
+fn a_file_with_several_names(rt: HostRuntime) {
+    let mut ground = Ground::new(&rt, rt.alloc());
+    let root = ground.root();
+    let d = ground.directory(&rt, root, b"/d", 1);
+    let f = ground.file(&rt, root, b"/f", 2);
+    ground.has_links(&rt, root, 1);
+    ground.has_links(&rt, f, 1);
+    ground.link(&rt, d, b"/g", f);
+    ground.has_links(&rt, f, 2);
+    ground.has_links(&rt, d, 1);
+    ground.finds(&rt, root, b"/f", Some(f));
+    ground.finds(&rt, d, b"/g", Some(f));
+    ground.write(&rt, f, 0, b"xyz");
+    ground.unlink(&rt, root, b"/f");
+    ground.finds(&rt, root, b"/f", None);
+    ground.has_links(&rt, f, 1);
+    ground.begins(&rt, f, b"xyz");
+    ground.relink(&rt, d, b"/g", root, b"/h");
+    ground.has_links(&rt, f, 1);
+    ground.unlink(&rt, root, b"/h");
+    ground.is_gone(&rt, f);
+    ground.has_links(&rt, f, 0);
+    ground.is_empty(&rt, d, true);
+}
+
+/// What is put in the place of one name of a file takes that name alone.
+#[test]
+fn replaced_name_of_two(rt: HostRuntime) {
+    let mut ground = Ground::new(&rt, rt.alloc());
+    let root = ground.root();
+    let f = ground.file(&rt, root, b"/f", 1);
+    let h = ground.file(&rt, root, b"/h", 2);
+    ground.link(&rt, root, b"/g", f);
+    ground.open(&rt, 3, 10, f, true);
+    ground.relink(&rt, root, b"/h", root, b"/f");
+    ground.finds(&rt, root, b"/f", Some(h));
+    ground.finds(&rt, root, b"/g", Some(f));
+    ground.has_links(&rt, f, 1);
+    ground.unlink(&rt, root, b"/g");
+    ground.has_links(&rt, f, 0);
+    ground.has_size(&rt, f, 0);
+    ground.closes(&rt, 3, 10, true);
     ground.is_gone(&rt, f);
 }
 

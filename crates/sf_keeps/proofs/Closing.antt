@@ -1,22 +1,20 @@
 -- A store keeps the tree after a handle was closed.
-use Rattle.std.specs.Prelude.{◌≡◌, ℕ, ◌+◌, ◌-◌, ◌<◌, ◌^◌, nat_eq, Bool, true, false, cond, ◌&&◌, if◌then◌else◌, List, slice_set, option_map, option_and_then, Option, Some, None, refl}
-use Rattle.std.proofs.Common.{sym, ap, subst, ◌∙◌, arith, eqb-true, eq-eqb}
+use Rattle.std.specs.Prelude.{◌≡◌, ℕ, ◌+◌, ◌-◌, ◌<◌, ◌^◌, nat_eq, Bool, true, false, cond, ◌&&◌, if◌then◌else◌, List, slice_set, option_map, Option, Some, None, refl}
+use Rattle.std.proofs.Common.{sym, ap, subst, ◌∙◌, arith, eq-eqb}
 use Rattle.std.specs.Ordering.{nat_cmp}
 use Rattle.std.specs.Cmp.{nat_cmp_total}
 use Rattle.std.specs.Map.{remove_entry}
 use Rattle.std.specs.BTreeMap.{is_at}
-use Rattle.sf_path.specs.Order.{path_cmp}
 use Rattle.sf_call.specs.declared.handle.Handle.{Handle}
-use Rattle.sf_call.specs.Attributes.{Object}
 use Rattle.sf_call.specs.Tree.{Tree, handle_of, is_used, with_handles}
 use Rattle.sf_call.specs.Changes.{Change as change, changed}
 use Rattle.sf_inode.specs.declared.node.Node.{Node}
 use Rattle.sf_inode.specs.declared.handle.OpenHandle.{OpenHandle}
 use Rattle.sf_inode.specs.Nodes.{object_in, with_opened, is_unused}
-use Rattle.sf_keeps.specs.Shows.{View, Shows, label_by, with_opens, with_shown}
+use Rattle.sf_keeps.specs.Shows.{View, Shows, with_opens, with_shown}
 use Rattle.sf_inode.specs.Stores.{StoreState, node_in, handle_at, shown_node, shown_handle, with_nodes, with_sessions, edited, released_if, released, let_go, handles_of, handle_dropped, closed_by, closed}
 use Rattle.sf_keeps.specs.Keeps.{view_of, Keeps, IsUnlinked, times_open}
-use Rattle.sf_keeps.proofs.Keyed.{lookup-removed, any_lookup}
+use Rattle.sf_keeps.proofs.Keyed.{lookup-removed}
 use Rattle.sf_keeps.proofs.Less.{is_named, is_opened, IsClosed, handle_there, opened_by}
 use Rattle.sf_keeps.proofs.Whole.{or_true, or_right}
 use Rattle.sf_keeps.proofs.Handled.{by_closed, shows_closed_last, shows_closed}

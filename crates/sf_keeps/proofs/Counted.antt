@@ -1,4 +1,5 @@
--- What the nodes of a kept store count, over functions: each node's label, its names, and what opens it.
+-- What the nodes of a kept store count, over functions: each node's label, its names, and what
+-- opens it.
 use Rattle.std.specs.Prelude.{◌≡◌, ℕ, nat_eq, Bool, true, false, cond, T, List, option_map, Option, Some, None, refl}
 use Rattle.std.proofs.Common.{sym, ap, subst, ◌∙◌, eqb-true}
 use Rattle.std.specs.List.{count_by}

@@ -1,6 +1,6 @@
 -- What stays true of the nodes' counts after an entry is taken out, put in or moved.
 use Rattle.std.specs.Prelude.{◌≡◌, ℕ, nat_eq, true, false, cond, ◌&&◌, Option, Some, None, refl}
-use Rattle.std.proofs.Common.{sym, ap, subst, ◌∙◌, arith, inl, inr, eqb-true}
+use Rattle.std.proofs.Common.{sym, ap, ◌∙◌, arith, inl, inr, eqb-true}
 use Rattle.sf_path.specs.Names.{Name}
 use Rattle.sf_path.specs.Order.{same_name}
 use Rattle.sf_inode.specs.declared.handle.OpenHandle.{OpenHandle}

@@ -5,49 +5,26 @@ use Rattle.std.specs.List.{sum_by}
 use Rattle.std.proofs.lemmas.List.Sums.{sum_by-cons, count_by-le-length}
 use Rattle.std.specs.declared.cmp.Ordering.{Ordering}
 use Rattle.std.specs.declared.cmp.Ordering.TheVariants.{Less, Equal, Greater}
-use Rattle.std.specs.Ordering.{nat_cmp, is_lt, is_eq, match_ordering}
+use Rattle.std.specs.Ordering.{nat_cmp, is_lt}
 use Rattle.std.specs.Cmp.{ranked}
-use Rattle.std.specs.Map.{lookup, remove_entry, set_value}
-use Rattle.std.specs.BTreeMap.{is_at, insert_entry}
+use Rattle.std.specs.Map.{lookup, set_value}
+use Rattle.std.specs.BTreeMap.{is_at}
 use Rattle.std.specs.FinMap.{is_sorted}
 use Rattle.std.specs.FinMap.Entries.{below_all}
 use Rattle.sf_call.specs.declared.handle.Handle.{Handle}
 use Rattle.sf_call.specs.Tree.{Tree, handle_of}
 use Rattle.sf_call.specs.Changes.{changed}
 use Rattle.sf_call.specs.Changes.Change.{OpenHandle, SetHandle, CloseHandle}
-use Rattle.sf_call.proofs.Laws.{and_first, and_second}
+use Rattle.sf_call.proofs.Laws.{and_first, and_second, sum_removed, sum_inserted}
 use Rattle.sf_keeps.specs.Keeps.{times_open}
 use Rattle.sf_keeps.proofs.Shown.{nat_same, nat_at_itself}
 
--- ---- sums over the values of entries
+-- ---- a sum over the values of entries, where one is set to a value of the same weight
 module _ {K X : Type 0} (g : X → ℕ) where
   abbrev weight : K × X → ℕ
   weight e = g e.1
 
-  pub sum_removed : (test : K → Bool) (es : List (K × X)) (v : X) → lookup test es ≡ Some v → sum_by weight es ≡ g v + sum_by weight (remove_entry test es)
-  sum_removed test [] v = λ l. cc
-  sum_removed test (e ∷ es) v =
-      elim (test e.0) as (λ b. cond b (Some e.1) (lookup test es) ≡ Some v → sum_by weight (e ∷ es) ≡ g v + sum_by weight (cond b es (e ∷ remove_entry test es))) [
-        | true ↦ λ l. let w : e.1 ≡ v = cc in sum_by-cons weight e es ∙ ap (λ x. g x + sum_by weight es) w
-        | false ↦ λ l.
-            let h = sum_removed test es v l in
-            let a = sum_by-cons weight e es in
-            let b = sum_by-cons weight e (remove_entry test es) in omega (arith, h, a, b)
-      ]
-
-  pub sum_inserted : (R : K → K → Ordering) (es : List (K × X)) (k : K) (v : X) → lookup (is_at (R k)) es ≡ None → sum_by weight (insert_entry R es k v) ≡ g v + sum_by weight es
-  sum_inserted R [] k v = λ l. sum_by-cons weight (k, v) []
-  sum_inserted R (e ∷ es) k v =
-      elim (R k e.0) as (λ r. cond (is_eq r) (Some e.1) (lookup (is_at (R k)) es) ≡ None → sum_by weight (match_ordering r ((k, v) ∷ e ∷ es) ((e.0, v) ∷ es) (e ∷ insert_entry R es k v)) ≡ g v + sum_by weight (e ∷ es)) [
-        | Less ↦ λ l. sum_by-cons weight (k, v) (e ∷ es)
-        | Equal ↦ λ l. cc
-        | Greater ↦ λ l.
-            let h = sum_inserted R es k v l in
-            let a = sum_by-cons weight e es in
-            let b = sum_by-cons weight e (insert_entry R es k v) in omega (arith, h, a, b)
-      ]
-
-  pub sum_set : (test : K → Bool) (es : List (K × X)) (v u : X) → lookup test es ≡ Some v → g u ≡ g v → sum_by weight (set_value test es u) ≡ sum_by weight es
+  sum_set : (test : K → Bool) (es : List (K × X)) (v u : X) → lookup test es ≡ Some v → g u ≡ g v → sum_by weight (set_value test es u) ≡ sum_by weight es
   sum_set test [] v u = λ l s. cc
   sum_set test (e ∷ es) v u =
       elim (test e.0) as (λ b. cond b (Some e.1) (lookup test es) ≡ Some v → g u ≡ g v → sum_by weight (cond b ((e.0, u) ∷ es) (e ∷ set_value test es u)) ≡ sum_by weight (e ∷ es)) [

@@ -1,5 +1,5 @@
 -- A new store keeps the root alone.
-use Rattle.std.specs.Prelude.{◌≡◌, ℕ, T, List, [], Some, None}
+use Rattle.std.specs.Prelude.{◌≡◌, ℕ, T, List, Some, None}
 use Rattle.std.proofs.Common.{sym, ap, subst, refl}
 use Rattle.std.specs.Ordering.{nat_cmp}
 use Rattle.std.specs.FinMap.{is_sorted}

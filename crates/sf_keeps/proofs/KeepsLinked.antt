@@ -1,14 +1,13 @@
 -- What a store keeps after a further name leads to a file.
-use Rattle.std.specs.Prelude.{◌≡◌, ℕ, ◌+◌, ◌-◌, ◌<◌, ◌^◌, min, nat_eq, Bool, true, false, cond, ◌&&◌, List, [], ◌∷◌, ◌++◌, is_some, option_map, option_and_then, Option, Some, None, refl}
+use Rattle.std.specs.Prelude.{◌≡◌, ℕ, ◌+◌, ◌-◌, ◌<◌, ◌^◌, min, nat_eq, true, false, cond, List, [], ◌∷◌, ◌++◌, is_some, option_map, option_and_then, Option, Some, None, refl}
 use Rattle.std.specs.Option.{option_map_or}
-use Rattle.std.proofs.Common.{sym, ap, subst, ◌∙◌, arith, eqb-true}
+use Rattle.std.proofs.Common.{sym, ap, subst, ◌∙◌, arith}
 use Rattle.std.proofs.Math.Nat.{min-eq_left}
-use Rattle.std.specs.Map.{lookup}
 use Rattle.sf_path.specs.Names.{Name, Path}
 use Rattle.sf_path.specs.Order.{same_name, same_path, path_cmp, path_total}
 use Rattle.sf_call.specs.declared.metadata.Metadata.{Metadata}
 use Rattle.sf_call.specs.Attributes.{Object}
-use Rattle.sf_call.specs.Tree.{Tree, directory_metadata, label_at, object_of, is_used, links, after_front}
+use Rattle.sf_call.specs.Tree.{Tree, directory_metadata, label_at, links, after_front}
 use Rattle.sf_call.specs.Changes.{changed}
 use Rattle.sf_call.specs.Changes.Change.{NewName}
 use Rattle.sf_call.proofs.Laws.{lookup-put, ordered_changed, links_more, is_link_itself, is_link_other}
@@ -16,19 +15,19 @@ use Rattle.sf_inode.specs.declared.node.Node.{Node}
 use Rattle.sf_inode.specs.declared.node.Content.{Content}
 use Rattle.sf_inode.specs.declared.node.Content.TheVariants as content
 use Rattle.sf_inode.specs.Nodes.{entry_in, object_in, is_directory_content, is_file_content, more_content, with_content, with_name}
-use Rattle.sf_inode.specs.Stores.{StoreState, node_in, entry_of, handle_at, shown_node, shown_of, edited, entry_put, linked}
+use Rattle.sf_inode.specs.Stores.{StoreState, node_in, entry_of, handle_at, shown_node, shown_of, entry_put, linked}
 use Rattle.sf_keeps.specs.Steps.{Steps, walk, changed_step}
 use Rattle.sf_keeps.specs.Shows.{View, ShowsBy, Shows, label_by, is_directory_by, with_step}
 use Rattle.sf_keeps.specs.Keeps.{view_of, Keeps, times_open}
 use Rattle.sf_keeps.proofs.Walks.{Avoids, led, walk_changed}
-use Rattle.sf_keeps.proofs.Sound.{IsBare, HasNoEntry, sound_more}
+use Rattle.sf_keeps.proofs.Sound.{IsBare, sound_more}
 use Rattle.sf_keeps.proofs.Shown.{once, below, nat_eq_apart, same_apart, path_none, path_further, path_ended}
 use Rattle.sf_keeps.proofs.Less.{is_named, is_opened}
 use Rattle.sf_keeps.proofs.Whole.{or_grows, named_more, free_name}
 use Rattle.sf_keeps.proofs.StoreLaws.{node_in-edited, more_says, view_unseen}
 use Rattle.sf_keeps.proofs.StoreMoves.{view_put}
 use Rattle.sf_keeps.proofs.InOrder.{InOrder, node_in_order, in_order_put, more_in_order}
-use Rattle.sf_keeps.proofs.Openings.{counted_handle, one_node, object_there}
+use Rattle.sf_keeps.proofs.Openings.{counted_handle, one_node}
 use Rattle.sf_keeps.proofs.Counted.{Mark, mark_of, marks_of, marked, keeps_marked, marked_left}
 use Rattle.sf_keeps.proofs.CountedSteps.{bare_more}
 use Rattle.sf_keeps.proofs.Forgotten.{directory_at, mark_node, marks_entries, in_order_entries}

@@ -1,4 +1,5 @@
--- Lists of entries in the order of their keys: what look-ups find after each change, and what passes a test.
+-- Lists of entries in the order of their keys: what look-ups find after each change, and what
+-- passes a test.
 use Rattle.std.specs.Prelude.{◌≡◌, Bool, true, false, cond, T, ◌||◌, List, [], ◌∷◌, Some, None, IsSome, refl}
 use Rattle.std.proofs.Common.{sym, ap, ◌∙◌}
 use Rattle.std.specs.List.{list_any, IsDistinct, AllByRecursion}

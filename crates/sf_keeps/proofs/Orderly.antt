@@ -1,4 +1,5 @@
--- Lists of entries in the order of their keys: two that answer alike are one, and other values leave the order.
+-- Lists of entries in the order of their keys: two that answer alike are one, and other values
+-- leave the order.
 use Rattle.std.specs.Prelude.{◌≡◌, T, ◌&&◌, List, [], ◌∷◌, map, refl}
 use Rattle.std.proofs.Common.{sym, ap, subst, ◌∙◌}
 use Rattle.std.specs.declared.cmp.Ordering.{Ordering}

@@ -4,7 +4,6 @@ use Rattle.std.specs.Option.{option_or}
 use Rattle.std.proofs.Common.{sym, ap, ◌∙◌, append_assoc, eqb-true, eq-eqb}
 use Rattle.sf_path.specs.Names.{Name, Path}
 use Rattle.sf_path.specs.Order.{path_cmp, path_total}
-use Rattle.sf_call.specs.declared.handle.Handle.{Handle}
 use Rattle.sf_call.specs.Attributes.{Object}
 use Rattle.sf_call.specs.Tree.{Tree, IsOrderedTree, after_front, label_at, object_of, is_used, kept, with_names}
 use Rattle.sf_call.specs.Moves.{moved}
@@ -17,8 +16,8 @@ use Rattle.sf_keeps.proofs.Walks.{walk-append, Avoids, LeadsOnce, led, walk_chan
 use Rattle.sf_keeps.proofs.Keyed.{lookup_any, any_lookup}
 use Rattle.sf_keeps.proofs.Sound.{HasNoEntry, IsBare, no_entry_left, sound_less, sound_more}
 use Rattle.sf_keeps.proofs.Shown.{once, same_apart}
-use Rattle.sf_keeps.proofs.Less.{is_named, is_opened, OthersUsed, IsClosed, kept_object, kept_used, cond_used, shows_same, opened_by, shows_kept, shows_kept_used}
-use Rattle.sf_keeps.proofs.Whole.{one_more, or_grows, or_right}
+use Rattle.sf_keeps.proofs.Less.{is_named, is_opened, OthersUsed, IsClosed, kept_object, kept_used, cond_used, shows_same, shows_kept, shows_kept_used}
+use Rattle.sf_keeps.proofs.Whole.{one_more, or_grows}
 
 -- where a path leads after a move
 abbrev pub led_after_move : Steps → ℕ → Path → Path → Option Path → Option Path → Option ℕ

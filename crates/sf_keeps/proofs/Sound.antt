@@ -111,7 +111,8 @@ module _ (step : Steps) (shown : Shown) (root c : ℕ) (sound : IsSound step sho
         | false ↦ λ t e. inr (refl, e)
       ] refl
 
-  -- where the node that is shown anew was nothing, or of the same kind, the kinds of what was there stay
+  -- where the node that is shown anew was nothing, or of the same kind, the kinds of what was there
+  -- stay
   pub kind_more : (label : ℕ) (o : Object) → ((shown c ≡ None → ⊥) → is_directory_by shown c ≡ is_directory_shown (Some (label, o)))
       → (x : ℕ) → (shown x ≡ None → ⊥) → is_directory_by (changed_shown shown c (Some (label, o))) x ≡ is_directory_by shown x
   kind_more label o kind x there =

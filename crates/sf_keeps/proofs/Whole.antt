@@ -20,7 +20,7 @@ use Rattle.sf_keeps.proofs.Walks.{walk-append}
 use Rattle.sf_keeps.proofs.Keyed.{lookup-set, lookup_any, any_lookup, any-removed}
 use Rattle.sf_keeps.proofs.Sound.{HasNoEntry, IsBare}
 use Rattle.sf_keeps.proofs.Shown.{nat_same, same_path_itself, shows_object, shows_more}
-use Rattle.sf_keeps.proofs.Less.{is_named, is_opened, OthersUsed, IsClosed, kept_used, handle_there, handle_here, shows_less, opened_by, shows_kept, shows_kept_used}
+use Rattle.sf_keeps.proofs.Less.{is_named, is_opened, OthersUsed, IsClosed, kept_used, handle_there, handle_here, shows_less, shows_kept, shows_kept_used}
 
 -- ---- another object
 -- an object that is there after the change was there before

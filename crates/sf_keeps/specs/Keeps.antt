@@ -31,9 +31,10 @@ pub record IsUnlinked (s : StoreState) (id : ℕ) : Type 0 where
   pub other : s.root ≡ id → ⊥
   pub bare : (n : Name) → entry_of s.nodes id n ≡ None
 
--- The store shows the tree. A directory's entries stand in the order of their names, each once. A node counts the paths that
--- name it, and has no entries where there are none; and it counts its handles. A handle knows its node. Handles stand in order,
--- and their numbers are above 0 and fit 64 bits.
+-- The store shows the tree. A directory's entries stand in the order of their names, each once. A
+-- node counts the paths that name it, and has no entries where there are none; and it counts its
+-- handles. A handle knows its node. Handles stand in order, and their numbers are above 0 and fit
+-- 64 bits.
 pub record Keeps (s : StoreState) (t : Tree) : Type 0 where
   pub shows : Shows (view_of s) t
   pub entries : (id : ℕ) → T (is_sorted name_cmp (entries_at s.nodes id))

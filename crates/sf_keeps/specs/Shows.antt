@@ -25,8 +25,8 @@ is_directory_by shown id = is_some (option_and_then (λ v. directory_metadata v.
 abbrev pub changed_shown : Shown → ℕ → Option (ℕ × Object) → Shown
 changed_shown shown c r i = if nat_eq c i then r else shown i
 
--- Labels differ, entries lead from directories to nodes that are there, and one entry at most leads to a directory, none to
--- the root. A file may have several entries.
+-- Labels differ, entries lead from directories to nodes that are there, and one entry at most leads
+-- to a directory, none to the root. A file may have several entries.
 pub record IsSound (step : Steps) (shown : Shown) (root : ℕ) : Type 0 where
   pub labels : (i j label : ℕ) (o u : Object) → shown i ≡ Some (label, o)
       → shown j ≡ Some (label, u) → i ≡ j
@@ -49,7 +49,8 @@ pub record View : Type 0 where
   pub root : ℕ
   pub opens : Opens
 
--- Each path has the label of the node that it leads to, the objects are those of the nodes, and the handles are the open ones.
+-- Each path has the label of the node that it leads to, the objects are those of the nodes, and the
+-- handles are the open ones.
 pub record ShowsBy (view : View) (t : Tree) : Type 0 where
   pub names : (path : Path) → label_at t.names path
       ≡ option_and_then (label_by view.shown) (walk view.step view.root path)

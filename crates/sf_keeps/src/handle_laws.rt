@@ -1,4 +1,5 @@
-//! What a store that keeps a tree tells of open handles, and how it keeps the tree that opening, listing by and closing them gives.
+//! What a store that keeps a tree tells of open handles, and how it keeps the tree that opening,
+//! listing by and closing them gives.
 
 ghost use Rattle.std.specs.Prelude.{◌≡◌, ℕ, ◌<◌, ◌^◌, nat_eq, length, take, map, filter_map, true, Option, Some, None, option_map};
 ghost use Rattle.std.specs.List.{All, count_by};
@@ -20,8 +21,8 @@ ghost use Rattle.sf_keeps.specs.Listed.{listed_entry};
 ghost use Rattle.sf_inode.specs.Stores.{StoreState, node_in, entry_of, entries_at, is_directory_at, handle_at, handles_of, shown_handle, opened, handle_listed, closed, closed_all};
 ghost use Rattle.sf_keeps.specs.Keeps.{Keeps, KeepsNodes};
 
-/// A session's handle is that of the tree, its node is there and has the object of its label, and a number that no handle of
-/// the tree has is no session's.
+/// A session's handle is that of the tree, its node is there and has the object of its label, and a
+/// number that no handle of the tree has is no session's.
 pub fn found_handles()
     ensures same { (s : StoreState) (t : Tree) (session number : ℕ) → Keeps s t
         → handle_in t session number
@@ -63,8 +64,8 @@ pub fn listed_handles()
         (change.SetHandle number (with_listed (shown_handle session h) (Some name)))) }
 {}
 
-/// A handle is closed, or all of a session. What nothing names or opens any more is gone from the store as from the tree, and
-/// the other nodes stay what they are.
+/// A handle is closed, or all of a session. What nothing names or opens any more is gone from the
+/// store as from the tree, and the other nodes stay what they are.
 pub fn closed_handles()
     ensures one { (s : StoreState) (t : Tree) (session number : ℕ) (h : OpenHandle) → Keeps s t
         → handle_at s session number ≡ Some h
@@ -74,9 +75,10 @@ pub fn closed_handles()
     ensures nodes { (s : StoreState) (session : ℕ) → KeepsNodes s (closed_all s session) }
 {}
 
-/// A directory's label has the one path that leads to it. What the tree lists of a directory, by its label, are the first
-/// entries that `Store::entries_after` gives: each node is there, and is listed by its name. A directory that no path leads to
-/// any more lists nothing, and has no entries.
+/// A directory's label has the one path that leads to it. What the tree lists of a directory, by
+/// its label, are the first entries that `Store::entries_after` gives: each node is there, and is
+/// listed by its name. A directory that no path leads to any more lists nothing, and has no
+/// entries.
 pub fn listed_entries()
     ensures path { (s : StoreState) (t : Tree) (p : Path) (dir : ℕ) (node : Node) → Keeps s t
         → walk (entry_of s.nodes) s.root p ≡ Some dir → node_in s.nodes dir ≡ Some node

@@ -1,9 +1,9 @@
 //! When a store keeps a tree, and how each change of it keeps it.
 //!
-//! Start with `Keeps` in `specs/Keeps.antt`: paths lead in the store to what the tree has there, and its handles
-//! are the tree's. Each law of `tree_laws` and `handle_laws` says that one change of a store makes the changed
-//! tree of the one that it kept. The functions do nothing: their contracts are the laws. What the crates above
-//! prove with stands in `proofs/Laws.antt`.
+//! Start with `Keeps` in `specs/Keeps.antt`: paths lead in the store to what the tree has there,
+//! and its handles are the tree's. Each law of `tree_laws` and `handle_laws` says that one change
+//! of a store makes the changed tree of the one that it kept. The functions do nothing: their
+//! contracts are the laws. What the crates above prove with stands in `proofs/Laws.antt`.
 #![tactic(auto)]
 
 mod handle_laws;

@@ -1,5 +1,5 @@
-//! What a store keeps of the tree. `Keeps s t` says that a store's nodes, entries and handles are the
-//! tree's, and that its counts agree; these laws say what each method makes of the tree.
+//! What a store keeps of the tree. `Keeps s t` says that a store's nodes, entries and handles are
+//! the tree's, and that its counts agree; these laws say what each method makes of the tree.
 
 ghost use Rattle.std.specs.Prelude.{◌≡◌, ◌≢◌, ◌<◌, ℕ, true, false, List, [], ◌∷◌, ◌++◌, Option, Some, None, option_map, option_and_then};
 ghost use Rattle.sf_path.specs.Names.{Name, Path};
@@ -23,8 +23,8 @@ pub fn kept_trees()
     ensures first { (s : StoreState) → IsFirst s → Keeps s empty_tree }
 {}
 
-/// A node's object is the tree's under its label, a label is one node's alone, a path and an entry lead to nodes that are
-/// there, and a node counts the paths that name its object.
+/// A node's object is the tree's under its label, a label is one node's alone, a path and an entry
+/// lead to nodes that are there, and a node counts the paths that name its object.
 pub fn kept_nodes()
     ensures object { (s : StoreState) (t : Tree) (id : ℕ) (node : Node) → Keeps s t
         → node_in s.nodes id ≡ Some node
@@ -41,8 +41,8 @@ pub fn kept_nodes()
         → node_in s.nodes id ≡ Some node → node.names ≡ links t.names node.label }
 {}
 
-/// What a number shows is the label and the object of a node that is there: a directory, or a file with
-/// its bytes.
+/// What a number shows is the label and the object of a node that is there: a directory, or a file
+/// with its bytes.
 pub fn shown_nodes()
     ensures node { (nodes : List (Option Node)) (id label : ℕ) (object : Object)
         → shown_of nodes id ≡ Some (label, object) → (node : Node) × (node_in nodes id ≡ Some node)
@@ -75,8 +75,8 @@ pub fn other_nodes()
         × (holder_of (relinked s dir n to m).nodes i ≡ holder_of s.nodes i) }
 {}
 
-/// Where a path leads, name by name: a name of a directory is there or not, and no way leads on from a
-/// file or from what is not there.
+/// Where a path leads, name by name: a name of a directory is there or not, and no way leads on
+/// from a file or from what is not there.
 pub fn found_paths()
     ensures next { (s : StoreState) (t : Tree) (p : Path) (dir : ℕ) (n : Name) → Keeps s t
         → walk (entry_of s.nodes) s.root p ≡ Some dir
@@ -118,8 +118,8 @@ pub fn same_tree()
         → Keeps (edited (with_holder holder) s id) t }
 {}
 
-/// Other metadata of a node, or other bytes of a file, are another object under its label. Of objects that
-/// are set under one label the last one counts.
+/// Other metadata of a node, or other bytes of a file, are another object under its label. Of
+/// objects that are set under one label the last one counts.
 pub fn changed_object()
     ensures metadata { (f : Metadata → Metadata) (s : StoreState) (t : Tree) (id : ℕ) (node : Node)
         → Keeps s t → node_in s.nodes id ≡ Some node
@@ -144,8 +144,8 @@ pub fn changed_object()
         ≡ changed t (SetObject label u) }
 {}
 
-/// A new node in a directory, under a name that it has not and with a label that is no object's, is a
-/// new path with its object.
+/// A new node in a directory, under a name that it has not and with a label that is no object's, is
+/// a new path with its object.
 pub fn new_path()
     ensures { (old new : StoreState) (t : Tree) (p : Path) (dir : ℕ) (n : Name) (id : ℕ)
         (made : NewNode) → Keeps old t → Inserted old new (new_entry dir n id) (new_node made)
@@ -155,7 +155,8 @@ pub fn new_path()
         (object_in made.metadata (new_content made.file_type)))) }
 {}
 
-/// A further name of a directory for a file, which the directory has not, is a further path of the file.
+/// A further name of a directory for a file, which the directory has not, is a further path of the
+/// file.
 pub fn new_name()
     ensures { (s : StoreState) (t : Tree) (p : Path) (dir : ℕ) (n : Name) (id : ℕ) (node : Node)
         → Keeps s t → walk (entry_of s.nodes) s.root p ≡ Some dir
@@ -173,9 +174,9 @@ pub fn gone_path()
         → Keeps (unlinked s dir n) (changed t (GonePath (p ++ n ∷ []))) }
 {}
 
-/// An entry put under another name, not at or below itself, is the move of its path with all that lies
-/// below it: onto nothing, or in the place of another file or an empty directory, whose object goes unless a
-/// handle opens it or another path names it.
+/// An entry put under another name, not at or below itself, is the move of its path with all that
+/// lies below it: onto nothing, or in the place of another file or an empty directory, whose object
+/// goes unless a handle opens it or another path names it.
 pub fn moved_path()
     ensures to_nothing { (s : StoreState) (t : Tree) (p : Path) (dir : ℕ) (n : Name) (id : ℕ)
         (q : Path) (to : ℕ) (m : Name) → Keeps s t → walk (entry_of s.nodes) s.root p ≡ Some dir

@@ -1,5 +1,5 @@
--- For the crates above: what requests leave alone, and that the history of the examples is legal, so that its replies may be
--- told. All other files here are private to this crate.
+-- For the crates above: what requests leave alone, and that the history of the examples is legal,
+-- so that its replies may be told. All other files here are private to this crate.
 use Rattle.std.proofs.Common.{◌≡◌, ◌≢◌, ◌<◌, ℕ, [], ◌∷◌, arith, refl, inl, inr}
 use Rattle.std.proofs.lemmas.List.Elements.{All-nil, All-cons, All-contains}
 use Rattle.sf_path.specs.Names.{slash, IsName, Path, IsPath}
@@ -14,11 +14,12 @@ use Rattle.sf_laws.proofs.OwnChanges.{own, other_paths}
 use Rattle.sf_laws.specs.Examples.{a, b, history}
 -- no request makes a file of a directory or a directory of a file
 pub use Rattle.sf_laws.proofs.SameKinds.{kinds_stay}
--- What a rename moves is its old path, where a move may be made. A call on two paths that moves nothing leaves the labels
--- of paths that are there, and all where one path begins with the other. No other request moves.
+-- What a rename moves is its old path, where a move may be made. A call on two paths that moves
+-- nothing leaves the labels of paths that are there, and all where one path begins with the other.
+-- No other request moves.
 pub use Rattle.sf_laws.proofs.Renames.{unmoved_labels, unmoved_nested, moved_changes, moved_old, never_moved}
--- A rename leaves the labels of paths that begin with neither of its two. A request with one path, strictly below old,
--- leaves those that aren't strictly below old, and the move of old.
+-- A rename leaves the labels of paths that begin with neither of its two. A request with one path,
+-- strictly below old, leaves those that aren't strictly below old, and the move of old.
 pub use Rattle.sf_laws.proofs.Renames.{spared_labels, below_labels, still_move}
 -- where a move may be made, the renames make it
 pub use Rattle.sf_laws.proofs.MovingRenames.{rename_moves, posix_rename_moves}

@@ -10,6 +10,8 @@ mod MovingRenames
 mod StillMoves
 mod Renames
 mod LinkedFiles
+mod RemovedNames
+mod AlikeNames
 mod InOrder
 mod ListedAll
 mod SameReplies

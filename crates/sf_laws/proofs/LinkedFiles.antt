@@ -1,5 +1,5 @@
 -- A link that is told OK names a file by a further path.
-use Rattle.std.proofs.Common.{◌≡◌, ℕ, Bool, true, false, cond, nat_le, ◌+◌, ◌<◌, List, [], ◌∷◌, Option, Some, None, refl, ap, ◌∙◌}
+use Rattle.std.proofs.Common.{◌≡◌, ℕ, Bool, true, false, cond, nat_le, ◌+◌, List, [], ◌∷◌, Option, Some, None, refl, ap, ◌∙◌}
 use Rattle.std.specs.Ordering.{is_eq}
 use Rattle.std.specs.Cmp.{tied_itself}
 use Rattle.std.specs.BTreeMap.{insert_entry}
@@ -7,7 +7,7 @@ use Rattle.std.proofs.lemmas.Bool.{leb-false}
 use Rattle.sf_path.specs.Names.{Path}
 use Rattle.sf_path.specs.Order.{path_cmp, path_total, parent}
 use Rattle.sf_reply.specs.declared.reply.Reply.TheVariants as reply
-use Rattle.sf_reply.specs.declared.reply.StatusCode.TheVariants.{Success, NoSuchFile, Failure}
+use Rattle.sf_reply.specs.declared.reply.StatusCode.TheVariants.{Success, Failure}
 use Rattle.sf_call.specs.declared.limits.TheConstants.{MAX_LINKS}
 use Rattle.sf_call.specs.declared.metadata.Metadata.{Metadata}
 use Rattle.sf_call.specs.declared.request.Request.TheVariants.{Link}
@@ -22,7 +22,7 @@ use Rattle.sf_call.specs.Calls.{Answer, answer_to, refuses, succeeds, unless_roo
 use Rattle.sf_call.proofs.Laws.{lookup-put, place_label, place_free, is_link_itself, links_more}
 use Rattle.sf_laws.specs.Linked.{IsLinked}
 
-names_touched : (t : Tree) (moment : ℕ) (at : Option (ℕ × Metadata)) → (done t (touch moment at)).names ≡ t.names
+pub names_touched : (t : Tree) (moment : ℕ) (at : Option (ℕ × Metadata)) → (done t (touch moment at)).names ≡ t.names
 names_touched t moment None = refl
 names_touched t moment (Some e) = refl
 

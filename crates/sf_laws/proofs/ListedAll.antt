@@ -1,4 +1,5 @@
--- What stands in a directory and comes next is listed, or the listing is full of names before it, and nothing else is listed.
+-- What stands in a directory and comes next is listed, or the listing is full of names before it,
+-- and nothing else is listed.
 use Rattle.std.proofs.Common.{◌≡◌, ◌⊎◌, ℕ, zero, suc, true, false, T, cond, List, [], ◌∷◌, ◌++◌, length, take, Option, Some, None, option_map, option_and_then, inl, inr, refl, sym, ap, ◌∙◌, subst, arith}
 use Rattle.std.specs.Option.{IfSome}
 use Rattle.std.specs.List.{AllByRecursion, Contains, cons_option}

@@ -33,7 +33,7 @@ use Rattle.sf_call.specs.Changes.{changed, done, touch, touched}
 use Rattle.sf_call.specs.Changes.Change.{SetObject, NewPath, NewName, GonePath, Move, OpenHandle, SetHandle, CloseHandle}
 use Rattle.sf_call.specs.Calls.{Answer, answer_to, leave, stat, refuses_size, sets, set_stat, make_directory, remove_directory, remove_file, has_all_handles, directory_handle, file_handle, open_directory, open_present, open_file, close, stat_opened, set_opened, read, start_of, write, lists, read_directory, unless_root, moves, opening, stamp}
 use Rattle.sf_call.specs.Histories.{replay, IsLegal}
-use Rattle.sf_call.proofs.Laws.{lookup-put, object_kept, all_filtered, all_removed, all_put, all_set, found_value, holds_after, rename_cases, posix_rename_cases, link_cases, link_to_cases}
+use Rattle.sf_call.proofs.Laws.{lookup-put, object_kept, all_by, all_filtered, all_removed, all_put, all_set, found_value, holds_after, rename_cases, posix_rename_cases, link_cases, link_to_cases}
 
 -- the handles of a session
 abbrev pub is_of_session : ℕ → ℕ × Handle → Bool
@@ -105,10 +105,6 @@ count_filtered session test (e ∷ es) =
     ]
 
 -- ---- objects
-
-all_by : {X : Type 0} (P Q : X → Type 0) (xs : List X) → ((x : X) → P x → Q x) → AllByRecursion P xs → AllByRecursion Q xs
-all_by P Q [] more all = tt
-all_by P Q (x ∷ xs) more all = (more x all.0, all_by P Q xs more all.1)
 
 still_set : {X : Type 0} (at test : ℕ → Bool) (es : List (ℕ × X)) (w : X) → IsSome (lookup at es) → IsSome (lookup at (set_value test es w))
 still_set at test [] w some = some

@@ -9,7 +9,7 @@ use Rattle.sf_reply.specs.declared.reply.Reply.TheVariants as reply
 use Rattle.sf_reply.specs.declared.reply.StatusCode.{StatusCode}
 use Rattle.sf_reply.specs.declared.reply.StatusCode.TheVariants.{Success, NoSuchFile, Failure}
 use Rattle.sf_call.specs.declared.request.Request.{Request}
-use Rattle.sf_call.specs.declared.request.Request.TheVariants.{Stat, Mkdir, Open, Rename, PosixRename}
+use Rattle.sf_call.specs.declared.request.Request.TheVariants.{Stat, Mkdir, Open, Rename, PosixRename, Link}
 use Rattle.sf_call.specs.declared.record.Record.{Record}
 use Rattle.sf_call.specs.declared.record.Record.TheVariants.{Did, Left}
 use Rattle.sf_call.specs.declared.metadata.Metadata.{Metadata}
@@ -84,7 +84,8 @@ refused tree code = record { reply = reply.Status code; tree = tree }
 abbrev pub told : Tree → Attrs → Applied
 told tree attrs = record { reply = reply.Attrs attrs; tree = tree }
 
--- a directory is made, another one not for want of memory and then not found, and the session leaves
+-- a directory is made, another one not for want of memory and then not found, and the session
+-- leaves
 abbrev pub history : List Record
 history =
     Did 7 1 100 (Mkdir (a ∷ []) no_attrs) (reply.Status Success)
@@ -168,6 +169,10 @@ of_five = tree_after empty_tree 1 (Mkdir (a ∷ []) no_attrs ∷ Mkdir (a ∷ b 
 abbrev pub renames : Path → Path → List Reply
 renames old new =
     (call of_five (Rename old new)).reply ∷ (call of_five (PosixRename old new)).reply ∷ []
+
+-- and to a link
+abbrev pub linking : Path → Path → Reply
+linking old new = (call of_five (Link old new)).reply
 
 -- a file's attributes as it was made and modified at the moment 100
 abbrev pub file_attrs : ℕ → Attrs

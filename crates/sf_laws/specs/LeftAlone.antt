@@ -20,7 +20,8 @@ IsOfPath (OpenHandle number handle) path = ⊥
 IsOfPath (SetHandle number handle) path = ⊥
 IsOfPath (CloseHandle number) path = ⊥
 
--- the label whose object may be another; an object that nothing names or opens any more is let go of beside
+-- the label whose object may be another; an object that nothing names or opens any more is let go
+-- of beside
 abbrev pub IsOfLabel : Change → ℕ → Type 0
 IsOfLabel (SetObject set object) label = label ≡ set
 IsOfLabel (NewPath path new object) label = label ≡ new

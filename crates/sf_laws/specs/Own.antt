@@ -1,4 +1,5 @@
--- What is a request's own: what its path or its handle leads to. It changes nothing else but the object that it makes.
+-- What is a request's own: what its path or its handle leads to. It changes nothing else but the
+-- object that it makes.
 use Rattle.std.specs.Prelude.{◌≡◌, ◌⊎◌, ℕ, Option, Some, IsSome}
 use Rattle.sf_path.specs.Names.{Path}
 use Rattle.sf_path.specs.Order.{parent}

@@ -3,13 +3,13 @@
 ghost use Rattle.std.specs.Prelude.{◌≡◌, [], ◌∷◌, ◌++◌, true, false, map, drop, replicate, codes, Some, None};
 ghost use Rattle.sf_reply.specs.declared.reply.Reply.TheVariants as reply;
 ghost use Rattle.sf_reply.specs.declared.reply.StatusCode.TheVariants.{Success, EndOfFile, NoSuchFile, PermissionDenied, Failure};
-ghost use Rattle.sf_call.specs.declared.request.Request.TheVariants.{Stat, SetStat, Mkdir, Rmdir, Remove, OpenDir, Open, Close, FStat, FSetStat, Read, Write, ReadDir, Rename, PosixRename};
+ghost use Rattle.sf_call.specs.declared.request.Request.TheVariants.{Stat, SetStat, Mkdir, Rmdir, Remove, OpenDir, Open, Close, FStat, FSetStat, Read, Write, ReadDir, Rename, PosixRename, Link};
 ghost use Rattle.sf_call.specs.declared.record.Record.TheVariants.{Did};
 ghost use Rattle.sf_call.specs.Attributes.Object.{Directory};
 ghost use Rattle.sf_call.specs.Tree.{empty_tree};
 ghost use Rattle.sf_call.specs.Calls.{apply};
 ghost use Rattle.sf_call.specs.Histories.{IsLegal, replay};
-ghost use Rattle.sf_laws.specs.Examples.{a, b, no_attrs, all_attrs, metadata, tree_with, touched_root, with_directory, with_file, call, refused, told, history, replies, replies_of_another, tree_after, ok, failed, absent, sized, flags, exclusively, truncating, f, g, new_file, of_five, renames, file_attrs, numbered, up_to_32, names_in, by_owner, at_times};
+ghost use Rattle.sf_laws.specs.Examples.{a, b, no_attrs, all_attrs, metadata, tree_with, touched_root, with_directory, with_file, call, refused, told, history, replies, replies_of_another, tree_after, ok, failed, absent, sized, flags, exclusively, truncating, f, g, new_file, of_five, renames, linking, file_attrs, numbered, up_to_32, names_in, by_owner, at_times};
 ghost use Rattle.sf_path.specs.Names.{slash};
 ghost use Rattle.sf_path.specs.Normal.{fault_of};
 ghost use Rattle.sf_path.specs.declared.fault.PathFault.TheVariants.{TooLong, NameTooLong};
@@ -153,7 +153,8 @@ pub fn handle_cases()
         (FStat 1 ∷ FSetStat 1 no_attrs ∷ Read 1 0 10 ∷ Write 1 0 [] ∷ ReadDir 2 ∷ Close 1 ∷ Close 2
         ∷ [])
         ≡ replicate 7 (reply.Status Failure) }
-    // A session has 128 handles open; the next one is refused until one is closed, and another session has 128 of its own.
+    // A session has 128 handles open; the next one is refused until one is closed, and another
+    // session has 128 of its own.
     ensures most { drop 127 (replies (replicate 128 (OpenDir [])
         ++ OpenDir [] ∷ new_file f ∷ Close 1 ∷ OpenDir [] ∷ []))
         ≡ reply.Handle 128 ∷ reply.Status Failure ∷ reply.Status Failure ∷ ok ∷ reply.Handle 132
@@ -236,4 +237,53 @@ pub fn move_cases()
     ensures listed { map names_in (replies (Mkdir (a ∷ []) no_attrs ∷ Mkdir (a ∷ f ∷ []) no_attrs
         ∷ OpenDir (a ∷ []) ∷ Rename (a ∷ []) (b ∷ []) ∷ ReadDir 3 ∷ []))
         ≡ [] ∷ [] ∷ [] ∷ [] ∷ (f ∷ []) ∷ [] }
+{}
+
+/// Links, in the order in which one is refused; and what a link leaves.
+pub fn link_cases()
+    ensures root { linking [] (a ∷ f ∷ []) ∷ linking (f ∷ []) [] ∷ linking (a ∷ a ∷ []) [] ∷ []
+        ≡ replicate 3 failed }
+    ensures absent { linking (a ∷ a ∷ []) (b ∷ f ∷ []) ∷ linking (f ∷ a ∷ []) (b ∷ f ∷ [])
+        ∷ linking (a ∷ a ∷ []) (a ∷ a ∷ []) ∷ linking (a ∷ a ∷ []) (g ∷ []) ∷ []
+        ≡ replicate 4 absent }
+    ensures directory { linking (a ∷ []) (b ∷ a ∷ []) ∷ linking (a ∷ []) (a ∷ f ∷ [])
+        ∷ linking (a ∷ []) (f ∷ f ∷ []) ∷ [] ≡ replicate 3 failed }
+    // New lies below a file, below nothing, and below old.
+    ensures bad_way { linking (f ∷ []) (g ∷ f ∷ []) ∷ linking (f ∷ []) (b ∷ b ∷ f ∷ [])
+        ∷ linking (f ∷ []) (f ∷ g ∷ []) ∷ [] ≡ replicate 3 absent }
+    ensures present { linking (f ∷ []) (g ∷ []) ∷ linking (f ∷ []) (f ∷ [])
+        ∷ linking (f ∷ []) (a ∷ []) ∷ [] ≡ replicate 3 failed }
+    // Old lies in new.
+    ensures around { replies (Mkdir (a ∷ []) no_attrs
+        ∷ Open (a ∷ f ∷ []) (flags true true false true) no_attrs ∷ Link (a ∷ f ∷ []) (a ∷ [])
+        ∷ []) ≡ ok ∷ reply.Handle 2 ∷ failed ∷ [] }
+    ensures made { (call of_five (Link (f ∷ []) (a ∷ f ∷ []))).reply ≡ ok }
+    ensures names { (call of_five (Link (f ∷ []) (a ∷ f ∷ []))).tree.names
+        ≡ ([], 0) ∷ (a ∷ [], 1) ∷ (a ∷ b ∷ [], 2) ∷ (a ∷ f ∷ [], 4) ∷ (b ∷ [], 3) ∷ (f ∷ [], 4)
+        ∷ (g ∷ [], 5) ∷ [] }
+    // New's parent is modified, and nothing else.
+    ensures objects { (call of_five (Link (f ∷ []) (a ∷ f ∷ []))).tree.objects
+        ≡ (0, Directory (metadata 0 0 0o755 0 100)) ∷ (1, Directory (metadata 0 0 0o755 100 300))
+        ∷ (2, Directory (metadata 0 0 0o755 100 100)) ∷ (3, Directory (metadata 0 0 0o755 100 100))
+        ∷ (4, File (metadata 0 0 0o644 100 100) []) ∷ (5, File (metadata 0 0 0o644 100 100) [])
+        ∷ [] }
+    // What is done by one name is seen by the other, which stays when the first one goes.
+    ensures shared { replies (new_file f ∷ Link (f ∷ []) (g ∷ []) ∷ Write 1 0 (codes "abc")
+        ∷ Stat (g ∷ []) ∷ SetStat (g ∷ []) (sized 2) ∷ Read 1 0 10 ∷ Remove (f ∷ []) ∷ Close 1
+        ∷ Stat (g ∷ []) ∷ Remove (g ∷ []) ∷ Stat (g ∷ []) ∷ [])
+        ≡ reply.Handle 1 ∷ ok ∷ ok ∷ reply.Attrs (file_attrs 3) ∷ ok ∷ reply.Data (codes "ab") ∷ ok
+        ∷ ok ∷ reply.Attrs (file_attrs 2) ∷ ok ∷ absent ∷ [] }
+    ensures listed { replies (new_file f ∷ Link (f ∷ []) (g ∷ []) ∷ OpenDir [] ∷ ReadDir 3
+        ∷ Remove (f ∷ []) ∷ OpenDir [] ∷ ReadDir 6 ∷ [])
+        ≡ reply.Handle 1 ∷ ok ∷ reply.Handle 3 ∷ reply.Names
+        (entry_of f 2 (File (metadata 0 0 0o644 100 100) [])
+        ∷ entry_of g 2 (File (metadata 0 0 0o644 100 100) []) ∷ [])
+        ∷ ok ∷ reply.Handle 6
+        ∷ reply.Names (entry_of g 1 (File (metadata 0 0 0o644 100 100) []) ∷ []) ∷ [] }
+    // Both are one file's: a posix-rename does nothing, and what is there is in a rename's and a
+    // link's way.
+    ensures one_file { replies (new_file f ∷ Link (f ∷ []) (g ∷ []) ∷ PosixRename (f ∷ []) (g ∷ [])
+        ∷ Rename (f ∷ []) (g ∷ []) ∷ Link (f ∷ []) (g ∷ []) ∷ Stat (f ∷ []) ∷ Stat (g ∷ []) ∷ [])
+        ≡ reply.Handle 1 ∷ ok ∷ ok ∷ failed ∷ failed ∷ reply.Attrs (file_attrs 0)
+        ∷ reply.Attrs (file_attrs 0) ∷ [] }
 {}

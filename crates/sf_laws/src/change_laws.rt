@@ -2,28 +2,30 @@
 
 ghost use Rattle.std.specs.Prelude.{◌≡◌, ◌≢◌, ◌<◌, ℕ, true, List, [], ◌∷◌, Some, None, IsSome};
 ghost use Rattle.sf_call.specs.declared.request.Request.{Request};
-ghost use Rattle.sf_call.specs.declared.request.Request.TheVariants.{Stat, SetStat, FStat, FSetStat, Read, Write, Rename, PosixRename, Link};
+ghost use Rattle.sf_call.specs.declared.request.Request.TheVariants.{Stat, SetStat, Remove, OpenDir, Open, FStat, FSetStat, Read, Write, Rename, PosixRename, Link};
 ghost use Rattle.sf_call.specs.declared.record.Record.{Record};
 ghost use Rattle.sf_path.specs.Names.{Name, Path};
 ghost use Rattle.sf_path.specs.Order.{parent};
 ghost use Rattle.sf_call.specs.declared.metadata.Metadata.{Metadata};
-ghost use Rattle.sf_call.specs.Tree.{Tree, label_at, object_of, handle_of, is_used, kept, after_front};
+ghost use Rattle.sf_call.specs.Tree.{Tree, label_at, object_of, handle_of, links, is_directory, is_used, kept, after_front};
 ghost use Rattle.sf_call.specs.Changes.{Change, changed};
 ghost use Rattle.sf_laws.specs.LeftAlone.{IsOfPath, IsOfLabel, IsOfNumber};
 ghost use Rattle.sf_call.specs.Calls.{answer_to, apply, moves};
 ghost use Rattle.sf_reply.specs.declared.reply.Reply.TheVariants.{Status};
 ghost use Rattle.sf_reply.specs.declared.reply.StatusCode.{StatusCode};
 ghost use Rattle.sf_reply.specs.declared.reply.StatusCode.TheVariants.{Success};
+ghost use Rattle.sf_field.specs.declared.attrs.Attrs.{Attrs};
+ghost use Rattle.sf_field.specs.declared.open_flags.OpenFlags.{OpenFlags};
 ghost use Rattle.sf_field.specs.Attributes.{no_attrs};
 ghost use Rattle.sf_call.specs.Attributes.{Object, modified_at};
 ghost use Rattle.sf_call.specs.Attributes.Object.{Directory};
 ghost use Rattle.sf_laws.specs.Own.{IsOneOf, IsEntryOf, IsOwnPath, IsOwnObject, IsOwnHandle};
-ghost use Rattle.sf_laws.specs.Linked.{IsLinked};
+ghost use Rattle.sf_laws.specs.Linked.{NameOne, IsLinked, IsRemoved};
 ghost use Rattle.sf_call.specs.Allowed.{IsMove, kind_of};
 ghost use Rattle.sf_call.specs.Histories.{replay, IsNewNumber, IsLegal};
 
-/// What is not a request's own it leaves alone: the labels of other paths, other handles, and other objects, which at most
-/// are let go of.
+/// What is not a request's own it leaves alone: the labels of other paths, other handles, and other
+/// objects, which at most are let go of.
 pub fn own_changes()
     ensures paths { (tree : Tree) (session number moment : ℕ) (request : Request) (path : Path)
         → ¬ IsOwnPath request path
@@ -40,8 +42,9 @@ pub fn own_changes()
         ≡ object_of tree.objects label }
 {}
 
-/// What each kind of change leaves alone: other paths keep their labels, other numbers their handles, and other labels
-/// their objects, which go only where nothing names or opens them any more.
+/// What each kind of change leaves alone: other paths keep their labels, other numbers their
+/// handles, and other labels their objects, which go only where nothing names or opens them any
+/// more.
 pub fn left_alone()
     ensures paths { (tree : Tree) (change : Change) (path : Path) → ¬ IsOfPath change path
         → label_at (changed tree change).names path ≡ label_at tree.names path }
@@ -55,7 +58,8 @@ pub fn left_alone()
         → object_of (changed tree change).objects label ≡ object_of tree.objects label }
 {}
 
-/// Of a directory in which a request makes or removes a name nothing changes, but the moment at which it was modified.
+/// Of a directory in which a request makes or removes a name nothing changes, but the moment at
+/// which it was modified.
 pub fn parents_stay()
     ensures { (tree : Tree) (session number moment label : ℕ) (request : Request) (path : Path)
         (m : Metadata) → IsEntryOf request path → label ≢ number
@@ -72,7 +76,8 @@ pub fn refusals_change_nothing()
         → (apply tree session number moment request).tree ≡ tree }
 {}
 
-/// STAT, FSTAT and READ leave the tree as it was; so do SETSTAT and FSETSTAT with no part given, and WRITE of no bytes.
+/// STAT, FSTAT and READ leave the tree as it was; so do SETSTAT and FSETSTAT with no part given,
+/// and WRITE of no bytes.
 pub fn idle_calls()
     ensures stat { (tree : Tree) (session number moment : ℕ) (path : Path)
         → (apply tree session number moment (Stat path)).tree ≡ tree }
@@ -88,7 +93,8 @@ pub fn idle_calls()
         → (apply tree session number moment (Write handle offset [])).tree ≡ tree }
 {}
 
-/// What was a directory stays one, and what was a file: a request that may come next changes no object's kind.
+/// What was a directory stays one, and what was a file: a request that may come next changes no
+/// object's kind.
 pub fn kinds_stay()
     ensures { (history : List Record) (number session moment label : ℕ) (request : Request)
         (before after : Object) → IsLegal history → 0 < number → IsNewNumber number history
@@ -98,7 +104,8 @@ pub fn kinds_stay()
         → kind_of after ≡ kind_of before }
 {}
 
-/// After a legal history each object is named or open, so that letting go of others changes nothing.
+/// After a legal history each object is named or open, so that letting go of others changes
+/// nothing.
 pub fn nothing_unused()
     ensures named_or_open { (history : List Record) (label : ℕ) → IsLegal history
         → IsSome (object_of (replay history).objects label)
@@ -107,7 +114,8 @@ pub fn nothing_unused()
         → kept (replay history) ≡ replay history }
 {}
 
-/// After a legal history a rename moves where a move may be made, the plain one to a path that is free.
+/// After a legal history a rename moves where a move may be made, the plain one to a path that is
+/// free.
 pub fn moving_renames()
     ensures plain { (history : List Record) (session number moment : ℕ) (old new : Path)
         → IsLegal history → IsMove (replay history) old new
@@ -120,7 +128,8 @@ pub fn moving_renames()
         ≡ moves (replay history) moment old new }
 {}
 
-/// Where a move may be made, it may be made after a request whose own paths all lie below the old one.
+/// Where a move may be made, it may be made after a request whose own paths all lie below the old
+/// one.
 pub fn still_moves()
     ensures { (history : List Record) (number session moment : ℕ) (request : Request)
         (old new : Path)
@@ -131,10 +140,54 @@ pub fn still_moves()
         → IsMove (apply (replay history) session number moment request).tree old new }
 {}
 
-/// A link that is told OK names the file at the old path by the new one too, which named nothing; so one path more names
-/// it, and never more than 1024.
+/// A link that is told OK names the file at the old path by the new one too, which named nothing;
+/// so one path more names it, and never more than 1024.
 pub fn linked_files()
     ensures { (tree : Tree) (session number moment : ℕ) (old new : Path)
         → (apply tree session number moment (Link old new)).reply ≡ Status Success
         → IsLinked tree (apply tree session number moment (Link old new)).tree old new }
+{}
+
+/// After a legal history two paths that name one object are answered alike, and change the same: so
+/// what is set or opened by one of them is set or opened for the other. They name one object as
+/// long as no request makes, removes or moves one of them.
+pub fn names_of_one_file()
+    ensures stat { (history : List Record) (session number moment : ℕ) (path other : Path)
+        → IsLegal history → NameOne (replay history) path other
+        → answer_to (replay history) session number moment (Stat path)
+        ≡ answer_to (replay history) session number moment (Stat other) }
+    ensures set_stat { (history : List Record) (session number moment : ℕ) (attrs : Attrs)
+        (path other : Path) → IsLegal history → NameOne (replay history) path other
+        → answer_to (replay history) session number moment (SetStat path attrs)
+        ≡ answer_to (replay history) session number moment (SetStat other attrs) }
+    ensures open { (history : List Record) (session number moment : ℕ) (flags : OpenFlags)
+        (attrs : Attrs) (path other : Path) → IsLegal history
+        → NameOne (replay history) path other
+        → answer_to (replay history) session number moment (Open path flags attrs)
+        ≡ answer_to (replay history) session number moment (Open other flags attrs) }
+    ensures open_directory { (history : List Record) (session number moment : ℕ)
+        (path other : Path) → IsLegal history → NameOne (replay history) path other
+        → answer_to (replay history) session number moment (OpenDir path)
+        ≡ answer_to (replay history) session number moment (OpenDir other) }
+    ensures still { (tree : Tree) (session number moment : ℕ) (request : Request)
+        (path other : Path) → NameOne tree path other → ¬ IsOwnPath request path
+        → ¬ IsOwnPath request other
+        → NameOne (apply tree session number moment request).tree path other }
+{}
+
+/// After a legal history a REMOVE that is told OK takes one path from its file, which stays as it
+/// was while a path or a handle is left.
+pub fn removed_names()
+    ensures { (history : List Record) (session number moment : ℕ) (path : Path) → IsLegal history
+        → (apply (replay history) session number moment (Remove path)).reply ≡ Status Success
+        → IsRemoved (replay history)
+        (apply (replay history) session number moment (Remove path)).tree path }
+{}
+
+/// After a legal history one path names each directory that is named.
+pub fn directory_links()
+    ensures { (history : List Record) (path : Path) (label : ℕ) → IsLegal history
+        → is_directory (replay history) path ≡ true
+        → label_at (replay history).names path ≡ Some label
+        → links (replay history).names label ≡ 1 }
 {}

@@ -15,7 +15,8 @@ ghost use Rattle.sf_field.specs.declared.open_flags.OpenFlags.{OpenFlags};
 ghost use Rattle.sf_laws.specs.NewHandles.{IsJustOpened, allowing};
 ghost use Rattle.sf_reply.specs.declared.reply.Reply.TheVariants.{Handle};
 
-/// A handle that a call opens is the calling session's, to what the path names, with the marks that were asked for.
+/// A handle that a call opens is the calling session's, to what the path names, with the marks that
+/// were asked for.
 pub fn new_handles()
     ensures directory { (tree : Tree) (session number moment given : ℕ) (path : Path)
         → (apply tree session number moment (OpenDir path)).reply ≡ Handle given
@@ -35,8 +36,8 @@ pub fn open_handles()
         → IsSome (object_of (replay history).objects handle.label) }
 {}
 
-/// After a legal history no file is above the limit, no session has more handles open than it may, and each path is of
-/// names.
+/// After a legal history no file is above the limit, no session has more handles open than it may,
+/// and each path is of names.
 pub fn limits_hold()
     ensures files { (history : List Record) (label : ℕ) (m : Metadata) (contents : List ℕ)
         → IsLegal history

@@ -1,12 +1,13 @@
-//! Laws of the tree, of calls on it and of histories: what a reader may expect of a file server, said
-//! without the cases of any request; and its cases worked out. No code rests on them; of the crates above
-//! the proof of `sf_core` does, on what a request leaves alone, and so does the example of `sf_engine`.
+//! Laws of the tree, of calls on it and of histories: what a reader may expect of a file server,
+//! said without the cases of any request; and its cases worked out. No code rests on them; of the
+//! crates above the proof of `sf_core` does, on what a request leaves alone, and so does the
+//! example of `sf_engine`.
 //!
-//! The definitions are those of `sf_call`. Each function here does nothing: its contract is the law.
-//! Start with `left_alone` and `own_changes` in `change_laws.rt` (what a request may change at all), then
-//! `listed_all` (a listing is complete) and `limits_hold`. The words that they use are in `specs/Own.antt` and
-//! `specs/LeftAlone.antt`. Who wants to see single cases reads `cases.rt`, over the small trees of
-//! `specs/Examples.antt`.
+//! The definitions are those of `sf_call`. Each function here does nothing: its contract is the
+//! law. Start with `left_alone` and `own_changes` in `change_laws.rt` (what a request may change at
+//! all), then `listed_all` (a listing is complete) and `limits_hold`. The words that they use are
+//! in `specs/Own.antt` and `specs/LeftAlone.antt`. Who wants to see single cases reads `cases.rt`,
+//! over the small trees of `specs/Examples.antt`.
 #![tactic(auto)]
 
 mod cases;
@@ -16,12 +17,13 @@ mod history_laws;
 mod listing_laws;
 
 pub use cases::{
-    file_cases, handle_cases, history_cases, listing_cases, mkdir_cases, move_cases, open_cases,
-    packet_cases, path_cases, rename_cases, rmdir_cases, stat_cases,
+    file_cases, handle_cases, history_cases, link_cases, listing_cases, mkdir_cases, move_cases,
+    open_cases, packet_cases, path_cases, rename_cases, rmdir_cases, stat_cases,
 };
 pub use change_laws::{
-    idle_calls, kinds_stay, left_alone, linked_files, moving_renames, nothing_unused, own_changes,
-    parents_stay, refusals_change_nothing, still_moves,
+    directory_links, idle_calls, kinds_stay, left_alone, linked_files, moving_renames,
+    names_of_one_file, nothing_unused, own_changes, parents_stay, refusals_change_nothing,
+    removed_names, still_moves,
 };
 pub use handle_laws::{limits_hold, new_handles, open_handles};
 pub use history_laws::equal_replies;

@@ -116,7 +116,8 @@ impl PlainTree {
         }
     }
 
-    /// The tree after a session left: its handles are closed, and what nothing else names or opens is let go.
+    /// The tree after a session left: its handles are closed, and what nothing else names or opens
+    /// is let go.
     pub fn leave(&mut self, session: u64)
         ensures { self.new ≡ leave self.old session }
     {

@@ -38,7 +38,7 @@ entry_is e f p q r =
     let two : record { filename = f.filename; longname = e.longname; attrs = e.attrs } ≡ record { filename = f.filename; longname = f.longname; attrs = e.attrs } = ap (λ (n : List ℕ). record { filename = f.filename; longname = n; attrs = e.attrs }) q in
     one ∙ two ∙ ap (λ (a : Attrs). record { filename = f.filename; longname = f.longname; attrs = a }) r
 
-entry_parts : (e : Entry) (rest : List ℕ) → entry_text e ++ rest ≡ string e.filename ++ (string e.longname ++ (attrs_text e.attrs ++ rest))
+pub entry_parts : (e : Entry) (rest : List ℕ) → entry_text e ++ rest ≡ string e.filename ++ (string e.longname ++ (attrs_text e.attrs ++ rest))
 unfolding entry_text
 entry_parts e rest = append_assoc (string e.filename ++ string e.longname) (attrs_text e.attrs) rest ∙ append_assoc (string e.filename) (string e.longname) (attrs_text e.attrs ++ rest)
 

@@ -16,16 +16,12 @@ use Rattle.sf_field.specs.Fields.{be32, be64, string}
 use Rattle.sf_field.specs.Attributes.{attrs_text, AttrsFit}
 use Rattle.sf_field.specs.Reading.{◌>>=◌, Gives, number_at, string_at, sent_attrs_at}
 use Rattle.sf_field.proofs.Laws.{IsBytes, IsBytes-rest, IsBytes-take, IsBytes-drop, bind_some, some_is, Takes, Takes-then, Takes-none, Reads, reads_u32, reads_u64, reads_string}
-use Rattle.sf_field.proofs.Laws.{reads_sent_attrs}
+use Rattle.sf_field.proofs.Laws.{reads_sent_attrs, both}
+use Rattle.sf_reply.proofs.OneReply.{entry_parts}
 use Rattle.sf_reply.specs.Replies.{number_of, message_of, status_text, handle_text, entry_text, names_text, kind_of_reply, fields_of, EntryFits, ReplyFits}
 use Rattle.sf_reply.specs.Reading.{IsReply, whole, code_of, status_with, status_of, status_at, handle_at, entry_at, entries_at, names_at, reply_fields_at, reply_at}
 
 -- ---- values with nothing after them
-
-both : (a b : Bool) → (a && b) ≡ true → (a ≡ true) × (b ≡ true)
-both true true e = (refl, refl)
-both true false e = absurd cc
-both false b e = absurd cc
 
 -- a test that did not fail
 test_some : {A : Type 0} (b : Bool) (o : Option A) (x : A) → cond b o None ≡ Some x → (b ≡ true) × (o ≡ Some x)
@@ -99,10 +95,6 @@ entry_takes bytes entry rest fits e =
     let found : Entry = record { filename = a.0.0; longname = b.0.0; attrs = c.0.0 } in
     subst (λ (p : Entry × List ℕ). Takes bytes (string p.0.filename ++ string p.0.longname ++ attrs_text p.0.attrs) p.1 × EntryFits p.0) (some_is (found, c.0.1) (entry, rest) c.2)
     (Takes-then bytes (string a.0.0 ++ string b.0.0) b.0.1 (attrs_text c.0.0) c.0.1 (Takes-then bytes (string a.0.0) a.0.1 (string b.0.0) b.0.1 t.0 u.0) v.0, record { filename = t.1; longname = u.1; attrs = v.1 })
-
-entry_parts : (e : Entry) (rest : List ℕ) → entry_text e ++ rest ≡ string e.filename ++ (string e.longname ++ (attrs_text e.attrs ++ rest))
-unfolding entry_text
-entry_parts e rest = append_assoc (string e.filename ++ string e.longname) (attrs_text e.attrs) rest ∙ append_assoc (string e.filename) (string e.longname) (attrs_text e.attrs ++ rest)
 
 entry_again : (entry : Entry) (rest : List ℕ) → EntryFits entry → entry_at (entry_text entry ++ rest) ≡ Some (entry, rest)
 unfolding entry_at

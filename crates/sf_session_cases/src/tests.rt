@@ -16,6 +16,18 @@ const INIT: &[u8] = b"\0\0\0\x05\x01\0\0\0\x03";
 /// STAT of `/a`, under the id 8.
 const STAT: &[u8] = b"\0\0\0\x0b\x11\0\0\0\x08\0\0\0\x02/a";
 
+/// A link of `/f` to `/g`, under the id 4.
+const LINK: &[u8] =
+    b"\0\0\0\x29\xc8\0\0\0\x04\0\0\0\x14hardlink@openssh.com\0\0\0\x02/f\0\0\0\x02/g";
+
+/// A link without its second path, under the id 4.
+const SHORT_LINK: &[u8] =
+    b"\0\0\0\x23\xc8\0\0\0\x04\0\0\0\x14hardlink@openssh.com\0\0\0\x02/f";
+
+/// A link to a path with the byte 0, under the id 4.
+const LINK_TO_NUL: &[u8] =
+    b"\0\0\0\x29\xc8\0\0\0\x04\0\0\0\x14hardlink@openssh.com\0\0\0\x02/f\0\0\0\x02/\0";
+
 /// READLINK, under the id 9.
 const READLINK: &[u8] = b"\0\0\0\x0b\x13\0\0\0\x09\0\0\0\x02/a";
 
@@ -61,14 +73,22 @@ fn is_drained(rt: &impl Abort, session: &Session, want: bool) {
     assert!(rt; session.is_drained() == want);
 }
 
-/// A session that was asked STAT of `/a`, and waits.
-fn waiting(rt: &impl Abort, alloc: Global) -> Session
-    ensures { IsSome result.waiting }
+/// A session after INIT, with VERSION taken.
+fn begun(rt: &impl Abort, alloc: Global) -> Session
+    ensures { result.waiting ≡ None }
 {
     let mut session = Session::new(alloc);
     feeds(rt, &mut session, INIT);
     answers_itself(rt, &mut session);
     assert!(rt; session.take_output().as_slice() == VERSION);
+    session
+}
+
+/// A session that was asked STAT of `/a`, and waits.
+fn waiting(rt: &impl Abort, alloc: Global) -> Session
+    ensures { IsSome result.waiting }
+{
+    let mut session = begun(rt, alloc);
     feeds(rt, &mut session, STAT);
     let next = session.next();
     let Ok(Next::Call(Request::Stat(path))) = next else {
@@ -122,6 +142,32 @@ fn an_answer_is_appended(rt: HostRuntime) -> Result<(), Fail> {
     has_output(&rt, &session, want);
     wants_more(&rt, &mut session);
     Ok(())
+}
+
+#[test]
+fn a_link_is_a_call(rt: HostRuntime) {
+    let alloc = rt.alloc();
+    let mut session = begun(&rt, alloc);
+    feeds(&rt, &mut session, LINK);
+    let next = session.next();
+    let Ok(Next::Call(Request::Link(old, new))) = next else {
+        panic!(rt; "no link");
+    };
+    assert!(rt; Path::parse(alloc, b"/f") == Ok(old));
+    assert!(rt; Path::parse(alloc, b"/g") == Ok(new));
+}
+
+#[test]
+fn a_link_that_is_no_call(rt: HostRuntime) {
+    let bad_message: &[u8] =
+        b"\0\0\0\x1c\x65\0\0\0\x04\0\0\0\x05\0\0\0\x0bBad message\0\0\0\0";
+    let failure: &[u8] = b"\0\0\0\x18\x65\0\0\0\x04\0\0\0\x04\0\0\0\x07Failure\0\0\0\0";
+    for (packet, want) in [(SHORT_LINK, bad_message), (LINK_TO_NUL, failure)] {
+        let mut session = begun(&rt, rt.alloc());
+        feeds(&rt, &mut session, packet);
+        answers_itself(&rt, &mut session);
+        has_output(&rt, &session, want);
+    }
 }
 
 #[test]

@@ -1,5 +1,5 @@
 -- What a link comes to, in the store and in the tree that it keeps.
-use Rattle.std.specs.Prelude.{◌≡◌, ◌≢◌, ◌<◌, ◌≤◌, ℕ, nat_eq, nat_lt, nat_le, Bool, true, false, cond, not, ◌||◌, List, [], ◌∷◌, ◌++◌, length, is_some, option_map, option_and_then, Option, Some, None, refl}
+use Rattle.std.specs.Prelude.{◌≡◌, ◌<◌, ◌≤◌, ℕ, nat_eq, nat_lt, nat_le, true, false, cond, ◌||◌, [], ◌∷◌, ◌++◌, length, is_some, option_map, option_and_then, Option, Some, None, refl}
 use Rattle.std.specs.Option.{option_map_or}
 use Rattle.std.proofs.Common.{sym, ap, subst, ◌∙◌, arith, length-append, append-nil, eq-eqb, eqb-true}
 use Rattle.std.proofs.lemmas.Bool.{leb-false, lt-ltb, ltb-true, ltb-false}
@@ -14,10 +14,10 @@ use Rattle.sf_call.specs.declared.place.Place.{Place}
 use Rattle.sf_call.specs.declared.place.Place.TheVariants as place
 use Rattle.sf_call.specs.Attributes.{Object, modified_at}
 use Rattle.sf_call.specs.Tree.{Tree, Found, after_front, links, place_at, found_at}
-use Rattle.sf_call.specs.Tree.Found.{Nowhere, Nothing, DirectoryAt, FileAt}
+use Rattle.sf_call.specs.Tree.Found.{Nowhere, Nothing}
 use Rattle.sf_call.specs.Changes.{changed, done, touched}
 use Rattle.sf_call.specs.Changes.Change.{NewName}
-use Rattle.sf_call.specs.Calls.{Answer, refuses, succeeds, tells, link_to, link, unless_root}
+use Rattle.sf_call.specs.Calls.{Answer, refuses, succeeds, link_to, link, unless_root}
 use Rattle.sf_call.proofs.Laws.{append-after_front}
 use Rattle.sf_inode.specs.declared.node.Node.{Node}
 use Rattle.sf_inode.specs.declared.node.Content.{Content}
@@ -30,12 +30,12 @@ use Rattle.sf_keeps.proofs.Laws.{walk-append, file_in_way, reached_node, place_f
 use Rattle.sf_walk.specs.declared.finding.Located.TheVariants as located
 use Rattle.sf_walk.specs.Ways.{are_nested, last_of, way_from, found_content, found_node}
 use Rattle.sf_walk.specs.Served.{IsCarriedOut}
-use Rattle.sf_walk.specs.Links.{nested_code, MayName, IsMade}
+use Rattle.sf_walk.specs.Links.{nested_code, IsMade}
 use Rattle.sf_walk.proofs.Fits.{no_way, name_missing, node_at}
 use Rattle.sf_walk.proofs.PathCalls.{found_no_way, found_missing}
 use Rattle.sf_walk.proofs.Courses.{AreNoRoots, past_roots}
 use Rattle.sf_walk.proofs.LastNames.{last_is}
-use Rattle.sf_walk.proofs.Parents.{touches, shown_directory}
+use Rattle.sf_walk.proofs.Parents.{touches}
 
 file_content : (c : Content) → is_directory_content c ≡ false → is_file_content c ≡ true
 file_content (content.Directory es) e = cc

@@ -1,4 +1,5 @@
--- The directory that the last name of a path stands in: it gets a name or loses one, and is modified.
+-- The directory that the last name of a path stands in: it gets a name or loses one, and is
+-- modified.
 use Rattle.std.specs.Prelude.{◌≡◌, ◌≢◌, ℕ, ◌<◌, true, false, List, [], ◌∷◌, ◌++◌, length, option_map, option_and_then, Option, Some, None, refl}
 use Rattle.std.specs.Option.{option_map_or}
 use Rattle.std.proofs.Common.{sym, ap, subst, ◌∙◌, inl, inr, arith}

@@ -32,16 +32,18 @@ pub record MayName (s : StoreState) (new : Path) (node into : ℕ) : Type 0 wher
   pub directory : is_directory_at s.nodes into ≡ true
   pub free : entry_of s.nodes into last ≡ None
 
--- what is told is the tree's answer, or the answer is the link and it may be made
-pub record IsMade (s : StoreState) (t : Tree) (moment : ℕ) (new : Path) (answer : Answer) (node into : ℕ) : Type 0 where
+-- The answer is the link, and it may be made.
+pub record IsMade (s : StoreState) (t : Tree) (moment : ℕ) (new : Path) (answer : Answer)
+    (node into : ℕ) : Type 0 where
   pub may : MayName s new node into
   pub is : answer ≡ succeeds (NewName new may.it.label ∷ touched t moment (parent new))
 
+-- what is told is the tree's answer, and what isn't told is a link
 abbrev pub IsLinking : StoreState → Tree → ℕ → Path → Answer → LinkCourse → Type 0
 IsLinking s t moment new answer (Told code) = answer ≡ tells (reply.Status code)
 IsLinking s t moment new answer (Names node into) = IsMade s t moment new answer node into
 
--- a link names by a name
+-- the new path of a link that is made has a last name
 abbrev pub IsNamed : Path → LinkCourse → Type 0
 IsNamed new (Told code) = Unit {0}
 IsNamed new (Names node into) = 0 < length new

@@ -12,8 +12,8 @@ abbrev pub marks_of : OpenFlags → Marks
 marks_of flags =
     record { read = flags.read || not flags.write; write = flags.write; append = flags.append }
 
--- what is to be opened: by which session, under which number of a handle, in which directory and under which name there,
--- and with which marks
+-- what is to be opened: by which session, under which number of a handle, in which directory and
+-- under which name there, and with which marks
 pub record ToOpen : Type 0 where
   pub session : ℕ
   pub number : ℕ

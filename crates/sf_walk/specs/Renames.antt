@@ -16,8 +16,8 @@ may_replace nodes node target =
     if is_directory_at nodes target then is_directory_at nodes node && is_bare_at nodes target
     else not (is_directory_at nodes node)
 
--- A path's entry may move from one directory into another, not below itself: what stands at the new path is bare, and is
--- another node.
+-- A path's entry may move from one directory into another, not below itself: what stands at the new
+-- path is bare, and is another node.
 pub record MayMove (s : StoreState) (old new : Path) (from into : ℕ) : Type 0 where
   pub above : Path
   pub name : Name

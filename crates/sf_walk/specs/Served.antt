@@ -40,7 +40,8 @@ pub record IsAlike (old new : StoreState) : Type 0 where
   pub root : new.root ≡ old.root
   pub sessions : new.sessions ≡ old.sessions
 
--- a node that was there has the holder and the label that it had, and a new one has such as are told
+-- a node that was there has the holder and the label that it had, and a new one has such as are
+-- told
 abbrev pub IsAsBefore : (Option ℕ → ℕ → Type 0) → Option Node → Node → Type 0
 IsAsBefore new None node = new node.holder node.label
 IsAsBefore new (Some was) node = (node.holder ≡ was.holder) × (node.label ≡ was.label)
@@ -53,7 +54,8 @@ pub record Stays (told : Option ℕ → ℕ → Type 0) (old new : StoreState) :
 abbrev pub HoldersStay : StoreState → StoreState → Type 0
 HoldersStay old new = Stays (λ holder label. ⊥) old new
 
--- each node has the holder and the label that it had; what is new has no holder, and the number as its label
+-- each node has the holder and the label that it had; what is new has no holder, and the number as
+-- its label
 abbrev pub NodesStay : ℕ → StoreState → StoreState → Type 0
 NodesStay number old new = Stays (λ holder label. (holder ≡ None) × (label ≡ number)) old new
 
@@ -69,7 +71,8 @@ pub record IsCarriedOut (new : StoreState) (t : Tree) (answer : Answer)
   pub told : given ≡ answer.reply
   pub tree : Keeps new (done t answer.changes)
 
--- want of memory is told: no node and no handle has changed, and the store keeps the tree that it kept
+-- want of memory is told: no node and no handle has changed, and the store keeps the tree that it
+-- kept
 pub record IsRefused (old new : StoreState) (t : Tree) (given : Reply) : Type 0 where
   pub told : given ≡ reply.NoMemory
   pub alike : IsAlike old new
@@ -89,8 +92,8 @@ abbrev pub Gives : {E : Type 0} → StoreState → Tree → Answer → Result Re
 Gives new t answer (Ok given) = IsCarriedOut new t answer given
 Gives new t answer (Err error) = is_success answer.reply ≡ true
 
--- The requests that take memory where they succeed: what is told takes it, but for a status and attributes, and so
--- does what is made, a file's bytes, and another name.
+-- The requests that take memory where they succeed: what is told takes it, but for a status and
+-- attributes, and so does what is made, a file's bytes, and another name.
 abbrev pub wants_room : Wanted → Bool
 wants_room StatusAlone = false
 wants_room Attributes = false

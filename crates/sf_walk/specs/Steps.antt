@@ -32,9 +32,9 @@ abbrev pub IsBefore : Path → Option Path → ℕ → Type 0
 IsBefore path None walked = Unit {0}
 IsBefore path (Some other) walked = (count : ℕ) × PartAt path other count × (walked < count)
 
--- A rename stands at both ends: the common directory is the last one of both ways, the end of the old
--- path goes first, and the other one stays at the common directory until the first is at the old path's
--- parent.
+-- A rename stands at both ends: the common directory is the last one of both ways, the end of the
+-- old path goes first, and the other one stays at the common directory until the first is at the
+-- old path's parent.
 pub record AreEnds (path other : Path) (common old new : Reached) : Type 0 where
   pub part : PartAt path other common.walked
   pub old_below : common.walked ≤ old.walked
@@ -91,8 +91,8 @@ pub record Next : Type 0 where
   pub after : Stage
   pub left : Option ℕ
 
--- The call takes the root, or goes one name further; a rename whose paths have parted with the end of
--- its old path up to the old path's parent, and from then on with the other.
+-- The call takes the root, or goes one name further; a rename whose paths have parted with the end
+-- of its old path up to the old path's parent, and from then on with the other.
 abbrev pub IsNext : Option Path → Option Path → Stage → Next → Type 0
 IsNext None other at next = ⊥
 IsNext (Some path) other stage.Fresh next = (next.to ≡ []) × (0 < length path)
@@ -165,8 +165,9 @@ abbrev pub EndsAt : StoreState → Path → ℕ → ℕ → Type 0
 EndsAt s path walked node = (walked + 1 ≡ length path)
     ⊎ ((walked + 1 < length path) × LeadsNowhere s node (slice_get path walked))
 
--- A call may decide: it walks no path, or the root's, or its walk ends. At a rename's ends that is once
--- the old path's ends on the way, or the new path's with the other end at the old path's parent.
+-- A call may decide: it walks no path, or the root's, or its walk ends. At a rename's ends that is
+-- once the old path's ends on the way, or the new path's with the other end at the old path's
+-- parent.
 abbrev pub MayDecideAt : StoreState → Option Path → Option Path → Stage → Type 0
 MayDecideAt s None other at = at ≡ stage.Fresh
 MayDecideAt s (Some path) other stage.Fresh = path ≡ []
@@ -176,8 +177,8 @@ MayDecideAt s (Some path) (Some other) (stage.Ends common old new) =
     ((old.walked + 1 < length path) × LeadsNowhere s old.node (slice_get path old.walked))
     ⊎ ((old.walked + 1 ≡ length path) × EndsAt s other new.walked new.node)
 
--- A node that the last name of one path leads to is not held by another call; at the root nothing is
--- asked, nor of a rename's old path once its paths have parted.
+-- A node that the last name of one path leads to is not held by another call; at the root nothing
+-- is asked, nor of a rename's old path once its paths have parted.
 abbrev pub IsFreeAt : StoreState → ℕ → Stage → Located → Type 0
 IsFreeAt s number at located.NoWay = Unit {0}
 IsFreeAt s number at (located.Missing parent) = Unit {0}
@@ -203,8 +204,8 @@ IsAtParent path stage.Fresh = ⊥
 IsAtParent path (stage.At walked node) = ⊥
 IsAtParent path (stage.Ends common old new) = old.walked + 1 ≡ length path
 
--- a rename that finds what its old path leads to, where neither path begins with the other, holds the
--- old path's parent
+-- a rename that finds what its old path leads to, where neither path begins with the other, holds
+-- the old path's parent
 abbrev pub HoldsParent : Target → Stage → Ways → Type 0
 HoldsParent (ByHandle handle) at ways = Unit {0}
 HoldsParent (OnPath path) at ways = Unit {0}

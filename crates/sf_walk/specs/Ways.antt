@@ -48,8 +48,8 @@ are_nested old new = is_some (after_front old new) || is_some (after_front new o
 abbrev pub is_rooted : Path → Path → Bool
 is_rooted old new = is_nil old || is_nil new
 
--- the path that a call walks: a request's one path, or a rename's old one, unless one of its paths is
--- the root
+-- the path that a call walks: a request's one path, or a rename's old one, unless one of its paths
+-- is the root
 abbrev pub path_at : Target → Option Path
 path_at (ByHandle handle) = None
 path_at (OnPath path) = Some path
@@ -113,8 +113,9 @@ IsThere (located.NoWay) = ⊥
 IsThere (located.Missing parent) = ⊥
 IsThere (located.At parent node) = Unit {0}
 
--- What was located is where the request's paths lead. Nothing is asked of a rename with the root, and
--- nothing of its new path where one begins with the other, or where nothing was found at the old one.
+-- What was located is where the request's paths lead. Nothing is asked of a rename with the root,
+-- and nothing of its new path where one begins with the other, or where nothing was found at the
+-- old one.
 abbrev pub AreWays : StoreState → Target → Ways → Type 0
 AreWays s (ByHandle handle) ways = Unit {0}
 AreWays s (OnPath path) ways = ways.path ≡ way_from s.nodes s.root s.root path

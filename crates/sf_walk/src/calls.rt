@@ -24,10 +24,10 @@ use sf_path::Path;
 use sf_reply::Reply;
 use std::alloc::AllocError;
 
-/// Answers a call whole, from the root on and without locks, whoever holds the nodes on its way. Its
-/// number is above 0, and no label and no handle of the tree. `NoMemory` changes nothing but the count
-/// of look-ups; it is told in place of success alone, and never where a call makes nothing, and neither
-/// gives nor takes bytes or names.
+/// Answers a call whole, from the root on and without locks, whoever holds the nodes on its way.
+/// Its number is above 0, and no label and no handle of the tree. `NoMemory` changes nothing but
+/// the count of look-ups; it is told in place of success alone, and never where a call makes
+/// nothing, and neither gives nor takes bytes or names.
 pub fn from_root(store: &mut Store, call: &Call) -> Reply
     ensures served { (t : Tree) → Keeps store.old t → IsUnused t call.now.number
         → IsRefused store.old store.new t result
@@ -64,8 +64,8 @@ pub fn from_root_twice(store: &mut Store, call: &Call) -> (Reply, Reply)
     decide(store, call, ways)
 }
 
-/// The path that a request walks: its path, or a rename's old one, unless one of a rename's paths is
-/// the root.
+/// The path that a request walks: its path, or a rename's old one, unless one of a rename's paths
+/// is the root.
 pub fn path_of(request: &Request) -> Option<&Path>
     ensures { option_copied result ≡ path_of request.now }
 {
@@ -92,8 +92,8 @@ pub fn other_of(request: &Request) -> Option<&Path>
     }
 }
 
-/// Answers a call where its paths were found to lead, without a look-up: its reply twice, once for its
-/// record. A call without a path asks nothing of what was located.
+/// Answers a call where its paths were found to lead, without a look-up: its reply twice, once for
+/// its record. A call without a path asks nothing of what was located.
 #[tactic(auto, using(crate::proofs::Refused::keeps_alike, crate::proofs::Trimmed::served_trimmed, crate::proofs::Trimmed::stays_trimmed, crate::proofs::Trimmed::looks_same))]
 #[inline(always)]
 pub fn decide(store: &mut Store, call: &Call, ways: Ways) -> (Reply, Reply)

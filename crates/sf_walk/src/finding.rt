@@ -13,8 +13,8 @@ use sf_inode::{NodeId, Store};
 use sf_path::Path;
 use sf_reply::StatusCode;
 
-/// Where a path leads: no way; a missing name of a directory; or a node, with the directory that has
-/// its entry. The root stands above itself.
+/// Where a path leads: no way; a missing name of a directory; or a node, with the directory that
+/// has its entry. The root stands above itself.
 #[derive(Clone, Copy, Debug, PartialEq, Eq)]
 pub enum Located {
     NoWay,
@@ -82,8 +82,8 @@ impl Ways {
     }
 }
 
-/// Walks a path from the root, whoever holds the nodes on it. Each of its names is looked up once at
-/// most.
+/// Walks a path from the root, whoever holds the nodes on it. Each of its names is looked up once
+/// at most.
 #[tactic(auto, using(crate::proofs::WaySteps::way_stops, crate::proofs::WaySteps::way_lacks, crate::proofs::WaySteps::way_goes, crate::proofs::WaySteps::missing_last, crate::proofs::WaySteps::missing_on, crate::proofs::WaySteps::way_ends, crate::proofs::LookUps::looked_none, crate::proofs::LookUps::looked_more, crate::proofs::LookUps::looked_less))]
 pub fn locate(store: &mut Store, path: &Path) -> Located
     ensures found { result ≡ way_from store.old.nodes store.old.root store.old.root path.now }

@@ -1,11 +1,11 @@
 //! Calls on the store of nodes, walked from name to name.
 //!
-//! Start with `decide` in `calls`: where a call's path was found to lead, it gives the reply that the tree gives
-//! which the store keeps, and leaves a store that keeps the tree after it (`IsCarriedOut`, `specs/Served.antt`).
-//! `from_root` is a walk and then `decide`; `advance` in `walking` is one step of that walk, which holds the next
-//! directory before it frees the one above (`specs/Steps.antt`). Where paths lead is `way_from` in
-//! `specs/Ways.antt`. The requests are carried out in `path_calls`, `renames`, `opening`, `handle_calls` and
-//! `listing`.
+//! Start with `decide` in `calls`: where a call's path was found to lead, it gives the reply that
+//! the tree gives which the store keeps, and leaves a store that keeps the tree after it
+//! (`IsCarriedOut`, `specs/Served.antt`). `from_root` is a walk and then `decide`; `advance` in
+//! `walking` is one step of that walk, which holds the next directory before it frees the one above
+//! (`specs/Steps.antt`). Where paths lead is `way_from` in `specs/Ways.antt`. The requests are
+//! carried out in `path_calls`, `renames`, `opening`, `handle_calls` and `listing`.
 #![tactic(auto)]
 
 mod calls;

@@ -49,7 +49,8 @@ pub(crate) fn link(
     name_anew(store, moment, new, course)
 }
 
-/// What a link comes to, where its paths lead. A file has nothing below it, and what lies before it is there.
+/// What a link comes to, where its paths lead. A file has nothing below it, and what lies before it
+/// is there.
 fn link_course(store: &Store, old: &Path, new: &Path, ways: Ways) -> LinkCourse
     requires { AreWays store.now (OnPaths old.now new.now) ways }
     ensures course { (t : Tree) (moment : ℕ) → Keeps store.now t
@@ -86,8 +87,8 @@ fn link_course(store: &Store, old: &Path, new: &Path, ways: Ways) -> LinkCourse
     }
 }
 
-/// What is told of a file's path and one that it begins with or that begins with it: nothing lies below a file, and all that
-/// lies before it is there.
+/// What is told of a file's path and one that it begins with or that begins with it: nothing lies
+/// below a file, and all that lies before it is there.
 fn nested_code(old: &Path, new: &Path) -> StatusCode
     ensures { result ≡ nested_code old.now new.now }
 {

@@ -73,7 +73,8 @@ fn entries_of(store: &Store, found: &[(Name, NodeId)]) -> Result<Listing, AllocE
     Listing::from_vec(entries)
 }
 
-/// A node as it is listed, with the number of names that lead to it. The name's bytes are those at the end of its line.
+/// A node as it is listed, with the number of names that lead to it. The name's bytes are those at
+/// the end of its line.
 fn entry_of(alloc: Global, name: &Name, links: u64, attrs: Attrs) -> Result<Entry, AllocError>
     requires parts { HasAllParts attrs }
     requires kind { HasType attrs.permissions }

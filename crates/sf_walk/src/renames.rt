@@ -123,8 +123,8 @@ fn rename_course(old: &Path, new: &Path, ways: Ways) -> Course
     }
 }
 
-/// The extension posix-rename also moves to where something stands that may be replaced, and does nothing where both paths
-/// name one file.
+/// The extension posix-rename also moves to where something stands that may be replaced, and does
+/// nothing where both paths name one file.
 fn posix_course(store: &Store, old: &Path, new: &Path, ways: Ways) -> Course
     requires { AreWays store.now (OnPaths old.now new.now) ways }
     ensures course { (t : Tree) (moment : ℕ) → Keeps store.now t

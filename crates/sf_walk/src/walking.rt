@@ -30,8 +30,8 @@ pub enum Walk {
 
 /// Takes a call one step on: it takes the root, or looks up the next name of its path in the
 /// directory that it holds, holds the directory that it finds, and then frees the one above it. A
-/// call without a path, and one whose path is the root, decides at once and takes nothing; one on its
-/// way decides at the parent of its last name, or where a name is missing or leads to a file.
+/// call without a path, and one whose path is the root, decides at once and takes nothing; one on
+/// its way decides at the parent of its last name, or where a name is missing or leads to a file.
 ///
 /// A rename walks its old path. Where its paths part it keeps the directory that they have in
 /// common, walks on to the old path's parent, and then from the common directory to the new one's.

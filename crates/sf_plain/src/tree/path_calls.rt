@@ -53,7 +53,8 @@ fn cuts(flags: OpenFlags) -> bool
     flags.truncate && flags.write
 }
 
-/// Brings back what stood at a number before a handle was put there. What is there already takes no memory to replace.
+/// Brings back what stood at a number before a handle was put there. What is there already takes no
+/// memory to replace.
 fn put_back(handles: &mut BTreeMap<u64, Handle>, number: u64, replaced: Option<Handle>)
     requires { is_some (get nat_cmp handles.old number) ≡ true }
     ensures found { (q : ℕ)
@@ -340,7 +341,8 @@ impl PlainTree {
         }
     }
 
-    /// Adds a path that isn't there, with its label and its object, and a handle of the same number.
+    /// Adds a path that isn't there, with its label and its object, and a handle of the same
+    /// number.
     fn add_opened(
         &mut self,
         path: &Path,

@@ -160,8 +160,22 @@ fn renames(rt: HostRuntime) {
     is_asked(&rt, alloc, 200, fields, want);
 }
 
-/// Nothing after an extension's name is read where it isn't known: `statvfs`, and a name that is
-/// longer than the known one.
+/// Of a link whose packet ends early the fields are bad.
+#[test]
+fn links(rt: HostRuntime) {
+    let alloc = rt.alloc();
+    let sent =
+        "00000029 c8 00000004 00000014 686172646c696e6b406f70656e7373682e636f6d 00000002 2f66 00000002 2f67";
+    let want =
+        "Request(4, Link { old: ByteStr { bytes: [47, 102] }, new: ByteStr { bytes: [47, 103] } })";
+    asks(&rt, alloc, sent, 41, want, "BadFields(4)");
+    let fields = "00000014 686172646c696e6b406f70656e7373682e636f6d 00000002 2f61 00000003 2f622f";
+    let want = "Link { old: ByteStr { bytes: [47, 97] }, new: ByteStr { bytes: [47, 98, 47] } }";
+    is_asked(&rt, alloc, 200, fields, want);
+}
+
+/// Nothing after an extension's name is read where it isn't known: `statvfs`, a name that is longer
+/// than a known one, and one that is as long as a known one.
 #[test]
 fn other_extensions(rt: HostRuntime) {
     let alloc = rt.alloc();
@@ -169,4 +183,6 @@ fn other_extensions(rt: HostRuntime) {
     asks(&rt, alloc, sent, 16, "Unknown(9)", "BadFields(9)");
     let sent = "00000022 c8 00000009 00000019 706f7369782d72656e616d65406f70656e7373682e636f6d32";
     asks(&rt, alloc, sent, 34, "Unknown(9)", "BadFields(9)");
+    let sent = "0000001d c8 00000009 00000014 686172646c696e6b406f70656e7373682e6f7267";
+    asks(&rt, alloc, sent, 29, "Unknown(9)", "BadFields(9)");
 }

@@ -1,6 +1,7 @@
 use Rattle.std.proofs.Common.{length, refl}
 use Rattle.std.proofs.Math.Nat.{min-eq_right}
 use Rattle.std.proofs.lemmas.Bool.{leb-true, le-leb, lt-leb}
+use Rattle.sf_call.specs.Tree.{links}
 use Rattle.sf_call.proofs.tree_laws.limit_cases.Goals as goal
 
 pub returns-clause-sized : goal.returns-clause-sized
@@ -14,6 +15,9 @@ returns-clause-read c len handle m contents reads some long = rw reads (rw (lt-l
 
 pub returns-clause-open : goal.returns-clause-open
 returns-clause-open c tree session = (leb-true 128 _, le-leb 128 _)
+
+pub returns-clause-linked : goal.returns-clause-linked
+returns-clause-linked c tree moment label new = (λ few. rw (lt-leb 1024 (links tree.names label) few) refl, λ most. rw (le-leb 1024 (links tree.names label) most) refl)
 
 pub returns-clause-listed : goal.returns-clause-listed
 returns-clause-listed c tree last directory = refl

@@ -1,0 +1,217 @@
+package lucernetick
+
+import (
+	"bytes"
+	"errors"
+	"fmt"
+	"testing"
+)
+
+// alike is an engine with two files of two names each and one of one, which differ in their names alone:
+// their atimes are 5, their mtimes 9.
+func alike(t *testing.T) *Engine {
+	t.Helper()
+	same := []byte("same")
+	engine, err := FromFiles(map[string][]byte{"/a": same, "/b": same, "/d/e": same}, 77)
+	must(t, err)
+	t.Cleanup(engine.Close)
+	must(t, engine.Link("/b", "/c", 77))
+	must(t, engine.Link("/a", "/d/a", 77))
+	must(t, engine.request(900, func(client *requests) error {
+		return client.setBack([]string{"/a", "/b", "/d/e"}, attributes{atime: 5, mtime: 9})
+	}))
+	return engine
+}
+
+var alikeNumbers = map[string]int{"/": 0, "/a": 1, "/b": 2, "/c": 2, "/d": 0, "/d/a": 1, "/d/e": 3}
+
+// numbersOf are the numbers of the files of a snapshot.
+func numbersOf(found map[string]Entry) map[string]int {
+	numbers := map[string]int{}
+	for path, entry := range found {
+		numbers[path] = entry.File
+	}
+	return numbers
+}
+
+// snapshot is a snapshot that mustn't be refused.
+func snapshot(t *testing.T, engine *Engine) map[string]Entry {
+	t.Helper()
+	found, err := engine.Snapshot()
+	must(t, err)
+	return found
+}
+
+// asker is a session that was answered VERSION.
+func asker(t *testing.T, engine *Engine) *Session {
+	t.Helper()
+	session := open(t, engine, looks[:9])
+	_, err := session.Turn(0)
+	must(t, err)
+	must(t, session.Sent(version))
+	return session
+}
+
+// look has the replies to STAT of all paths of alike, as the server tells them.
+func look(session *Session) (map[string]string, error) {
+	told := map[string]string{}
+	for path := range alikeNumbers {
+		if err := session.Feed(packet(packetStat, number(1), text([]byte(path)))); err != nil {
+			return nil, err
+		}
+		if _, err := session.Settle(900, 1000); err != nil {
+			return nil, err
+		}
+		output, err := session.Output()
+		if err != nil {
+			return nil, err
+		}
+		told[path] = string(output)
+		if err := session.Sent(len(output)); err != nil {
+			return nil, err
+		}
+		if output[4] != replyAttrs {
+			return nil, fmt.Errorf("a reply of type %d", output[4])
+		}
+	}
+	return told, nil
+}
+
+func lookedAt(t *testing.T, session *Session) map[string]string {
+	t.Helper()
+	told, err := look(session)
+	must(t, err)
+	return told
+}
+
+func TestATreeThatBeginsWithLinks(t *testing.T) {
+	engine, err := FromFiles(map[string][]byte{"/a": []byte("one"), "/b": []byte("two")}, 77)
+	must(t, err)
+	defer engine.Close()
+	for _, names := range [][2]string{{"/a", "/d/a"}, {"d/a", "/d/c"}, {"/b", "/e/f/b"}} {
+		must(t, engine.Link(names[0], names[1], 77))
+	}
+	found := snapshot(t, engine)
+	wanted := map[string]int{"/": 0, "/a": 1, "/b": 2, "/d": 0, "/d/a": 1, "/d/c": 1, "/e": 0, "/e/f": 0, "/e/f/b": 2}
+	same(t, numbersOf(found), wanted)
+	same(t, string(found["/d/c"].Contents)+string(found["/e/f/b"].Contents), "onetwo")
+	for _, entry := range found {
+		same(t, entry.Mtime, uint32(77))
+	}
+}
+
+func TestFilesThatLookAlike(t *testing.T) {
+	engine := alike(t)
+	for count := 0; count < 20; count++ {
+		same(t, numbersOf(snapshot(t, engine)), alikeNumbers)
+	}
+}
+
+func TestASnapshotLeavesAllAttributes(t *testing.T) {
+	engine := alike(t)
+	session := asker(t, engine)
+	before := lookedAt(t, session)
+	found := snapshot(t, engine)
+	same(t, lookedAt(t, session), before)
+	for _, path := range []string{"/a", "/b", "/c", "/d/a", "/d/e"} {
+		same(t, []uint32{found[path].Atime, found[path].Mtime}, []uint32{5, 9})
+	}
+}
+
+func TestASnapshotThatIsRefusedLeavesAllAttributes(t *testing.T) {
+	engine := alike(t)
+	session := asker(t, engine)
+	before := lookedAt(t, session)
+	var last *Session
+	for count := 0; count < 254; count++ {
+		last = open(t, engine, "")
+	}
+	found, err := engine.Snapshot()
+	same(t, err, TooMany)
+	same(t, len(found), 0)
+	same(t, lookedAt(t, session), before)
+	must(t, last.Close())
+	same(t, numbersOf(snapshot(t, engine)), alikeNumbers)
+}
+
+func TestARequestThatFailsHalfWayLeavesAllAttributes(t *testing.T) {
+	engine := alike(t)
+	session := asker(t, engine)
+	before := lookedAt(t, session)
+	err := engine.request(0, func(client *requests) error {
+		seen, err := client.stat("/a")
+		must(t, err)
+		_, err = client.marks([]string{"/a", "/b", "/none", "/c"}, seen)
+		return err
+	})
+	var status *Status
+	same(t, errors.As(err, &status), true)
+	same(t, status.Request+": "+status.Message, "SETSTAT /none: No such file")
+	same(t, lookedAt(t, session), before)
+}
+
+func TestTimesAreSetBackPastWhatFails(t *testing.T) {
+	engine := alike(t)
+	err := engine.request(0, func(client *requests) error {
+		return client.setBack([]string{"/none", "/a"}, attributes{atime: 1, mtime: 2})
+	})
+	var status *Status
+	same(t, errors.As(err, &status), true)
+	found := snapshot(t, engine)["/d/a"]
+	same(t, []uint32{found.Atime, found.Mtime}, []uint32{1, 2})
+}
+
+func TestNoOtherSessionIsToldOfMarks(t *testing.T) {
+	engine := alike(t)
+	session := asker(t, engine)
+	before := lookedAt(t, session)
+	done := make(chan error, 1)
+	go func() {
+		var err error
+		for count := 0; count < 50 && err == nil; count++ {
+			_, err = engine.Snapshot()
+		}
+		done <- err
+	}()
+	for {
+		same(t, lookedAt(t, session), before)
+		select {
+		case err := <-done:
+			must(t, err)
+			return
+		default:
+		}
+	}
+}
+
+func TestAllNamesAreOneFile(t *testing.T) {
+	engine := alike(t)
+	must(t, engine.WriteFiles(map[string][]byte{"/c": []byte("longer than before")}, 10))
+	found := snapshot(t, engine)
+	same(t, found["/b"], found["/c"])
+	same(t, found["/a"], found["/d/a"])
+	same(t, bytes.Equal(found["/a"].Contents, found["/b"].Contents), false)
+	must(t, connect(t, engine, WallClock).Remove("/b"))
+	left := snapshot(t, engine)
+	same(t, left["/c"], found["/c"])
+	_, there := left["/b"]
+	same(t, there, false)
+}
+
+func TestALinkOfAClient(t *testing.T) {
+	engine := alike(t)
+	client := connect(t, engine, WallClock)
+	must(t, client.Link("/d/e", "/f"))
+	same(t, snapshot(t, engine)["/f"].File, 3)
+	same(t, read(t, client, "/f"), []byte("same"))
+}
+
+func TestLinksThatAreRefused(t *testing.T) {
+	engine := alike(t)
+	for names, code := range map[[2]string]uint32{{"/none", "/x"}: 2, {"/d", "/x"}: 4, {"/a", "/b"}: 4} {
+		var status *Status
+		same(t, errors.As(engine.Link(names[0], names[1], 0), &status), true)
+		same(t, status.Code, code)
+	}
+	same(t, numbersOf(snapshot(t, engine)), alikeNumbers)
+}

@@ -1,0 +1,165 @@
+"""Files with several names."""
+
+import threading
+
+import pytest
+
+from lucernetick import Engine, Link, Refusal, Refused, Session, Status
+from lucernetick._links import marks, set_back
+from lucernetick._tree import Requests
+from packets import ATTRS, INIT, OK, REMOVE, SETSTAT, STAT, packet, replies, status, string, u32
+
+# Two files of two names each and one of one, which differ in their names alone.
+ALIKE = {"/a": b"same", "/b": b"same", "/c": Link("/b"), "/d/a": Link("/a"), "/d/e": b"same"}
+ALIKE_NUMBERS = {"/": None, "/a": 1, "/b": 2, "/c": 2, "/d": None, "/d/a": 1, "/d/e": 3}
+
+
+def client(engine: Engine) -> Session:
+    session = engine.open()
+    session.feed(packet(INIT, u32(3)))
+    session.settle(0)
+    session.take()
+    return session
+
+
+def ask(session: Session, request: bytes) -> bytes:
+    """The body of a request's reply."""
+    session.feed(request)
+    session.settle(900)
+    (reply,) = replies(session.take())
+    return reply
+
+
+def look(session: Session, paths: dict[str, object]) -> list[bytes]:
+    """All attributes of what is at these paths, as the server tells them."""
+    found = [ask(session, packet(STAT, u32(1), string(path.encode()))) for path in paths]
+    assert {reply[0] for reply in found} == {ATTRS}
+    return found
+
+
+def alike() -> Engine:
+    """The atimes are 5, the mtimes 9."""
+    engine = Engine.from_files(ALIKE, moment=77)
+    session = client(engine)
+    for path in (b"/a", b"/b", b"/d/e"):
+        times = u32(0x8) + u32(5) + u32(9)
+        assert ask(session, packet(SETSTAT, u32(1), string(path), times)) == status(1, OK, b"Success")
+    session.close()
+    return engine
+
+
+def numbers(engine: Engine) -> dict[str, object]:
+    return {path: entry.file for path, entry in engine.snapshot().items()}
+
+
+def test_a_tree_that_begins_with_links() -> None:
+    files = {"/d/a": Link("/a"), "/a": b"one", "/b": b"two", "/d/c": Link("d/a"), "/e/f/b": Link(b"/b")}
+    with Engine.from_files(files, moment=77) as engine:
+        found = engine.snapshot()
+    named = {path: (entry.file, entry.contents) for path, entry in found.items() if not entry.is_directory}
+    one, two = (1, b"one"), (2, b"two")
+    assert named == {"/a": one, "/b": two, "/d/a": one, "/d/c": one, "/e/f/b": two}
+    assert [found[path].file for path in ("/", "/d", "/e", "/e/f")] == [None] * 4
+    assert {entry.mtime for entry in found.values()} == {77}
+
+
+def test_files_that_look_alike() -> None:
+    with alike() as engine:
+        assert numbers(engine) == ALIKE_NUMBERS
+        assert numbers(engine) == ALIKE_NUMBERS
+
+
+def test_a_snapshot_leaves_all_attributes() -> None:
+    with alike() as engine:
+        session = client(engine)
+        before = look(session, ALIKE_NUMBERS)
+        found = engine.snapshot()
+        assert look(session, ALIKE_NUMBERS) == before
+    assert {(found[path].atime, found[path].mtime) for path in ALIKE} == {(5, 9)}
+
+
+def test_a_snapshot_that_is_refused_leaves_all_attributes() -> None:
+    with alike() as engine:
+        session = client(engine)
+        before = look(session, ALIKE_NUMBERS)
+        others = [engine.open() for _ in range(254)]
+        with pytest.raises(Refused) as refused:
+            engine.snapshot()
+        assert refused.value.refusal == Refusal.SESSIONS
+        assert look(session, ALIKE_NUMBERS) == before
+        others[0].close()
+        assert numbers(engine) == ALIKE_NUMBERS
+
+
+def test_a_request_that_fails_half_way_leaves_all_attributes() -> None:
+    with alike() as engine:
+        session = client(engine)
+        before = look(session, ALIKE_NUMBERS)
+        with Requests(engine, 0) as requests:
+            one = dict(requests.walk(b"/", 1, requests.attributes(b"/")))[b"/a"]
+            with pytest.raises(Status) as refused:
+                marks(requests, one, [b"/a", b"/b", b"/none", b"/c"])
+        assert str(refused.value) == "SETSTAT /none: No such file"
+        assert look(session, ALIKE_NUMBERS) == before
+
+
+def test_times_are_set_back_past_what_fails() -> None:
+    with alike() as engine, Requests(engine, 0) as requests:
+        with pytest.raises(Status):
+            set_back(requests, [b"/none", b"/a"], 1, 2)
+        found = engine.snapshot()
+    assert (found["/d/a"].atime, found["/d/a"].mtime) == (1, 2)
+
+
+def take_snapshots(engine: Engine, count: int) -> bool:
+    """Whether each of so many snapshots has the numbers that are due."""
+    return all(numbers(engine) == ALIKE_NUMBERS for _ in range(count))
+
+
+def test_no_other_session_is_told_of_marks() -> None:
+    with alike() as engine:
+        session = client(engine)
+        before = look(session, ALIKE_NUMBERS)
+        made: list[bool] = []
+        snapshots = threading.Thread(target=lambda: made.append(take_snapshots(engine, 50)))
+        snapshots.start()
+        while snapshots.is_alive():
+            assert look(session, ALIKE_NUMBERS) == before
+        snapshots.join()
+        assert made == [True]
+
+
+def test_all_names_are_one_file() -> None:
+    with Engine.from_files(ALIKE) as engine:
+        engine.write_files({"/c": b"longer than before"}, moment=9)
+        found = engine.snapshot()
+        assert found["/b"] == found["/c"] != found["/a"] == found["/d/a"]
+        assert (found["/b"].contents, found["/b"].mtime) == (b"longer than before", 9)
+        removed = ask(client(engine), packet(REMOVE, u32(1), string(b"/b")))
+        assert removed == status(1, OK, b"Success")
+        left = {path: entry for path, entry in engine.snapshot().items() if path == "/c"}
+        assert left == {"/c": found["/c"]}
+
+
+def test_many_names() -> None:
+    files = {f"/d/{name:02}": Link(f"/f{name % 3}") for name in range(90)}
+    with Engine.from_files({"/f0": b"", "/f1": b"", "/f2": b"", **files}) as engine:
+        found = numbers(engine)
+    assert [found[f"/d/{name:02}"] for name in range(90)] == [1, 2, 3] * 30
+    assert [found["/f0"], found["/f1"], found["/f2"]] == [1, 2, 3]
+
+
+@pytest.mark.parametrize(
+    ("files", "code"),
+    [
+        ({"/b": Link("/none")}, 2),
+        ({"/d": None, "/b": Link("/d")}, 4),
+        ({"/a": b"", "b": b"", "/b": Link("/a")}, 4),
+        ({"/a": Link("/a")}, 2),
+    ],
+)
+def test_links_that_are_refused(files: dict[str, object], code: int) -> None:
+    with Engine() as engine:
+        with pytest.raises(Status) as refused:
+            engine.write_files(files)
+        assert refused.value.code == code

@@ -1,0 +1,146 @@
+//! Files with several names.
+
+use lucernetick::{Engine, Fault, Refusal, Session, Snapshot, Turn};
+
+const INIT: &[u8] = b"\0\0\0\x05\x01\0\0\0\x03";
+const ATTRS: u8 = 105;
+
+/// The paths of `alike`, and the numbers of its files.
+const ALIKE: [(&str, Option<u64>); 7] = [
+    ("/", None),
+    ("/a", Some(1)),
+    ("/b", Some(2)),
+    ("/c", Some(2)),
+    ("/d", None),
+    ("/d/a", Some(1)),
+    ("/d/e", Some(3)),
+];
+
+/// A string, its length before it.
+fn string(bytes: &[u8]) -> Vec<u8> {
+    [&(bytes.len() as u32).to_be_bytes()[..], bytes].concat()
+}
+
+/// Opens a session, which has been answered VERSION.
+fn client(engine: &mut Engine) -> Session {
+    let session = engine.open().unwrap();
+    engine.feed(session, INIT).unwrap();
+    assert_eq!(engine.turn(session, 0), Ok(Turn::Wrote));
+    engine.take(session).unwrap();
+    session
+}
+
+/// The reply to a request under the id 1.
+fn ask(engine: &mut Engine, session: Session, kind: u8, fields: &[u8]) -> Vec<u8> {
+    let request = string(&[&[kind, 0, 0, 0, 1], fields].concat());
+    engine.feed(session, &request).unwrap();
+    assert_eq!(engine.settle(session, 900, 1000), Ok(Turn::Idle));
+    engine.take(session).unwrap()
+}
+
+/// All attributes of what is at the paths of `alike`, as the server tells them.
+fn look(engine: &mut Engine, session: Session) -> Vec<Vec<u8>> {
+    let told = ALIKE.iter().map(|(path, _)| ask(engine, session, 17, &string(path.as_bytes())));
+    let told: Vec<Vec<u8>> = told.collect();
+    assert!(told.iter().all(|reply| reply[4] == ATTRS));
+    told
+}
+
+/// Two files of two names each and one of one, which differ in their names alone: their atimes are 5,
+/// their mtimes 9.
+fn alike() -> Engine {
+    let files = [("/a", "same"), ("/b", "same"), ("/d/e", "same")];
+    let mut engine = Engine::from_files(files, 77).unwrap();
+    engine.hard_link("/b", "/c", 77).unwrap();
+    engine.hard_link("/a", "/d/a", 77).unwrap();
+    let session = client(&mut engine);
+    for (path, _) in files {
+        let times = [0, 0, 0, 8, 0, 0, 0, 5, 0, 0, 0, 9];
+        ask(&mut engine, session, 9, &[&string(path.as_bytes())[..], &times].concat());
+    }
+    engine.close(session).unwrap();
+    engine
+}
+
+/// The numbers of a snapshot's files, by paths.
+fn numbers(found: &Snapshot) -> Vec<(&str, Option<u64>)> {
+    let named = |path| std::str::from_utf8(path).unwrap();
+    found.iter().map(|(path, entry)| (named(path.as_slice()), entry.file)).collect()
+}
+
+#[test]
+fn a_tree_that_begins_with_links() {
+    let mut engine = Engine::from_files([("/a", "one"), ("/b", "two")], 77).unwrap();
+    for (old, new) in [("/a", "/d/a"), ("d/a", "/d/c"), ("/b", "/e/f/b")] {
+        engine.hard_link(old, new, 77).unwrap();
+    }
+    let found = engine.snapshot().unwrap();
+    let wanted = [
+        ("/", None),
+        ("/a", Some(1)),
+        ("/b", Some(2)),
+        ("/d", None),
+        ("/d/a", Some(1)),
+        ("/d/c", Some(1)),
+        ("/e", None),
+        ("/e/f", None),
+        ("/e/f/b", Some(2)),
+    ];
+    assert_eq!(numbers(&found), wanted);
+    let contents = |path: &str| found[path.as_bytes()].contents.as_deref();
+    assert_eq!([contents("/d/c"), contents("/e/f/b")], [Some(&b"one"[..]), Some(&b"two"[..])]);
+    assert!(found.values().all(|entry| entry.mtime == 77));
+}
+
+#[test]
+fn a_snapshot_leaves_all_attributes() {
+    let mut engine = alike();
+    let session = client(&mut engine);
+    let before = look(&mut engine, session);
+    for _ in 0..3 {
+        let found = engine.snapshot().unwrap();
+        assert_eq!(numbers(&found), ALIKE);
+        assert_eq!(look(&mut engine, session), before);
+        let mut files = found.values().filter(|entry| !entry.is_directory());
+        assert!(files.all(|entry| (entry.atime, entry.mtime) == (5, 9)));
+    }
+}
+
+#[test]
+fn a_snapshot_that_is_refused_leaves_all_attributes() {
+    let mut engine = alike();
+    let session = client(&mut engine);
+    let before = look(&mut engine, session);
+    let others: Vec<Session> = (0..254).map(|_| engine.open().unwrap()).collect();
+    assert_eq!(engine.snapshot(), Err(Fault::Refused(Refusal::Sessions)));
+    assert_eq!(look(&mut engine, session), before);
+    engine.close(others[0]).unwrap();
+    assert_eq!(numbers(&engine.snapshot().unwrap()), ALIKE);
+}
+
+#[test]
+fn all_names_are_one_file() {
+    let mut engine = alike();
+    engine.write_files([("/c", "longer than before")], 10).unwrap();
+    let found = engine.snapshot().unwrap();
+    assert_eq!(found["/b".as_bytes()], found["/c".as_bytes()]);
+    assert_eq!(found["/a".as_bytes()], found["/d/a".as_bytes()]);
+    let contents = found["/b".as_bytes()].contents.as_deref();
+    assert_eq!(contents, Some("longer than before".as_bytes()));
+    let session = client(&mut engine);
+    let removed = ask(&mut engine, session, 13, &string(b"/b"));
+    assert_eq!(removed[4..13], [101, 0, 0, 0, 1, 0, 0, 0, 0]);
+    let left = engine.snapshot().unwrap();
+    assert_eq!(left["/c".as_bytes()], found["/c".as_bytes()]);
+    assert!(!left.contains_key("/b".as_bytes()));
+}
+
+#[test]
+fn links_that_are_refused() {
+    let mut engine = alike();
+    for (old, new, code) in [("/none", "/x", 2), ("/d", "/x", 4), ("/a", "/b", 4)] {
+        let refused = engine.hard_link(old, new, 0).unwrap_err();
+        assert!(matches!(refused, Fault::Status(found, _) if found == code), "{refused}");
+    }
+    assert_eq!(numbers(&engine.snapshot().unwrap()), ALIKE);
+}
