@@ -296,11 +296,14 @@ fn always_ahead(rt: HostRuntime) -> Result<(), Fail> {
     for _ in 0..10 {
         writes(&rt, &mut line, b"x", Ok(1));
     }
-    for k in 0..2000 {
-        reads(&rt, &mut line, 16, &input[16 * k..16 * k + 16]);
+    for piece in input.chunks(16).take(2000) {
+        reads(&rt, &mut line, 16, piece);
         writes(&rt, &mut line, b"x", Ok(1));
         assert_eq!(rt; line.ahead().len(), 160);
     }
     has_made(&rt, &line, 2010, 2010, 0);
-    gives(&rt, alloc, &mut line, &input[32000..])
+    let Some(rest) = input.get(32000..) else {
+        panic!(rt; "too few bytes");
+    };
+    gives(&rt, alloc, &mut line, rest)
 }
