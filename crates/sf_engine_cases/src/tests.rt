@@ -70,7 +70,11 @@ fn behind(alloc: Global, front: &str, texts: &[&str]) -> Result<Vec<u8>, Fail> {
 fn listing(alloc: Global, head: &str, lines: &[&[u8; 56]]) -> Result<Vec<u8>, Fail> {
     let mut packet = hex_bytes(alloc, head)?;
     for line in lines {
-        let permissions = if line[0] == b'd' { "000041ed" } else { "000081a4" };
+        let permissions = if line[0] == b'd' {
+            "000041ed"
+        } else {
+            "000081a4"
+        };
         packet.extend_from_slice(b"\0\0\0\x01")?;
         packet.extend_from_slice(&line[55..])?;
         packet.extend_from_slice(b"\0\0\0\x38")?;
