@@ -9,12 +9,13 @@ from ._clock import Clock, VirtualTime, wall_clock
 from ._engine import Engine, Session, Turn
 from ._faults import Blocked, Ended, Fault, Refused, Refusal, Status
 from ._server import Connection, Server
-from ._tree import Entry, Files, Link
+from ._tree import Contents, Entry, Files, Link
 
 __all__ = [
     "Blocked",
     "Clock",
     "Connection",
+    "Contents",
     "Ended",
     "Engine",
     "Entry",

@@ -1,16 +1,23 @@
 """Files with several names."""
 
 import threading
+from typing import Optional
 
 import pytest
 
-from lucernetick import Engine, Link, Refusal, Refused, Session, Status
+from lucernetick import Contents, Engine, Link, Refusal, Refused, Session, Status
 from lucernetick._links import marks, set_back
 from lucernetick._tree import Requests
 from packets import ATTRS, INIT, OK, REMOVE, SETSTAT, STAT, packet, replies, status, string, u32
 
 # Two files of two names each and one of one, which differ in their names alone.
-ALIKE = {"/a": b"same", "/b": b"same", "/c": Link("/b"), "/d/a": Link("/a"), "/d/e": b"same"}
+ALIKE: dict[str, Contents] = {
+    "/a": b"same",
+    "/b": b"same",
+    "/c": Link("/b"),
+    "/d/a": Link("/a"),
+    "/d/e": b"same",
+}
 ALIKE_NUMBERS = {"/": None, "/a": 1, "/b": 2, "/c": 2, "/d": None, "/d/a": 1, "/d/e": 3}
 
 
@@ -30,9 +37,9 @@ def ask(session: Session, request: bytes) -> bytes:
     return reply
 
 
-def look(session: Session, paths: dict[str, object]) -> list[bytes]:
-    """All attributes of what is at these paths, as the server tells them."""
-    found = [ask(session, packet(STAT, u32(1), string(path.encode()))) for path in paths]
+def look(session: Session) -> list[bytes]:
+    """All attributes of what is at the paths of `ALIKE`, as the server tells them."""
+    found = [ask(session, packet(STAT, u32(1), string(path.encode()))) for path in ALIKE_NUMBERS]
     assert {reply[0] for reply in found} == {ATTRS}
     return found
 
@@ -48,12 +55,18 @@ def alike() -> Engine:
     return engine
 
 
-def numbers(engine: Engine) -> dict[str, object]:
+def numbers(engine: Engine) -> dict[str, Optional[int]]:
     return {path: entry.file for path, entry in engine.snapshot().items()}
 
 
 def test_a_tree_that_begins_with_links() -> None:
-    files = {"/d/a": Link("/a"), "/a": b"one", "/b": b"two", "/d/c": Link("d/a"), "/e/f/b": Link(b"/b")}
+    files: dict[str, Contents] = {
+        "/d/a": Link("/a"),
+        "/a": b"one",
+        "/b": b"two",
+        "/d/c": Link("d/a"),
+        "/e/f/b": Link(b"/b"),
+    }
     with Engine.from_files(files, moment=77) as engine:
         found = engine.snapshot()
     named = {path: (entry.file, entry.contents) for path, entry in found.items() if not entry.is_directory}
@@ -72,21 +85,21 @@ def test_files_that_look_alike() -> None:
 def test_a_snapshot_leaves_all_attributes() -> None:
     with alike() as engine:
         session = client(engine)
-        before = look(session, ALIKE_NUMBERS)
+        before = look(session)
         found = engine.snapshot()
-        assert look(session, ALIKE_NUMBERS) == before
+        assert look(session) == before
     assert {(found[path].atime, found[path].mtime) for path in ALIKE} == {(5, 9)}
 
 
 def test_a_snapshot_that_is_refused_leaves_all_attributes() -> None:
     with alike() as engine:
         session = client(engine)
-        before = look(session, ALIKE_NUMBERS)
+        before = look(session)
         others = [engine.open() for _ in range(254)]
         with pytest.raises(Refused) as refused:
             engine.snapshot()
         assert refused.value.refusal == Refusal.SESSIONS
-        assert look(session, ALIKE_NUMBERS) == before
+        assert look(session) == before
         others[0].close()
         assert numbers(engine) == ALIKE_NUMBERS
 
@@ -94,13 +107,13 @@ def test_a_snapshot_that_is_refused_leaves_all_attributes() -> None:
 def test_a_request_that_fails_half_way_leaves_all_attributes() -> None:
     with alike() as engine:
         session = client(engine)
-        before = look(session, ALIKE_NUMBERS)
+        before = look(session)
         with Requests(engine, 0) as requests:
             one = dict(requests.walk(b"/", 1, requests.attributes(b"/")))[b"/a"]
             with pytest.raises(Status) as refused:
                 marks(requests, one, [b"/a", b"/b", b"/none", b"/c"])
         assert str(refused.value) == "SETSTAT /none: No such file"
-        assert look(session, ALIKE_NUMBERS) == before
+        assert look(session) == before
 
 
 def test_times_are_set_back_past_what_fails() -> None:
@@ -119,12 +132,12 @@ def take_snapshots(engine: Engine, count: int) -> bool:
 def test_no_other_session_is_told_of_marks() -> None:
     with alike() as engine:
         session = client(engine)
-        before = look(session, ALIKE_NUMBERS)
+        before = look(session)
         made: list[bool] = []
         snapshots = threading.Thread(target=lambda: made.append(take_snapshots(engine, 50)))
         snapshots.start()
         while snapshots.is_alive():
-            assert look(session, ALIKE_NUMBERS) == before
+            assert look(session) == before
         snapshots.join()
         assert made == [True]
 
@@ -142,8 +155,9 @@ def test_all_names_are_one_file() -> None:
 
 
 def test_many_names() -> None:
-    files = {f"/d/{name:02}": Link(f"/f{name % 3}") for name in range(90)}
-    with Engine.from_files({"/f0": b"", "/f1": b"", "/f2": b"", **files}) as engine:
+    files: dict[str, Contents] = {f"/f{number}": b"" for number in range(3)}
+    files.update({f"/d/{name:02}": Link(f"/f{name % 3}") for name in range(90)})
+    with Engine.from_files(files) as engine:
         found = numbers(engine)
     assert [found[f"/d/{name:02}"] for name in range(90)] == [1, 2, 3] * 30
     assert [found["/f0"], found["/f1"], found["/f2"]] == [1, 2, 3]
@@ -158,7 +172,7 @@ def test_many_names() -> None:
         ({"/a": Link("/a")}, 2),
     ],
 )
-def test_links_that_are_refused(files: dict[str, object], code: int) -> None:
+def test_links_that_are_refused(files: dict[str, Contents], code: int) -> None:
     with Engine() as engine:
         with pytest.raises(Status) as refused:
             engine.write_files(files)

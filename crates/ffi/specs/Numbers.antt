@@ -10,6 +10,7 @@ use Rattle.sf_engine.specs.declared.event.Happened.TheVariants as happened
 use Rattle.sf_engine.specs.declared.event.EngineFault.{EngineFault}
 use Rattle.sf_engine.specs.declared.event.EngineFault.TheVariants as fault
 use Rattle.sf_engine.specs.Fits.{Fits, GoesOnTrace, IsSentBy, IsUnknown}
+use Rattle.sf_engine.specs.Rounds.{AreUnderWay, HasRounds, IsWithinBounds}
 use Rattle.sf_engine.specs.Views.{EngineView}
 
 abbrev pub cause_number : Cause → ℕ
@@ -104,6 +105,12 @@ abbrev pub AnswersSettled : Option EngineView → Event → ℕ → ℤ → Opti
 AnswersSettled before turn most n after =
     (old : EngineView) × (new : EngineView) × (before ≡ Some old) × (after ≡ Some new)
     × SettlesAt turn most old n new
+
+-- An engine made so many rounds, within the bounds of its calls, and then none is under way.
+abbrev pub RunsAll : Option EngineView → ℕ → Option EngineView → Type 0
+RunsAll before rounds after =
+    (old : EngineView) × (new : EngineView) × (before ≡ Some old) × (after ≡ Some new)
+    × HasRounds rounds old new × IsWithinBounds rounds old × AreUnderWay [] new
 
 -- a new engine keeps so many records, or all for 0
 abbrev pub IsFresh : ℕ → EngineView → Type 0

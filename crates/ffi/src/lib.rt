@@ -8,7 +8,7 @@
 
 ghost use Rattle.std.specs.Prelude.{◌≡◌, None, IsSome, IfOk, IfSome};
 ghost use Rattle.sf_engine.specs.declared.event.Event.TheVariants as event;
-ghost use Rattle.ffi.specs.Numbers.{Answers, AnswersSettled, IsFresh, IsMade, Feeds, Outputs};
+ghost use Rattle.ffi.specs.Numbers.{Answers, AnswersSettled, RunsAll, IsFresh, IsMade, Feeds, Outputs};
 
 mod held;
 mod number;
@@ -117,6 +117,18 @@ pub extern "C" fn lucernetick_settle(
     let number = settle(&mut engine, session, moment, most);
     held.put(engine);
     number
+}
+
+/// Rounds of turns, up to where no call is under way. Answers how many there were.
+#[unsafe(no_mangle)]
+pub extern "C" fn lucernetick_run_all(alloc: Global, held: &mut Held) -> u64
+    requires { IsSome held.old.engine }
+    ensures { RunsAll held.old.engine result held.new.engine }
+{
+    let mut engine = held.take(alloc);
+    let rounds = engine.run_all();
+    held.put(engine);
+    rounds
 }
 
 /// Closes a session.

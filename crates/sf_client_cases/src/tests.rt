@@ -176,3 +176,40 @@ fn renames(rt: HostRuntime) {
     tells(&rt, client.stat(b"/a"), Ok(whole(0, 0o40755, 100, 100)));
     has_sent(&rt, client, &requests);
 }
+
+/// A file of one byte has two names, and then the second one alone.
+#[test]
+fn links(rt: HostRuntime) {
+    let alloc = rt.alloc();
+    let requests = packets(
+        &rt,
+        alloc,
+        &[
+            INIT,
+            "00000013 03 00000001 00000002 2f66 0000001a 00000000",
+            "0000001e 06 00000002 00000008 0000000000000001 0000000000000000 00000001 78",
+            "00000011 04 00000003 00000008 0000000000000001",
+            "00000029 c8 00000004 00000014 686172646c696e6b406f70656e7373682e636f6d",
+            "00000002 2f66 00000002 2f67",
+            "00000029 c8 00000005 00000014 686172646c696e6b406f70656e7373682e636f6d",
+            "00000002 2f66 00000002 2f67",
+            "0000002c c8 00000006 00000014 686172646c696e6b406f70656e7373682e636f6d",
+            "00000005 2f6e6f6e65 00000002 2f68",
+            "0000000b 0d 00000007 00000002 2f66",
+            "0000000b 11 00000008 00000002 2f67",
+            "0000000b 11 00000009 00000002 2f66",
+        ],
+    );
+    let replies = replies(&rt, alloc, &requests);
+    let mut client = client(&rt, alloc, &replies);
+    is_done(&rt, client.put(b"/f", b"x"));
+    is_done(&rt, client.hardlink(b"/f", b"/g"));
+    let refused = ClientFault::Status(StatusCode::Failure);
+    comes_to(&rt, client.hardlink(b"/f", b"/g"), Err(refused));
+    let absent = ClientFault::Status(StatusCode::NoSuchFile);
+    comes_to(&rt, client.hardlink(b"/none", b"/h"), Err(absent));
+    is_done(&rt, client.remove(b"/f"));
+    tells(&rt, client.stat(b"/g"), Ok(whole(1, 0o100644, 100, 100)));
+    tells(&rt, client.stat(b"/f"), Err(absent));
+    has_sent(&rt, client, &requests);
+}

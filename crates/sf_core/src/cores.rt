@@ -160,8 +160,8 @@ impl Core {
         self.walk(lane, 1)
     }
 
-    /// A law, for readers: where a call is unanswered, some session's call can go on. Whatever its next step comes
-    /// to, it moves the call or answers it.
+    /// A law, for readers: where a call is unanswered, some session's call can go on. Whatever its
+    /// next step comes to, it moves the call or answers it.
     pub fn never_stuck(&self)
         ensures { IsNeverStuck self.now }
     {

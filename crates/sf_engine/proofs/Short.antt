@@ -8,7 +8,7 @@ use Rattle.sf_path.specs.Names.{Path, slashed, text_of}
 use Rattle.sf_path.specs.Normal.{parts, norm, fault_of}
 use Rattle.sf_path.specs.declared.fault.PathFault.{PathFault}
 use Rattle.sf_path.specs.declared.fault.PathFault.TheVariants.{TooLong, NameTooLong, NulByte}
-use Rattle.sf_path.proofs.Lengths.{length-text_of-norm}
+use Rattle.sf_path.proofs.Laws.{length-text_of-norm}
 use Rattle.sf_request.specs.declared.request.WireRequest.{WireRequest}
 use Rattle.sf_request.specs.declared.request.WireRequest.TheVariants as wire
 use Rattle.sf_request.specs.declared.request.Asked.{Asked}

@@ -27,7 +27,8 @@ under_way w = under_way_from 1 w.sessions
 
 -- these are the sessions whose calls are under way, by each trace that the engine fits
 abbrev pub AreUnderWay : List ℕ → EngineView → Type 0
-AreUnderWay sessions e = (trace : List Entry) → (fits : Fits e trace) → under_way fits.world ≡ sessions
+AreUnderWay sessions e =
+    (trace : List Entry) → (fits : Fits e trace) → under_way fits.world ≡ sessions
 
 -- Of each of these sessions, in order, one turn at the moment 0. None is refused.
 unfoldable pub HasSteps : List ℕ → EngineView → EngineView → Type 0
@@ -35,7 +36,8 @@ HasSteps [] e e' = e' ≡ e
 HasSteps (s ∷ sessions) e e' = (mid : EngineView) × (h : Happened)
     × GoesOnTrace e (event.Turn s 0) (Ok h) mid × HasSteps sessions mid e'
 
--- A round: each session whose call is under way makes one step, by rising number. There is one at least.
+-- A round: each session whose call is under way makes one step, by rising number. There is one at
+-- least.
 abbrev pub IsRound : EngineView → EngineView → Type 0
 IsRound e e' = (s : ℕ) × (sessions : List ℕ) × AreUnderWay (s ∷ sessions) e
     × HasSteps (s ∷ sessions) e e'
@@ -58,7 +60,8 @@ bounds w = sum_by (λ t. bound_at t.phase) w.sessions
 
 -- no more than the bounds of the calls that were under way, by each trace that the engine fits
 abbrev pub IsWithinBounds : ℕ → EngineView → Type 0
-IsWithinBounds rounds e = (trace : List Entry) → (fits : Fits e trace) → rounds ≤ bounds fits.world
+IsWithinBounds rounds e =
+    (trace : List Entry) → (fits : Fits e trace) → rounds ≤ bounds fits.world
 
 -- how many steps are left to the calls of an engine
 abbrev pub left_to : EngineView → ℕ

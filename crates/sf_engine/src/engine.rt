@@ -201,7 +201,8 @@ impl Engine {
         self.seats[at].place.is_under_way()
     }
 
-    /// One step of each session whose call is under way, by rising number. Whether there was one is told.
+    /// One step of each session whose call is under way, by rising number. Whether there was one is
+    /// told.
     fn round(&mut self) -> bool
         ensures some { result ≡ true
             → IsRound self.old self.new × (left_to self.new < left_to self.old) }
@@ -217,9 +218,9 @@ impl Engine {
         any
     }
 
-    /// Rounds, up to where no call is under way: in each, every session whose call is under way makes one
-    /// step, by rising number, which is a turn at the moment 0. How many there were is told. Answers wait for
-    /// later turns. Takes no memory, and isn't refused.
+    /// Rounds, up to where no call is under way: in each, every session whose call is under way makes
+    /// one step, by rising number, which is a turn at the moment 0. How many there were is told.
+    /// Answers wait for later turns. Takes no memory, and isn't refused.
     pub fn run_all(&mut self) -> u64
         ensures rounds { HasRounds result self.old self.new }
         ensures few { IsWithinBounds result self.old }

@@ -10,6 +10,7 @@ use std::test::*;
 
 mod drawn;
 mod files;
+mod links;
 mod refusals;
 mod renames;
 mod requests;
@@ -63,6 +64,33 @@ fn behind(alloc: Global, front: &str, texts: &[&str]) -> Result<Vec<u8>, Fail> {
     Ok(bytes)
 }
 
+/// NAME with an entry for each of these lines, whose last byte is its name: of a directory, or of a
+/// file without bytes, that was made at the moment 100. The head is the packet's length, its type, its
+/// id, and how many lines there are.
+fn listing(alloc: Global, head: &str, lines: &[&[u8; 56]]) -> Result<Vec<u8>, Fail> {
+    let mut packet = hex_bytes(alloc, head)?;
+    for line in lines {
+        let permissions = if line[0] == b'd' {
+            "000041ed"
+        } else {
+            "000081a4"
+        };
+        packet.extend_from_slice(b"\0\0\0\x01")?;
+        packet.extend_from_slice(&line[55..])?;
+        packet.extend_from_slice(b"\0\0\0\x38")?;
+        packet.extend_from_slice(line.as_slice())?;
+        packet.extend_from_slice(&hex_packets(
+            alloc,
+            &[
+                "0000000f 0000000000000000 00000000 00000000",
+                permissions,
+                "00000064 00000064",
+            ],
+        )?)?;
+    }
+    Ok(packet)
+}
+
 fn made(rt: &impl Abort, alloc: Global) -> Engine {
     match Engine::new(alloc) {
         Ok(engine) => engine,
@@ -113,9 +141,23 @@ fn is_answered(rt: &impl Abort, engine: &mut Engine, session: u64, by: Steps) {
     turns(rt, engine, session, Happened::Wrote);
 }
 
+/// So many rounds are made, until no call is under way.
+fn rounds_are(rt: &impl Abort, engine: &mut Engine, want: u64) {
+    let rounds = engine.run_all();
+    assert!(rt; rounds == want, "{rounds} rounds");
+}
+
 /// The output of a session is these bytes.
 fn is_sent(rt: &impl Abort, engine: &Engine, session: u64, want: &[u8]) {
     assert!(rt; engine.output(session) == Some(want));
+}
+
+/// How many bytes the first session was sent.
+fn output_len(rt: &impl Abort, engine: &Engine) -> usize {
+    match engine.output(1) {
+        Some(output) => output.len(),
+        None => panic!(rt; "no output"),
+    }
 }
 
 /// The numbers of the records that an engine keeps, 0 where a session left, are these.

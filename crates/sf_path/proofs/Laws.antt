@@ -1,5 +1,5 @@
--- For the crates above: what a value is since its type holds it. All other files here are private to
--- this crate.
+-- For the crates above: what a value is since its type holds it, and how long the text of a normal
+-- form is. All other files here are private to this crate.
 use denote.Laws.{Is}
 use mathlib.Core.Path.{subst}
 use mir.Val.{Val}
@@ -7,6 +7,7 @@ use Rattle.std.specs.Prelude.{List}
 use Rattle.sf_path.specs.Names.{IsPath}
 use Rattle.sf_path.specs.declared.path.Path.{Path}
 use Rattle.sf_path.specs.contracts.path.Path.{the_row}
+pub use Rattle.sf_path.proofs.Lengths.{length-text_of-norm}
 
 -- the names of a path are names
 pub held_path : (path : Path) (vs : List Val) → Is the_row path vs → IsPath path

@@ -21,8 +21,7 @@ const LINK: &[u8] =
     b"\0\0\0\x29\xc8\0\0\0\x04\0\0\0\x14hardlink@openssh.com\0\0\0\x02/f\0\0\0\x02/g";
 
 /// A link without its second path, under the id 4.
-const SHORT_LINK: &[u8] =
-    b"\0\0\0\x23\xc8\0\0\0\x04\0\0\0\x14hardlink@openssh.com\0\0\0\x02/f";
+const SHORT_LINK: &[u8] = b"\0\0\0\x23\xc8\0\0\0\x04\0\0\0\x14hardlink@openssh.com\0\0\0\x02/f";
 
 /// A link to a path with the byte 0, under the id 4.
 const LINK_TO_NUL: &[u8] =
@@ -159,8 +158,7 @@ fn a_link_is_a_call(rt: HostRuntime) {
 
 #[test]
 fn a_link_that_is_no_call(rt: HostRuntime) {
-    let bad_message: &[u8] =
-        b"\0\0\0\x1c\x65\0\0\0\x04\0\0\0\x05\0\0\0\x0bBad message\0\0\0\0";
+    let bad_message: &[u8] = b"\0\0\0\x1c\x65\0\0\0\x04\0\0\0\x05\0\0\0\x0bBad message\0\0\0\0";
     let failure: &[u8] = b"\0\0\0\x18\x65\0\0\0\x04\0\0\0\x04\0\0\0\x07Failure\0\0\0\0";
     for (packet, want) in [(SHORT_LINK, bad_message), (LINK_TO_NUL, failure)] {
         let mut session = begun(&rt, rt.alloc());

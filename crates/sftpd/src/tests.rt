@@ -236,6 +236,8 @@ fn client_words(rt: HostRuntime) -> Result<(), Fail> {
     is_command(&rt, alloc, &["rename", "/a", ""], Some(rename))?;
     let rename = ClientCommand::PosixRename(path, new);
     is_command(&rt, alloc, &["posix-rename", "/a", ""], Some(rename))?;
+    let link = ClientCommand::Link(path, new);
+    is_command(&rt, alloc, &["hardlink", "/a", ""], Some(link))?;
     for words in [
         ["link", "/a"].as_slice(),
         &["stat"],

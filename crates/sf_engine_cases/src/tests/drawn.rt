@@ -5,10 +5,11 @@
 use super::*;
 use sf_call::Request;
 use sf_cases::requests::{
-    close, mkdir, open, open_dir, posix_rename, read, read_dir, remove, rename, rmdir, stat, write,
+    close, link, mkdir, open, open_dir, posix_rename, read, read_dir, remove, rename, rmdir, stat,
+    write,
 };
 use sf_plain::PlainTree;
-use sf_reply::{Reply, read_reply};
+use sf_reply::{Reply, StatusCode, read_reply};
 use sf_wire::{Cut, cut};
 use std::collections::BTreeSet;
 
@@ -47,9 +48,15 @@ struct Tally {
     steps: usize,
     /// Those that had to wait for another session's call.
     blocked: usize,
-    /// Calls that a rename carried out, and how many of them were renames.
+    /// Calls that a rename carried out, and how many of them were renames, and links.
     helped: usize,
     helped_renames: usize,
+    helped_links: usize,
+    /// Links that gave a file a further name.
+    links: usize,
+    /// Calls that aren't under way any more, and the rounds in which all of them came to that.
+    ended: u64,
+    rounds: u64,
 }
 
 impl Tally {
@@ -59,28 +66,42 @@ impl Tally {
             blocked: 0,
             helped: 0,
             helped_renames: 0,
+            helped_links: 0,
+            links: 0,
+            ended: 0,
+            rounds: 0,
         }
     }
 
     /// A turn that decides adds the call's own record, behind those of the calls that it helps.
     fn count(&mut self, happened: Happened, added: &[Record]) {
-        let is_step = match happened {
-            Happened::Moved | Happened::Blocked(_) | Happened::Decided => true,
-            _ => false,
-        };
-        if !is_step {
+        if !is_step(happened) {
             return;
         }
         self.steps = self.steps.saturating_add(1);
-        if let Happened::Blocked(_) = happened {
-            self.blocked = self.blocked.saturating_add(1);
+        match happened {
+            Happened::Blocked(_) => self.blocked = self.blocked.saturating_add(1),
+            Happened::Decided => self.ended = self.ended.saturating_add(1),
+            _ => {}
         }
+        let made = added.iter().filter(|record| has_linked(*record)).count();
+        self.links = self.links.saturating_add(made);
         let Some((_, helped)) = added.split_last() else {
             return;
         };
         self.helped = self.helped.saturating_add(helped.len());
         let renames = helped.iter().filter(|record| is_rename(*record)).count();
         self.helped_renames = self.helped_renames.saturating_add(renames);
+        let links = helped.iter().filter(|record| is_link(*record)).count();
+        self.helped_links = self.helped_links.saturating_add(links);
+    }
+}
+
+/// Whether a turn made a step of a call.
+fn is_step(happened: Happened) -> bool {
+    match happened {
+        Happened::Moved | Happened::Blocked(_) | Happened::Decided => true,
+        _ => false,
     }
 }
 
@@ -88,6 +109,23 @@ fn is_rename(record: &Record) -> bool {
     match record {
         Record::Did { request, .. } => {
             matches!(request, Request::Rename(_, _) | Request::PosixRename(_, _))
+        }
+        Record::Left { session: _ } => false,
+    }
+}
+
+fn is_link(record: &Record) -> bool {
+    match record {
+        Record::Did { request, .. } => matches!(request, Request::Link(_, _)),
+        Record::Left { session: _ } => false,
+    }
+}
+
+/// Whether a link was made.
+fn has_linked(record: &Record) -> bool {
+    match record {
+        Record::Did { reply, .. } => {
+            is_link(record) && *reply == Reply::Status(StatusCode::Success)
         }
         Record::Left { session: _ } => false,
     }
@@ -114,6 +152,36 @@ fn take_turn(
             happened
         }
         Err(fault) => panic!(rt; "no turn: {fault}"),
+    }
+}
+
+/// All calls under way go on by rounds. A path has four names at most, so that a call makes eleven
+/// steps at most that aren't blocked, and one at least of each round isn't. Then no session's turn
+/// makes a step of a call.
+fn run_all(
+    rt: &impl Abort,
+    engine: &mut Engine,
+    draws: &mut Draws,
+    tally: &mut Tally,
+    clients: &[Client],
+    moment: u32,
+) {
+    let under_way = engine.core().calls().saturating_sub(tally.ended);
+    let before = engine.core().history().len();
+    let rounds = engine.run_all();
+    assert!(rt;
+        rounds <= under_way.saturating_mul(11),
+        "{rounds} rounds of {under_way} calls"
+    );
+    assert!(rt; rounds > 0 || under_way == 0);
+    tally.rounds = tally.rounds.saturating_add(rounds);
+    tally.ended = engine.core().calls();
+    for record in engine.core().history().get(before..).unwrap_or(&[]) {
+        draws.follow(Some(record));
+    }
+    for client in clients {
+        let happened = take_turn(rt, engine, draws, tally, client.session(), moment);
+        assert!(rt; !is_step(happened), "{happened:?} of a session at rest");
     }
 }
 
@@ -306,8 +374,8 @@ fn add_client(
 }
 
 /// Drawn events: three or more of one session in a row, unless its call has to wait; and a call
-/// that begins has two further ones, which may take it past the root. Where a session has left,
-/// another one opens.
+/// that begins has two further ones, which may take it past the root. At some moments all calls
+/// under way go on by rounds. Where a session has left, another one opens.
 fn draw_events(
     rt: &impl Abort,
     alloc: Global,
@@ -323,6 +391,9 @@ fn draw_events(
     let mut seat = 0;
     let mut in_row = 0_u32;
     for moment in 0..EVENTS {
+        if draws.below(500) == 0 {
+            run_all(rt, engine, &mut draws, &mut tally, clients, moment);
+        }
         if in_row == 0 && draws.below(2) == 0 {
             seat = draws.place(SESSIONS);
             in_row = 3;
@@ -364,5 +435,8 @@ fn drawn_events(rt: HostRuntime) -> Result<(), Fail> {
     assert!(&rt; tally.blocked >= 5_000, "{tally:?}");
     assert!(&rt; tally.helped >= 250, "{tally:?}");
     assert!(&rt; tally.helped_renames >= 25, "{tally:?}");
+    assert!(&rt; tally.helped_links >= 10, "{tally:?}");
+    assert!(&rt; tally.links >= 30, "{tally:?}");
+    assert!(&rt; tally.rounds >= 500, "{tally:?}");
     Ok(())
 }

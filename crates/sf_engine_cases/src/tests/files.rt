@@ -196,11 +196,3 @@ fn listing_survives_removals(rt: HostRuntime) -> Result<(), Fail> {
     }
     Ok(())
 }
-
-/// How many bytes the first session was sent.
-fn output_len(rt: &impl Abort, engine: &Engine) -> usize {
-    match engine.output(1) {
-        Some(output) => output.len(),
-        None => panic!(rt; "no output"),
-    }
-}

@@ -27,6 +27,13 @@ const ABSENT_9: &str = "0000001d 65 00000009 00000002 0000000c 4e6f2073756368206
 /// RENAME of `/a` to `/z`, under the id 7.
 const RENAME: &str = "00000011 12 00000007 00000002 2f61 00000002 2f7a";
 
+/// OPEN of `/a/f`, made where it is absent, under the id 2.
+const OPEN_A_F: &str = "00000015 03 00000002 00000004 2f612f66 0000000a 00000000";
+
+/// A link of `/a/f` to `/a/g`, under the id 9.
+const LINK: &str =
+    "0000002d c8 00000009 00000014 686172646c696e6b406f70656e7373682e636f6d 00000004 2f612f66 00000004 2f612f67";
+
 /// Four sessions on an engine of their own, each with its VERSION. The third one's calls are these,
 /// with their moves.
 fn four_sessions(rt: &impl Abort, alloc: Global, calls: &[(&str, u32)]) -> Engine {
@@ -154,10 +161,7 @@ fn write_during_rename(rt: HostRuntime) {
         alloc,
         &[
             (MAKE_A, 1),
-            (
-                "00000015 03 00000002 00000004 2f612f66 0000000a 00000000",
-                2,
-            ),
+            (OPEN_A_F, 2),
             (
                 "00000020 06 00000003 00000008 0000000000000002 0000000000000000 00000003 616263",
                 0,
@@ -364,14 +368,8 @@ fn crossing_renames_the_other_way(rt: HostRuntime) {
     was_sent(&rt, alloc, &engine, 3, &[OK_1, OK_2, OK_3, OK_4, ATTRS_A]);
 }
 
-/// So many rounds are made.
-fn rounds_are(rt: &impl Abort, engine: &mut Engine, want: u64) {
-    let rounds = engine.run_all();
-    assert!(rt; rounds == want, "{rounds} rounds");
-}
-
-/// In rounds the first session is ahead: five of them until its call is decided, in the last of which the
-/// other one takes the root, and three more. Where no call is under way there is none.
+/// In rounds the first session is ahead: five of them until its call is decided, in the last of which
+/// the other one takes the root, and three more. Where no call is under way there is none.
 #[test]
 fn crossing_renames_in_rounds(rt: HostRuntime) {
     let alloc = rt.alloc();
@@ -383,4 +381,84 @@ fn crossing_renames_in_rounds(rt: HostRuntime) {
     was_sent(&rt, alloc, &engine, 1, &[OK_7]);
     was_sent(&rt, alloc, &engine, 2, &[ABSENT_7]);
     rounds_are(&rt, &mut engine, 0);
+}
+
+/// A directory's `f` and `g` are one file, by what session 3 is told of it: OPENDIR under the id 10, as
+/// the call 5, and READDIR under the id 11. `/a` and `/a/f` were made by its calls 1 and 2.
+fn has_two_names(rt: &impl Abort, alloc: Global, engine: &mut Engine, open_dir: &str) {
+    feeds(
+        rt,
+        alloc,
+        engine,
+        3,
+        &[open_dir, "00000011 0c 0000000b 00000008 0000000000000005"],
+    );
+    is_answered(rt, engine, 3, Steps::Call(1));
+    is_answered(rt, engine, 3, Steps::Call(0));
+    let told = [
+        OK_1,
+        "00000011 66 00000002 00000008 0000000000000002",
+        "00000011 66 0000000a 00000008 0000000000000005",
+    ];
+    let mut want = given(rt, behind(alloc, VERSION, &told));
+    let lines = [
+        b"-rw-r--r--   2 0        0               0          100 f",
+        b"-rw-r--r--   2 0        0               0          100 g",
+    ];
+    let names = given(rt, listing(alloc, "000000cb 68 0000000b 00000002", &lines));
+    if want.extend_from_slice(&names).is_err() {
+        panic!(rt; "no memory");
+    }
+    is_sent(rt, engine, 3, &want);
+}
+
+/// A link of `/a/f` to `/a/g` stands in `/a` while `/a` goes to `/z`, and then `/z` has both names.
+#[test]
+fn link_during_rename(rt: HostRuntime) {
+    let alloc = rt.alloc();
+    let mut engine = four_sessions(&rt, alloc, &[(MAKE_A, 1), (OPEN_A_F, 2)]);
+    starts(&rt, alloc, &mut engine, 1, LINK, 2);
+    starts(&rt, alloc, &mut engine, 2, RENAME, 1);
+    records_are(&rt, &engine, &[1, 2]);
+    turns(&rt, &mut engine, 2, Happened::Decided);
+    records_are(&rt, &engine, &[1, 2, 3, 4]);
+    turns(&rt, &mut engine, 2, Happened::Wrote);
+    ends(&rt, &mut engine, &[1]);
+    was_sent(&rt, alloc, &engine, 1, &[OK_9]);
+    was_sent(&rt, alloc, &engine, 2, &[OK_7]);
+    records_are(&rt, &engine, &[1, 2, 3, 4]);
+    let open_dir = "0000000b 0b 0000000a 00000002 2f7a";
+    has_two_names(&rt, alloc, &mut engine, open_dir);
+}
+
+/// The call that a rename carried out has its reply by one round.
+#[test]
+fn round_after_a_rename(rt: HostRuntime) {
+    let alloc = rt.alloc();
+    let mut engine = four_sessions(&rt, alloc, &[(MAKE_A, 1), (OPEN_A_F, 2)]);
+    starts(&rt, alloc, &mut engine, 1, LINK, 2);
+    starts(&rt, alloc, &mut engine, 2, RENAME, 1);
+    ends(&rt, &mut engine, &[2]);
+    rounds_are(&rt, &mut engine, 1);
+    records_are(&rt, &engine, &[1, 2, 3, 4]);
+    turns(&rt, &mut engine, 1, Happened::Wrote);
+    was_sent(&rt, alloc, &engine, 1, &[OK_9]);
+}
+
+/// The link is decided in the first round, while the rename takes the root, and the rename in the
+/// second.
+#[test]
+fn link_in_rounds(rt: HostRuntime) {
+    let alloc = rt.alloc();
+    let mut engine = four_sessions(&rt, alloc, &[(MAKE_A, 1), (OPEN_A_F, 2)]);
+    starts(&rt, alloc, &mut engine, 1, LINK, 2);
+    starts(&rt, alloc, &mut engine, 2, RENAME, 0);
+    rounds_are(&rt, &mut engine, 2);
+    records_are(&rt, &engine, &[1, 2, 3, 4]);
+    turns(&rt, &mut engine, 1, Happened::Wrote);
+    turns(&rt, &mut engine, 2, Happened::Wrote);
+    was_sent(&rt, alloc, &engine, 1, &[OK_9]);
+    was_sent(&rt, alloc, &engine, 2, &[OK_7]);
+    let open_dir = "0000000b 0b 0000000a 00000002 2f7a";
+    has_two_names(&rt, alloc, &mut engine, open_dir);
 }

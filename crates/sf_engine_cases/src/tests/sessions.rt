@@ -229,3 +229,26 @@ fn bytes_are_wanted(rt: HostRuntime) {
     assert!(rt; !engine.wants_bytes(0));
     assert!(rt; !engine.wants_bytes(3));
 }
+
+/// Where no call is under way there is no round: no session, one that rests with a packet unread, or
+/// one whose call is decided. A call of a session that was closed has its reply all the same.
+#[test]
+fn rounds_of_one_session(rt: HostRuntime) {
+    let alloc = rt.alloc();
+    let mut engine = made(&rt, alloc);
+    rounds_are(&rt, &mut engine, 0);
+    opens(&rt, &mut engine, 1);
+    feeds(&rt, alloc, &mut engine, 1, &[INIT, MKDIR_A]);
+    turns(&rt, &mut engine, 1, Happened::Wrote);
+    rounds_are(&rt, &mut engine, 0);
+    assert_eq!(&rt; engine.core().calls(), 0);
+    turns(&rt, &mut engine, 1, Happened::Begun);
+    comes_to(&rt, &mut engine, Event::Close(1), Ok(Happened::Closed));
+    rounds_are(&rt, &mut engine, 2);
+    rounds_are(&rt, &mut engine, 0);
+    turns(&rt, &mut engine, 1, Happened::Wrote);
+    turns(&rt, &mut engine, 1, Happened::Ended(Cause::Closed));
+    rounds_are(&rt, &mut engine, 0);
+    is_sent(&rt, &engine, 1, &packets(&rt, alloc, &[VERSION, OK_7]));
+    records_are(&rt, &engine, &[1, 0]);
+}

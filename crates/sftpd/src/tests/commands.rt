@@ -132,7 +132,8 @@ fn nothing_is_printed(rt: HostRuntime) -> Result<(), Fail> {
     is_silent(&rt, alloc, ClientCommand::Rmdir(b"/a"))?;
     is_silent(&rt, alloc, ClientCommand::Remove(b"/a"))?;
     is_silent(&rt, alloc, ClientCommand::Rename(b"/a", b"/b"))?;
-    is_silent(&rt, alloc, ClientCommand::PosixRename(b"/a", b"/b"))
+    is_silent(&rt, alloc, ClientCommand::PosixRename(b"/a", b"/b"))?;
+    is_silent(&rt, alloc, ClientCommand::Link(b"/a", b"/b"))
 }
 
 #[test]

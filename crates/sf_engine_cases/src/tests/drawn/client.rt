@@ -4,7 +4,6 @@ use super::*;
 use sf_cases::requests::set_stat;
 use sf_cases::{Numbers, sized};
 use sf_path::Path;
-use sf_reply::StatusCode;
 
 /// The names in the root.
 const NAMES: &[u8] = b"abcde";
@@ -127,6 +126,11 @@ impl Draws {
     /// One of two names in a directory of the root.
     fn within(&mut self, alloc: Global, directory: u8) -> Result<Vec<u8>, Fail> {
         Ok(vec![in alloc; b'/', directory, b'/', self.one_of(b"ab")]?)
+    }
+
+    /// One of five names in the home, which files alone have.
+    fn file(&mut self, alloc: Global) -> Result<Vec<u8>, Fail> {
+        Ok(vec![in alloc; b'/', self.home, b'/', self.one_of(b"fghij")]?)
     }
 
     /// The old and the new path of a rename: any; a name in the root and one in the home; two
@@ -281,6 +285,7 @@ impl Client {
             0 | 1 => self.ask_by_handle(alloc, draws),
             2 => self.ask_removal(alloc, draws),
             3..=12 => self.ask_rename(alloc, draws),
+            13..=15 => self.ask_on_names(alloc, draws),
             _ => self.ask_on_path(alloc, draws),
         }
     }
@@ -344,11 +349,39 @@ impl Client {
     fn ask_rename(&mut self, alloc: Global, draws: &mut Draws) -> Result<(), Fail> {
         let (old, new) = draws.old_and_new(alloc)?;
         if draws.below(4) == 0 {
-            let name = Fields::new(alloc).string(b"posix-rename@openssh.com")?;
-            let fields = name.string(&old)?.string(&new)?;
-            return self.send(posix_rename(alloc, &old, &new)?, 200, &fields);
+            return self.ask_posix_rename(alloc, &old, &new);
         }
         let fields = Fields::new(alloc).string(&old)?.string(&new)?;
         self.send(rename(alloc, &old, &new)?, 18, &fields)
+    }
+    /// A request on a name in the home that files alone have: it is made, linked, renamed, removed.
+    fn ask_on_names(&mut self, alloc: Global, draws: &mut Draws) -> Result<(), Fail> {
+        let path = draws.file(alloc)?;
+        match draws.below(8) {
+            0 => {
+                let fields = Fields::new(alloc).string(&path)?;
+                let fields = fields.number(0xb)?.number(0)?;
+                self.send(open(alloc, &path, b"rwc")?, 3, &fields)
+            }
+            1 | 2 => {
+                let fields = Fields::new(alloc).string(&path)?;
+                self.send(remove(alloc, &path)?, 13, &fields)
+            }
+            3 => self.ask_posix_rename(alloc, &path, &draws.file(alloc)?),
+            4 => self.ask_link(alloc, &path, &draws.path(alloc)?),
+            _ => self.ask_link(alloc, &path, &draws.file(alloc)?),
+        }
+    }
+
+    fn ask_link(&mut self, alloc: Global, old: &[u8], new: &[u8]) -> Result<(), Fail> {
+        let name = Fields::new(alloc).string(b"hardlink@openssh.com")?;
+        let fields = name.string(old)?.string(new)?;
+        self.send(link(alloc, old, new)?, 200, &fields)
+    }
+
+    fn ask_posix_rename(&mut self, alloc: Global, old: &[u8], new: &[u8]) -> Result<(), Fail> {
+        let name = Fields::new(alloc).string(b"posix-rename@openssh.com")?;
+        let fields = name.string(old)?.string(new)?;
+        self.send(posix_rename(alloc, old, new)?, 200, &fields)
     }
 }
