@@ -54,7 +54,7 @@ int main(int count, char **words)
     struct timespec begin, end;
     engine = lt_new(256);
     session = (uint64_t)lt_open(engine);
-    ask(init, sizeof init, 42);
+    ask(init, sizeof init, 71);
     for (int names = 1; names <= DEPTH; names++)
         ask(packet, packet_of(packet, 14, names, 1), 28);
     size_t length = packet_of(packet, 17, DEPTH, 0);

@@ -100,7 +100,7 @@ def sends_writes(session, count):
 
 
 def main():
-    for sends, count in ((sends_reads, 3000), (sends_writes, 16000)):
+    for sends, count in ((sends_reads, 10000), (sends_writes, 16000)):
         with socket.socket(socket.AF_UNIX) as connection:
             connection.connect(sys.argv[1])
             sends(Session(connection.fileno(), connection.fileno()), count)

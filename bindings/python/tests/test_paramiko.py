@@ -3,6 +3,7 @@
 import socket
 import stat
 import threading
+from io import BufferedReader
 from typing import Iterator
 
 import paramiko
@@ -181,10 +182,9 @@ def test_a_client_that_reads_nothing_keeps_nobody_waiting(sftp_tree: Server, dep
     assert len(client.recv(41, socket.MSG_WAITALL)) == 41
 
 
-def reply(line: socket.socket) -> bytes:
+def reply(replies: BufferedReader) -> bytes:
     """The body of the next packet."""
-    count = int.from_bytes(line.recv(4, socket.MSG_WAITALL), "big")
-    return line.recv(count, socket.MSG_WAITALL)
+    return replies.read(int.from_bytes(replies.read(4), "big"))
 
 
 def test_a_client_may_send_much_before_it_reads(sftp_tree: Server) -> None:
@@ -192,17 +192,18 @@ def test_a_client_may_send_much_before_it_reads(sftp_tree: Server) -> None:
     sftp_tree.engine.write_files({"f": contents})
     line = sftp_tree.connect()
     line.settimeout(20)
-    line.sendall(packet(INIT, u32(3)) + packet(OPEN, u32(0), string(b"/f"), u32(1), u32(0)))
-    reply(line)
-    opened = reply(line)
-    assert opened[0] == HANDLE
-    reads = range(5000)
-    asked = opened[5:] + bytes(8) + u32(len(contents))
-    line.sendall(b"".join(packet(READ, u32(number), asked) for number in reads))
-    for number in reads:
-        assert reply(line) == bytes([DATA]) + u32(number) + string(contents)
-    line.shutdown(socket.SHUT_WR)
-    assert line.recv(1) == b""
+    with line.makefile("rb") as replies:
+        line.sendall(packet(INIT, u32(3)) + packet(OPEN, u32(0), string(b"/f"), u32(1), u32(0)))
+        reply(replies)
+        opened = reply(replies)
+        assert opened[0] == HANDLE
+        reads = range(10000)
+        asked = opened[5:] + bytes(8) + u32(len(contents))
+        line.sendall(b"".join(packet(READ, u32(number), asked) for number in reads))
+        for number in reads:
+            assert reply(replies) == bytes([DATA]) + u32(number) + string(contents)
+        line.shutdown(socket.SHUT_WR)
+        assert replies.read(1) == b""
 
 
 def test_many_clients_at_once(sftp_tree: Server) -> None:

@@ -412,8 +412,8 @@ fn a_client_may_send_much_before_it_reads() {
         let head = [b"\0\0\0\x1d\x05".as_slice(), &number.to_be_bytes()].concat();
         [&head, &opened[5..], &[0; 8], b"\0\0\x80\0".as_slice()].concat()
     };
-    line.write_all(&(0..5000).flat_map(asks).collect::<Vec<u8>>()).unwrap();
-    for number in 0..5000_u32 {
+    line.write_all(&(0..10_000).flat_map(asks).collect::<Vec<u8>>()).unwrap();
+    for number in 0..10_000_u32 {
         let got = reply(&mut line);
         assert_eq!((got[0], &got[1..5]), (103, &number.to_be_bytes()[..]));
         assert!(got[9..] == contents[..]);

@@ -14,7 +14,8 @@ pub enum Ready {
     Write,
 }
 
-/// Bytes in and bytes out, where it can be told that a write would wait. Where it tells its bytes, it goes on telling them.
+/// Bytes in and bytes out, where it can be told that a write would wait. Where it tells its bytes, it goes on
+/// telling them.
 pub trait Duplex {
     /// The bytes that are still to be read, where they are told.
     ghost incoming: { Self → Option (List ℕ) };

@@ -24,8 +24,8 @@ enum Fails {
     Wait,
 }
 
-/// Two halves in memory, of a client that takes bytes once so many that it sends were read, or once its server waits for
-/// nothing else.
+/// Two halves in memory, of a client that takes bytes once so many that it sends were read, or once its server
+/// waits for nothing else.
 #[derive(Drop)]
 struct Halves<'a> {
     input: &'a [u8],
@@ -190,7 +190,8 @@ fn a_write_reads_on(rt: HostRuntime) {
     has_failed(&rt, &line, 0);
 }
 
-/// The end of the input is told once the bytes before it are taken, and again from then on, and isn't asked for again.
+/// The end of the input is told once the bytes before it are taken, and again from then on, and isn't asked for
+/// again.
 #[test]
 fn the_end_is_told_last(rt: HostRuntime) {
     let mut line = AheadLine::new(rt.alloc(), Halves::new(b"abcd", 3, 5));
@@ -260,7 +261,8 @@ fn gives<L: Line>(rt: &impl Abort, alloc: Global, line: &mut L, want: &[u8]) -> 
     Ok(())
 }
 
-/// A client sends so many bytes before it takes any. It waits for its server's memory where these are more than 16 MiB.
+/// A client sends so many bytes before it takes any. It waits for its server's memory where these are more than
+/// 16 MiB.
 fn sends(
     rt: &impl Abort,
     alloc: Global,

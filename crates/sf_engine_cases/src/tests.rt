@@ -67,24 +67,26 @@ fn behind(alloc: Global, front: &str, texts: &[&str]) -> Result<Vec<u8>, Fail> {
 /// NAME with an entry for each of these lines, whose last byte is its name: of a directory, or of a
 /// file without bytes, that was made at the moment 100. The head is the packet's length, its type, its
 /// id, and how many lines there are.
-fn listing(alloc: Global, head: &str, lines: &[&[u8; 56]]) -> Result<Vec<u8>, Fail> {
+fn listing(alloc: Global, head: &str, lines: &[&[u8]]) -> Result<Vec<u8>, Fail> {
     let mut packet = hex_bytes(alloc, head)?;
     for line in lines {
-        let permissions = if line[0] == b'd' { "000041ed" } else { "000081a4" };
-        packet.extend_from_slice(b"\0\0\0\x01")?;
-        packet.extend_from_slice(&line[55..])?;
-        packet.extend_from_slice(b"\0\0\0\x38")?;
-        packet.extend_from_slice(line.as_slice())?;
-        packet.extend_from_slice(&hex_packets(
-            alloc,
-            &[
-                "0000000f 0000000000000000 00000000 00000000",
-                permissions,
-                "00000064 00000064",
-            ],
-        )?)?;
+        put_line(alloc, &mut packet, *line)?;
     }
     Ok(packet)
+}
+
+fn put_line(alloc: Global, packet: &mut Vec<u8>, line: &[u8]) -> Result<(), Fail> {
+    let attrs = if line.starts_with(b"d") {
+        "0000000f 0000000000000000 00000000 00000000 000041ed 00000064 00000064"
+    } else {
+        "0000000f 0000000000000000 00000000 00000000 000081a4 00000064 00000064"
+    };
+    packet.extend_from_slice(b"\0\0\0\x01")?;
+    packet.extend_from_slice(&line[line.len().saturating_sub(1)..])?;
+    packet.extend_from_slice(b"\0\0\0\x38")?;
+    packet.extend_from_slice(line)?;
+    packet.extend_from_slice(&hex_bytes(alloc, attrs)?)?;
+    Ok(())
 }
 
 fn made(rt: &impl Abort, alloc: Global) -> Engine {

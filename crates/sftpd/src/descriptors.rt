@@ -18,6 +18,10 @@ const TRIES: u32 = 1024;
 /// How many bytes a pipe takes without waiting, once it takes any (POSIX's PIPE_BUF, on Linux).
 const PIPE_ROOM: usize = 4096;
 
+/// How long a client may take to read before more is read from it. Most read at once, and reading on costs more
+/// than to wait.
+const PATIENCE_MILLISECONDS: i32 = 10;
+
 /// Standard output as the system names it. Opening that gives a pipe anew, with modes of its own.
 const OUTPUT: &str = "/proc/self/fd/1";
 
@@ -34,10 +38,15 @@ fn asked(fd: RawFd, events: i16) -> pollfd {
     }
 }
 
-/// Whether the descriptor shows one of these events now.
-fn shows(fd: RawFd, events: i16) -> bool {
-    let mut all = [asked(fd, events)];
-    poll(&mut all, 0) > 0 && all[0].revents & events != 0
+/// What the descriptor shows, within so many milliseconds, where it is asked whether it can be written to: 0
+/// where it would wait.
+fn shown(fd: RawFd, milliseconds: i32) -> i16 {
+    let mut all = [asked(fd, POLLOUT)];
+    if poll(&mut all, milliseconds) > 0 {
+        all[0].revents
+    } else {
+        0
+    }
 }
 
 /// Sends some of the bytes, without waiting, whatever mode the socket is in.
@@ -72,10 +81,11 @@ fn socket_output(rt: &HostRuntime) -> Option<UnixStream> {
     Some(socket)
 }
 
-/// A pipe where standard output is one. One that nobody reads any more isn't opened, since that would wait for a reader.
+/// A pipe where standard output is one. One that nobody reads any more isn't opened, since that would wait for
+/// a reader.
 fn pipe_output(rt: &HostRuntime) -> Option<File> {
     let found = fs::metadata(rt, OUTPUT).ok()?;
-    if !found.file_type().is_fifo() || shows(rt.stdout().as_raw_fd(), POLLERR) {
+    if !found.file_type().is_fifo() || shown(rt.stdout().as_raw_fd(), 0) & POLLERR != 0 {
         return None;
     }
     let pipe = OpenOptions::new().write(true).open(rt, OUTPUT).ok()?;
@@ -112,8 +122,7 @@ impl Output {
             Output::Socket(socket) => send_now(socket.as_raw_fd(), bytes),
             Output::Pipe(pipe) => pipe.write(bytes),
             Output::Other(output) => {
-                let events = POLLOUT | POLLERR;
-                if !shows(output.as_raw_fd(), events) {
+                if shown(output.as_raw_fd(), 0) == 0 {
                     return Err(ErrorKind::WouldBlock.into());
                 }
                 output.write(&bytes[..bytes.len().min(PIPE_ROOM)])
@@ -128,16 +137,29 @@ pub(crate) struct Descriptors<R> {
     reader: StreamLine<R, Sink>,
     input: RawFd,
     output: Output,
+    /// The output took a part of what it was given last, or showed that it takes nothing.
+    is_full: bool,
+    /// It hasn't waited for the output alone since something was written.
+    is_patient: bool,
+}
+
+impl<R> Descriptors<R> {
+    fn new(reader: R, input: RawFd, output: Output) -> Descriptors<R> {
+        Descriptors {
+            reader: StreamLine::new(reader, io::sink()),
+            input,
+            output,
+            is_full: false,
+            is_patient: true,
+        }
+    }
 }
 
 impl Descriptors<Stdin> {
     /// Standard input and output.
     pub(crate) fn standard(rt: &HostRuntime) -> Descriptors<Stdin> {
-        Descriptors {
-            reader: StreamLine::new(rt.stdin(), io::sink()),
-            input: rt.stdin().as_raw_fd(),
-            output: Output::standard(rt),
-        }
+        let input = rt.stdin();
+        Descriptors::new(input, input.as_raw_fd(), Output::standard(rt))
     }
 }
 
@@ -146,11 +168,7 @@ impl Descriptors<UnixStream> {
     pub(crate) fn of_socket(socket: UnixStream) -> io::Result<Descriptors<UnixStream>> {
         let reader = socket.try_clone()?;
         let input = reader.as_raw_fd();
-        Ok(Descriptors {
-            reader: StreamLine::new(reader, io::sink()),
-            input,
-            output: Output::Socket(socket),
-        })
+        Ok(Descriptors::new(reader, input, Output::Socket(socket)))
     }
 }
 
@@ -166,9 +184,16 @@ impl<R: Read> Duplex for Descriptors<R> {
     }
 
     fn try_write(&mut self, bytes: &[u8]) -> Result<Option<usize>, LineFault> {
+        if self.is_full {
+            return Ok(None);
+        }
         for _ in 0..TRIES {
             match self.output.write_now(bytes) {
-                Ok(n) if n > 0 || bytes.is_empty() => return Ok(Some(n)),
+                Ok(n) if n > 0 || bytes.is_empty() => {
+                    self.is_full = n < bytes.len();
+                    self.is_patient = true;
+                    return Ok(Some(n));
+                }
                 Ok(_) => return Err(LineFault),
                 Err(error) => match error.kind() {
                     ErrorKind::WouldBlock => return Ok(None),
@@ -181,11 +206,20 @@ impl<R: Read> Duplex for Descriptors<R> {
     }
 
     fn wait(&mut self, reads: bool) -> Result<Ready, LineFault> {
+        let output = self.output.fd();
+        if reads && self.is_patient {
+            self.is_patient = false;
+            if shown(output, PATIENCE_MILLISECONDS) != 0 {
+                self.is_full = false;
+                return Ok(Ready::Write);
+            }
+        }
         let input = if reads { self.input } else { -1 };
-        let mut both = [asked(self.output.fd(), POLLOUT), asked(input, POLLIN)];
+        let mut both = [asked(output, POLLOUT), asked(input, POLLIN)];
         for _ in 0..TRIES {
             if poll(&mut both, -1) >= 0 {
-                return Ok(if reads && both[0].revents == 0 {
+                self.is_full = reads && both[0].revents == 0;
+                return Ok(if self.is_full {
                     Ready::Read
                 } else {
                     Ready::Write

@@ -146,7 +146,7 @@ fn is_serve(
 #[test]
 fn serve_words(rt: HostRuntime) -> Result<(), Fail> {
     let alloc = rt.alloc();
-    is_serve(&rt, alloc, &[], 16, None, 256)?;
+    is_serve(&rt, alloc, &[], 64, None, 256)?;
     is_serve(&rt, alloc, &["--workers", "1"], 1, None, 256)?;
     let most = [
         "--sessions",

@@ -105,7 +105,6 @@ fn is_step(happened: Happened) -> bool {
     }
 }
 
-
 fn is_rename(record: &Record) -> bool {
     match record {
         Record::Did { request, .. } => {
@@ -170,7 +169,10 @@ fn run_all(
     let under_way = engine.core().calls().saturating_sub(tally.ended);
     let before = engine.core().history().len();
     let rounds = engine.run_all();
-    assert!(rt; rounds <= under_way.saturating_mul(11), "{rounds} rounds of {under_way} calls");
+    assert!(rt;
+        rounds <= under_way.saturating_mul(11),
+        "{rounds} rounds of {under_way} calls"
+    );
     assert!(rt; rounds > 0 || under_way == 0);
     tally.rounds = tally.rounds.saturating_add(rounds);
     tally.ended = engine.core().calls();

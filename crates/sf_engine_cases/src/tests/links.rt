@@ -48,7 +48,7 @@ const ASKED_LATER: [&str; 11] = [
 fn told_first(alloc: Global) -> Result<Vec<u8>, Fail> {
     let opened = "00000011 66 00000005 00000008 0000000000000004";
     let mut told = behind(alloc, VERSION, &[OK_1, OPENED, LINKED, opened])?;
-    let lines = [
+    let lines: [&[u8]; 3] = [
         b"drwxr-xr-x   1 0        0               0          100 d",
         b"-rw-r--r--   2 0        0               0          100 f",
         b"-rw-r--r--   2 0        0               0          100 g",
@@ -74,7 +74,7 @@ fn told_later(alloc: Global) -> Result<Vec<u8>, Fail> {
             "00000011 66 00000010 00000008 000000000000000f",
         ],
     )?;
-    let lines = [
+    let lines: [&[u8]; 2] = [
         b"drwxr-xr-x   1 0        0               0          100 d",
         b"-rw-r--r--   1 0        0               0          100 g",
     ];

@@ -401,7 +401,7 @@ fn has_two_names(rt: &impl Abort, alloc: Global, engine: &mut Engine, open_dir: 
         "00000011 66 0000000a 00000008 0000000000000005",
     ];
     let mut want = given(rt, behind(alloc, VERSION, &told));
-    let lines = [
+    let lines: [&[u8]; 2] = [
         b"-rw-r--r--   2 0        0               0          100 f",
         b"-rw-r--r--   2 0        0               0          100 g",
     ];

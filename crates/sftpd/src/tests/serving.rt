@@ -170,6 +170,50 @@ fn replies_are_gathered(rt: HostRuntime) -> Result<(), Fail> {
     Ok(())
 }
 
+/// How many bytes come back to a line that sends these, and then reads as many.
+fn sends_first<L: Line>(line: &mut L, bytes: &[u8]) -> usize {
+    if write_all(line, bytes).is_err() {
+        return 0;
+    }
+    let mut buffer = [0u8; 4096];
+    let mut count = 0usize;
+    for _ in 0..bytes.len() {
+        if count >= bytes.len() {
+            break;
+        }
+        match line.read(&mut buffer) {
+            Ok(n) => count = count.saturating_add(n),
+            Err(_) => return 0,
+        }
+    }
+    count
+}
+
+/// Both sides send a mebibyte before they read one, which is more than sockets hold.
+#[test]
+fn both_send_first(rt: HostRuntime) -> Result<(), Fail> {
+    let alloc = rt.alloc();
+    let (ours, theirs) = UnixStream::pair(&rt)?;
+    let bytes: Vec<u8> = vec![in alloc; b'x'; 1048576]?;
+    let mut back: Vec<u8> = vec![in alloc; 0u8; 1048576]?;
+    let line = SocketLine::new(alloc, ours)?;
+    let (served, sent) = thread::join(
+        &rt,
+        || {
+            let mut line = line;
+            sends_first(&mut line, &bytes)
+        },
+        || {
+            (&theirs).write_all(&bytes)?;
+            (&theirs).read_exact(back.as_mut_slice())
+        },
+    );
+    sent?;
+    assert_eq!(rt; served, bytes.len());
+    assert_eq!(rt; back.as_slice(), bytes.as_slice());
+    Ok(())
+}
+
 /// A core that served a session of this input, and what its worker tells.
 fn served_in_memory<R: Threads + Wait + Abort + Sync>(
     rt: &R,
