@@ -1,6 +1,10 @@
 package lucernetick
 
-import "testing"
+import (
+	"encoding/binary"
+	"errors"
+	"testing"
+)
 
 // INIT, and MKDIR of /a under the id 7.
 const makes = "\x00\x00\x00\x05\x01\x00\x00\x00\x03\x00\x00\x00\x0f\x0e\x00\x00\x00\x07\x00\x00\x00\x02/a\x00\x00\x00\x00"
@@ -162,4 +166,26 @@ func TestRefusals(t *testing.T) {
 	same(t, err, EngineClosed)
 	_, err = engine.Snapshot()
 	same(t, err, EngineClosed)
+}
+
+// setSize sets a file's size by a SETSTAT.
+func setSize(t *testing.T, engine *Engine, path string, size uint64) {
+	t.Helper()
+	must(t, engine.request(0, func(client *requests) error {
+		attributes := append(number(1), binary.BigEndian.AppendUint64(nil, size)...)
+		return client.succeed("SETSTAT "+path, packetSetstat, text([]byte(path)), attributes)
+	}))
+}
+
+func TestAFileTooLargeForASnapshot(t *testing.T) {
+	engine, err := FromFiles(map[string][]byte{"/a": []byte("1"), "/d/f": []byte("2")}, 0)
+	must(t, err)
+	t.Cleanup(engine.Close)
+	setSize(t, engine, "/d/f", 1<<40)
+	_, err = engine.Snapshot()
+	var refused *TooLarge
+	same(t, errors.As(err, &refused), true)
+	same(t, *refused, TooLarge{"/d/f", 1 << 40})
+	setSize(t, engine, "/d/f", 2)
+	same(t, string(snapshot(t, engine)["/d/f"].Contents), "2\x00")
 }

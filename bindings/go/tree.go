@@ -40,6 +40,9 @@ const (
 	kindMask      = 0o170000
 	kindDirectory = 0o040000
 	piece         = 131072
+
+	// How many bytes of a file a snapshot takes at most.
+	mostContents = 1 << 30
 )
 
 // ErrBlocked: the call of another session, which has yet to take its turns, holds what a request wants. The
@@ -56,6 +59,16 @@ type Status struct {
 
 func (status *Status) Error() string {
 	return fmt.Sprintf("lucernetick: %s: %s", status.Request, status.Message)
+}
+
+// TooLarge says that a file has more bytes than a snapshot takes of one.
+type TooLarge struct {
+	Path string
+	Size uint64
+}
+
+func (fault *TooLarge) Error() string {
+	return fmt.Sprintf("lucernetick: %s: a file of %d bytes is too large for a snapshot", fault.Path, fault.Size)
 }
 
 // An Entry is a file or directory of a snapshot.
@@ -304,6 +317,9 @@ func (client *requests) writeFile(path string, contents []byte) error {
 }
 
 func (client *requests) readFile(path string, size uint64) ([]byte, error) {
+	if size > mostContents {
+		return nil, &TooLarge{Path: path, Size: size}
+	}
 	handle, err := client.open(path, flagRead)
 	if err != nil {
 		return nil, err

@@ -7,7 +7,7 @@ it behind connected sockets, for clients that want one. The pytest plugin of thi
 
 from ._clock import Clock, VirtualTime, wall_clock
 from ._engine import Engine, Session, Turn
-from ._faults import Blocked, Ended, Fault, Refused, Refusal, Status
+from ._faults import Blocked, Ended, Fault, Refused, Refusal, Status, TooLarge
 from ._server import Connection, Server
 from ._tree import Contents, Entry, Files, Link
 
@@ -27,6 +27,7 @@ __all__ = [
     "Server",
     "Session",
     "Status",
+    "TooLarge",
     "Turn",
     "VirtualTime",
     "wall_clock",

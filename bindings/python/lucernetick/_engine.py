@@ -99,7 +99,7 @@ class Engine:
     def snapshot(self) -> dict[str, Entry]:
         """The whole tree by paths, `/` first, in the order of their bytes, read by requests of a session of
         its own. Names that aren't UTF-8 are decoded as `os.fsdecode` does. Raises `Blocked` where a call of
-        another session is under way and holds a directory.
+        another session is under way and holds a directory, and `TooLarge` at a file of more than 2^30 bytes.
 
         The engine's lock is held: no other session takes a turn meanwhile. Where several files that have
         several names look alike in all but these, their atimes are set for a moment, to tell which names are

@@ -47,6 +47,16 @@ class Status(Fault):
         self.message = message
 
 
+class TooLarge(Fault):
+    """A file has more bytes than a snapshot takes of one. A sparse file may have 2^40 and take little memory in
+    the engine; in a snapshot each byte would be there."""
+
+    def __init__(self, path: str, size: int) -> None:
+        super().__init__(f"{path}: a file of {size} bytes is too large for a snapshot")
+        self.path = path
+        self.size = size
+
+
 class Blocked(Fault):
     """The call of another session, which has yet to take its turns, holds what a request wants. The request
     stays as it is, in a session that gets no further turn but by `Engine.run_all`: it may hold a directory

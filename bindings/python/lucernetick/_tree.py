@@ -8,7 +8,7 @@ from dataclasses import dataclass
 from types import TracebackType
 from typing import TYPE_CHECKING, Iterator, Mapping, Optional, Union
 
-from ._faults import Blocked, Ended, Status
+from ._faults import Blocked, Ended, Status, TooLarge
 from ._links import number_files
 
 if TYPE_CHECKING:
@@ -25,6 +25,8 @@ NO_ATTRIBUTES = struct.pack(">I", 0)
 TIMES_ALONE = 0x8
 ALL_ATTRIBUTES = struct.Struct(">IQIIIII")
 PIECE = 131072
+# How many bytes of a file a snapshot takes at most.
+MOST_CONTENTS = 1 << 30
 
 
 @dataclass(frozen=True)
@@ -261,6 +263,8 @@ class Requests:
     def read_file(self, path: bytes, size: int) -> bytes:
         """A file's contents, of this size."""
         name = path_text(path)
+        if size > MOST_CONTENTS:
+            raise TooLarge(name, size)
         pflags = struct.pack(">I", TO_READ)
         handle = self.handle(f"OPEN {name}", OPEN, string(path), pflags, NO_ATTRIBUTES)
         contents = bytearray()

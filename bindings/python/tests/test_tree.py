@@ -5,7 +5,8 @@ from typing import Union
 
 import pytest
 
-from lucernetick import Engine, Status
+from lucernetick import Engine, Status, TooLarge
+from packets import INIT, SETSTAT, packet, string, u32
 
 
 def test_files_with_the_directories_on_their_way() -> None:
@@ -74,7 +75,20 @@ def test_paths_that_are_refused(path: str) -> None:
         assert (refused.value.code, refused.value.message) == (4, "Failure")
 
 
-def test_a_file_above_the_limit_is_refused() -> None:
-    with Engine() as engine, pytest.raises(Status) as refused:
-        engine.write_files({"f": bytes(16777217)})
-    assert refused.value.code == 4
+def set_size(engine: Engine, path: bytes, size: int) -> None:
+    session = engine.open()
+    session.feed(packet(INIT, u32(3)))
+    session.feed(packet(SETSTAT, u32(7), string(path), u32(0x1), size.to_bytes(8, "big")))
+    session.settle(0)
+    session.close()
+
+
+def test_a_file_too_large_for_a_snapshot() -> None:
+    with Engine.from_files({"/a": b"1", "/d/f": b"2"}) as engine:
+        set_size(engine, b"/d/f", 2**40)
+        with pytest.raises(TooLarge) as refused:
+            engine.snapshot()
+        assert (refused.value.path, refused.value.size) == ("/d/f", 2**40)
+        assert "1099511627776" in str(refused.value)
+        set_size(engine, b"/d/f", 2)
+        assert engine.snapshot()["/d/f"].contents == b"2\0"

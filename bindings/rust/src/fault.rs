@@ -66,6 +66,8 @@ pub enum Fault {
     /// The request stays as it is, in a session that gets no further turn but by `run_all`: it may
     /// hold a directory until then.
     Blocked,
+    /// A file has more bytes than a snapshot takes of one: its path, and its size.
+    TooLarge(String, u64),
     /// A reply isn't what its request is answered.
     Reply,
 }
@@ -82,6 +84,9 @@ impl fmt::Display for Fault {
             Fault::Refused(refusal) => refusal.fmt(f),
             Fault::Status(code, message) => write!(f, "status {}: {}", code, message),
             Fault::Blocked => f.write_str("the call of another session is in the way"),
+            Fault::TooLarge(path, size) => {
+                write!(f, "{}: a file of {} bytes is too large for a snapshot", path, size)
+            }
             Fault::Reply => f.write_str("a reply isn't what its request is answered"),
         }
     }

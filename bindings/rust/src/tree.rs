@@ -11,6 +11,8 @@ pub type Snapshot = BTreeMap<Vec<u8>, Entry>;
 const KIND: u32 = 0o170000;
 const DIRECTORY: u32 = 0o040000;
 const PIECE: usize = 131072;
+/// How many bytes of a file a snapshot takes at most.
+const MOST_CONTENTS: u64 = 1 << 30;
 const TURNS: u64 = 1000;
 
 /// A file or directory of a snapshot.
@@ -87,7 +89,8 @@ impl Engine {
     }
 
     /// The whole tree, read by requests of a session of its own. It is `Blocked` where a call of
-    /// another session is under way and holds a directory.
+    /// another session is under way and holds a directory, and `TooLarge` at a file of more than 2^30
+    /// bytes.
     ///
     /// Where several files that have several names look alike in all but these, their atimes are set
     /// for a moment, to tell which names are of one file. They are set back, also where a request
@@ -253,6 +256,9 @@ impl Requests<'_> {
     }
 
     fn read_file(&mut self, path: &[u8], size: u64) -> Result<Vec<u8>, Fault> {
+        if size > MOST_CONTENTS {
+            return Err(Fault::TooLarge(String::from_utf8_lossy(path).into_owned(), size));
+        }
         let open = Packet::request(OPEN).string(path).number(TO_READ).number(0);
         let handle = self.handle(open)?;
         let mut contents = Vec::new();

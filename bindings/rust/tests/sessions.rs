@@ -254,3 +254,22 @@ fn an_engine_goes_to_another_thread() {
     let found = std::thread::spawn(move || engine.snapshot().unwrap().len()).join().unwrap();
     assert_eq!(found, 2);
 }
+
+/// Sets a file's size by a SETSTAT.
+fn set_size(engine: &mut Engine, path: &str, size: u64) {
+    let session = client(engine);
+    let fields = [&string(path.as_bytes())[..], &[0, 0, 0, 1], &size.to_be_bytes()];
+    assert_eq!(ask(engine, session, 0, &request(9, 1, &fields)), done());
+    engine.close(session).unwrap();
+}
+
+#[test]
+fn a_file_too_large_for_a_snapshot() {
+    let mut engine = Engine::from_files([("/a", "1"), ("/d/f", "2")], 0).unwrap();
+    set_size(&mut engine, "/d/f", 1 << 40);
+    let refused = Fault::TooLarge("/d/f".to_string(), 1 << 40);
+    assert_eq!(engine.snapshot(), Err(refused));
+    set_size(&mut engine, "/d/f", 2);
+    let found = engine.snapshot().unwrap();
+    assert_eq!(found["/d/f".as_bytes()].contents.as_deref(), Some(&b"2\0"[..]));
+}

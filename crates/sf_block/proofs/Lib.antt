@@ -1,3 +1,8 @@
-pub mod Blocks
-pub mod Lists
-pub mod Puts
+pub mod Places
+pub mod Waiting
+pub mod Laying
+pub mod Counts
+pub mod Running
+pub mod Pieces
+pub mod EqualMaps
+pub mod InRows

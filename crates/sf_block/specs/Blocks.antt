@@ -1,28 +1,99 @@
--- Bytes in blocks of 32768.
-use Rattle.std.specs.Prelude.{◌≡◌, ◌<◌, ◌≤◌, ◌+◌, ◌*◌, ℕ, List, [], ◌∷◌, ◌++◌, All, length, take, drop}
+-- Bytes in blocks of 4096, each under its number. A missing block is zeros, and so is what a
+-- shorter one lacks.
+use Rattle.std.specs.Prelude.{◌≡◌, ◌⊎◌, ◌≢◌, ◌<◌, ◌≤◌, ◌+◌, ◌-◌, ◌*◌, ◌/◌, ◌%◌, ℕ, max, min, nat_le, nat_lt, ◌&&◌, if◌then◌else◌, List, [], map, length, take, drop, Option, Some, slice_index_or}
+use Rattle.std.specs.Option.{unwrap_or}
+use Rattle.std.specs.List.{range_with_len}
+use Rattle.std.specs.Ordering.{nat_cmp}
+use Rattle.std.specs.Map.{lookup}
+use Rattle.std.specs.BTreeMap.{is_at}
+use Rattle.sf_block.specs.Contents.{written}
 
--- the bytes of blocks one after the other, and those behind them
-abbrev pub joined : List (List ℕ) → List ℕ → List ℕ
-joined [] rest = rest
-joined (b ∷ whole) rest = b ++ joined whole rest
+abbrev pub entry_in : {X : Type 0} → List (ℕ × X) → ℕ → Option X
+entry_in entries k = lookup (is_at (nat_cmp k)) entries
 
--- each block is whole, and behind them is less than one
-abbrev pub AreBlocks : List (List ℕ) → List ℕ → Type 0
-AreBlocks whole rest = All (λ b. length b ≡ 32768) whole × (length rest < 32768)
+-- the row of a number, of eight blocks; a missing one has none
+abbrev pub row_in : List (ℕ × List (List ℕ)) → ℕ → List (List ℕ)
+row_in rows r = unwrap_or (entry_in rows r) []
 
 -- the block of a number
-abbrev pub block_of : ℕ → List ℕ → List ℕ
-block_of i bytes = take 32768 (drop (i * 32768) bytes)
+abbrev pub block_in : List (ℕ × List (List ℕ)) → ℕ → List ℕ
+block_in rows k = slice_index_or (row_in rows (k / 8)) (k % 8) []
 
--- these are the blocks from a number on
-abbrev pub AreBlocksOf : List ℕ → ℕ → List (List ℕ) → Type 0
-AreBlocksOf bytes i [] = Unit {0}
-AreBlocksOf bytes i (b ∷ blocks) = (b ≡ block_of i bytes) × AreBlocksOf bytes (i + 1) blocks
+-- a block of this number has a place
+abbrev pub HasPlace : List (ℕ × List (List ℕ)) → ℕ → Type 0
+HasPlace rows k = k % 8 < length (row_in rows (k / 8))
 
--- with another block in a block's place
-abbrev pub with_block : ℕ → List ℕ → List ℕ → List ℕ
-with_block i block bytes = take (i * 32768) bytes ++ block ++ drop (i * 32768 + 32768) bytes
+-- the byte at a place
+abbrev pub byte_in : (ℕ → List ℕ) → ℕ → ℕ
+byte_in block i = slice_index_or (block (i / 4096)) (i % 4096) 0
 
--- The blocks before a number end with so many bytes from an offset on; where there is no byte, before the offset.
-abbrev pub ReachTo : ℕ → ℕ → ℕ → Type 0
-ReachTo i offset n = (0 < n → offset + n ≤ i * 32768) × (i * 32768 < offset + n + 32768)
+-- the bytes from a place on, so many
+abbrev pub bytes_from : (ℕ → List ℕ) → ℕ → ℕ → List ℕ
+bytes_from block start n = map (byte_in block) (range_with_len start n)
+
+-- the blocks, where some from a number on wait to take their places
+abbrev pub block_now : List (ℕ × List (List ℕ)) → ℕ → List (List ℕ) → ℕ → List ℕ
+block_now blocks first fresh k =
+    if nat_le first k && nat_lt k (first + length fresh) then slice_index_or fresh (k - first) []
+    else block_in blocks k
+
+-- a block was put in the place of a number's, and no other changed
+pub record Puts (old new : List (ℕ × List (List ℕ))) (number : ℕ) (block : List ℕ) : Type 0 where
+  pub at : block_in new number ≡ block
+  pub others : (k : ℕ) → k ≢ number → block_in new k ≡ block_in old k
+  pub kept : (k : ℕ) → HasPlace old k → HasPlace new k
+
+-- the same in a row
+pub record PutsInRow (old new : List (List ℕ)) (i : ℕ) (block : List ℕ) : Type 0 where
+  pub at : slice_index_or new i [] ≡ block
+  pub others : (j : ℕ) → j ≢ i → slice_index_or new j [] ≡ slice_index_or old j []
+  pub kept : length old ≤ length new
+
+-- the part of some bytes from a start on that lies in a block: where it stands in the block, and
+-- what it is
+abbrev pub place_in : ℕ → ℕ → ℕ
+place_in start k = max start (k * 4096) - k * 4096
+
+abbrev pub part_in : ℕ → List ℕ → ℕ → List ℕ
+part_in start bytes k =
+    take (min (start + length bytes) (k * 4096 + 4096) - max start (k * 4096))
+    (drop (max start (k * 4096) - start) bytes)
+
+-- a block with what is written in it
+abbrev pub block_written : (ℕ → List ℕ) → ℕ → List ℕ → ℕ → List ℕ
+block_written block start bytes k = written (block k) (place_in start k) (part_in start bytes k)
+
+-- a run of 32768 bytes that stands in one buffer: they are those of its blocks
+pub record IsRun (block : ℕ → List ℕ) (len k : ℕ) (run : List ℕ) : Type 0 where
+  pub whole : length run ≡ 32768
+  pub within : k * 32768 + 32768 ≤ len
+  pub bytes : (i : ℕ) → i < 32768 → slice_index_or run i 0 ≡ byte_in block (k * 32768 + i)
+
+-- the runs have the bytes of the blocks
+abbrev pub HasBytes : List (ℕ × List ℕ) → (ℕ → List ℕ) → Type 0
+HasBytes runs block =
+    (k : ℕ) (run : List ℕ) → entry_in runs k ≡ Some run → (i : ℕ) → i < 32768
+    → slice_index_or run i 0 ≡ byte_in block (k * 32768 + i)
+
+abbrev pub AreRuns : List (ℕ × List ℕ) → (ℕ → List ℕ) → ℕ → Type 0
+AreRuns runs block len =
+    (k : ℕ) (run : List ℕ) → entry_in runs k ≡ Some run → IsRun block len k run
+
+-- after bytes were written a run was there before and has none of them, or it is these bytes
+abbrev pub IsNoted : List (ℕ × List ℕ) → ℕ → List ℕ → ℕ → List ℕ → Type 0
+IsNoted old offset bytes k run =
+    ((entry_in old k ≡ Some run)
+    × ((k < offset / 32768) ⊎ ((offset + length bytes - 1) / 32768 < k)))
+    ⊎ ((run ≡ bytes) × (length bytes ≡ 32768) × (offset ≡ k * 32768))
+
+-- the part of some bytes from a start on that lies in a run
+abbrev pub piece_in : ℕ → List ℕ → ℕ → List ℕ
+piece_in start bytes r =
+    take (min (start + length bytes) (r * 32768 + 32768) - max start (r * 32768))
+    (drop (max start (r * 32768) - start) bytes)
+
+-- a run is filled by bytes from a start on: it is the part of them that lies in it
+pub record IsFilled (start : ℕ) (bytes : List ℕ) (k : ℕ) (run : List ℕ) : Type 0 where
+  pub from : start ≤ k * 32768
+  pub to : k * 32768 + 32768 ≤ start + length bytes
+  pub is : run ≡ piece_in start bytes k

@@ -1,3 +1,2 @@
 pub mod Contents
 pub mod Blocks
-pub mod Rows

@@ -1,423 +1,400 @@
 //! A file's bytes in blocks.
 
-ghost use Rattle.std.specs.Prelude.{◌≡◌, ◌+◌, ◌-◌, ◌*◌, ◌/◌, ◌%◌, ◌<◌, ◌≤◌, ◌^◌, [], ◌++◌, length, take, drop, replicate, max, slice_index_or, vec_len, vec_capacity, IsOk, IfOk, IfSome, IfNone, OnOk, OnErr};
-ghost use Rattle.sf_block.specs.Contents.{resized, written, IsGrown};
-ghost use Rattle.sf_block.specs.Blocks.{joined, with_block, AreBlocks, AreBlocksOf, ReachTo, block_of};
+ghost use Rattle.std.specs.Prelude.{◌≡◌, ◌⊎◌, ◌+◌, ◌++◌, ◌-◌, ◌*◌, ◌/◌, ◌%◌, ◌<◌, ◌≤◌, ◌^◌, ℕ, List, [], length, take, drop, slice_index_or, Some, IsSome, IfOk, OnOk, OnErr};
+ghost use Rattle.sf_block.specs.Contents.{whole, resized, written, writing, blocks_of};
+ghost use Rattle.sf_block.specs.Blocks.{entry_in, block_in, block_written, bytes_from, piece_in, HasBytes, IsFilled};
 
-use crate::row::Row;
+use crate::blocks::Blocks;
+use crate::runs::Runs;
+use crate::{BLOCK, LEAST_SHARED, RUN};
 use sf_field::ByteString;
 use std::alloc::{AllocError, Global};
 use std::marker::Model;
 
-/// How many bytes a whole block has: as many as clients ask for at once.
-const BLOCK: usize = 32768;
+/// A write's bytes are shared with its blocks up to so many of them: else a block could keep more
+/// alive.
+const MOST_SHARED: usize = 32768;
 
-/// The bytes of a file. Blocks are shared with those who read and wrote them, and replaced where bytes change. Those
-/// that are cut off go where others take their places, and all with the file.
+/// The bytes of a file.
 #[derive(Debug)]
 pub struct Contents {
-    len: usize,
-    /// Blocks of `BLOCK` bytes each.
-    whole: Row,
-    /// The bytes behind them, fewer than `BLOCK`.
-    rest: ByteString,
+    len: u64,
+    blocks: Blocks,
+    /// The number of the first block that waits to take its place.
+    first: u64,
+    /// The blocks that wait, of which the last one goes first. Each has a place.
+    fresh: Vec<ByteString>,
+    runs: Runs,
 }
 
 impl Drop for Contents {
     // By hand: where contents are dropped, a proof then sees one call and not their parts.
     fn drop(self) {
         let Self {
-            whole: _whole,
-            rest: _rest,
             len: _,
+            blocks: _blocks,
+            first: _,
+            fresh: _fresh,
+            runs: _runs,
         } = self;
     }
 }
 
 impl Model for Contents {
-    ghost use Rattle.std.specs.Prelude.{List, ℕ, ◌≡◌, length};
-    ghost use Rattle.sf_block.specs.Blocks.{joined, AreBlocks};
+    ghost use Rattle.std.specs.Prelude.{ℕ, ◌≡◌, ◌+◌, ◌^◌, ◌<◌, ◌≤◌, length};
+    ghost use Rattle.sf_block.specs.Contents.{FileBytes};
+    ghost use Rattle.sf_block.specs.Blocks.{HasPlace, block_now, byte_in, bytes_from, AreRuns};
 
-    ghost Value = { List ℕ };
+    ghost Value = { FileBytes };
 
-    ghost view = { λ contents. joined contents.whole.items contents.rest };
+    ghost view = { λ c. record {
+      bytes = bytes_from (block_now c.blocks c.first c.fresh.items) 0 c.len;
+      left = length c.fresh.items;
+    } };
 
-    ghost invariant = { λ contents. AreBlocks contents.whole.items contents.rest
-        × (contents.len ≡ length (joined contents.whole.items contents.rest)) };
+    ghost invariant = { λ c.
+        ((k : ℕ) → length (block_now c.blocks c.first c.fresh.items k) ≤ 4096)
+        × ((i : ℕ) → c.len ≤ i → byte_in (block_now c.blocks c.first c.fresh.items) i ≡ 0)
+        × ((k : ℕ) → c.first ≤ k → k < c.first + length c.fresh.items
+        → HasPlace c.blocks k)
+        × (c.first + length c.fresh.items < 2 ^ 64)
+        × AreRuns c.runs (block_now c.blocks c.first c.fresh.items) c.len };
 }
 
 impl Contents {
     /// No bytes, and memory for none.
     pub fn new(alloc: Global) -> Contents
-        ensures { result ≡ [] }
+        ensures { result ≡ whole [] }
     {
         Contents {
-            whole: Row::new(alloc),
-            rest: ByteString::new(),
             len: 0,
+            blocks: Blocks::new(alloc),
+            first: 0,
+            fresh: Vec::new(alloc),
+            runs: Runs::new(alloc),
         }
+    }
+
+    /// Equal ones, whose blocks are shared.
+    pub fn try_copy(&self, alloc: Global) -> Result<Contents, AllocError>
+        requires { self.now.left ≡ 0 }
+        ensures { IfOk result (λ copy. copy ≡ self.now) }
+    {
+        Ok(Contents {
+            len: self.len,
+            blocks: self.blocks.try_copy(alloc)?,
+            first: self.first,
+            fresh: Vec::new(alloc),
+            runs: self.runs.try_copy(alloc)?,
+        })
     }
 
     /// How many bytes there are.
     pub fn len(&self) -> u64
-        ensures { result ≡ length self.now }
+        ensures { result ≡ length self.now.bytes }
     {
-        self.len as u64
+        self.len
     }
 
-    /// The bytes from an offset on, of `most` at most: none from the end on. Most of a block is shared, and less
-    /// is copied, so that no block is kept for a few bytes of it.
-    pub fn read(&self, alloc: Global, offset: u64, most: usize) -> Result<ByteString, AllocError>
-        ensures { IfOk result (λ bytes. bytes ≡ take most (drop offset self.now)) }
+    /// How many blocks of a write are still to be copied.
+    pub fn left(&self) -> usize
+        ensures { result ≡ self.now.left }
     {
-        let start = (offset as usize).min(self.len);
-        let n = most.min(self.len - start);
-        let from = start % BLOCK;
-        if n >= BLOCK / 2 && n <= BLOCK - from {
-            if let Some(block) = self.block(start) {
-                return block.part(from, from + n);
-            }
+        self.fresh.len()
+    }
+
+    /// Begins to write: takes all memory that it wants, so that nothing more is refused. The bytes
+    /// are those that it leaves; each of its blocks is still to be copied.
+    pub fn start_write(
+        &mut self,
+        alloc: Global,
+        offset: u64,
+        bytes: &ByteString,
+    ) -> Result<(), AllocError>
+        requires whole { self.old.left ≡ 0 }
+        requires some { 0 < length bytes.now }
+        requires fits { offset + length bytes.now < 2 ^ 64 }
+        ensures ok { OnOk result (self.new ≡ writing self.old.bytes offset bytes.now) }
+        ensures err { OnErr result (self.new ≡ self.old) }
+    {
+        let mut filled = Runs::new(alloc);
+        let fresh = renewed(alloc, &self.blocks, offset, bytes, &mut filled)?;
+        let first = offset / BLOCK;
+        self.blocks.make_places(alloc, first, fresh.len())?;
+        self.first = first;
+        self.fresh = fresh;
+        self.len = self.len.max(offset + bytes.len() as u64);
+        self.runs.note(offset, bytes);
+        self.runs.take_in(filled);
+        Ok(())
+    }
+
+    /// Copies one block of a write: puts it in place. It takes no memory.
+    pub fn copy_block(&mut self)
+        requires { 0 < self.old.left }
+        ensures { self.new ≡ record { bytes = self.old.bytes; left = self.old.left - 1 } }
+    {
+        if let Some(block) = self.fresh.pop() {
+            let number = self.first + self.fresh.len() as u64;
+            self.blocks.put(number, block);
         }
-        ByteString::from_vec(self.gather(alloc, start, start + n)?)
     }
 
-    /// Replaces bytes from an offset on, as POSIX's `pwrite` does: a gap before them is filled with zeros. Where no
-    /// bytes are given, too, the end moves up to the offset.
+    /// Copies all blocks that are left of a write. It takes no memory.
+    pub fn copy_rest(&mut self)
+        ensures { self.new ≡ whole self.old.bytes }
+    {
+        while self.left() > 0 {
+            self.copy_block();
+        }
+    }
+
+    /// Begins to write, and copies all blocks.
     pub fn write(
         &mut self,
         alloc: Global,
         offset: u64,
         bytes: &ByteString,
     ) -> Result<(), AllocError>
-        requires { offset + length bytes.now < 2 ^ 64 }
-        ensures ok { OnOk result (self.new ≡ written self.old offset bytes.now) }
+        requires whole { self.old.left ≡ 0 }
+        requires some { 0 < length bytes.now }
+        requires fits { offset + length bytes.now < 2 ^ 64 }
+        ensures ok { OnOk result (self.new ≡ whole (written self.old.bytes offset bytes.now)) }
         ensures err { OnErr result (self.new ≡ self.old) }
     {
-        let before = self.len;
-        let start = offset as usize;
-        if start > before {
-            self.grow(alloc, start)?;
-        }
-        match self.overwrite(alloc, start, bytes) {
-            Ok(()) => Ok(()),
-            Err(error) => {
-                self.cut(before);
-                Err(error)
-            }
-        }
-    }
-
-    /// Cuts the bytes at a size, or fills them up to it with zeros, as POSIX's `ftruncate` does.
-    pub fn set_len(&mut self, alloc: Global, n: u64) -> Result<(), AllocError>
-        ensures ok { OnOk result (self.new ≡ resized self.old n) }
-        ensures enough { n ≤ length self.old → IsOk result }
-        ensures err { OnErr result (self.new ≡ self.old) }
-    {
-        let size = n as usize;
-        if size > self.len {
-            return self.grow(alloc, size);
-        }
-        self.cut(size);
+        self.start_write(alloc, offset, bytes)?;
+        self.copy_rest();
         Ok(())
     }
 
-    /// The block that has an offset's byte, or would have it.
-    fn block(&self, offset: usize) -> Option<&ByteString>
-        ensures some { IfSome result (λ block. block.now ≡ block_of (offset / 32768) self.now) }
-        ensures none { IfNone result ([] ≡ block_of (offset / 32768) self.now) }
+    /// Cuts the bytes at a size, or fills them up to it with zeros, as POSIX's `ftruncate` does. It
+    /// takes no memory: zeros at the end stand in no block.
+    pub fn set_len(&mut self, n: u64)
+        requires { self.old.left ≡ 0 }
+        ensures { self.new ≡ whole (resized self.old.bytes n) }
     {
-        let whole = self.whole.as_slice();
-        let i = offset / BLOCK;
-        if i < whole.len() {
-            return Some(&whole[i]);
+        if n >= self.len {
+            self.len = n;
+            return;
         }
-        if i == whole.len() {
-            return Some(&self.rest);
-        }
-        None
-    }
-
-    /// The bytes of a block, as `block`.
-    fn bytes_at(&self, offset: usize) -> &[u8]
-        ensures { result.now ≡ block_of (offset / 32768) self.now }
-    {
-        match self.block(offset) {
-            Some(block) => block.as_slice(),
-            None => &[],
-        }
-    }
-
-    /// The bytes of a block from an offset on.
-    fn bytes_from(&self, offset: usize) -> &[u8]
-        ensures { result.now ≡ drop (offset % 32768) (block_of (offset / 32768) self.now) }
-    {
-        let block = self.bytes_at(offset);
-        &block[(offset % BLOCK).min(block.len())..]
-    }
-
-    /// A copy of the bytes from a start up to an end.
-    fn gather(&self, alloc: Global, start: usize, end: usize) -> Result<Vec<u8>, AllocError>
-        requires { (start ≤ end) × (end ≤ length self.now) }
-        ensures { IfOk result (λ copy. copy.items ≡ take (end - start) (drop start self.now)) }
-    {
-        let n = end - start;
-        let mut copy = Vec::with_capacity(alloc, n)?;
-        while copy.len() < n {
-            let more = self.bytes_from(start + copy.len());
-            let most = more.len().min(n - copy.len());
-            copy.extend_from_slice(&more[..most])?;
-        }
-        Ok(copy)
-    }
-
-    /// Keeps the first bytes. It takes no memory.
-    fn cut(&mut self, n: usize)
-        requires { n ≤ length self.old }
-        ensures { self.new ≡ take n self.old }
-    {
-        cut_at(&mut self.whole, &mut self.rest, n / BLOCK);
-        self.rest.truncate(n % BLOCK);
+        self.blocks.cut(n);
+        self.runs.cut(n / RUN);
         self.len = n;
     }
 
-    /// Appends zeros up to a size.
-    fn grow(&mut self, alloc: Global, n: usize) -> Result<(), AllocError>
-        requires { length self.old ≤ n }
-        ensures ok { OnOk result (self.new ≡ resized self.old n) }
-        ensures err { OnErr result (self.new ≡ self.old) }
+    /// The bytes from an offset on, of `most` at most: none from the end on. Most of a run is
+    /// shared, where the run stands in one buffer; all else is copied, so that no run is kept for a
+    /// few bytes of it.
+    pub fn read(&self, alloc: Global, offset: u64, most: usize) -> Result<ByteString, AllocError>
+        requires whole { self.now.left ≡ 0 }
+        ensures { IfOk result (λ bytes. bytes ≡ take most (drop offset self.now.bytes)) }
     {
-        let len = self.len;
-        match self.fill(alloc, n) {
-            Ok(()) => Ok(()),
-            Err(error) => {
-                self.cut(len);
-                Err(error)
+        let start = offset.min(self.len);
+        let n = (most as u64).min(self.len - start);
+        let from = start % RUN;
+        if n >= RUN / 2 && n <= RUN - from {
+            if let Some(run) = self.runs.get(start / RUN) {
+                return run.part(from as usize, (from + n) as usize);
             }
         }
-    }
-
-    /// As `grow`, but where memory runs out some zeros may be there.
-    fn fill(&mut self, alloc: Global, n: usize) -> Result<(), AllocError>
-        requires { length self.old ≤ n }
-        ensures ok { OnOk result (self.new ≡ resized self.old n) }
-        ensures err { OnErr result (IsGrown self.old self.new) }
-    {
-        // First, so that a size beyond all memory fails at once.
-        self.reserve(n - self.len)?;
-        self.fill_blocks(alloc, n - n % BLOCK)?;
-        self.pad(alloc, n)
-    }
-
-    /// Gets memory for the list of the blocks of so many bytes more.
-    fn reserve(&mut self, more: usize) -> Result<(), AllocError>
-        ensures { self.new ≡ self.old }
-    {
-        self.whole.reserve(more / BLOCK + 1)
-    }
-
-    /// Appends zeros up to a seam, if the end is before it.
-    fn fill_blocks(&mut self, alloc: Global, seam: usize) -> Result<(), AllocError>
-        requires { seam % 32768 ≡ 0 }
-        ensures grown { IsGrown self.old self.new }
-        ensures to { length self.new ≤ max (length self.old) seam }
-        ensures from { OnOk result (seam ≤ length self.new) }
-    {
-        if self.len >= seam {
-            return Ok(());
-        }
-        let next = self.len + (BLOCK - self.len % BLOCK);
-        self.pad(alloc, next)?;
-        self.repeat(&zeros(alloc, BLOCK)?, seam)
-    }
-
-    /// Appends zeros up to a size that is behind the last block by no more than one.
-    fn pad(&mut self, alloc: Global, n: usize) -> Result<(), AllocError>
-        requires from { length self.old ≤ n }
-        requires to { n ≤ length self.old / 32768 * 32768 + 32768 }
-        ensures ok { OnOk result (self.new ≡ resized self.old n) }
-        ensures err { OnErr result (self.new ≡ self.old) }
-    {
-        self.whole.reserve(1)?;
-        let room = self.rest.len() + (n - self.len);
-        let block = resized_copy(alloc, self.rest.as_slice(), room)?;
-        let i = self.whole.len();
-        put(&mut self.whole, &mut self.rest, i, block);
-        self.len = n;
-        Ok(())
-    }
-
-    /// Appends the same block of zeros again and again, up to a seam.
-    fn repeat(&mut self, block: &ByteString, seam: usize) -> Result<(), AllocError>
-        requires whole { length block.now ≡ 32768 }
-        requires zeros { block.now ≡ replicate (length block.now) 0 }
-        requires from { length self.old % 32768 ≡ 0 }
-        requires to { (seam % 32768 ≡ 0) × (length self.old ≤ seam) }
-        ensures grown { IsGrown self.old self.new }
-        ensures to { length self.new ≤ seam }
-        ensures from { OnOk result (seam ≤ length self.new) }
-    {
-        while self.len() < seam as u64 {
-            self.append(block.share()?)?;
-        }
-        Ok(())
-    }
-
-    /// Appends a block at a seam.
-    fn append(&mut self, block: ByteString) -> Result<(), AllocError>
-        requires seam { length self.old % 32768 ≡ 0 }
-        requires whole { length block ≡ 32768 }
-        requires fits { length self.old + 32768 < 2 ^ 64 }
-        ensures ok { OnOk result (self.new ≡ self.old ++ block) }
-        ensures err { OnErr result (self.new ≡ self.old) }
-    {
-        self.whole.reserve(1)?;
-        self.whole.push_reserved(block);
-        self.len += BLOCK;
-        Ok(())
-    }
-
-    /// Replaces bytes from an offset on that is not behind the end.
-    fn overwrite(
-        &mut self,
-        alloc: Global,
-        offset: usize,
-        bytes: &ByteString,
-    ) -> Result<(), AllocError>
-        requires place { offset ≤ length self.old }
-        requires fits { offset + length bytes.now < 2 ^ 64 }
-        ensures ok { OnOk result (self.new ≡ written self.old offset bytes.now) }
-        ensures err { OnErr result (self.new ≡ self.old) }
-    {
-        let fresh = self.renewed(alloc, offset, bytes)?;
-        self.whole.reserve(fresh.len())?;
-        let mut i = offset / BLOCK;
-        for block in fresh {
-            put(&mut self.whole, &mut self.rest, i, block);
-            i += 1;
-        }
-        self.len = self.len.max(offset + bytes.len());
-        Ok(())
-    }
-
-    /// The blocks that a write changes, as it leaves them.
-    fn renewed(
-        &self,
-        alloc: Global,
-        offset: usize,
-        bytes: &ByteString,
-    ) -> Result<Vec<ByteString>, AllocError>
-        requires place { offset ≤ length self.now }
-        requires fits { offset + length bytes.now < 2 ^ 64 }
-        ensures blocks { IfOk result (λ fresh.
-            AreBlocksOf (written self.now offset bytes.now) (offset / 32768) fresh.items) }
-        ensures to { IfOk result (λ fresh.
-            ReachTo (offset / 32768 + length fresh.items) offset (length bytes.now)) }
-    {
-        let mut fresh = Vec::new(alloc);
-        let mut done = 0;
-        while done < bytes.len() {
-            let at = offset + done;
-            let n = (BLOCK - at % BLOCK).min(bytes.len() - done);
-            fresh.push(self.block_with(alloc, at, bytes, done, n)?)?;
-            done += n;
-        }
-        Ok(fresh)
-    }
-
-    /// A block with some of the bytes in it: where all of them make a block, they are the block.
-    fn block_with(
-        &self,
-        alloc: Global,
-        at: usize,
-        bytes: &ByteString,
-        done: usize,
-        n: usize,
-    ) -> Result<ByteString, AllocError>
-        requires within { done + n ≤ length bytes.now }
-        requires place { length self.now < at → at % 32768 ≡ 0 }
-        requires fits { at % 32768 + n ≤ 32768 }
-        ensures { IfOk result (λ block. block
-            ≡ written (block_of (at / 32768) self.now) (at % 32768)
-            (take n (drop done bytes.now))) }
-    {
-        let all = bytes.len();
-        if n == BLOCK && all == BLOCK {
-            return bytes.share();
-        }
-        let end = done + n;
-        spliced(
-            alloc,
-            self.bytes_at(at),
-            at % BLOCK,
-            &bytes.as_slice()[done..end],
-        )
+        ByteString::from_vec(gather(alloc, &self.blocks, &self.runs, start, n as usize)?)
     }
 }
 
-/// A copy of bytes with others written over them.
-fn spliced(alloc: Global, old: &[u8], start: usize, bytes: &[u8]) -> Result<ByteString, AllocError>
-    requires place { start ≤ length old.now }
-    requires fits { start + length bytes.now ≤ 32768 }
-    ensures { IfOk result (λ block. block ≡ written old.now start bytes.now) }
+/// The blocks that a write changes, as it leaves them. More bytes than are shared are copied run by
+/// run, and the runs that they fill are put in.
+fn renewed(
+    alloc: Global,
+    blocks: &Blocks,
+    offset: u64,
+    bytes: &ByteString,
+    filled: &mut Runs,
+) -> Result<Vec<ByteString>, AllocError>
+    requires some { 0 < length bytes.now }
+    requires fits { offset + length bytes.now < 2 ^ 64 }
+    requires small { (k : ℕ) → length (block_in blocks.now k) ≤ 4096 }
+    ensures count { IfOk result (λ fresh. length fresh.items ≡ blocks_of offset bytes.now) }
+    ensures blocks { IfOk result (λ fresh. (j : ℕ) → j < length fresh.items
+        → slice_index_or fresh.items j []
+        ≡ block_written (block_in blocks.now) offset bytes.now (offset / 4096 + j)) }
+    ensures filled { (k : ℕ) (run : List ℕ) → entry_in filled.new k ≡ Some run
+        → (entry_in filled.old k ≡ Some run) ⊎ IsFilled offset bytes.now k run }
 {
-    let end = start + bytes.len();
-    let mut block = Vec::with_capacity(alloc, end.max(old.len()))?;
-    block.extend_from_slice(&old[..start])?;
-    block.extend_from_slice(bytes)?;
-    if end < old.len() {
-        block.extend_from_slice(&old[end..])?;
+    if bytes.len() <= MOST_SHARED {
+        return sharing(alloc, blocks, offset, bytes);
     }
+    let end = offset + bytes.len() as u64;
+    let mut fresh = Vec::new(alloc);
+    for run in offset / RUN..(end - 1) / RUN + 1 {
+        let start = offset.max(run * RUN);
+        let piece = piece_of(alloc, run, offset, bytes)?;
+        let mut more = sharing(alloc, blocks, start, &piece)?;
+        fresh.append(&mut more)?;
+        filled.note(start, &piece);
+    }
+    Ok(fresh)
+}
+
+/// A copy of the bytes of a write that lie in a run.
+fn piece_of(
+    alloc: Global,
+    run: u64,
+    offset: u64,
+    bytes: &ByteString,
+) -> Result<ByteString, AllocError>
+    requires fits { offset + length bytes.now < 2 ^ 64 }
+    requires from { offset < run * 32768 + 32768 }
+    requires to { run * 32768 < offset + length bytes.now }
+    ensures { IfOk result (λ piece. piece ≡ piece_in offset bytes.now run) }
+{
+    let start = offset.max(run * RUN);
+    let end = (offset + bytes.len() as u64).min((run * RUN).saturating_add(RUN));
+    let from = (start - offset) as usize;
+    let to = (end - offset) as usize;
+    ByteString::from_slice(alloc, &bytes.as_slice()[from..to])
+}
+
+/// The blocks that a write changes, as it leaves them: parts of its bytes, where these are all that
+/// a block has.
+fn sharing(
+    alloc: Global,
+    blocks: &Blocks,
+    offset: u64,
+    bytes: &ByteString,
+) -> Result<Vec<ByteString>, AllocError>
+    requires some { 0 < length bytes.now }
+    requires fits { offset + length bytes.now < 2 ^ 64 }
+    requires small { (k : ℕ) → length (block_in blocks.now k) ≤ 4096 }
+    ensures count { IfOk result (λ fresh. length fresh.items ≡ blocks_of offset bytes.now) }
+    ensures blocks { IfOk result (λ fresh. (j : ℕ) → j < length fresh.items
+        → slice_index_or fresh.items j []
+        ≡ block_written (block_in blocks.now) offset bytes.now (offset / 4096 + j)) }
+{
+    let end = offset + bytes.len() as u64;
+    let first = offset / BLOCK;
+    let mut fresh = Vec::new(alloc);
+    for number in first..(end - 1) / BLOCK + 1 {
+        fresh.push(block_with(alloc, blocks, number, offset, bytes)?)?;
+    }
+    Ok(fresh)
+}
+
+/// A block as a write leaves it.
+fn block_with(
+    alloc: Global,
+    blocks: &Blocks,
+    number: u64,
+    offset: u64,
+    bytes: &ByteString,
+) -> Result<ByteString, AllocError>
+    requires fits { offset + length bytes.now < 2 ^ 64 }
+    requires from { offset < number * 4096 + 4096 }
+    requires to { number * 4096 < offset + length bytes.now }
+    requires small { length (block_in blocks.now number) ≤ 4096 }
+    ensures { IfOk result (λ block. block
+        ≡ block_written (block_in blocks.now) offset bytes.now number) }
+{
+    let start = offset.max(number * BLOCK);
+    let end = (offset + bytes.len() as u64).min((number * BLOCK).saturating_add(BLOCK));
+    let from = (start - offset) as usize;
+    let to = (end - offset) as usize;
+    let place = (start - number * BLOCK) as usize;
+    if to - from == BLOCK as usize {
+        return bytes.part(from, to);
+    }
+    with_part(alloc, blocks.get(number), place, bytes, from, to)
+}
+
+/// A block's bytes, with a part of others written over them from a place on: where that is all of
+/// them, it is shared.
+fn with_part(
+    alloc: Global,
+    old: &[u8],
+    place: usize,
+    bytes: &ByteString,
+    from: usize,
+    to: usize,
+) -> Result<ByteString, AllocError>
+    requires part { (from ≤ to) × (to ≤ length bytes.now) }
+    requires fits { place + (to - from) ≤ 4096 }
+    ensures { IfOk result (λ block. block
+        ≡ written old.now place (take (to - from) (drop from bytes.now))) }
+{
+    let n = to - from;
+    if place == 0 && n >= old.len() && n >= LEAST_SHARED {
+        return bytes.part(from, to);
+    }
+    spliced(alloc, old, place, &bytes.as_slice()[from..to])
+}
+
+/// A copy of bytes with others written over them from a place on; a gap before that is zeros.
+fn spliced(alloc: Global, old: &[u8], place: usize, bytes: &[u8]) -> Result<ByteString, AllocError>
+    requires { place + length bytes.now ≤ 4096 }
+    ensures { IfOk result (λ block. block ≡ written old.now place bytes.now) }
+{
+    let end = place + bytes.len();
+    let mut block = Vec::with_capacity(alloc, end.max(old.len()))?;
+    block.extend_from_slice(&old[..place.min(old.len())])?;
+    block.resize(place, 0)?;
+    block.extend_from_slice(bytes)?;
+    block.extend_from_slice(&old[end.min(old.len())..])?;
     ByteString::from_vec(block)
 }
 
-/// A copy of bytes, cut at a size or filled up to it.
-fn resized_copy(alloc: Global, old: &[u8], n: usize) -> Result<ByteString, AllocError>
-    ensures { IfOk result (λ bytes. bytes ≡ resized old.now n) }
+/// A copy of the bytes from a place on.
+fn gather(
+    alloc: Global,
+    blocks: &Blocks,
+    runs: &Runs,
+    start: u64,
+    n: usize,
+) -> Result<Vec<u8>, AllocError>
+    requires fits { start + n < 2 ^ 64 }
+    requires runs { HasBytes runs.now (block_in blocks.now) }
+    ensures { IfOk result (λ copy. copy.items ≡ bytes_from (block_in blocks.now) start n) }
 {
-    let mut bytes = Vec::with_capacity(alloc, n)?;
-    bytes.extend_from_slice(&old[..n.min(old.len())])?;
-    bytes.resize(n, 0)?;
-    ByteString::from_vec(bytes)
-}
-
-/// So many zeros.
-fn zeros(alloc: Global, n: usize) -> Result<ByteString, AllocError>
-    ensures len { IfOk result (λ bytes. length bytes ≡ n) }
-    ensures zeros { IfOk result (λ bytes. bytes ≡ replicate (length bytes) 0) }
-{
-    let mut bytes = Vec::with_capacity(alloc, n)?;
-    bytes.resize(n, 0)?;
-    ByteString::from_vec(bytes)
-}
-
-/// Puts a block in place of another, or behind them all, in memory that is there.
-fn put(whole: &mut Row, rest: &mut ByteString, i: usize, block: ByteString)
-    requires blocks { AreBlocks whole.old.items rest.old }
-    requires place { i ≤ length whole.old.items }
-    requires room { 0 < whole.old.room }
-    requires fits { length block ≤ 32768 }
-    requires within { i < length whole.old.items → length block ≡ 32768 }
-    ensures blocks { AreBlocks whole.new.items rest.new }
-    ensures bytes { joined whole.new.items rest.new
-        ≡ with_block i block (joined whole.old.items rest.old) }
-    ensures room { whole.old.room ≤ whole.new.room + 1 }
-{
-    if i < whole.len() {
-        whole.set(i, block);
-    } else if block.len() < BLOCK {
-        *rest = block;
-    } else {
-        whole.push_reserved(block);
-        *rest = ByteString::new();
+    let mut copy = Vec::with_capacity(alloc, n)?;
+    while copy.len() < n {
+        let at = start + copy.len() as u64;
+        let most = n - copy.len();
+        append_from(&mut copy, blocks, runs, at, most)?;
     }
+    Ok(copy)
 }
 
-/// Takes a block out, and those behind it: it is what is left behind the others.
-fn cut_at(whole: &mut Row, rest: &mut ByteString, i: usize)
-    ensures whole { whole.new.items ≡ take i whole.old.items }
-    ensures rest { rest.new ≡ slice_index_or whole.old.items i rest.old }
+/// Appends the bytes from a place on up to the end of its run, where that stands in one buffer, or
+/// else of its block: `most` of them at most.
+fn append_from(
+    copy: &mut Vec<u8>,
+    blocks: &Blocks,
+    runs: &Runs,
+    at: u64,
+    most: usize,
+) -> Result<(), AllocError>
+    requires some { 0 < most }
+    requires fits { length copy.old.items + most < 2 ^ 64 }
+    requires runs { HasBytes runs.now (block_in blocks.now) }
+    ensures grows { OnOk result (length copy.old.items < length copy.new.items) }
+    ensures most { OnOk result (length copy.new.items ≤ length copy.old.items + most) }
+    ensures bytes { OnOk result (copy.new.items ≡ copy.old.items
+        ++ bytes_from (block_in blocks.now) at (length copy.new.items - length copy.old.items)) }
 {
-    if i < whole.len() {
-        *rest = whole.cut(i);
+    if let Some(run) = runs.get(at / RUN) {
+        let n = ((RUN - at % RUN) as usize).min(most);
+        return append(copy, run.as_slice(), (at % RUN) as usize, n);
     }
+    let n = ((BLOCK - at % BLOCK) as usize).min(most);
+    append(copy, blocks.get(at / BLOCK), (at % BLOCK) as usize, n)
+}
+
+/// Appends bytes of a block or a run from a place on; behind its end they are zeros.
+fn append(copy: &mut Vec<u8>, block: &[u8], place: usize, n: usize) -> Result<(), AllocError>
+    requires { length copy.old.items + n < 2 ^ 64 }
+    ensures { OnOk result (copy.new.items
+        ≡ copy.old.items ++ resized (drop place block.now) n) }
+{
+    let end = copy.len() + n;
+    let there = &block[place.min(block.len())..];
+    copy.extend_from_slice(&there[..n.min(there.len())])?;
+    copy.resize(end, 0)
 }

@@ -1,12 +1,33 @@
 //! The bytes of a file, in memory.
 //!
-//! Start with `Contents`, which contracts see as a list of bytes. `specs/Contents.antt` says what a new size makes
-//! of them (`resized`), and a write (`written`), as POSIX's `ftruncate` and `pwrite` do. Inside, they are in blocks
-//! of 32768 bytes, which are shared with those who read and wrote them (`specs/Blocks.antt`); `row.rt` has those in a
-//! row. A write or a growth for which there is no memory changes nothing, and a cut takes none.
+//! Start with `WholeContents`, which contracts see as a list of bytes. `specs/Contents.antt` says
+//! what a new size makes of them (`resized`), and a write (`written`), as POSIX's `ftruncate` and
+//! `pwrite` do. Inside, `Contents` has blocks of 4096 bytes, eight in a row, under their numbers
+//! (`specs/Blocks.antt`); one that is missing is zeros, so that a gap takes no memory. A write
+//! makes all its blocks first, and is refused whole; to put one in place takes no memory. So
+//! contracts see of `Contents` a count of blocks that are still to be copied, too.
 #![tactic(auto)]
 
+mod blocks;
 mod contents;
+mod copies;
+mod laws;
 mod row;
+mod runs;
+mod whole;
 
 pub use contents::Contents;
+pub use laws::{copied_whole, few_blocks};
+pub use whole::WholeContents;
+
+/// How many bytes a whole block has.
+const BLOCK: u64 = 4096;
+
+/// How many blocks a row has: those of a run.
+const ROW: u64 = 8;
+
+/// How many bytes a run has: as many as clients write and ask for at once.
+const RUN: u64 = 32768;
+
+/// Bytes of a block that are fewer than so many have a buffer of their own.
+const LEAST_SHARED: usize = 2048;

@@ -1,102 +1,108 @@
 //! Blocks in a row.
 
-ghost use Rattle.std.specs.Prelude.{◌≡◌, ◌+◌, ◌<◌, ◌≤◌, ◌^◌, [], ◌++◌, ◌∷◌, length, take, slice_set, slice_index_or, IsOk, OnOk, OnErr};
+ghost use Rattle.std.specs.Prelude.{◌≡◌, ◌<◌, ◌≤◌, ℕ, nat_lt, [], length, if◌then◌else◌, take, slice_index_or, IfOk, OnOk};
+ghost use Rattle.sf_block.specs.Blocks.{PutsInRow};
 
+use crate::copies::TryCopy;
+use crate::{LEAST_SHARED, ROW};
 use sf_field::ByteString;
 use std::alloc::{AllocError, Global};
 use std::marker::Model;
-use std::mem;
 
-/// Blocks in a row. One that is cut off stays behind them until another takes its place, so that a file that is
-/// emptied and written anew gives a block back for each one that it takes: memory that is given back all at once
-/// goes to the system, which clears it before it gives it again.
+/// Eight blocks in a row, or its first ones: one that is missing is zeros.
 #[derive(Debug, Drop)]
 pub(crate) struct Row {
-    /// Those in the row, and behind them those that were cut off.
     list: Vec<ByteString>,
-    count: usize,
 }
 
 impl Model for Row {
-    ghost use Rattle.std.specs.Prelude.{◌≤◌, ◌-◌, length, take};
-    ghost use Rattle.std.specs.Vec.{vec_capacity};
-    ghost use Rattle.sf_block.specs.Rows.{RowView};
+    ghost use Rattle.std.specs.Prelude.{ℕ, List};
 
-    ghost Value = { RowView };
+    ghost Value = { List (List ℕ) };
 
-    ghost view = { λ blocks. record {
-      items = take blocks.count blocks.list.items;
-      room = vec_capacity blocks.list - blocks.count;
-    } };
-
-    ghost invariant = { λ blocks. blocks.count ≤ length blocks.list.items };
+    ghost view = { λ row. row.list.items };
 }
 
 impl Row {
-    /// No blocks, and memory for none.
-    pub(crate) fn new(alloc: Global) -> Row
-        ensures { result.items ≡ [] }
+    /// No blocks, and memory for eight.
+    pub(crate) fn new(alloc: Global) -> Result<Row, AllocError>
+        ensures { IfOk result (λ row. row ≡ []) }
     {
-        Row {
-            list: Vec::new(alloc),
-            count: 0,
+        Ok(Row {
+            list: Vec::with_capacity(alloc, ROW as usize)?,
+        })
+    }
+
+    /// The bytes of a block: fewer where it ends in zeros, and none where it is missing.
+    pub(crate) fn get(&self, i: usize) -> &[u8]
+        ensures { result.now ≡ slice_index_or self.now i [] }
+    {
+        match self.list.get(i) {
+            Some(block) => block.as_slice(),
+            None => &[],
         }
     }
 
-    /// How many there are.
-    pub(crate) fn len(&self) -> usize
-        ensures { result ≡ length self.now.items }
+    /// Makes places for eight blocks: one without bytes, where none is there.
+    pub(crate) fn fill(&mut self) -> Result<(), AllocError>
+        ensures same { (j : ℕ) → slice_index_or self.new j [] ≡ slice_index_or self.old j [] }
+        ensures kept { length self.old ≤ length self.new }
+        ensures there { OnOk result (8 ≤ length self.new) }
     {
-        self.count
-    }
-
-    /// The blocks.
-    pub(crate) fn as_slice(&self) -> &[ByteString]
-        ensures { result.now ≡ self.now.items }
-    {
-        &self.list[..self.count]
-    }
-
-    /// Gets memory for so many more, and none where as many were cut off.
-    pub(crate) fn reserve(&mut self, more: usize) -> Result<(), AllocError>
-        ensures items { self.new.items ≡ self.old.items }
-        ensures ok { OnOk result (more ≤ self.new.room) }
-        ensures enough { more ≤ self.old.room → IsOk result }
-    {
-        let cut_off = self.list.len() - self.count;
-        self.list.reserve(more.saturating_sub(cut_off))
-    }
-
-    /// Puts a block in another one's place.
-    pub(crate) fn set(&mut self, i: usize, block: ByteString)
-        requires { i < length self.old.items }
-        ensures items { self.new.items ≡ slice_set self.old.items i block }
-        ensures room { self.new.room ≡ self.old.room }
-    {
-        self.list[i] = block;
-    }
-
-    /// Appends a block, for which there is memory.
-    pub(crate) fn push_reserved(&mut self, block: ByteString)
-        requires { 0 < self.old.room }
-        ensures items { self.new.items ≡ self.old.items ++ block ∷ [] }
-        ensures room { self.new.room + 1 ≡ self.old.room }
-    {
-        if self.count < self.list.len() {
-            self.list[self.count] = block;
-        } else {
-            self.list.push_reserved(block);
+        while self.list.len() < ROW as usize {
+            self.list.push(ByteString::new())?;
         }
-        self.count += 1;
+        Ok(())
     }
 
-    /// Cuts off a block and those behind it, and gives that block. It takes no memory.
-    pub(crate) fn cut(&mut self, i: usize) -> ByteString
-        requires { i < length self.old.items }
-        ensures items { self.new.items ≡ take i self.old.items }
-        ensures block { result ≡ slice_index_or self.old.items i result }
+    /// Puts a block in its place, if that is there.
+    pub(crate) fn put(&mut self, i: usize, block: ByteString)
+        ensures { i < length self.old → PutsInRow self.old self.new i block }
     {
-        self.count = i;
-        mem::replace(&mut self.list[i], ByteString::new())
+        if let Some(place) = self.list.get_mut(i) {
+            *place = block;
+        }
+    }
+
+    /// Keeps of a block the first bytes. A few get a buffer of their own, if there is memory, so
+    /// that they keep no large one alive.
+    pub(crate) fn truncate(&mut self, i: usize, n: usize)
+        ensures { PutsInRow self.old self.new i (take n (slice_index_or self.old i [])) }
+    {
+        let alloc = *self.list.allocator();
+        if let Some(block) = self.list.get_mut(i) {
+            block.truncate(n);
+            separate(alloc, block);
+        }
+    }
+
+    /// Takes out the blocks from one on.
+    pub(crate) fn cut(&mut self, i: usize)
+        ensures { (j : ℕ) → slice_index_or self.new j []
+            ≡ (if nat_lt j i then slice_index_or self.old j [] else []) }
+    {
+        self.list.truncate(i);
+    }
+}
+
+/// Copies bytes that are too few to be shared, if there is memory.
+fn separate(alloc: Global, block: &mut ByteString)
+    ensures { block.new ≡ block.old }
+{
+    if block.len() < LEAST_SHARED {
+        if let Ok(copy) = ByteString::from_slice(alloc, block.as_slice()) {
+            *block = copy;
+        }
+    }
+}
+
+impl TryCopy for Row {
+    fn try_copy(&self, alloc: Global) -> Result<Row, AllocError> {
+        let mut list = Vec::with_capacity(alloc, ROW as usize)?;
+        for block in &self.list {
+            let share = block.share()?;
+            list.push(share)?;
+        }
+        Ok(Row { list })
     }
 }

@@ -1,7 +1,7 @@
 //! Limits of the tree.
 
 /// The most bytes that a file has.
-pub const MAX_FILE_SIZE: u64 = 16_777_216;
+pub const MAX_FILE_SIZE: u64 = 1_099_511_627_776;
 
 /// The most bytes that one READ gives.
 pub const MAX_READ: u32 = 261_120;

@@ -80,15 +80,15 @@ pub fn listed_attributes()
 
 /// The limits in numbers: the most that passes, and what is refused.
 pub fn limit_cases()
-    // A file has at most 16777216 bytes, by a size
+    // A file has at most 1099511627776 bytes, by a size
     ensures sized { (m : Metadata) (contents : List ℕ)
-        → (refuses_size (File m contents) (Some 16777216) ≡ false)
-        × (refuses_size (File m contents) (Some 16777217) ≡ true) }
+        → (refuses_size (File m contents) (Some 1099511627776) ≡ false)
+        × (refuses_size (File m contents) (Some 1099511627777) ≡ true) }
     // and by a byte that is written.
     ensures written { (moment byte : ℕ) (handle : Handle) (m : Metadata) (contents : List ℕ)
         → handle.write ≡ true → handle.append ≡ false
-        → ((write moment 16777215 (byte ∷ []) (OpenFile handle m contents)).reply ≡ Status Success)
-        × (write moment 16777216 (byte ∷ []) (OpenFile handle m contents) ≡ refuses Failure) }
+        → ((write moment 1099511627775 (byte ∷ []) (OpenFile handle m contents)).reply ≡ Status Success)
+        × (write moment 1099511627776 (byte ∷ []) (OpenFile handle m contents) ≡ refuses Failure) }
     // One READ gives at most 261120 bytes.
     ensures read { (len : ℕ) (handle : Handle) (m : Metadata) (contents : List ℕ)
         → handle.read ≡ true → 0 < length contents → 261120 ≤ len

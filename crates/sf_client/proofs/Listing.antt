@@ -199,6 +199,7 @@ list_failed n v u w entries a b fault.Stream g some h = broke_since v u w g.flig
 list_failed n v u w entries a b fault.Protocol g some h = flight_spoilt (AsksNames n) due.Names v u w g.xs g.qs a g.flight some (λ q such. ap due_of such) h
 list_failed n v u w entries a b (fault.Status code) g some h = absurd h
 list_failed n v u w entries a b fault.OutOfMemory g some h = absurd h
+list_failed n v u w entries a b (fault.TooLarge size) g some h = absurd h
 list_failed n v u w entries a b fault.Failed g some h = absurd h
 
 listed : (n : ℕ) (v u : ClientView) (entries : List Entry) (s : Option ClientFault) (dropped waiting : ℕ) (xs : List Exchange) → s ≢ None → Exchanged v xs u → SoFar n entries s dropped waiting xs → Does (ListsAll n) v (ended_by s entries) u

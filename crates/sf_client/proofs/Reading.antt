@@ -19,7 +19,7 @@ use Rattle.sf_client.specs.Dues.{Refuses, due_of, is_answer, is_due}
 use Rattle.sf_client.specs.Exchanges.{ClientView, Exchange, Exchanged, Sent, Took, id_after}
 use Rattle.sf_client.specs.Outcomes.{asked}
 use Rattle.sf_client.specs.Ahead.{EndsBy, GathersPiece, SendsOn, TakesOn, sender}
-use Rattle.sf_client.specs.Calls.{Does, IsLast, IsReadOf, KeepsSome, read_from, reads, Reads, ReadsAll, AsksSize, size_of, ended_by, told_by}
+use Rattle.sf_client.specs.Calls.{Does, IsLast, IsReadOf, KeepsSome, read_from, reads, Reads, ReadsAll, AsksSize, size_of, most_gathered, ended_by, told_by}
 use Rattle.sf_client.proofs.Exchanging.{exchanged_none, exchanged_then, unanswered_then}
 use Rattle.sf_client.proofs.Steps.{broke_since, answer_due}
 use Rattle.sf_client.proofs.Runs.{ended_does, eof_is}
@@ -305,6 +305,7 @@ read_failed n v u w bytes a b fault.Stream g some h = broke_since v u w g.flight
 read_failed n v u w bytes a b fault.Protocol g some h = flight_spoilt (IsReadOf n) (due.Data 32768) v u w g.xs g.qs a g.flight some (λ q such. ap due_of such.1) h
 read_failed n v u w bytes a b (fault.Status code) g some h = absurd h
 read_failed n v u w bytes a b fault.OutOfMemory g some h = absurd h
+read_failed n v u w bytes a b (fault.TooLarge size) g some h = absurd h
 read_failed n v u w bytes a b fault.Failed g some h = absurd h
 
 read : (n : ℕ) (v u : ClientView) (bytes : List ℕ) (s : Option ClientFault) (dropped waiting : ℕ) (qs : List WireRequest) (xs kept : List Exchange) → s ≢ None → Exchanged v xs u → KeepsSome n xs kept → SoFar n bytes s dropped waiting qs kept
@@ -348,13 +349,14 @@ measure (Some f) len dropped waiting = waiting
 
 -- ---- with the size before it
 
-pub sized : (n : ℕ) (v u w : ClientView) (size : ℕ) (result : Result (List ℕ) ClientFault) → AsksSize n v (Ok size) u → Does (Reads n) u result w → Does (ReadsAll n) v result w
-sized n v u w size (Ok bytes) h used = (_, (h.0, used.0, used.1, refl), exchanged_then v u w (asked (request.FStat (be64 n)) h.0 ∷ []) used.0 h.2 used.2)
-sized n v u w size (Err fault.Stream) h used = broke_since v u w h.2.failures used
-sized n v u w size (Err fault.Protocol) h used = (_, used.1, used.2, unanswered_then v u w (asked (request.FStat (be64 n)) h.0 ∷ []) used.0 used.1 used.2 h.2 used.3)
-sized n v u w size (Err (fault.Status code)) h used = (_, inr (h.0, used.0, used.1, refl), exchanged_then v u w (asked (request.FStat (be64 n)) h.0 ∷ []) used.0 h.2 used.2)
-sized n v u w size (Err fault.OutOfMemory) h used = (_, inr (h.0, used.0, used.1, refl), exchanged_then v u w (asked (request.FStat (be64 n)) h.0 ∷ []) used.0 h.2 used.2)
-sized n v u w size (Err fault.Failed) h used = let going = h.2.going in let failed = used.0 in absurd cc
+pub sized : (n : ℕ) (v u w : ClientView) (size : ℕ) (result : Result (List ℕ) ClientFault) → AsksSize n v (Ok size) u → size ≤ most_gathered → Does (Reads n) u result w → Does (ReadsAll n) v result w
+sized n v u w size (Ok bytes) h small used = (_, (h.0, used.0, subst (λ (k : ℕ). k ≤ most_gathered) h.1 small, used.1, refl), exchanged_then v u w (asked (request.FStat (be64 n)) h.0 ∷ []) used.0 h.2 used.2)
+sized n v u w size (Err fault.Stream) h small used = broke_since v u w h.2.failures used
+sized n v u w size (Err fault.Protocol) h small used = (_, used.1, used.2, unanswered_then v u w (asked (request.FStat (be64 n)) h.0 ∷ []) used.0 used.1 used.2 h.2 used.3)
+sized n v u w size (Err (fault.Status code)) h small used = (_, inr (inr (h.0, used.0, subst (λ (k : ℕ). k ≤ most_gathered) h.1 small, used.1, refl)), exchanged_then v u w (asked (request.FStat (be64 n)) h.0 ∷ []) used.0 h.2 used.2)
+sized n v u w size (Err fault.OutOfMemory) h small used = (_, inr (inr (h.0, used.0, subst (λ (k : ℕ). k ≤ most_gathered) h.1 small, used.1, refl)), exchanged_then v u w (asked (request.FStat (be64 n)) h.0 ∷ []) used.0 h.2 used.2)
+sized n v u w size (Err (fault.TooLarge more)) h small used = (_, inr (inr (h.0, used.0, subst (λ (k : ℕ). k ≤ most_gathered) h.1 small, used.1, refl)), exchanged_then v u w (asked (request.FStat (be64 n)) h.0 ∷ []) used.0 h.2 used.2)
+sized n v u w size (Err fault.Failed) h small used = let going = h.2.going in let failed = used.0 in absurd cc
 
 no_room_for_size : (n : ℕ) (v w : ClientView) → v.failed ≡ false → (w ≡ v) ⊎ ((r : Reply) × Exchanged v (asked (request.FStat (be64 n)) r ∷ []) w) → Does (ReadsAll n) v (Err fault.OutOfMemory) w
 no_room_for_size n v w began (inl same) = ([], inl (inl (refl, refl), refl), subst (Exchanged v []) (sym same) (exchanged_none v began))
@@ -365,4 +367,5 @@ unsized n v w fault.Stream h = h.1
 unsized n v w fault.Protocol h = ([], request.FStat (be64 n), [], h.1)
 unsized n v w (fault.Status code) h = absurd (h.0 code refl)
 unsized n v w fault.OutOfMemory h = no_room_for_size n v w h.1.0 h.1.1
+unsized n v w (fault.TooLarge size) h = absurd h.1
 unsized n v w fault.Failed h = h.1

@@ -23,6 +23,7 @@ told_ends n first v w (Err fault.Stream) h = inr (inl (refl, h))
 told_ends n first v w (Err fault.Protocol) h = inr (inr (refl, h))
 told_ends n first v w (Err (fault.Status code)) h = inl (refl, (h.0, h.2))
 told_ends n first v w (Err fault.OutOfMemory) h = inl (refl, h)
+told_ends n first v w (Err (fault.TooLarge size)) h = absurd h
 told_ends n first v w (Err fault.Failed) h = absurd h
 
 -- ---- what a call's result says
@@ -43,6 +44,7 @@ by_handle_unopened S opening v w fault.Stream h = h
 by_handle_unopened S opening v w fault.Protocol h = ([], opening, [], h)
 by_handle_unopened S opening v w (fault.Status code) h = (asked opening h.0 ∷ [], inl (inr (h.0, refl, h.1)), h.2)
 by_handle_unopened S opening v w fault.OutOfMemory h = unopened S opening v w h.0 h.1
+by_handle_unopened S opening v w (fault.TooLarge size) h = absurd h
 by_handle_unopened S opening v w fault.Failed h = h
 
 -- all the exchanges of a call by a handle
@@ -59,6 +61,7 @@ closed_badly S opening n v u m w x (fault.Status code) opened used h =
     (_, inr (n, used.0 ++ asked (request.Close (be64 n)) h.0 ∷ [], (used.0, h.0, inr (x, used.1, h.1), refl), refl), whole_call opening n h.0 v u m w used.0 opened used.2 h.2)
 closed_badly S opening n v u m w x fault.OutOfMemory opened used h =
     (_, inr (n, used.0 ++ asked (request.Close (be64 n)) h.0 ∷ [], (used.0, h.0, inr (x, used.1, tt), refl), refl), whole_call opening n h.0 v u m w used.0 opened used.2 h.1)
+closed_badly S opening n v u m w x (fault.TooLarge size) opened used h = absurd h
 closed_badly S opening n v u m w x fault.Failed opened used h = absurd h
 
 spoilt_by : {X : Type 0} (S : ℕ → List Exchange → Result X ClientFault → Type 0) (opening : WireRequest) (v m w : ClientView) (xs : List Exchange) (q : WireRequest) (f : ClientFault) → Exchanged v xs m
@@ -66,17 +69,12 @@ spoilt_by : {X : Type 0} (S : ℕ → List Exchange → Result X ClientFault →
 spoilt_by S opening v m w xs q f ex (inl h) = subst (λ (g : ClientFault). Does (ByHandle opening S) v (Err g) w) (sym h.0) (broke_since v m w ex.failures h.1)
 spoilt_by S opening v m w xs q f ex (inr h) = subst (λ (g : ClientFault). Does (ByHandle opening S) v (Err g) w) (sym h.0) (_, q, [], unanswered_then v m w xs [] q [] ex h.1)
 
-refused_then : {X : Type 0} (S : ℕ → List Exchange → Result X ClientFault → Type 0) (opening : WireRequest) (n : ℕ) (v u m w : ClientView) (code : StatusCode) (f : ClientFault) → Exchanged v (asked opening (reply.Handle n) ∷ []) u
-    → Does (S n) u (Err (fault.Status code)) m → EndsAfter n (fault.Status code) m f w → Does (ByHandle opening S) v (Err f) w
-refused_then S opening n v u m w code f opened used (inl h) = subst (λ (g : ClientFault). Does (ByHandle opening S) v (Err g) w) (sym h.0)
-    (_, inr (n, used.0 ++ asked (request.Close (be64 n)) h.1.0 ∷ [], (used.0, h.1.0, inl used.1, refl), refl), whole_call opening n h.1.0 v u m w used.0 opened used.2 h.1.1)
-refused_then S opening n v u m w code f opened used (inr h) = spoilt_by S opening v m w _ (request.Close (be64 n)) f (exchanged_then v u m (asked opening (reply.Handle n) ∷ []) used.0 opened used.2) h
-
-no_memory_then : {X : Type 0} (S : ℕ → List Exchange → Result X ClientFault → Type 0) (opening : WireRequest) (n : ℕ) (v u m w : ClientView) (f : ClientFault) → Exchanged v (asked opening (reply.Handle n) ∷ []) u
-    → Does (S n) u (Err fault.OutOfMemory) m → EndsAfter n fault.OutOfMemory m f w → Does (ByHandle opening S) v (Err f) w
-no_memory_then S opening n v u m w f opened used (inl h) = subst (λ (g : ClientFault). Does (ByHandle opening S) v (Err g) w) (sym h.0)
-    (_, inr (n, used.0 ++ asked (request.Close (be64 n)) h.1.0 ∷ [], (used.0, h.1.0, inl used.1, refl), refl), whole_call opening n h.1.0 v u m w used.0 opened used.2 h.1.1)
-no_memory_then S opening n v u m w f opened used (inr h) = spoilt_by S opening v m w _ (request.Close (be64 n)) f (exchanged_then v u m (asked opening (reply.Handle n) ∷ []) used.0 opened used.2) h
+-- CLOSE after a fault that leaves the client in step
+fault_then : {X : Type 0} (S : ℕ → List Exchange → Result X ClientFault → Type 0) (opening : WireRequest) (n : ℕ) (v u m w : ClientView) (first f : ClientFault) (ys : List Exchange) → Exchanged v (asked opening (reply.Handle n) ∷ []) u
+    → S n ys (Err first) → Exchanged u ys m → ((xs : List Exchange) → ByHandle opening S xs (Err first) → Exchanged v xs w → Does (ByHandle opening S) v (Err first) w) → EndsAfter n first m f w → Does (ByHandle opening S) v (Err f) w
+fault_then S opening n v u m w first f ys opened used ex does (inl h) = subst (λ (g : ClientFault). Does (ByHandle opening S) v (Err g) w) (sym h.0)
+    (does _ (inr (n, ys ++ asked (request.Close (be64 n)) h.1.0 ∷ [], (ys, h.1.0, inl used, refl), refl)) (whole_call opening n h.1.0 v u m w ys opened ex h.1.1))
+fault_then S opening n v u m w first f ys opened used ex does (inr h) = spoilt_by S opening v m w _ (request.Close (be64 n)) f (exchanged_then v u m (asked opening (reply.Handle n) ∷ []) ys opened ex) h
 
 pub by_handle_done : {X : Type 0} (S : ℕ → List Exchange → Result X ClientFault → Type 0) (opening : WireRequest) (n : ℕ) (v u m w : ClientView) (came result : Result X ClientFault) → Exchanged v (asked opening (reply.Handle n) ∷ []) u
     → Does (S n) u came m → ClosesAfter n came m result w → Does (ByHandle opening S) v result w
@@ -89,8 +87,12 @@ by_handle_done S opening n v u m w (Err fault.Stream) (Err f) opened used h =
 by_handle_done S opening n v u m w (Err fault.Protocol) (Err f) opened used h =
     subst (λ (g : ClientFault). Does (ByHandle opening S) v (Err g) w) (sym h.0)
     (_, used.1, used.2, unanswered_then v u w (asked opening (reply.Handle n) ∷ []) used.0 used.1 used.2 opened (subst (Unanswered u used.0 used.1 used.2) (sym h.1) used.3))
-by_handle_done S opening n v u m w (Err (fault.Status code)) (Err f) opened used h = refused_then S opening n v u m w code f opened used h
-by_handle_done S opening n v u m w (Err fault.OutOfMemory) (Err f) opened used h = no_memory_then S opening n v u m w f opened used h
+by_handle_done S opening n v u m w (Err (fault.Status code)) (Err f) opened used h =
+    fault_then S opening n v u m w (fault.Status code) f used.0 opened used.1 used.2 (λ xs does ex. (xs, does, ex)) h
+by_handle_done S opening n v u m w (Err fault.OutOfMemory) (Err f) opened used h =
+    fault_then S opening n v u m w fault.OutOfMemory f used.0 opened used.1 used.2 (λ xs does ex. (xs, does, ex)) h
+by_handle_done S opening n v u m w (Err (fault.TooLarge size)) (Err f) opened used h =
+    fault_then S opening n v u m w (fault.TooLarge size) f used.0 opened used.1 used.2 (λ xs does ex. (xs, does, ex)) h
 by_handle_done S opening n v u m w (Err fault.Failed) (Err f) opened used h = let going = opened.going in let failed = used.0 in absurd cc
 
 -- ---- what is read to its end
@@ -127,4 +129,5 @@ ended_does S v u xs x (fault.Status Failure) q last ex is err ok = (xs, err, ex)
 ended_does S v u xs x (fault.Status BadMessage) q last ex is err ok = (xs, err, ex)
 ended_does S v u xs x (fault.Status OpUnsupported) q last ex is err ok = (xs, err, ex)
 ended_does S v u xs x fault.OutOfMemory q last ex is err ok = (xs, err, ex)
+ended_does S v u xs x (fault.TooLarge size) q last ex is err ok = absurd (no_last q last (fault.TooLarge size) (λ r h. h) (λ e. cc) is)
 ended_does S v u xs x fault.Failed q last ex is err ok = absurd (no_last q last fault.Failed (λ r h. h) (λ e. cc) is)

@@ -75,6 +75,7 @@ settled_err v u w bytes d fault.Stream began sent takes q is due = broke_since v
 settled_err v u w bytes d fault.Protocol began sent takes q is due = (u, sent_alone v u bytes q began sent is, record { failed = takes.0; outgoing = takes.1; none = rw (← due) takes.2 })
 settled_err v u w bytes d (fault.Status code) began sent takes q is due = absurd takes
 settled_err v u w bytes d fault.OutOfMemory began sent takes q is due = (takes.0, one_exchanged v u w bytes q takes.0 began sent is (rw (← due) takes.1) takes.2)
+settled_err v u w bytes d (fault.TooLarge size) began sent takes q is due = absurd takes
 settled_err v u w bytes d fault.Failed began sent takes q is due = absurd takes
 
 pub settled_ok : (v u w : ClientView) (bytes : List ℕ) (d : Due) (r : Reply) → v.failed ≡ false → Sent v bytes u → Takes u d (Ok r) w
@@ -104,6 +105,7 @@ same_fault told other v w q fault.Stream h = h
 same_fault told other v w q fault.Protocol h = h
 same_fault told other v w q (fault.Status code) h = h
 same_fault told other v w q fault.OutOfMemory h = h
+same_fault told other v w q (fault.TooLarge size) h = h
 same_fault told other v w q fault.Failed h = h
 
 pub settled_comes : {X : Type 0} (told : X → Reply) (v w : ClientView) (q : WireRequest) (f : ClientFault) → v.failed ≡ false → Settles told v q (Err f) w → Comes told v q (Err f) w
@@ -111,6 +113,7 @@ settled_comes told v w q fault.Stream began h = h
 settled_comes told v w q fault.Protocol began h = h
 settled_comes told v w q (fault.Status code) began h = h
 settled_comes told v w q fault.OutOfMemory began h = (began, inr h)
+settled_comes told v w q (fault.TooLarge size) began h = absurd h
 settled_comes told v w q fault.Failed began h = absurd h
 
 -- ---- VERSION

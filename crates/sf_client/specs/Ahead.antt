@@ -23,6 +23,7 @@ EndsBy r fault.Stream = ⊥
 EndsBy r fault.Protocol = ⊥
 EndsBy r (fault.Status code) = Refuses r code
 EndsBy r fault.OutOfMemory = Unit {0}
+EndsBy r (fault.TooLarge size) = ⊥
 EndsBy r fault.Failed = ⊥
 
 -- A reply came and was dropped; or nothing was to be dropped, and this fault stops the sending.
@@ -71,6 +72,7 @@ TakesOn x d (Err fault.Protocol) y =
     × HasNoReply x.client.incoming x.client.next d
 TakesOn x d (Err (fault.Status code)) y = ⊥
 TakesOn x d (Err fault.OutOfMemory) y = ⊥
+TakesOn x d (Err (fault.TooLarge size)) y = ⊥
 TakesOn x d (Err fault.Failed) y = ⊥
 
 -- there was no memory for what came: nothing more is sent

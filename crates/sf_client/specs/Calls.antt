@@ -1,5 +1,5 @@
 -- The exchanges of whole calls.
-use Rattle.std.specs.Prelude.{◌≡◌, ◌≢◌, ◌≤◌, ◌+◌, ◌*◌, ◌/◌, ◌⊎◌, ℕ, zero, suc, List, [], ◌∷◌, ◌++◌, length, take, drop, true, false, Option, Some, None, Result, Ok, Err, unwrap_or}
+use Rattle.std.specs.Prelude.{◌≡◌, ◌≢◌, ◌≤◌, ◌<◌, ◌^◌, ◌+◌, ◌*◌, ◌/◌, ◌⊎◌, ℕ, zero, suc, List, [], ◌∷◌, ◌++◌, length, take, drop, true, false, Option, Some, None, Result, Ok, Err, unwrap_or}
 use Rattle.std.specs.List.{AllByRecursion, concat, flat_map}
 use Rattle.std.specs.Global.{Vec}
 use Rattle.sf_field.specs.Fields.{be64}
@@ -30,6 +30,8 @@ Does Script v (Err (fault.Status code)) w =
     (xs : List Exchange) × Script xs (Err (fault.Status code)) × Exchanged v xs w
 Does Script v (Err fault.OutOfMemory) w =
     (xs : List Exchange) × Script xs (Err fault.OutOfMemory) × Exchanged v xs w
+Does Script v (Err (fault.TooLarge size)) w =
+    (xs : List Exchange) × Script xs (Err (fault.TooLarge size)) × Exchanged v xs w
 Does Script v (Err fault.Failed) w = (v.failed ≡ true) × (w ≡ v)
 
 -- The last request ended the call by this fault; or it wasn't sent, for want of memory.
@@ -119,13 +121,22 @@ AsksSize n v (Ok size) w =
 AsksSize n v (Err f) w = ((code : StatusCode) → f ≢ fault.Status code)
     × Comes reply.Attrs v (request.FStat (be64 n)) (Err f) w
 
--- FSTAT, whatever it told, and the file's READs
+-- how many bytes of a file are gathered at most
+abbrev pub most_gathered : ℕ
+most_gathered = 2 ^ 30
+
+-- FSTAT told more bytes than are gathered.
+abbrev pub IsTooLarge : ℕ → List Exchange → ClientFault → Type 0
+IsTooLarge n xs f = (r : Reply) × (most_gathered < size_of r) × (f ≡ fault.TooLarge (size_of r))
+    × (xs ≡ asked (request.FStat (be64 n)) r ∷ [])
+
+-- FSTAT, and the file's READs, unless that told too many bytes
 abbrev pub ReadsAll : ℕ → List Exchange → Result (List ℕ) ClientFault → Type 0
-ReadsAll n xs (Ok bytes) = (r : Reply) × (ys : List Exchange) × Reads n ys (Ok bytes)
-    × (xs ≡ asked (request.FStat (be64 n)) r ∷ ys)
+ReadsAll n xs (Ok bytes) = (r : Reply) × (ys : List Exchange) × (size_of r ≤ most_gathered)
+    × Reads n ys (Ok bytes) × (xs ≡ asked (request.FStat (be64 n)) r ∷ ys)
 ReadsAll n xs (Err f) = (IsLast (request.FStat (be64 n)) xs f × (f ≡ fault.OutOfMemory))
-    ⊎ ((r : Reply) × (ys : List Exchange) × Reads n ys (Err f)
-    × (xs ≡ asked (request.FStat (be64 n)) r ∷ ys))
+    ⊎ (IsTooLarge n xs f ⊎ ((r : Reply) × (ys : List Exchange) × (size_of r ≤ most_gathered)
+    × Reads n ys (Err f) × (xs ≡ asked (request.FStat (be64 n)) r ∷ ys)))
 
 -- the bytes in pieces of 32768, the last one shorter: how many, and the k-th
 abbrev pub count_of_pieces : List ℕ → ℕ
@@ -149,6 +160,7 @@ Stops xs fault.Protocol = ⊥
 Stops xs (fault.Status code) = (before : List Exchange) × (x : Exchange) × (after : List Exchange)
     × AllByRecursion IsDone before × Refuses x.reply code × (xs ≡ before ++ x ∷ after)
 Stops xs fault.OutOfMemory = Unit {0}
+Stops xs (fault.TooLarge size) = ⊥
 Stops xs fault.Failed = ⊥
 
 -- All pieces were written, in order; or only some, where a WRITE was refused or memory was wanting.
@@ -205,15 +217,17 @@ ClosesAfter n (Err fault.Stream) v (Err f) w = (f ≡ fault.Stream) × (w ≡ v)
 ClosesAfter n (Err fault.Protocol) v (Err f) w = (f ≡ fault.Protocol) × (w ≡ v)
 ClosesAfter n (Err (fault.Status code)) v (Err f) w = EndsAfter n (fault.Status code) v f w
 ClosesAfter n (Err fault.OutOfMemory) v (Err f) w = EndsAfter n fault.OutOfMemory v f w
+ClosesAfter n (Err (fault.TooLarge size)) v (Err f) w = EndsAfter n (fault.TooLarge size) v f w
 ClosesAfter n (Err fault.Failed) v (Err f) w = (f ≡ fault.Failed) × (w ≡ v)
 
--- after a success, a refusal and a want of memory the client goes on
+-- after a success, a refusal, a want of memory and a file that is too large the client goes on
 abbrev pub IsKept : {X : Type 0} → Result X ClientFault → ClientView → Type 0
 IsKept (Ok x) v = v.failed ≡ false
 IsKept (Err fault.Stream) v = Unit {0}
 IsKept (Err fault.Protocol) v = Unit {0}
 IsKept (Err (fault.Status code)) v = v.failed ≡ false
 IsKept (Err fault.OutOfMemory) v = v.failed ≡ false
+IsKept (Err (fault.TooLarge size)) v = v.failed ≡ false
 IsKept (Err fault.Failed) v = Unit {0}
 
 -- the fault that is told after a first one and a CLOSE
@@ -223,6 +237,7 @@ told_of first (Err fault.Stream) = fault.Stream
 told_of first (Err fault.Protocol) = fault.Protocol
 told_of first (Err (fault.Status code)) = first
 told_of first (Err fault.OutOfMemory) = first
+told_of first (Err (fault.TooLarge size)) = first
 told_of first (Err fault.Failed) = first
 
 -- EOF is no fault here: it says that there is nothing more

@@ -33,6 +33,7 @@ Comes told v q (Err (fault.Status code)) w =
     (r : Reply) × Refuses r code × Exchanged v (asked q r ∷ []) w
 Comes told v q (Err fault.OutOfMemory) w =
     (v.failed ≡ false) × ((w ≡ v) ⊎ ((r : Reply) × Exchanged v (asked q r ∷ []) w))
+Comes told v q (Err (fault.TooLarge size)) w = ⊥
 Comes told v q (Err fault.Failed) w = (v.failed ≡ true) × (w ≡ v)
 
 -- The same of a request that was sent without memory: its one reply was taken in any case.
@@ -44,6 +45,7 @@ Settles told v q (Err fault.Protocol) w = Unanswered v [] q [] w
 Settles told v q (Err (fault.Status code)) w =
     (r : Reply) × Refuses r code × Exchanged v (asked q r ∷ []) w
 Settles told v q (Err fault.OutOfMemory) w = (r : Reply) × Exchanged v (asked q r ∷ []) w
+Settles told v q (Err (fault.TooLarge size)) w = ⊥
 Settles told v q (Err fault.Failed) w = ⊥
 
 -- what came of taking a reply
@@ -54,6 +56,7 @@ Takes v d (Err fault.Protocol) w =
     (w.failed ≡ true) × (w.outgoing ≡ v.outgoing) × HasNoReply v.incoming v.next d
 Takes v d (Err (fault.Status code)) w = ⊥
 Takes v d (Err fault.OutOfMemory) w = (r : Reply) × (is_due d r ≡ true) × Took v r w
+Takes v d (Err (fault.TooLarge size)) w = ⊥
 Takes v d (Err fault.Failed) w = ⊥
 
 -- what came of sending a request under an id, with no wait for its reply
@@ -64,6 +67,7 @@ Sends v id q (Err fault.Stream) w = Broke v w
 Sends v id q (Err fault.Protocol) w = ⊥
 Sends v id q (Err (fault.Status code)) w = ⊥
 Sends v id q (Err fault.OutOfMemory) w = w ≡ v
+Sends v id q (Err (fault.TooLarge size)) w = ⊥
 Sends v id q (Err fault.Failed) w = ⊥
 
 -- what came of reading a reply, under an id
@@ -76,4 +80,5 @@ ReadsDue incoming incoming' id d (Err fault.Protocol) = HasNoReply incoming id d
 ReadsDue incoming incoming' id d (Err (fault.Status code)) = ⊥
 ReadsDue incoming incoming' id d (Err fault.OutOfMemory) =
     (r : Reply) × (is_due d r ≡ true) × Consumes incoming incoming' (packet (reply_body id r))
+ReadsDue incoming incoming' id d (Err (fault.TooLarge size)) = ⊥
 ReadsDue incoming incoming' id d (Err fault.Failed) = ⊥

@@ -19,6 +19,9 @@ pub enum ClientFault {
     Status(StatusCode),
     #[error("out of memory")]
     OutOfMemory,
+    /// The file to get has so many bytes, more than are gathered in memory.
+    #[error("a file of {0} bytes is too large to get")]
+    TooLarge(u64),
     /// The client has failed before.
     #[error("the client has failed before")]
     Failed,

@@ -25,6 +25,9 @@ use sf_request::{ByteStr, WireRequest};
 /// How many bytes a READ asks for, and a WRITE sends at most.
 const PIECE: usize = 32768;
 
+/// How many bytes of a file are gathered at most, by the size that FSTAT tells.
+const MOST_GATHERED: u64 = 1 << 30;
+
 /// How many READDIRs are on their way at most.
 const LISTINGS: u32 = 2;
 
@@ -134,6 +137,10 @@ impl<L: Line + Drop> Client<L> {
                 handle,
                 ClientFault::OutOfMemory,
             )),
+            Err(ClientFault::TooLarge(size)) => Err(self.close_after(
+                handle,
+                ClientFault::TooLarge(size),
+            )),
             Err(fault) => Err(fault),
         }
     }
@@ -235,10 +242,14 @@ impl<L: Line + Drop> Client<L> {
         requires { self.old.failed ≡ false }
         ensures { Does (ReadsAll handle) self.old result self.new }
     {
-        match self.told_size(handle) {
-            Ok(size) => self.read_pieces(handle, size),
-            Err(fault) => Err(fault),
+        let size = match self.told_size(handle) {
+            Ok(size) => size,
+            Err(fault) => return Err(fault),
+        };
+        if size > MOST_GATHERED {
+            return Err(ClientFault::TooLarge(size));
         }
+        self.read_pieces(handle, size)
     }
 
     /// Sends a WRITE.
@@ -407,7 +418,7 @@ impl<L: Line + Drop> Client<L> {
         self.closed(handle, entries)
     }
 
-    /// The bytes of a file.
+    /// The bytes of a file: of 2^30 at most, as its size was told.
     pub fn get(&mut self, path: &[u8]) -> Result<Vec<u8>, ClientFault>
         requires { length path.now < 2 ^ 31 }
         ensures { Does (ByHandle (request.Open path.now to_read no_attrs) ReadsAll) self.old

@@ -9,7 +9,7 @@ ghost use Rattle.sf_block.specs.Contents.{resized, written};
 
 use crate::NodeId;
 use crate::entries::Entries;
-use sf_block::Contents;
+use sf_block::WholeContents;
 use sf_call::{FileType, Metadata};
 use sf_field::{Attrs, ByteString};
 use sf_path::Name;
@@ -27,7 +27,7 @@ pub struct NewNode {
 #[derive(Drop)]
 pub(crate) enum Content {
     Directory(Entries),
-    File(Contents),
+    File(WholeContents),
 }
 
 #[derive(Drop)]
@@ -51,7 +51,7 @@ impl Node {
     {
         let content = match made.file_type {
             FileType::Directory => Content::Directory(Entries::new(alloc)),
-            FileType::File => Content::File(Contents::new(alloc)),
+            FileType::File => Content::File(WholeContents::new(alloc)),
         };
         Node {
             label: made.label,
@@ -157,7 +157,7 @@ impl Node {
     }
 
     /// The bytes, if it is a file.
-    pub(crate) fn file(&self) -> Option<&Contents>
+    pub(crate) fn file(&self) -> Option<&WholeContents>
         ensures some { IfSome result (λ file. (is_file_content self.now.content ≡ true)
             × (file.now ≡ bytes_in self.now.content)) }
         ensures none { IfNone result (is_file_content self.now.content ≡ false) }
@@ -187,16 +187,13 @@ impl Node {
         }
     }
 
-    /// Cuts the bytes at a size, or fills them up to it with zeros.
-    pub(crate) fn set_len(&mut self, alloc: Global, n: u64) -> Result<(), AllocError>
-        ensures ok { OnOk result (self.new
-            ≡ with_content (with_bytes (resized (bytes_in self.old.content) n)) self.old) }
-        ensures enough { n ≤ length (bytes_in self.old.content) → IsOk result }
-        ensures err { OnErr result (self.new ≡ self.old) }
+    /// Cuts the bytes at a size, or fills them up to it with zeros. It takes no memory.
+    pub(crate) fn set_len(&mut self, n: u64)
+        ensures { self.new ≡ with_content (with_bytes (resized (bytes_in self.old.content) n))
+            self.old }
     {
-        match &mut self.content {
-            Content::Directory(_) => Ok(()),
-            Content::File(contents) => contents.set_len(alloc, n),
+        if let Content::File(contents) = &mut self.content {
+            contents.set_len(n);
         }
     }
 

@@ -13,7 +13,7 @@ use crate::NodeId;
 use crate::entries::Entries;
 use crate::handle::{Marks, OpenHandle, SessionHandles};
 use crate::node::{Content, NewNode, Node};
-use sf_block::Contents;
+use sf_block::WholeContents;
 use sf_call::Metadata;
 use sf_field::{Attrs, ByteString, Owner, Times};
 use sf_path::Name;
@@ -343,7 +343,7 @@ impl Store {
     }
 
     /// The bytes of a file. A directory has none.
-    pub fn file(&self, node: NodeId) -> Option<&Contents>
+    pub fn file(&self, node: NodeId) -> Option<&WholeContents>
         ensures some { IfSome result (λ file. (is_file_at self.now.nodes node ≡ true)
             × (file.now ≡ bytes_of self.now.nodes node)) }
         ensures none { IfNone result (is_file_at self.now.nodes node ≡ false) }
@@ -371,16 +371,12 @@ impl Store {
         }
     }
 
-    /// Cuts a file's bytes at a size, or fills them up to it with zeros.
-    pub fn set_len(&mut self, node: NodeId, n: u64) -> Result<(), AllocError>
-        ensures ok { OnOk result (self.new
-            ≡ bytes_set self.old node (resized (bytes_of self.old.nodes node) n)) }
-        ensures enough { n ≤ length (bytes_of self.old.nodes node) → IsOk result }
-        ensures err { OnErr result (self.new ≡ self.old) }
+    /// Cuts a file's bytes at a size, or fills them up to it with zeros. It takes no memory.
+    pub fn set_len(&mut self, node: NodeId, n: u64)
+        ensures { self.new ≡ bytes_set self.old node (resized (bytes_of self.old.nodes node) n) }
     {
-        match self.nodes.get_mut(node) {
-            Some(it) => it.set_len(self.alloc, n),
-            None => Ok(()),
+        if let Some(it) = self.nodes.get_mut(node) {
+            it.set_len(n);
         }
     }
 

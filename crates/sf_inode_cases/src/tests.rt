@@ -132,9 +132,8 @@ impl Ground {
         assert!(rt; opened.is_ok());
     }
 
-    fn set_len(&mut self, rt: &impl Abort, node: NodeId, len: u64) {
-        let set = self.store.set_len(node, len);
-        assert!(rt; set.is_ok());
+    fn set_len(&mut self, node: NodeId, len: u64) {
+        self.store.set_len(node, len);
     }
 
     /// Whether a handle was there to be closed.
@@ -300,7 +299,7 @@ fn bytes_outlive_the_name(rt: HostRuntime) {
     let mut ground = Ground::new(&rt, rt.alloc());
     let root = ground.root();
     let a = ground.file(&rt, root, b"/a", 1);
-    ground.set_len(&rt, a, 2);
+    ground.set_len(a, 2);
     ground.has_size(&rt, a, 2);
     ground.open(&rt, 3, 10, a, true);
     ground.open(&rt, 4, 11, a, false);
@@ -324,7 +323,7 @@ fn written_bytes_are_read(rt: HostRuntime) {
     ground.write(&rt, a, 1, b"xy");
     ground.begins(&rt, a, b"\0xy");
     assert!(rt; ground.store.file(root).is_none());
-    ground.set_len(&rt, a, 2);
+    ground.set_len(a, 2);
     ground.has_size(&rt, a, 2);
     ground.begins(&rt, a, b"\0x")
 }
@@ -486,7 +485,7 @@ fn trimmed_nodes_stay(rt: HostRuntime) {
     let mut ground = Ground::new(&rt, alloc);
     let root = ground.root();
     let kept = ground.file(&rt, root, b"/k", 1);
-    ground.set_len(&rt, kept, 3);
+    ground.set_len(kept, 3);
     let mut chain = [root; 64];
     let mut last = root;
     for (above, label) in chain.iter_mut().zip(2..) {

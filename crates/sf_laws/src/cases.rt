@@ -66,8 +66,8 @@ pub fn file_cases()
         ≡ reply.Handle 1 ∷ ok ∷ reply.Handle 3 ∷ reply.Names
         (entry_of f 1 (File (metadata 0 0 0o644 100 100) (0 ∷ 0 ∷ 0 ∷ 0 ∷ 0 ∷ 120 ∷ [])) ∷ [])
         ∷ reply.Status EndOfFile ∷ [] }
-    ensures past_limit { replies (new_file f ∷ Write 1 16777216 (codes "x")
-        ∷ Write 1 18446744073709551615 (codes "x") ∷ SetStat (f ∷ []) (sized 16777217)
+    ensures past_limit { replies (new_file f ∷ Write 1 1099511627776 (codes "x")
+        ∷ Write 1 18446744073709551615 (codes "x") ∷ SetStat (f ∷ []) (sized 1099511627777)
         ∷ SetStat (f ∷ []) (sized 18446744073709551615) ∷ FSetStat 1 (sized 18446744073709551615)
         ∷ Read 1 18446744073709551615 4294967295 ∷ Stat (f ∷ []) ∷ [])
         ≡ reply.Handle 1 ∷ reply.Status Failure ∷ reply.Status Failure ∷ reply.Status Failure

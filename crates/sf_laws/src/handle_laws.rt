@@ -42,7 +42,7 @@ pub fn limits_hold()
     ensures files { (history : List Record) (label : ℕ) (m : Metadata) (contents : List ℕ)
         → IsLegal history
         → object_of (replay history).objects label ≡ Some (File m contents)
-        → length contents ≤ 16777216 }
+        → length contents ≤ 1099511627776 }
     ensures handles { (history : List Record) (session : ℕ) → IsLegal history
         → count_by (λ e. nat_eq e.1.session session) (replay history).handles ≤ 128 }
     ensures paths { (history : List Record) (path : Path) (label : ℕ) → IsLegal history

@@ -8,7 +8,6 @@
 //! `specs/Nodes.antt` says which object a node is.
 #![tactic(auto)]
 
-mod contents;
 mod copies;
 mod node;
 mod sweep;

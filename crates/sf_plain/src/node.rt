@@ -8,10 +8,10 @@ ghost use Rattle.sf_call.specs.Tree.{directory_metadata};
 ghost use Rattle.sf_call.specs.Calls.{refuses_size, with_attrs};
 ghost use Rattle.sf_plain.specs.Nodes.{object_of_parts};
 
-use crate::contents::resized;
 use crate::copies::TryCopy;
+use sf_block::WholeContents;
 use sf_call::{FileType, MAX_FILE_SIZE, Metadata};
-use sf_field::{Attrs, ByteString};
+use sf_field::Attrs;
 use std::alloc::{AllocError, Global};
 use std::marker::Model;
 
@@ -24,14 +24,14 @@ pub(crate) struct Node {
 #[derive(Drop)]
 enum Kind {
     Directory(Metadata),
-    File(Metadata, ByteString),
+    File(Metadata, WholeContents),
 }
 
 /// What a node is, to look at.
 #[derive(Clone, Copy)]
 pub(crate) enum Parts<'a> {
     Directory(Metadata),
-    File(Metadata, &'a [u8]),
+    File(Metadata, &'a WholeContents),
 }
 
 impl Model for Node {
@@ -54,7 +54,7 @@ impl Node {
     }
 
     /// A file with its bytes.
-    pub(crate) fn file(metadata: Metadata, contents: ByteString) -> Node
+    pub(crate) fn file(metadata: Metadata, contents: WholeContents) -> Node
         ensures { result ≡ File metadata contents }
     {
         Node {
@@ -68,7 +68,7 @@ impl Node {
     {
         match &self.kind {
             Kind::Directory(metadata) => Parts::Directory(*metadata),
-            Kind::File(metadata, contents) => Parts::File(*metadata, contents.as_slice()),
+            Kind::File(metadata, contents) => Parts::File(*metadata, contents),
         }
     }
 
@@ -88,9 +88,7 @@ impl Node {
     {
         match &self.kind {
             Kind::Directory(metadata) => metadata.sent(FileType::Directory, 0),
-            Kind::File(metadata, contents) => {
-                metadata.sent(FileType::File, contents.len() as u64)
-            }
+            Kind::File(metadata, contents) => metadata.sent(FileType::File, contents.len()),
         }
     }
 
@@ -119,21 +117,22 @@ impl Node {
             (Kind::Directory(metadata), _) => Ok(Node::directory(metadata.with_parts(attrs))),
             (Kind::File(metadata, contents), None) => Ok(Node::file(
                 metadata.with_parts(attrs),
-                contents.share()?,
+                contents.try_copy(alloc)?,
             )),
-            (Kind::File(metadata, contents), Some(size)) => Ok(Node::file(
-                metadata.modified_at(moment).with_parts(attrs),
-                ByteString::from_vec(resized(alloc, contents.as_slice(), size as usize)?)?,
-            )),
+            (Kind::File(metadata, contents), Some(size)) => {
+                let mut sized = contents.try_copy(alloc)?;
+                sized.set_len(size);
+                Ok(Node::file(metadata.modified_at(moment).with_parts(attrs), sized))
+            }
         }
     }
 }
 
 impl TryCopy for Node {
-    fn try_copy(&self, _alloc: Global) -> Result<Node, AllocError> {
+    fn try_copy(&self, alloc: Global) -> Result<Node, AllocError> {
         Ok(match &self.kind {
             Kind::Directory(metadata) => Node::directory(*metadata),
-            Kind::File(metadata, contents) => Node::file(*metadata, contents.share()?),
+            Kind::File(metadata, contents) => Node::file(*metadata, contents.try_copy(alloc)?),
         })
     }
 }

@@ -13,8 +13,9 @@ ghost use Rattle.sf_call.specs.Calls.{apply, leave};
 use crate::copies::copy_of;
 use crate::node::Node;
 use crate::sweep::{close_all, sweep};
+use sf_block::WholeContents;
 use sf_call::{Handle, Metadata, Place, Request};
-use sf_field::{Attrs, ByteString, Owner, Times};
+use sf_field::{Attrs, Owner, Times};
 use sf_path::{Name, Path};
 use sf_reply::Reply;
 use std::alloc::{AllocError, Global};
@@ -251,7 +252,7 @@ impl PlainTree {
     }
 
     /// Gives a file other bytes, at a moment.
-    fn set_contents(&mut self, label: u64, moment: u32, metadata: Metadata, bytes: ByteString)
+    fn set_contents(&mut self, label: u64, moment: u32, metadata: Metadata, bytes: WholeContents)
         ensures { self.new
             ≡ changed self.old (SetObject label (File (modified_at moment metadata) bytes)) }
     {

@@ -1,7 +1,6 @@
 -- What calls on paths answer, case by case.
 use Rattle.std.specs.Prelude.{◌≡◌, ℕ, Bool, true, false, cond, ◌&&◌, if◌then◌else◌, List, [], option_map, Option, Some, None, refl}
 use Rattle.std.specs.Option.{option_map_or}
-use Rattle.std.specs.declared.result.Result.{Result}
 use Rattle.std.proofs.Common.{sym, ap, subst, ◌∙◌}
 use Rattle.sf_path.specs.Names.{Name, Path}
 use Rattle.sf_field.specs.declared.attrs.Attrs.{Attrs}
@@ -25,11 +24,11 @@ use Rattle.sf_keeps.proofs.Laws.{bare_found}
 use Rattle.sf_walk.specs.declared.finding.Located.{Located}
 use Rattle.sf_walk.specs.declared.finding.Located.TheVariants as located
 use Rattle.sf_walk.specs.Ways.{way_from, found_content, found_node, IsThere}
-use Rattle.sf_walk.specs.Served.{LookedUp, IsCarriedOut, Gives, Stays, is_success}
+use Rattle.sf_walk.specs.Served.{LookedUp, IsCarriedOut, Stays, is_success}
 use Rattle.sf_walk.proofs.Holders.{stays_looked, stays_edited, stays_unlinked}
 use Rattle.sf_walk.proofs.Fits.{no_way, name_missing, node_at}
 use Rattle.sf_walk.proofs.Looked.{keeps_counted, way_looked}
-use Rattle.sf_walk.proofs.Told.{tells_served, past_root_gives, past_root_wants}
+use Rattle.sf_walk.proofs.Told.{tells_served, past_root, past_root_wants}
 
 -- after look-ups an entry was taken out, and its directory modified
 pub stays_gone : {N : Option ℕ → ℕ → Type 0} (old mid new : StoreState) (most moment dir : ℕ) (n : Name) → LookedUp old mid most → new ≡ edited (with_metadata (modified_at moment)) (unlinked mid dir n) dir → Stays N old new
@@ -101,13 +100,13 @@ module _ (old mid : StoreState) (t : Tree) (p : Path) (most : ℕ) (looked : Loo
   set_content moment attrs l m (content.File contents) = refl
 
   -- what setting the node's attributes serves, the call serves
-  pub set_stat_at : {E : Type 0} (new : StoreState) (moment : ℕ) (attrs : Attrs) (above y : ℕ) (result : Result Reply E) → (p ≡ [] → ⊥) → located.At above y ≡ way_from old.nodes old.root old.root p
-      → ((u : Tree) (it : Node) → Keeps mid u → node_in mid.nodes y ≡ Some it → Gives new u (sets moment it.label attrs (object_in it.metadata it.content)) result)
-      → Gives new t (unless_root p (set_stat moment attrs (found_at t p))) result
+  pub set_stat_at : (new : StoreState) (moment : ℕ) (attrs : Attrs) (above y : ℕ) (result : Reply) → (p ≡ [] → ⊥) → located.At above y ≡ way_from old.nodes old.root old.root p
+      → ((u : Tree) (it : Node) → Keeps mid u → node_in mid.nodes y ≡ Some it → IsCarriedOut new u (sets moment it.label attrs (object_in it.metadata it.content)) result)
+      → IsCarriedOut new t (unless_root p (set_stat moment attrs (found_at t p))) result
   set_stat_at new moment attrs above y result ne e served =
       let w = node_located above y e in
-      past_root_gives new t p (set_stat moment attrs (found_at t p)) result ne
-      (subst (λ (a : Answer). Gives new t a result) (sym (ap (set_stat moment attrs) w.1.1 ∙ set_content moment attrs w.0.label w.0.metadata w.0.content))
+      past_root new t p (set_stat moment attrs (found_at t p)) result ne
+      (subst (λ (a : Answer). IsCarriedOut new t a result) (sym (ap (set_stat moment attrs) w.1.1 ∙ set_content moment attrs w.0.label w.0.metadata w.0.content))
       (served t w.0 mid_keeps w.1.0))
 
   -- ---- MKDIR

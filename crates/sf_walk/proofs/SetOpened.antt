@@ -1,6 +1,5 @@
 -- What setting attributes by a handle answers.
 use Rattle.std.specs.Prelude.{◌≡◌, ◌≢◌, ℕ, nat_eq, Bool, true, false, not, cond, ◌&&◌, if◌then◌else◌, Some, is_some, refl}
-use Rattle.std.specs.declared.result.Result.{Result}
 use Rattle.std.proofs.lemmas.Bool.Decides.{nat_tests}
 use Rattle.std.proofs.Common.{sym, ap, subst, ◌∙◌, arith}
 use Rattle.sf_field.specs.declared.attrs.Attrs.{Attrs}
@@ -19,7 +18,7 @@ use Rattle.sf_inode.specs.declared.handle.OpenHandle.{OpenHandle}
 use Rattle.sf_inode.specs.Nodes.{object_in, is_directory_content}
 use Rattle.sf_inode.specs.Stores.{StoreState, node_in, is_directory_at, shown_handle}
 use Rattle.sf_keeps.specs.Keeps.{Keeps}
-use Rattle.sf_walk.specs.Served.{IsCarriedOut, Gives}
+use Rattle.sf_walk.specs.Served.{IsCarriedOut}
 use Rattle.sf_walk.proofs.Told.{tells_served}
 use Rattle.sf_walk.proofs.OpenHandles.{IsOpen, directory_is}
 
@@ -63,19 +62,19 @@ module _ (s : StoreState) (t : Tree) (session number : ℕ) (h : OpenHandle) (o 
       (set_is moment attrs ∙ (λ i. cond {A = Answer} (sym d i) (if nat_eq h.label 0 then refuses Failure else set) (if is_some attrs.size && not h.marks.write then refuses PermissionDenied else set))
       ∙ (λ i. if some i && not (off i) then refuses PermissionDenied else set)) o.keeps
 
-  module _ {E : Type 0} (new : StoreState) (moment : ℕ) (attrs : Attrs) (result : Result Reply E)
-      (served : (u : Tree) (it : Node) → Keeps s u → node_in s.nodes h.node ≡ Some it → Gives new u (sets moment it.label attrs (object_in it.metadata it.content)) result) where
-    set_as : set_opened moment attrs (opened t session number) ≡ sets moment h.label attrs (object_in o.node.metadata o.node.content) → Gives new t (set_opened moment attrs (opened t session number)) result
+  module _ (new : StoreState) (moment : ℕ) (attrs : Attrs) (result : Reply)
+      (served : (u : Tree) (it : Node) → Keeps s u → node_in s.nodes h.node ≡ Some it → IsCarriedOut new u (sets moment it.label attrs (object_in it.metadata it.content)) result) where
+    set_as : set_opened moment attrs (opened t session number) ≡ sets moment h.label attrs (object_in o.node.metadata o.node.content) → IsCarriedOut new t (set_opened moment attrs (opened t session number)) result
     set_as e =
-        subst (λ (a : Answer). Gives new t a result) (ap (λ l. sets moment l attrs (object_in o.node.metadata o.node.content)) o.label ∙ sym e) (served t o.node o.keeps o.there)
+        subst (λ (a : Answer). IsCarriedOut new t a result) (ap (λ l. sets moment l attrs (object_in o.node.metadata o.node.content)) o.label ∙ sym e) (served t o.node o.keeps o.there)
 
-    pub set_directory : true ≡ is_directory_at s.nodes h.node → h.label ≢ 0 → Gives new t (set_opened moment attrs (opened t session number)) result
+    pub set_directory : true ≡ is_directory_at s.nodes h.node → h.label ≢ 0 → IsCarriedOut new t (set_opened moment attrs (opened t session number)) result
     set_directory d other =
         let set = sets moment h.label attrs (object_in o.node.metadata o.node.content) in
         set_as (set_is moment attrs ∙ (λ i. cond {A = Answer} (sym d i) (if nat_eq h.label 0 then refuses Failure else set) (if is_some attrs.size && not h.marks.write then refuses PermissionDenied else set))
         ∙ (λ i. if not_zero h.label other i then refuses Failure else set))
 
-    pub set_file : false ≡ is_directory_at s.nodes h.node → (is_some attrs.size && not h.marks.write) ≡ false → Gives new t (set_opened moment attrs (opened t session number)) result
+    pub set_file : false ≡ is_directory_at s.nodes h.node → (is_some attrs.size && not h.marks.write) ≡ false → IsCarriedOut new t (set_opened moment attrs (opened t session number)) result
     set_file d free =
         let set = sets moment h.label attrs (object_in o.node.metadata o.node.content) in
         set_as (set_is moment attrs ∙ (λ i. cond {A = Answer} (sym d i) (if nat_eq h.label 0 then refuses Failure else set) (if is_some attrs.size && not h.marks.write then refuses PermissionDenied else set))

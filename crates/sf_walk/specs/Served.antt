@@ -104,8 +104,6 @@ wants_room Entries = true
 abbrev pub takes_memory : Request → Bool
 takes_memory (request.Mkdir path attrs) = true
 takes_memory (request.Write handle offset bytes) = not (is_nil bytes)
-takes_memory (request.SetStat path attrs) = is_some attrs.size
-takes_memory (request.FSetStat handle attrs) = is_some attrs.size
 takes_memory (request.Rename old new) = true
 takes_memory (request.PosixRename old new) = not (same_path old new)
 takes_memory (request.Link old new) = true

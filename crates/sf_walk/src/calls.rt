@@ -141,7 +141,7 @@ fn answer(store: &mut Store, call: &Call, ways: Ways) -> Result<(Reply, Reply), 
     let located = ways.path;
     match &call.request {
         Request::Stat(_) => Ok(twice(stat(store, located))),
-        Request::SetStat(path, attrs) => { twice_ok(set_stat(store, moment, path, attrs, located)) }
+        Request::SetStat(path, attrs) => Ok(twice(set_stat(store, moment, path, attrs, located))),
         Request::Mkdir(path, attrs) => {
             twice_ok(mkdir(store, number, moment, path, attrs, located))
         }
@@ -156,7 +156,7 @@ fn answer(store: &mut Store, call: &Call, ways: Ways) -> Result<(Reply, Reply), 
         Request::FStat(handle) => Ok(twice(stat_handle(store, session, *handle))),
         Request::FSetStat(handle, attrs) => {
             let set = set_stat_handle(store, session, moment, *handle, attrs);
-            twice_ok(set)
+            Ok(twice(set))
         }
         Request::Read {
             handle,

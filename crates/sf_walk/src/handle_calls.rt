@@ -60,27 +60,25 @@ pub(crate) fn set_stat_handle(
     moment: u32,
     number: u64,
     attrs: &Attrs,
-) -> Result<Reply, AllocError>
+) -> Reply
     ensures served { (t : Tree) → Keeps store.old t
-        → Gives store.new t (set_opened moment attrs.now (opened t session number)) result }
-    ensures sure { is_some attrs.now.size ≡ false → IsOk result }
-    ensures err { OnErr result (store.new ≡ store.old) }
-    ensures plain { IfOk result IsPlain }
+        → IsCarriedOut store.new t (set_opened moment attrs.now (opened t session number)) result }
+    ensures plain { IsPlain result }
     ensures look_ups { store.new.look_ups ≡ store.old.look_ups }
     ensures holders { HoldersStay store.old store.new }
 {
     let Some(handle) = store.handle(session, number) else {
-        return Ok(Reply::Status(StatusCode::Failure));
+        return Reply::Status(StatusCode::Failure);
     };
     let node = handle.node;
     if store.is_directory(node) {
         if handle.label == 0 {
-            return Ok(Reply::Status(StatusCode::Failure));
+            return Reply::Status(StatusCode::Failure);
         }
         return set_node(store, moment, node, attrs);
     }
     if attrs.size.is_some() && !handle.marks.write {
-        return Ok(Reply::Status(StatusCode::PermissionDenied));
+        return Reply::Status(StatusCode::PermissionDenied);
     }
     set_node(store, moment, node, attrs)
 }

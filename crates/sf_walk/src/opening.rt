@@ -184,10 +184,7 @@ fn truncate(store: &mut Store, moment: u32, node: NodeId)
 fn cut(store: &mut Store, node: NodeId)
     ensures { store.new ≡ bytes_set store.old node [] }
 {
-    match store.set_len(node, 0) {
-        Ok(()) => {}
-        Err(_) => {}
-    }
+    store.set_len(node, 0);
 }
 
 /// OPEN of a name that a directory has not.

@@ -47,57 +47,48 @@ pub(crate) fn set_stat(
     path: &Path,
     attrs: &Attrs,
     located: Located,
-) -> Result<Reply, AllocError>
+) -> Reply
     requires { located ≡ way_from store.old.nodes store.old.root store.old.root path.now }
     ensures served { (t : Tree) → Keeps store.old t
-        → Gives store.new t (unless_root path.now (set_stat moment attrs.now (found_at t path.now)))
-        result }
-    ensures sure { is_some attrs.now.size ≡ false → IsOk result }
-    ensures err { OnErr result (IsAlike store.old store.new) }
-    ensures plain { IfOk result IsPlain }
+        → IsCarriedOut store.new t (unless_root path.now
+        (set_stat moment attrs.now (found_at t path.now))) result }
+    ensures plain { IsPlain result }
     ensures look_ups { store.new.look_ups ≡ store.old.look_ups }
     ensures holders { HoldersStay store.old store.new }
 {
     if path.is_root() {
-        return Ok(Reply::Status(StatusCode::Failure));
+        return Reply::Status(StatusCode::Failure);
     }
     match located.found() {
         Ok(found) => set_node(store, moment, found.node, attrs),
-        Err(code) => Ok(Reply::Status(code)),
+        Err(code) => Reply::Status(code),
     }
 }
 
 /// Sets a node's attributes. A file's size is set first, and the file is modified at the moment; a
-/// directory's size can't be set, nor a file's above the limit.
-pub(crate) fn set_node(
-    store: &mut Store,
-    moment: u32,
-    node: NodeId,
-    attrs: &Attrs,
-) -> Result<Reply, AllocError>
+/// directory's size can't be set, nor a file's above the limit. It takes no memory.
+pub(crate) fn set_node(store: &mut Store, moment: u32, node: NodeId, attrs: &Attrs) -> Reply
     ensures served { (t : Tree) (it : Node) → Keeps store.old t
         → node_in store.old.nodes node ≡ Some it
-        → Gives store.new t (sets moment it.label attrs.now (object_in it.metadata it.content))
-        result }
-    ensures sure { is_some attrs.now.size ≡ false → IsOk result }
-    ensures err { OnErr result (store.new ≡ store.old) }
-    ensures plain { IfOk result IsPlain }
+        → IsCarriedOut store.new t (sets moment it.label attrs.now
+        (object_in it.metadata it.content)) result }
+    ensures plain { IsPlain result }
     ensures look_ups { store.new.look_ups ≡ store.old.look_ups }
     ensures holders { HoldersStay store.old store.new }
 {
     match attrs.size {
         None => {
             store.set(node, attrs);
-            Ok(Reply::Status(StatusCode::Success))
+            Reply::Status(StatusCode::Success)
         }
         Some(size) => {
             if store.is_directory(node) || size > MAX_FILE_SIZE {
-                return Ok(Reply::Status(StatusCode::Failure));
+                return Reply::Status(StatusCode::Failure);
             }
-            store.set_len(node, size)?;
+            store.set_len(node, size);
             store.touch(node, moment);
             store.set(node, attrs);
-            Ok(Reply::Status(StatusCode::Success))
+            Reply::Status(StatusCode::Success)
         }
     }
 }

@@ -175,5 +175,6 @@ fn report<W: Write>(errors: &mut W, fault: ClientFault) -> io::Result<()> {
         ClientFault::Protocol => writeln!(errors, "sftpd: protocol"),
         ClientFault::Status(code) => writeln!(errors, "sftpd: status {}", code.number()),
         ClientFault::OutOfMemory => writeln!(errors, "sftpd: out of memory"),
+        ClientFault::TooLarge(size) => writeln!(errors, "sftpd: too large to get: {size} bytes"),
     }
 }

@@ -2,11 +2,13 @@
 
 ghost use Rattle.std.specs.Prelude.{◌≡◌, ◌+◌, ◌<◌, ◌^◌, length};
 
-use sf_block::Contents;
+use sf_block::WholeContents;
 use sf_field::ByteString;
 use std::alloc::{AllocError, Global};
 use std::process::Abort;
 use std::test::*;
+
+mod drawn;
 
 /// The same byte again and again.
 fn many(rt: &impl Abort, alloc: Global, n: usize, byte: u8) -> Vec<u8>
@@ -22,13 +24,13 @@ fn many(rt: &impl Abort, alloc: Global, n: usize, byte: u8) -> Vec<u8>
 /// A file's contents. Its methods compare what they tell with what a test wants.
 #[derive(Drop)]
 struct File {
-    contents: Contents,
+    contents: WholeContents,
     alloc: Global,
 }
 
 impl File {
     fn new(alloc: Global) -> File {
-        let contents = Contents::new(alloc);
+        let contents = WholeContents::new(alloc);
         File { contents, alloc }
     }
 
@@ -46,8 +48,8 @@ impl File {
         assert!(rt; self.try_write(offset, bytes).is_ok());
     }
 
-    fn set_len(&mut self, rt: &impl Abort, n: u64) {
-        assert!(rt; self.contents.set_len(self.alloc, n).is_ok());
+    fn set_len(&mut self, n: u64) {
+        self.contents.set_len(n);
     }
 
     fn has_len(&self, rt: &impl Abort, n: u64) {
@@ -108,22 +110,72 @@ fn cut_and_fill_up(rt: HostRuntime) {
     let alloc = rt.alloc();
     let mut file = File::new(alloc);
     file.write(&rt, 0, b"abcde");
-    file.set_len(&rt, 2);
+    file.set_len(2);
     file.is(&rt, b"ab");
-    file.set_len(&rt, 4);
+    file.set_len(4);
     file.is(&rt, b"ab\0\0");
-    file.set_len(&rt, 0);
+    file.set_len(0);
     file.is(&rt, b"");
 }
 
 #[test]
-fn more_than_any_memory(rt: HostRuntime) {
+fn gap_beyond_all_memory(rt: HostRuntime) {
     let alloc = rt.alloc();
     let mut file = File::new(alloc);
     file.write(&rt, 0, b"ab");
-    assert!(rt; file.contents.set_len(alloc, u64::MAX).is_err());
-    assert!(rt; file.try_write(u64::MAX - 1, b"c").is_err());
-    file.is(&rt, b"ab");
+    file.write(&rt, 1_099_511_627_775, b"c");
+    file.has_len(&rt, 1_099_511_627_776);
+    file.has(&rt, 0, b"ab\0\0");
+    file.has(&rt, 549_755_813_888, &many(&rt, alloc, 70_000, 0));
+    file.has(&rt, 1_099_511_627_773, b"\0\0c");
+    file.write(&rt, u64::MAX - 1, b"d");
+    file.has_len(&rt, u64::MAX);
+    file.has(&rt, u64::MAX - 3, b"\0\0d");
+    file.set_len(1_099_511_627_774);
+    file.set_len(u64::MAX);
+    file.has_len(&rt, u64::MAX);
+    file.has(&rt, 1_099_511_627_772, b"\0\0\0\0\0");
+    file.has(&rt, u64::MAX - 2, b"\0\0");
+    file.set_len(3);
+    file.is(&rt, b"ab\0");
+}
+
+#[test]
+fn copy_shares_its_blocks(rt: HostRuntime) -> Result<(), Fail> {
+    let alloc = rt.alloc();
+    let mut file = File::new(alloc);
+    file.write(&rt, 0, &many(&rt, alloc, 32_768, b'a'));
+    file.write(&rt, 1_099_511_627_775, b"c");
+    let old = File {
+        contents: file.contents.try_copy(alloc)?,
+        alloc,
+    };
+    file.write(&rt, 4_095, b"xyz");
+    file.set_len(40_000);
+    old.has_len(&rt, 1_099_511_627_776);
+    old.has(&rt, 0, &many(&rt, alloc, 32_768, b'a'));
+    old.has(&rt, 1_099_511_627_774, b"\0c");
+    file.has(&rt, 4_094, b"axyza");
+    file.has(&rt, 32_767, b"a\0");
+    Ok(())
+}
+
+#[test]
+fn write_over_blocks(rt: HostRuntime) {
+    let alloc = rt.alloc();
+    let mut file = File::new(alloc);
+    file.write(&rt, 0, &many(&rt, alloc, 20_000, b'a'));
+    file.write(&rt, 4_000, &many(&rt, alloc, 10_000, b'b'));
+    file.has_len(&rt, 20_000);
+    file.has(&rt, 3_999, b"ab");
+    file.has(&rt, 4_000, &many(&rt, alloc, 10_000, b'b'));
+    file.has(&rt, 13_999, b"ba");
+    file.has(&rt, 14_000, &many(&rt, alloc, 6_000, b'a'));
+    file.write(&rt, 8_191, b"12");
+    file.has(&rt, 8_190, b"b12b");
+    file.write(&rt, 0, &many(&rt, alloc, 261_120, b'c'));
+    file.has_len(&rt, 261_120);
+    file.has(&rt, 0, &many(&rt, alloc, 261_120, b'c'));
 }
 
 #[test]
@@ -148,7 +200,7 @@ fn write_of_a_whole_block(rt: HostRuntime) {
     file.write(&rt, 0, &many(&rt, alloc, 32_768, b'c'));
     file.has(&rt, 0, &many(&rt, alloc, 32_768, b'c'));
     file.has(&rt, 32_766, b"ccbb");
-    // Behind a byte it makes no block.
+    // Behind a byte it makes no run.
     file.write(&rt, 1, &many(&rt, alloc, 32_768, b'd'));
     file.has(&rt, 0, b"cd");
     file.has(&rt, 32_767, b"ddb");
@@ -164,7 +216,7 @@ fn what_was_read_stays(rt: HostRuntime) -> Result<(), Fail> {
     let whole = file.contents.read(alloc, 0, 32_768)?;
     file.write(&rt, 5, b"xyz");
     assert!(rt; whole.as_slice() == old.as_slice());
-    file.set_len(&rt, 7);
+    file.set_len(7);
     assert!(rt; whole.as_slice() == old.as_slice());
     file.is(&rt, b"aaaaaxy");
     Ok(())
@@ -192,7 +244,7 @@ fn gap_of_several_blocks(rt: HostRuntime) {
     file.has(&rt, 0, b"ab\0\0");
     file.has(&rt, 2, &many(&rt, alloc, 99_998, 0));
     file.has(&rt, 99_998, b"\0\0yz");
-    // The blocks of zeros are one, and a write changes none but its own.
+    // A write into the gap changes nothing beside it.
     file.write(&rt, 40_000, b"x");
     file.has(&rt, 40_000, b"x\0");
     file.has(&rt, 72_768, b"\0\0");
@@ -203,15 +255,15 @@ fn cut_within_a_block_and_at_a_seam(rt: HostRuntime) {
     let alloc = rt.alloc();
     let mut file = File::new(alloc);
     file.write(&rt, 0, &many(&rt, alloc, 70_000, b'a'));
-    file.set_len(&rt, 40_000);
+    file.set_len(40_000);
     file.is(&rt, &many(&rt, alloc, 40_000, b'a'));
-    file.set_len(&rt, 32_768);
+    file.set_len(32_768);
     file.is(&rt, &many(&rt, alloc, 32_768, b'a'));
-    file.set_len(&rt, 32_770);
+    file.set_len(32_770);
     file.has(&rt, 32_766, b"aa\0\0");
-    file.set_len(&rt, 3);
+    file.set_len(3);
     file.is(&rt, b"aaa");
-    file.set_len(&rt, 65_536);
+    file.set_len(65_536);
     file.has_len(&rt, 65_536);
     file.has(&rt, 3, &many(&rt, alloc, 65_533, 0));
 }
@@ -221,12 +273,12 @@ fn what_was_cut_off_does_not_come_back(rt: HostRuntime) {
     let alloc = rt.alloc();
     let mut file = File::new(alloc);
     file.write(&rt, 0, &many(&rt, alloc, 70_000, b'a'));
-    file.set_len(&rt, 0);
+    file.set_len(0);
     file.is(&rt, b"");
     file.write(&rt, 0, &many(&rt, alloc, 32_768, b'b'));
     file.has_len(&rt, 32_768);
     file.has(&rt, 32_766, b"bb");
-    file.set_len(&rt, 70_000);
+    file.set_len(70_000);
     file.has(&rt, 32_766, b"bb\0\0");
     file.has(&rt, 65_534, b"\0\0\0\0");
     file.has(&rt, 69_998, b"\0\0");

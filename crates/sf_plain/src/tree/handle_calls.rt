@@ -1,6 +1,6 @@
 //! Calls by handle.
 
-ghost use Rattle.std.specs.Prelude.{◌≡◌, nat_eq, IfOk, OnOk, OnErr};
+ghost use Rattle.std.specs.Prelude.{◌≡◌, ◌+◌, nat_eq, nat_lt, IfOk, OnOk, OnErr};
 ghost use Rattle.std.specs.Option.{option_copied};
 ghost use Rattle.sf_call.specs.Changes.{changed, done};
 ghost use Rattle.sf_call.specs.Changes.Change.{CloseHandle};
@@ -8,10 +8,10 @@ ghost use Rattle.sf_call.specs.Handles.{if_of, handle_in, opened};
 ghost use Rattle.sf_call.specs.Calls.{close, stat_opened, set_opened, read, start_of, write};
 
 use super::PlainTree;
-use crate::contents::{ends_past_limit, part, written};
 use crate::node::Parts;
 use crate::sweep::sweep;
-use sf_call::Handle;
+use sf_block::WholeContents;
+use sf_call::{Handle, MAX_FILE_SIZE, MAX_READ};
 use sf_field::{Attrs, ByteString};
 use sf_reply::{Reply, StatusCode};
 use std::alloc::AllocError;
@@ -28,13 +28,23 @@ fn if_of(handle: &Handle, session: u64) -> Option<&Handle>
 }
 
 /// Where a WRITE starts: by a handle that appends, at the end.
-fn start_of(handle: &Handle, contents: &[u8], offset: u64) -> u64
+fn start_of(handle: &Handle, contents: &WholeContents, offset: u64) -> u64
     ensures { result ≡ start_of handle.now contents.now offset }
 {
     if handle.append {
-        contents.len() as u64
+        contents.len()
     } else {
         offset
+    }
+}
+
+/// Whether bytes from a start on would end past the longest file.
+fn ends_past_limit(start: u64, count: usize) -> bool
+    ensures { result ≡ nat_lt MAX_FILE_SIZE (start + count) }
+{
+    match start.checked_add(count as u64) {
+        Some(end) => end > MAX_FILE_SIZE,
+        None => true,
     }
 }
 
@@ -81,7 +91,7 @@ impl PlainTree {
         }
     }
 
-    /// FSETSTAT. Takes memory for all the bytes that the file has then.
+    /// FSETSTAT. Takes memory for the map of a file's blocks, which are shared.
     #[tactic(auto, using(crate::proofs::Calls::sets_opened))]
     pub(super) fn set_stat_handle(
         &mut self,
@@ -142,14 +152,15 @@ impl PlainTree {
         if !handle.read {
             return Ok(Reply::Status(StatusCode::PermissionDenied));
         }
-        if offset >= contents.len() as u64 {
+        if offset >= contents.len() {
             return Ok(Reply::Status(StatusCode::EndOfFile));
         }
-        let bytes = ByteString::from_slice(self.alloc, part(contents, offset, len))?;
+        let most = len.min(MAX_READ) as usize;
+        let bytes = contents.read(self.alloc, offset, most)?;
         Ok(Reply::Data(bytes))
     }
 
-    /// WRITE. Takes memory for all the bytes that the file has then.
+    /// WRITE. Takes memory for the map of the file's blocks, and for the blocks that change.
     pub(super) fn write(
         &mut self,
         session: u64,
@@ -185,8 +196,8 @@ impl PlainTree {
         if ends_past_limit(start, bytes.len()) {
             return Ok(Reply::Status(StatusCode::Failure));
         }
-        let after = written(self.alloc, contents, start as usize, bytes.as_slice())?;
-        let after = ByteString::from_vec(after)?;
+        let mut after = contents.try_copy(self.alloc)?;
+        after.write(self.alloc, start, bytes)?;
         self.set_contents(label, moment, metadata, after);
         Ok(Reply::Status(StatusCode::Success))
     }

@@ -11,8 +11,9 @@ ghost use Rattle.sf_call.specs.Calls.{stat, set_stat, make_directory, remove_dir
 
 use super::PlainTree;
 use crate::node::{Node, Parts};
+use sf_block::WholeContents;
 use sf_call::{Handle, MAX_HANDLES, Metadata, Place};
-use sf_field::{Attrs, ByteString, OpenFlags};
+use sf_field::{Attrs, OpenFlags};
 use sf_path::Path;
 use sf_reply::{Reply, StatusCode};
 use std::alloc::AllocError;
@@ -86,7 +87,7 @@ impl PlainTree {
         }
     }
 
-    /// SETSTAT. Takes memory for all the bytes that the file has then.
+    /// SETSTAT. Takes memory for the map of a file's blocks, which are shared.
     #[tactic(auto, using(crate::proofs::Calls::sets_object))]
     pub(super) fn set_stat(
         &mut self,
@@ -294,7 +295,7 @@ impl PlainTree {
         self.handles
             .insert(number, file_handle(session, label, flags))?;
         if cuts(flags) {
-            self.set_contents(label, moment, metadata, ByteString::new());
+            self.set_contents(label, moment, metadata, WholeContents::new(self.alloc));
         }
         Ok(Reply::Handle(number))
     }
@@ -333,7 +334,7 @@ impl PlainTree {
             Place::Absent => {
                 let parent = self.directory_at(&path.parent(self.alloc)?);
                 let made = Metadata::new_object(0o644, moment, attrs);
-                let file = Node::file(made, ByteString::new());
+                let file = Node::file(made, WholeContents::new(self.alloc));
                 self.add_opened(path, number, file, file_handle(session, number, flags))?;
                 self.touch(parent, moment);
                 Ok(Reply::Handle(number))

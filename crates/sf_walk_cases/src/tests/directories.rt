@@ -99,7 +99,7 @@ fn settings(rt: HostRuntime) {
     pair.status(&rt, set_stat(alloc, b"/", NO_ATTRS), Failure);
     pair.status(&rt, set_stat(alloc, b"/x", NO_ATTRS), NoSuchFile);
     pair.status(&rt, set_stat(alloc, b"/d", sized(0)), Failure);
-    let longest = 16_777_216;
+    let longest = 1_099_511_627_776;
     pair.status(&rt, set_stat(alloc, b"/f", sized(longest + 1)), Failure);
     pair.status(&rt, set_stat(alloc, b"/f", sized(u64::MAX)), Failure);
     pair.status(&rt, set_stat(alloc, b"/f", NO_ATTRS), Success);

@@ -83,10 +83,28 @@ impl Draws {
         path(alloc, self.text())
     }
 
+    /// Where a block ends, a run of blocks, the longest file that 24 bits or 32 count, or the longest
+    /// of all.
+    fn seam(&mut self) -> u64 {
+        match self.below(5) {
+            0 => 4096,
+            1 => 32_768,
+            2 => 16_777_216,
+            3 => 4_294_967_296,
+            _ => 1_099_511_627_776,
+        }
+    }
+
+    /// Around a seam, on one of its sides or on both.
+    fn near_a_seam(&mut self) -> u64 {
+        let back = self.below(9);
+        self.seam().wrapping_add(2).wrapping_sub(back)
+    }
+
     fn size(&mut self) -> Option<u64> {
         match self.below(60) {
             size if size <= 20 => Some(size),
-            21 => Some(16_777_217),
+            21..=29 => Some(self.near_a_seam()),
             _ => None,
         }
     }
@@ -141,10 +159,10 @@ impl Draws {
     }
 
     fn offset(&mut self) -> u64 {
-        match self.below(30) {
+        match self.below(40) {
             0 => u64::MAX,
-            1 => 16_777_216,
-            offset => offset - 2,
+            offset if offset <= 10 => self.near_a_seam(),
+            offset => offset - 11,
         }
     }
 
@@ -156,11 +174,13 @@ impl Draws {
     }
 
     fn data(&mut self) -> &'static [u8] {
-        match self.below(5) {
+        match self.below(8) {
             0 => b"",
             1 => b"x",
             2 => b"abc",
             3 => b"\0\xff",
+            4 => &[b'r'; 5000],
+            5 => &[b's'; 40_000],
             _ => b"seven..",
         }
     }

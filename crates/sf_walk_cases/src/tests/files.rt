@@ -37,17 +37,55 @@ fn longest_file(rt: HostRuntime) {
     let alloc = rt.alloc();
     let mut pair = Pair::new(&rt, alloc);
     pair.handle(&rt, open(alloc, b"/f", b"rwc"), 1);
-    pair.status(&rt, write(alloc, 1, 16_777_215, b"x"), Success);
-    pair.status(&rt, write(alloc, 1, 16_777_216, b"y"), Failure);
-    pair.status(&rt, write(alloc, 1, 16_777_215, b"yz"), Failure);
+    pair.status(&rt, write(alloc, 1, 1_099_511_627_775, b"x"), Success);
+    pair.status(&rt, write(alloc, 1, 1_099_511_627_776, b"y"), Failure);
+    pair.status(&rt, write(alloc, 1, 1_099_511_627_775, b"yz"), Failure);
     pair.status(&rt, write(alloc, 1, u64::MAX, b"y"), Failure);
     pair.status(&rt, write(alloc, 1, u64::MAX, b""), Success);
-    pair.status(&rt, set_handle(1, sized(16_777_217)), Failure);
-    let unchanged = whole(16_777_216, 0o100644, 100, 200);
+    pair.status(&rt, set_handle(1, sized(1_099_511_627_777)), Failure);
+    let unchanged = whole(1_099_511_627_776, 0o100644, 100, 200);
     pair.attrs(&rt, stat_handle(1), unchanged);
-    pair.data(&rt, read(1, 16_777_214, 10), b"\0x");
+    pair.data(&rt, read(1, 1_099_511_627_774, 10), b"\0x");
     pair.data(&rt, read(1, 0, 3), b"\0\0\0");
     pair.status(&rt, read(1, u64::MAX, 1), EndOfFile);
+}
+
+/// The longname's size is wider than its eight places.
+#[test]
+fn line_of_the_longest_file(rt: HostRuntime) {
+    let alloc = rt.alloc();
+    let mut pair = Pair::new(&rt, alloc);
+    pair.handle(&rt, open(alloc, b"/f", b"rwc"), 1);
+    pair.status(&rt, write(alloc, 1, 1_099_511_627_775, b"x"), Success);
+    pair.handle(&rt, open_dir(alloc, b"/"), 3);
+    let entries = pair.names(&rt, read_dir(3));
+    let [entry] = entries.as_slice() else {
+        panic!(rt; "not one name");
+    };
+    let line = b"-rw-r--r--   1 0        0        1099511627776          200 f";
+    assert!(rt; entry.longname.as_slice() == line.as_slice());
+    assert!(rt; entry.attrs == whole(1_099_511_627_776, 0o100644, 100, 200));
+}
+
+#[test]
+fn read_across_a_gap(rt: HostRuntime) {
+    let alloc = rt.alloc();
+    let mut pair = Pair::new(&rt, alloc);
+    pair.handle(&rt, open(alloc, b"/f", b"rwc"), 1);
+    pair.status(&rt, write(alloc, 1, 0, b"ab"), Success);
+    pair.status(&rt, write(alloc, 1, 16_777_216, b"yz"), Success);
+    pair.attrs(&rt, stat_handle(1), whole(16_777_218, 0o100644, 100, 300));
+    pair.data(&rt, read(1, 0, 5), b"ab\0\0\0");
+    pair.data(&rt, read(1, 4_094, 4), b"\0\0\0\0");
+    pair.data(&rt, read(1, 16_777_214, 10), b"\0\0yz");
+    pair.status(&rt, set_handle(1, sized(1_099_511_627_776)), Success);
+    pair.data(&rt, read(1, 16_777_217, 3), b"z\0\0");
+    has_length(
+        &rt,
+        pair.ask(&rt, read(1, 549_755_813_888, u32::MAX)),
+        261_120,
+    );
+    pair.data(&rt, read(1, 1_099_511_627_774, 10), b"\0\0");
 }
 
 fn has_length(rt: &impl Abort, reply: Reply, want: usize) {
@@ -100,7 +138,7 @@ fn marks(rt: HostRuntime) {
     pair.status(&rt, write(alloc, 1, 0, b"x"), PermissionDenied);
     pair.status(&rt, write(alloc, 1, 0, b""), PermissionDenied);
     pair.status(&rt, set_handle(1, sized(3)), PermissionDenied);
-    let too_long = sized(16_777_217);
+    let too_long = sized(1_099_511_627_777);
     pair.status(&rt, set_handle(1, too_long), PermissionDenied);
     pair.status(&rt, set_handle(1, NO_ATTRS), Success);
     pair.attrs(&rt, stat_handle(1), whole(0, 0o100644, 100, 100));

@@ -92,6 +92,46 @@ fn get(rt: HostRuntime) {
     has_sent(&rt, client, &sent);
 }
 
+/// A size of one byte too many, and one that may be gathered, of which there is nothing.
+fn replies_of_sizes(alloc: Global) -> Result<BytesMut, Fail> {
+    let mut input = after_version(alloc, b"")?;
+    write_reply(1, &Reply::Handle(1), &mut input)?;
+    write_reply(2, &Reply::Attrs(sized(1_073_741_825)), &mut input)?;
+    put_success(&mut input, 3)?;
+    write_reply(4, &Reply::Handle(4), &mut input)?;
+    write_reply(5, &Reply::Attrs(sized(1_073_741_824)), &mut input)?;
+    for id in 6..70 {
+        write_reply(id, &Reply::Status(StatusCode::EndOfFile), &mut input)?;
+    }
+    put_success(&mut input, 70)?;
+    Ok(input)
+}
+
+/// A file of more than 2^30 bytes is not read, and closed all the same; one of as many is.
+#[test]
+fn get_too_large(rt: HostRuntime) {
+    let alloc = rt.alloc();
+    let input = given(&rt, replies_of_sizes(alloc));
+    let mut client = client(&rt, alloc, input.as_slice());
+    let refused = ClientFault::TooLarge(1_073_741_825);
+    assert!(rt; client.get(b"/f").err() == Some(refused));
+    gets(&rt, client.get(b"/f"), b"");
+    let line = client.into_line();
+    let refused = packets(
+        &rt,
+        alloc,
+        &[
+            INIT,
+            "00000013 03 00000001 00000002 2f66 00000001 00000000",
+            "00000011 08 00000002 00000008 0000000000000001",
+            "00000011 04 00000003 00000008 0000000000000001",
+        ],
+    );
+    assert!(rt; line.output().starts_with(refused.as_slice()));
+    let read = 23 + 21 + 64 * 33 + 21;
+    assert!(rt; line.output().len() == refused.len() + read);
+}
+
 /// The second of 66 WRITEs is refused; CLOSE and an RMDIR are not.
 fn refused_put(alloc: Global) -> Result<BytesMut, Fail> {
     let mut input = after_version(alloc, b"")?;

@@ -15,14 +15,14 @@ returns-in-None-clause-holders c =
     (stays_edited (with_metadata (λ m. with_parts m c.args.attrs.now)) (λ node. (refl, refl)) c.args.store.now c.args.store.now c.args.node
     (stays_same c.args.store.now c.args.store.now refl))
 
-pub returns-in_ok-set_len-in-Some-clause-served : goal.returns-in_ok-set_len-in-Some-clause-served
-returns-in_ok-set_len-in-Some-clause-served c = λ t it h at.
+pub returns-else-size-gt-MAX_FILE_SIZE-clause-served : goal.returns-else-size-gt-MAX_FILE_SIZE-clause-served
+returns-else-size-gt-MAX_FILE_SIZE-clause-served c = λ t it h at.
     set_sized c.args.store.now c.set_len.new.self c.touch.new.self c.set-in-Some.new.self t c.args.node c.args.moment c.in-Some.size c.args.attrs.now it h at
-    (sym c.if-is_directory.ensures) c.in-Some.is (not_above c.in-Some.size c.if-size-gt-MAX_FILE_SIZE.false) c.in_ok-set_len-in-Some.ensures.ok c.touch.ensures c.set-in-Some.ensures
+    (sym c.if-is_directory.ensures) c.in-Some.is (not_above c.in-Some.size c.if-size-gt-MAX_FILE_SIZE.false) c.set_len.ensures c.touch.ensures c.set-in-Some.ensures
 
-pub returns-in_ok-set_len-in-Some-clause-holders : goal.returns-in_ok-set_len-in-Some-clause-holders
-returns-in_ok-set_len-in-Some-clause-holders c =
+pub returns-else-size-gt-MAX_FILE_SIZE-clause-holders : goal.returns-else-size-gt-MAX_FILE_SIZE-clause-holders
+returns-else-size-gt-MAX_FILE_SIZE-clause-holders c =
     let stays = HoldersStay c.args.store.now in
     subst stays (sym c.set-in-Some.ensures) (stays_edited (with_metadata (λ m. with_parts m c.args.attrs.now)) (λ node. (refl, refl)) c.args.store.now c.touch.new.self c.args.node
     (subst stays (sym c.touch.ensures) (stays_edited (with_metadata (modified_at c.args.moment)) (λ node. (refl, refl)) c.args.store.now c.set_len.new.self c.args.node
-    (subst stays (sym c.in_ok-set_len-in-Some.ensures.ok) (stays_stored c.args.store.now c.args.store.now c.args.node _ (stays_same c.args.store.now c.args.store.now refl))))))
+    (subst stays (sym c.set_len.ensures) (stays_stored c.args.store.now c.args.store.now c.args.node _ (stays_same c.args.store.now c.args.store.now refl))))))

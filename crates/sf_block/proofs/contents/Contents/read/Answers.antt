@@ -1,34 +1,36 @@
-use Rattle.std.proofs.Common.{◌≡◌, ◌∙◌, ◌+◌, ◌-◌, ◌*◌, ◌/◌, ◌%◌, ℕ, min, List, length, take, drop, ap, subst, arith}
-use Rattle.std.specs.Prelude.{IfOk}
-use Rattle.std.proofs.lemmas.List.{length-take, length-drop}
-use Rattle.sf_block.specs.Blocks.{block_of}
-use Rattle.sf_block.proofs.Lists.{part_of, read_is}
+use Rattle.std.proofs.Common.{refl, ◌+◌, ◌/◌, ◌%◌, ◌≡◌, ◌-◌, ◌∙◌, ℕ, min, List, length, take, drop, IfOk, sym, ap, subst, arith}
+use Rattle.sf_block.specs.Contents.{FileBytes}
+use Rattle.sf_block.specs.Blocks.{block_in, block_now, bytes_from}
+use Rattle.sf_block.proofs.Places.{read_is, same_blocks}
+use Rattle.sf_block.proofs.Waiting.{now_none}
+use Rattle.sf_block.proofs.Running.{run_read}
 use Rattle.sf_block.proofs.contents.Contents.read.Goals as goal
 
-pub part-requires : goal.part-requires
-part-requires c =
-    let bytes : List ℕ = c.args.self.now in
-    let start : ℕ = c.min-start.result in
-    let base : ℕ = start / 32768 * 32768 in
-    let is : length c.in-Some.block.now ≡ length (block_of (start / 32768) bytes) = ap (λ (x : List ℕ). length x) c.in-Some.ensures.some in
-    let len : c.self.inside.len ≡ length bytes = c.self.invariant.1 ∙ ap (λ (x : List ℕ). length x) c.self.view_is in
-    let size : length (block_of (start / 32768) bytes) ≡ min 32768 (length bytes - base) = length-take 32768 (drop base bytes) ∙ ap (min 32768) (length-drop base bytes) in
-    (omega arith, omega (arith, is, len, size))
+pub returns : goal.returns
+returns c =
+    let inside = c.self.inside in
+    let none : length inside.fresh.items ≡ 0 = ap (λ (v : FileBytes). v.left) c.self.view_is ∙ c.requires.whole in
+    let all : bytes_from (block_in inside.blocks) 0 inside.len ≡ c.args.self.now.bytes =
+    sym (same_blocks (block_now inside.blocks inside.first inside.fresh.items) (block_in inside.blocks) 0 inside.len (now_none inside.blocks inside.first inside.fresh.items none))
+    ∙ ap (λ (v : FileBytes). v.bytes) c.self.view_is in
+    let start : c.min-start.result ≡ min c.args.offset inside.len = omega (arith, c.min-start.ensures) in
+    let n : c.min-n.result ≡ min c.args.most (inside.len - c.min-start.result) = omega (arith, c.min-n.ensures) in
+    let is : c.in_ok-gather.field-0.items ≡ take c.args.most (drop c.args.offset c.args.self.now.bytes) =
+    c.in_ok-gather.ensures
+    ∙ read_is (block_in inside.blocks) inside.len c.args.offset c.args.most c.min-start.result c.min-n.result start n
+    ∙ ap (λ (x : List ℕ). take c.args.most (drop c.args.offset x)) all in
+    subst (λ (x : List ℕ). IfOk c.from_vec.result (λ bytes. bytes ≡ x)) is c.from_vec.ensures
 
 pub returns-in-Some : goal.returns-in-Some
 returns-in-Some c =
-    let bytes : List ℕ = c.args.self.now in
-    let start : ℕ = c.min-start.result in
-    let n : ℕ = c.min-n.result in
-    let base : ℕ = start / 32768 * 32768 in
-    let r : ℕ = start % 32768 in
-    let len : c.self.inside.len ≡ length bytes = c.self.invariant.1 ∙ ap (λ (x : List ℕ). length x) c.self.view_is in
-    let size : r + n - r ≡ n = omega arith in
-    let place : base + r ≡ start = omega arith in
-    let e : take (r + n - r) (drop r c.in-Some.block.now) ≡ take c.args.most (drop c.args.offset bytes) =
-    ap (λ (k : ℕ). take k (drop r c.in-Some.block.now)) size
-    ∙ ap (λ (x : List ℕ). take n (drop r x)) c.in-Some.ensures.some
-    ∙ part_of bytes base r n 32768 (omega arith)
-    ∙ ap (λ (k : ℕ). take n (drop k bytes)) place
-    ∙ read_is bytes c.args.offset c.args.most start n (omega (arith, len)) (omega (arith, len)) in
-    subst (λ (x : List ℕ). IfOk c.part.result (λ (b : List ℕ). b ≡ x)) e c.part.ensures
+    let inside = c.self.inside in
+    let block : ℕ → List ℕ = block_now inside.blocks inside.first inside.fresh.items in
+    let from : ℕ = c.min-start.result in
+    let start : c.min-start.result ≡ min c.args.offset inside.len = omega (arith, c.min-start.ensures) in
+    let n : c.min-n.result ≡ min c.args.most (inside.len - c.min-start.result) = omega (arith, c.min-n.ensures) in
+    let run = c.self.invariant.4 (from / 32768) c.in-Some.run'.now (sym c.in-Some.ensures) in
+    let is : take (from % 32768 + c.min-n.result - from % 32768) (drop (from % 32768) c.in-Some.run'.now) ≡ take c.args.most (drop c.args.offset c.args.self.now.bytes) =
+    run_read block inside.len (from / 32768) from c.min-n.result c.in-Some.run'.now run refl (omega (arith, c.if-n-from.true))
+    ∙ read_is block inside.len c.args.offset c.args.most from c.min-n.result start n
+    ∙ ap (λ (v : FileBytes). take c.args.most (drop c.args.offset v.bytes)) c.self.view_is in
+    subst (λ (x : List ℕ). IfOk c.part.result (λ bytes. bytes ≡ x)) is c.part.ensures

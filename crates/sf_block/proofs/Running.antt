@@ -1,0 +1,90 @@
+-- Runs that stand in one buffer.
+use Rattle.std.proofs.Common.{◌≡◌, ◌<◌, ◌≤◌, ◌+◌, ◌*◌, ◌-◌, ◌/◌, ◌%◌, ◌∙◌, ℕ, min, max, List, length, get_or, take, drop, Some, inl, inr, sym, ap, subst, arith}
+use Rattle.std.specs.Prelude.{◌⊎◌}
+use Rattle.std.proofs.lemmas.List.{length-take, length-drop, get_or-take, get_or-drop}
+use Rattle.sf_block.specs.Blocks.{entry_in, byte_in, bytes_from, IsRun, AreRuns, IsNoted, IsFilled}
+use Rattle.sf_block.proofs.Places.{are_bytes}
+
+-- the same blocks
+pub runs_same : (runs : List (ℕ × List ℕ)) (f g : ℕ → List ℕ) (len : ℕ) → ((k : ℕ) → g k ≡ f k) → AreRuns runs f len → AreRuns runs g len
+runs_same runs f g len same are = λ k run at. subst (λ (b : ℕ → List ℕ). IsRun b len k run) (λ i j. sym (same j) i) (are k run at)
+
+-- a longer file
+pub runs_longer : (runs : List (ℕ × List ℕ)) (f : ℕ → List ℕ) (len n : ℕ) → len ≤ n → AreRuns runs f len → AreRuns runs f n
+runs_longer runs f len n le are = λ k run at. let r = are k run at in record { whole = r.whole; within = omega (arith, r.within, le); bytes = r.bytes }
+
+-- a shorter file
+pub runs_cut : (old new : List (ℕ × List ℕ)) (f g : ℕ → List ℕ) (len n : ℕ) → AreRuns old f len → ((i : ℕ) → i < n → byte_in g i ≡ byte_in f i)
+    → ((k : ℕ) (run : List ℕ) → entry_in new k ≡ Some run → (k < n / 32768) × (entry_in old k ≡ Some run)) → AreRuns new g n
+runs_cut old new f g len n are same kept = λ k run at.
+    let w = kept k run at in
+    let r = are k run w.1 in
+    record {
+      whole = r.whole;
+      within = omega (arith, w.0);
+      bytes = λ i lt. r.bytes i lt ∙ sym (same (k * 32768 + i) (omega (arith, w.0, lt)));
+    }
+
+-- bytes were written
+pub runs_noted : (old new : List (ℕ × List ℕ)) (f g : ℕ → List ℕ) (len start : ℕ) (bytes : List ℕ) → 0 < length bytes → AreRuns old f len
+    → ((i : ℕ) → (i < start) ⊎ (start + length bytes ≤ i) → byte_in g i ≡ byte_in f i)
+    → ((i : ℕ) → start ≤ i → i < start + length bytes → byte_in g i ≡ get_or bytes (i - start) 0)
+    → ((k : ℕ) (run : List ℕ) → entry_in new k ≡ Some run → IsNoted old start bytes k run) → AreRuns new g (max len (start + length bytes))
+runs_noted old new f g len start bytes some are kept laid noted = λ k run at. elim (noted k run at) [
+  | inl w ↦
+      let r = are k run w.0 in
+      record {
+        whole = r.whole;
+        within = omega (arith, r.within);
+        bytes = λ i lt. r.bytes i lt ∙ sym (kept (k * 32768 + i) (elim w.1 [ inl before ↦ inl (omega (arith, before, lt)) | inr behind ↦ inr (omega (arith, behind)) ]));
+      }
+  | inr w ↦
+      record {
+        whole = ap (λ (x : List ℕ). length x) w.0 ∙ w.1;
+        within = omega (arith, w.1, w.2);
+        bytes = λ i lt.
+            ap (λ (x : List ℕ). get_or x i 0) w.0
+            ∙ ap (λ j. get_or bytes j 0) (omega (arith, w.2))
+            ∙ sym (laid (k * 32768 + i) (omega (arith, w.2)) (omega (arith, w.1, w.2, lt)));
+      }
+]
+
+-- runs that are filled were put in
+pub runs_filled : (old filled new : List (ℕ × List ℕ)) (g : ℕ → List ℕ) (len start : ℕ) (bytes : List ℕ) → start + length bytes ≤ len → AreRuns old g len
+    → ((i : ℕ) → start ≤ i → i < start + length bytes → byte_in g i ≡ get_or bytes (i - start) 0)
+    → ((k : ℕ) (run : List ℕ) → entry_in filled k ≡ Some run → IsFilled start bytes k run)
+    → ((k : ℕ) (run : List ℕ) → entry_in new k ≡ Some run → (entry_in filled k ≡ Some run) ⊎ (entry_in old k ≡ Some run)) → AreRuns new g len
+runs_filled old filled new g len start bytes within are laid filling put = λ k run at. elim (put k run at) [
+  | inr was ↦ are k run was
+  | inl is ↦
+      let f = filling k run is in
+      let n = min (start + length bytes) (k * 32768 + 32768) - max start (k * 32768) in
+      let d = max start (k * 32768) - start in
+      let a : length (drop d bytes) ≡ length bytes - d = length-drop d bytes in
+      let b : length (take n (drop d bytes)) ≡ min n (length (drop d bytes)) = length-take n (drop d bytes) in
+      record {
+        whole = ap (λ (x : List ℕ). length x) f.is ∙ omega (arith, a, b, f.from, f.to);
+        within = omega (arith, within, f.to);
+        bytes = λ i lt.
+            ap (λ (x : List ℕ). get_or x i 0) f.is
+            ∙ get_or-take n (drop d bytes) i 0 (omega (arith, lt, f.from, f.to))
+            ∙ get_or-drop d bytes i 0
+            ∙ ap (λ j. get_or bytes j 0) (omega (arith, f.from))
+            ∙ sym (laid (k * 32768 + i) (omega (arith, f.from)) (omega (arith, lt, f.to)));
+      }
+]
+
+-- a part of a run
+pub run_read : (block : ℕ → List ℕ) (len k start n : ℕ) (run : List ℕ) → IsRun block len k run → k ≡ start / 32768 → start % 32768 + n ≤ 32768
+    → take (start % 32768 + n - start % 32768) (drop (start % 32768) run) ≡ bytes_from block start n
+run_read block len k start n run r at fits =
+    let from = start % 32768 in
+    let m = from + n - from in
+    let d : length (drop from run) ≡ length run - from = length-drop from run in
+    let t : length (take m (drop from run)) ≡ min m (length (drop from run)) = length-take m (drop from run) in
+    are_bytes block start n (take m (drop from run)) (omega (arith, d, t, r.whole, fits))
+    (λ i lt.
+    get_or-take m (drop from run) i 0 (omega (arith, lt))
+    ∙ get_or-drop from run i 0
+    ∙ r.bytes (from + i) (omega (arith, fits, lt))
+    ∙ ap (byte_in block) (omega (arith, at)))

@@ -1,0 +1,132 @@
+//! Runs of blocks that stand in one buffer each.
+
+ghost use Rattle.std.specs.Prelude.{◌≡◌, ◌⊎◌, ◌<◌, ◌≤◌, ◌+◌, ◌^◌, ℕ, List, length, Some, None, IsSome, IfOk, IfSome, IfNone};
+ghost use Rattle.std.specs.Option.{option_copied};
+ghost use Rattle.sf_block.specs.Blocks.{entry_in, IsNoted};
+
+use crate::RUN;
+use crate::copies::copy_of;
+use sf_field::ByteString;
+use std::alloc::{AllocError, Global};
+use std::collections::BTreeMap;
+use std::marker::Model;
+
+/// The bytes of runs of eight blocks, by the runs' numbers, each in one buffer that its blocks
+/// share: so a reader of a run shares it too. A run may be missing.
+#[derive(Debug, Drop)]
+pub(crate) struct Runs {
+    map: BTreeMap<u64, ByteString>,
+}
+
+impl Model for Runs {
+    ghost use Rattle.std.specs.Prelude.{ℕ, List};
+
+    ghost Value = { List (ℕ × List ℕ) };
+
+    ghost view = { λ runs. runs.map.entries };
+}
+
+impl Runs {
+    pub(crate) fn new(alloc: Global) -> Runs
+        ensures { (k : ℕ) → entry_in result k ≡ None }
+    {
+        Runs {
+            map: BTreeMap::new(alloc),
+        }
+    }
+
+    /// Equal ones, whose bytes are shared.
+    pub(crate) fn try_copy(&self, alloc: Global) -> Result<Runs, AllocError>
+        ensures { IfOk result (λ copy. copy ≡ self.now) }
+    {
+        Ok(Runs {
+            map: copy_of(alloc, &self.map)?,
+        })
+    }
+
+    pub(crate) fn get(&self, number: u64) -> Option<&ByteString>
+        ensures { option_copied result ≡ entry_in self.now number }
+    {
+        self.map.get(&number)
+    }
+
+    /// Takes out the runs from a number up to another.
+    pub(crate) fn forget(&mut self, first: u64, end: u64)
+        ensures gone { (k : ℕ) → first ≤ k → k < end → entry_in self.new k ≡ None }
+        ensures kept { (k : ℕ) (run : List ℕ) → entry_in self.new k ≡ Some run
+            → entry_in self.old k ≡ Some run }
+    {
+        for number in first..end {
+            self.take_out(number);
+        }
+    }
+
+    fn take_out(&mut self, number: u64)
+        ensures gone { entry_in self.new number ≡ None }
+        ensures still { (k : ℕ) → entry_in self.old k ≡ None → entry_in self.new k ≡ None }
+        ensures kept { (k : ℕ) (run : List ℕ) → entry_in self.new k ≡ Some run
+            → entry_in self.old k ≡ Some run }
+    {
+        self.map.remove(&number);
+    }
+
+    /// Puts a run in, if there is memory for its place.
+    fn put(&mut self, number: u64, run: ByteString)
+        ensures { (k : ℕ) (other : List ℕ) → entry_in self.new k ≡ Some other
+            → ((k ≡ number) × (other ≡ run)) ⊎ (entry_in self.old k ≡ Some other) }
+    {
+        if let Ok(_old) = self.map.insert(number, run) {}
+    }
+
+    /// Bytes were written: the runs that they touch go, and where they are one run, it is put in.
+    pub(crate) fn note(&mut self, offset: u64, bytes: &ByteString)
+        requires some { 0 < length bytes.now }
+        requires fits { offset + length bytes.now < 2 ^ 64 }
+        ensures { (k : ℕ) (run : List ℕ) → entry_in self.new k ≡ Some run
+            → IsNoted self.old offset bytes.now k run }
+    {
+        let last = offset + (bytes.len() as u64 - 1);
+        self.forget(offset / RUN, last / RUN + 1);
+        if offset % RUN == 0 && bytes.len() as u64 == RUN {
+            if let Ok(run) = bytes.share() {
+                self.put(offset / RUN, run);
+            }
+        }
+    }
+
+    /// Puts other runs in, as far as there is memory for their places.
+    pub(crate) fn take_in(&mut self, mut others: Runs)
+        ensures { (k : ℕ) (run : List ℕ) → entry_in self.new k ≡ Some run
+            → (entry_in others k ≡ Some run) ⊎ (entry_in self.old k ≡ Some run) }
+    {
+        while let Some((number, run)) = others.map.pop_last() {
+            self.put(number, run);
+        }
+    }
+
+    /// Takes out the runs from a number on.
+    pub(crate) fn cut(&mut self, end: u64)
+        ensures { (k : ℕ) (run : List ℕ) → entry_in self.new k ≡ Some run
+            → (k < end) × (entry_in self.old k ≡ Some run) }
+    {
+        while let Some(last) = self.last() {
+            if last < end {
+                return;
+            }
+            self.map.pop_last();
+        }
+    }
+
+    /// The greatest number of a run.
+    fn last(&self) -> Option<u64>
+        ensures there { IfSome result (λ number. IsSome (entry_in self.now number)) }
+        ensures greatest { IfSome result (λ number. (k : ℕ) → number < k
+            → entry_in self.now k ≡ None) }
+        ensures none { IfNone result ((k : ℕ) → entry_in self.now k ≡ None) }
+    {
+        match self.map.last_key_value() {
+            Some((number, _)) => Some(*number),
+            None => None,
+        }
+    }
+}
