@@ -15,11 +15,12 @@ from checks import same
 TOP = os.path.dirname(os.path.dirname(os.path.abspath(__file__)))
 PROGRAM = os.path.abspath(sys.argv[1]) if len(sys.argv) > 1 else os.path.join(TOP, "crates/sftpd/out/sftpd")
 SECONDS = 60
+WORKERS = 8
 
 
-def install(command, package):
-    """Installs a package of Debian where its command is missing. Whether the command is there."""
-    for words in ([], ["update"], ["install", "-y", "--no-install-recommends", package]):
+def install(command, *packages):
+    """Installs packages of Debian where a command is missing. Whether the command is there."""
+    for words in ([], ["update"], ["install", "-y", "--no-install-recommends", *packages]):
         if words:
             with contextlib.suppress(OSError, subprocess.TimeoutExpired):
                 subprocess.run(["apt-get", *words], capture_output=True, timeout=300)
@@ -41,17 +42,18 @@ def find_paramiko():
 
 
 class Server:
-    """`sftpd serve` with 8 workers, which ends after so many sessions, where they are counted."""
+    """`sftpd serve` with `WORKERS` workers, which ends after so many sessions, where they are counted."""
 
-    def __init__(self, room, sessions=None, words=("--keep", "1000000")):
+    def __init__(self, room, sessions=None, words=("--keep", "1000000"), surroundings=None):
         self.path = os.path.join(room, "socket")
         self.sessions = sessions
         count = [] if sessions is None else ["--sessions", str(sessions)]
         self.process = subprocess.Popen(
-            [PROGRAM, "serve", "--socket", self.path, "--workers", "8", *count, *words],
+            [PROGRAM, "serve", "--socket", self.path, "--workers", str(WORKERS), *count, *words],
             stdout=subprocess.PIPE,
             stderr=subprocess.PIPE,
             text=True,
+            env=surroundings,
         )
         same(self.process.stderr.readline(), f"sftpd: listening at {self.path}\n")
 
@@ -69,9 +71,9 @@ class Server:
         connection.connect(self.path)
         return connection
 
-    def end(self):
+    def end(self, seconds=SECONDS):
         """The server has ended well, and its file is gone. Gives its count of calls."""
-        printed, told = self.process.communicate(timeout=SECONDS)
+        printed, told = self.process.communicate(timeout=seconds)
         same((self.process.returncode, told), (0, ""))
         found = re.fullmatch(rf"sessions {self.sessions} calls ([0-9]+)\naudit ok\n", printed)
         if not found:

@@ -2,7 +2,8 @@
 //!
 //! Start with `serve_inputs` in `tests.rt`: lines are sent by a channel, workers serve them, and what their
 //! sessions were told is compared with the history. Two tests hold a call half way by a gate: another
-//! session's call is answered all the same, and one that waits for it goes on once it has moved on.
+//! session's call is answered all the same, and one that waits for it goes on once it has moved on. A worker whose
+//! session's line fails takes the next one.
 #![tactic(auto)]
 
 #[cfg(test)]

@@ -1,7 +1,7 @@
 //! Lines are sent by a channel, and what the workers' sessions were told is compared with the history.
 
 use crossbeam_channel::{Receiver, Sender, unbounded};
-use sf_cases::{StillClock, hex_packets};
+use sf_cases::{FailingLine, StillClock, hex_packets};
 use sf_core::{Core, Share};
 use sf_line::{MemoryLine, Pieces};
 use sf_pool::{Gate, NoGate, Transcript, audit, gather};
@@ -321,6 +321,106 @@ fn two_folded(rt: HostRuntime) -> Result<(), Fail> {
     assert_eq!(rt; core.folded(), 2);
     let totals = gather(core, shares)?;
     assert_eq!(rt; (totals.recorded, totals.under_way), (4, 0));
+    Ok(())
+}
+
+/// Where the first line fails: after so many reads of 11 bytes, or after so many bytes that it
+/// takes.
+#[derive(Clone, Copy)]
+enum Fails {
+    AfterReads(usize),
+    AfterBytes(usize),
+}
+
+fn failing(alloc: Global, input: &[u8], fails: Fails) -> FailingLine<'_> {
+    let line = MemoryLine::new(alloc, input, Pieces::new(11, 11), Pieces::new(5, 5));
+    match fails {
+        Fails::AfterReads(count) => FailingLine::new(line, count, usize::MAX),
+        Fails::AfterBytes(count) => FailingLine::with_room(line, count),
+    }
+}
+
+/// One worker has a line that fails, and then one that doesn't.
+fn serve_both<R: Threads + Wait + Abort + Sync>(
+    rt: &R,
+    alloc: Global,
+    core: &Mutex<Core>,
+    inputs: (&[u8], &[u8]),
+    fails: Fails,
+    keep: bool,
+) -> Result<(Vec<Transcript>, Vec<Share>), Fail> {
+    let happened = Condvar::new();
+    let (sender, lines) = unbounded(alloc)?;
+    let first = failing(alloc, inputs.0, fails);
+    let second = failing(alloc, inputs.1, Fails::AfterReads(usize::MAX));
+    if sender.send(rt, first).is_err() || sender.send(rt, second).is_err() {
+        panic!(rt; "not sent");
+    }
+    drop(sender);
+    let clocks = clocks(alloc, 1)?;
+    let all = serve_all(rt, alloc, core, &happened, &lines, clocks, &NoGate, keep)?;
+    parted(alloc, all)
+}
+
+/// The worker whose first session fails takes the next line. The first one made so many calls, and
+/// the second one made `/b`: both are told of, where that is kept, and are shares of all calls.
+fn is_followed<R: Threads + Wait + Abort + Sync>(
+    rt: &R,
+    alloc: Global,
+    inputs: (&[u8], &[u8]),
+    fails: Fails,
+    calls: usize,
+) -> Result<(), Fail> {
+    for keep in [true, false] {
+        let core = Mutex::new(Core::new(alloc)?);
+        let (transcripts, shares) = serve_both(rt, alloc, &core, inputs, fails, keep)?;
+        let core = core.into_inner();
+        if keep {
+            let [failed, next] = transcripts.as_slice() else {
+                panic!(rt; "{} sessions were told of", transcripts.len());
+            };
+            assert_eq!(rt; (failed.calls.len(), next.calls.len()), (calls, 1));
+            assert_eq!(rt; audit(&core, &transcripts), Ok(()));
+        }
+        let totals = gather(core, shares)?;
+        let all = (calls as u64).saturating_add(1);
+        assert_eq!(rt; (totals.recorded, totals.under_way), (all, 0));
+    }
+    Ok(())
+}
+
+/// The requests end after 9, 28 and 43 bytes, of which 11 come by each read.
+#[test]
+fn worker_goes_on_after_a_read_fails(rt: HostRuntime) -> Result<(), Fail> {
+    let alloc = rt.alloc();
+    let one = hex_packets(alloc, &[INIT, MKDIR_A, STAT_A])?;
+    let other = hex_packets(alloc, &[INIT, MKDIR_B])?;
+    for (reads, calls) in [(0, 0), (1, 0), (2, 0), (3, 1), (4, 2)] {
+        let fails = Fails::AfterReads(reads);
+        is_followed(&rt, alloc, (&one, &other), fails, calls)?;
+    }
+    Ok(())
+}
+
+/// VERSION has 71 bytes, OK's STATUS 28 and ATTRS 41. A call is made where what stands before its
+/// reply was written.
+#[test]
+fn worker_goes_on_after_a_write_fails(rt: HostRuntime) -> Result<(), Fail> {
+    let alloc = rt.alloc();
+    let one = hex_packets(alloc, &[INIT, MKDIR_A, STAT_A])?;
+    let other = hex_packets(alloc, &[INIT, MKDIR_B])?;
+    for (bytes, calls) in [
+        (0, 0),
+        (10, 0),
+        (70, 0),
+        (71, 1),
+        (98, 1),
+        (99, 2),
+        (139, 2),
+    ] {
+        let fails = Fails::AfterBytes(bytes);
+        is_followed(&rt, alloc, (&one, &other), fails, calls)?;
+    }
     Ok(())
 }
 

@@ -1,8 +1,8 @@
-//! Lines that wait, that fail, and that only count.
+//! Lines that wait, and that only count.
 
 ghost use Rattle.std.specs.Prelude.{None};
 
-use sf_line::{Line, LineFault, MemoryLine};
+use sf_line::{Line, LineFault};
 
 /// How many whole packets the bytes begin with.
 fn whole_packets(bytes: &[u8]) -> usize {
@@ -71,74 +71,6 @@ impl<'a> Line for AskingLine<'a> {
             return Err(LineFault);
         }
         Ok(bytes.len())
-    }
-
-    fn failures(&self) -> u64 {
-        self.failures
-    }
-}
-
-/// A line over memory that fails after so many reads, and after so many writes.
-#[derive(Drop)]
-pub(super) struct FailingLine<'a> {
-    line: MemoryLine<'a>,
-    reads: usize,
-    writes: usize,
-    failures: u64,
-}
-
-impl<'a> FailingLine<'a> {
-    pub(super) fn new(line: MemoryLine<'a>, reads: usize, writes: usize) -> FailingLine<'a> {
-        FailingLine {
-            line,
-            reads,
-            writes,
-            failures: 0,
-        }
-    }
-
-    pub(super) fn output(&self) -> &[u8] {
-        self.line.output()
-    }
-}
-
-impl<'a> Line for FailingLine<'a> {
-    ghost incoming = { λ _. None };
-
-    ghost outgoing = { λ _. None };
-
-    ghost calls = { λ _. None };
-
-    ghost failed = { λ l. l.failures };
-
-    fn read(&mut self, buffer: &mut [u8]) -> Result<usize, LineFault> {
-        if self.reads == 0 {
-            self.failures = self.failures.saturating_add(1);
-            return Err(LineFault);
-        }
-        self.reads -= 1;
-        match self.line.read(buffer) {
-            Ok(n) => Ok(n),
-            Err(fault) => {
-                self.failures = self.failures.saturating_add(1);
-                Err(fault)
-            }
-        }
-    }
-
-    fn write(&mut self, bytes: &[u8]) -> Result<usize, LineFault> {
-        if self.writes == 0 {
-            self.failures = self.failures.saturating_add(1);
-            return Err(LineFault);
-        }
-        self.writes -= 1;
-        match self.line.write(bytes) {
-            Ok(n) => Ok(n),
-            Err(fault) => {
-                self.failures = self.failures.saturating_add(1);
-                Err(fault)
-            }
-        }
     }
 
     fn failures(&self) -> u64 {

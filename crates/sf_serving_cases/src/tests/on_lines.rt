@@ -1,7 +1,8 @@
 //! Sessions on lines that wait, and on lines that fail.
 
-use super::lines::{AskingLine, FailingLine};
+use super::lines::AskingLine;
 use super::*;
+use sf_cases::FailingLine;
 
 const MKDIR: &str = "0000000f 0e 00000001 00000002 2f61 00000000";
 

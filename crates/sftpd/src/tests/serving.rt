@@ -233,6 +233,19 @@ fn served_in_memory<R: Threads + Wait + Abort + Sync>(
     Ok((core.into_inner(), all))
 }
 
+/// What a server that ends early says.
+#[test]
+fn lines_of_faults(rt: HostRuntime) {
+    for (fault, want) in [
+        (ServerFault::CannotListen, "sftpd: cannot listen"),
+        (ServerFault::OutOfMemory, "sftpd: out of memory"),
+        (ServerFault::Stream, "sftpd: stream"),
+        (ServerFault::Audit, "sftpd: audit failed"),
+    ] {
+        assert!(rt; fault.line() == want);
+    }
+}
+
 /// What was told is not the core's history, or is not all of it; or it can't be written.
 #[test]
 fn faults_of_totals(rt: HostRuntime) -> Result<(), Fail> {
