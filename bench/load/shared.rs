@@ -7,13 +7,15 @@
 //! `@` has a process for each session, over a pair of sockets, and the tree is the folder that
 //! stands for `{}`. Another one has a process and a tree for each session, so it is measured with
 //! one session alone; or with many, where it keeps no tree and its name ends with `:`. What is
-//! measured are stats, renames and sessions, or of these alone what has the word.
+//! measured are stats, renames, data and sessions, or of these alone what has the word.
 //!
 //! Ratios are those of the first server to each other one. Rounds are those of the other workloads.
 
 use crate::session::{processor_seconds, Session};
 use crate::wire::Outcome;
-use crate::workloads::{MoveDirectory, Rename, Setting, Stat, StatMoving, Workload};
+use crate::workloads::{
+    MoveDirectory, ReadFile, Rename, Setting, Stat, StatMoving, Workload, WriteFile,
+};
 use crate::{number, print_head, print_line, value, ROUNDS};
 use std::process::{Child, Command};
 use std::sync::atomic::{AtomicU64, Ordering};
@@ -170,6 +172,18 @@ const STATS: [Row; 4] = [
     row("8 sessions", 8, |setting| Stat::new(setting, 64)),
 ];
 
+const STATS_ALONE: [Row; 2] = [
+    row("1 session", 1, |setting| Stat::new(setting, 1)),
+    row("8 sessions", 8, |setting| Stat::new(setting, 1)),
+];
+
+const DATA: [Row; 4] = [
+    row("WRITE of 32768 bytes, 1 session", 1, WriteFile::new),
+    row("WRITE of 32768 bytes, 8 sessions", 8, WriteFile::new),
+    row("READ of 32768 bytes, 1 session", 1, |_| ReadFile::new()),
+    row("READ of 32768 bytes, 8 sessions", 8, |_| ReadFile::new()),
+];
+
 const RENAMES: [Row; 4] = [
     row("one at a time, nobody beside", 1, |setting| rename(setting, 1)),
     row("64 sent ahead, nobody beside", 1, |setting| rename(setting, 64)),
@@ -291,11 +305,12 @@ impl Places<'_> {
 
 /// The servers' figures for one row; none where the server isn't measured.
 fn measure(row: &Row, options: &Options, places: &mut Places) -> Outcome<Vec<Option<Figure>>> {
-    let is_renames = RENAMES.iter().any(|other| other.title == row.title);
+    // A peer without a tree has no directory to rename, and each of its sessions a file of its own.
+    let needs_tree = RENAMES.iter().chain(&DATA).any(|other| other.title == row.title);
     let mut lanes = vec![];
     for server in &options.servers {
         let is_apart = server.kind == Kind::Alone && row.sessions > 1
-            || server.kind == Kind::Constant && is_renames;
+            || server.kind == Kind::Constant && needs_tree;
         lanes.push(match is_apart {
             true => None,
             false => Some(Lane::start(row, server, options, places.next())?),
@@ -407,12 +422,27 @@ fn measure_all(
     rows.iter().map(|row| Ok((row.title, measure(row, options, places)?))).collect()
 }
 
+/// Units a second of all sessions together.
+fn rate(figure: &Figure) -> f64 {
+    figure.first + figure.others
+}
+
 fn print_stats(options: &Options, places: &mut Places) -> Outcome<()> {
     let rows = measure_all(&STATS, options, places)?;
-    let sum = |figure: &Figure| figure.first + figure.others;
-    print_table("STATs a second, 64 sent ahead", options, &rows, sum);
+    print_table("STATs a second, 64 sent ahead", options, &rows, rate);
     let title = "Processor time for a STAT, in microseconds";
     print_table(title, options, &rows, |figure| figure.processor);
+    let rows = measure_all(&STATS_ALONE, options, places)?;
+    print_table("STATs a second, one at a time", options, &rows, rate);
+    print_table(title, options, &rows, |figure| figure.processor);
+    Ok(())
+}
+
+fn print_data(options: &Options, places: &mut Places) -> Outcome<()> {
+    let rows = measure_all(&DATA, options, places)?;
+    print_table("MB a second, 64 sent ahead", options, &rows, |figure| rate(figure) / 1e6);
+    let title = "Processor time for a MB, in microseconds";
+    print_table(title, options, &rows, |figure| figure.processor * 1e6);
     Ok(())
 }
 
@@ -440,8 +470,12 @@ pub fn run(words: impl Iterator<Item = String>) -> Outcome<()> {
         options.files, options.names, options.seconds
     );
     type Print = fn(&Options, &mut Places) -> Outcome<()>;
-    let parts: [(&str, Print); 3] =
-        [("stats", print_stats), ("renames", print_renames), ("sessions", print_sessions)];
+    let parts: [(&str, Print); 4] = [
+        ("stats", print_stats),
+        ("renames", print_renames),
+        ("data", print_data),
+        ("sessions", print_sessions),
+    ];
     for (name, print) in parts {
         if name.contains(&options.only) {
             print(&options, &mut places)?;

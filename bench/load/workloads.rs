@@ -11,6 +11,9 @@ use std::time::Instant;
 /// The file that is written and read.
 const FILE: usize = 16 << 20;
 
+/// The file that sessions read.
+const SHARED: &[u8] = b"big";
+
 /// The bytes of one WRITE or READ.
 const PIECE: usize = 32768;
 
@@ -72,7 +75,7 @@ pub const ROWS: [Row; 24] = [
     row("MKDIR and RMDIR, 64 sent ahead", CALLS, |setting| MakeDirectories::new(setting, 64)),
     row("open, close and remove, one at a time", CALLS, |setting| MakeFiles::new(setting, 1)),
     row("open, close and remove, 64 sent ahead", CALLS, |setting| MakeFiles::new(setting, 64)),
-    row("WRITE of 32768 bytes, 64 sent ahead", MEGABYTES, |_| WriteFile::new()),
+    row("WRITE of 32768 bytes, 64 sent ahead", MEGABYTES, WriteFile::new),
     row("READ of 32768 bytes, 64 sent ahead", MEGABYTES, |_| ReadFile::new()),
     row("STAT in a small directory, one at a time", CALLS, |setting| {
         StatNames::new(Setting { names: FEW, ..setting }, 1)
@@ -348,9 +351,9 @@ impl Workload for MakeFiles {
     }
 }
 
-/// Opens the file `big` with nothing in it, and writes the whole of it.
-fn write_whole(session: &mut Session, contents: &[u8]) -> Outcome<()> {
-    let handle = open_now(session, b"big", FOR_WRITING | CREATE | TRUNCATE)?;
+/// Opens a file with nothing in it, and writes the whole of it.
+fn write_whole(session: &mut Session, path: &[u8], contents: &[u8]) -> Outcome<()> {
+    let handle = open_now(session, path, FOR_WRITING | CREATE | TRUNCATE)?;
     let mut offset = 0;
     session.pump(64, &mut |_, reply, request| {
         if let Some(reply) = reply {
@@ -366,10 +369,10 @@ fn write_whole(session: &mut Session, contents: &[u8]) -> Outcome<()> {
     close_now(session, &handle)
 }
 
-/// Reads the whole file `big` and compares it. A reply may have fewer bytes than were asked for;
-/// the rest is asked for again.
-fn read_whole(session: &mut Session, contents: &[u8]) -> Outcome<()> {
-    let handle = open_now(session, b"big", FOR_READING)?;
+/// Reads a whole file and compares it. A reply may have fewer bytes than were asked for; the rest
+/// is asked for again.
+fn read_whole(session: &mut Session, path: &[u8], contents: &[u8]) -> Outcome<()> {
+    let handle = open_now(session, path, FOR_READING)?;
     let mut asked = vec![0..0; 64];
     let mut next = 0;
     session.pump(64, &mut |slot, reply, request| {
@@ -405,46 +408,48 @@ fn repeat(until: Instant, move_file: &mut dyn FnMut() -> Outcome<()>) -> Outcome
     Ok(bytes)
 }
 
-/// Writes a file of 16 MiB over and over. It is read back once.
-struct WriteFile {
+/// Writes a file of 16 MiB of the session's own over and over. It is read back once.
+pub struct WriteFile {
+    path: Vec<u8>,
     contents: Vec<u8>,
 }
 
 impl WriteFile {
-    fn new() -> Box<dyn Workload> {
-        Box::new(WriteFile { contents: contents() })
+    pub fn new(setting: Setting) -> Box<dyn Workload> {
+        let path = format!("big{}", setting.number).into_bytes();
+        Box::new(WriteFile { path, contents: contents() })
     }
 }
 
 impl Workload for WriteFile {
     fn prepare(&mut self, session: &mut Session) -> Outcome<()> {
-        write_whole(session, &self.contents)?;
-        read_whole(session, &self.contents)
+        write_whole(session, &self.path, &self.contents)?;
+        read_whole(session, &self.path, &self.contents)
     }
 
     fn round(&mut self, session: &mut Session, until: Instant) -> Outcome<u64> {
-        repeat(until, &mut || write_whole(session, &self.contents))
+        repeat(until, &mut || write_whole(session, &self.path, &self.contents))
     }
 }
 
-/// Reads a file of 16 MiB over and over.
-struct ReadFile {
+/// Reads a file of 16 MiB over and over, the same in all sessions.
+pub struct ReadFile {
     contents: Vec<u8>,
 }
 
 impl ReadFile {
-    fn new() -> Box<dyn Workload> {
+    pub fn new() -> Box<dyn Workload> {
         Box::new(ReadFile { contents: contents() })
     }
 }
 
 impl Workload for ReadFile {
     fn prepare(&mut self, session: &mut Session) -> Outcome<()> {
-        write_whole(session, &self.contents)
+        write_whole(session, SHARED, &self.contents)
     }
 
     fn round(&mut self, session: &mut Session, until: Instant) -> Outcome<u64> {
-        repeat(until, &mut || read_whole(session, &self.contents))
+        repeat(until, &mut || read_whole(session, SHARED, &self.contents))
     }
 }
 

@@ -23,6 +23,17 @@ pub(crate) enum Stop {
     UnderWay,
 }
 
+/// Tells the gate of the next step where it wants that, outside of the lock.
+fn stop_at<D: Desk, G: Gate>(desk: &mut D, gate: &G, session: u64, number: u64, steps: u64)
+    ensures at { D.at desk.new ≡ D.at desk.old }
+    ensures begins { D.begins desk.new ≡ D.begins desk.old }
+{
+    if gate.stops(session, number, steps) {
+        desk.rest();
+        gate.between(session, number, steps);
+    }
+}
+
 /// Makes steps until the call is answered.
 fn finish<D: Desk, G: Gate>(desk: &mut D, gate: &G, session: u64, number: u64) -> Result<(), Stop>
     requires { IsUnderWay (D.at desk.old).place }
@@ -32,7 +43,7 @@ fn finish<D: Desk, G: Gate>(desk: &mut D, gate: &G, session: u64, number: u64) -
     ensures begins { D.begins desk.new ≡ D.begins desk.old }
 {
     for steps in 0..u64::MAX {
-        gate.between(session, number, steps);
+        stop_at(desk, gate, session, number, steps);
         match desk.step() {
             Told::Going => {}
             Told::Answered => return Ok(()),

@@ -71,6 +71,11 @@ pub trait Desk {
         ensures session { (at self.new).session ≡ (at self.old).session }
         ensures begins { begins self.new ≡ begins self.old };
 
+    /// Lets go of what it holds from one event to the next: others needn't wait for it.
+    fn rest(&mut self)
+        ensures at { at self.new ≡ at self.old }
+        ensures begins { begins self.new ≡ begins self.old };
+
     /// The answer to the last call.
     fn answer(&self) -> &Answer
         requires { IsAnswered (at self.now).place }

@@ -1,8 +1,12 @@
 //! Who is told of a session's steps.
 
-/// Told of each step and each answer of a session's calls, outside of the lock.
+/// Told of the steps and of each answer of a session's calls.
 pub trait Gate {
-    /// Before each step of a call: how many steps of it were made, blocked ones too.
+    /// Whether it is told of the next step of a call, outside of the lock: so many steps of it
+    /// were made, blocked ones too.
+    fn stops(&self, session: u64, number: u64, steps: u64) -> bool;
+
+    /// Before each such step.
     fn between(&self, session: u64, number: u64, steps: u64);
 
     /// After the answer to a call.
@@ -14,6 +18,10 @@ pub trait Gate {
 pub struct NoGate;
 
 impl Gate for NoGate {
+    fn stops(&self, _session: u64, _number: u64, _steps: u64) -> bool {
+        false
+    }
+
     fn between(&self, _session: u64, _number: u64, _steps: u64) {}
 
     fn answered(&self, _session: u64, _number: u64) {}

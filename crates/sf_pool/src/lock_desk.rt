@@ -5,21 +5,61 @@ ghost use Rattle.sf_pool.specs.Audits.{told};
 ghost use Rattle.sf_pool.specs.Desks.{New, kept_calls};
 
 use crate::desk::{Desk, Told};
+use crate::hall::{Hall, LOOKS};
 use crate::stay::Stay;
 use crate::transcript::Transcript;
 use sf_call::{Answer, CoreFault, Request};
 use sf_core::{Core, Share};
 use std::alloc::Global;
+use std::hint::spin_loop;
 use std::marker::Model;
-use std::sync::{Condvar, Mutex, Wait};
+use std::sync::{Mutex, MutexGuard, Wait};
+use std::thread;
 
-/// One session's calls on a core that threads share. Each of its events is one hold of the lock. Where another
-/// session's call holds what a call wants, its step waits until something happened on the core.
+/// How often a thread lets others run before it sleeps for the lock.
+const YIELDS: u32 = 20;
+
+/// How often a blocked step is tried again before its thread sleeps until something happens.
+const TRIES: u32 = 64;
+
+/// How many calls a session makes from one rest to the next before it goes through the door.
+const FEW: u64 = 4;
+
+/// How many calls it makes before it leaves the door to others.
+const MANY: u64 = 256;
+
+/// Whether a call moves much data: its packet and its reply are best made while others have the
+/// core.
+fn is_large(request: &Request) -> bool {
+    matches!(
+        request,
+        Request::Read { .. } | Request::Write { .. } | Request::ReadDir(_)
+    )
+}
+
+/// One session's calls on a core that threads share. Each of its events is one hold of the core,
+/// and between any two of them whoever asks for the core is let in. Where nobody asks it keeps
+/// the lock until its call is answered, and behind the door until it rests. Where another
+/// session's call is in the way of its own, its step is tried again after others ran, and at last
+/// waits until something happened on the core.
 pub struct LockDesk<'a, R: Wait> {
     rt: &'a R,
     core: &'a Mutex<Core>,
-    happened: &'a Condvar,
+    hall: &'a Hall,
     stay: Stay,
+    held: Option<MutexGuard<'a, Core>>,
+    door: Option<MutexGuard<'a, ()>>,
+    // How many calls were begun since it rested, and how many between the two rests before.
+    made: u64,
+    before: u64,
+    // How often the step under way was blocked.
+    blocked: u32,
+    // How often the core had been asked for when it last waited for those that ask in vain.
+    vain: u64,
+    // It made an event that those asleep weren't told of.
+    moved: bool,
+    // The call under way moves much data.
+    is_large: bool,
 }
 
 impl<R: Wait> Drop for LockDesk<'_, R> {
@@ -27,9 +67,19 @@ impl<R: Wait> Drop for LockDesk<'_, R> {
         let LockDesk {
             rt: _,
             core: _,
-            happened: _,
+            hall,
             stay: _stay,
+            held,
+            door: _door,
+            made: _,
+            before: _,
+            blocked: _,
+            vain: _,
+            moved: _,
+            is_large: _,
         } = self;
+        drop(held);
+        hall.tell();
     }
 }
 
@@ -39,7 +89,7 @@ impl<'a, R: Wait> LockDesk<'a, R> {
         rt: &'a R,
         alloc: Global,
         core: &'a Mutex<Core>,
-        happened: &'a Condvar,
+        hall: &'a Hall,
         keeps: bool,
     ) -> LockDesk<'a, R>
         ensures session { result.stay.session ≡ 0 }
@@ -49,8 +99,16 @@ impl<'a, R: Wait> LockDesk<'a, R> {
         LockDesk {
             rt,
             core,
-            happened,
+            hall,
             stay: Stay::new(alloc, keeps),
+            held: None,
+            door: None,
+            made: 0,
+            before: 0,
+            blocked: 0,
+            vain: 0,
+            moved: false,
+            is_large: false,
         }
     }
 
@@ -63,10 +121,203 @@ impl<'a, R: Wait> LockDesk<'a, R> {
         let LockDesk {
             rt: _,
             core: _,
-            happened: _,
+            hall,
             stay,
+            held,
+            door: _door,
+            made: _,
+            before: _,
+            blocked: _,
+            vain: _,
+            moved: _,
+            is_large: _,
         } = self;
+        drop(held);
+        hall.tell();
         stay.into_transcript()
+    }
+
+    /// Tries to take the lock for a while.
+    fn look(&self) -> Option<MutexGuard<'a, Core>> {
+        for _ in 0..LOOKS {
+            if !self.hall.is_taken() {
+                if let Some(guard) = self.core.try_lock() {
+                    return Some(guard);
+                }
+            }
+            spin_loop();
+        }
+        None
+    }
+
+    /// Takes the lock: tries, lets others run, and sleeps for it at last.
+    fn take(&self) -> MutexGuard<'a, Core> {
+        for _ in 0..YIELDS {
+            if let Some(guard) = self.look() {
+                return guard;
+            }
+            thread::yield_now();
+        }
+        self.core.lock(self.rt)
+    }
+
+    /// Takes the lock, and asks whoever keeps it where it isn't free soon.
+    fn ask(&self) -> MutexGuard<'a, Core> {
+        if let Some(guard) = self.look() {
+            return guard;
+        }
+        let is_blocked = self.blocked != 0;
+        self.hall.ask(is_blocked);
+        let guard = self.take();
+        self.hall.got(is_blocked);
+        guard
+    }
+
+    /// Takes the lock for an event. Whoever has the door lets others in, and asks for nothing.
+    fn lock(&self) -> MutexGuard<'a, Core> {
+        let guard = if self.door.is_some() && self.blocked == 0 {
+            self.take()
+        } else {
+            self.ask()
+        };
+        self.hall.set_taken(true);
+        guard
+    }
+
+    /// Takes the lock for many calls, of all sessions that make so many the only one. It waits at
+    /// the door with no lock, and between two calls alone: nobody can be in its way who waits for
+    /// it.
+    fn lock_for_many(&mut self) -> MutexGuard<'a, Core>
+        ensures { self.new.stay ≡ self.old.stay }
+    {
+        self.door = None;
+        self.door = Some(self.hall.enter(self.rt));
+        self.lock()
+    }
+
+    /// Gives the lock up.
+    fn release(&mut self, guard: MutexGuard<'a, Core>)
+        ensures { self.new.stay ≡ self.old.stay }
+    {
+        self.tell();
+        self.hall.set_taken(false);
+        drop(guard);
+    }
+
+    /// Wakes those that wait for something to happen, where something happened.
+    fn tell(&mut self)
+        ensures { self.new.stay ≡ self.old.stay }
+    {
+        if self.moved {
+            self.hall.tell();
+            self.moved = false;
+        }
+    }
+
+    /// Lets those in that ask, if any, and takes the lock again. Where they don't come in a
+    /// while, since their threads don't run, it doesn't wait for the same ones again.
+    fn let_in(&mut self, guard: MutexGuard<'a, Core>, is_over: bool) -> MutexGuard<'a, Core>
+        ensures { self.new.stay ≡ self.old.stay }
+    {
+        if !self.hall.is_asked(is_over) {
+            return guard;
+        }
+        let asks = self.hall.asks();
+        self.release(guard);
+        if asks != self.vain && !self.are_in(is_over) {
+            self.vain = asks;
+        }
+        self.lock()
+    }
+
+    /// Waits a while until all have come in who may. Whoever keeps the core for many calls lets
+    /// their threads run, too; one call is over before that.
+    fn are_in(&self, is_over: bool) -> bool {
+        if self.hall.are_in(is_over) {
+            return true;
+        }
+        if self.door.is_none() {
+            return false;
+        }
+        thread::yield_now();
+        self.hall.are_in(is_over)
+    }
+
+    /// The lock, for the next call.
+    fn lock_for_call(&mut self) -> MutexGuard<'a, Core>
+        ensures { self.new.stay ≡ self.old.stay }
+    {
+        let made = self.made;
+        self.made = made.saturating_add(1);
+        self.blocked = 0;
+        let is_many = self.door.is_none() && (made >= FEW || self.before > FEW);
+        if is_many || made % MANY == MANY - 1 {
+            self.give_up();
+            return self.lock_for_many();
+        }
+        match self.held.take() {
+            Some(guard) => {
+                self.tell();
+                self.let_in(guard, true)
+            }
+            None => self.lock(),
+        }
+    }
+
+    /// The lock, for the next step.
+    fn lock_for_step(&mut self) -> MutexGuard<'a, Core>
+        ensures { self.new.stay ≡ self.old.stay }
+    {
+        match self.held.take() {
+            Some(guard) => self.let_in(guard, false),
+            None => self.lock(),
+        }
+    }
+
+    /// A step was blocked: whoever is in the way goes on.
+    fn wait(&mut self, core: MutexGuard<'a, Core>)
+        ensures { self.new.stay ≡ self.old.stay }
+    {
+        if self.blocked < TRIES {
+            self.blocked += 1;
+            self.release(core);
+            thread::yield_now();
+            return;
+        }
+        self.door = None;
+        self.tell();
+        self.held = Some(self.hall.wait(self.rt, core));
+    }
+
+    /// Gives the lock up, where it keeps it.
+    fn give_up(&mut self)
+        ensures { self.new.stay ≡ self.old.stay }
+    {
+        if let Some(guard) = self.held.take() {
+            self.release(guard);
+        }
+    }
+
+    /// Gives up all that it keeps.
+    fn let_go(&mut self)
+        ensures { self.new.stay ≡ self.old.stay }
+    {
+        self.give_up();
+        self.door = None;
+        self.before = self.made;
+        self.made = 0;
+        self.vain = 0;
+    }
+
+    /// The call has its answer. The lock is kept for the next one behind the door alone.
+    fn end_call(&mut self)
+        ensures { self.new.stay ≡ self.old.stay }
+    {
+        if self.is_large {
+            self.let_go();
+        } else if self.door.is_none() {
+            self.give_up();
+        }
     }
 }
 
@@ -74,29 +325,40 @@ impl<R: Wait> Desk for LockDesk<'_, R> {
     ghost at = { λ d. d.stay };
 
     fn join(&mut self) -> Result<u64, CoreFault> {
-        let joined = self.stay.join(&mut self.core.lock(self.rt));
-        self.happened.notify_all();
+        let mut core = self.lock();
+        let joined = self.stay.join(&mut core);
+        self.moved = true;
+        self.release(core);
         joined
     }
 
     fn begin(&mut self, request: Request, moment: u32) -> Result<u64, CoreFault> {
-        let begun = self
-            .stay
-            .begin(&mut self.core.lock(self.rt), request, moment);
-        self.happened.notify_all();
+        self.is_large = is_large(&request);
+        let mut core = self.lock_for_call();
+        let begun = self.stay.begin(&mut core, request, moment);
+        self.moved = true;
+        self.held = Some(core);
         begun
     }
 
     fn step(&mut self) -> Told {
-        let mut core = self.core.lock(self.rt);
+        let mut core = self.lock_for_step();
         let stepped = self.stay.step(&mut core);
         if stepped.blocked {
-            let _core = self.happened.wait(self.rt, core);
+            self.wait(core);
             return stepped.told;
         }
-        drop(core);
-        self.happened.notify_all();
+        self.blocked = 0;
+        self.moved = true;
+        self.held = Some(core);
+        if stepped.told == Told::Answered {
+            self.end_call();
+        }
         stepped.told
+    }
+
+    fn rest(&mut self) {
+        self.let_go();
     }
 
     fn answer(&self) -> &Answer {
@@ -104,8 +366,11 @@ impl<R: Wait> Desk for LockDesk<'_, R> {
     }
 
     fn leave(&mut self) -> Option<Share> {
-        let share = self.stay.leave(&mut self.core.lock(self.rt));
-        self.happened.notify_all();
+        self.let_go();
+        let mut core = self.lock();
+        let share = self.stay.leave(&mut core);
+        self.moved = true;
+        self.release(core);
         share
     }
 

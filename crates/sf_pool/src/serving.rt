@@ -78,6 +78,23 @@ fn send<L: Line>(line: &mut L, session: &mut Session) -> Result<(), Stop>
     Ok(())
 }
 
+/// How many bytes of replies a line gathers before a write may wait. A worker's line gathers as
+/// many.
+const GATHERED: usize = 16384;
+
+/// Lets go of the core where a write of so many bytes may wait, and tells how much room the line
+/// has after it: by then it has written what it had gathered.
+fn let_go_for<D: Desk>(desk: &mut D, len: usize, room: usize) -> usize
+    ensures at { D.at desk.new ≡ D.at desk.old }
+    ensures begins { D.begins desk.new ≡ D.begins desk.old }
+{
+    if len < room {
+        return room - len;
+    }
+    desk.rest();
+    GATHERED.saturating_sub(len)
+}
+
 /// Answers the packets that are unread, one after the other. Each reply is written before the next packet
 /// is asked for. Tells whether the session has ended.
 fn drain<D: Desk, L: Line, C: Clock, G: Gate>(
@@ -109,6 +126,7 @@ fn drain<D: Desk, L: Line, C: Clock, G: Gate>(
     ensures failures { L.failed line.old ≤ L.failed line.new }
     ensures fault { IfErr result (λ stop. IsStop stop (L.failed line.old) (L.failed line.new)) }
 {
+    let mut room = GATHERED;
     for _ in 0..u64::MAX {
         let Ok(next) = session.next() else {
             return Err(Stop::OutOfMemory);
@@ -119,6 +137,7 @@ fn drain<D: Desk, L: Line, C: Clock, G: Gate>(
             Next::Local => {}
             Next::Call(request) => make_call(desk, clock, gate, number, session, request)?,
         }
+        room = let_go_for(desk, session.output().len(), room);
         send(line, session)?;
     }
     Err(Stop::NumbersSpent)
@@ -191,6 +210,7 @@ fn rounds<D: Desk, L: Line, C: Clock, G: Gate>(
     ensures fault { IfErr result (λ stop. IsStop stop (L.failed line.old) (L.failed line.new)) }
 {
     for _ in 0..u64::MAX {
+        desk.rest();
         if read_piece(line, session, piece)? {
             return Ok(());
         }

@@ -3,11 +3,13 @@
 use sf_call::{Answer, Request};
 use sf_cases::requests::mkdir;
 use sf_core::{Core, Lane, Share, Step};
-use sf_pool::{AuditFault, Desk, Exchange, GatherFault, LockDesk, Told, Transcript, audit, gather};
+use sf_pool::{
+    AuditFault, Desk, Exchange, GatherFault, Hall, LockDesk, Told, Transcript, audit, gather,
+};
 use sf_reply::{Reply, StatusCode};
 use std::alloc::Global;
 use std::process::Abort;
-use std::sync::{Condvar, Mutex, Wait};
+use std::sync::{Mutex, Wait};
 use std::test::*;
 
 mod serving;
@@ -251,11 +253,11 @@ fn visit(
     rt: &(impl Abort + Wait),
     alloc: Global,
     core: &Mutex<Core>,
-    happened: &Condvar,
+    hall: &Hall,
     request: Result<Request, Fail>,
 ) -> Result<(Transcript, Share), Fail> {
     let request = request?;
-    let mut desk = LockDesk::new(rt, alloc, core, happened, true);
+    let mut desk = LockDesk::new(rt, alloc, core, hall, true);
     let session = desk.join()?;
     let number = desk.begin(request, 100)?;
     assert_eq!(rt; desk.step(), Told::Going);
@@ -271,9 +273,9 @@ fn visit(
 fn two_visits(rt: HostRuntime) -> Result<(), Fail> {
     let alloc = rt.alloc();
     let core = Mutex::new(Core::new(alloc)?);
-    let happened = Condvar::new();
-    let (first, one) = visit(&rt, alloc, &core, &happened, mkdir(alloc, b"/a"))?;
-    let (second, other) = visit(&rt, alloc, &core, &happened, mkdir(alloc, b"/a"))?;
+    let hall = Hall::new();
+    let (first, one) = visit(&rt, alloc, &core, &hall, mkdir(alloc, b"/a"))?;
+    let (second, other) = visit(&rt, alloc, &core, &hall, mkdir(alloc, b"/a"))?;
     let core = core.into_inner();
     let told = vec![in alloc; second, first]?;
     assert_eq!(rt; audit(&core, &told), Ok(()));

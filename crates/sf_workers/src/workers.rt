@@ -8,10 +8,10 @@ ghost use Rattle.sf_workers.specs.Shares.{IsShareOf};
 use crossbeam_channel::Receiver;
 use sf_core::{Core, Share};
 use sf_line::Line;
-use sf_pool::{Gate, LockDesk, Transcript, serve};
+use sf_pool::{Gate, Hall, LockDesk, Transcript, serve};
 use sf_session::{Clock, ServeFault};
 use std::alloc::{AllocError, Global};
-use std::sync::{Condvar, Mutex, Wait};
+use std::sync::{Mutex, Wait};
 use std::thread::Threads;
 use std::{mem, thread};
 
@@ -98,7 +98,7 @@ fn work<R: Wait, L: Line + Drop, C: Clock + Drop, G: Gate>(
     rt: &R,
     alloc: Global,
     core: &Mutex<Core>,
-    happened: &Condvar,
+    hall: &Hall,
     lines: &Receiver<L>,
     clock: C,
     gate: &G,
@@ -112,7 +112,7 @@ fn work<R: Wait, L: Line + Drop, C: Clock + Drop, G: Gate>(
         let Ok(mut line) = lines.recv(rt) else {
             break;
         };
-        let desk = LockDesk::new(rt, alloc, core, happened, keep);
+        let desk = LockDesk::new(rt, alloc, core, hall, keep);
         if keep {
             served.serve_and_keep(alloc, desk, &mut line, &mut clock, gate);
         } else {
@@ -136,7 +136,7 @@ pub fn serve_all<
     rt: &R,
     alloc: Global,
     core: &Mutex<Core>,
-    happened: &Condvar,
+    hall: &Hall,
     lines: &Receiver<L>,
     clocks: Vec<C>,
     gate: &G,
@@ -149,6 +149,6 @@ pub fn serve_all<
     thread::map_vec(
         rt,
         clocks,
-        &|clock| { work(rt, alloc, core, happened, lines, clock, gate, keep) },
+        &|clock| { work(rt, alloc, core, hall, lines, clock, gate, keep) },
     )
 }

@@ -4,15 +4,17 @@ use crossbeam_channel::{Receiver, Sender, unbounded};
 use sf_cases::{FailingLine, StillClock, hex_packets};
 use sf_core::{Core, Share};
 use sf_line::{MemoryLine, Pieces};
-use sf_pool::{Gate, NoGate, Transcript, audit, gather};
+use sf_pool::{Gate, Hall, NoGate, Transcript, audit, gather};
 use sf_workers::{Served, serve_all};
 use std::alloc::Global;
 use std::process::Abort;
 use std::sync::atomic::{AtomicU64, Ordering};
-use std::sync::{Condvar, Mutex, Wait};
+use std::sync::{Mutex, Wait};
 use std::test::*;
 use std::thread;
 use std::thread::Threads;
+
+mod together;
 
 const INIT: &str = "00000005 01 00000003";
 
@@ -104,6 +106,10 @@ impl TwoCalls {
 }
 
 impl Gate for TwoCalls {
+    fn stops(&self, _session: u64, _number: u64, _steps: u64) -> bool {
+        true
+    }
+
     fn between(&self, _session: u64, number: u64, steps: u64) {
         if number == 2 {
             self.seen.store(1, Ordering::SeqCst);
@@ -147,6 +153,10 @@ impl InTheWay {
 }
 
 impl Gate for InTheWay {
+    fn stops(&self, _session: u64, _number: u64, _steps: u64) -> bool {
+        true
+    }
+
     fn between(&self, _session: u64, number: u64, steps: u64) {
         if number == 3 {
             self.third.store(1, Ordering::SeqCst);
@@ -189,7 +199,7 @@ fn gate_two_calls(rt: HostRuntime) -> Result<(), Fail> {
     let one = hex_packets(alloc, &[INIT, MKDIR_A, STAT_A_F])?;
     let two = hex_packets(alloc, &[INIT, MKDIR_B])?;
     let core = Mutex::new(Core::new(alloc)?);
-    let happened = Condvar::new();
+    let hall = Hall::new();
     let gate = TwoCalls::new();
     let clocks = clocks(alloc, 2)?;
     let (sender, lines) = unbounded(alloc)?;
@@ -198,7 +208,7 @@ fn gate_two_calls(rt: HostRuntime) -> Result<(), Fail> {
     let (were_sent, all) = thread::join(
         &rt,
         || send_two(&rt, sender, first, second, &gate.seen),
-        || serve_all(&rt, alloc, &core, &happened, &lines, clocks, &gate, true),
+        || serve_all(&rt, alloc, &core, &hall, &lines, clocks, &gate, true),
     );
     assert!(rt; were_sent);
     let (transcripts, shares) = parted(alloc, all?)?;
@@ -220,7 +230,7 @@ fn waiting_call_is_woken(rt: HostRuntime) -> Result<(), Fail> {
     let one = hex_packets(alloc, &[INIT, MKDIR_A, STAT_A_F])?;
     let two = hex_packets(alloc, &[INIT, MKDIR_B])?;
     let core = Mutex::new(Core::new(alloc)?);
-    let happened = Condvar::new();
+    let hall = Hall::new();
     let gate = InTheWay {
         seen: AtomicU64::new(0),
         third: AtomicU64::new(0),
@@ -232,7 +242,7 @@ fn waiting_call_is_woken(rt: HostRuntime) -> Result<(), Fail> {
     let (were_sent, all) = thread::join(
         &rt,
         || send_two(&rt, sender, first, second, &gate.seen),
-        || serve_all(&rt, alloc, &core, &happened, &lines, clocks, &gate, true),
+        || serve_all(&rt, alloc, &core, &hall, &lines, clocks, &gate, true),
     );
     assert!(rt; were_sent);
     let (transcripts, shares) = parted(alloc, all?)?;
@@ -253,10 +263,10 @@ fn serve_inputs<R: Threads + Wait + Abort + Sync>(
     keep: bool,
 ) -> Result<(Core, Vec<Transcript>, Vec<Share>), Fail> {
     let core = Mutex::new(core);
-    let happened = Condvar::new();
+    let hall = Hall::new();
     let lines = sent(rt, alloc, inputs)?;
     let clocks = clocks(alloc, workers)?;
-    let all = serve_all(rt, alloc, &core, &happened, &lines, clocks, &NoGate, keep)?;
+    let all = serve_all(rt, alloc, &core, &hall, &lines, clocks, &NoGate, keep)?;
     if all.len() != workers {
         panic!(rt; "{} workers told what they served", all.len());
     }
@@ -349,7 +359,7 @@ fn serve_both<R: Threads + Wait + Abort + Sync>(
     fails: Fails,
     keep: bool,
 ) -> Result<(Vec<Transcript>, Vec<Share>), Fail> {
-    let happened = Condvar::new();
+    let hall = Hall::new();
     let (sender, lines) = unbounded(alloc)?;
     let first = failing(alloc, inputs.0, fails);
     let second = failing(alloc, inputs.1, Fails::AfterReads(usize::MAX));
@@ -358,7 +368,7 @@ fn serve_both<R: Threads + Wait + Abort + Sync>(
     }
     drop(sender);
     let clocks = clocks(alloc, 1)?;
-    let all = serve_all(rt, alloc, core, &happened, &lines, clocks, &NoGate, keep)?;
+    let all = serve_all(rt, alloc, core, &hall, &lines, clocks, &NoGate, keep)?;
     parted(alloc, all)
 }
 

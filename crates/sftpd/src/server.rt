@@ -8,13 +8,13 @@ use crate::socket_line::SocketLine;
 use crate::totals::tell;
 use crossbeam_channel::{Receiver, Sender, bounded};
 use sf_core::Core;
-use sf_pool::NoGate;
+use sf_pool::{Hall, NoGate};
 use sf_workers::{Served, serve_all};
 use std::alloc::AllocError;
 use std::fs;
 use std::io::Write;
 use std::os::unix::net::UnixListener;
-use std::sync::{Condvar, Mutex, Wait};
+use std::sync::{Mutex, Wait};
 use std::thread::{self, Threads};
 
 /// What `sftpd serve` is asked for.
@@ -100,7 +100,7 @@ fn serve_core<T: Threads + Wait + Sync>(
     core: &Mutex<Core>,
 ) -> Result<Vec<Served>, ServerFault> {
     let alloc = rt.alloc();
-    let happened = &Condvar::new();
+    let hall = &Hall::new();
     let (sender, lines) = bounded(alloc, WAITING)?;
     let clocks = clocks(rt, serving.workers)?;
     let most = serving.sessions.unwrap_or(u64::MAX);
@@ -108,9 +108,7 @@ fn serve_core<T: Threads + Wait + Sync>(
     thread::scope(thread::scope_env(), threads, move |scope| {
         let workers = scope.spawn(move || {
             let lines = lines;
-            serve_all(
-                threads, alloc, core, happened, &lines, clocks, &NoGate, keeps,
-            )
+            serve_all(threads, alloc, core, hall, &lines, clocks, &NoGate, keeps)
         });
         let Ok(workers) = workers else {
             return Err(ServerFault::OutOfMemory);

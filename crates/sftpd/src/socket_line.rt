@@ -10,7 +10,8 @@ use std::alloc::Global;
 use std::io::{self, BufWriter, ErrorKind, Write};
 use std::os::unix::net::UnixStream;
 
-/// How many bytes are gathered at most.
+/// How many bytes are gathered at most: as many as a desk counts before it lets go of the core
+/// for a write.
 const ROOM: usize = 16384;
 
 /// The line below, which what was gathered is written to.

@@ -78,6 +78,8 @@ impl Desk for OwnDesk<'_> {
         self.stay.step(self.core).told
     }
 
+    fn rest(&mut self) {}
+
     fn answer(&self) -> &Answer {
         self.stay.answer()
     }
@@ -151,6 +153,8 @@ impl<R: Abort> Desk for TellingDesk<'_, R> {
     fn step(&mut self) -> Told {
         self.own.step()
     }
+
+    fn rest(&mut self) {}
 
     fn answer(&self) -> &Answer {
         self.own.answer()

@@ -11,13 +11,13 @@ use crossbeam_channel::bounded;
 use sf_cases::hex_packets;
 use sf_core::Core;
 use sf_line::{Line, write_all};
-use sf_pool::NoGate;
+use sf_pool::{Hall, NoGate};
 use sf_workers::{Served, serve_all};
 use std::fs;
 use std::io::{self, Read, Write};
 use std::net::Shutdown;
 use std::os::unix::net::{UnixListener, UnixStream};
-use std::sync::{Condvar, Mutex, Wait};
+use std::sync::{Mutex, Wait};
 use std::thread::{self, Threads};
 
 const INIT: &str = "00000005 01 00000003";
@@ -222,14 +222,14 @@ fn served_in_memory<R: Threads + Wait + Abort + Sync>(
 ) -> Result<(Core, Vec<Served>), Fail> {
     let whole = Pieces::new(usize::MAX, usize::MAX);
     let core = Mutex::new(Core::new(alloc)?);
-    let happened = Condvar::new();
+    let hall = Hall::new();
     let (sender, lines) = bounded(alloc, 1)?;
     let line = MemoryLine::new(alloc, input, whole, whole);
     assert!(rt; sender.send(rt, line).is_ok());
     drop(sender);
     let mut clocks = Vec::new(alloc);
     clocks.push(StillClock)?;
-    let all = serve_all(rt, alloc, &core, &happened, &lines, clocks, &NoGate, true)?;
+    let all = serve_all(rt, alloc, &core, &hall, &lines, clocks, &NoGate, true)?;
     Ok((core.into_inner(), all))
 }
 

@@ -2,12 +2,12 @@ use Rattle.std.proofs.Common.{◌≡◌, None, sym, ap, subst, ◌∙◌, arith}
 use Rattle.sf_session.specs.declared.session.Next.{Next}
 use Rattle.sf_session.specs.Sessions.{SessionView, NextGives}
 use Rattle.sf_pool.specs.declared.calling.Stop.{Stop}
-use Rattle.sf_pool.specs.Desks.{IsResting}
+use Rattle.sf_pool.specs.Desks.{IsResting, DeskView}
 use Rattle.sf_pool.specs.Scenes.{Scene, scene, Begins, Serves, line_at}
 use Rattle.sf_pool.specs.Serving.{Goes, HasSentFor}
 use Rattle.sf_serving.proofs.Laws.{if_err_at}
 use Rattle.sf_pool.proofs.Talks.{local_serves, call_serves, call_ready, call_stops, wrote_serves, more_serves, ended_serves}
-use Rattle.sf_pool.proofs.Turns.{sent_serves, local_ready}
+use Rattle.sf_pool.proofs.Turns.{sent_serves, local_ready, desk_serves}
 use Rattle.sf_pool.proofs.serving.drain.Goals.{in-Local, in-Call+in_ok-make_call-in-Call}
 use Rattle.sf_pool.proofs.serving.drain.Goals as goal
 
@@ -45,7 +45,7 @@ returns-in_err-send-clause-stops g c =
     let sent = c.in_err-send.ensures in
     let N : Next → Type 0 = λ n. NextGives c.loop.session n c.next.new.self in
     let first = scene (line_at (g.L.Line.incoming c.args.line.now) (g.L.Line.outgoing c.args.line.now) (g.L.Line.calls c.args.line.now)) (g.C.Clock.told c.args.clock.now) (g.D.Desk.begins c.args.desk.now) (g.D.Desk.at c.args.desk.now) in
-    let now = scene (line_at (g.L.Line.incoming c.send.new.line) (g.L.Line.outgoing c.send.new.line) (g.L.Line.calls c.send.new.line)) (g.C.Clock.told c.match-next-2.clock) (g.D.Desk.begins c.match-next-2.desk) (g.D.Desk.at c.match-next-2.desk) in
+    let now = scene (line_at (g.L.Line.incoming c.send.new.line) (g.L.Line.outgoing c.send.new.line) (g.L.Line.calls c.send.new.line)) (g.C.Clock.told c.match-next-2.clock) (g.D.Desk.begins c.let_go_for-room.new.desk) (g.D.Desk.at c.let_go_for-room.new.desk) in
     let Stops : Stop → Type 0 = λ why. (start : Scene) → Serves start first (Goes c.args.session.now) → Serves start now (HasSentFor why) in
     if_err_at c.from_residual-in_err-send.result c.in_err-send.field-0.0 Stops c.from_residual-in_err-send.ensures.1
     (λ start serves.
@@ -68,9 +68,11 @@ returns-in_err-send-clause-stops g c =
           (call_serves start i o l (g.C.Clock.told c.loop.clock) (g.C.Clock.told w.make_call.new.clock) (g.D.Desk.begins c.loop.desk) (g.D.Desk.begins w.make_call.new.desk) (g.D.Desk.at c.loop.desk) (g.D.Desk.at w.make_call.new.desk) c.loop.session c.next.new.self w.make_call.new.session
           w.in-Call.request (subst N w.in-Call.is c.in-Ok.ensures.ok) made.made before)))
     ] in
+    let rested : Serves start (scene (line_at i o l) (g.C.Clock.told c.match-next-2.clock) (g.D.Desk.begins c.let_go_for-room.new.desk) (g.D.Desk.at c.let_go_for-room.new.desk)) (Goes c.match-next-2.session) =
+    desk_serves start (line_at i o l) (g.C.Clock.told c.match-next-2.clock) (g.D.Desk.begins c.match-next-2.desk) (g.D.Desk.begins c.let_go_for-room.new.desk) (g.D.Desk.at c.match-next-2.desk) (g.D.Desk.at c.let_go_for-room.new.desk) (Goes c.match-next-2.session) c.let_go_for-room.ensures.begins c.let_go_for-room.ensures.at goes in
     let wrote : Serves start now (Goes c.send.new.session) =
-    wrote_serves start i (g.L.Line.incoming c.send.new.line) o (g.L.Line.outgoing c.send.new.line) l (g.L.Line.calls c.send.new.line) (g.C.Clock.told c.match-next-2.clock) (g.D.Desk.begins c.match-next-2.desk) (g.D.Desk.at c.match-next-2.desk)
-    c.match-next-2.session c.send.new.session sent.incoming sent.front goes in
+    wrote_serves start i (g.L.Line.incoming c.send.new.line) o (g.L.Line.outgoing c.send.new.line) l (g.L.Line.calls c.send.new.line) (g.C.Clock.told c.match-next-2.clock) (g.D.Desk.begins c.let_go_for-room.new.desk) (g.D.Desk.at c.let_go_for-room.new.desk)
+    c.match-next-2.session c.send.new.session sent.incoming sent.front rested in
     subst (λ (why : Stop). Serves start now (HasSentFor why)) (sym sent.fault.0) (wrote.0, wrote.1, tt))
 
 pub loop-preserved : goal.loop-preserved
@@ -110,12 +112,14 @@ loop-preserved g c =
                 (call_serves start i o l (g.C.Clock.told c.loop.clock) (g.C.Clock.told w.make_call.new.clock) (g.D.Desk.begins c.loop.desk) (g.D.Desk.begins w.make_call.new.desk) (g.D.Desk.at c.loop.desk) (g.D.Desk.at w.make_call.new.desk) c.loop.session c.next.new.self w.make_call.new.session
                 w.in-Call.request (subst N w.in-Call.is c.in-Ok.ensures.ok) made.made before)))
           ] in
-          wrote_serves start i (g.L.Line.incoming c.send.new.line) o (g.L.Line.outgoing c.send.new.line) l (g.L.Line.calls c.send.new.line) (g.C.Clock.told c.match-next-2.clock) (g.D.Desk.begins c.match-next-2.desk) (g.D.Desk.at c.match-next-2.desk)
-          c.match-next-2.session c.send.new.session sent.incoming sent.front goes;
+          let rested : Serves start (scene (line_at i o l) (g.C.Clock.told c.match-next-2.clock) (g.D.Desk.begins c.let_go_for-room.new.desk) (g.D.Desk.at c.let_go_for-room.new.desk)) (Goes c.match-next-2.session) =
+          desk_serves start (line_at i o l) (g.C.Clock.told c.match-next-2.clock) (g.D.Desk.begins c.match-next-2.desk) (g.D.Desk.begins c.let_go_for-room.new.desk) (g.D.Desk.at c.match-next-2.desk) (g.D.Desk.at c.let_go_for-room.new.desk) (Goes c.match-next-2.session) c.let_go_for-room.ensures.begins c.let_go_for-room.ensures.at goes in
+          wrote_serves start i (g.L.Line.incoming c.send.new.line) o (g.L.Line.outgoing c.send.new.line) l (g.L.Line.calls c.send.new.line) (g.C.Clock.told c.match-next-2.clock) (g.D.Desk.begins c.let_go_for-room.new.desk) (g.D.Desk.at c.let_go_for-room.new.desk)
+          c.match-next-2.session c.send.new.session sent.incoming sent.front rested;
       ready = record {
         waiting = ap (λ (x : SessionView). x.waiting) sent.front.now ∙ ready.0;
         written = sent.all;
-        resting = ready.1;
+        resting = subst (λ (d : DeskView). IsResting d.place) (sym c.let_go_for-room.ensures.at) ready.1;
       };
       failures = omega (arith, c.loop.invariant.failures, sent.failures);
     }
