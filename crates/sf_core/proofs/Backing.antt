@@ -1,227 +1,113 @@
 -- Calls that are set back: they hold nothing, and all else is as it was.
-use Rattle.std.specs.Prelude.{◌≡◌, ◌≢◌, ◌⊎◌, ℕ, List, [], ◌∷◌, option_map, Option, Some, None, refl}
-use Rattle.std.proofs.Common.{sym, ap, subst, ◌∙◌, inl, inr}
-use Rattle.std.specs.List.{AllByRecursion}
+use Rattle.std.specs.Prelude.{◌≡◌, ℕ, nat_eq, Bool, true, false, ◌||◌, if◌then◌else◌, List, [], ◌∷◌, option_map, Option, Some, None, refl}
+use Rattle.std.specs.Option.{option_map_or}
+use Rattle.std.proofs.Common.{sym, ap, subst, ◌∙◌, eqb-true, eq-eqb}
 use Rattle.sf_call.specs.declared.record.Record.{Record}
 use Rattle.sf_call.specs.declared.call.Call.{Call}
-use Rattle.sf_call.specs.declared.call.Stage.{Stage}
 use Rattle.sf_call.specs.declared.call.Stage.TheVariants as stage
-use Rattle.sf_call.specs.Histories.{replay}
-use Rattle.sf_call.specs.Unanswered.{at_stage, staged, staged_by}
-use Rattle.sf_inode.specs.Stores.{StoreState}
-use Rattle.sf_coupling.specs.Walks.{Spot, Standing, Holds}
-use Rattle.sf_coupling.specs.Walks.Standing.{Fresh}
-use Rattle.sf_coupling.proofs.Laws.{same_or_not}
-use Rattle.sf_walk.specs.Ways.{path_of, other_of}
+use Rattle.sf_call.specs.Unanswered.{at_stage}
+use Rattle.sf_inode.specs.Nodes.{with_holder}
+use Rattle.sf_inode.specs.Stores.{StoreState, edited}
+use Rattle.sf_coupling.specs.Walks.{Spot, Holds}
+use Rattle.sf_walk.specs.Routes.{nodes_of}
+use Rattle.sf_walk.specs.Steps.{is_one_of, free_unless, let_go}
+use Rattle.sf_walk.proofs.Laws.{IsSameGround, same_itself, same_trans, same_let_go}
 use Rattle.sf_core.specs.Cores.{call_at}
 use Rattle.sf_core.specs.Progress.{reply_of}
 use Rattle.sf_core.specs.Parts.{PartsView}
-use Rattle.sf_core.specs.Sound.{standing_of, standings, Sound}
+use Rattle.sf_core.specs.Sound.{spots_at, Sound}
 use Rattle.sf_core.specs.Stepping.{freed, set_back_by, set_back, all_set_back}
-use Rattle.sf_core.proofs.Maps.{set_other}
-use Rattle.sf_core.proofs.Holding.{SameTerrain, same_nodes, same_trans}
-use Rattle.sf_core.proofs.Owning.{freed_terrain, reset_keeps}
-use Rattle.sf_core.proofs.Finishing.{freed_keeps}
-use Rattle.sf_core.proofs.Sounds.{some_eq, none_some, reply_staged, after_here, after_other, sound_staged}
+use Rattle.sf_core.proofs.Maps.{some_eq, none_some, reply_is}
+use Rattle.sf_core.proofs.Updates.{updates_staged}
+use Rattle.sf_core.proofs.Starting.{set_back_sound}
 
--- a call is as it was, or was set back
-abbrev pub IsBack : Call → Call → Type 0
-IsBack c d = (d ≡ c) ⊎ (d ≡ at_stage stage.Fresh c)
+-- what became of a call: it is back where it started, or as it was
+abbrev pub back_if : Bool → Option Call → Option Call
+back_if true o = option_map (at_stage stage.Fresh) o
+back_if false o = o
 
--- some calls were set back, those of these numbers among them
-pub record AreBack (p q : PartsView) (history : List Record) (numbers : List ℕ) : Type 0 where
+back_twice : (a b : Bool) (o : Option Call) → back_if b (back_if a o) ≡ back_if (a || b) o
+back_twice false b o = refl
+back_twice true false o = refl
+back_twice true true None = refl
+back_twice true true (Some c) = refl
+
+back_one : (p : PartsView) (n m : ℕ) → call_at (set_back p n).calls m ≡ back_if (nat_eq m n) (call_at p.calls m)
+back_one p n m = elim (call_at p.calls n) as (λ o. call_at p.calls n ≡ o → call_at (set_back_by p n o).calls m ≡ back_if (nat_eq m n) (call_at p.calls m)) [
+  | None ↦ λ e. elim (nat_eq m n) as (λ b. nat_eq m n ≡ b → call_at p.calls m ≡ back_if b (call_at p.calls m)) [
+    | true ↦ λ b. let none = ap (call_at p.calls) (eqb-true m n b) ∙ e in none ∙ sym (ap (option_map (at_stage stage.Fresh)) none)
+    | false ↦ λ b. refl
+  ] refl
+  | Some c ↦ λ e. let u = updates_staged p.calls n c stage.Fresh e in
+      elim (nat_eq m n) as (λ b. nat_eq m n ≡ b → call_at (set_back_by p n (Some c)).calls m ≡ back_if b (call_at p.calls m)) [
+        | true ↦ λ b. let same = eqb-true m n b in ap (call_at (set_back_by p n (Some c)).calls) same ∙ u.now_is ∙ sym (ap (option_map (at_stage stage.Fresh)) (ap (call_at p.calls) same ∙ e))
+        | false ↦ λ b. u.rest m (λ same. let x = sym (eq-eqb m n same) ∙ b in let z : ⊥ = cc in z)
+      ] refl
+] refl
+
+-- the calls of these numbers are back
+pub calls_back : (ns : List ℕ) (p : PartsView) (m : ℕ) → call_at (all_set_back p ns).calls m ≡ back_if (is_one_of m ns) (call_at p.calls m)
+calls_back [] p m = refl
+calls_back (n ∷ ns) p m = calls_back ns (set_back p n) m ∙ ap (back_if (is_one_of m ns)) (back_one p n m) ∙ back_twice (nat_eq m n) (is_one_of m ns) (call_at p.calls m)
+
+-- and nothing else changed but who holds what
+pub record AreBack (p q : PartsView) (history : List Record) : Type 0 where
   pub sound : Sound q history
-  pub terrain : SameTerrain p.store q.store
+  pub ground : IsSameGround p.store q.store
   pub look_ups : q.store.look_ups ≡ p.store.look_ups
   pub book : q.book ≡ p.book
   pub sessions : q.sessions ≡ p.sessions
   pub drawn : q.drawn ≡ p.drawn
   pub joins : q.joins ≡ p.joins
-  pub each : (m : ℕ) (c : Call) → call_at p.calls m ≡ Some c → (d : Call) × (call_at q.calls m ≡ Some d) × IsBack c d
-  pub none : (m : ℕ) → call_at p.calls m ≡ None → call_at q.calls m ≡ None
-  pub these : AllByRecursion (λ m. (c : Call) → call_at p.calls m ≡ Some c → call_at q.calls m ≡ Some (at_stage stage.Fresh c)) numbers
 
-same_parts : (p : PartsView) (history : List Record) → Sound p history → AreBack p p history []
-same_parts p history sound = record {
-  sound = sound;
-  terrain = same_nodes p.store p.store refl refl;
-  look_ups = refl;
-  book = refl;
-  sessions = refl;
-  drawn = refl;
-  joins = refl;
-  each = λ m c at. (c, at, inl refl);
-  none = λ m at. at;
-  these = tt;
-}
-
-pub freed_looks : (g : Stage) (s : StoreState) → (freed g s).look_ups ≡ s.look_ups
-freed_looks stage.Fresh s = refl
-freed_looks (stage.At w node) s = refl
-freed_looks (stage.Ends common old new) s = refl
-
--- one call is set back
-module _ (p : PartsView) (history : List Record) (sound : Sound p history) (n : ℕ) (c : Call) (at : call_at p.calls n ≡ Some c) (undecided : reply_of c ≡ None) where
-  abbrev back : PartsView
-  back = record { store = freed c.stage p.store; book = p.book; sessions = p.sessions; calls = staged p.calls n stage.Fresh; drawn = p.drawn; joins = p.joins }
-
-  here : call_at (staged p.calls n stage.Fresh) n ≡ Some (at_stage stage.Fresh c)
-  here = after_here p history sound n c at undecided (freed c.stage p.store) stage.Fresh
-
-  other : (m : ℕ) → n ≢ m → call_at (staged p.calls n stage.Fresh) m ≡ call_at p.calls m
-  other m ne = after_other p history sound n c at undecided (freed c.stage p.store) stage.Fresh m ne
-
-  one_back : AreBack p (record { store = freed c.stage p.store; book = p.book; sessions = p.sessions; calls = staged p.calls n stage.Fresh; drawn = p.drawn; joins = p.joins }) history (n ∷ [])
-  one_back = record {
-    sound = sound_staged p history sound n c at undecided (freed c.stage p.store) stage.Fresh
-        (freed_keeps c.stage p.store (replay history) sound.keeps)
-        (reset_keeps p.store n (path_of c.request) (other_of c.request) c.stage (standings p.calls) sound.walks (ap (option_map standing_of) at)
-        (standings (staged p.calls n stage.Fresh)) (ap (option_map standing_of) here) (λ m ne. ap (option_map standing_of) (other m ne)))
-        tt;
-    terrain = freed_terrain c.stage p.store;
-    look_ups = freed_looks c.stage p.store;
-    book = refl;
-    sessions = refl;
-    drawn = refl;
-    joins = refl;
-    each = λ m d is. elim (same_or_not n m) [
-      | inl e ↦
-          let same : d ≡ c = some_eq d c (sym is ∙ ap (call_at p.calls) (sym e) ∙ at) in
-          (at_stage stage.Fresh c, ap (call_at (staged p.calls n stage.Fresh)) (sym e) ∙ here, inr (ap (at_stage stage.Fresh) (sym same)))
-      | inr ne ↦ (d, other m ne ∙ is, inl refl)
-    ];
-    none = λ m is. elim (same_or_not n m) [
-      | inl e ↦ absurd (none_some c (sym is ∙ ap (call_at p.calls) (sym e) ∙ at))
-      | inr ne ↦ other m ne ∙ is
-    ];
-    these = (λ d is. here ∙ ap (λ (x : Call). Some (at_stage stage.Fresh x)) (some_eq c d (sym at ∙ is)), tt);
-  }
-
-back_twice : (c d e : Call) → IsBack c d → IsBack d e → IsBack c e
-back_twice c d e (inl a) (inl b) = inl (b ∙ a)
-back_twice c d e (inl a) (inr b) = inr (b ∙ ap (at_stage stage.Fresh) a)
-back_twice c d e (inr a) (inl b) = inr (b ∙ a)
-back_twice c d e (inr a) (inr b) = inr (b ∙ ap (at_stage stage.Fresh) a)
-
--- what was set back stays so
-still_back : (c d : Call) → IsBack (at_stage stage.Fresh c) d → d ≡ at_stage stage.Fresh c
-still_back c d (inl e) = e
-still_back c d (inr e) = e
-
-these_still : (p q r : PartsView) (history : List Record) (ns ms : List ℕ) → AreBack p q history ns → AreBack q r history ms
-    → AllByRecursion (λ m. (c : Call) → call_at p.calls m ≡ Some c → call_at q.calls m ≡ Some (at_stage stage.Fresh c)) ns
-    → AllByRecursion (λ m. (c : Call) → call_at p.calls m ≡ Some c → call_at r.calls m ≡ Some (at_stage stage.Fresh c)) ns
-these_still p q r history [] ms a b h = tt
-these_still p q r history (n ∷ ns) ms a b h = (
-  λ c at.
-      let f = b.each n (at_stage stage.Fresh c) (h.0 c at) in
-      f.1 ∙ ap Some (still_back c f.0 f.2),
-  go ns h.1,
-)
+pub let_go_looks : (kept nodes : List ℕ) (s : StoreState) → (let_go kept nodes s).look_ups ≡ s.look_ups
+let_go_looks kept [] s = refl
+let_go_looks kept (node ∷ nodes) s = let_go_looks kept nodes (free_unless kept node s) ∙ by (is_one_of node kept)
   where
-    go : (ks : List ℕ) → AllByRecursion (λ m. (c : Call) → call_at p.calls m ≡ Some c → call_at q.calls m ≡ Some (at_stage stage.Fresh c)) ks
-        → AllByRecursion (λ m. (c : Call) → call_at p.calls m ≡ Some c → call_at r.calls m ≡ Some (at_stage stage.Fresh c)) ks
-    go [] k = tt
-    go (m ∷ ks) k = (λ c at. let f = b.each m (at_stage stage.Fresh c) (k.0 c at) in f.1 ∙ ap Some (still_back c f.0 f.2), go ks k.1)
+    by : (b : Bool) → (if b then s else edited (with_holder None) s node).look_ups ≡ s.look_ups
+    by true = refl
+    by false = refl
 
--- what is said of calls that are back is said of calls that were there
-these_through : (p q r : PartsView) (history : List Record) (ns ms : List ℕ) → AreBack p q history ns
-    → AllByRecursion (λ m. (c : Call) → call_at q.calls m ≡ Some c → call_at r.calls m ≡ Some (at_stage stage.Fresh c)) ms
-    → AllByRecursion (λ m. (c : Call) → call_at p.calls m ≡ Some c → call_at r.calls m ≡ Some (at_stage stage.Fresh c)) ms
-these_through p q r history ns [] a h = tt
-these_through p q r history ns (m ∷ ms) a h = (λ c at. let d = a.each m c at in h.0 d.0 d.1 ∙ ap Some (by_back c d.0 d.2), these_through p q r history ns ms a h.1)
+-- an undecided call was so before
+was_undecided : (b : Bool) (o : Option Call) (c : Call) → back_if b o ≡ Some c → ((d : Call) → o ≡ Some d → reply_of d ≡ None) → reply_of c ≡ None
+was_undecided true None c e h = absurd (none_some c e)
+was_undecided true (Some d) c e h = ap reply_of (sym (some_eq (at_stage stage.Fresh d) c e)) ∙ reply_is (at_stage stage.Fresh d) ∙ sym (reply_is d) ∙ h d refl
+was_undecided false o c e h = h c e
+
+pub all_back : (ns : List ℕ) (p : PartsView) (history : List Record) → Sound p history → ((m : ℕ) (c : Call) → is_one_of m ns ≡ true → call_at p.calls m ≡ Some c → reply_of c ≡ None) → AreBack p (all_set_back p ns) history
+all_back [] p history sound undecided = record { sound = sound; ground = same_itself p.store; look_ups = refl; book = refl; sessions = refl; drawn = refl; joins = refl }
+all_back (n ∷ ns) p history sound undecided =
+    then_back (call_at p.calls n) refl (λ one. all_back ns (set_back p n) history one
+    (λ m c here at. was_undecided (nat_eq m n) (call_at p.calls m) c (sym (back_one p n m) ∙ at) (λ d there. undecided m d (or_right (nat_eq m n) (is_one_of m ns) here) there)))
   where
-    by_back : (c d : Call) → IsBack c d → at_stage stage.Fresh d ≡ at_stage stage.Fresh c
-    by_back c d (inl e) = ap (at_stage stage.Fresh) e
-    by_back c d (inr e) = ap (at_stage stage.Fresh) e
+    or_right : (a b : Bool) → b ≡ true → (a || b) ≡ true
+    or_right true b e = refl
+    or_right false b e = e
 
-then_back : (p q r : PartsView) (history : List Record) (n : ℕ) (ms : List ℕ) → AreBack p q history (n ∷ []) → AreBack q r history ms → AreBack p r history (n ∷ ms)
-then_back p q r history n ms a b = record {
-  sound = b.sound;
-  terrain = same_trans p.store q.store r.store a.terrain b.terrain;
-  look_ups = b.look_ups ∙ a.look_ups;
-  book = b.book ∙ a.book;
-  sessions = b.sessions ∙ a.sessions;
-  drawn = b.drawn ∙ a.drawn;
-  joins = b.joins ∙ a.joins;
-  each = λ m c at. let d = a.each m c at in let e = b.each m d.0 d.1 in (e.0, e.1, back_twice c d.0 e.0 d.2 e.2);
-  none = λ m at. b.none m (a.none m at);
-  these = ((these_still p q r history (n ∷ []) ms a b a.these).0, these_through p q r history (n ∷ []) ms a b.these);
-}
+    then_back : (o : Option Call) → call_at p.calls n ≡ o → (Sound (set_back p n) history → AreBack (set_back p n) (all_set_back (set_back p n) ns) history) → AreBack p (all_set_back (set_back p n) ns) history
+    then_back None e rest = subst (λ (x : PartsView). AreBack x (all_set_back (set_back p n) ns) history) (ap (set_back_by p n) e) (rest (subst (λ (x : PartsView). Sound x history) (sym (ap (set_back_by p n) e)) sound))
+    then_back (Some c) e rest =
+        let is = (sound.ledger.calls n c e).is_number in
+        let back = ap (set_back_by p n) e in
+        let one = subst (λ k. Sound (set_back p k) history) is (set_back_sound p history sound c (ap (call_at p.calls) is ∙ e) (undecided n c (ap (λ b. b || is_one_of n ns) (eq-eqb n n refl)) e)) in
+        let r = rest one in
+        let mid : StoreState = freed c.stage p.store in
+        let q = all_set_back (set_back p n) ns in
+        record {
+          sound = r.sound;
+          ground = same_trans p.store mid q.store (same_let_go [] (nodes_of c.stage) p.store) (subst (λ (x : PartsView). IsSameGround x.store q.store) back r.ground);
+          look_ups = r.look_ups ∙ ap (λ (x : PartsView). x.store.look_ups) back ∙ let_go_looks [] (nodes_of c.stage) p.store;
+          book = r.book ∙ ap (λ (x : PartsView). x.book) back;
+          sessions = r.sessions ∙ ap (λ (x : PartsView). x.sessions) back;
+          drawn = r.drawn ∙ ap (λ (x : PartsView). x.drawn) back;
+          joins = r.joins ∙ ap (λ (x : PartsView). x.joins) back;
+        }
 
--- a number without a call is passed over
-no_call_back : (p r : PartsView) (history : List Record) (n : ℕ) (ms : List ℕ) → call_at p.calls n ≡ None → AreBack p r history ms → AreBack p r history (n ∷ ms)
-no_call_back p r history n ms none b = record {
-  sound = b.sound;
-  terrain = b.terrain;
-  look_ups = b.look_ups;
-  book = b.book;
-  sessions = b.sessions;
-  drawn = b.drawn;
-  joins = b.joins;
-  each = b.each;
-  none = b.none;
-  these = (λ c at. absurd (none_some c (sym none ∙ at)), b.these);
-}
-
-undecided_back : (c d : Call) → reply_of c ≡ None → IsBack c d → reply_of d ≡ None
-undecided_back c d e (inl same) = ap reply_of same ∙ e
-undecided_back c d e (inr same) = ap reply_of same ∙ reply_staged stage.Fresh c ∙ e
-
-all_undecided : (p q : PartsView) (history : List Record) (n : ℕ) (ms : List ℕ) → AreBack p q history (n ∷ [])
-    → AllByRecursion (λ m. (c : Call) → call_at p.calls m ≡ Some c → reply_of c ≡ None) ms
-    → AllByRecursion (λ m. (c : Call) → call_at q.calls m ≡ Some c → reply_of c ≡ None) ms
-all_undecided p q history n [] a h = tt
-all_undecided p q history n (m ∷ ms) a h = (one m h.0, all_undecided p q history n ms a h.1)
-  where
-    one : (k : ℕ) → ((c : Call) → call_at p.calls k ≡ Some c → reply_of c ≡ None) → (c : Call) → call_at q.calls k ≡ Some c → reply_of c ≡ None
-    one k u c is =
-        elim (call_at p.calls k) as (λ o. call_at p.calls k ≡ o → reply_of c ≡ None) [
-          | None ↦ λ e. absurd (none_some c (sym (a.none k e) ∙ is))
-          | Some b ↦ λ e. let d = a.each k b e in ap reply_of (some_eq c d.0 (sym is ∙ d.1)) ∙ undecided_back b d.0 (u b e) d.2
-        ] refl
-
-pub all_back : (ns : List ℕ) (p : PartsView) (history : List Record) → Sound p history → AllByRecursion (λ m. (c : Call) → call_at p.calls m ≡ Some c → reply_of c ≡ None) ns
-    → AreBack p (all_set_back p ns) history ns
-all_back [] p history sound h = same_parts p history sound
-all_back (n ∷ ns) p history sound h =
-    elim (call_at p.calls n) as (λ o. call_at p.calls n ≡ o → AreBack p (all_set_back (set_back_by p n o) ns) history (n ∷ ns)) [
-      | None ↦ λ e. no_call_back p (all_set_back p ns) history n ns e (all_back ns p history sound h.1)
-      | Some c ↦ λ e.
-          let a = one_back p history sound n c e (h.0 c e) in
-          then_back p (set_back_by p n (Some c)) (all_set_back (set_back_by p n (Some c)) ns) history n ns a
-          (all_back ns (set_back_by p n (Some c)) history a.sound (all_undecided p (set_back_by p n (Some c)) history n ns a h.1))
-    ] refl
-
--- where a call stands afterwards, it stood before
-pub stood : (p q : PartsView) (history : List Record) (ns : List ℕ) → AreBack p q history ns → (m : ℕ) (g : Standing) (s : Spot) → standings q.calls m ≡ Some g → Holds g s → standings p.calls m ≡ Some g
-stood p q history ns back m g s is hold =
-    elim (call_at p.calls m) as (λ o. call_at p.calls m ≡ o → standings p.calls m ≡ Some g) [
-      | None ↦ λ e. absurd (none_some g (sym (ap (option_map standing_of) (back.none m e)) ∙ is))
-      | Some c ↦ λ e. let d = back.each m c e in by_back c d.0 e d.1 d.2
-    ] refl
-  where
-    by_back : (c d : Call) → call_at p.calls m ≡ Some c → call_at q.calls m ≡ Some d → IsBack c d → standings p.calls m ≡ Some g
-    by_back c d e f (inl same) = ap (option_map standing_of) e ∙ ap (λ x. Some (standing_of x)) (sym same) ∙ sym (ap (option_map standing_of) f) ∙ is
-    by_back c d e f (inr same) =
-        let fresh : g ≡ Fresh = some_eq g Fresh (sym is ∙ ap (option_map standing_of) (f ∙ ap Some same)) in
-        absurd (subst (λ (x : Standing). Holds x s) fresh hold)
-
-left_staged : (calls : List (ℕ × Call)) (n m : ℕ) → m ≢ n → call_at (staged calls n stage.Fresh) m ≡ call_at calls m
-left_staged calls n m ne =
-    elim (call_at calls n) as (λ o. call_at calls n ≡ o → call_at (staged_by calls n stage.Fresh o) m ≡ call_at calls m) [
-      | None ↦ λ e. refl
-      | Some c ↦ λ e. set_other calls n (at_stage stage.Fresh c) c m ne e
-    ] refl
-
-left_one : (p : PartsView) (n m : ℕ) (o : Option Call) → m ≢ n → call_at (set_back_by p n o).calls m ≡ call_at p.calls m
-left_one p n m None ne = refl
-left_one p n m (Some c) ne = left_staged p.calls n m ne
-
--- a call of another number is as it was
-pub left_back : (ns : List ℕ) (p : PartsView) (m : ℕ) → AllByRecursion (λ n. m ≢ n) ns → call_at (all_set_back p ns).calls m ≡ call_at p.calls m
-left_back [] p m ne = refl
-left_back (n ∷ ns) p m ne = left_back ns (set_back p n) m ne.1 ∙ left_one p n m (call_at p.calls n) ne.0
+-- what a call holds afterwards, it held before
+pub stood : (b : Bool) (o : Option Call) (s : Spot) → Holds (option_map_or spots_at (back_if b o) []) s → Holds (option_map_or spots_at o []) s
+stood true None s hold = hold
+stood true (Some c) s hold = absurd hold
+stood false o s hold = hold
 
 book_one : (p : PartsView) (n : ℕ) (o : Option Call) → (set_back_by p n o).book ≡ p.book
 book_one p n None = refl

@@ -1,15 +1,20 @@
 -- A new core has the empty history.
-use Rattle.std.specs.Prelude.{◌≡◌, ◌-◌, ℕ, [], take, drop, Option, Some, None, refl}
+use Rattle.std.specs.Prelude.{◌≡◌, ◌-◌, ℕ, [], take, drop, option_and_then, Option, Some, None, refl}
 use Rattle.std.specs.List.{count_by}
-use Rattle.std.proofs.Common.{ap, ◌∙◌, arith}
-use Rattle.sf_book.specs.Books.{is_deed, kept_of, gone_of}
+use Rattle.std.proofs.Common.{sym, ap, subst, ◌∙◌, inl, inr, arith}
 use Rattle.sf_call.specs.declared.record.Record.{Record}
-use Rattle.sf_core.specs.Histories.{IsHistory}
-use Rattle.sf_core.specs.Parts.{PartsView, seen}
-use Rattle.sf_core.specs.Sound.{IsWritten, IsCore}
+use Rattle.sf_call.specs.Tree.{Tree, empty_tree}
+use Rattle.sf_call.specs.Histories.{replay, IsLegal, IsLegalAfter}
+use Rattle.sf_book.specs.Books.{is_deed, kept_of, gone_of}
+use Rattle.sf_inode.specs.declared.node.Node.{Node}
+use Rattle.sf_inode.specs.Stores.{StoreState, holder_of, IsFirst}
+use Rattle.sf_keeps.specs.Keeps.{Keeps}
+use Rattle.sf_keeps.proofs.Laws.{keeps_first}
+use Rattle.sf_coupling.proofs.Laws.{same_or_not}
+use Rattle.sf_core.specs.Parts.{PartsView}
+use Rattle.sf_core.specs.Sound.{Sound, IsCore}
 use Rattle.sf_core.specs.Stepping.{IsNewParts}
-use Rattle.sf_core.proofs.Starting.{sound_new}
-use Rattle.sf_core.proofs.Handing.{history_of}
+use Rattle.sf_core.proofs.Maps.{none_some}
 
 zero_less : (n : ℕ) → 0 ≡ 0 - n
 zero_less n = omega arith
@@ -22,11 +27,52 @@ nothing_gone : (keep : Option ℕ) → 0 ≡ count_by is_deed (gone_of keep [])
 nothing_gone None = refl
 nothing_gone (Some n) = ap (λ k. count_by is_deed (take {A = Record} k [])) (zero_less n)
 
-written_new : (p : PartsView) → IsNewParts p → IsWritten p.book []
-written_new p new = record { records = new.records ∙ nothing_kept p.book.keep; folded = new.folded ∙ nothing_gone p.book.keep }
+nothing_legal : IsLegal []
+unfolding IsLegal IsLegalAfter
+nothing_legal = tt
+
+nothing_replayed : empty_tree ≡ replay []
+unfolding replay
+nothing_replayed = refl
+
+first_free : (s : StoreState) → IsFirst s → (l n : ℕ) → holder_of s.nodes l ≡ Some n → ⊥
+first_free s first l n h = elim (same_or_not l s.root) [
+  | inl e ↦ none_some n (sym (ap (holder_of s.nodes) e ∙ ap (option_and_then (λ (x : Node). x.holder)) first.root) ∙ h)
+  | inr ne ↦ none_some n (sym (ap (option_and_then (λ (x : Node). x.holder)) (first.others l ne)) ∙ h)
+]
+
+pub sound_new : (p : PartsView) → IsNewParts p → Sound p []
+sound_new p new = subst (λ (x : PartsView). Sound x [])
+    (λ i. record { store = p.store; book = p.book; sessions = sym new.sessions i; calls = sym new.calls i; drawn = sym new.drawn i; joins = sym new.joins i })
+    (record {
+      history = record {
+        legal = nothing_legal;
+        records = new.records ∙ nothing_kept p.book.keep;
+        folded = new.folded ∙ nothing_gone p.book.keep;
+        tree = subst (λ (t : Tree). Keeps p.store t) nothing_replayed (keeps_first p.store new.store);
+        counted = refl;
+        undecided = λ n c at none. absurd (none_some c at);
+        decided = λ n c given at some. absurd (none_some c at);
+        later = λ n less. tt;
+        sessions = λ s o at. absurd (none_some o at);
+        newcomers = λ s less. tt;
+        few = omega arith;
+      };
+      coupled = record {
+        walks = record { shaped = λ n. tt; leads = λ n s h. absurd h; held = λ n s h. absurd h; holds = λ l n at. absurd (first_free p.store new.store l n at); apart = λ n m s ne h b. absurd h };
+        positions = λ n c at. absurd (none_some c at);
+        waiting = λ n c given at some. absurd (none_some c at);
+      };
+      ledger = record {
+        calls = λ n c at. absurd (none_some c at);
+        sessions = λ s o at. absurd (none_some o at);
+        room = omega arith;
+        drawn_fits = omega arith;
+        joins_fit = omega arith;
+        calls_rise = tt;
+        sessions_rise = tt;
+      };
+    })
 
 pub core_new : (p : PartsView) → IsNewParts p → IsCore p
-core_new p new = record { history = []; written = written_new p new; sound = sound_new p new }
-
-pub history_new : (p : PartsView) → IsNewParts p → IsHistory (seen p) []
-history_new p new = history_of p [] (sound_new p new) (written_new p new)
+core_new p new = record { history = []; sound = sound_new p new }

@@ -1,15 +1,12 @@
 -- Calls that another one carries out while their sessions wait.
-use Rattle.std.specs.Prelude.{◌≡◌, ◌≢◌, ◌⊎◌, ◌<◌, ◌≤◌, ◌+◌, ◌^◌, ◌||◌, ℕ, T, true, false, is_some, List, [], ◌∷◌, ◌++◌, map, option_map, option_and_then, filter_map, Option, Some, None, refl}
-use Rattle.std.proofs.Common.{sym, ap, subst, ◌∙◌, inl, inr, arith, append-nil, IsSome}
+use Rattle.std.specs.Prelude.{◌≡◌, ◌≢◌, ◌⊎◌, ◌<◌, ◌≤◌, ◌+◌, ◌^◌, ◌||◌, ℕ, nat_eq, Bool, true, false, if◌then◌else◌, is_some, List, [], ◌∷◌, ◌++◌, map, option_map, option_and_then, filter_map, Option, Some, None, refl}
+use Rattle.std.specs.Option.{option_map_or}
+use Rattle.std.proofs.Common.{sym, ap, subst, ◌∙◌, inl, inr, arith, append-nil, IsSome, eqb-true, eq-eqb}
 use Rattle.std.proofs.lemmas.List.{append_assoc}
 use Rattle.std.proofs.lemmas.List.Sums.{sum_by-cons}
-use Rattle.std.specs.List.{AllByRecursion}
-use Rattle.std.specs.Ordering.{nat_cmp}
-use Rattle.std.specs.Map.{set_value}
-use Rattle.std.specs.BTreeMap.{is_at}
-use Rattle.std.specs.FinMap.{is_sorted}
 use Rattle.sf_path.specs.Names.{Name, Path}
 use Rattle.sf_reply.specs.declared.reply.Reply.{Reply}
+use Rattle.sf_book.specs.Books.{BookView}
 use Rattle.sf_call.specs.declared.record.Record.{Record}
 use Rattle.sf_call.specs.declared.call.Call.{Call}
 use Rattle.sf_call.specs.declared.call.Stage.{Stage}
@@ -20,65 +17,60 @@ use Rattle.sf_call.specs.Requests.{Target, target_of}
 use Rattle.sf_call.specs.Requests.Target.{ByHandle, OnPath, OnPaths}
 use Rattle.sf_call.specs.Changes.{Change, moved_by, done}
 use Rattle.sf_call.specs.Calls.{answer_to, apply}
-use Rattle.sf_call.specs.Histories.{after, replay, IsLegal, IsNewNumber, IsPresent, IsOther, IsNoLeaving, MayFollow, IsAmong}
-use Rattle.sf_call.specs.Unanswered.{with_reply, answered, answered_by}
-use Rattle.sf_call.proofs.Laws.{replay-push, IsLegal-push, after_told, never_wants, named_way}
+use Rattle.sf_call.specs.Histories.{after, replay, IsLegal, IsNewNumber, IsAmong}
+use Rattle.sf_call.specs.Unanswered.{with_reply}
+use Rattle.sf_call.proofs.Laws.{after_told, never_wants, named_way}
 use Rattle.sf_laws.proofs.Laws.{below_labels, other_labels, unmoved_nested, moved_old}
-use Rattle.sf_book.specs.Books.{BookView, put}
 use Rattle.sf_inode.specs.declared.node.Node.{Node}
-use Rattle.sf_inode.specs.Stores.{node_in, entry_of, holder_of, is_directory_at}
+use Rattle.sf_inode.specs.Stores.{StoreState, node_in, entry_of, is_directory_at}
 use Rattle.sf_keeps.specs.Steps.{walk}
 use Rattle.sf_keeps.specs.Keeps.{Keeps}
-use Rattle.sf_keeps.proofs.Laws.{reached_node, label_found}
-use Rattle.sf_coupling.specs.Walks.{Spot, Standing, Holds}
-use Rattle.sf_coupling.specs.Walks.Standing.{Fresh}
+use Rattle.sf_keeps.proofs.Laws.{reached_node, label_found, one_way}
+use Rattle.sf_coupling.specs.Walks.{Spot, Holds}
 use Rattle.sf_coupling.proofs.Laws.{same_or_not}
-use Rattle.sf_walk.specs.Ways.{path_of, other_of, are_nested}
+use Rattle.sf_walk.specs.Routes.{Route, is_rooted, are_nested, route_at, route_of, spots_of}
+use Rattle.sf_walk.specs.Routes.Route.{NoPath, Along, Between}
+use Rattle.sf_walk.specs.Steps.{is_one_of}
 use Rattle.sf_walk.specs.Served.{IsRefused, IsCarriedOut}
-use Rattle.sf_core.specs.Cores.{call_at}
 use Rattle.sf_walk.specs.Ways.{names_of as path_names}
-use Rattle.sf_core.specs.Progress.{reply_of, did, undecided_in, names_in, names_of, number_at}
-use Rattle.sf_core.specs.Sure.{IsSure, AreSure}
+use Rattle.sf_core.specs.Cores.{call_at}
+use Rattle.sf_core.specs.Progress.{reply_of, did, copy_of, names_in, names_of, number_at}
+use Rattle.sf_core.specs.Sure.{AreSure}
 use Rattle.sf_core.specs.Events.{AreRecordsOf}
 use Rattle.sf_core.specs.Parts.{PartsView}
-use Rattle.sf_core.specs.Sound.{standing_at, standing_of, standings, CallSound, Sound, IsWritten}
-use Rattle.sf_core.specs.Stepping.{Helped, HelpsAll}
-use Rattle.sf_core.proofs.Maps.{set_same, set_other, rise_set, passing_set}
+use Rattle.sf_core.specs.Sound.{spots_at, spots_in, Sound}
+use Rattle.sf_core.specs.Stepping.{freed, Serves, HelpState, HelpsAll}
+use Rattle.sf_core.proofs.Maps.{some_eq, none_some}
+use Rattle.sf_core.proofs.Updates.{Updates, updates_answered}
 use Rattle.sf_core.proofs.LookUps.{looks_fit, looks_between}
-use Rattle.sf_core.proofs.Coupled.{led_once}
 use Rattle.sf_core.proofs.Spared.{keeps_after, leads_still, directory_still, own_either}
-use Rattle.sf_core.proofs.Decided.{decided_keeps}
-use Rattle.sf_core.proofs.Sounds.{all_push, deeds_push, some_eq, none_some, reply_is, among_more, among_last, is_undecided, undecided_one, decided_none, call_kept}
-use Rattle.sf_core.proofs.Finishing.{new_to}
-use Rattle.sf_core.proofs.Handing.{written_put, few_deeds}
-use Rattle.sf_core.proofs.Overtaken.{AreApart, LiesBelow, begins_below}
+use Rattle.sf_core.proofs.Recorded.{new_to, helped as helped_sound}
+use Rattle.sf_core.proofs.Numbers.{AreApart}
+use Rattle.sf_core.proofs.Passing.{LiesBelow, begins_below, or_false}
 
 -- the path leads not strictly below the other
 abbrev pub IsAside : Path → Path → Type 0
 IsAside old path = (name : Name) (rest : Path) → after_front old path ≢ Some (name ∷ rest)
 
--- nobody stands at the path or below it
+-- nobody holds what is at the path or below it
 abbrev pub IsClear : PartsView → Path → Type 0
-IsClear p old = (m : ℕ) (g : Standing) (s : Spot) → standings p.calls m ≡ Some g → Holds g s → after_front old s.path ≡ None
+IsClear p old = (m : ℕ) (s : Spot) → Holds (spots_in p.calls m) s → after_front old s.path ≡ None
 
--- the call of a number is undecided, stands nowhere, and lies below a path
+-- the call of a number is undecided, holds nothing, and lies below a path
 pub record IsReady (p : PartsView) (old : Path) (number : ℕ) : Type 0 where
   pub call : Call
   pub at : call_at p.calls number ≡ Some call
   pub undecided : reply_of call ≡ None
   pub fresh : call.stage ≡ stage.Fresh
-  pub path : Path
-  pub is_path : path_of call.request ≡ Some path
-  pub below : LiesBelow old (target_of call.request)
+  pub below : LiesBelow old (route_of call.request)
 
 -- these records were added by carrying calls out whose paths lead strictly below a path
 pub record AreLed (old : Path) (p q : PartsView) (h helped : List Record) : Type 0 where
   pub sound : Sound q (h ++ helped)
-  pub written : IsWritten p.book h → IsWritten q.book (h ++ helped)
   pub sure : AreSure h helped
   pub walks : (path : Path) → IsAside old path → walk (entry_of q.store.nodes) q.store.root path ≡ walk (entry_of p.store.nodes) p.store.root path
   pub directory : (path : Path) (l : ℕ) → IsAside old path → walk (entry_of p.store.nodes) p.store.root path ≡ Some l → is_directory_at p.store.nodes l ≡ true → is_directory_at q.store.nodes l ≡ true
-  pub stood : (m : ℕ) (g : Standing) (s : Spot) → standings q.calls m ≡ Some g → Holds g s → standings p.calls m ≡ Some g
+  pub stood : (m : ℕ) (s : Spot) → Holds (spots_in q.calls m) s → Holds (spots_in p.calls m) s
   pub sessions : q.sessions ≡ p.sessions
   pub drawn : q.drawn ≡ p.drawn
   pub joins : q.joins ≡ p.joins
@@ -100,48 +92,51 @@ nested_either from to nested =
     ] refl nested
 
 -- a request that lies below a path leaves the labels of paths that don't lead strictly below it
-lies_labels : (h : List Record) (number session moment : ℕ) (r : Request) (old x : Path) → IsLegal h → 0 < number → IsNewNumber number h → IsAside old x
-    → (g : Target) → target_of r ≡ g → LiesBelow old g → label_at (apply (replay h) session number moment r).tree.names x ≡ label_at (replay h).names x
-lies_labels h number session moment r old x legal above fresh aside (ByHandle handle) e below = absurd below
-lies_labels h number session moment r old x legal above fresh aside (OnPath path) e below = below_labels (replay h) session number moment r old path below.0 below.1 x e below.2 aside
-lies_labels h number session moment r old x legal above fresh aside (OnPaths from to) e (inr below) =
-    other_labels (replay h) session number moment r x (λ own. elim (own_either r from to x e own) [
-      | inl is ↦ let b = begins_below old from x below.0 is in aside b.0 b.1 b.2
-      | inr is ↦ let b = begins_below old to x below.1 is in aside b.0 b.1 b.2
-    ])
-lies_labels h number session moment r old x legal above fresh aside (OnPaths from to) e (inl nested) =
-    elim (moved_by (answer_to (replay h) session number moment r).changes) as (λ o. moved_by (answer_to (replay h) session number moment r).changes ≡ o → label_at (apply (replay h) session number moment r).tree.names x ≡ label_at (replay h).names x) [
-      | None ↦ λ none. ap (λ (changes : List Change). label_at (done (replay h) changes).names x)
-          (unmoved_nested (replay h) session number moment r from to e (λ path label. named_way h path label legal) none (nested_either from to nested))
-      | Some p ↦ λ moved.
-          let is = (moved_old h number session moment r from to p legal above fresh e moved).1 in
-          absurd (nested_none from to nested is.not_inside is.not_around)
-    ] refl
+module _ (h : List Record) (number session moment : ℕ) (r : Request) (old x : Path) (legal : IsLegal h) (above : 0 < number) (fresh : IsNewNumber number h) (aside : IsAside old x) where
+  lies_labels : (g : Target) → target_of r ≡ g → LiesBelow old (route_at g) → label_at (apply (replay h) session number moment r).tree.names x ≡ label_at (replay h).names x
+  lies_labels (ByHandle handle) e below = absurd below
+  lies_labels (OnPath path) e below = below_labels (replay h) session number moment r old path below.0 below.1 x e below.2 aside
+  lies_labels (OnPaths from to) e below = by (is_rooted from to) (are_nested from to) refl below
+    where
+      by : (a b : Bool) → are_nested from to ≡ b → LiesBelow old (if a then NoPath else if b then Along from else Between from to) → label_at (apply (replay h) session number moment r).tree.names x ≡ label_at (replay h).names x
+      by true b is low = absurd low
+      by false true nested low =
+          elim (moved_by (answer_to (replay h) session number moment r).changes) as (λ o. moved_by (answer_to (replay h) session number moment r).changes ≡ o → label_at (apply (replay h) session number moment r).tree.names x ≡ label_at (replay h).names x) [
+            | None ↦ λ none. ap (λ (changes : List Change). label_at (done (replay h) changes).names x)
+                (unmoved_nested (replay h) session number moment r from to e (λ path label. named_way h path label legal) none (nested_either from to nested))
+            | Some p ↦ λ moved.
+                let is = (moved_old h number session moment r from to p legal above fresh e moved).1 in
+                absurd (nested_none from to nested is.not_inside is.not_around)
+          ] refl
+      by false false is low =
+          other_labels (replay h) session number moment r x (λ own. elim (own_either r from to x e own) [
+            | inl is ↦ let b = begins_below old from x low.0 is in aside b.0 b.1 b.2
+            | inr is ↦ let b = begins_below old to x low.1 is in aside b.0 b.1 b.2
+          ])
 
-reply_with : (given : Reply) (c : Call) → reply_of (with_reply given c) ≡ Some given
-reply_with given c = reply_is (with_reply given c)
+aside_none : (old x : Path) → after_front old x ≡ None → IsAside old x
+aside_none old x e n r f = none_some (n ∷ r) (sym e ∙ f)
+
+-- what walks is there twice
+copied : (old : Path) (r : Route) (request : Request) → LiesBelow old r → copy_of r request ≡ Some request
+copied old NoPath request below = absurd below
+copied old (Along path) request below = refl
+copied old (Between from to) request below = refl
 
 -- ---- one call
 module _ (old : Path) (p : PartsView) (history : List Record) (sound : Sound p history) (clear : IsClear p old) (c : Call) (at : call_at p.calls c.number ≡ Some c) (undecided : reply_of c ≡ None) (fresh : c.stage ≡ stage.Fresh)
-    (below : LiesBelow old (target_of c.request))
-    (fits : p.store.look_ups < 2 ^ 64) (q : PartsView) (given : Reply) (helped : Helped p q c c.number given) where
-  call : CallSound p history c.number c
-  call = sound.calls c.number c at
+    (below : LiesBelow old (route_of c.request)) (fits : p.store.look_ups < 2 ^ 64) (q : PartsView) (given : Reply) (helped : HelpState p q c c.number given) where
+  above : 0 < c.number
+  above = (sound.ledger.calls c.number c at).above
 
   new_number : IsNewNumber c.number history
-  new_number = call.new_number undecided
+  new_number = sound.history.undecided c.number c at undecided
+
+  serves : Serves p.store q.store c given
+  serves = subst (λ (s : StoreState). Serves p.store s c given) (sym (helped.records.store ∙ ap (λ (g : Stage). freed g helped.records.mid) fresh)) helped.records.serves
 
   served : IsRefused p.store q.store (replay history) given ⊎ IsCarriedOut q.store (replay history) (answer_to (replay history) c.session c.number c.moment c.request) given
-  served = helped.serves.served (replay history) sound.keeps (new_to p history c.number c sound call undecided)
-
-  may_follow : MayFollow history (did c given)
-  may_follow = record {
-    is_call = call.is_call;
-    above_zero = call.above;
-    new_number = new_number;
-    present = (sound.sessions c.session (Some c.number) call.session).present;
-    answered = elim served [ inl e ↦ inr e.told | inr e ↦ inl e.told ];
-  }
+  served = serves.served (replay history) sound.history.tree (new_to p history c sound at undecided)
 
   -- the labels of paths aside stay
   label_aside : (x : Path) → IsAside old x → label_at (after (replay history) (did c given)).names x ≡ label_at (replay history).names x
@@ -149,117 +144,36 @@ module _ (old : Path) (p : PartsView) (history : List Record) (sound : Sound p h
     | inl e ↦ ap (λ (g : Reply). label_at (after (replay history) (did c g)).names x) e.told
     | inr e ↦
         ap (λ (g : Reply). label_at (after (replay history) (did c g)).names x) e.told ∙ ap (λ (u : Tree). label_at u.names x) (after_told (replay history) c.session c.number c.moment c.request)
-        ∙ lies_labels history c.number c.session c.moment c.request old x sound.legal call.above new_number aside (target_of c.request) refl below
+        ∙ lies_labels history c.number c.session c.moment c.request old x sound.history.legal above new_number aside (target_of c.request) refl below
   ]
 
-  aside_none : (x : Path) → after_front old x ≡ None → IsAside old x
-  aside_none x e n r f = let z : None ≡ Some (n ∷ r) = sym e ∙ f in let k : ⊥ = cc in k
-
-  -- where another call stands the label stays
-  labels : (x : Path) (l holder : ℕ) → walk (entry_of p.store.nodes) p.store.root x ≡ Some l → holder_of p.store.nodes l ≡ Some holder → c.number ≢ holder
-      → label_at (after (replay history) (did c given)).names x ≡ label_at (replay history).names x
-  labels x l holder w held other =
-      let s = sound.walks.holds l holder held in
-      let leads = sound.walks.leads holder s.0 s.1 s.2 s.3 in
-      let same : s.1.path ≡ x = led_once p.store history sound.keeps s.1.path x l (leads.names ∙ ap Some s.4) w (ap (is_directory_at p.store.nodes) (sym s.4) ∙ leads.directory) in
-      label_aside x (aside_none x (ap (after_front old) (sym same) ∙ clear holder s.0 s.1 s.2 s.3))
-
-  set_is : answered p.calls c.number given ≡ set_value (is_at (nat_cmp c.number)) p.calls (with_reply given c)
-  set_is = ap (answered_by p.calls c.number given) at
-
-  here : call_at (answered p.calls c.number given) c.number ≡ Some (with_reply given c)
-  here = ap (λ cs. call_at cs c.number) set_is ∙ set_same p.calls c.number (with_reply given c) c at
-
-  pub other : (m : ℕ) → m ≢ c.number → call_at (answered p.calls c.number given) m ≡ call_at p.calls m
-  other m ne = ap (λ cs. call_at cs m) set_is ∙ set_other p.calls c.number (with_reply given c) c m ne at
-
-  new_after : (m : ℕ) → c.number ≢ m → IsNewNumber m history → IsNewNumber m (history ++ did c given ∷ [])
-  new_after m ne h = all_push (IsOther m) history (did c given) h ne
-
-  present_after : (s : ℕ) → IsPresent s history → IsPresent s (history ++ did c given ∷ [])
-  present_after s h = all_push (IsNoLeaving s) history (did c given) h tt
-
-  keeps_now : Keeps q.store (after (replay history) (did c given))
-  keeps_now = keeps_after p.store q.store history c.number c.session c.moment c.request given sound.legal call.above new_number sound.keeps served helped.serves.nodes
-
-  abbrev now : PartsView
-  now = record { store = q.store; book = put p.book (did c given); sessions = p.sessions; calls = answered p.calls c.number given; drawn = p.drawn; joins = p.joins }
-
-  fewer : undecided_in (answered p.calls c.number given) + 1 ≡ undecided_in p.calls
-  fewer =
-      let a = ap (λ (cs : List (ℕ × Call)). undecided_in cs) set_is in
-      let b = passing_set is_undecided (is_at (nat_cmp c.number)) p.calls (with_reply given c) c at in
-      let d = undecided_one c undecided in
-      let e = decided_none (with_reply given c) given (reply_with given c) in
-      omega (arith, a, b, d, e)
-
-  own_standing : standings p.calls c.number ≡ Some (standing_at (path_of c.request) (other_of c.request) stage.Fresh)
-  own_standing = ap (option_map standing_of) at ∙ ap (λ (g : Stage). Some (standing_at (path_of c.request) (other_of c.request) g)) fresh
-
-  now_standing : standings (answered p.calls c.number given) c.number ≡ Some Fresh
-  now_standing = ap (option_map standing_of) here ∙ ap (λ (g : Stage). Some (standing_at (path_of c.request) (other_of c.request) g)) fresh
-
-  sound_now : Sound (record { store = q.store; book = put p.book (did c given); sessions = p.sessions; calls = answered p.calls c.number given; drawn = p.drawn; joins = p.joins }) (history ++ did c given ∷ [])
-  sound_now = record {
-    legal = IsLegal-push history (did c given) sound.legal may_follow;
-    keeps = subst (λ (t : Tree). Keeps q.store t) (sym (replay-push history (did c given))) keeps_now;
-    walks =
-        decided_keeps p.store q.store history c.number c.session c.moment c.request given sound.legal call.above new_number sound.keeps served helped.serves.nodes labels
-        stage.Fresh (standings p.calls) sound.walks own_standing (Some Fresh) (λ s h. h) tt (λ s h. h)
-        (standings (answered p.calls c.number given)) now_standing (λ m ne. ap (option_map standing_of) (other m (λ e. ne (sym e))));
-    calls = λ m d is. elim (same_or_not c.number m) [
-      | inl e ↦
-          let same : d ≡ with_reply given c = some_eq d (with_reply given c) (sym is ∙ ap (call_at (answered p.calls c.number given)) (sym e) ∙ here) in
-          subst (λ k. CallSound now (history ++ did c given ∷ []) k d) e (subst (λ (x : Call). CallSound now (history ++ did c given ∷ []) c.number x) (sym same) (record {
-            is_number = refl;
-            above = call.above;
-            most = call.most;
-            new_number = λ f. absurd (none_some given (sym f ∙ reply_with given c));
-            copied = λ x f g. absurd (none_some given (sym g ∙ reply_with given c));
-            recorded = λ g f. (fresh, subst (λ (y : Reply). IsAmong (did c y) (history ++ did c given ∷ [])) (some_eq given g (sym (reply_with given c) ∙ f)) (among_last (did c given) history));
-            is_call = call.is_call;
-            session = call.session;
-            short = call.short;
-          }))
-      | inr ne ↦
-          let h = sound.calls m d (sym (other m (λ e. ne (sym e))) ∙ is) in
-          call_kept p now history (history ++ did c given ∷ []) m d h (omega arith) (λ e. new_after m ne (h.new_number e)) (λ r a. among_more r history (did c given ∷ []) a) h.session
-    ];
-    sessions = λ s o is. let h = sound.sessions s o is in record {
-      above = h.above;
-      most = h.most;
-      present = present_after s h.present;
-      busy = λ m e. let b = h.busy m e in elim (same_or_not c.number m) [
-        | inl same ↦
-            let d : b.0 ≡ c = some_eq b.0 c (sym b.1 ∙ ap (call_at p.calls) (sym same) ∙ at) in
-            (with_reply given c, ap (call_at (answered p.calls c.number given)) (sym same) ∙ here, ap (λ (y : Call). y.session) (sym d) ∙ b.2)
-        | inr ne ↦ (b.0, other m (λ x. ne (sym x)) ∙ b.1, b.2)
-      ];
-    };
-    later = λ m less. new_after m (λ e. let most = call.most in absurd (omega (arith, most, less, e))) (sound.later m less);
-    newcomers = λ s less. present_after s (sound.newcomers s less);
-    room = let r = sound.room in omega (arith, r, fewer);
-    counted = let r = sound.counted in omega (arith, r, fewer, deeds_push history (did c given));
-    drawn_fits = sound.drawn_fits;
-    joins_fit = sound.joins_fit;
-    few = sound.few;
-    calls_rise = subst (λ cs. T (is_sorted nat_cmp cs)) (sym set_is) (rise_set (is_at (nat_cmp c.number)) (with_reply given c) p.calls sound.calls_rise);
-    sessions_rise = sound.sessions_rise;
-  }
-
   sound_helped : Sound q (history ++ did c given ∷ [])
-  sound_helped = subst (λ (x : PartsView). Sound x (history ++ did c given ∷ []))
-      (λ i. record { store = q.store; book = sym helped.book i; sessions = sym helped.sessions i; calls = sym helped.calls i; drawn = sym helped.drawn i; joins = sym helped.joins i })
-      sound_now
+  sound_helped =
+      helped_sound p q history sound c at undecided given
+      (λ x l holder w held other.
+      let s = sound.coupled.walks.holds l holder held in
+      let leads = sound.coupled.walks.leads holder s.spot s.holds in
+      let same = one_way p.store (replay history) sound.history.tree s.spot.path x l (leads.names ∙ ap Some s.node) w (ap (is_directory_at p.store.nodes) (sym s.node) ∙ leads.directory) in
+      label_aside x (aside_none old x (ap (after_front old) (sym same) ∙ clear holder s.spot s.holds)))
+      fresh helped
+
+  calls_now : Updates p.calls q.calls c.number (Some c) (Some (with_reply given c))
+  calls_now = subst (λ cs. Updates p.calls cs c.number (Some c) (Some (with_reply given c))) (sym helped.calls) (updates_answered p.calls c.number c given at)
 
   -- a path aside leads where it led
+  leads_aside : (x : Path) (l : ℕ) → IsAside old x → walk (entry_of p.store.nodes) p.store.root x ≡ Some l → (walk (entry_of q.store.nodes) q.store.root x ≡ Some l) × ((node : Node) × (node_in q.store.nodes l ≡ Some node))
+  leads_aside x l aside w = leads_still p.store q.store history c.number c.session c.moment c.request given sound.history.legal above new_number sound.history.tree served serves.nodes x l w (label_aside x aside)
+
+  keeps_now : Keeps q.store (after (replay history) (did c given))
+  keeps_now = keeps_after p.store q.store history c.number c.session c.moment c.request given sound.history.legal above new_number sound.history.tree served serves.nodes
+
   walks_aside : (x : Path) → IsAside old x → walk (entry_of q.store.nodes) q.store.root x ≡ walk (entry_of p.store.nodes) p.store.root x
   walks_aside x aside =
       elim (walk (entry_of p.store.nodes) p.store.root x) as (λ o. walk (entry_of p.store.nodes) p.store.root x ≡ o → walk (entry_of q.store.nodes) q.store.root x ≡ o) [
-        | Some l ↦ λ w. (leads_still p.store q.store history c.number c.session c.moment c.request given sound.legal call.above new_number sound.keeps served helped.serves.nodes x l w (label_aside x aside)).0
+        | Some l ↦ λ w. (leads_aside x l aside w).0
         | None ↦ λ w.
             let before : label_at (replay history).names x ≡ None =
-            label_found p.store (replay history) sound.keeps x ∙ ap (λ (o : Option ℕ). option_map (λ (y : Node). y.label) (option_and_then (node_in p.store.nodes) o)) w in
+            label_found p.store (replay history) sound.history.tree x ∙ ap (λ (o : Option ℕ). option_map (λ (y : Node). y.label) (option_and_then (node_in p.store.nodes) o)) w in
             elim (walk (entry_of q.store.nodes) q.store.root x) as (λ o. walk (entry_of q.store.nodes) q.store.root x ≡ o → o ≡ None) [
               | None ↦ λ v. refl
               | Some l ↦ λ v.
@@ -269,96 +183,91 @@ module _ (old : Path) (p : PartsView) (history : List Record) (sound : Sound p h
             ] refl
       ] refl
 
-  directory_aside : (x : Path) (l : ℕ) → IsAside old x → walk (entry_of p.store.nodes) p.store.root x ≡ Some l → is_directory_at p.store.nodes l ≡ true → is_directory_at q.store.nodes l ≡ true
-  directory_aside x l aside w dir =
-      let was = reached_node p.store (replay history) sound.keeps x l w in
-      let now_at = leads_still p.store q.store history c.number c.session c.moment c.request given sound.legal call.above new_number sound.keeps served helped.serves.nodes x l w (label_aside x aside) in
-      directory_still p.store q.store history c.number c.session c.moment c.request given sound.legal call.above new_number sound.keeps served helped.serves.nodes l was.0 now_at.1.0 was.1 now_at.1.1 dir
-
-  stood_now : (m : ℕ) (g : Standing) (s : Spot) → standings q.calls m ≡ Some g → Holds g s → standings p.calls m ≡ Some g
-  stood_now m g s is hold = elim (same_or_not c.number m) [
+  stood_now : (m : ℕ) (s : Spot) → Holds (spots_in q.calls m) s → Holds (spots_in p.calls m) s
+  stood_now m s hold = elim (same_or_not m c.number) [
     | inl e ↦
-        let x : standings q.calls m ≡ Some Fresh = ap (λ (cs : List (ℕ × Call)). standings cs m) helped.calls ∙ ap (standings (answered p.calls c.number given)) (sym e) ∙ now_standing in
-        absurd (subst (λ (y : Standing). Holds y s) (some_eq g Fresh (sym is ∙ x)) hold)
-    | inr ne ↦ sym (ap (λ (cs : List (ℕ × Call)). standings cs m) helped.calls ∙ ap (option_map standing_of) (other m (λ e. ne (sym e)))) ∙ is
+        let none : spots_in q.calls m ≡ [] =
+        ap (spots_in q.calls) e ∙ ap (λ (o : Option Call). option_map_or spots_at o []) calls_now.now_is ∙ ap (λ (g : Stage). spots_of (route_of c.request) g) fresh in
+        absurd (subst (λ (x : List Spot). Holds x s) none hold)
+    | inr ne ↦ subst (λ (x : List Spot). Holds x s) (ap (λ (o : Option Call). option_map_or spots_at o []) (calls_now.rest m ne)) hold
   ]
-
-  sure_now : IsSure history (did c given)
-  sure_now m is =
-      let s = helped.serves.sure (replay history) sound.keeps (new_to p history c.number c sound call undecided) m in
-      never_wants (replay history) c.session c.number c.moment c.request (sym s.told ∙ is)
 
   all_sure : AreSure history (did c given ∷ [])
   unfolding AreSure
-  all_sure = (sure_now, tt)
-
-  pub waits_now : call_at q.calls c.number ≡ Some (with_reply given c)
-  waits_now = ap (λ (cs : List (ℕ × Call)). call_at cs c.number) helped.calls ∙ here
+  all_sure = (
+    λ m is.
+        let s = serves.sure (replay history) sound.history.tree (new_to p history c sound at undecided) m in
+        never_wants (replay history) c.session c.number c.moment c.request (sym s.told ∙ is),
+    tt,
+  )
 
   pub one_led : AreLed old p q history (did c given ∷ [])
   one_led = record {
     sound = sound_helped;
-    written = λ w. subst (λ (b : BookView). IsWritten b (history ++ did c given ∷ [])) (sym helped.book) (written_put p.book history (did c given) w (few_deeds q (history ++ did c given ∷ []) sound_helped));
     sure = all_sure;
     walks = walks_aside;
-    directory = directory_aside;
+    directory = λ x l aside w dir.
+        let was = reached_node p.store (replay history) sound.history.tree x l w in
+        let now_at = leads_aside x l aside w in
+        directory_still p.store q.store history c.number c.session c.moment c.request given sound.history.legal above new_number sound.history.tree served serves.nodes l was.0 now_at.1.0 was.1 now_at.1.1 dir;
     stood = stood_now;
     sessions = helped.sessions;
-    drawn = helped.drawn;
-    joins = helped.joins;
-    keep = ap (λ (b : BookView). b.keep) helped.book;
+    drawn = helped.records.drawn;
+    joins = helped.records.joins;
+    keep = ap (λ (b : BookView). b.keep) helped.records.book;
     fits = looks_fit p.store q.store (path_names c.request) helped.looks fits;
     more = (looks_between p.store q.store (path_names c.request) fits helped.looks).0;
     few = let f = (looks_between p.store q.store (path_names c.request) fits helped.looks).1 in omega (arith, f);
   }
 
 -- ---- one after the other
-ready_on : (old : Path) (p q : PartsView) (m : ℕ) → call_at q.calls m ≡ call_at p.calls m → IsReady p old m → IsReady q old m
-ready_on old p q m same r = record { call = r.call; at = same ∙ r.at; undecided = r.undecided; fresh = r.fresh; path = r.path; is_path = r.is_path; below = r.below }
+pub or_right : (a b : Bool) → b ≡ true → (a || b) ≡ true
+or_right true b e = refl
+or_right false b e = e
 
-all_ready : (old : Path) (p q : PartsView) (n : ℕ) → ((m : ℕ) → m ≢ n → call_at q.calls m ≡ call_at p.calls m) → (ns : List ℕ) → AllByRecursion (λ m. m ≢ n) ns → AllByRecursion (IsReady p old) ns → AllByRecursion (IsReady q old) ns
-all_ready old p q n same [] apart h = tt
-all_ready old p q n same (m ∷ ns) apart h = (ready_on old p q m (same m apart.0) h.0, all_ready old p q n same ns apart.1 h.1)
+-- one of some numbers is none that isn't among them
+pub not_there : (k n : ℕ) (ns : List ℕ) → is_one_of k ns ≡ true → is_one_of n ns ≡ false → k ≢ n
+not_there k n ns here gone same = let x = sym here ∙ ap (λ i. is_one_of i ns) same ∙ gone in let z : ⊥ = cc in z
 
-records_on : (p q : PartsView) (n : ℕ) → ((m : ℕ) → m ≢ n → call_at q.calls m ≡ call_at p.calls m) → (ns : List ℕ) (rs : List Record) → AllByRecursion (λ m. m ≢ n) ns → AreRecordsOf q.calls ns rs → AreRecordsOf p.calls ns rs
+-- records of calls that are elsewhere, too
+pub records_on : (old new : List (ℕ × Call)) (ns : List ℕ) (rs : List Record) → ((n : ℕ) (c : Call) → is_one_of n ns ≡ true → call_at new n ≡ Some c → reply_of c ≡ None → (d : Call) × (call_at old n ≡ Some d) × (reply_of d ≡ None) × ((g : Reply) → did c g ≡ did d g))
+    → AreRecordsOf new ns rs → AreRecordsOf old ns rs
 unfolding AreRecordsOf
-records_on p q n same [] [] apart h = tt
-records_on p q n same [] (r ∷ rs) apart h = absurd h
-records_on p q n same (m ∷ ns) [] apart h = absurd h
-records_on p q n same (m ∷ ns) (r ∷ rs) apart h = ((h.0.0, h.0.1, sym (same m apart.0) ∙ h.0.2, h.0.3, h.0.4), records_on p q n same ns rs apart.1 h.1)
+records_on old new [] [] each h = tt
+records_on old new [] (r ∷ rs) each h = absurd h
+records_on old new (n ∷ ns) [] each h = absurd h
+records_on old new (n ∷ ns) (r ∷ rs) each h =
+    let d = each n h.0.0 (ap (λ b. b || is_one_of n ns) (eq-eqb n n refl)) h.0.2 h.0.3 in
+    ((d.0, h.0.1, d.1, d.2, h.0.4 ∙ d.3 h.0.1), records_on old new ns rs (λ m c here. each m c (or_right (nat_eq m n) (is_one_of m ns) here)) h.1)
 
 names_more : (r : Record) (rs : List Record) → names_of (r ∷ rs) ≡ names_in r + names_of rs
 names_more r rs = sum_by-cons (λ x. x) (names_in r) (map names_in rs)
 
-aside_on : (old : Path) (p q s : PartsView) (h : List Record) (r : Record) (rs : List Record) → AreLed old p q h (r ∷ []) → AreLed old q s (h ++ r ∷ []) rs → AreLed old p s h (r ∷ rs)
+led_on : (old : Path) (p q s : PartsView) (h : List Record) (r : Record) (rs : List Record) → AreLed old p q h (r ∷ []) → AreLed old q s (h ++ r ∷ []) rs → AreLed old p s h (r ∷ rs)
 unfolding AreSure
-aside_on old p q s h r rs a b =
-    let more : (h ++ r ∷ []) ++ rs ≡ h ++ r ∷ rs = append_assoc h (r ∷ []) rs in
-    record {
-      sound = subst (λ (x : List Record). Sound s x) more b.sound;
-      written = λ w. subst (λ (x : List Record). IsWritten s.book x) more (b.written (a.written w));
-      sure = (a.sure.0, b.sure);
-      walks = λ x aside. b.walks x aside ∙ a.walks x aside;
-      directory = λ x l aside w dir. b.directory x l aside (a.walks x aside ∙ w) (a.directory x l aside w dir);
-      stood = λ m g t is hold. a.stood m g t (b.stood m g t is hold) hold;
-      sessions = b.sessions ∙ a.sessions;
-      drawn = b.drawn ∙ a.drawn;
-      joins = b.joins ∙ a.joins;
-      keep = b.keep ∙ a.keep;
-      fits = b.fits;
-      more = let x = a.more in let y = b.more in omega (arith, x, y);
-      few = let x = a.few in let y = b.few in omega (arith, x, y, names_more r rs, names_more r []);
-    }
+led_on old p q s h r rs a b = record {
+  sound = subst (λ (x : List Record). Sound s x) (append_assoc h (r ∷ []) rs) b.sound;
+  sure = (a.sure.0, b.sure);
+  walks = λ x aside. b.walks x aside ∙ a.walks x aside;
+  directory = λ x l aside w dir. b.directory x l aside (a.walks x aside ∙ w) (a.directory x l aside w dir);
+  stood = λ m t hold. a.stood m t (b.stood m t hold);
+  sessions = b.sessions ∙ a.sessions;
+  drawn = b.drawn ∙ a.drawn;
+  joins = b.joins ∙ a.joins;
+  keep = b.keep ∙ a.keep;
+  fits = b.fits;
+  more = let x = a.more in let y = b.more in omega (arith, x, y);
+  few = let x = a.few in let y = b.few in omega (arith, x, y, names_more r rs, names_more r []);
+}
 
 pub nothing_led : (old : Path) (p : PartsView) (h : List Record) → Sound p h → p.store.look_ups < 2 ^ 64 → AreLed old p p h []
 unfolding AreSure
 nothing_led old p h sound fits = record {
   sound = subst (λ (x : List Record). Sound p x) (sym (append-nil h)) sound;
-  written = λ w. subst (λ (x : List Record). IsWritten p.book x) (sym (append-nil h)) w;
   sure = tt;
   walks = λ x aside. refl;
   directory = λ x l aside w dir. dir;
-  stood = λ m g s is hold. is;
+  stood = λ m s hold. hold;
   sessions = refl;
   drawn = refl;
   joins = refl;
@@ -378,8 +287,8 @@ pub record HelpedAll (old : Path) (p q : PartsView) (h : List Record) (ns : List
   pub led : AreLed old p q h helped
   pub records : AreRecordsOf p.calls ns helped
   pub numbers : filter_map number_at helped ≡ ns
-  pub these : AllByRecursion (WasHelped p q helped) ns
-  pub others : (m : ℕ) → AllByRecursion (λ n. m ≢ n) ns → call_at q.calls m ≡ call_at p.calls m
+  pub these : (n : ℕ) → is_one_of n ns ≡ true → WasHelped p q helped n
+  pub others : (m : ℕ) → is_one_of m ns ≡ false → call_at q.calls m ≡ call_at p.calls m
 
 none_recorded : (p : PartsView) → AreRecordsOf p.calls [] []
 unfolding AreRecordsOf
@@ -397,55 +306,52 @@ among_later : (r x : Record) (rs : List Record) → IsAmong r rs → IsAmong r (
 unfolding IsAmong
 among_later r x rs a = inr a
 
-helped_on : (p mid q : PartsView) (n : ℕ) → ((m : ℕ) → m ≢ n → call_at mid.calls m ≡ call_at p.calls m) → (x : Record) (rs : List Record) (ns : List ℕ) → AllByRecursion (λ m. m ≢ n) ns
-    → AllByRecursion (WasHelped mid q rs) ns → AllByRecursion (WasHelped p q (x ∷ rs)) ns
-helped_on p mid q n same x rs [] apart h = tt
-helped_on p mid q n same x rs (m ∷ ns) apart h = (
-  λ c at. let w = h.0 c (same m apart.0 ∙ at) in (w.0, w.1, among_later (did c w.0) x rs w.2),
-  helped_on p mid q n same x rs ns apart.1 h.1,
-)
-
-turned : (n : ℕ) (ns : List ℕ) → AllByRecursion (λ m. m ≢ n) ns → AllByRecursion (λ m. n ≢ m) ns
-turned n [] h = tt
-turned n (m ∷ ns) h = (λ e. h.0 (sym e), turned n ns h.1)
-
-pub help_all : (ns : List ℕ) (old : Path) (p q : PartsView) (h : List Record) → Sound p h → IsClear p old → p.store.look_ups < 2 ^ 64 → AllByRecursion (IsReady p old) ns → AreApart ns → HelpsAll p ns q → HelpedAll old p q h ns
+pub help_all : (ns : List ℕ) (old : Path) (p q : PartsView) (h : List Record) → Sound p h → IsClear p old → p.store.look_ups < 2 ^ 64 → ((n : ℕ) → is_one_of n ns ≡ true → IsReady p old n) → AreApart ns → HelpsAll p ns q → HelpedAll old p q h ns
 help_all [] old p q h sound clear fits ready apart helps = record {
   helped = [];
   led = subst (λ (x : PartsView). AreLed old p x h []) (sym helps) (nothing_led old p h sound fits);
   records = none_recorded p;
   numbers = refl;
-  these = tt;
+  these = λ n e. let z : ⊥ = cc in absurd z;
   others = λ m ne. ap (λ (x : PartsView). call_at x.calls m) helps;
 }
 help_all (n ∷ ns) old p q h sound clear fits ready apart helps =
-    let r = ready.0 in
+    let r = ready n (ap (λ b. b || is_one_of n ns) (eq-eqb n n refl)) in
     let c = r.call in
-    let is = (sound.calls n c r.at).is_number in
+    let own = sound.ledger.calls n c r.at in
+    let is = own.is_number in
     let at : call_at p.calls c.number ≡ Some c = ap (call_at p.calls) is ∙ r.at in
     let mid = helps.0 in
-    let given = helps.1 c r.at ((sound.calls n c r.at).copied r.path r.is_path r.undecided) in
-    let done : Helped p mid c c.number given.0 = subst (λ k. Helped p mid c k given.0) (sym is) given.1 in
+    let given = helps.1 c r.at r.fresh (own.copied r.undecided ∙ copied old (route_of c.request) c.request r.below) in
+    let done : HelpState p mid c c.number given.0 = subst (λ k. HelpState p mid c k given.0) (sym is) given.1 in
     let one = one_led old p h sound clear c at r.undecided r.fresh r.below fits mid given.0 done in
-    let waits = waits_now old p h sound clear c at r.undecided r.fresh r.below fits mid given.0 done in
-    let same : (m : ℕ) → m ≢ n → call_at mid.calls m ≡ call_at p.calls m =
-    λ m ne. ap (λ (cs : List (ℕ × Call)). call_at cs m) done.calls
-    ∙ other old p h sound clear c at r.undecided r.fresh r.below fits mid given.0 done m (λ e. ne (e ∙ is)) in
-    let all = help_all ns old mid q (h ++ did c given.0 ∷ []) one.sound (λ m g s t hold. clear m g s (one.stood m g s t hold) hold) one.fits
-    (all_ready old p mid n same ns apart.0 ready.1) apart.1 helps.2 in
+    let now = calls_now old p h sound clear c at r.undecided r.fresh r.below fits mid given.0 done in
+    let same : (m : ℕ) → m ≢ n → call_at mid.calls m ≡ call_at p.calls m = λ m ne. now.rest m (λ e. ne (e ∙ is)) in
+    let here : call_at mid.calls n ≡ Some (with_reply given.0 c) = ap (call_at mid.calls) (sym is) ∙ now.now_is in
+    let all = help_all ns old mid q (h ++ did c given.0 ∷ []) one.sound (λ m s hold. clear m s (one.stood m s hold)) one.fits
+    (λ m there. let x = ready m (or_right (nat_eq m n) (is_one_of m ns) there) in
+    record { call = x.call; at = same m (not_there m n ns there apart.0) ∙ x.at; undecided = x.undecided; fresh = x.fresh; below = x.below })
+    apart.1 helps.2 in
     record {
       helped = did c given.0 ∷ all.helped;
-      led = aside_on old p mid q h (did c given.0) all.helped one all.led;
-      records = one_recorded p n ns c given.0 all.helped r.at r.undecided (records_on p mid n same ns all.helped apart.0 all.records);
+      led = led_on old p mid q h (did c given.0) all.helped one all.led;
+      records = one_recorded p n ns c given.0 all.helped r.at r.undecided
+          (records_on p.calls mid.calls ns all.helped (λ m d there at_d none. (d, sym (same m (not_there m n ns there apart.0)) ∙ at_d, none, λ g. refl)) all.records);
       numbers = let x : c.number ∷ filter_map number_at all.helped ≡ n ∷ ns = (ap (λ k. k ∷ filter_map number_at all.helped) is) ∙ ap (λ (ks : List ℕ). n ∷ ks) all.numbers in x;
-      these = (
-        λ d at_d.
-            let e : c ≡ d = some_eq c d (sym r.at ∙ at_d) in (
-              given.0,
-              all.others n (turned n ns apart.0) ∙ ap (call_at mid.calls) (sym is) ∙ waits ∙ ap (λ (x : Call). Some (with_reply given.0 x)) e,
-              subst (λ (x : Call). IsAmong (did x given.0) (did c given.0 ∷ all.helped)) e (among_first (did c given.0) all.helped),
-            ),
-        helped_on p mid q n same (did c given.0) all.helped ns apart.0 all.these,
-      );
-      others = λ m ne. all.others m ne.1 ∙ same m ne.0;
+      these = λ m there d at_d.
+          elim (nat_eq m n) as (λ b. nat_eq m n ≡ b → (b || is_one_of m ns) ≡ true → (g : Reply) × (call_at q.calls m ≡ Some (with_reply g d)) × IsAmong (did d g) (did c given.0 ∷ all.helped)) [
+            | true ↦ λ e _.
+                let k = eqb-true m n e in
+                let same_call : c ≡ d = some_eq c d (sym r.at ∙ ap (call_at p.calls) (sym k) ∙ at_d) in (
+                  given.0,
+                  ap (call_at q.calls) k ∙ all.others n apart.0 ∙ here ∙ ap (λ (x : Call). Some (with_reply given.0 x)) same_call,
+                  subst (λ (x : Call). IsAmong (did x given.0) (did c given.0 ∷ all.helped)) same_call (among_first (did c given.0) all.helped),
+                )
+            | false ↦ λ e later.
+                let w = all.these m later d (same m (not_there m n ns later apart.0) ∙ at_d) in
+                (w.0, w.1, among_later (did d w.0) (did c given.0) all.helped w.2)
+          ] refl there;
+      others = λ m ne.
+          let both = or_false (nat_eq m n) (is_one_of m ns) ne in
+          all.others m both.1 ∙ same m (λ e. let x = sym (eq-eqb m n e) ∙ both.0 in let z : ⊥ = cc in z);
     }

@@ -8,8 +8,16 @@ use Rattle.std.specs.Map.{lookup, set_value, remove_entry}
 use Rattle.std.specs.BTreeMap.{is_at, insert_entry}
 use Rattle.std.specs.FinMap.{is_sorted}
 use Rattle.std.proofs.lemmas.Map.{length-set_value}
+use Rattle.sf_call.specs.declared.call.Call.{Call}
+use Rattle.sf_core.specs.Progress.{reply_of}
 use Rattle.sf_call.proofs.Laws.{lookup-put, sorted_put, sorted_removed, sorted_set}
 use Rattle.sf_keeps.proofs.Laws.{lookup-set, lookup-removed, at_is, nat_at_itself}
+
+pub some_eq : {A : Type 0} (a b : A) → Some a ≡ Some b → a ≡ b
+some_eq a b e = cc
+
+pub none_some : {A : Type 0} (a : A) → None ≡ Some a → ⊥
+none_some a e = cc
 
 pub itself : (k : ℕ) → is_at (nat_cmp k) k ≡ true
 itself k = nat_at_itself k
@@ -128,3 +136,8 @@ module _ {X : Type 0} where
           | true ↦ λ h. let a = more x es in let b = more (x.0, v) es in let s = the_same x.1 w h in omega (arith, a, b, s)
           | false ↦ λ h. let r = passing_set test es v w h in let a = more x es in let b = more x (set_value test es v) in omega (arith, r, a, b)
         ] e
+
+-- ---- words on a call
+pub reply_is : (c : Call) → reply_of c ≡ c.reply
+unfolding reply_of
+reply_is c = refl

@@ -8,8 +8,6 @@ use Rattle.sf_call.specs.declared.request.Request.{Request}
 use Rattle.sf_call.specs.declared.request.Request.TheVariants as request
 use Rattle.sf_call.specs.declared.record.Record.{Record}
 use Rattle.sf_call.specs.declared.record.Record.TheVariants.{Did}
-use Rattle.sf_call.specs.declared.call.Stage.{Stage}
-use Rattle.sf_call.specs.declared.call.Stage.TheVariants as stage
 use Rattle.sf_call.specs.declared.metadata.Metadata.{Metadata}
 use Rattle.sf_call.specs.declared.metadata.FileType.TheVariants as file_type
 use Rattle.sf_call.specs.Tree.{Tree, label_at, object_of, after_front}
@@ -30,13 +28,14 @@ use Rattle.sf_inode.specs.Stores.{StoreState, node_in, entry_of, holder_of, is_d
 use Rattle.sf_keeps.specs.Steps.{walk}
 use Rattle.sf_keeps.specs.Keeps.{Keeps}
 use Rattle.sf_keeps.proofs.Laws.{object_there, one_node, reached_node, label_found}
-use Rattle.sf_walk.specs.declared.finding.Located.{Located}
 use Rattle.sf_walk.specs.declared.finding.Located.TheVariants as located
 use Rattle.sf_call.specs.Requests.{target_of}
 use Rattle.sf_call.specs.Requests.Target.{ByHandle, OnPath, OnPaths}
 use Rattle.sf_walk.specs.Ways.{way_from, missing}
 use Rattle.sf_walk.specs.Served.{IsAsBefore, NodesStay, IsRefused, IsCarriedOut}
-use Rattle.sf_walk.specs.Steps.{IsFreeAt, MayDecideAt}
+use Rattle.sf_walk.specs.declared.finding.Ways.{Ways}
+use Rattle.sf_walk.specs.Routes.Route.{Along}
+use Rattle.sf_walk.specs.Steps.{IsFreeThere, AreFree}
 use Rattle.sf_walk.proofs.Laws.{has_entry}
 
 on_path : (p : Path) (h : ℕ) → OnPath p ≡ ByHandle h → ⊥
@@ -235,16 +234,13 @@ module _ (old mid : StoreState) (history : List Record) (n session moment : ℕ)
   label_by_handle handle e q = label_after q (other_labels (replay history) session n moment r q (λ own. by_handle r handle q e own))
 
   -- the path that another call stands at is not the call's own, or nothing happens there
-  module _ (path : Path) (is_path : target_of r ≡ OnPath path) (at : Stage) (found : Located) (way : found ≡ way_from old.nodes old.root old.root path) (free : IsFreeAt old n at found) (may : MayDecideAt old (Some path) None at) where
+  module _ (path : Path) (is_path : target_of r ≡ OnPath path) (ways : Ways) (way : ways.path ≡ way_from old.nodes old.root old.root path) (free : AreFree (holder_of old.nodes) n (Along path) ways) where
     apart : (l holder : ℕ) → walk (entry_of old.nodes) old.root path ≡ Some l → holder_of old.nodes l ≡ Some holder → n ≢ holder → path ≡ []
-    apart l holder w held other =
-        let there = located_at old.nodes path old.root old.root l w in
-        by_stage at may (subst (λ (f : Located). IsFreeAt old n at f) (way ∙ there.1) free)
+    apart l holder w held other = by path w way free
       where
-        by_stage : (g : Stage) → MayDecideAt old (Some path) None g → IsFreeAt old n g (located.At (located_at old.nodes path old.root old.root l w).0 l) → path ≡ []
-        by_stage stage.Fresh e f = e
-        by_stage (stage.At walked node) e f = absurd (other (f holder held))
-        by_stage (stage.Ends cm a b) e f = absurd e
+        by : (p : Path) → walk (entry_of old.nodes) old.root p ≡ Some l → ways.path ≡ way_from old.nodes old.root old.root p → AreFree (holder_of old.nodes) n (Along p) ways → p ≡ []
+        by [] w way free = refl
+        by (x ∷ p) w way free = absurd (other (subst (IsFreeThere (holder_of old.nodes) n) (way ∙ (located_at old.nodes (x ∷ p) old.root old.root l w).1) free holder held))
 
     own_or_not : (q : Path) → (q ≡ path) ⊎ (IsOwnPath r q → ⊥)
     own_or_not q = elim (same_path q path) as (λ b. same_path q path ≡ b → (q ≡ path) ⊎ (IsOwnPath r q → ⊥)) [

@@ -16,9 +16,8 @@ use Rattle.sf_core.specs.Events.{OwnCall, Goes, IsHelped, Before, After, Fetches
 use Rattle.sf_core.specs.Parts.{PartsView, seen}
 use Rattle.sf_core.specs.Sound.{IsCore}
 use Rattle.sf_core.specs.Stuck.{is_onward, CanGoOn, IsNeverStuck, left_in, left_below}
-use Rattle.sf_core.proofs.Sounds.{some_eq}
-use Rattle.sf_core.proofs.Telling.{busy_slot}
-use Rattle.sf_core.proofs.Handing.{history_of}
+use Rattle.sf_core.proofs.Maps.{some_eq}
+use Rattle.sf_core.proofs.Told.{busy_slot}
 
 -- ---- who is behind whom
 -- All that is said of it: it is so or not, it goes on, and no call is behind itself.
@@ -120,19 +119,19 @@ never_stuck p core session call at =
     elim (furthest (seen p) (p.joins + 1)) [ inl none ↦ absurd (none session call (fit session call at) at) | inr f ↦ (f.session, goes f) ]
   where
     fit : (s : ℕ) (c : Call) → slot_of (seen p) s ≡ Busy c → s < p.joins + 1
-    fit s c busy = let b = busy_slot (seen p) s c busy in let m = (core.sound.sessions s (Some b.0) b.1).most in omega (arith, m)
+    fit s c busy = let b = busy_slot (seen p) s c busy in let m = (core.sound.ledger.sessions s (Some b.0) b.1).most in omega (arith, m)
 
     goes : (f : Furthest (seen p) (p.joins + 1)) → CanGoOn (seen p) f.session
     goes f =
         let b = busy_slot (seen p) f.session f.call f.slot in
-        let o = (core.sound.sessions f.session (Some b.0) b.1).busy b.0 refl in
+        let o = (core.sound.ledger.sessions f.session (Some b.0) b.1).busy b.0 refl in
         let same : o.0 ≡ f.call = some_eq o.0 f.call (sym o.1 ∙ b.2) in
         record {
           call = f.call;
           slot = f.slot;
           own = sym (ap (λ (c : Call). c.session) same) ∙ o.2;
           steps = λ lane own s w lane' steps.
-              let g = steps core.history (history_of p core.history core.sound core.written) in
+              let g = steps core.history core.sound.history in
               onward (seen p) (p.joins + 1) fit f lane own core.history s (record { core = w; added = g.0; lane = lane' }) g.2;
         }
 

@@ -11,14 +11,15 @@ use Rattle.sf_call.specs.Unanswered.{at_stage, staged}
 use Rattle.sf_inode.specs.Stores.{StoreState}
 use Rattle.sf_walk.specs.declared.walking.Walk.{Walk}
 use Rattle.sf_walk.specs.declared.walking.Walk.TheVariants as walk
-use Rattle.sf_walk.specs.Steps.{Advances}
+use Rattle.sf_walk.specs.Routes.{route_of}
+use Rattle.sf_walk.specs.Steps.{Advances, walker}
 use Rattle.sf_core.specs.declared.parts.Outcome.TheVariants as outcome
 use Rattle.sf_core.specs.Cores.{call_at}
 use Rattle.sf_core.specs.Parts.{PartsView}
 use Rattle.sf_core.specs.Sound.{IsCore}
 use Rattle.sf_core.specs.Stepping.{IsUnderWay, Stepped, come_to, stage_after, walked_calls}
 use Rattle.sf_core.proofs.Maps.{set_same, set_twice}
-use Rattle.sf_core.proofs.Sounds.{staged_is}
+use Rattle.sf_core.proofs.Updates.{staged_is}
 
 -- ---- stages that are noted
 staged_same : (calls : List (ℕ × Call)) (n : ℕ) (c : Call) → call_at calls n ≡ Some c → staged calls n c.stage ≡ calls
@@ -41,7 +42,7 @@ module _ (n : ℕ) (c : Call) where
   noted p g at (walk.Blocked holder) = staged_same p.calls n (at_stage g c) at
   noted p g at (walk.Ready ways) = staged_same p.calls n (at_stage g c) at
 
-  pub one_step : (p : PartsView) (s t : StoreState) (g : Stage) (w : Walk) → IsUnderWay p n s c g → s.look_ups < 2 ^ 64 → Advances s t (at_stage g c) w
+  pub one_step : (p : PartsView) (s t : StoreState) (g : Stage) (w : Walk) → IsUnderWay p n s c g → s.look_ups < 2 ^ 64 → Advances s t (walker c.number (route_of c.request) g) w
       → Stepped p c.session n (outcome.Walked w) (come_to p n t (stage_after w g))
   one_step p s t g w on fits advances = record {
     core = on.core;
@@ -52,7 +53,7 @@ module _ (n : ℕ) (c : Call) where
       refl,
       on.undecided,
       record {
-        advances = subst (λ (x : StoreState). Advances x t (at_stage g c) w) (sym on.store) advances;
+        advances = subst (λ (x : StoreState). Advances x t (walker c.number (route_of c.request) g) w) (sym on.store) advances;
         book = refl;
         sessions = refl;
         calls = noted p g on.call w;
@@ -71,7 +72,7 @@ module _ (n : ℕ) (c : Call) where
     undecided = on.undecided;
   }
 
-  pub step_more : (p : PartsView) (s t u : StoreState) (g h : Stage) (w : Walk) → IsUnderWay p n s c g → IsCore (come_to p n t h) → t.look_ups < 2 ^ 64 → Advances t u (at_stage h c) w
+  pub step_more : (p : PartsView) (s t u : StoreState) (g h : Stage) (w : Walk) → IsUnderWay p n s c g → IsCore (come_to p n t h) → t.look_ups < 2 ^ 64 → Advances t u (walker c.number (route_of c.request) h) w
       → Stepped (come_to p n t h) c.session n (outcome.Walked w) (come_to p n u (stage_after w h))
   step_more p s t u g h w on core fits advances =
       subst (λ (q : PartsView). Stepped (come_to p n t h) c.session n (outcome.Walked w) q)

@@ -3,14 +3,11 @@ use Rattle.std.specs.Prelude.{◌≡◌, ◌≢◌, ◌⊎◌, ◌<◌, ◌≤�
 use Rattle.std.specs.Ordering.{nat_cmp}
 use Rattle.std.specs.List.{AllByRecursion}
 use Rattle.std.specs.List.Sorted.{IsStrictlySortedBy}
-use Rattle.sf_path.specs.Names.{Path}
 use Rattle.sf_reply.specs.declared.reply.Reply.{Reply}
 use Rattle.sf_call.specs.declared.request.Request.{Request}
 use Rattle.sf_call.specs.declared.record.Record.{Record}
 use Rattle.sf_call.specs.declared.record.Record.TheVariants.{Did, Left}
 use Rattle.sf_call.specs.declared.call.Call.{Call}
-use Rattle.sf_call.specs.declared.call.Stage.{Stage}
-use Rattle.sf_call.specs.declared.call.Stage.TheVariants as stage
 use Rattle.sf_call.specs.Answers.{Answered as Answer}
 use Rattle.sf_call.specs.declared.fault.CoreFault.{CoreFault}
 use Rattle.sf_call.specs.declared.fault.CoreFault.TheVariants as fault
@@ -19,8 +16,9 @@ use Rattle.sf_call.specs.Calls.{answer_to}
 use Rattle.sf_call.specs.Histories.{replay, IsNewNumber, IsAmong}
 use Rattle.sf_inode.specs.Stores.{StoreState, entry_of, holder_of}
 use Rattle.sf_keeps.specs.Steps.{walk}
-use Rattle.sf_walk.specs.Ways.{path_of, other_of}
-use Rattle.sf_walk.specs.Steps.{LooksAt}
+use Rattle.sf_coupling.specs.Walks.{Spot, Holds}
+use Rattle.sf_walk.specs.Routes.{IsPosition, route_of, spots_of}
+use Rattle.sf_walk.specs.Steps.{LooksAt, WalksOn}
 use Rattle.sf_core.specs.Sure.{AreSure}
 use Rattle.sf_core.specs.declared.step.Step.{Step}
 use Rattle.sf_core.specs.declared.step.Step.TheVariants.{Moved, Blocked, Answered, Stranger}
@@ -28,7 +26,7 @@ use Rattle.sf_core.specs.Lanes.{LaneView, at_rest}
 use Rattle.sf_core.specs.Cores.{CoreView, Slot, call_at, slot_of, joined, last_number, most_sessions}
 use Rattle.sf_core.specs.Cores.Slot.{Gone, Idle, Busy}
 use Rattle.sf_core.specs.Histories.{IsHistory}
-use Rattle.sf_core.specs.Progress.{reply_of, left_of, bound_of, IsBehind, WalksOn, MayDecide, did, new_call, SameCall, overtaken, names_of, number_at}
+use Rattle.sf_core.specs.Progress.{reply_of, left_of, bound_of, IsBehind, MayDecide, did, new_call, SameCall, overtaken, names_of, number_at}
 
 -- the lane's call, if the lane is this core's
 pub record OwnCall (v : CoreView) (lane : LaneView) (c : Call) : Type 0 where
@@ -42,7 +40,8 @@ pub record KeepsRecords (v w : CoreView) : Type 0 where
   pub keep : w.keep ≡ v.keep
   pub folded : w.folded ≡ v.folded
 
--- nothing but the count of look-ups differs, by so many at most; what there is for each session is as it was
+-- nothing but the count of look-ups differs, by so many at most; what there is for each session is
+-- as it was
 pub record LooksOnly (v w : CoreView) (most : ℕ) : Type 0 where
   pub records : KeepsRecords v w
   pub drawn : w.drawn ≡ v.drawn
@@ -76,22 +75,14 @@ pub record Goes (v w : CoreView) (lane : LaneView) (c d : Call) : Type 0 where
   pub more : v.look_ups ≤ w.look_ups
   pub few : w.look_ups ≤ v.look_ups + 2
 
--- the nodes that a call at this stage has come to and holds
-abbrev pub HoldsNode : Stage → ℕ → Type 0
-HoldsNode stage.Fresh node = ⊥
-HoldsNode (stage.At walked at) node = at ≡ node
-HoldsNode (stage.Ends common old new) node =
-    (common.node ≡ node) ⊎ ((old.node ≡ node) ⊎ (new.node ≡ node))
-
--- The names that a call looks up next lead to a node, and another call holds it: its number stands at
--- the node, and it has come there.
+-- The names that a call looks up next lead to a node, and another call holds it: its number stands
+-- at the node, and it has come there by the same names.
 pub record HoldsWanted (s : StoreState) (c d : Call) : Type 0 where
-  pub to : Path
-  pub node : ℕ
-  pub looks : LooksAt (path_of c.request) (other_of c.request) c.stage to
-  pub leads : walk (entry_of s.nodes) s.root to ≡ Some node
-  pub held : holder_of s.nodes node ≡ Some d.number
-  pub came : HoldsNode d.stage node
+  pub spot : Spot
+  pub looks : LooksAt (route_of c.request) c.stage spot.path
+  pub leads : walk (entry_of s.nodes) s.root spot.path ≡ Some spot.node
+  pub held : holder_of s.nodes spot.node ≡ Some d.number
+  pub came : Holds (spots_of (route_of d.request) d.stage) spot
 
 -- another session's undecided call, which looks further down, holds what the call wants
 pub record IsBlocked (v w : CoreView) (lane : LaneView) (c : Call) (holder : ℕ) : Type 0 where
@@ -107,7 +98,8 @@ pub record IsBlocked (v w : CoreView) (lane : LaneView) (c : Call) (holder : ℕ
   pub deeper : IsBehind c call
   pub looks : LooksOnly v w 2
 
--- a core with its history, and a lane, before a step; and after it, with the records that were added
+-- a core with its history, and a lane, before a step; and after it, with the records that were
+-- added
 pub record Before : Type 0 where
   pub core : CoreView
   pub history : List Record
@@ -129,7 +121,8 @@ pub record Fetches (b : Before) (a : After) (c : Call) (given : Reply) : Type 0 
   pub records : KeepsRecords b.core a.core
   pub look_ups : a.core.look_ups ≡ b.core.look_ups
 
--- an undecided call was carried out by another session's: its record is among these, and its reply waits
+-- an undecided call was carried out by another session's: its record is among these, and its reply
+-- waits
 pub record IsHelped (v w : CoreView) (session : ℕ) (helped : List Record) : Type 0 where
   pub before : Call
   pub after : Call
@@ -150,8 +143,8 @@ AreRecordsOf calls (n ∷ ns) [] = ⊥
 AreRecordsOf calls (n ∷ ns) (r ∷ rs) = ((c : Call) × (given : Reply) × (call_at calls n ≡ Some c)
     × (reply_of c ≡ None) × (r ≡ did c given)) × AreRecordsOf calls ns rs
 
--- Who is helped by a decision: where its case is the move, each other undecided call that has passed the old path, in the order
--- of their numbers; else nobody.
+-- Who is helped by a decision: where its case is the move, each other undecided call that has
+-- passed the old path, in the order of their numbers; else nobody.
 pub record HelpsInOrder (v : CoreView) (h : List Record) (c : Call)
     (helped : List Record) : Type 0 where
   pub records : AreRecordsOf v.calls (overtaken v.calls c.number
@@ -165,13 +158,14 @@ IsOfOther v session (Did number s moment request given) = (c : Call) × (s ≢ s
     × (Did number s moment request given ≡ did c given)
 IsOfOther v session (Left s) = ⊥
 
--- The call is decided: its record is the last of those added. Want of memory is told in place of a reply of the tree, after the
--- records before it, only where that takes memory.
+-- The call is decided: its record is the last of those added. Want of memory is told in place of a
+-- reply of the tree, after the records before it, only where that takes memory.
 pub record Decides (b : Before) (a : After) (c : Call) (given : Reply) : Type 0 where
   pub own : OwnCall b.core b.lane c
   pub undecided : reply_of c ≡ None
   pub some : 0 < left_of c
   pub new_number : IsNewNumber c.number b.history
+  pub position : IsPosition (route_of c.request) c.stage
   pub way : MayDecide (replay b.history) c.request c.stage
   pub helped : List Record
   pub order : HelpsInOrder b.core b.history c helped
@@ -233,7 +227,8 @@ pub record Came : Type 0 where
 abbrev pub came : Step → CoreView → LaneView → Came
 came s w lane = record { step = s; core = w; lane = lane }
 
--- Walking on, by so many steps at most: all moved but the last, and this one too only where no more were to be made.
+-- Walking on, by so many steps at most: all moved but the last, and this one too only where no more
+-- were to be made.
 pub record Walks (v : CoreView) (lane : LaneView) (most : ℕ) (c : Came) : Type 0 where
   pub moves : ℕ
   pub mid : CoreView

@@ -15,14 +15,14 @@ use Rattle.sf_call.specs.Changes.{moved_by}
 use Rattle.sf_call.specs.Unanswered.{at_stage, staged, answered}
 use Rattle.sf_call.specs.Values.{IsCall}
 use Rattle.sf_book.specs.Books.{put}
-use Rattle.sf_inode.specs.Nodes.{with_holder}
-use Rattle.sf_inode.specs.Stores.{StoreState, IsFirst, edited, closed_all}
+use Rattle.sf_inode.specs.Stores.{StoreState, IsFirst, closed_all}
 use Rattle.sf_keeps.specs.Keeps.{Keeps}
 use Rattle.sf_walk.specs.declared.walking.Walk.{Walk}
 use Rattle.sf_walk.specs.declared.walking.Walk.TheVariants as walk
 use Rattle.sf_walk.specs.Ways.{names_of}
 use Rattle.sf_walk.specs.Served.{IsCarriedOut, IsRefused, IsUnused, LooksUp, NodesStay, may_want_memory}
-use Rattle.sf_walk.specs.Steps.{Advances}
+use Rattle.sf_walk.specs.Routes.{route_of, nodes_of}
+use Rattle.sf_walk.specs.Steps.{Advances, walker, let_go}
 use Rattle.sf_core.specs.declared.parts.Outcome.{Outcome}
 use Rattle.sf_core.specs.declared.parts.Outcome.TheVariants as outcome
 use Rattle.sf_core.specs.Cores.{call_at, session_at}
@@ -63,7 +63,7 @@ pub record SameButRoom (p q : PartsView) : Type 0 where
   pub joins : q.joins ≡ p.joins
 
 -- a session joined
-pub record Joined (p q : PartsView) : Type 0 where
+pub record JoinState (p q : PartsView) : Type 0 where
   pub store : q.store ≡ p.store
   pub book : q.book ≡ record p.book { room = q.book.room }
   pub room : length p.calls + length p.sessions + 1 ≤ q.book.room
@@ -73,7 +73,8 @@ pub record Joined (p q : PartsView) : Type 0 where
   pub joins : q.joins ≡ p.joins + 1
 
 -- a call began
-pub record Begun (p q : PartsView) (session : ℕ) (request : Request) (moment : ℕ) : Type 0 where
+pub record BeginState (p q : PartsView) (session : ℕ) (request : Request)
+    (moment : ℕ) : Type 0 where
   pub store : q.store ≡ p.store
   pub book : q.book ≡ record p.book { room = q.book.room }
   pub room : length p.calls + length p.sessions + 1 ≤ q.book.room
@@ -91,14 +92,15 @@ walked_calls calls number (walk.Ready found) = calls
 
 -- a call made a step, or came to where it decides
 pub record Walked (p q : PartsView) (c : Call) (number : ℕ) (step : Walk) : Type 0 where
-  pub advances : Advances p.store q.store c step
+  pub advances : Advances p.store q.store (walker c.number (route_of c.request) c.stage) step
   pub book : q.book ≡ p.book
   pub sessions : q.sessions ≡ p.sessions
   pub calls : q.calls ≡ walked_calls p.calls number step
   pub drawn : q.drawn ≡ p.drawn
   pub joins : q.joins ≡ p.joins
 
--- A session's call was to go on: it is none of the session's, or its reply waits, or it made a step.
+-- A session's call was to go on: it is none of the session's, or its reply waits, or it made a
+-- step.
 abbrev pub ComesTo : PartsView → PartsView → ℕ → ℕ → Outcome → Type 0
 ComesTo p q session number outcome.Foreign =
     (q ≡ p) × ((c : Call) → call_at p.calls number ≡ Some c → c.session ≡ session → ⊥)
@@ -151,8 +153,9 @@ pub record Ending : Type 0 where
 abbrev pub ending : Outcome → PartsView → Ending
 ending result q = record { outcome = result; parts = q }
 
--- Walking on, by so many steps at most: all moved but the last, and this one too only where no more were to be made.
-pub record WalksOn (p : PartsView) (session number most : ℕ) (e : Ending) : Type 0 where
+-- Walking on, by so many steps at most: all moved but the last, and this one too only where no more
+-- were to be made.
+pub record WalkState (p : PartsView) (session number most : ℕ) (e : Ending) : Type 0 where
   pub moves : ℕ
   pub mid : PartsView
   pub few : moves < most
@@ -162,10 +165,7 @@ pub record WalksOn (p : PartsView) (session number most : ℕ) (e : Ending) : Ty
 
 -- the store where a call holds nothing any more
 abbrev pub freed : Stage → StoreState → StoreState
-freed stage.Fresh s = s
-freed (stage.At walked node) s = edited (with_holder None) s node
-freed (stage.Ends common old new) s = edited (with_holder None)
-    (edited (with_holder None) (edited (with_holder None) s common.node) old.node) new.node
+freed at s = let_go [] (nodes_of at) s
 
 -- a call was answered on the store
 pub record Serves (old new : StoreState) (c : Call) (given : Reply) : Type 0 where
@@ -176,17 +176,21 @@ pub record Serves (old new : StoreState) (c : Call) (given : Reply) : Type 0 whe
       → IsCarriedOut new t (answer_to t c.session c.number c.moment c.request) given
   pub nodes : NodesStay c.number old new
 
--- a call was decided: the store after it, the reply, and its record
-pub record Finished (p q : PartsView) (c : Call) (number : ℕ) (given : Reply) : Type 0 where
+-- A call was answered on the store: its record is the next one, and it holds nothing any more.
+pub record Records (p q : PartsView) (c : Call) (given : Reply) : Type 0 where
   pub mid : StoreState
   pub serves : Serves p.store mid c given
-  pub look_ups : mid.look_ups ≡ p.store.look_ups
   pub store : q.store ≡ freed c.stage mid
   pub book : q.book ≡ put p.book (did c given)
-  pub sessions : q.sessions ≡ session_set p.sessions c.session None
-  pub calls : q.calls ≡ remove_entry (is_at (nat_cmp number)) p.calls
   pub drawn : q.drawn ≡ p.drawn
   pub joins : q.joins ≡ p.joins
+
+-- A call was decided: it goes.
+pub record FinishState (p q : PartsView) (c : Call) (number : ℕ) (given : Reply) : Type 0 where
+  pub records : Records p q c given
+  pub look_ups : q.store.look_ups ≡ p.store.look_ups
+  pub sessions : q.sessions ≡ session_set p.sessions c.session None
+  pub calls : q.calls ≡ remove_entry (is_at (nat_cmp number)) p.calls
 
 -- a call was set back: it holds nothing, and has walked nothing
 abbrev pub set_back_by : PartsView → ℕ → Option Call → PartsView
@@ -201,27 +205,26 @@ abbrev pub all_set_back : PartsView → List ℕ → PartsView
 all_set_back p [] = p
 all_set_back p (number ∷ numbers) = all_set_back (set_back p number) numbers
 
--- a call was carried out for its session to fetch: its record is written, and its reply waits
-pub record Helped (p q : PartsView) (c : Call) (number : ℕ) (given : Reply) : Type 0 where
-  pub serves : Serves p.store q.store c given
+-- A call that held nothing was carried out for its session to fetch: its reply waits.
+pub record HelpState (p q : PartsView) (c : Call) (number : ℕ) (given : Reply) : Type 0 where
+  pub records : Records p q c given
   pub looks : LooksUp p.store q.store (names_of c.request)
-  pub book : q.book ≡ put p.book (did c given)
   pub sessions : q.sessions ≡ p.sessions
   pub calls : q.calls ≡ answered p.calls number given
-  pub drawn : q.drawn ≡ p.drawn
-  pub joins : q.joins ≡ p.joins
 
 -- so was the call of a number, if its request is there twice
 abbrev pub Helps : PartsView → PartsView → ℕ → Type 0
-Helps p q number = (c : Call) → call_at p.calls number ≡ Some c → c.copy ≡ Some c.request
-    → (given : Reply) × Helped p q c number given
+Helps p q number = (c : Call) → call_at p.calls number ≡ Some c → c.stage ≡ stage.Fresh
+    → c.copy ≡ Some c.request
+    → (given : Reply) × HelpState p q c number given
 
 -- so were the calls of all these numbers, one after the other
 abbrev pub HelpsAll : PartsView → List ℕ → PartsView → Type 0
 HelpsAll p [] q = q ≡ p
 HelpsAll p (number ∷ numbers) q = (mid : PartsView) × Helps p mid number × HelpsAll mid numbers q
 
--- before a call is decided: where its case is a move, the calls that it overtakes were set back, and then carried out
+-- before a call is decided: where its case is a move, the calls that it overtakes were set back,
+-- and then carried out
 abbrev pub Overtakes : PartsView → PartsView → Call → Type 0
 Overtakes p q c = (t : Tree) → Keeps p.store t → (numbers : List ℕ)
     × (numbers ≡ overtaken p.calls c.number
@@ -229,7 +232,7 @@ Overtakes p q c = (t : Tree) → Keeps p.store t → (numbers : List ℕ)
     × HelpsAll (all_set_back p numbers) numbers q
 
 -- a reply that waited was fetched
-pub record Fetched (p q : PartsView) (session number : ℕ) : Type 0 where
+pub record FetchState (p q : PartsView) (session number : ℕ) : Type 0 where
   pub store : q.store ≡ p.store
   pub book : q.book ≡ p.book
   pub sessions : q.sessions ≡ session_set p.sessions session None
@@ -238,7 +241,7 @@ pub record Fetched (p q : PartsView) (session number : ℕ) : Type 0 where
   pub joins : q.joins ≡ p.joins
 
 -- a session left
-pub record Parted (p q : PartsView) (session : ℕ) : Type 0 where
+pub record LeaveState (p q : PartsView) (session : ℕ) : Type 0 where
   pub store : q.store ≡ closed_all p.store session
   pub book : q.book ≡ put p.book (Left session)
   pub sessions : q.sessions ≡ remove_entry (is_at (nat_cmp session)) p.sessions

@@ -8,14 +8,15 @@ ghost use Rattle.sf_call.specs.declared.call.Call.{Call};
 ghost use Rattle.sf_call.specs.Tree.{after_front};
 ghost use Rattle.sf_call.specs.Unanswered.{at_stage};
 ghost use Rattle.sf_inode.specs.Stores.{is_directory_at};
-ghost use Rattle.sf_walk.specs.Ways.{path_of, other_of, IsLocated};
-ghost use Rattle.sf_walk.specs.Steps.{Stands, Advances};
+ghost use Rattle.sf_walk.specs.Ways.{IsLocated};
+ghost use Rattle.sf_walk.specs.Routes.{Stands, route_of, route_in};
+ghost use Rattle.sf_walk.specs.Steps.{Advances, walker};
 ghost use Rattle.sf_core.specs.Cores.{call_at, session_at};
 ghost use Rattle.sf_core.specs.Sound.{IsCore};
 ghost use Rattle.sf_core.specs.Progress.{reply_of, has_passed, is_past, overtaken, undecided_in, copy_of, old_at};
 ghost use Rattle.sf_core.specs.declared.parts.Outcome.TheVariants as outcome;
 ghost use Rattle.sf_core.specs.Parts.{PartsView};
-ghost use Rattle.sf_core.specs.Stepping.{IsNewParts, SameButRoom, Joined, Begun, Finished, Fetched, Overtakes, Helps, HelpsAll, Parted, IsUnderWay, WalksOn, come_to, is_move, stage_after, freed, set_back, all_set_back, ending};
+ghost use Rattle.sf_core.specs.Stepping.{IsNewParts, SameButRoom, JoinState, BeginState, FinishState, FetchState, Overtakes, Helps, HelpsAll, LeaveState, IsUnderWay, WalkState, come_to, is_move, stage_after, freed, set_back, all_set_back, ending};
 
 use crate::sessions::Sessions;
 use sf_book::Book;
@@ -23,7 +24,7 @@ use sf_call::{Call, Calls, Record, Request, Stage};
 use sf_inode::Store;
 use sf_path::Path;
 use sf_reply::Reply;
-use sf_walk::{Walk, Ways, advance, decide, from_root_twice, is_move, other_of, path_of};
+use sf_walk::{Route, Walk, Ways, advance, decide, from_root_twice, is_move, let_go, route_of};
 use std::alloc::{AllocError, Global};
 use std::marker::Model;
 
@@ -154,7 +155,7 @@ impl Parts {
     /// A session joins, under the next number.
     pub(crate) fn join(&mut self) -> Result<(), AllocError>
         requires { self.old.joins < 2 ^ 63 - 1 }
-        ensures ok { OnOk result (Joined self.old self.new) }
+        ensures ok { OnOk result (JoinState self.old self.new) }
         ensures err { OnErr result (SameButRoom self.old self.new) }
     {
         self.make_room()?;
@@ -171,7 +172,7 @@ impl Parts {
         moment: u32,
     ) -> Result<(), AllocError>
         requires { self.old.drawn < 2 ^ 63 - 1 }
-        ensures ok { OnOk result (Begun self.old self.new session request moment) }
+        ensures ok { OnOk result (BeginState self.old self.new session request moment) }
         ensures err { OnErr result (SameButRoom self.old self.new) }
     {
         self.make_room()?;
@@ -191,12 +192,12 @@ impl Parts {
         Ok(())
     }
 
-    /// Takes a session's call on, up to a step that doesn't move it, by so many steps at most, unless its
-    /// reply waits. The stage that it has come to is noted once.
+    /// Takes a session's call on, up to a step that doesn't move it, by so many steps at most,
+    /// unless its reply waits. The stage that it has come to is noted once.
     pub(crate) fn walk_on(&mut self, session: u64, number: u64, most: u64) -> Outcome
         requires core { IsCore self.old }
         requires some { 0 < most }
-        ensures { WalksOn self.old session number most (ending result self.new) }
+        ensures { WalkState self.old session number most (ending result self.new) }
     {
         let _count = self.store.look_ups();
         let Some(call) = self.calls.get(number) else {
@@ -209,7 +210,13 @@ impl Parts {
             return Outcome::Waits;
         }
         let mut stage = call.stage;
-        let walk = go_on(&mut self.store, call, &mut stage, most);
+        let walk = go_on(
+            &mut self.store,
+            call,
+            route_of(&call.request),
+            &mut stage,
+            most,
+        );
         self.calls.set_stage(number, stage);
         Outcome::Walked(walk)
     }
@@ -218,7 +225,7 @@ impl Parts {
     pub(crate) fn fetch(&mut self, session: u64, number: u64) -> Option<Reply>
         ensures reply { result
             ≡ option_and_then (λ (c : Call). c.reply) (call_at self.old.calls number) }
-        ensures some { IfSome result (λ reply. Fetched self.old self.new session number) }
+        ensures some { IfSome result (λ reply. FetchState self.old self.new session number) }
         ensures none { IfNone result (self.new ≡ self.old) }
     {
         let reply = self.calls.take_reply(number)?;
@@ -226,8 +233,8 @@ impl Parts {
         Some(reply)
     }
 
-    /// Before a call is decided that moves a path: all calls that it overtakes are set back, and then
-    /// carried out whole, by rising number. Their sessions fetch the replies.
+    /// Before a call is decided that moves a path: all calls that it overtakes are set back, and
+    /// then carried out whole, by rising number. Their sessions fetch the replies.
     pub(crate) fn overtake(&mut self, number: u64, ways: Ways, numbers: &mut Vec<u64>)
         requires located { (c : Call) → call_at self.old.calls number ≡ Some c
             → IsLocated self.old.store c.request ways }
@@ -267,7 +274,7 @@ impl Parts {
             return;
         };
         let stage = call.stage;
-        self.free(stage);
+        let_go(&mut self.store, stage, Stage::Fresh);
         self.calls.set_stage(number, Stage::Fresh);
     }
 
@@ -280,8 +287,8 @@ impl Parts {
         }
     }
 
-    /// Carries a call out whole, for its session to fetch: writes its record, for which the copy of the
-    /// request is there, and lets the reply wait.
+    /// Carries a call out whole, for its session to fetch: writes its record, for which the copy of
+    /// the request is there, and lets the reply wait.
     fn help(&mut self, overtaken: u64)
         requires { 0 < self.old.book.room }
         ensures helps { Helps self.old self.new overtaken }
@@ -311,37 +318,22 @@ impl Parts {
             → IsLocated self.old.store c.request ways }
         requires room { 0 < self.old.book.room }
         ensures { (c : Call) → call_at self.old.calls number ≡ Some c
-            → Finished self.old self.new c number result }
+            → FinishState self.old self.new c number result }
     {
         let Some(call) = self.calls.remove(number) else {
             unreachable!();
         };
         let (reply, copy) = decide(&mut self.store, call.as_call(), ways);
-        self.free(call.as_call().stage);
+        let_go(&mut self.store, call.as_call().stage, Stage::Fresh);
         self.sessions.set(call.as_call().session, None);
         self.book.put(call.into_record(reply));
         copy
     }
 
-    /// Frees what a call holds.
-    fn free(&mut self, stage: Stage)
-        ensures { self.new ≡ record self.old { store = freed stage self.old.store } }
-    {
-        match stage {
-            Stage::Fresh => {}
-            Stage::At { walked: _, node } => self.store.free(node),
-            Stage::Ends { common, old, new } => {
-                self.store.free(common.node);
-                self.store.free(old.node);
-                self.store.free(new.node);
-            }
-        }
-    }
-
     /// A session leaves.
     pub(crate) fn leave(&mut self, session: u64)
         requires { 0 < self.old.book.room }
-        ensures { Parted self.old self.new session }
+        ensures { LeaveState self.old self.new session }
     {
         self.store.close_all(session);
         self.sessions.remove(session);
@@ -349,37 +341,38 @@ impl Parts {
     }
 }
 
-/// Takes a call on from a stage, up to a step that doesn't move it, by so many steps at most: what came of
-/// the last one is told.
-fn go_on(store: &mut Store, call: &Call, stage: &mut Stage, most: u64) -> Walk
+/// Takes a call on from a stage, up to a step that doesn't move it, by so many steps at most: what
+/// came of the last one is told.
+fn go_on(store: &mut Store, call: &Call, route: Route<'_>, stage: &mut Stage, most: u64) -> Walk
+    requires route { route_in route ≡ route_of call.now.request }
     requires core { (p : PartsView) × (number : ℕ)
         × IsUnderWay p number store.old call.now stage.old }
     requires some { 0 < most }
     ensures { (p : PartsView) (number : ℕ) → IsUnderWay p number store.old call.now stage.old
-        → WalksOn p call.now.session number most
+        → WalkState p call.now.session number most
         (ending (outcome.Walked result) (come_to p number store.new stage.new)) }
 {
-    let mut walk = step(store, call, stage);
+    let mut walk = step(store, call.number, route, stage);
     for _ in 1..most {
         if !moved(walk) {
             return walk;
         }
-        walk = step(store, call, stage);
+        walk = step(store, call.number, route, stage);
     }
     walk
 }
 
 /// Takes a call one step on from a stage.
-fn step(store: &mut Store, call: &Call, stage: &mut Stage) -> Walk
+fn step(store: &mut Store, number: u64, route: Route<'_>, stage: &mut Stage) -> Walk
     requires root { is_directory_at store.old.nodes store.old.root ≡ true }
-    requires stands { Stands store.old (path_of call.now.request)
-        (other_of call.now.request) stage.old }
-    ensures advances { Advances store.old store.new (at_stage stage.old call.now) result }
+    requires stands { Stands store.old (route_in route) stage.old }
+    ensures advances { Advances store.old store.new (walker number (route_in route.entry) stage.old)
+        result }
     ensures stage { stage.new ≡ stage_after result stage.old }
     ensures fits { store.old.look_ups < 2 ^ 64 }
 {
     let _count = store.look_ups();
-    let walk = advance(store, call, *stage);
+    let walk = advance(store, number, route, *stage);
     if let Walk::Moved(after) = walk {
         *stage = after;
     }
@@ -393,14 +386,14 @@ fn moved(walk: Walk) -> bool
     matches!(walk, Walk::Moved(_))
 }
 
-/// A call that walks may be carried out by another one while its session waits, so its request is there
-/// twice.
+/// A call that walks may be carried out by another one while its session waits, so its request is
+/// there twice.
 fn copy_of(request: &Request) -> Result<Option<Request>, AllocError>
-    ensures { IfOk result (λ copy. copy ≡ copy_of (path_of request.now) request.now) }
+    ensures { IfOk result (λ copy. copy ≡ copy_of (route_of request.now) request.now) }
 {
-    match path_of(request) {
-        Some(_) => Ok(Some(request.share()?)),
-        None => Ok(None),
+    match route_of(request) {
+        Route::NoPath => Ok(None),
+        _ => Ok(Some(request.share()?)),
     }
 }
 
@@ -429,7 +422,7 @@ fn overtaken(calls: &Calls, number: u64, old: &Path, numbers: &mut Vec<u64>)
 }
 
 /// Whether a call of this number is another one, undecided, and has passed a path.
-#[tactic(auto, using(crate::proofs::Sounds::reply_is))]
+#[tactic(auto, using(crate::proofs::Maps::reply_is))]
 fn is_overtaken(call: &Call, other: u64, number: u64, old: &Path) -> bool
     ensures { result
         ≡ (not (nat_eq other number) && is_none (reply_of call.now)
@@ -438,32 +431,38 @@ fn is_overtaken(call: &Call, other: u64, number: u64, old: &Path) -> bool
     other != number && call.reply.is_none() && has_passed(call, old)
 }
 
-/// Whether the names that a call has walked begin with a path; of a rename's, those of either end.
+/// Whether what a call has walked begins with a path.
 fn has_passed(call: &Call, front: &Path) -> bool
     ensures { result ≡ has_passed call.now front.now }
 {
-    match call.stage {
-        Stage::Fresh => false,
-        Stage::At { walked, node: _ } => is_past(path_of(&call.request), walked, front),
-        Stage::Ends {
-            common: _,
-            old,
-            new,
-        } => {
-            is_past(path_of(&call.request), old.walked, front)
-                || is_past(other_of(&call.request), new.walked, front)
-        }
+    match route_of(&call.request) {
+        Route::NoPath => false,
+        Route::Along(path) => match call.stage {
+            Stage::Fresh => false,
+            Stage::At { walked, node: _ } => is_past(path, walked, front),
+            Stage::Ends {
+                common,
+                old: _,
+                new: _,
+            } => is_past(path, common.walked, front),
+        },
+        Route::Between(from, to) => match call.stage {
+            Stage::Fresh => false,
+            Stage::At { walked, node: _ } => is_past(from, walked, front),
+            Stage::Ends { common, old, new } => {
+                is_past(from, common.walked, front)
+                    || is_past(from, old.walked, front)
+                    || is_past(to, new.walked, front)
+            }
+        },
     }
 }
 
 /// Whether so many names of a path begin with another.
-fn is_past(path: Option<&Path>, walked: usize, front: &Path) -> bool
-    ensures { result ≡ is_past (option_copied path.entry) walked front.now }
+fn is_past(path: &Path, walked: usize, front: &Path) -> bool
+    ensures { result ≡ is_past path.now walked front.now }
 {
-    match path {
-        None => false,
-        Some(path) => front.len() <= walked && begins(path, front),
-    }
+    front.len() <= walked && begins(path, front)
 }
 
 /// Whether a path begins with another.

@@ -1,8 +1,8 @@
 -- What keeps the facts about walks.
-use Rattle.std.specs.Prelude.{◌≡◌, ◌≢◌, ◌⊎◌, ℕ, true, false, nat_eq, Option, Some, None, refl}
+use Rattle.std.specs.Prelude.{◌≡◌, ◌≢◌, ◌⊎◌, ℕ, true, false, nat_eq, List, [], ◌∷◌, Option, Some, None, refl}
 use Rattle.std.proofs.Common.{sym, ap, subst, ◌∙◌, inl, inr, eqb-true}
 use Rattle.std.proofs.lemmas.Bool.{eqb-false}
-use Rattle.sf_coupling.specs.Walks.{Spot, Standing, Holds, Between, IsShaped, HoldsIn, BetweenIn, IsShapedIn, LeadsTo, Scene, AreWalks, GoesOn}
+use Rattle.sf_coupling.specs.Walks.{Terrain, Spot, Holds, IsNodeOf, Between, IsShaped, LeadsTo, Scene, scene, AreWalks, HandsOver, GoesOn}
 
 pub same_or_not : (n m : ℕ) → (n ≡ m) ⊎ (n ≢ m)
 same_or_not n m =
@@ -11,64 +11,125 @@ same_or_not n m =
       | false ↦ λ e. inr (eqb-false n m e)
     ] refl
 
+some_same : (n m : ℕ) → Some n ≡ Some m → n ≡ m
+some_same n m e = cc
+
+none_is : (n : ℕ) → None ≡ Some n → ⊥
+none_is n e = cc
+
+-- a node is one of the spots', or of none
+pub node_or_not : (spots : List Spot) (l : ℕ) → IsNodeOf spots l ⊎ (IsNodeOf spots l → ⊥)
+node_or_not [] l = inr (λ h. h.holds)
+node_or_not (p ∷ spots) l = elim (same_or_not p.node l) [
+  | inl e ↦ inl (record { spot = p; holds = inl refl; node = e })
+  | inr ne ↦ elim (node_or_not spots l) [
+    | inl h ↦ inl (record { spot = h.spot; holds = inr h.holds; node = h.node })
+    | inr none ↦ inr (λ h. elim h.holds [
+      | inl e ↦ ne (ap (λ (s : Spot). s.node) (sym e) ∙ h.node)
+      | inr there ↦ none (record { spot = h.spot; holds = there; node = h.node })
+    ])
+  ]
+]
+
+-- the call that holds a node of its spots
+pub holder_is : (s : Scene) → AreWalks s → (n l : ℕ) → IsNodeOf (s.spots n) l → s.holder l ≡ Some n
+holder_is s walks n l h = ap s.holder (sym h.node) ∙ walks.held n h.spot h.holds
+
 -- two calls that hold one node are one call
-pub held_by_one : (s : Scene) → AreWalks s → (n m : ℕ) (g h : Standing) (a b : Spot) → s.standing_of n ≡ Some g → s.standing_of m ≡ Some h → Holds g a → Holds h b → a.node ≡ b.node → n ≡ m
-held_by_one s walks n m g h a b at bt x y e =
-    let p : Some n ≡ Some m = sym (walks.held n g a at x) ∙ (ap s.holder e ∙ walks.held m h b bt y) in
-    cc
+pub held_by_one : (s : Scene) → AreWalks s → (n m : ℕ) (a b : Spot) → Holds (s.spots n) a → Holds (s.spots m) b → a.node ≡ b.node → n ≡ m
+held_by_one s walks n m a b x y e = some_same n m (sym (walks.held n a x) ∙ (ap s.holder e ∙ walks.held m b y))
 
-module _ (old new : Scene) (n : ℕ) (now : Option Standing) (walks : AreWalks old) (goes : GoesOn old new n now) where
-  shaped' : (m : ℕ) (g : Standing) → new.standing_of m ≡ Some g → IsShaped g
-  shaped' m g at =
-      elim (same_or_not n m) [
-        | inl e ↦ let x : now ≡ Some g = sym goes.set ∙ (ap new.standing_of e ∙ at) in subst IsShapedIn x goes.shaped
-        | inr e ↦ walks.shaped m g (sym (goes.same m e) ∙ at)
-      ]
+module _ (old new : Scene) (n : ℕ) (walks : AreWalks old) (goes : GoesOn old new n) where
+  own : (l : ℕ) → IsNodeOf (new.spots n) l → new.holder l ≡ Some n
+  own = goes.hands.here
 
-  is_now : (m : ℕ) (g : Standing) → n ≡ m → new.standing_of m ≡ Some g → now ≡ Some g
-  is_now m g e at = sym goes.set ∙ (ap new.standing_of e ∙ at)
+  only : (l : ℕ) → new.holder l ≡ Some n → IsNodeOf (new.spots n) l
+  only l at = elim (node_or_not (new.spots n) l) [
+    | inl h ↦ h
+    | inr none ↦ elim (node_or_not (old.spots n) l) [
+      | inl was ↦ absurd (none_is n (sym (goes.hands.gone l was none) ∙ at))
+      | inr not ↦ absurd (not (walks.holds l n (sym (goes.hands.rest l not none) ∙ at)))
+    ]
+  ]
 
-  leads' : (m : ℕ) (g : Standing) (s : Spot) → new.standing_of m ≡ Some g → Holds g s → LeadsTo new.terrain s
-  leads' m g s at h =
-      elim (same_or_not n m) [
-        | inl e ↦ goes.leads s (subst (λ (x : Option Standing). HoldsIn x s) (sym (is_now m g e at)) h)
-        | inr e ↦ let was = sym (goes.same m e) ∙ at in goes.spared m g s e was h (walks.leads m g s was h)
-      ]
+  others : (l m : ℕ) → n ≢ m → old.holder l ≡ Some m → new.holder l ≡ Some m
+  others l m other at = elim (node_or_not (new.spots n) l) [
+    | inl h ↦ absurd (other (goes.free l h m at))
+    | inr none ↦ elim (node_or_not (old.spots n) l) [
+      | inl was ↦ absurd (other (some_same n m (sym (holder_is old walks n l was) ∙ at)))
+      | inr not ↦ goes.hands.rest l not none ∙ at
+    ]
+  ]
 
-  held' : (m : ℕ) (g : Standing) (s : Spot) → new.standing_of m ≡ Some g → Holds g s → new.holder s.node ≡ Some m
-  held' m g s at h =
-      elim (same_or_not n m) [
-        | inl e ↦ goes.holders.own s (subst (λ (x : Option Standing). HoldsIn x s) (sym (is_now m g e at)) h) ∙ ap Some e
-        | inr e ↦ goes.holders.others s.node m e (walks.held m g s (sym (goes.same m e) ∙ at) h)
-      ]
+  no_more : (l m : ℕ) → n ≢ m → new.holder l ≡ Some m → old.holder l ≡ Some m
+  no_more l m other at = elim (node_or_not (new.spots n) l) [
+    | inl h ↦ absurd (other (some_same n m (sym (goes.hands.here l h) ∙ at)))
+    | inr none ↦ elim (node_or_not (old.spots n) l) [
+      | inl was ↦ absurd (none_is m (sym (goes.hands.gone l was none) ∙ at))
+      | inr not ↦ sym (goes.hands.rest l not none) ∙ at
+    ]
+  ]
 
-  at_now : (x : Option Standing) (s : Spot) → now ≡ x → HoldsIn x s → (g : Standing) × (new.standing_of n ≡ Some g) × Holds g s
-  at_now None s e h = absurd h
-  at_now (Some g) s e h = (g, goes.set ∙ e, h)
+  was_held : (m : ℕ) (s : Spot) → n ≢ m → Holds (new.spots m) s → Holds (old.spots m) s
+  was_held m s other h = subst (λ (x : List Spot). Holds x s) (goes.same m other) h
 
-  holds' : (l m : ℕ) → new.holder l ≡ Some m → (g : Standing) × (s : Spot) × (new.standing_of m ≡ Some g) × Holds g s × (s.node ≡ l)
-  holds' l m at =
-      elim (same_or_not n m) [
-        | inl e ↦
-            let o = goes.holders.only l (at ∙ ap Some (sym e)) in
-            let w = at_now now o.0 refl o.1 in
-            (w.0, o.0, ap new.standing_of (sym e) ∙ w.1, w.2, o.2)
-        | inr e ↦
-            let w = walks.holds l m (goes.holders.no_more l m e at) in
-            (w.0, w.1, goes.same m e ∙ w.2, w.3, w.4)
-      ]
+  own_held : (m : ℕ) (s : Spot) → n ≡ m → Holds (new.spots m) s → Holds (new.spots n) s
+  own_held m s e h = subst (λ x. Holds (new.spots x) s) (sym e) h
 
-  apart' : (a b : ℕ) (g h : Standing) (s : Spot) → a ≢ b → new.standing_of a ≡ Some g → new.standing_of b ≡ Some h → Holds h s → Between g s.path → ⊥
-  apart' a b g h s differ at bt hold between =
-      elim (same_or_not n a) [
-        | inl e ↦ let other : n ≢ b = λ x. differ (sym e ∙ x) in
-            goes.apart b h s other (sym (goes.same b other) ∙ bt) hold (subst (λ (x : Option Standing). BetweenIn x s.path) (sym (is_now a g e at)) between)
-        | inr e ↦ elim (same_or_not n b) [
-          | inl i ↦ goes.aside a g s e (sym (goes.same a e) ∙ at) (subst (λ (x : Option Standing). HoldsIn x s) (sym (is_now b h i bt)) hold) between
-          | inr i ↦ walks.apart a b g h s differ (sym (goes.same a e) ∙ at) (sym (goes.same b i) ∙ bt) hold between
+  shaped' : (m : ℕ) → IsShaped (new.spots m)
+  shaped' m = elim (same_or_not n m) [
+    | inl e ↦ subst (λ x. IsShaped (new.spots x)) e goes.shaped
+    | inr e ↦ subst IsShaped (sym (goes.same m e)) (walks.shaped m)
+  ]
+
+  leads' : (m : ℕ) (s : Spot) → Holds (new.spots m) s → LeadsTo new.terrain s
+  leads' m s h = elim (same_or_not n m) [
+    | inl e ↦ goes.leads s (own_held m s e h)
+    | inr e ↦ let was = was_held m s e h in goes.spared m s e was (walks.leads m s was)
+  ]
+
+  held' : (m : ℕ) (s : Spot) → Holds (new.spots m) s → new.holder s.node ≡ Some m
+  held' m s h = elim (same_or_not n m) [
+    | inl e ↦ own s.node (record { spot = s; holds = own_held m s e h; node = refl }) ∙ ap Some e
+    | inr e ↦ others s.node m e (walks.held m s (was_held m s e h))
+  ]
+
+  holds' : (l m : ℕ) → new.holder l ≡ Some m → IsNodeOf (new.spots m) l
+  holds' l m at = elim (same_or_not n m) [
+    | inl e ↦ subst (λ x. IsNodeOf (new.spots x) l) e (only l (at ∙ ap Some (sym e)))
+    | inr e ↦ subst (λ (x : List Spot). IsNodeOf x l) (sym (goes.same m e)) (walks.holds l m (no_more l m e at))
+  ]
+
+  apart' : (a b : ℕ) (s : Spot) → a ≢ b → Holds (new.spots b) s → Between (new.spots a) s.path → ⊥
+  apart' a b s differ hold between = elim (same_or_not n a) [
+    | inl e ↦
+        let other : n ≢ b = λ x. differ (sym e ∙ x) in
+        goes.apart b s other (was_held b s other hold) (subst (λ x. Between (new.spots x) s.path) (sym e) between)
+    | inr e ↦
+        let was = subst (λ (x : List Spot). Between x s.path) (goes.same a e) between in
+        elim (same_or_not n b) [
+          | inl i ↦ goes.aside a s e (own_held b s i hold) was
+          | inr i ↦ walks.apart a b s differ (was_held b s i hold) was
         ]
-      ]
+  ]
 
   -- such a change keeps the facts about walks
   pub keeps_walks : AreWalks new
   keeps_walks = record { shaped = shaped'; leads = leads'; held = held'; holds = holds'; apart = apart' }
+
+-- a call that lets go of all that it holds keeps them: nothing is asked of it
+module _ (t : Terrain) (f f' : ℕ → List Spot) (k k' : ℕ → Option ℕ) (n : ℕ) (walks : AreWalks (scene t f k)) (none : f' n ≡ []) (same : (m : ℕ) → n ≢ m → f' m ≡ f m) (hands : HandsOver k k' n (f n) []) where
+  holds_none : (s : Spot) → Holds (f' n) s → ⊥
+  holds_none s h = subst (λ (x : List Spot). Holds x s) none h
+
+  pub let_go_keeps : AreWalks (scene t f' k')
+  let_go_keeps = keeps_walks (scene t f k) (scene t f' k') n walks (record {
+    same = same;
+    hands = subst (λ (x : List Spot). HandsOver k k' n (f n) x) (sym none) hands;
+    free = λ l h. absurd (holds_none h.spot h.holds);
+    shaped = subst IsShaped (sym none) tt;
+    spared = λ m s other h leads. leads;
+    leads = λ s h. absurd (holds_none s h);
+    apart = λ m s other h b. subst (λ (x : List Spot). Between x s.path) none b;
+    aside = λ m s other h b. holds_none s h;
+  })

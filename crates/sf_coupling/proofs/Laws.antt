@@ -3,12 +3,10 @@
 
 -- fronts of paths: of two fronts of one path one begins with the other
 pub use Rattle.sf_coupling.proofs.Fronts.{begins_itself, begins_root, begins_trans, begins_snoc, fronts_meet, begins_both}
--- two numbers are the same, or not
-pub use Rattle.sf_coupling.proofs.Keeping.{same_or_not}
--- what keeps walks coupled: a call that goes on, and a step to a directory that no other call holds
-pub use Rattle.sf_coupling.proofs.Keeping.{keeps_walks}
-pub use Rattle.sf_coupling.proofs.Stepping.{step_keeps}
+-- two numbers are the same, or not; a node is one of the spots', or of none
+pub use Rattle.sf_coupling.proofs.Keeping.{same_or_not, node_or_not}
+-- what keeps walks coupled: a call that goes on or lets go, and a step to a directory that no other call holds
+pub use Rattle.sf_coupling.proofs.Keeping.{keeps_walks, let_go_keeps}
+pub use Rattle.sf_coupling.proofs.Stepping.{step_keeps, takes_held, takes_new, waits_at_top}
 -- a node is held by one call
-pub use Rattle.sf_coupling.proofs.Keeping.{held_by_one}
--- what a rename holds when an end of it goes on
-pub use Rattle.sf_coupling.proofs.Ending.{old_end_moves, new_end_moves}
+pub use Rattle.sf_coupling.proofs.Keeping.{held_by_one, holder_is}

@@ -1,5 +1,4 @@
 pub mod Fronts
 pub mod Keeping
 pub mod Stepping
-pub mod Ending
 pub mod Laws

@@ -1,128 +1,156 @@
 -- A step to a directory that no other call holds.
-use Rattle.std.specs.Prelude.{◌≡◌, ◌≢◌, ◌⊎◌, ℕ, [], ◌∷◌, ◌++◌, Option, Some, refl}
+use Rattle.std.specs.Prelude.{◌≡◌, ◌≢◌, ◌⊎◌, ℕ, List, [], ◌∷◌, ◌++◌, Option, Some, refl}
 use Rattle.std.proofs.Common.{sym, ap, subst, ◌∙◌, inl, inr}
-use Rattle.sf_path.specs.Names.{Name}
+use Rattle.sf_path.specs.Names.{Path}
 use Rattle.sf_coupling.specs.Fronts.{Begins}
-use Rattle.sf_coupling.specs.Walks.{Terrain, Spot, Standing, Holds, Between, IsShaped, LeadsTo, scene, AreWalks, HoldsInstead}
-use Rattle.sf_coupling.specs.Walks.Standing.{Fresh, At, Ends}
-use Rattle.sf_coupling.specs.Stepping.{IsFree, Takes}
-use Rattle.sf_coupling.specs.Stepping.Takes.{First, FirstCommon, Next, ToCommon, ToOld, ToNew}
+use Rattle.sf_coupling.specs.Walks.{Terrain, Spot, Holds, IsNodeOf, IsOnWayTo, Between, AreBelow, IsShaped, LeadsTo, IsFree, Scene, scene, AreWalks, HandsOver}
+use Rattle.sf_coupling.specs.Stepping.{IsNextTo, IsFrom, AreAll, Takes}
+use Rattle.sf_coupling.specs.Stepping.Takes.{Comes, GoesOnWith}
 use Rattle.sf_coupling.proofs.Fronts.{begins_itself, begins_trans, begins_snoc, begins_both, begins_nothing}
-use Rattle.sf_coupling.proofs.Keeping.{keeps_walks}
+use Rattle.sf_coupling.proofs.Keeping.{keeps_walks, holder_is}
 
-module _ (t : Terrain) (f : ℕ → Option Standing) (k : ℕ → Option ℕ) (n : ℕ) (walks : AreWalks (scene t f k)) (q : Spot) (is_free : IsFree k n q.node) (there : LeadsTo t q) where
+-- ---- what a step does to lists of spots
+all_held : (q : Spot) (now : List Spot) (s : Spot) → AreAll q now → Holds now s → s ≡ q
+all_held q [] s all h = absurd h
+all_held q (p ∷ now) s all (inl e) = e ∙ all.0
+all_held q (p ∷ now) s all (inr h) = all_held q now s all.1 h
+
+all_on_way : (q : Spot) (now : List Spot) (path : Path) → AreAll q now → IsOnWayTo now path → Begins path q.path
+all_on_way q [] path all h = absurd h
+all_on_way q (p ∷ now) path all (inl b) = subst (λ (s : Spot). Begins path s.path) all.0 b
+all_on_way q (p ∷ now) path all (inr h) = all_on_way q now path all.1 h
+
+all_below : (q : Spot) (now : List Spot) → AreAll q now → AreBelow q.path now
+all_below q [] all = tt
+all_below q (p ∷ now) all = (subst (λ (s : Spot). Begins q.path s.path) (sym all.0) (begins_itself q.path), all_below q now all.1)
+
+kept_held : (q p : Spot) (front rest : List Spot) (s : Spot) → Holds (front ++ q ∷ rest) s → (s ≡ q) ⊎ Holds (front ++ p ∷ rest) s
+kept_held q p [] rest s (inl e) = inl e
+kept_held q p [] rest s (inr h) = inr (inr h)
+kept_held q p (a ∷ front) rest s (inl e) = inr (inl e)
+kept_held q p (a ∷ front) rest s (inr h) = elim (kept_held q p front rest s h) [ inl e ↦ inl e | inr k ↦ inr (inr k) ]
+
+left_held : (p : Spot) (front rest : List Spot) → Holds (front ++ p ∷ rest) p
+left_held p [] rest = inl refl
+left_held p (a ∷ front) rest = inr (left_held p front rest)
+
+up : (p q : Spot) → IsNextTo p q → Begins p.path q.path
+up p q next = record { rest = next.name ∷ []; is = next.is }
+
+kept_on_way : (q p : Spot) → IsNextTo p q → (front rest : List Spot) (path : Path) → IsOnWayTo (front ++ q ∷ rest) path → IsOnWayTo (front ++ p ∷ rest) path ⊎ (path ≡ q.path)
+kept_on_way q p next [] rest path (inl b) = elim (begins_snoc path p.path next.name (subst (Begins path) next.is b)) [ inl c ↦ inl (inl c) | inr e ↦ inr (e ∙ sym next.is) ]
+kept_on_way q p next [] rest path (inr h) = inl (inr h)
+kept_on_way q p next (a ∷ front) rest path (inl b) = inl (inl b)
+kept_on_way q p next (a ∷ front) rest path (inr h) = elim (kept_on_way q p next front rest path h) [ inl k ↦ inl (inr k) | inr e ↦ inr e ]
+
+kept_below : (top : Path) (q p : Spot) → IsNextTo p q → (front rest : List Spot) → AreBelow top (front ++ p ∷ rest) → AreBelow top (front ++ q ∷ rest)
+kept_below top q p next [] rest below = (begins_trans top p.path q.path below.0 (up p q next), below.1)
+kept_below top q p next (a ∷ front) rest below = (below.0, kept_below top q p next front rest below.1)
+
+-- what is held after the step is new, or was held
+pub takes_held : (q : Spot) (was now : List Spot) (s : Spot) → Takes q was now → Holds now s → (s ≡ q) ⊎ Holds was s
+takes_held q was now s (Comes w n from some all) h = inl (all_held q n s all h)
+takes_held q was now s (GoesOnWith top front p rest next) (inl e) = inr (inl e)
+takes_held q was now s (GoesOnWith top front p rest next) (inr h) = elim (kept_held q p front rest s h) [ inl e ↦ inl e | inr k ↦ inr (inr k) ]
+
+-- a path between is new, or was between
+takes_between : (q : Spot) (was now : List Spot) (path : Path) → Takes q was now → Between now path → Between was path ⊎ (path ≡ q.path)
+takes_between q was now path (Comes w [] from some all) h = absurd h
+takes_between q was now path (Comes w (top ∷ ends) from some all) h =
+    inr (begins_both path q.path (all_on_way q ends path all.1 h.1) (subst (λ (s : Spot). Begins s.path path) all.0 h.0))
+takes_between q was now path (GoesOnWith top front p rest next) h = elim (kept_on_way q p next front rest path h.1) [ inl k ↦ inl (h.0, k) | inr e ↦ inr e ]
+
+takes_shaped : (q : Spot) (was now : List Spot) → Takes q was now → IsShaped was → IsShaped now
+takes_shaped q was now (Comes w [] from some all) shaped = tt
+takes_shaped q was now (Comes w (top ∷ ends) from some all) shaped = subst (λ (s : Spot). AreBelow s.path ends) (sym all.0) (all_below q ends all.1)
+takes_shaped q was now (GoesOnWith top front p rest next) shaped = kept_below top.path q p next front rest shaped
+
+-- the new directory is held
+pub takes_new : (q : Spot) (was now : List Spot) → Takes q was now → IsNodeOf now q.node
+takes_new q was now (Comes w [] from some all) = absurd some
+takes_new q was now (Comes w (top ∷ ends) from some all) = record { spot = top; holds = inl refl; node = ap (λ (s : Spot). s.node) all.0 }
+takes_new q was now (GoesOnWith top front p rest next) = record { spot = q; holds = inr (left_held q front rest); node = refl }
+
+takes_from : (q : Spot) (was now : List Spot) → Takes q was now → IsFrom was q
+takes_from q was now (Comes w n from some all) = from
+takes_from q was now (GoesOnWith top front p rest next) = inr (p, inr (left_held p front rest), next)
+
+-- ---- coupling
+module _ (t : Terrain) (f : ℕ → List Spot) (k : ℕ → Option ℕ) (n : ℕ) (walks : AreWalks (scene t f k)) (q : Spot) (is_free : IsFree k n q.node) (there : LeadsTo t q) where
   -- no other call holds the directory at that path
-  pub not_there : (m : ℕ) (h : Standing) (s : Spot) → n ≢ m → f m ≡ Some h → Holds h s → s.path ≡ q.path → ⊥
-  not_there m h s other at hold same =
-      let a = walks.leads m h s at hold in
+  pub not_there : (m : ℕ) (s : Spot) → n ≢ m → Holds (f m) s → s.path ≡ q.path → ⊥
+  not_there m s other hold same =
+      let a = walks.leads m s hold in
       let x : Some s.node ≡ Some q.node = sym a.names ∙ (ap t.leads same ∙ there.names) in
       let y : s.node ≡ q.node = cc in
-      other (is_free m (ap k (sym y) ∙ walks.held m h s at hold))
+      other (is_free m (ap k (sym y) ∙ walks.held m s hold))
 
-  -- the root is between no other rename's directories
-  pub aside_root : q.path ≡ [] → (m : ℕ) (h : Standing) → n ≢ m → f m ≡ Some h → Between h q.path → ⊥
-  aside_root root m Fresh other at b = b
-  aside_root root m (At s) other at b = b
-  aside_root root m (Ends c a d) other at b =
-      not_there m (Ends c a d) c other at (inl refl) (begins_nothing c.path (subst (Begins c.path) root b.0) ∙ sym root)
+  -- the first of what another call holds isn't at q, so it is further up
+  above : (m : ℕ) (top : Spot) (ends : List Spot) → n ≢ m → f m ≡ top ∷ ends → top.path ≡ q.path → ⊥
+  above m top ends other is = not_there m top other (subst (λ (x : List Spot). Holds x top) (sym is) (inl refl))
 
-  -- one name past a directory that the call holds, no other rename goes through it
-  pub aside_next : (g : Standing) (p : Spot) (x : Name) → f n ≡ Some g → Holds g p → q.path ≡ p.path ++ x ∷ [] → (m : ℕ) (h : Standing) → n ≢ m → f m ≡ Some h → Between h q.path → ⊥
-  aside_next g p x own hold next m Fresh other at b = b
-  aside_next g p x own hold next m (At s) other at b = b
-  aside_next g p x own hold next m (Ends c a d) other at b =
-      let up : Begins p.path q.path = record { rest = x ∷ []; is = next } in
-      elim (begins_snoc c.path p.path x (subst (Begins c.path) next b.0)) [
-        | inr e ↦ not_there m (Ends c a d) c other at (inl refl) (e ∙ sym next)
-        | inl e ↦ walks.apart m n (Ends c a d) g p (λ i. other (sym i)) at own hold (
-          e,
-          elim b.1 as (λ _. Begins p.path a.path ⊎ Begins p.path d.path) [
-            | inl y ↦ inl (begins_trans p.path q.path a.path up y)
-            | inr y ↦ inr (begins_trans p.path q.path d.path up y)
-          ],
-        )
+  on_way_up : (spots : List Spot) (p path : Path) → Begins p path → IsOnWayTo spots path → IsOnWayTo spots p
+  on_way_up [] p path b h = h
+  on_way_up (s ∷ spots) p path b (inl c) = inl (begins_trans p path s.path b c)
+  on_way_up (s ∷ spots) p path b (inr h) = inr (on_way_up spots p path b h)
+
+  -- no other call's way leads through q
+  pub q_aside : IsFrom (f n) q → (m : ℕ) → n ≢ m → (spots : List Spot) → f m ≡ spots → Between spots q.path → ⊥
+  q_aside from m other [] is b = b
+  q_aside (inl root) m other (top ∷ ends) is b = above m top ends other is (begins_nothing top.path (subst (Begins top.path) root b.0) ∙ sym root)
+  q_aside (inr next) m other (top ∷ ends) is b =
+      let p = next.0 in
+      elim (begins_snoc top.path p.path next.2.name (subst (Begins top.path) next.2.is b.0)) [
+        | inr e ↦ above m top ends other is (e ∙ sym next.2.is)
+        | inl e ↦ walks.apart m n p (λ i. other (sym i)) next.1 (subst (λ (x : List Spot). Between x p.path) (sym is) (e, on_way_up ends p.path q.path (up p q next.2) b.1))
       ]
-
-  -- the last of a rename's way is its new directory or was there before
-  pub apart_next : (c p : Spot) (x : Name) → q.path ≡ p.path ++ x ∷ [] → (m : ℕ) (h : Standing) (s : Spot) → n ≢ m → f m ≡ Some h → Holds h s → Begins s.path q.path → Begins s.path p.path
-  apart_next c p x next m h s other at hold b =
-      elim (begins_snoc s.path p.path x (subst (Begins s.path) next b)) [
-        | inl e ↦ e
-        | inr e ↦ absurd (not_there m h s other at hold (e ∙ sym next))
-      ]
-
-  takes_shaped : (g g' : Standing) → Takes q g g' → f n ≡ Some g → IsShaped g'
-  takes_shaped g g' (First r) own = tt
-  takes_shaped g g' (FirstCommon r) own = (begins_itself q.path, begins_itself q.path)
-  takes_shaped g g' (Next p x e) own = tt
-  takes_shaped g g' (ToCommon p x e) own = (begins_itself q.path, begins_itself q.path)
-  takes_shaped g g' (ToOld c a b x e) own =
-      let w = walks.shaped n (Ends c a b) own in (begins_trans c.path a.path q.path w.0 (record { rest = x ∷ []; is = e }), w.1)
-  takes_shaped g g' (ToNew c a b x e) own =
-      let w = walks.shaped n (Ends c a b) own in (w.0, begins_trans c.path b.path q.path w.1 (record { rest = x ∷ []; is = e }))
-
-  there_too : (s : Spot) → s ≡ q → LeadsTo t s
-  there_too s e = subst (LeadsTo t) (sym e) there
-
-  all_three : (P : Spot → Type 0) (s a b c : Spot) → (s ≡ a → P s) → (s ≡ b → P s) → (s ≡ c → P s) → (s ≡ a) ⊎ ((s ≡ b) ⊎ (s ≡ c)) → P s
-  all_three P s a b c x y z (inl e) = x e
-  all_three P s a b c x y z (inr (inl e)) = y e
-  all_three P s a b c x y z (inr (inr e)) = z e
-
-  takes_leads : (g g' : Standing) (s : Spot) → Takes q g g' → f n ≡ Some g → Holds g' s → LeadsTo t s
-  takes_leads g g' s (First r) own h = there_too s h
-  takes_leads g g' s (FirstCommon r) own h = all_three (LeadsTo t) s q q q (there_too s) (there_too s) (there_too s) h
-  takes_leads g g' s (Next p x e) own h = there_too s h
-  takes_leads g g' s (ToCommon p x e) own h = all_three (LeadsTo t) s q q q (there_too s) (there_too s) (there_too s) h
-  takes_leads g g' s (ToOld c a b x e) own h = all_three (LeadsTo t) s c q b (λ i. walks.leads n (Ends c a b) s own (inl i)) (there_too s) (λ i. walks.leads n (Ends c a b) s own (inr (inr i))) h
-  takes_leads g g' s (ToNew c a b x e) own h = all_three (LeadsTo t) s c a q (λ i. walks.leads n (Ends c a b) s own (inl i)) (λ i. walks.leads n (Ends c a b) s own (inr (inl i))) (there_too s) h
-
-  only_there : (m : ℕ) (h : Standing) (s : Spot) → n ≢ m → f m ≡ Some h → Holds h s → Between (Ends q q q) s.path → ⊥
-  only_there m h s other at hold (up, inl down) = not_there m h s other at hold (begins_both s.path q.path down up)
-  only_there m h s other at hold (up, inr down) = not_there m h s other at hold (begins_both s.path q.path down up)
-
-  takes_apart : (g g' : Standing) → Takes q g g' → f n ≡ Some g → (m : ℕ) (h : Standing) (s : Spot) → n ≢ m → f m ≡ Some h → Holds h s → Between g' s.path → ⊥
-  takes_apart g g' (First r) own m h s other at hold b = b
-  takes_apart g g' (FirstCommon r) own m h s other at hold b = only_there m h s other at hold b
-  takes_apart g g' (Next p x e) own m h s other at hold b = b
-  takes_apart g g' (ToCommon p x e) own m h s other at hold b = only_there m h s other at hold b
-  takes_apart g g' (ToOld c a d x e) own m h s other at hold (up, inl down) =
-      walks.apart n m (Ends c a d) h s other own at hold (up, inl (apart_next c a x e m h s other at hold down))
-  takes_apart g g' (ToOld c a d x e) own m h s other at hold (up, inr down) = walks.apart n m (Ends c a d) h s other own at hold (up, inr down)
-  takes_apart g g' (ToNew c a d x e) own m h s other at hold (up, inr down) =
-      walks.apart n m (Ends c a d) h s other own at hold (up, inr (apart_next c d x e m h s other at hold down))
-  takes_apart g g' (ToNew c a d x e) own m h s other at hold (up, inl down) = walks.apart n m (Ends c a d) h s other own at hold (up, inl down)
-
-  module _ (m : ℕ) (h : Standing) (other : n ≢ m) (at : f m ≡ Some h) where
-    here : Spot → Type 0
-    here s = Between h s.path → ⊥
-
-    at_q : (Between h q.path → ⊥) → (s : Spot) → s ≡ q → Between h s.path → ⊥
-    at_q never s e = subst (λ (z : Spot). Between h z.path → ⊥) (sym e) never
-
-    as_before : (g : Standing) (s : Spot) → f n ≡ Some g → Holds g s → Between h s.path → ⊥
-    as_before g s own hold = walks.apart m n h g s (λ i. other (sym i)) at own hold
-
-    takes_aside : (g g' : Standing) (s : Spot) → Takes q g g' → f n ≡ Some g → Holds g' s → Between h s.path → ⊥
-    takes_aside g g' s (First r) own hold = at_q (aside_root r m h other at) s hold
-    takes_aside g g' s (FirstCommon r) own hold = let z = at_q (aside_root r m h other at) s in all_three (λ (y : Spot). Between h y.path → ⊥) s q q q z z z hold
-    takes_aside g g' s (Next p x e) own hold = at_q (aside_next (At p) p x own refl e m h other at) s hold
-    takes_aside g g' s (ToCommon p x e) own hold = let z = at_q (aside_next (At p) p x own refl e m h other at) s in all_three (λ (y : Spot). Between h y.path → ⊥) s q q q z z z hold
-    takes_aside g g' s (ToOld c a d x e) own hold =
-        all_three (λ (y : Spot). Between h y.path → ⊥) s c q d (λ i. as_before (Ends c a d) s own (inl i)) (at_q (aside_next (Ends c a d) a x own (inr (inl refl)) e m h other at) s) (λ i. as_before (Ends c a d) s own (inr (inr i))) hold
-    takes_aside g g' s (ToNew c a d x e) own hold =
-        all_three (λ (y : Spot). Between h y.path → ⊥) s c a q (λ i. as_before (Ends c a d) s own (inl i)) (λ i. as_before (Ends c a d) s own (inr (inl i))) (at_q (aside_next (Ends c a d) d x own (inr (inr refl)) e m h other at) s) hold
 
   -- a step that takes a free directory keeps the facts
-  pub step_keeps : (f' : ℕ → Option Standing) (k' : ℕ → Option ℕ) (g g' : Standing) → Takes q g g' → f n ≡ Some g → f' n ≡ Some g' → ((m : ℕ) → n ≢ m → f' m ≡ f m) → HoldsInstead k k' n (Some g') → AreWalks (scene t f' k')
-  step_keeps f' k' g g' takes own set same holders =
-      keeps_walks (scene t f k) (scene t f' k') n (Some g') walks (record {
-        set = set;
+  pub step_keeps : (f' : ℕ → List Spot) (k' : ℕ → Option ℕ) → Takes q (f n) (f' n) → ((m : ℕ) → n ≢ m → f' m ≡ f m) → HandsOver k k' n (f n) (f' n) → AreWalks (scene t f' k')
+  step_keeps f' k' takes same hands =
+      keeps_walks (scene t f k) (scene t f' k') n walks (record {
         same = same;
-        holders = holders;
-        shaped = takes_shaped g g' takes own;
-        spared = λ m h s other at hold leads. leads;
-        leads = λ s. takes_leads g g' s takes own;
-        apart = takes_apart g g' takes own;
-        aside = λ m h s other at. takes_aside m h other at g g' s takes own;
+        hands = hands;
+        free = λ l h m at. elim (takes_held q (f n) (f' n) h.spot takes h.holds) [
+          | inl e ↦ is_free m (ap k (ap (λ (x : Spot). x.node) (sym e) ∙ h.node) ∙ at)
+          | inr was ↦ let x : Some n ≡ Some m = sym (holder_is (scene t f k) walks n l (record { spot = h.spot; holds = was; node = h.node })) ∙ at in cc
+        ];
+        shaped = takes_shaped q (f n) (f' n) takes (walks.shaped n);
+        spared = λ m s other hold leads. leads;
+        leads = λ s h. elim (takes_held q (f n) (f' n) s takes h) [
+          | inl e ↦ subst (LeadsTo t) (sym e) there
+          | inr was ↦ walks.leads n s was
+        ];
+        apart = λ m s other hold b. elim (takes_between q (f n) (f' n) s.path takes b) [
+          | inl was ↦ walks.apart n m s other hold was
+          | inr e ↦ not_there m s other hold e
+        ];
+        aside = λ m s other h b. elim (takes_held q (f n) (f' n) s takes h) [
+          | inl e ↦ q_aside (takes_from q (f n) (f' n) takes) m other (f m) refl (subst (λ (x : Spot). Between (f m) x.path) e b)
+          | inr was ↦ walks.apart m n s (λ i. other (sym i)) was b
+        ];
       })
+
+-- ---- who is waited for
+below_held : (top : Path) (ends : List Spot) (s : Spot) → AreBelow top ends → Holds ends s → Begins top s.path
+below_held top [] s below h = absurd h
+below_held top (e ∷ ends) s below (inl i) = subst (λ (x : Spot). Begins top x.path) (sym i) below.0
+below_held top (e ∷ ends) s below (inr h) = below_held top ends s below.1 h
+
+held_on_way : (spots : List Spot) (s : Spot) (q : Path) → Begins q s.path → Holds spots s → IsOnWayTo spots q
+held_on_way [] s q b h = absurd h
+held_on_way (e ∷ spots) s q b (inl i) = inl (subst (λ (x : Spot). Begins q x.path) i b)
+held_on_way (e ∷ spots) s q b (inr h) = inr (held_on_way spots s q b h)
+
+-- who wants the root, or a spot one name past its own, wants the first one of its holder's
+pub waits_at_top : (s : Scene) → AreWalks s → (n m : ℕ) → n ≢ m → (spot : Spot) → IsFrom (s.spots n) spot → (top : Spot) (ends : List Spot) → s.spots m ≡ top ∷ ends → Holds (top ∷ ends) spot → spot.path ≡ top.path
+waits_at_top s walks n m other spot from top ends is (inl e) = ap (λ (x : Spot). x.path) e
+waits_at_top s walks n m other spot (inl root) top ends is (inr h) =
+    root ∙ sym (begins_nothing top.path (subst (Begins top.path) root (below_held top.path ends spot (subst IsShaped is (walks.shaped m)) h)))
+waits_at_top s walks n m other spot (inr next) top ends is (inr h) =
+    let p = next.0 in
+    let below = below_held top.path ends spot (subst IsShaped is (walks.shaped m)) h in
+    elim (begins_snoc top.path p.path next.2.name (subst (Begins top.path) next.2.is below)) [
+      | inr e ↦ next.2.is ∙ sym e
+      | inl e ↦ absurd (walks.apart m n p (λ i. other (sym i)) next.1 (subst (λ (x : List Spot). Between x p.path) (sym is) (e, held_on_way ends spot p.path (up p spot next.2) h)))
+    ]

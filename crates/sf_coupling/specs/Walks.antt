@@ -1,5 +1,5 @@
 -- Calls on their way through the tree, and what is true of all of them between two events.
-use Rattle.std.specs.Prelude.{◌≡◌, ◌≢◌, ◌⊎◌, ℕ, Bool, true, Option, Some, None}
+use Rattle.std.specs.Prelude.{◌≡◌, ◌≢◌, ◌⊎◌, ℕ, Bool, true, List, [], ◌∷◌, Option, Some, None}
 use Rattle.sf_path.specs.Names.{Path}
 use Rattle.sf_coupling.specs.Fronts.{Begins}
 
@@ -13,90 +13,82 @@ pub record Spot : Type 0 where
   pub path : Path
   pub node : ℕ
 
--- how far an undecided call has come
-pub data Standing : Type 0 where
-  Fresh : Standing
-  At : (at : Spot) → Standing
-  Ends : (common : Spot) → (old : Spot) → (new : Spot) → Standing
+-- A call holds a list of spots: none; the directory that it has come to; or, on two paths, the last
+-- directory that they have in common, and one on the way of each.
+abbrev pub Holds : List Spot → Spot → Type 0
+Holds [] s = ⊥
+Holds (p ∷ spots) s = (s ≡ p) ⊎ Holds spots s
 
--- the directories that the call holds
-abbrev pub Holds : Standing → Spot → Type 0
-Holds Fresh s = ⊥
-Holds (At at) s = s ≡ at
-Holds (Ends common old new) s = (s ≡ common) ⊎ ((s ≡ old) ⊎ (s ≡ new))
+-- the node of one of the spots
+pub record IsNodeOf (spots : List Spot) (l : ℕ) : Type 0 where
+  pub spot : Spot
+  pub holds : Holds spots spot
+  pub node : spot.node ≡ l
 
--- the paths from a rename's common directory down to what it holds below it, both ends included
-abbrev pub Between : Standing → Path → Type 0
-Between Fresh q = ⊥
-Between (At at) q = ⊥
-Between (Ends common old new) q = Begins common.path q × (Begins q old.path ⊎ Begins q new.path)
+-- the path leads to one of the spots, or to a directory on its way
+abbrev pub IsOnWayTo : List Spot → Path → Type 0
+IsOnWayTo [] q = ⊥
+IsOnWayTo (p ∷ spots) q = Begins q p.path ⊎ IsOnWayTo spots q
 
--- both ends of a rename lie at or below its common directory
-abbrev pub IsShaped : Standing → Type 0
-IsShaped Fresh = Unit {0}
-IsShaped (At at) = Unit {0}
-IsShaped (Ends common old new) = Begins common.path old.path × Begins common.path new.path
+-- the paths from the first spot down to the others, both ends included
+abbrev pub Between : List Spot → Path → Type 0
+Between [] q = ⊥
+Between (top ∷ ends) q = Begins top.path q × IsOnWayTo ends q
 
--- a stage that may be gone
-abbrev pub HoldsIn : Option Standing → Spot → Type 0
-HoldsIn None s = ⊥
-HoldsIn (Some g) s = Holds g s
+abbrev pub AreBelow : Path → List Spot → Type 0
+AreBelow p [] = Unit {0}
+AreBelow p (s ∷ spots) = Begins p s.path × AreBelow p spots
 
-abbrev pub BetweenIn : Option Standing → Path → Type 0
-BetweenIn None q = ⊥
-BetweenIn (Some g) q = Between g q
-
-abbrev pub IsShapedIn : Option Standing → Type 0
-IsShapedIn None = Unit {0}
-IsShapedIn (Some g) = IsShaped g
+-- the others lie at or below the first
+abbrev pub IsShaped : List Spot → Type 0
+IsShaped [] = Unit {0}
+IsShaped (top ∷ ends) = AreBelow top.path ends
 
 -- the spot's names lead to its node, which is a directory
 pub record LeadsTo (t : Terrain) (s : Spot) : Type 0 where
   pub names : t.leads s.path ≡ Some s.node
   pub directory : t.is_directory s.node ≡ true
 
--- calls on their way: where paths lead, how far each undecided call has come, by its number, and the call that holds each node
+-- calls on their way: where paths lead, what each call holds, by its number, and the call that
+-- holds each node
 pub record Scene : Type 0 where
   pub terrain : Terrain
-  pub standing_of : ℕ → Option Standing
+  pub spots : ℕ → List Spot
   pub holder : ℕ → Option ℕ
 
-abbrev pub scene : Terrain → (ℕ → Option Standing) → (ℕ → Option ℕ) → Scene
-scene terrain standing_of holder =
-    record { terrain = terrain; standing_of = standing_of; holder = holder }
+abbrev pub scene : Terrain → (ℕ → List Spot) → (ℕ → Option ℕ) → Scene
+scene terrain spots holder = record { terrain = terrain; spots = spots; holder = holder }
 
--- Walks are coupled: what a call has walked leads to what it holds, nothing else is held, and no other call holds a directory
--- between a rename's common directory and its ends.
+-- Walks are coupled: what a call has walked leads to what it holds, nothing else is held, and no
+-- other call holds a directory between the first spot of a call and its others.
 pub record AreWalks (s : Scene) : Type 0 where
-  pub shaped : (n : ℕ) (g : Standing) → s.standing_of n ≡ Some g → IsShaped g
-  pub leads : (n : ℕ) (g : Standing) (at : Spot) → s.standing_of n ≡ Some g → Holds g at
-      → LeadsTo s.terrain at
-  pub held : (n : ℕ) (g : Standing) (at : Spot) → s.standing_of n ≡ Some g → Holds g at
-      → s.holder at.node ≡ Some n
-  pub holds : (l n : ℕ) → s.holder l ≡ Some n → (g : Standing) × (at : Spot)
-      × (s.standing_of n ≡ Some g) × Holds g at × (at.node ≡ l)
-  pub apart : (n m : ℕ) (g h : Standing) (at : Spot) → n ≢ m → s.standing_of n ≡ Some g
-      → s.standing_of m ≡ Some h → Holds h at → Between g at.path → ⊥
+  pub shaped : (n : ℕ) → IsShaped (s.spots n)
+  pub leads : (n : ℕ) (at : Spot) → Holds (s.spots n) at → LeadsTo s.terrain at
+  pub held : (n : ℕ) (at : Spot) → Holds (s.spots n) at → s.holder at.node ≡ Some n
+  pub holds : (l n : ℕ) → s.holder l ≡ Some n → IsNodeOf (s.spots n) l
+  pub apart : (n m : ℕ) (at : Spot) → n ≢ m → Holds (s.spots m) at → Between (s.spots n) at.path
+      → ⊥
 
--- the call n holds what its new stage says, and other calls hold what they held
-pub record HoldsInstead (holder holder' : ℕ
-    → Option ℕ) (n : ℕ) (now : Option Standing) : Type 0 where
-  pub own : (s : Spot) → HoldsIn now s → holder' s.node ≡ Some n
-  pub only : (l : ℕ) → holder' l ≡ Some n → (s : Spot) × HoldsIn now s × (s.node ≡ l)
-  pub others : (l m : ℕ) → n ≢ m → holder l ≡ Some m → holder' l ≡ Some m
-  pub no_more : (l m : ℕ) → n ≢ m → holder' l ≡ Some m → holder l ≡ Some m
+-- no other call holds the node
+abbrev pub IsFree : (ℕ → Option ℕ) → ℕ → ℕ → Type 0
+IsFree holder n node = (m : ℕ) → holder node ≡ Some m → n ≡ m
 
--- The call n came to a new stage, or was decided, and the tree may be another. No other call's way changed, and what the call
--- holds now is apart from the others' ways as before.
-pub record GoesOn (old new : Scene) (n : ℕ) (now : Option Standing) : Type 0 where
-  pub set : new.standing_of n ≡ now
-  pub same : (m : ℕ) → n ≢ m → new.standing_of m ≡ old.standing_of m
-  pub holders : HoldsInstead old.holder new.holder n now
-  pub shaped : IsShapedIn now
-  pub spared : (m : ℕ) (h : Standing) (s : Spot) → n ≢ m → old.standing_of m ≡ Some h → Holds h s
-      → LeadsTo old.terrain s → LeadsTo new.terrain s
-  pub leads : (s : Spot) → HoldsIn now s → LeadsTo new.terrain s
-  pub apart : (m : ℕ) (h : Standing) (s : Spot) → n ≢ m → old.standing_of m ≡ Some h → Holds h s
-      → BetweenIn now s.path → ⊥
-  pub aside : (m : ℕ) (h : Standing) (s : Spot) → n ≢ m → old.standing_of m ≡ Some h → HoldsIn now s
-      → Between h s.path → ⊥
+-- Hand over hand: the call n holds the nodes of its spots now, and has let go of all others that it
+-- held.
+pub record HandsOver (holder holder' : ℕ → Option ℕ) (n : ℕ) (was now : List Spot) : Type 0 where
+  pub here : (l : ℕ) → IsNodeOf now l → holder' l ≡ Some n
+  pub gone : (l : ℕ) → IsNodeOf was l → (IsNodeOf now l → ⊥) → holder' l ≡ None
+  pub rest : (l : ℕ) → (IsNodeOf was l → ⊥) → (IsNodeOf now l → ⊥) → holder' l ≡ holder l
+
+-- The call n holds other spots, or none, and the tree may be another. No other call's way changed,
+-- and what the call holds now is apart from the others' ways as before.
+pub record GoesOn (old new : Scene) (n : ℕ) : Type 0 where
+  pub same : (m : ℕ) → n ≢ m → new.spots m ≡ old.spots m
+  pub hands : HandsOver old.holder new.holder n (old.spots n) (new.spots n)
+  pub free : (l : ℕ) → IsNodeOf (new.spots n) l → IsFree old.holder n l
+  pub shaped : IsShaped (new.spots n)
+  pub spared : (m : ℕ) (s : Spot) → n ≢ m → Holds (old.spots m) s → LeadsTo old.terrain s
+      → LeadsTo new.terrain s
+  pub leads : (s : Spot) → Holds (new.spots n) s → LeadsTo new.terrain s
+  pub apart : (m : ℕ) (s : Spot) → n ≢ m → Holds (old.spots m) s → Between (new.spots n) s.path → ⊥
+  pub aside : (m : ℕ) (s : Spot) → n ≢ m → Holds (new.spots n) s → Between (old.spots m) s.path → ⊥

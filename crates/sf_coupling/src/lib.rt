@@ -9,4 +9,4 @@
 
 mod walk_laws;
 
-pub use walk_laws::{held_once, steps_kept, walks_kept};
+pub use walk_laws::{held_once, let_go_kept, steps_kept, waits_above, walks_kept};

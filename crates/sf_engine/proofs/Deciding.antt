@@ -1,5 +1,5 @@
 -- Where a call stops, and that nobody is told want of memory who takes none.
-use Rattle.std.proofs.Common.{◌≡◌, ℕ, ◌+◌, ◌<◌, false, length, take, Option, Some, None, ap, sym, ◌∙◌, arith, inl, inr}
+use Rattle.std.proofs.Common.{◌≡◌, ℕ, ◌+◌, ◌<◌, false, length, take, ap, ◌∙◌, arith, inl, inr}
 use Rattle.sf_path.specs.Names.{Path}
 use Rattle.sf_reply.specs.declared.reply.Reply.{Reply}
 use Rattle.sf_call.specs.declared.call.Call.{Call}
@@ -7,7 +7,12 @@ use Rattle.sf_call.specs.declared.call.Reached.{Reached}
 use Rattle.sf_call.specs.declared.call.Stage.{Stage}
 use Rattle.sf_call.specs.declared.call.Stage.TheVariants as stage
 use Rattle.sf_call.specs.Tree.{Tree, is_directory}
-use Rattle.sf_core.specs.Progress.{WalksOn, MayDecideBy}
+use Rattle.sf_walk.specs.Routes.{Route, IsPosition}
+use Rattle.sf_walk.specs.Routes.IsPosition.{Starts, IsOn, IsBefore, IsApart}
+use Rattle.sf_walk.specs.Steps.{WalksOn, GoesFrom}
+use Rattle.sf_walk.specs.Steps.GoesFrom.{OnOne, Together, OldEnd, NewEnd}
+use Rattle.sf_core.specs.Progress.{EndsWalk, MayDecideBy}
+use Rattle.sf_core.specs.Progress.MayDecideBy.{AtOnce, AtRoot, AtEnd}
 use Rattle.sf_core.specs.Events.{Before, After, Decides}
 use Rattle.sf_engine.specs.Deciding.{StopsEarly, Stops, AreSure}
 use Rattle.sf_engine.specs.Fits.{HasMoved}
@@ -40,21 +45,21 @@ moved_on (stage.Ends common old new) (stage.Ends same older newer) moves h w =
 early : (tree : Tree) (path : Path) (walked moves : ℕ) → moves ≡ walked + 1 → walked + 1 < length path → is_directory tree (take (walked + 1) path) ≡ false → StopsEarly tree path moves
 early tree path walked moves h less none = (omega (arith, h), omega (arith, h, less), ap (λ (k : ℕ). is_directory tree (take k path)) h ∙ none)
 
+ends : (tree : Tree) (r : Route) (at : Stage) (path : Path) (from : Reached) (moves : ℕ) → GoesFrom r at path from → IsPosition r at → HasMoved at moves → EndsWalk tree path from.walked → Stops tree r moves
+ends tree r at path from moves (OnOne p w n) (IsOn o v m less) h (inl e) = inl (h ∙ e)
+ends tree r at path from moves (OnOne p w n) (IsOn o v m less) h (inr e) = inr (early tree path w moves h e.0 e.1)
+ends tree r at path from moves (Together old new w n) (IsBefore o u v m count part less) h (inl e) = let short = part.short in absurd (omega (arith, e, less, short))
+ends tree r at path from moves (Together old new w n) (IsBefore o u v m count part less) h (inr e) = inl (early tree path w moves h e.0 e.1)
+ends tree r at path from moves (OldEnd old new c a b more) (IsApart o u d f g is) h (inl e) = absurd (omega (arith, e, more))
+ends tree r at path from moves (OldEnd old new c a b more) (IsApart o u d f g is) h (inr e) =
+    let same = is.in_turn more in inl (early tree path from.walked moves (omega (arith, h, same)) e.0 e.1)
+ends tree r at path from moves (NewEnd old new c a b parent) (IsApart o u d f g is) h e = inr (c.walked, is.part, (from.walked, is.new_below, omega (arith, h, parent), e))
+
 -- where the core may decide, the call has stopped
-pub stops : (tree : Tree) (path other : Option Path) (at : Stage) (moves : ℕ) → HasMoved at moves → MayDecideBy tree path other at → Stops tree path other moves
-stops tree None other stage.Fresh moves h w = h
-stops tree None other (stage.At walked node) moves h w = absurd cc
-stops tree None other (stage.Ends common old new) moves h w = absurd cc
-stops tree (Some path) None stage.Fresh moves h w = inl (h ∙ sym (ap (λ (p : Path). length p) w))
-stops tree (Some path) (Some to) stage.Fresh moves h w = absurd w
-stops tree (Some path) None (stage.At walked node) moves h (inl e) = inl (h ∙ e)
-stops tree (Some path) None (stage.At walked node) moves h (inr b) = inr (early tree path walked moves h b.0 b.1)
-stops tree (Some path) (Some to) (stage.At walked node) moves h w = inl (early tree path walked moves h w.0 w.1)
-stops tree (Some path) None (stage.Ends common old new) moves h w = absurd w
-stops tree (Some path) (Some to) (stage.Ends common old new) moves h w = elim w.1 [
-  | inl e ↦ let same = e.1 in inl (early tree path old.walked moves (omega (arith, h, same)) e.0 e.2)
-  | inr e ↦ let at_parent = e.0 in inr (common.walked, w.0, (new.walked, e.1, omega (arith, h, at_parent), e.2))
-]
+pub stops : (tree : Tree) (r : Route) (at : Stage) (moves : ℕ) → IsPosition r at → HasMoved at moves → MayDecideBy tree r at → Stops tree r moves
+stops tree r at moves is h AtOnce = h
+stops tree r at moves is h AtRoot = inl h
+stops tree r at moves is h (AtEnd o g path from goes e) = ends tree o g path from moves goes is h e
 
 -- the records of a step that carries its call out
 pub step_sure : (b : Before) (a : After) (c : Call) (given : Reply) → Decides b a c given → AreSure b.history a.added

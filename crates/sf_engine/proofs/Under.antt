@@ -9,7 +9,7 @@ use Rattle.sf_call.specs.declared.record.Record.{Record}
 use Rattle.sf_call.specs.declared.record.Record.TheVariants.{Did, Left}
 use Rattle.sf_call.specs.Answers.{Answered as Answer}
 use Rattle.sf_call.specs.Histories.{replay, IsAmong}
-use Rattle.sf_walk.specs.Ways.{path_of, other_of}
+use Rattle.sf_walk.specs.Routes.{IsPosition, route_of}
 use Rattle.sf_session.specs.Sessions.{SessionView}
 use Rattle.sf_core.specs.Cores.Slot.{Gone as nobody, Idle, Busy}
 use Rattle.sf_core.specs.Lanes.{LaneView, at_rest}
@@ -90,11 +90,11 @@ own_record v s x id n m q moves p c given at here =
 
 -- a call that decides has stopped
 has_stopped : (w : World) (v : CoreView) (s : ℕ) (x : SessionView) (id n m : ℕ) (q : Request) (moves : ℕ) (p : Place) (c : Call) (given : Reply) → IsGoing v s x (walking id n m q moves) p → slot_of v s ≡ Busy c
-    → did c given ≡ Did n s m q given → MayDecide (replay w.records) c.request c.stage → reply_of c ≡ None → HasStopped (replay w.records) moves (Did n s m q given)
-has_stopped w v s x id n m q moves p c given at here is way undecided =
+    → did c given ≡ Did n s m q given → IsPosition (route_of c.request) c.stage → MayDecide (replay w.records) c.request c.stage → reply_of c ≡ None → HasStopped (replay w.records) moves (Did n s m q given)
+has_stopped w v s x id n m q moves p c given at here is position way undecided =
     let own : at.call ≡ c = let z : Busy at.call ≡ Busy c = sym at.slot ∙ here in cc in
     let moved : HasMoved c.stage moves = subst (λ (y : Call). HasMoved y.stage moves) own (at.walked (ap reply_of own ∙ undecided)) in
-    subst (λ (r : Record). HasStopped (replay w.records) moves r) is (stops (replay w.records) (path_of c.request) (other_of c.request) c.stage moves moved way)
+    subst (λ (r : Record). HasStopped (replay w.records) moves r) is (stops (replay w.records) (route_of c.request) c.stage moves position moved way)
 
 -- the session's call was decided, and its answer waits
 decided_now : (w : World) (v v' : CoreView) (s : ℕ) (t : Told) (c : Bool) (x : SessionView) (p q : Place) (id n m : ℕ) (request : Request) (moves : ℕ)
@@ -230,7 +230,7 @@ step_turned w v v' seats s t c x p q id n m request moves happened.Decided h add
           })
           (ap (λ (k : ℕ). slot_of v' k) (sym at.session) ∙ f.slot) placed
           (inr (record {
-            stopped = has_stopped w v s x id n m request moves p d a.reply at here is (subst (λ (y : List Record). MayDecide (replay y) d.request d.stage) hist f.way) f.undecided;
+            stopped = has_stopped w v s x id n m request moves p d a.reply at here is f.position (subst (λ (y : List Record). MayDecide (replay y) d.request d.stage) hist f.way) f.undecided;
             helped = f.helped;
             of_others = are_helped w v seats s f.helped agrees (subst (λ (k : ℕ). AllByRecursion (IsOfOther v k) f.helped) at.session f.of_others);
             rising = f.order.rising;

@@ -1,10 +1,11 @@
 -- Where a call may be carried out, in the words of a trace.
-use Rattle.std.specs.Prelude.{◌≡◌, ◌<◌, ◌≤◌, ◌+◌, ◌⊎◌, ℕ, false, length, take, Option, Some, None}
+use Rattle.std.specs.Prelude.{◌≡◌, ◌<◌, ◌≤◌, ◌+◌, ◌⊎◌, ℕ, false, length, take}
 use Rattle.sf_path.specs.Names.{Path}
 use Rattle.sf_call.specs.declared.record.Record.{Record}
 use Rattle.sf_call.specs.declared.record.Record.TheVariants.{Did, Left}
 use Rattle.sf_call.specs.Tree.{Tree, is_directory}
-use Rattle.sf_walk.specs.Ways.{path_of, other_of, PartAt}
+use Rattle.sf_walk.specs.Routes.{Route, PartAt, route_of}
+use Rattle.sf_walk.specs.Routes.Route.{NoPath, Along, Between}
 use Rattle.sf_core.specs.Progress.{EndsWalk}
 pub use Rattle.sf_core.specs.Sure.{IsSure}
 unfoldable pub use Rattle.sf_core.specs.Sure.{AreSure}
@@ -16,19 +17,19 @@ StopsEarly tree path moves =
 
 -- After how many moves a call stops. The first takes the root, each further one walks a name: a
 -- call without a path stops at once; one on a path where all its names but the last are walked, or
--- where the next is missing or no directory. A rename whose paths part stops where its old path's
--- walk does before its parent; else it walks to that parent, then from the last directory in common
--- on to where its new path's walk stops.
-abbrev pub Stops : Tree → Option Path → Option Path → ℕ → Type 0
-Stops tree None other moves = moves ≡ 0
-Stops tree (Some path) None moves = (moves ≡ length path) ⊎ StopsEarly tree path moves
-Stops tree (Some path) (Some other) moves =
-    StopsEarly tree path moves
-    ⊎ ((count : ℕ) × PartAt path other count × ((walked : ℕ) × (count ≤ walked)
-    × (moves + count ≡ length path + walked) × EndsWalk tree other walked))
+-- where the next is missing or no directory. One between two paths stops where its old path's walk
+-- does before its parent; else it walks to that parent, then from the last directory in common on
+-- to where its new path's walk stops.
+abbrev pub Stops : Tree → Route → ℕ → Type 0
+Stops tree NoPath moves = moves ≡ 0
+Stops tree (Along path) moves = (moves ≡ length path) ⊎ StopsEarly tree path moves
+Stops tree (Between old new) moves =
+    StopsEarly tree old moves
+    ⊎ ((count : ℕ) × PartAt old new count × ((walked : ℕ) × (count ≤ walked)
+    × (moves + count ≡ length old + walked) × EndsWalk tree new walked))
 
 -- so does the call of a record
 abbrev pub HasStopped : Tree → ℕ → Record → Type 0
 HasStopped tree moves (Did number session moment request given) =
-    Stops tree (path_of request) (other_of request) moves
+    Stops tree (route_of request) moves
 HasStopped tree moves (Left session) = ⊥

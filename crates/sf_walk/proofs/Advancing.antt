@@ -1,138 +1,296 @@
 -- What a step of a call comes to.
-use Rattle.std.specs.Prelude.{◌≡◌, ◌≢◌, ◌+◌, ℕ, true, length, take, Option, Some, None, refl}
-use Rattle.std.proofs.Common.{sym, ap, subst, ◌∙◌, arith, inr}
+use Rattle.std.specs.Prelude.{◌≡◌, ◌≢◌, ◌<◌, ◌+◌, ℕ, true, false, List, [], ◌∷◌, ◌++◌, length, take, Option, Some, refl}
+use Rattle.std.proofs.Common.{sym, ap, subst, ◌∙◌, arith, inl, inr, get_or, add-one}
+use Rattle.std.proofs.Math.Seq.{take-suc}
 use Rattle.sf_path.specs.Names.{Path}
-use Rattle.sf_call.specs.declared.call.Call.{Call}
 use Rattle.sf_call.specs.declared.call.Reached.{Reached}
 use Rattle.sf_call.specs.declared.call.Stage.{Stage}
 use Rattle.sf_call.specs.declared.call.Stage.TheVariants as stage
-use Rattle.sf_call.specs.Requests.{target_of}
-use Rattle.sf_inode.specs.Nodes.{with_holder}
-use Rattle.sf_inode.specs.Stores.{StoreState, entry_of, holder_of, is_directory_at, looked_up, edited}
+use Rattle.sf_inode.specs.Stores.{StoreState, entry_of, holder_of, is_directory_at, looked_up}
 use Rattle.sf_keeps.specs.Steps.{walk}
+use Rattle.sf_coupling.specs.Walks.{Spot, LeadsTo, IsFree}
+use Rattle.sf_coupling.specs.Stepping.{IsNextTo, Takes}
+use Rattle.sf_coupling.specs.Stepping.Takes.{Comes, GoesOnWith}
 use Rattle.sf_walk.specs.declared.finding.Ways.{Ways}
 use Rattle.sf_walk.specs.declared.finding.Located.{Located}
 use Rattle.sf_walk.specs.declared.finding.Located.TheVariants as located
-use Rattle.sf_walk.specs.Ways.{path_of, other_of, along, way_from, AreWays}
+use Rattle.sf_walk.specs.Routes.{Route, are_nested, PartAt, AreEnds, IsPosition, reached, paths_on, spot_on, spots_of, terrain, Stands}
+use Rattle.sf_walk.specs.Routes.Route.{NoPath, Along, Between}
+use Rattle.sf_walk.specs.Routes.IsPosition.{Starts, IsOn, IsBefore, IsApart}
+use Rattle.sf_walk.specs.Ways.{along, way_from}
 use Rattle.sf_walk.specs.Served.{LookedUp}
-use Rattle.sf_walk.specs.Steps.{Stands, IsFree, IsFreeAt, IsFreeThere, Next, IsNext, entered, leaving, stepped, Takes, LooksAt, Waits, EndsAt, MayDecideAt, AreFree, HoldsParent, Decides}
-use Rattle.sf_walk.specs.Further.{Walks, IsHeldThere, IsHeldOnWay, IsNextFree}
+use Rattle.sf_walk.specs.Further.{Comes as ComesTo, IsOnWay, PartLater, IsHeldThere, IsHeldOnWay, IsNextFree}
+use Rattle.sf_walk.specs.Steps.{walker, GoesFrom, WalksOn, entered, handed_over, Moves, Waits, EndsAt, MayDecideAt, IsFreeThere, AreFree, Decides}
+use Rattle.sf_walk.specs.Steps.GoesFrom.{NewEnd}
+use Rattle.sf_walk.specs.Steps.LooksAt.{Root, Next}
+use Rattle.sf_walk.specs.Steps.MayDecideAt.{AtOnce, AtRoot, AtEnd}
 use Rattle.sf_walk.proofs.LookUps.{looked_none, looked_more, looked_less, looked_itself}
 use Rattle.sf_walk.proofs.Onward.{last_leads}
-use Rattle.sf_walk.proofs.Targets.{ways_without_path, both, ways_nowhere, ways_along, ways_both, free_nowhere, free_along, free_both, holds_nowhere, holds_along, holds_both}
 
-fresh_without_path : (s : StoreState) (other : Option Path) (at : Stage) → Stands s None other at → at ≡ stage.Fresh
-fresh_without_path s other stage.Fresh h = refl
-fresh_without_path s other (stage.At walked node) h = absurd h.0
-fresh_without_path s other (stage.Ends common old new) h = absurd h.0
+-- ---- where a call stands
+fresh_without_path : (at : Stage) → IsPosition NoPath at → at ≡ stage.Fresh
+fresh_without_path at (Starts r is) = refl
 
 -- a call that walks no path decides at once
-pub at_once : (s : StoreState) (call : Call) → path_of call.request ≡ None → Stands s (path_of call.request) (other_of call.request) call.stage → Decides s s call (along located.NoWay)
-at_once s call none stands = record {
-  may = subst (λ (p : Option Path). MayDecideAt s p (other_of call.request) call.stage) (sym none)
-      (fresh_without_path s (other_of call.request) call.stage (subst (λ (p : Option Path). Stands s p (other_of call.request) call.stage) none stands));
-  located = ways_without_path s (target_of call.request) none;
-  free = free_nowhere s call.number call.stage (target_of call.request);
-  holds = holds_nowhere call.stage (target_of call.request);
-  looked = looked_itself s 2;
-}
+pub at_once : (s : StoreState) (number : ℕ) (at : Stage) → Stands s NoPath at → Decides s s (walker number NoPath at) (along located.NoWay)
+at_once s number at stands =
+    subst (λ (g : Stage). Decides s s (walker number NoPath g) (along located.NoWay)) (sym (fresh_without_path at stands.position))
+    (record { may = AtOnce; located = tt; free = tt; holds = tt; looked = looked_itself s 2 })
+
+pub one_not_two : (path : Path) (common old new : Reached) → IsPosition (Along path) (stage.Ends common old new) → ⊥
+one_not_two path common old new is = elim is [ ]
+
+pub stands_first : (s : StoreState) (old new : Path) → Stands s (Between old new) stage.Fresh → are_nested old new ≡ false
+stands_first s old new h = by h.position
+  where
+    by : IsPosition (Between old new) stage.Fresh → are_nested old new ≡ false
+    by (Starts r is) = is
+
+on_way : (s : StoreState) (path : Path) (at : Reached) → at.walked < length path → LeadsTo (terrain s) (spot_on path at) → IsOnWay s path at.walked at.node
+on_way s path at short leads = record { short = short; leads = leads.names; directory = leads.directory }
+
+pub stands_on_one : (s : StoreState) (path : Path) (walked node : ℕ) → Stands s (Along path) (stage.At walked node) → IsOnWay s path walked node
+stands_on_one s path walked node h = by h.position
+  where
+    by : IsPosition (Along path) (stage.At walked node) → IsOnWay s path walked node
+    by (IsOn p w n less) = on_way s path (reached walked node) less (h.leads (spot_on path (reached walked node)) (inl refl))
+
+pub stands_together : (s : StoreState) (old new : Path) (walked node : ℕ) → Stands s (Between old new) (stage.At walked node) → IsOnWay s old walked node × PartLater old new (walked + 1)
+stands_together s old new walked node h = by h.position
+  where
+    by : IsPosition (Between old new) (stage.At walked node) → IsOnWay s old walked node × PartLater old new (walked + 1)
+    by (IsBefore p q w n count part less) =
+        let short = part.short in (
+          on_way s old (reached walked node) (omega (arith, less, short)) (h.leads (spot_on old (reached walked node)) (inl refl)),
+          record { count = count; part = part; later = omega (arith, less) },
+        )
+
+module _ (s : StoreState) (old new : Path) (common from to : Reached) (h : Stands s (Between old new) (stage.Ends common from to)) where
+  pub ends : AreEnds old new common from to
+  ends = by h.position
+    where
+      by : IsPosition (Between old new) (stage.Ends common from to) → AreEnds old new common from to
+      by (IsApart p q c a b is) = is
+
+  pub old_on_way : IsOnWay s old from.walked from.node
+  old_on_way = on_way s old from ends.short (h.leads (spot_on old from) (inr (inl refl)))
+
+  pub new_on_way : IsOnWay s new to.walked to.node
+  new_on_way = on_way s new to ends.short_new (h.leads (spot_on new to) (inr (inr (inl refl))))
+
+-- where two paths part, both ends are at the common directory
+pub ends_at : (from to : Path) (at : Reached) → PartAt from to at.walked → AreEnds from to at at at
+ends_at from to at part = record { part = part; old_below = omega arith; new_below = omega arith; short = part.short; short_new = part.short_new; in_turn = λ more. refl }
+
+-- ---- the root
+module _ (s : StoreState) (number root : ℕ) (is : root ≡ s.root) where
+  pub decides_root : (path : Path) → path ≡ [] → Decides s s (walker number (Along path) stage.Fresh) (along (located.At root root))
+  decides_root path e =
+      subst (λ (p : Path). Decides s s (walker number (Along p) stage.Fresh) (along (located.At root root))) (sym e)
+      (record { may = AtRoot; located = ap (λ r. located.At r r) is; free = tt; holds = tt; looked = looked_itself s 2 })
+
+  pub waits_root : (r : Route) (path : Path) (rest : List Path) → paths_on r ≡ path ∷ rest → (holder : ℕ) → holder_of s.nodes root ≡ Some holder → number ≢ holder → Waits s s (walker number r stage.Fresh) holder
+  waits_root r path rest paths holder held other = record { to = []; node = root; looks = Root r path rest paths; leads = ap Some (sym is); held = held; other = other; looked = looked_itself s 1 }
+
+  module _ (dir : is_directory_at s.nodes s.root ≡ true) (free : IsFree (holder_of s.nodes) number root) (last : StoreState) where
+    leads_root : LeadsTo (terrain s) (record { path = []; node = root })
+    leads_root = record { names = ap Some (sym is); directory = subst (λ r. is_directory_at s.nodes r ≡ true) (sym is) dir }
+
+    pub moves_first : (path : Path) → 0 < length path → last ≡ handed_over number stage.Fresh (stage.At 0 root) root s → Moves s last (walker number (Along path) stage.Fresh) (stage.At 0 root)
+    moves_first path some state = record {
+      spot = record { path = []; node = root };
+      takes = Comes [] (record { path = []; node = root } ∷ []) (inl refl) tt (refl, tt);
+      leads = leads_root;
+      free = free;
+      position = IsOn path 0 root some;
+      walks = refl;
+      state = state;
+    }
+
+    pub moves_first_of_two : (from to : Path) (after : Stage) → ComesTo from to (reached 0 root) after → last ≡ handed_over number stage.Fresh after root s → Moves s last (walker number (Between from to) stage.Fresh) after
+    moves_first_of_two from to after (inl h) state = record {
+      spot = record { path = []; node = root };
+      takes = subst (λ (g : Stage). Takes (record { path = []; node = root }) [] (spots_of (Between from to) g)) (sym h.3) (Comes [] (record { path = []; node = root } ∷ []) (inl refl) tt (refl, tt));
+      leads = leads_root;
+      free = free;
+      position = subst (λ (g : Stage). IsPosition (Between from to) g) (sym h.3) (IsBefore from to 0 root h.0 h.1 h.2);
+      walks = subst (WalksOn stage.Fresh) (sym h.3) refl;
+      state = state;
+    }
+    moves_first_of_two from to after (inr h) state =
+        let q : Spot = record { path = []; node = root } in
+        record {
+          spot = record { path = []; node = root };
+          takes = subst (λ (g : Stage). Takes (record { path = []; node = root }) [] (spots_of (Between from to) g)) (sym h.1) (Comes [] (record { path = []; node = root } ∷ record { path = []; node = root } ∷ record { path = []; node = root } ∷ []) (inl refl) tt (refl, (refl, (refl, tt))));
+          leads = leads_root;
+          free = free;
+          position = subst (λ (g : Stage). IsPosition (Between from to) g) (sym h.1) (IsApart from to (reached 0 root) (reached 0 root) (reached 0 root) (ends_at from to (reached 0 root) h.0));
+          walks = subst (WalksOn stage.Fresh) (sym h.1) (refl, refl, refl);
+          state = state;
+        }
 
 -- ---- a look-up changes no node
+pub way_looked_up : (old new : StoreState) (path : Path) (at : Reached) → new ≡ looked_up old → IsOnWay old path at.walked at.node → IsOnWay new path at.walked at.node
+way_looked_up old new path at e h = subst (λ (s : StoreState). IsOnWay s path at.walked at.node) (sym e) (record { short = h.short; leads = h.leads; directory = h.directory })
+
 looked_once : (old new : StoreState) → new ≡ looked_up old → LookedUp old new 1
 looked_once old new e = looked_more old old new 0 (looked_none old) e
 
 way_after : (old new : StoreState) (p : Path) → new ≡ looked_up old → way_from old.nodes old.root old.root p ≡ way_from new.nodes new.root new.root p
 way_after old new p e = ap (λ (s : StoreState). way_from s.nodes s.root s.root p) (sym e)
 
-pub free_before : (old new : StoreState) (number : ℕ) (found : Located) → new ≡ looked_up old → IsFreeThere new number found → IsFreeThere old number found
-free_before old new number located.NoWay e h = tt
-free_before old new number (located.Missing parent) e h = tt
-free_before old new number (located.At parent node) e h = λ holder at. h holder (ap (λ (s : StoreState). holder_of s.nodes node) e ∙ at)
+pub free_before : (old new : StoreState) (number : ℕ) (found : Located) → new ≡ looked_up old → IsFreeThere (holder_of new.nodes) number found → IsFreeThere (holder_of old.nodes) number found
+free_before old new number found e h = subst (λ (s : StoreState). IsFreeThere (holder_of s.nodes) number found) e h
 
-pub free_at : (s : StoreState) (number walked above : ℕ) (found : Located) → IsFreeThere s number found → IsFreeAt s number (stage.At walked above) found
-free_at s number walked above located.NoWay h = tt
-free_at s number walked above (located.Missing parent) h = tt
-free_at s number walked above (located.At parent node) h = h
+free_along : (holder : ℕ → Option ℕ) (number : ℕ) (path : Path) (found : Located) → IsFreeThere holder number found → AreFree holder number (Along path) (along found)
+free_along holder number [] found h = tt
+free_along holder number (n ∷ path) found h = h
 
-abbrev pub next_is : Path → ℕ → Stage → Option ℕ → Next
-next_is to node after left = record { to = to; node = node; after = after; left = left }
+-- ---- one name further
+one_more : (path : Path) (walked : ℕ) → walked < length path → take (walked + 1) path ≡ take walked path ++ get_or path walked [] ∷ []
+one_more path walked less = ap (λ (k : ℕ). take k path) (add-one walked) ∙ take-suc path walked [] less
 
-module _ (call : Call) (path : Path) (other : Option Path) (at : Stage) (walks : Walks call path other at) where
-  here : (P : Option Path → Option Path → Stage → Type 0) → P (Some path) other at → P (path_of call.request) (other_of call.request) call.stage
-  here P h =
-      subst (λ (p : Option Path). P p (other_of call.request) call.stage) (sym walks.is_path)
-      (subst (λ (o : Option Path). P (Some path) o call.stage) (sym walks.is_other) (subst (λ (g : Stage). P (Some path) other g) (sym walks.is_stage) h))
+module _ (s : StoreState) (number : ℕ) (path : Path) (from to : Reached) (free : IsNextFree s number path from to) where
+  pub next_to : from.walked < length path → IsNextTo (spot_on path from) (spot_on path to)
+  next_to less = record { name = get_or path from.walked []; is = ap (λ k. take k path) free.walked ∙ one_more path from.walked less }
 
-  pub decides : (old new : StoreState) (ways : Ways) → MayDecideAt old (Some path) other at → AreWays new (target_of call.request) ways → AreFree old call.number at (target_of call.request) ways
-      → HoldsParent (target_of call.request) at ways → LookedUp old new 2 → Decides old new call ways
-  decides old new ways may are free holds looked = record {
-    may = here (λ p o g. MayDecideAt old p o g) may;
-    located = are;
-    free = subst (λ (g : Stage). AreFree old call.number g (target_of call.request) ways) (sym walks.is_stage) free;
-    holds = subst (λ (g : Stage). HoldsParent (target_of call.request) g ways) (sym walks.is_stage) holds;
-    looked = looked;
+  pub next_leads : LeadsTo (terrain s) (spot_on path to)
+  next_leads = record { names = ap (λ k. walk (entry_of s.nodes) s.root (take k path)) free.walked ∙ free.on_way.leads; directory = free.on_way.directory }
+
+  pub next_short : to.walked < length path
+  next_short = let a = free.walked in let b = free.on_way.short in omega (arith, a, b)
+
+-- ---- after one look-up
+module _ (old new : StoreState) (looked : new ≡ looked_up old) (number : ℕ) where
+  pub decides_one : (path : Path) (at : Stage) → MayDecideAt old.nodes (Along path) at → (found : Located) → found ≡ way_from old.nodes old.root old.root path → IsFreeThere (holder_of old.nodes) number found
+      → Decides old new (walker number (Along path) at) (along found)
+  decides_one path at may found is free = record {
+    may = may;
+    located = is ∙ way_after old new path looked;
+    free = free_along (holder_of old.nodes) number path found free;
+    holds = tt;
+    looked = looked_less old new 1 2 (looked_once old new looked) (omega arith);
   }
 
-  pub waits : (old new : StoreState) (to : Path) (node holder : ℕ) → LooksAt (Some path) other at to → walk (entry_of old.nodes) old.root to ≡ Some node → holder_of old.nodes node ≡ Some holder
-      → call.number ≢ holder → LookedUp old new 1 → Waits old new call holder
-  waits old new to node holder looks leads held not looked = record {
-    to = to;
-    node = node;
-    looks = here (λ p o g. LooksAt p o g to) looks;
-    leads = leads;
-    held = held;
-    other = not;
-    looked = looked;
+  pub decides_nowhere : (from to : Path) (at : Stage) → MayDecideAt old.nodes (Between from to) at → located.NoWay ≡ way_from old.nodes old.root old.root from
+      → Decides old new (walker number (Between from to) at) (along located.NoWay)
+  decides_nowhere from to at may is = record {
+    may = may;
+    located = (is ∙ way_after old new from looked, λ there. absurd there);
+    free = tt;
+    holds = λ there. absurd there;
+    looked = looked_less old new 1 2 (looked_once old new looked) (omega arith);
   }
 
-  pub takes : (old new : StoreState) (after : Stage) (next : Next) → IsNext (Some path) other at next → after ≡ next.after → walk (entry_of old.nodes) old.root next.to ≡ Some next.node
-      → is_directory_at old.nodes next.node ≡ true → IsFree old call.number next.node → new ≡ stepped old call.number at next.left next.node → Takes old new call after
-  takes old new after next is after_is leads dir free state = record {
-    next = next;
-    is_next = here (λ p o g. IsNext p o g next) is;
-    after_is = after_is;
-    leads = leads;
-    directory = dir;
+  module _ (r : Route) (at : Stage) (path : Path) (from : Reached) (goes : GoesFrom r at path from) where
+    pub waits_on_way : (holder : ℕ) → IsHeldOnWay old number path (from.walked + 1) holder → Waits old new (walker number r at) holder
+    waits_on_way holder h = record {
+      to = take (from.walked + 1) path;
+      node = h.node;
+      looks = Next r at path from goes;
+      leads = h.leads;
+      held = h.held;
+      other = h.other;
+      looked = looked_once old new looked;
+    }
+
+    pub waits_there : (holder : ℕ) (found : Located) → from.walked + 1 ≡ length path → found ≡ way_from old.nodes old.root old.root path → IsHeldThere new number found holder
+        → Waits old new (walker number r at) holder
+    waits_there holder found last is h = record {
+      to = take (from.walked + 1) path;
+      node = h.node;
+      looks = Next r at path from goes;
+      leads = last_leads old path from.walked h.parent h.node (sym is ∙ h.there) last;
+      held = sym (ap (λ (s : StoreState). holder_of s.nodes h.node) looked) ∙ h.held;
+      other = h.other;
+      looked = looked_once old new looked;
+    }
+
+  pub moves : (r : Route) (at after : Stage) (path : Path) (from to : Reached) (last : StoreState) → IsNextFree old number path from to → Takes (spot_on path to) (spots_of r at) (spots_of r after) → IsPosition r after → WalksOn at after
+      → entered at old ≡ looked_up old → last ≡ handed_over number at after to.node new → Moves old last (walker number r at) after
+  moves r at after path from to last free takes position walks enters state = record {
+    spot = spot_on path to;
+    takes = takes;
+    leads = next_leads old number path from to free;
+    free = free.free;
+    position = position;
+    walks = walks;
+    state = state ∙ ap (λ (s : StoreState). handed_over number at after to.node s) (looked ∙ sym enters);
+  }
+
+  -- ---- on one path
+  pub moves_one : (path : Path) (at to : Reached) (last : StoreState) → IsOnWay old path at.walked at.node → IsNextFree old number path at to
+      → last ≡ handed_over number (stage.At at.walked at.node) (stage.At to.walked to.node) to.node new → Moves old last (walker number (Along path) (stage.At at.walked at.node)) (stage.At to.walked to.node)
+  moves_one path at to last way free state =
+      moves (Along path) (stage.At at.walked at.node) (stage.At to.walked to.node) path at to last free
+      (Comes (spot_on path at ∷ []) (spot_on path to ∷ []) (inr (spot_on path at, inl refl, next_to old number path at to free way.short)) tt (refl, tt))
+      (IsOn path to.walked to.node (next_short old number path at to free)) free.walked refl state
+
+  -- ---- on two, which haven't parted
+  pub moves_together : (from to : Path) (at next : Reached) (after : Stage) (last : StoreState) → IsOnWay old from at.walked at.node → IsNextFree old number from at next → ComesTo from to next after
+      → last ≡ handed_over number (stage.At at.walked at.node) after next.node new → Moves old last (walker number (Between from to) (stage.At at.walked at.node)) after
+  moves_together from to at next after last way free comes state =
+      by (next_to old number from at next free way.short) comes state
+    where
+      by : IsNextTo (spot_on from at) (spot_on from next) → ComesTo from to next after → last ≡ handed_over number (stage.At at.walked at.node) after next.node new
+          → Moves old last (walker number (Between from to) (stage.At at.walked at.node)) after
+      by goes (inl h) state =
+          moves (Between from to) (stage.At at.walked at.node) after from at next last free
+          (subst (λ (g : Stage). Takes (spot_on from next) (spot_on from at ∷ []) (spots_of (Between from to) g)) (sym h.3)
+          (Comes (spot_on from at ∷ []) (spot_on from next ∷ []) (inr (spot_on from at, inl refl, goes)) tt (refl, tt)))
+          (subst (λ (g : Stage). IsPosition (Between from to) g) (sym h.3) (IsBefore from to next.walked next.node h.0 h.1 h.2))
+          (subst (λ (g : Stage). WalksOn (stage.At at.walked at.node) g) (sym h.3) free.walked) refl state
+      by goes (inr h) state =
+          let same : spot_on to next ≡ spot_on from next = λ i. record { path = sym h.0.alike i; node = next.node } in
+          moves (Between from to) (stage.At at.walked at.node) after from at next last free
+          (subst (λ (g : Stage). Takes (spot_on from next) (spot_on from at ∷ []) (spots_of (Between from to) g)) (sym h.1)
+          (Comes (spot_on from at ∷ []) (spot_on from next ∷ spot_on from next ∷ spot_on to next ∷ []) (inr (spot_on from at, inl refl, goes)) tt (refl, (refl, (same, tt)))))
+          (subst (λ (g : Stage). IsPosition (Between from to) g) (sym h.1) (IsApart from to next next next (ends_at from to next h.0)))
+          (subst (λ (g : Stage). WalksOn (stage.At at.walked at.node) g) (sym h.1) (free.walked, refl, refl)) refl state
+
+  -- ---- on two, which have parted
+  module _ (from to : Path) (common a b : Reached) (is : AreEnds from to common a b) where
+    pub moves_old : (next : Reached) (last : StoreState) → a.walked + 1 < length from → IsNextFree old number from a next → last ≡ handed_over number (stage.Ends common a b) (stage.Ends common next b) next.node new
+        → Moves old last (walker number (Between from to) (stage.Ends common a b)) (stage.Ends common next b)
+    moves_old next last more free state =
+        moves (Between from to) (stage.Ends common a b) (stage.Ends common next b) from a next last free
+        (GoesOnWith (spot_on from common) [] (spot_on from a) (spot_on to b ∷ []) (next_to old number from a next free is.short))
+        (IsApart from to common next b (record {
+          part = is.part;
+          old_below = let x = is.old_below in let y = free.walked in omega (arith, x, y);
+          new_below = is.new_below;
+          short = next_short old number from a next free;
+          short_new = is.short_new;
+          in_turn = λ e. is.in_turn more;
+        }))
+        (refl, inl (free.walked, refl)) refl state
+
+    pub moves_new : (next : Reached) (last : StoreState) → a.walked + 1 ≡ length from → IsNextFree old number to b next → last ≡ handed_over number (stage.Ends common a b) (stage.Ends common a next) next.node new
+        → Moves old last (walker number (Between from to) (stage.Ends common a b)) (stage.Ends common a next)
+    moves_new next last parent free state =
+        moves (Between from to) (stage.Ends common a b) (stage.Ends common a next) to b next last free
+        (GoesOnWith (spot_on from common) (spot_on from a ∷ []) (spot_on to b) [] (next_to old number to b next free is.short_new))
+        (IsApart from to common a next (record {
+          part = is.part;
+          old_below = is.old_below;
+          new_below = let x = is.new_below in let y = free.walked in omega (arith, x, y);
+          short = is.short;
+          short_new = next_short old number to b next free;
+          in_turn = λ e. absurd (omega (arith, e, parent));
+        }))
+        (refl, inr (refl, free.walked)) refl state
+
+-- with the end of its old path at its parent a call decides after two look-ups
+abbrev pub both : Located → Located → Ways
+both old new = record { path = old; new = new }
+
+module _ (number : ℕ) (path to : Path) (common a b : Reached) (old mid : StoreState) (looked : mid ≡ looked_up old) (parent : a.walked + 1 ≡ length path) where
+  pub decides_at_old_parent : (new : StoreState) → new ≡ looked_up mid → (found : Located) → found ≡ way_from mid.nodes mid.root mid.root path → (there : Located) → EndsAt old.nodes to b
+      → there ≡ way_from old.nodes old.root old.root to → IsFreeThere (holder_of old.nodes) number there → Decides old new (walker number (Between path to) (stage.Ends common a b)) (both found there)
+  decides_at_old_parent new again found is there ends is_there free = record {
+    may = AtEnd (Between path to) (stage.Ends common a b) to b (NewEnd path to common a b parent) ends;
+    located = (is ∙ way_after mid new path again, λ _. is_there ∙ way_after old mid to looked ∙ way_after mid new to again);
     free = free;
-    state = state ∙ ap (λ (g : Stage). stepped old call.number g next.left next.node) (sym walks.is_stage);
+    holds = λ _. (common, a, b, refl, parent);
+    looked = looked_more old mid new 1 (looked_once old mid looked) again;
   }
-
-  -- ---- after one look-up
-  module _ (old new : StoreState) (looked : new ≡ looked_up old) where
-    pub decides_nowhere : MayDecideAt old (Some path) other at → located.NoWay ≡ way_from old.nodes old.root old.root path → Decides old new call (along located.NoWay)
-    decides_nowhere may no_way =
-        decides old new (along located.NoWay) may (ways_nowhere new (target_of call.request) path walks.is_path (no_way ∙ way_after old new path looked))
-        (free_nowhere old call.number at (target_of call.request)) (holds_nowhere at (target_of call.request)) (looked_less old new 1 2 (looked_once old new looked) (omega arith))
-
-    pub decides_along : MayDecideAt old (Some path) other at → other ≡ None → (found : Located) → found ≡ way_from old.nodes old.root old.root path → IsFreeAt old call.number at found → Decides old new call (along found)
-    decides_along may none found is free =
-        decides old new (along found) may (ways_along new (target_of call.request) path found walks.is_path (walks.is_other ∙ none) (is ∙ way_after old new path looked))
-        (free_along old call.number at (target_of call.request) found free) (holds_along at (target_of call.request) path found walks.is_path (walks.is_other ∙ none))
-        (looked_less old new 1 2 (looked_once old new looked) (omega arith))
-
-    pub waits_on_way : (to : Path) (walked holder : ℕ) → LooksAt (Some path) other at (take walked to) → IsHeldOnWay old call.number to walked holder → Waits old new call holder
-    waits_on_way to walked holder looks h = waits old new (take walked to) h.node holder looks h.leads h.held h.other (looked_once old new looked)
-
-    pub waits_there : (to : Path) (walked holder : ℕ) (found : Located) → LooksAt (Some path) other at (take (walked + 1) to) → walked + 1 ≡ length to → found ≡ way_from old.nodes old.root old.root to
-        → IsHeldThere new call.number found holder → Waits old new call holder
-    waits_there to walked holder found looks last is h =
-        waits old new (take (walked + 1) to) h.node holder looks (last_leads old to walked h.parent h.node (sym is ∙ h.there) last)
-        (sym (ap (λ (s : StoreState). holder_of s.nodes h.node) looked) ∙ h.held) h.other (looked_once old new looked)
-
-    pub takes_on_way : (left : Option ℕ) (after : Stage) (to : Path) (above below : Reached) (last : StoreState) → IsNextFree old call.number to above below
-        → IsNext (Some path) other at (next_is (take (above.walked + 1) to) below.node after left) → entered at old ≡ looked_up old
-        → last ≡ leaving left (edited (with_holder (Some call.number)) new below.node) → Takes old last call after
-    takes_on_way left after to above below last h is enters state =
-        takes old last after (next_is (take (above.walked + 1) to) below.node after left) is refl h.on_way.leads h.on_way.directory h.free
-        (state ∙ ap (λ (s : StoreState). leaving left (edited (with_holder (Some call.number)) s below.node)) (looked ∙ sym enters))
-
--- a rename decides with the end of its old path at its parent, after two look-ups
-module _ (call : Call) (path to : Path) (common old_end new_end : Reached) (walks : Walks call path (Some to) (stage.Ends common old_end new_end)) (old mid : StoreState) (looked : mid ≡ looked_up old)
-    (parent : old_end.walked + 1 ≡ length path) where
-  pub decides_at_old_parent : (new : StoreState) → new ≡ looked_up mid → (found : Located) → found ≡ way_from mid.nodes mid.root mid.root path → (there : Located) → EndsAt old to new_end.walked new_end.node
-      → there ≡ way_from old.nodes old.root old.root to → IsFreeThere old call.number there → Decides old new call (both found there)
-  decides_at_old_parent new again found is there ends is_there free =
-      decides call path (Some to) (stage.Ends common old_end new_end) walks old new (both found there) (inr (parent, ends))
-      (ways_both new (target_of call.request) path to found there walks.is_path walks.is_other (is ∙ way_after mid new path again) (is_there ∙ way_after old mid to looked ∙ way_after mid new to again))
-      (free_both old call.number common old_end new_end (target_of call.request) found there free) (holds_both common old_end new_end (target_of call.request) path found there walks.is_path parent)
-      (looked_more old mid new 1 (looked_once old mid looked) again)

@@ -1,5 +1,5 @@
 -- What a rename comes to, in the store and in the tree that it keeps.
-use Rattle.std.specs.Prelude.{◌≡◌, ◌≢◌, ℕ, nat_eq, Bool, true, false, cond, not, ◌&&◌, ◌||◌, List, [], ◌∷◌, ◌++◌, is_some, Option, Some, None, refl}
+use Rattle.std.specs.Prelude.{◌≡◌, ◌≢◌, ℕ, nat_eq, Bool, true, false, cond, if◌then◌else◌, not, ◌&&◌, ◌||◌, List, [], ◌∷◌, ◌++◌, is_some, Option, Some, None, refl}
 use Rattle.std.specs.Option.{option_map_or}
 use Rattle.std.proofs.Common.{sym, ap, subst, ◌∙◌, inl, inr, eq-eqb, eqb-true}
 use Rattle.sf_path.specs.Names.{Name, Path}
@@ -8,7 +8,8 @@ use Rattle.sf_reply.specs.declared.reply.StatusCode.TheVariants.{NoSuchFile, Fai
 use Rattle.sf_call.specs.declared.metadata.Metadata.{Metadata}
 use Rattle.sf_call.specs.declared.place.Place.{Place}
 use Rattle.sf_call.specs.declared.place.Place.TheVariants as place
-use Rattle.sf_call.specs.Requests.Target.{OnPaths}
+use Rattle.sf_walk.specs.Routes.{are_nested, is_rooted, route_between}
+use Rattle.sf_walk.specs.Routes.Route.{NoPath, Along, Between}
 use Rattle.sf_call.specs.Tree.{Tree, Found, after_front, place_at, found_at, is_directory, is_empty}
 use Rattle.sf_call.specs.Calls.{Answer, refuses, succeeds, moves, unless_nested, unless_root, rename_to, rename, replace_by, posix_rename}
 use Rattle.sf_inode.specs.declared.node.Node.{Node}
@@ -23,7 +24,7 @@ use Rattle.sf_keeps.proofs.Laws.{bare_found, one_node, one_way}
 use Rattle.sf_walk.specs.declared.finding.Ways.{Ways}
 use Rattle.sf_walk.specs.declared.finding.Located.{Located}
 use Rattle.sf_walk.specs.declared.finding.Located.TheVariants as located
-use Rattle.sf_walk.specs.Ways.{is_rooted, are_nested, way_from, found_content, found_node, IsThere, AreWays}
+use Rattle.sf_walk.specs.Ways.{way_from, found_content, found_node, IsThere, AreWays}
 use Rattle.sf_walk.specs.Renames.{may_replace, MayMove}
 use Rattle.sf_walk.proofs.Fits.{Known, no_way, name_missing, node_at, directory_says}
 use Rattle.sf_walk.proofs.Onward.{has_entry}
@@ -37,12 +38,32 @@ not_rooted [] q ne = absurd (ne.0 refl)
 not_rooted (n ∷ p) [] ne = absurd (ne.1 refl)
 not_rooted (n ∷ p) (m ∷ q) ne = refl
 
-module _ (s : StoreState) (old new : Path) (ways : Ways) (are : AreWays s (OnPaths old new) ways) where
+is_false : (b : Bool) → b ≡ true → b ≡ false → ⊥
+is_false true a b = cc
+is_false false a b = cc
+
+-- paths of which neither begins with the other aren't the root
+not_rooted_apart : (p q : Path) → are_nested p q ≡ false → is_rooted p q ≡ false
+not_rooted_apart [] q apart = absurd (is_false (are_nested [] q) refl apart)
+not_rooted_apart (n ∷ p) [] apart = absurd (is_false (are_nested (n ∷ p) []) refl apart)
+not_rooted_apart (n ∷ p) (m ∷ q) apart = refl
+
+module _ (s : StoreState) (old new : Path) (ways : Ways) (are : AreWays s (route_between old new) ways) where
+  old_by : (a b : Bool) → a ≡ false → AreWays s (if a then NoPath else if b then Along old else Between old new) ways → ways.path ≡ way_from s.nodes s.root s.root old
+  old_by true b e h = cc
+  old_by false true e h = h
+  old_by false false e h = h.0
+
+  new_by : (a b : Bool) → a ≡ false → b ≡ false → AreWays s (if a then NoPath else if b then Along old else Between old new) ways → IsThere ways.path → ways.new ≡ way_from s.nodes s.root s.root new
+  new_by true b e f h = cc
+  new_by false true e f h = cc
+  new_by false false e f h = h.1
+
   pub old_found : AreNoRoots old new → (found : Located) → ways.path ≡ found → way_from s.nodes s.root s.root old ≡ found
-  old_found ne found e = sym (are.0 (not_rooted old new ne)) ∙ e
+  old_found ne found e = sym (old_by (is_rooted old new) (are_nested old new) (not_rooted old new ne) are) ∙ e
 
   pub new_found : are_nested old new ≡ false → (from node : ℕ) → ways.path ≡ located.At from node → (found : Located) → ways.new ≡ found → way_from s.nodes s.root s.root new ≡ found
-  new_found apart from node there found e = sym (are.1 apart (subst IsThere (sym there) tt)) ∙ e
+  new_found apart from node there found e = sym (new_by (is_rooted old new) (are_nested old new) (not_rooted_apart old new apart) apart are (subst IsThere (sym there) tt)) ∙ e
 
 no_root : (p : Path) (a : Answer) → (p ≡ [] → ⊥) → unless_root p a ≡ a
 no_root [] a ne = absurd (ne refl)

@@ -20,10 +20,10 @@ pub mod Refused
 pub mod Trimmed
 pub mod Rooted
 pub mod Parting
-pub mod Targets
 pub mod Onward
 pub mod Advancing
 pub mod Standing
+pub mod HandOver
 pub mod NoMoves
 pub mod Begins
 pub mod Courses

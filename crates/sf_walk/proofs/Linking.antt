@@ -28,7 +28,8 @@ use Rattle.sf_keeps.specs.Steps.{walk}
 use Rattle.sf_keeps.specs.Keeps.{Keeps}
 use Rattle.sf_keeps.proofs.Laws.{walk-append, file_in_way, reached_node, place_found, keeps_linked, edited_apart, edited_itself}
 use Rattle.sf_walk.specs.declared.finding.Located.TheVariants as located
-use Rattle.sf_walk.specs.Ways.{are_nested, last_of, way_from, found_content, found_node}
+use Rattle.sf_walk.specs.Routes.{are_nested}
+use Rattle.sf_walk.specs.Ways.{last_of, way_from, found_content, found_node}
 use Rattle.sf_walk.specs.Served.{IsCarriedOut}
 use Rattle.sf_walk.specs.Links.{nested_code, IsMade}
 use Rattle.sf_walk.proofs.Fits.{no_way, name_missing, node_at}

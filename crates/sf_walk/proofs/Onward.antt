@@ -15,8 +15,10 @@ use Rattle.sf_keeps.specs.Steps.{Steps, walk}
 use Rattle.sf_keeps.proofs.Laws.{walk-append}
 use Rattle.sf_walk.specs.declared.finding.Located.TheVariants as located
 use Rattle.sf_walk.specs.Ways.{way_from, missing}
-use Rattle.sf_walk.specs.Steps.{IsOnWay, IsFree, LeadsNowhere, reached}
-use Rattle.sf_walk.specs.Further.{IsHeldOnWay, IsNextFree}
+use Rattle.sf_coupling.specs.Walks.{IsFree}
+use Rattle.sf_walk.specs.Routes.{reached}
+use Rattle.sf_walk.specs.Steps.{LeadsNowhere}
+use Rattle.sf_walk.specs.Further.{IsOnWay, IsHeldOnWay, IsNextFree}
 use Rattle.sf_walk.proofs.WaySteps.{way_stops, way_lacks, way_goes, missing_last, missing_on, way_ends}
 
 content_has : (c : Content) (n : Name) (y : ℕ) → entry_in c n ≡ Some y → is_directory_content c ≡ true
@@ -80,7 +82,7 @@ module _ (s : StoreState) (path : Path) (walked node : ℕ) (way : IsOnWay s pat
     pub held_next : (number y holder : ℕ) → entry_of s.nodes node n ≡ Some y → holder_of s.nodes y ≡ Some holder → number ≢ holder → IsHeldOnWay s number path (walked + 1) holder
     held_next number y holder some held other = record { node = y; leads = leads_next y some; held = held; other = other }
 
-    pub free_next : (number y : ℕ) → entry_of s.nodes node n ≡ Some y → walked + 1 < length path → is_directory_at s.nodes y ≡ true → IsFree s number y
+    pub free_next : (number y : ℕ) → entry_of s.nodes node n ≡ Some y → walked + 1 < length path → is_directory_at s.nodes y ≡ true → IsFree (holder_of s.nodes) number y
         → IsNextFree s number path (reached walked node) (reached (walked + 1) y)
     free_next number y some more dir free = record { walked = refl; on_way = record { short = more; leads = leads_next y some; directory = dir }; free = free }
 
@@ -92,11 +94,11 @@ module _ (s : StoreState) (path : Path) (walked node : ℕ) (way : IsOnWay s pat
         ] refl
 
   -- a way that ends before the last name
-  pub no_way_on : walked + 1 < length path → LeadsNowhere s node (slice_get path walked) → located.NoWay ≡ way_from s.nodes s.root s.root path
+  pub no_way_on : walked + 1 < length path → LeadsNowhere s.nodes node (slice_get path walked) → located.NoWay ≡ way_from s.nodes s.root s.root path
   no_way_on more h =
       let n = get_or path walked [] in
       let at = slice_get-get_or path walked [] way.short in
-      cut n at more (subst (LeadsNowhere s node) at h)
+      cut n at more (subst (LeadsNowhere s.nodes node) at h)
 
 -- where a way ends, a walk ends
 no_end : (x : ℕ) (q : Path) (a y : ℕ) → missing x q ≡ located.At a y → None ≡ Some y

@@ -1,14 +1,14 @@
 -- Where two paths part.
-use Rattle.std.specs.Prelude.{◌≡◌, ◌≢◌, ◌<◌, ◌≤◌, ℕ, zero, suc, true, false, cond, ◌||◌, [], ◌∷◌, length, take, slice_get, is_some, Option, Some, None, refl}
+use Rattle.std.specs.Prelude.{◌≡◌, ◌≢◌, ◌<◌, ◌≤◌, ℕ, zero, suc, true, false, cond, ◌||◌, [], ◌∷◌, length, take, slice_get, is_some, Option, None, refl}
 use Rattle.std.proofs.Common.{sym, ap, subst, ◌∙◌, inl, inr, arith}
 use Rattle.sf_path.specs.Names.{Name, Path}
 use Rattle.sf_path.specs.Order.{same_name}
+use Rattle.sf_call.specs.declared.call.Reached.{Reached}
 use Rattle.sf_call.specs.declared.call.Stage.TheVariants as stage
 use Rattle.sf_call.specs.Tree.{after_front}
 use Rattle.sf_call.proofs.Laws.{same_name_is, same_name_itself}
-use Rattle.sf_walk.specs.Ways.{are_nested, PartAt}
-use Rattle.sf_walk.specs.Steps.{Arrives, reached}
-use Rattle.sf_walk.specs.Further.{PartLater}
+use Rattle.sf_walk.specs.Routes.{are_nested, PartAt}
+use Rattle.sf_walk.specs.Further.{Comes, PartLater}
 
 get_take : (n : ℕ) (p : Path) (i : ℕ) → i < n → slice_get (take n p) i ≡ slice_get p i
 get_take zero p i h = absurd (omega arith)
@@ -56,20 +56,15 @@ parts (n ∷ p) (m ∷ q) e =
       )
     ] refl
 
-abbrev pub AreUnnested : Path → Option Path → Type 0
-AreUnnested path None = Unit {0}
-AreUnnested path (Some other) = are_nested path other ≡ false
+pub part_at_first : (old new : Path) → are_nested old new ≡ false → PartLater old new 0
+part_at_first old new h = let w = parts old new h in record { count = w.0; part = w.1; later = omega arith }
 
-pub part_at_first : (path : Path) (other : Option Path) → AreUnnested path other → PartLater path other 0
-part_at_first path None h = tt
-part_at_first path (Some other) h = let w = parts path other h in (w.0, w.1, omega arith)
+module _ (old new : Path) (to : Reached) (common : ℕ) (later : PartLater old new to.walked) (is : common ≡ later.count) where
+  pub comes_apart : common ≡ to.walked → Comes old new to (stage.Ends to to to)
+  comes_apart e = inr (subst (λ k. PartAt old new k) (sym is ∙ e) later.part, refl)
 
-module _ (path other : Path) (walked node common : ℕ) (later : PartLater path (Some other) walked) (is : common ≡ later.0) where
-  pub arrives_apart : common ≡ walked → Arrives path (Some other) walked node (stage.Ends (reached walked node) (reached walked node) (reached walked node))
-  arrives_apart e = inr (subst (λ k. PartAt path other k) (sym is ∙ e) later.1, refl)
-
-  pub arrives_before : common ≢ walked → Arrives path (Some other) walked node (stage.At walked node)
-  arrives_before ne = inl ((later.0, later.1, omega (arith, later.2, is, ne)), refl)
+  pub comes_before : common ≢ to.walked → Comes old new to (stage.At to.walked to.node)
+  comes_before ne = let l = later.later in inl (later.count, later.part, omega (arith, l, is, ne), refl)
 
 pub not_nothing : (p : Path) → (p ≡ [] → ⊥) → 0 < length p
 not_nothing [] ne = absurd (ne refl)

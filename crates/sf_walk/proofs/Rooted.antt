@@ -1,31 +1,30 @@
 -- What a call does after its path was walked, it does from the root.
-use Rattle.std.specs.Prelude.{◌≡◌, ◌⊎◌, ◌&&◌, Bool, true, false, ℕ, Option, Some, None, IfOk, Ok, Err}
+use Rattle.std.specs.Prelude.{◌≡◌, ◌⊎◌, ◌&&◌, Bool, true, false, ℕ, IfOk, Ok, Err}
 use Rattle.std.specs.declared.result.Result.{Result}
 use Rattle.std.specs.Result.{result_map_both}
 use Rattle.std.proofs.Common.{refl, sym, subst, ◌∙◌, inl, inr}
 use Rattle.sf_path.specs.Names.{Path}
 use Rattle.sf_reply.specs.declared.reply.Reply.{Reply}
-use Rattle.sf_call.specs.Requests.{Target}
-use Rattle.sf_call.specs.Requests.Target.{ByHandle, OnPath, OnPaths}
+use Rattle.sf_walk.specs.Routes.{Route}
+use Rattle.sf_walk.specs.Routes.Route.{NoPath, Along, Between}
 use Rattle.sf_call.specs.Tree.{Tree}
 use Rattle.sf_call.specs.Calls.{Answer}
 use Rattle.sf_inode.specs.Stores.{StoreState}
 use Rattle.sf_walk.specs.declared.finding.Ways.{Ways}
 use Rattle.sf_walk.specs.declared.finding.Located.{Located}
-use Rattle.sf_walk.specs.Ways.{way_from, IsWay, AreWays}
+use Rattle.sf_walk.specs.Ways.{way_from, AreWays}
 use Rattle.sf_walk.specs.Served.{LookedUp, IsAlike, IsRefused, IsCarriedOut}
 use Rattle.sf_walk.proofs.Looked.{way_looked}
 use Rattle.sf_walk.proofs.Holders.{alike_looked}
 
-pub located_after : (old mid : StoreState) (most : ℕ) (g : Target) (w : Ways) → LookedUp old mid most → AreWays old g w → AreWays mid g w
-located_after old mid most (ByHandle handle) w looked h = tt
-located_after old mid most (OnPath p) w looked h = sym (way_looked old mid p most w.path looked h)
-located_after old mid most (OnPaths p q) w looked h = (λ rooted. sym (way_looked old mid p most w.path looked (h.0 rooted)), λ apart there. sym (way_looked old mid q most w.new looked (h.1 apart there)))
+pub located_after : (old mid : StoreState) (most : ℕ) (r : Route) (w : Ways) → LookedUp old mid most → AreWays old r w → AreWays mid r w
+located_after old mid most NoPath w looked h = tt
+located_after old mid most (Along p) w looked h = sym (way_looked old mid p most w.path looked h)
+located_after old mid most (Between p q) w looked h = (sym (way_looked old mid p most w.path looked h.0), λ there. sym (way_looked old mid q most w.new looked (h.1 there)))
 
 -- what is located now is what was located before
-pub way_before : (old mid : StoreState) (most : ℕ) (o : Option Path) (l : Located) → LookedUp old mid most → IsWay mid o l → IsWay old o l
-way_before old mid most None l looked h = tt
-way_before old mid most (Some p) l looked h = h ∙ way_looked old mid p most (way_from old.nodes old.root old.root p) looked refl
+pub way_before : (old mid : StoreState) (most : ℕ) (p : Path) (l : Located) → LookedUp old mid most → l ≡ way_from mid.nodes mid.root mid.root p → l ≡ way_from old.nodes old.root old.root p
+way_before old mid most p l looked h = h ∙ way_looked old mid p most (way_from old.nodes old.root old.root p) looked refl
 
 alike_trans : (old mid new : StoreState) → IsAlike old mid → IsAlike mid new → IsAlike old new
 alike_trans old mid new a b = record { nodes = λ id. b.nodes id ∙ a.nodes id; root = b.root ∙ a.root; sessions = b.sessions ∙ a.sessions }

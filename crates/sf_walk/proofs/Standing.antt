@@ -1,43 +1,59 @@
 -- A call that took a step stands where that step led.
-use Rattle.std.specs.Prelude.{◌≡◌, ◌≢◌, ◌⊎◌, ◌<◌, ◌+◌, ℕ, zero, suc, nat_eq, true, false, length, take, Option, Some, None, option_map, option_and_then, refl}
+use Rattle.std.specs.Prelude.{◌≡◌, ℕ, zero, suc, true, false, Bool, if◌then◌else◌, List, [], ◌∷◌, Option, Some, None, option_map, option_and_then, refl}
 use Rattle.std.specs.Option.{option_map_or}
-use Rattle.std.proofs.Common.{sym, ap, subst, ◌∙◌, inl, inr, arith, eqb-true}
-use Rattle.std.proofs.lemmas.Bool.{eqb-false}
+use Rattle.std.proofs.Common.{sym, ap, subst, ◌∙◌, inl, inr}
 use Rattle.sf_path.specs.Names.{Name, Path}
-use Rattle.sf_call.specs.declared.call.Call.{Call}
 use Rattle.sf_call.specs.declared.call.Stage.{Stage}
 use Rattle.sf_call.specs.declared.call.Stage.TheVariants as stage
+use Rattle.sf_call.specs.declared.request.Request.{Request}
+use Rattle.sf_call.specs.Requests.{Target, target_of}
+use Rattle.sf_call.specs.Requests.Target.{ByHandle, OnPath, OnPaths}
 use Rattle.sf_inode.specs.declared.node.Node.{Node}
 use Rattle.sf_inode.specs.Nodes.{entry_in, is_directory_content, with_holder}
 use Rattle.sf_inode.specs.Stores.{StoreState, node_in, entry_of, is_directory_at, looked_up, edited}
 use Rattle.sf_keeps.specs.Steps.{walk}
 use Rattle.sf_keeps.proofs.Laws.{edited_apart, edited_itself}
-use Rattle.sf_walk.specs.Ways.{path_of, other_of}
+use Rattle.sf_coupling.specs.Walks.{Spot, LeadsTo}
+use Rattle.sf_coupling.proofs.Laws.{same_or_not, takes_held}
 use Rattle.sf_walk.specs.declared.walking.Walk.{Walk}
 use Rattle.sf_walk.specs.declared.walking.Walk.TheVariants.{Moved, Blocked, Ready}
 use Rattle.sf_walk.specs.Served.{LookedUp, after_look_ups}
-use Rattle.sf_walk.specs.Steps.{IsOnWay, AreEnds, IsLed, Stands, Arrives, Next, IsNext, entered, leaving, stepped, reached, Takes, Advances}
+use Rattle.sf_walk.specs.Routes.{Route, IsRoute, IsPosition, route_at, route_of, is_rooted, are_nested, spots_of, nodes_of, terrain, Stands}
+use Rattle.sf_walk.specs.Routes.Route.{NoPath, Along, Between}
+use Rattle.sf_walk.specs.Routes.IsPosition.{Starts}
+use Rattle.sf_walk.specs.Steps.{Walker, is_one_of, free_unless, let_go, entered, handed_over, Moves, Advances}
 
-same_or_not : (n m : ℕ) → (n ≡ m) ⊎ (n ≢ m)
-same_or_not n m =
-    elim (nat_eq n m) as (λ b. nat_eq n m ≡ b → (n ≡ m) ⊎ (n ≢ m)) [
-      | true ↦ λ e. inl (eqb-true n m e)
-      | false ↦ λ e. inr (eqb-false n m e)
-    ] refl
+-- every request's route is one
+route_is : (g : Target) → IsRoute (route_at g)
+route_is (ByHandle handle) = tt
+route_is (OnPath path) = tt
+route_is (OnPaths old new) = by (is_rooted old new) (are_nested old new) refl
+  where
+    by : (a b : Bool) → are_nested old new ≡ b → IsRoute (if a then NoPath else if b then Along old else Between old new)
+    by true b e = tt
+    by false true e = tt
+    by false false e = e
+
+pub starts : (r : Request) → IsPosition (route_of r) stage.Fresh
+starts r = Starts (route_of r) (route_is (target_of r))
+
+-- and a call that starts stands there
+pub stands_fresh : (s : StoreState) (r : Request) → Stands s (route_of r) stage.Fresh
+stands_fresh s r = record { position = starts r; leads = λ spot held. absurd held }
 
 -- entries, the root, and what is a directory are the same
-record IsSameGround (s new : StoreState) : Type 0 where
-  step : (x : ℕ) (n : Name) → entry_of new.nodes x n ≡ entry_of s.nodes x n
-  root : new.root ≡ s.root
-  directory : (x : ℕ) → is_directory_at new.nodes x ≡ is_directory_at s.nodes x
+pub record IsSameGround (s new : StoreState) : Type 0 where
+  pub step : (x : ℕ) (n : Name) → entry_of new.nodes x n ≡ entry_of s.nodes x n
+  pub root : new.root ≡ s.root
+  pub directory : (x : ℕ) → is_directory_at new.nodes x ≡ is_directory_at s.nodes x
 
-same_itself : (s : StoreState) → IsSameGround s s
+pub same_itself : (s : StoreState) → IsSameGround s s
 same_itself s = record { step = λ x n. refl; root = refl; directory = λ x. refl }
 
 same_looked : (s : StoreState) → IsSameGround s (looked_up s)
 same_looked s = record { step = λ x n. refl; root = refl; directory = λ x. refl }
 
-same_trans : (s mid new : StoreState) → IsSameGround s mid → IsSameGround mid new → IsSameGround s new
+pub same_trans : (s mid new : StoreState) → IsSameGround s mid → IsSameGround mid new → IsSameGround s new
 same_trans s mid new a b = record { step = λ x n. b.step x n ∙ a.step x n; root = b.root ∙ a.root; directory = λ x. b.directory x ∙ a.directory x }
 
 module _ (holder : Option ℕ) (s : StoreState) (id : ℕ) where
@@ -49,7 +65,7 @@ module _ (holder : Option ℕ) (s : StoreState) (id : ℕ) where
   directory_here None = refl
   directory_here (Some node) = refl
 
-  same_held : IsSameGround s (edited (with_holder holder) s id)
+  pub same_held : IsSameGround s (edited (with_holder holder) s id)
   same_held = record {
     step = λ x n. elim (same_or_not x id) [
       | inl e ↦
@@ -73,74 +89,46 @@ same_entered stage.Fresh s = same_itself s
 same_entered (stage.At walked node) s = same_looked s
 same_entered (stage.Ends common old new) s = same_looked s
 
-same_leaving : (left : Option ℕ) (s : StoreState) → IsSameGround s (leaving left s)
-same_leaving None s = same_itself s
-same_leaving (Some node) s = same_held None s node
+same_free : (b : Bool) (node : ℕ) (s : StoreState) → IsSameGround s (if b then s else edited (with_holder None) s node)
+same_free true node s = same_itself s
+same_free false node s = same_held None s node
 
-same_stepped : (s : StoreState) (number : ℕ) (at : Stage) (left : Option ℕ) (node : ℕ) → IsSameGround s (stepped s number at left node)
-same_stepped s number at left node =
-    let held = edited (with_holder (Some number)) (entered at s) node in
-    same_trans s held (leaving left held) (same_trans s (entered at s) held (same_entered at s) (same_held (Some number) (entered at s) node)) (same_leaving left held)
+-- what a call lets go of it leaves where it was
+pub same_let_go : (kept nodes : List ℕ) (s : StoreState) → IsSameGround s (let_go kept nodes s)
+same_let_go kept [] s = same_itself s
+same_let_go kept (node ∷ nodes) s =
+    let mid = free_unless kept node s in
+    same_trans s mid (let_go kept nodes mid) (same_free (is_one_of node kept) node s) (same_let_go kept nodes mid)
 
-module _ (s new : StoreState) (same : IsSameGround s new) where
-  walk_same : (p : Path) → walk (entry_of new.nodes) new.root p ≡ walk (entry_of s.nodes) s.root p
+module _ (old new : StoreState) (same : IsSameGround old new) where
+  pub walk_same : (p : Path) → walk (entry_of new.nodes) new.root p ≡ walk (entry_of old.nodes) old.root p
   walk_same p = λ i. walk (λ x n. same.step x n i) (same.root i) p
 
-  way_same : (path : Path) (walked node : ℕ) → IsOnWay s path walked node → IsOnWay new path walked node
-  way_same path walked node way = record { short = way.short; leads = walk_same (take walked path) ∙ way.leads; directory = same.directory node ∙ way.directory }
+  pub leads_same : (spot : Spot) → LeadsTo (terrain old) spot → LeadsTo (terrain new) spot
+  leads_same spot h = record { names = walk_same spot.path ∙ h.names; directory = same.directory spot.node ∙ h.directory }
 
-  led_same : (path other : Option Path) (at : Stage) → IsLed s path other at → IsLed new path other at
-  led_same path other stage.Fresh h = tt
-  led_same None other (stage.At walked node) h = absurd h
-  led_same (Some path) other (stage.At walked node) h = way_same path walked node h
-  led_same None other (stage.Ends common old new) h = absurd h
-  led_same (Some path) None (stage.Ends common old new) h = absurd h
-  led_same (Some path) (Some other) (stage.Ends common old new) h = (way_same path old.walked old.node h.0, way_same other new.walked new.node h.1)
+  pub stands_same : (r : Route) (at : Stage) → Stands old r at → Stands new r at
+  stands_same r at h = record { position = h.position; leads = λ spot held. leads_same spot (h.leads spot held) }
 
-  stands_same : (path other : Option Path) (at : Stage) → Stands s path other at → Stands new path other at
-  stands_same path other at h = (h.0, led_same path other at h.1)
+  root_same : is_directory_at old.nodes old.root ≡ true → is_directory_at new.nodes new.root ≡ true
+  root_same dir = ap (is_directory_at new.nodes) same.root ∙ same.directory old.root ∙ dir
 
-  -- ---- where a step leads
-  module _ (path : Path) where
-    stands_arrived : (other : Option Path) (walked node : ℕ) (after : Stage) → Arrives path other walked node after → IsOnWay s path walked node → Stands new (Some path) other after
-    stands_arrived None walked node after is way = subst (λ (g : Stage). Stands new (Some path) None g) (sym is) ((way.short, tt), way_same path walked node way)
-    stands_arrived (Some other) walked node after (inl h) way = subst (λ (g : Stage). Stands new (Some path) (Some other) g) (sym h.1) ((way.short, h.0), way_same path walked node way)
-    stands_arrived (Some other) walked node after (inr h) way =
-        let part = h.0 in
-        let same_way : IsOnWay new other walked node = record { short = part.short_new; leads = walk_same (take walked other) ∙ ap (walk (entry_of s.nodes) s.root) (sym part.alike) ∙ way.leads; directory = same.directory node ∙ way.directory } in
-        let ends : AreEnds path other (reached walked node) (reached walked node) (reached walked node) =
-        record { part = part; old_below = omega arith; new_below = omega arith; short = part.short; short_new = part.short_new; in_turn = λ more. refl } in
-        subst (λ (g : Stage). Stands new (Some path) (Some other) g) (sym h.1) (ends, (way_same path walked node way, same_way))
+same_moved : (old new : StoreState) (w : Walker) (after : Stage) → Moves old new w after → IsSameGround old new
+same_moved old new w after m =
+    let held = edited (with_holder (Some w.number)) (entered w.at old) m.spot.node in
+    subst (λ (s : StoreState). IsSameGround old s) (sym m.state)
+    (same_trans old held (handed_over w.number w.at after m.spot.node (entered w.at old)) (same_trans old (entered w.at old) held (same_entered w.at old) (same_held (Some w.number) (entered w.at old) m.spot.node))
+    (same_let_go (nodes_of after) (nodes_of w.at) held))
 
-  on_way : (path : Path) (walked : ℕ) (next : Next) → next.to ≡ take walked path → walked < length path → walk (entry_of s.nodes) s.root next.to ≡ Some next.node → is_directory_at s.nodes next.node ≡ true
-      → IsOnWay s path walked next.node
-  on_way path walked next to short leads dir = record { short = short; leads = ap (walk (entry_of s.nodes) s.root) (sym to) ∙ leads; directory = dir }
-
-  stands_next : (path other : Option Path) (at : Stage) (next : Next) → Stands s path other at → IsNext path other at next → walk (entry_of s.nodes) s.root next.to ≡ Some next.node
-      → is_directory_at s.nodes next.node ≡ true → Stands new path other next.after
-  stands_next None other at next h is leads dir = absurd is
-  stands_next (Some path) other stage.Fresh next h is leads dir = stands_arrived path other 0 next.node next.after is.2 (on_way path 0 next is.0 is.1 leads dir)
-  stands_next (Some path) other (stage.At walked node) next h is leads dir = stands_arrived path other (walked + 1) next.node next.after is.2 (on_way path (walked + 1) next is.0 is.1 leads dir)
-  stands_next (Some path) None (stage.Ends common old new) next h is leads dir = absurd is
-  stands_next (Some path) (Some other) (stage.Ends common old_end new_end) next h (inl is) leads dir =
-      let ends = h.0 in
-      let way = way_same path (old_end.walked + 1) next.node (on_way path (old_end.walked + 1) next is.0 is.1 leads dir) in
-      let after : AreEnds path other common (reached (old_end.walked + 1) next.node) new_end =
-      record { part = ends.part; old_below = omega (arith, ends.old_below); new_below = ends.new_below; short = is.1; short_new = ends.short_new; in_turn = λ more. ends.in_turn is.1 } in
-      subst (λ (g : Stage). Stands new (Some path) (Some other) g) (sym is.2) (after, (way, way_same other new_end.walked new_end.node h.1.1))
-  stands_next (Some path) (Some other) (stage.Ends common old_end new_end) next h (inr is) leads dir =
-      let ends = h.0 in
-      let way = way_same other (new_end.walked + 1) next.node (on_way other (new_end.walked + 1) next is.1 is.2 leads dir) in
-      let after : AreEnds path other common old_end (reached (new_end.walked + 1) next.node) =
-      record { part = ends.part; old_below = ends.old_below; new_below = omega (arith, ends.new_below); short = ends.short; short_new = is.2; in_turn = λ more. absurd (omega (arith, more, is.0)) } in
-      subst (λ (g : Stage). Stands new (Some path) (Some other) g) (sym is.3) (after, (way_same path old_end.walked old_end.node h.1.0, way))
-
-pub stands_on : (old new : StoreState) (call : Call) (after : Stage) → Stands old (path_of call.request) (other_of call.request) call.stage → Takes old new call after → Stands new (path_of call.request) (other_of call.request) after
-stands_on old new call after h takes =
-    let next = takes.next in
-    let same = subst (λ (s : StoreState). IsSameGround old s) (sym takes.state) (same_stepped old call.number call.stage next.left next.node) in
-    subst (λ (g : Stage). Stands new (path_of call.request) (other_of call.request) g) (sym takes.after_is)
-    (stands_next old new same (path_of call.request) (other_of call.request) call.stage next h takes.is_next takes.leads takes.directory)
+-- a call that took a step stands where it led
+pub stands_on : (old new : StoreState) (w : Walker) (after : Stage) → Stands old w.route w.at → Moves old new w after → Stands new w.route after
+stands_on old new w after h m = record {
+  position = m.position;
+  leads = λ spot held. leads_same old new (same_moved old new w after m) spot (elim (takes_held m.spot (spots_of w.route w.at) (spots_of w.route after) spot m.takes held) [
+    | inl e ↦ subst (LeadsTo (terrain old)) (sym e) m.leads
+    | inr was ↦ h.leads spot was
+  ]);
+}
 
 -- ---- where nothing was done but look-ups
 same_look_ups : (count : ℕ) (s : StoreState) → IsSameGround s (after_look_ups count s)
@@ -150,22 +138,18 @@ same_look_ups (suc count) s = same_trans s (after_look_ups count s) (looked_up (
 ground_looked : (old new : StoreState) (most : ℕ) → LookedUp old new most → IsSameGround old new
 ground_looked old new most looked = subst (λ (s : StoreState). IsSameGround old s) (sym looked.state) (same_look_ups looked.count old)
 
-pub stands_still : (old new : StoreState) (most : ℕ) (path other : Option Path) (at : Stage) → LookedUp old new most → Stands old path other at → Stands new path other at
-stands_still old new most path other at looked = stands_same old new (ground_looked old new most looked) path other at
+pub stands_still : (old new : StoreState) (most : ℕ) (r : Route) (at : Stage) → LookedUp old new most → Stands old r at → Stands new r at
+stands_still old new most r at looked = stands_same old new (ground_looked old new most looked) r at
+
+-- a step leaves entries, the root and what is a directory
+pub ground_stays : (old new : StoreState) (w : Walker) (walk : Walk) → Advances old new w walk → IsSameGround old new
+ground_stays old new w (Moved after) m = same_moved old new w after m
+ground_stays old new w (Blocked holder) waits = ground_looked old new 1 waits.looked
+ground_stays old new w (Ready ways) decides = ground_looked old new 2 decides.looked
 
 -- a call that waits or decides stands as before
-pub stands_unmoved : (old new : StoreState) (call : Call) (walk : Walk) → ((after : Stage) → walk ≡ Moved after → ⊥) → Advances old new call walk
-    → Stands old (path_of call.request) (other_of call.request) call.stage → Stands new (path_of call.request) (other_of call.request) call.stage
-stands_unmoved old new call (Moved after) not advances h = absurd (not after refl)
-stands_unmoved old new call (Blocked holder) not advances h = stands_still old new 1 (path_of call.request) (other_of call.request) call.stage advances.looked h
-stands_unmoved old new call (Ready ways) not advances h = stands_still old new 2 (path_of call.request) (other_of call.request) call.stage advances.looked h
+pub stands_unmoved : (old new : StoreState) (w : Walker) (walk : Walk) → Advances old new w walk → Stands old w.route w.at → Stands new w.route w.at
+stands_unmoved old new w walk a = stands_same old new (ground_stays old new w walk a) w.route w.at
 
--- ---- the root stays a directory
-root_same : (s new : StoreState) → IsSameGround s new → is_directory_at s.nodes s.root ≡ true → is_directory_at new.nodes new.root ≡ true
-root_same s new same dir = ap (is_directory_at new.nodes) same.root ∙ same.directory s.root ∙ dir
-
-pub root_stands : (old new : StoreState) (call : Call) (walk : Walk) → Advances old new call walk → is_directory_at old.nodes old.root ≡ true → is_directory_at new.nodes new.root ≡ true
-root_stands old new call (Moved after) takes dir =
-    root_same old new (subst (λ (s : StoreState). IsSameGround old s) (sym takes.state) (same_stepped old call.number call.stage takes.next.left takes.next.node)) dir
-root_stands old new call (Blocked holder) waits dir = root_same old new (ground_looked old new 1 waits.looked) dir
-root_stands old new call (Ready ways) decides dir = root_same old new (ground_looked old new 2 decides.looked) dir
+pub root_stands : (old new : StoreState) (w : Walker) (walk : Walk) → Advances old new w walk → is_directory_at old.nodes old.root ≡ true → is_directory_at new.nodes new.root ≡ true
+root_stands old new w walk a = root_same old new (ground_stays old new w walk a)

@@ -1,28 +1,37 @@
 -- What the parts of a step do.
-use Rattle.std.specs.Prelude.{◌≡◌, ◌≢◌, ◌<◌, ◌≤◌, ◌+◌, ℕ, length, take, slice_get, Option, Some, None}
+use Rattle.std.specs.Prelude.{◌≡◌, ◌≢◌, ◌⊎◌, ◌<◌, ◌≤◌, ◌+◌, ℕ, true, length, take, slice_get, Some}
 use Rattle.sf_path.specs.Names.{Path}
-use Rattle.sf_call.specs.declared.call.Call.{Call}
 use Rattle.sf_call.specs.declared.call.Reached.{Reached}
 use Rattle.sf_call.specs.declared.call.Stage.{Stage}
-use Rattle.sf_inode.specs.Stores.{StoreState, entry_of, holder_of, looked_up}
+use Rattle.sf_call.specs.declared.call.Stage.TheVariants as stage
+use Rattle.sf_inode.specs.Stores.{StoreState, entry_of, holder_of, is_directory_at, looked_up}
 use Rattle.sf_keeps.specs.Steps.{walk}
+use Rattle.sf_coupling.specs.Walks.{IsFree}
 use Rattle.sf_walk.specs.declared.finding.Located.{Located}
 use Rattle.sf_walk.specs.declared.finding.Located.TheVariants as located
 use Rattle.sf_walk.specs.declared.looking.Further.{Further}
 use Rattle.sf_walk.specs.declared.looking.Further.TheVariants as further
-use Rattle.sf_walk.specs.Ways.{path_of, other_of, PartAt}
-use Rattle.sf_walk.specs.Steps.{IsOnWay, IsFree, LeadsNowhere}
+use Rattle.sf_walk.specs.Routes.{PartAt}
+use Rattle.sf_walk.specs.Steps.{LeadsNowhere}
 
--- the call walks these paths, and stands at this stage
-pub record Walks (call : Call) (path : Path) (other : Option Path) (at : Stage) : Type 0 where
-  pub is_path : path_of call.request ≡ Some path
-  pub is_other : other_of call.request ≡ other
-  pub is_stage : call.stage ≡ at
+-- a proper front of the path, of so many names, leads to the directory
+pub record IsOnWay (s : StoreState) (path : Path) (walked node : ℕ) : Type 0 where
+  pub short : walked < length path
+  pub leads : walk (entry_of s.nodes) s.root (take walked path) ≡ Some node
+  pub directory : is_directory_at s.nodes node ≡ true
 
--- the paths of a rename part after so many names, or later
-abbrev pub PartLater : Path → Option Path → ℕ → Type 0
-PartLater path None walked = Unit {0}
-PartLater path (Some other) walked = (count : ℕ) × PartAt path other count × (walked ≤ count)
+-- two paths part after so many names, or later
+pub record PartLater (old new : Path) (walked : ℕ) : Type 0 where
+  pub count : ℕ
+  pub part : PartAt old new count
+  pub later : walked ≤ count
+
+-- a call on two paths has come to a directory of both: where they part it stands there with both
+-- ends
+abbrev pub Comes : Path → Path → Reached → Stage → Type 0
+Comes old new to after = ((count : ℕ) × PartAt old new count × (to.walked < count)
+    × (after ≡ stage.At to.walked to.node))
+    ⊎ (PartAt old new to.walked × (after ≡ stage.Ends to to to))
 
 -- another call holds the node that was found
 pub record IsHeldThere (s : StoreState) (number : ℕ) (found : Located) (holder : ℕ) : Type 0 where
@@ -44,12 +53,13 @@ pub record IsHeldOnWay (s : StoreState) (number : ℕ) (path : Path)
 pub record IsNextFree (s : StoreState) (number : ℕ) (path : Path) (at to : Reached) : Type 0 where
   pub walked : to.walked ≡ at.walked + 1
   pub on_way : IsOnWay s path (at.walked + 1) to.node
-  pub free : IsFree s number to.node
+  pub free : IsFree (holder_of s.nodes) number to.node
 
 -- what the next name of the path leads to
 abbrev pub IsFound : StoreState → ℕ → Path → Reached → Further → Type 0
 IsFound s number path at further.AtParent = Unit {0}
-IsFound s number path at further.NoDirectory = LeadsNowhere s at.node (slice_get path at.walked)
+IsFound s number path at further.NoDirectory =
+    LeadsNowhere s.nodes at.node (slice_get path at.walked)
 IsFound s number path at (further.Held holder) = IsHeldOnWay s number path (at.walked + 1) holder
 IsFound s number path at (further.Free to) = IsNextFree s number path at to
 

@@ -1,3 +1,4 @@
+pub mod Routes
 pub mod Ways
 pub mod Slots
 pub mod Opening

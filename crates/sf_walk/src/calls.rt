@@ -1,26 +1,25 @@
 //! Whole calls, from the root or from where they decide.
 
 ghost use Rattle.std.specs.Prelude.{◌≡◌, ◌⊎◌, true, false, IfOk, IsOk, OnErr};
-ghost use Rattle.std.specs.Option.{option_copied};
 ghost use Rattle.std.specs.Result.{result_map_both};
 ghost use Rattle.sf_reply.specs.Replies.{IsPlain};
 ghost use Rattle.sf_call.specs.Tree.{Tree};
 ghost use Rattle.sf_call.specs.Handles.{opened};
 ghost use Rattle.sf_call.specs.Calls.{answer_to, read};
 ghost use Rattle.sf_keeps.specs.Keeps.{Keeps};
-ghost use Rattle.sf_walk.specs.Ways.{names_of, path_of, other_of, IsLocated};
+ghost use Rattle.sf_walk.specs.Ways.{names_of, IsLocated};
 ghost use Rattle.sf_walk.specs.Served.{IsCarriedOut, IsRefused, IsAlike, LooksUp, NodesStay, IsUnused, is_success, takes_memory, may_want_memory};
 
-use crate::finding::{Ways, locate_all, paths_of};
+use crate::finding::{Ways, locate_all};
 use crate::handle_calls::{close, read, set_stat_handle, stat_handle, write};
 use crate::links::link;
 use crate::listing::read_directory;
 use crate::opening::{open, open_directory};
 use crate::path_calls::{mkdir, remove, rmdir, set_stat, stat};
-use crate::renames::{are_nested, has_root, posix_rename, rename};
+use crate::renames::{posix_rename, rename};
+use crate::routes::route_of;
 use sf_call::{Call, Request};
 use sf_inode::Store;
-use sf_path::Path;
 use sf_reply::Reply;
 use std::alloc::AllocError;
 
@@ -60,36 +59,8 @@ pub fn from_root_twice(store: &mut Store, call: &Call) -> (Reply, Reply)
     ensures look_ups { LooksUp store.old store.new (names_of call.now.request) }
     ensures nodes { NodesStay call.now.number store.old store.new }
 {
-    let ways = locate_all(store, &call.request);
+    let ways = locate_all(store, route_of(&call.request));
     decide(store, call, ways)
-}
-
-/// The path that a request walks: its path, or a rename's old one, unless one of a rename's paths
-/// is the root.
-pub fn path_of(request: &Request) -> Option<&Path>
-    ensures { option_copied result ≡ path_of request.now }
-{
-    let (path, new) = paths_of(request);
-    let old = path?;
-    match new {
-        Some(new) => { if has_root(old, new) { None } else { Some(old) } }
-        None => Some(old),
-    }
-}
-
-/// The second path that a request walks: a rename's new one, unless one of its paths begins with
-/// the other.
-pub fn other_of(request: &Request) -> Option<&Path>
-    ensures { option_copied result ≡ other_of request.now }
-{
-    let (path, new) = paths_of(request);
-    let old = path?;
-    let new = new?;
-    if are_nested(old, new) {
-        None
-    } else {
-        Some(new)
-    }
 }
 
 /// Answers a call where its paths were found to lead, without a look-up: its reply twice, once for

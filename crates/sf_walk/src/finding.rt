@@ -1,14 +1,14 @@
 //! Where a path leads in the store.
 
 ghost use Rattle.std.specs.Prelude.{◌≡◌, ◌≤◌, length, IfOk, IfErr};
-ghost use Rattle.std.specs.Option.{option_copied};
 ghost use Rattle.sf_reply.specs.declared.reply.StatusCode.TheVariants.{NoSuchFile};
 ghost use Rattle.sf_walk.specs.declared.finding.Located.TheVariants.{NoWay, At};
-ghost use Rattle.sf_walk.specs.Ways.{IsLocated, IsThere, IsWay, along, names_in, names_of, paths_of, way_from};
+ghost use Rattle.sf_walk.specs.Routes.{route_in};
+ghost use Rattle.sf_walk.specs.Ways.{AreWays, IsThere, along, names_on, way_from};
 ghost use Rattle.sf_walk.specs.Slots.{IsSlot};
 ghost use Rattle.sf_walk.specs.Served.{LookedUp};
 
-use sf_call::Request;
+use crate::routes::Route;
 use sf_inode::{NodeId, Store};
 use sf_path::Path;
 use sf_reply::StatusCode;
@@ -111,49 +111,18 @@ pub fn locate(store: &mut Store, path: &Path) -> Located
     Located::At { parent, node }
 }
 
-/// The paths of a request: its path, or a rename's old one; and a rename's new one.
-pub(crate) fn paths_of(request: &Request) -> (Option<&Path>, Option<&Path>)
-    ensures path { option_copied result.0 ≡ (paths_of request.now).0 }
-    ensures new { option_copied result.1 ≡ (paths_of request.now).1 }
+/// Walks all paths of a route.
+pub(crate) fn locate_all(store: &mut Store, route: Route<'_>) -> Ways
+    ensures located { AreWays store.old (route_in route.entry) result }
+    ensures looked { LookedUp store.old store.new (names_on (route_in route.entry)) }
 {
-    match request {
-        Request::Stat(path)
-        | Request::SetStat(path, _)
-        | Request::Mkdir(path, _)
-        | Request::Rmdir(path)
-        | Request::Remove(path)
-        | Request::OpenDir(path)
-        | Request::Open(path, _, _) => (Some(path), None),
-        Request::Rename(old, new) | Request::PosixRename(old, new) | Request::Link(old, new) => {
-            (Some(old), Some(new))
+    match route {
+        Route::NoPath => Ways::along(Located::NoWay),
+        Route::Along(path) => Ways::along(locate(store, path)),
+        Route::Between(old, new) => {
+            let path = locate(store, old);
+            let new = locate(store, new);
+            Ways { path, new }
         }
-        Request::Close(_)
-        | Request::FStat(_)
-        | Request::FSetStat(_, _)
-        | Request::Read { .. }
-        | Request::Write { .. }
-        | Request::ReadDir(_) => (None, None),
     }
-}
-
-/// Walks a path from the root, if there is one.
-fn locate_some(store: &mut Store, path: Option<&Path>) -> Located
-    ensures found { IsWay store.old (option_copied path.entry) result }
-    ensures looked { LookedUp store.old store.new (names_in (option_copied path.entry)) }
-{
-    match path {
-        Some(path) => locate(store, path),
-        None => Located::NoWay,
-    }
-}
-
-/// Walks all paths of a request.
-pub(crate) fn locate_all(store: &mut Store, request: &Request) -> Ways
-    ensures located { IsLocated store.old request.now result }
-    ensures looked { LookedUp store.old store.new (names_of request.now) }
-{
-    let (path, new) = paths_of(request);
-    let path = locate_some(store, path);
-    let new = locate_some(store, new);
-    Ways { path, new }
 }

@@ -18,9 +18,11 @@ mod looking;
 mod opening;
 mod path_calls;
 mod renames;
+mod routes;
 mod walking;
 
-pub use calls::{decide, from_root, from_root_twice, other_of, path_of};
+pub use calls::{decide, from_root, from_root_twice};
 pub use finding::{Located, Ways, locate};
 pub use renames::is_move;
-pub use walking::{Walk, advance};
+pub use routes::{Route, route_of};
+pub use walking::{Walk, advance, let_go};

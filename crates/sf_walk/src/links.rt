@@ -2,12 +2,12 @@
 
 ghost use Rattle.std.specs.Prelude.{◌≡◌, ◌<◌, ℕ, length, OnOk, OnErr, IfOk};
 ghost use Rattle.sf_reply.specs.Replies.{IsPlain};
-ghost use Rattle.sf_call.specs.Requests.Target.{OnPaths};
 ghost use Rattle.sf_call.specs.Tree.{Tree, found_at};
 ghost use Rattle.sf_call.specs.Calls.{Answer, link, unless_root};
 ghost use Rattle.sf_inode.specs.Stores.{linked};
 ghost use Rattle.sf_keeps.specs.Keeps.{Keeps};
-ghost use Rattle.sf_walk.specs.Ways.{are_nested, last_of, AreWays};
+ghost use Rattle.sf_walk.specs.Routes.{are_nested, route_between};
+ghost use Rattle.sf_walk.specs.Ways.{last_of, AreWays};
 ghost use Rattle.sf_walk.specs.Served.{Gives, IsAlike, HoldersStay};
 ghost use Rattle.sf_walk.specs.Links.{IsLinking, IsNamed, nested_code};
 
@@ -36,7 +36,7 @@ pub(crate) fn link(
     new: &Path,
     ways: Ways,
 ) -> Result<Reply, AllocError>
-    requires { AreWays store.old (OnPaths old.now new.now) ways }
+    requires { AreWays store.old (route_between old.now new.now) ways }
     ensures served { (t : Tree) → Keeps store.old t
         → Gives store.new t (unless_root old.now
         (unless_root new.now (link t moment new.now (found_at t old.now)))) result }
@@ -52,7 +52,7 @@ pub(crate) fn link(
 /// What a link comes to, where its paths lead. A file has nothing below it, and what lies before it
 /// is there.
 fn link_course(store: &Store, old: &Path, new: &Path, ways: Ways) -> LinkCourse
-    requires { AreWays store.now (OnPaths old.now new.now) ways }
+    requires { AreWays store.now (route_between old.now new.now) ways }
     ensures course { (t : Tree) (moment : ℕ) → Keeps store.now t
         → IsLinking store.now t moment new.now
         (unless_root old.now (unless_root new.now (link t moment new.now (found_at t old.now))))

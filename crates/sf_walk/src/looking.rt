@@ -2,9 +2,10 @@
 
 ghost use Rattle.std.specs.Prelude.{◌≡◌, ◌≢◌, ◌+◌, length, Some, IfSome, IfNone};
 ghost use Rattle.sf_inode.specs.Stores.{holder_of, looked_up};
+ghost use Rattle.sf_coupling.specs.Walks.{IsFree};
 ghost use Rattle.sf_walk.specs.Ways.{way_from};
-ghost use Rattle.sf_walk.specs.Steps.{IsOnWay, IsFree, IsFreeThere};
-ghost use Rattle.sf_walk.specs.Further.{IsHeldThere, IsFound, Looks};
+ghost use Rattle.sf_walk.specs.Steps.{IsFreeThere};
+ghost use Rattle.sf_walk.specs.Further.{IsOnWay, IsHeldThere, IsFound, Looks};
 
 use crate::finding::Located;
 use sf_call::Reached;
@@ -66,7 +67,7 @@ pub(crate) fn find_last(store: &mut Store, path: &Path, at: Reached) -> Located
 /// The call that holds the node that was found, if it is another one.
 pub(crate) fn holder_there(store: &Store, number: u64, found: Located) -> Option<u64>
     ensures some { IfSome result (λ holder. IsHeldThere store.now number found holder) }
-    ensures none { IfNone result (IsFreeThere store.now number found) }
+    ensures none { IfNone result (IsFreeThere (holder_of store.now.nodes) number found) }
 {
     match found {
         Located::At { parent: _, node } => other_holder(store, number, node),
@@ -79,7 +80,7 @@ pub(crate) fn holder_there(store: &Store, number: u64, found: Located) -> Option
 pub(crate) fn other_holder(store: &Store, number: u64, node: NodeId) -> Option<u64>
     ensures some { IfSome result (λ holder. (holder_of store.now.nodes node ≡ Some holder)
         × (number ≢ holder)) }
-    ensures none { IfNone result (IsFree store.now number node) }
+    ensures none { IfNone result (IsFree (holder_of store.now.nodes) number node) }
 {
     match store.holder(node) {
         Some(holder) => { if holder == number { None } else { Some(holder) } }

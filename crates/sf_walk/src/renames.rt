@@ -3,13 +3,13 @@
 ghost use Rattle.std.specs.Prelude.{◌≡◌, ◌≢◌, ◌⊎◌, ◌<◌, ℕ, true, false, [], length, is_some, OnOk, OnErr, IsOk, IfOk};
 ghost use Rattle.sf_path.specs.Order.{same_path};
 ghost use Rattle.sf_reply.specs.Replies.{IsPlain};
-ghost use Rattle.sf_call.specs.Requests.Target.{OnPaths};
 ghost use Rattle.sf_call.specs.Tree.{Tree, place_at};
 ghost use Rattle.sf_call.specs.Changes.{moved_by};
 ghost use Rattle.sf_call.specs.Calls.{Answer, answer_to, rename, posix_rename, unless_root};
 ghost use Rattle.sf_inode.specs.Stores.{StoreState, relinked};
 ghost use Rattle.sf_keeps.specs.Keeps.{Keeps};
-ghost use Rattle.sf_walk.specs.Ways.{are_nested, last_of, AreWays, IsLocated};
+ghost use Rattle.sf_walk.specs.Ways.{last_of, AreWays, IsLocated};
+ghost use Rattle.sf_walk.specs.Routes.{are_nested, route_between};
 ghost use Rattle.sf_walk.specs.Served.{Gives, IsAlike, HoldersStay};
 ghost use Rattle.sf_walk.specs.Renames.{does_move, may_replace, IsCourse, AreNamed, IsTold, renaming};
 
@@ -61,7 +61,7 @@ pub(crate) fn rename(
     new: &Path,
     ways: Ways,
 ) -> Result<Reply, AllocError>
-    requires { AreWays store.old (OnPaths old.now new.now) ways }
+    requires { AreWays store.old (route_between old.now new.now) ways }
     ensures served { (t : Tree) → Keeps store.old t
         → Gives store.new t (unless_root old.now
         (unless_root new.now (rename t moment old.now new.now (place_at t old.now)))) result }
@@ -82,7 +82,7 @@ pub(crate) fn posix_rename(
     new: &Path,
     ways: Ways,
 ) -> Result<Reply, AllocError>
-    requires { AreWays store.old (OnPaths old.now new.now) ways }
+    requires { AreWays store.old (route_between old.now new.now) ways }
     ensures served { (t : Tree) → Keeps store.old t
         → Gives store.new t (unless_root old.now (unless_root new.now
         (posix_rename t moment old.now new.now (place_at t old.now)))) result }
@@ -99,7 +99,7 @@ pub(crate) fn posix_rename(
 /// RENAME moves to a path where nothing stands.
 fn rename_course(old: &Path, new: &Path, ways: Ways) -> Course
     ensures course { (s : StoreState) (t : Tree) (moment : ℕ) → Keeps s t
-        → AreWays s (OnPaths old.now new.now) ways
+        → AreWays s (route_between old.now new.now) ways
         → IsCourse s t (renaming old.now new.now moment) (unless_root old.now
         (unless_root new.now (rename t moment old.now new.now (place_at t old.now)))) result }
     ensures named { AreNamed old.now new.now result }
@@ -126,7 +126,7 @@ fn rename_course(old: &Path, new: &Path, ways: Ways) -> Course
 /// The extension posix-rename also moves to where something stands that may be replaced, and does
 /// nothing where both paths name one file.
 fn posix_course(store: &Store, old: &Path, new: &Path, ways: Ways) -> Course
-    requires { AreWays store.now (OnPaths old.now new.now) ways }
+    requires { AreWays store.now (route_between old.now new.now) ways }
     ensures course { (t : Tree) (moment : ℕ) → Keeps store.now t
         → IsCourse store.now t (renaming old.now new.now moment)
         (unless_root old.now (unless_root new.now

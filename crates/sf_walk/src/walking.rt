@@ -1,20 +1,21 @@
 //! Steps of a call on its way.
 
-ghost use Rattle.std.specs.Prelude.{◌≡◌, ◌+◌, true, Some, None, length};
-ghost use Rattle.std.specs.Option.{option_copied};
+ghost use Rattle.std.specs.Prelude.{◌≡◌, ◌+◌, ◌<◌, true, [], length};
 ghost use Rattle.sf_call.specs.declared.call.Stage.TheVariants as stage;
-ghost use Rattle.sf_call.specs.Unanswered.{at_stage};
-ghost use Rattle.sf_inode.specs.Stores.{is_directory_at};
-ghost use Rattle.sf_walk.specs.Ways.{path_of, other_of};
-ghost use Rattle.sf_walk.specs.Steps.{Stands, IsOnWay, IsBefore, Arrives, Advances};
-ghost use Rattle.sf_walk.specs.Further.{Walks, PartLater};
+ghost use Rattle.sf_inode.specs.Nodes.{with_holder};
+ghost use Rattle.sf_inode.specs.Stores.{is_directory_at, edited};
+ghost use Rattle.sf_walk.specs.declared.walking.Walk.TheVariants.{Moved};
+ghost use Rattle.sf_walk.specs.Routes.{Stands, route_in, reached, nodes_of};
+ghost use Rattle.sf_walk.specs.Routes.Route.{Along, Between};
+ghost use Rattle.sf_walk.specs.Steps.{Advances, walker, is_one_of, free_unless, let_go, handed_over};
+ghost use Rattle.sf_walk.specs.Further.{IsOnWay, Comes, PartLater};
 
-use crate::calls::{other_of, path_of};
 use crate::ends::{Ends, at_ends};
 use crate::finding::{Located, Ways};
 use crate::looking::{Further, find_last, holder_there, look, other_holder};
-use sf_call::{Call, Reached, Stage};
-use sf_inode::Store;
+use crate::routes::Route;
+use sf_call::{Reached, Stage};
+use sf_inode::{NodeId, Store};
 use sf_path::Path;
 
 /// What a step of a call came to.
@@ -33,39 +34,52 @@ pub enum Walk {
 /// call without a path, and one whose path is the root, decides at once and takes nothing; one on
 /// its way decides at the parent of its last name, or where a name is missing or leads to a file.
 ///
-/// A rename walks its old path. Where its paths part it keeps the directory that they have in
+/// A call on two paths walks the old one. Where they part it keeps the directory that they have in
 /// common, walks on to the old path's parent, and then from the common directory to the new one's.
 /// It decides with both parents held, once no other call holds what the new path leads to; it
-/// doesn't wait for what the old one leads to. Where one path begins with the other it is a call on
-/// its old path alone, and with the root among them it decides at once.
+/// doesn't wait for what the old one leads to.
 ///
 /// The stage that it has come to is told beside it: who makes many steps notes the last one alone.
-pub fn advance(store: &mut Store, call: &Call, stage: Stage) -> Walk
+pub fn advance(store: &mut Store, number: u64, route: Route<'_>, at: Stage) -> Walk
     requires root { is_directory_at store.old.nodes store.old.root ≡ true }
-    requires stands { Stands store.old (path_of call.now.request)
-        (other_of call.now.request) stage }
-    ensures { Advances store.old store.new (at_stage stage call.now) result }
+    requires stands { Stands store.old (route_in route) at }
+    ensures { Advances store.old store.new (walker number (route_in route.entry) at) result }
 {
-    let Some(path) = path_of(&call.request) else {
-        return Walk::Ready(Ways::along(Located::NoWay));
-    };
-    let other = other_of(&call.request);
-    match stage {
-        Stage::Fresh => first(store, call, path, other),
-        Stage::At { walked, node } => onward(store, call, path, other, Reached { walked, node }),
-        Stage::Ends { common, old, new } => match other {
-            Some(other) => at_ends(store, call, path, other, Ends { common, old, new }),
-            None => unreachable!(),
+    match route {
+        Route::NoPath => Walk::Ready(Ways::along(Located::NoWay)),
+        Route::Along(path) => match at {
+            Stage::Fresh => first(store, number, path),
+            Stage::At { walked, node } => onward(store, number, path, Reached { walked, node }),
+            Stage::Ends { .. } => unreachable!(),
+        },
+        Route::Between(old, new) => match at {
+            Stage::Fresh => first_of_two(store, number, old, new),
+            Stage::At { walked, node } => {
+                together(store, number, old, new, Reached { walked, node })
+            }
+            Stage::Ends {
+                common,
+                old: from,
+                new: to,
+            } => at_ends(
+                store,
+                number,
+                old,
+                new,
+                Ends {
+                    common,
+                    old: from,
+                    new: to,
+                },
+            ),
         },
     }
 }
 
-/// Takes the root.
-fn first(store: &mut Store, call: &Call, path: &Path, other: Option<&Path>) -> Walk
+/// Takes the root, unless the path ends there.
+fn first(store: &mut Store, number: u64, path: &Path) -> Walk
     requires root { is_directory_at store.old.nodes store.old.root ≡ true }
-    requires walks { Walks (at_stage stage.Fresh call.now) path.now (option_copied other)
-        stage.Fresh }
-    ensures { Advances store.old store.new (at_stage stage.Fresh call.now) result }
+    ensures { Advances store.old store.new (walker number (Along path.now) stage.Fresh) result }
 {
     let root = store.root();
     if path.is_root() {
@@ -74,71 +88,166 @@ fn first(store: &mut Store, call: &Call, path: &Path, other: Option<&Path>) -> W
             node: root,
         }));
     }
-    if let Some(holder) = other_holder(store, call.number, root) {
+    if let Some(holder) = other_holder(store, number, root) {
         return Walk::Blocked(holder);
     }
-    store.hold(root, call.number);
+    let after = Stage::At {
+        walked: 0,
+        node: root,
+    };
+    move_on(store, number, Stage::Fresh, after, root)
+}
+
+/// Takes the root for a call on two paths.
+fn first_of_two(store: &mut Store, number: u64, old: &Path, new: &Path) -> Walk
+    requires root { is_directory_at store.old.nodes store.old.root ≡ true }
+    requires apart { PartLater old.now new.now 0 }
+    ensures { Advances store.old store.new (walker number (Between old.now new.now) stage.Fresh)
+        result }
+{
+    let root = store.root();
+    if let Some(holder) = other_holder(store, number, root) {
+        return Walk::Blocked(holder);
+    }
     let to = Reached {
         walked: 0,
         node: root,
     };
-    Walk::Moved(arrived(path, other, to))
+    let after = arrived(old, new, to);
+    move_on(store, number, Stage::Fresh, after, root)
 }
 
 /// Goes one name further from a directory.
-fn onward(store: &mut Store, call: &Call, path: &Path, other: Option<&Path>, at: Reached) -> Walk
-    requires walks { Walks (at_stage (stage.At at.walked at.node) call.now) path.now
-        (option_copied other) (stage.At at.walked at.node) }
+fn onward(store: &mut Store, number: u64, path: &Path, at: Reached) -> Walk
     requires on_way { IsOnWay store.old path.now at.walked at.node }
-    requires before { IsBefore path.now (option_copied other) at.walked }
-    ensures { Advances store.old store.new (at_stage (stage.At at.walked at.node) call.now)
-        result }
+    ensures { Advances store.old store.new
+        (walker number (Along path.now) (stage.At at.walked at.node)) result }
 {
-    match look(store, call.number, path, at) {
-        Further::AtParent => at_parent(store, call, path, at),
+    match look(store, number, path, at) {
+        Further::AtParent => at_parent(store, number, path, at),
         Further::NoDirectory => Walk::Ready(Ways::along(Located::NoWay)),
         Further::Held(holder) => Walk::Blocked(holder),
         Further::Free(to) => {
-            store.hold(to.node, call.number);
-            store.free(at.node);
-            Walk::Moved(arrived(path, other, to))
+            let before = Stage::At {
+                walked: at.walked,
+                node: at.node,
+            };
+            let after = Stage::At {
+                walked: to.walked,
+                node: to.node,
+            };
+            move_on(store, number, before, after, to.node)
         }
     }
 }
 
 /// Decides at the parent of a path's last name, unless another call holds what it leads to.
-fn at_parent(store: &mut Store, call: &Call, path: &Path, at: Reached) -> Walk
-    requires walks { Walks (at_stage (stage.At at.walked at.node) call.now) path.now None
-        (stage.At at.walked at.node) }
+fn at_parent(store: &mut Store, number: u64, path: &Path, at: Reached) -> Walk
     requires on_way { IsOnWay store.old path.now at.walked at.node }
     requires last { at.walked + 1 ≡ length path.now }
-    ensures { Advances store.old store.new (at_stage (stage.At at.walked at.node) call.now)
-        result }
+    ensures { Advances store.old store.new
+        (walker number (Along path.now) (stage.At at.walked at.node)) result }
 {
     let found = find_last(store, path, at);
-    match holder_there(store, call.number, found) {
+    match holder_there(store, number, found) {
         Some(holder) => Walk::Blocked(holder),
         None => Walk::Ready(Ways::along(found)),
     }
 }
 
-/// The stage of a call that has come to a directory: where a rename's paths part, it stands there
-/// with both its ends.
-fn arrived(path: &Path, other: Option<&Path>, to: Reached) -> Stage
-    requires { PartLater path.now (option_copied other) to.walked }
-    ensures { Arrives path.now (option_copied other.entry) to.walked to.node result }
+/// Goes one name further from a directory that two paths have in common.
+fn together(store: &mut Store, number: u64, old: &Path, new: &Path, at: Reached) -> Walk
+    requires on_way { IsOnWay store.old old.now at.walked at.node }
+    requires before { PartLater old.now new.now (at.walked + 1) }
+    ensures { Advances store.old store.new
+        (walker number (Between old.now new.now) (stage.At at.walked at.node)) result }
 {
-    if let Some(other) = other {
-        if path.common(other) == to.walked {
-            return Stage::Ends {
-                common: to,
-                old: to,
-                new: to,
+    match look(store, number, old, at) {
+        Further::AtParent => unreachable!(),
+        Further::NoDirectory => Walk::Ready(Ways::along(Located::NoWay)),
+        Further::Held(holder) => Walk::Blocked(holder),
+        Further::Free(to) => {
+            let before = Stage::At {
+                walked: at.walked,
+                node: at.node,
             };
+            let after = arrived(old, new, to);
+            move_on(store, number, before, after, to.node)
         }
+    }
+}
+
+/// The stage of a call on two paths that has come to a directory of both: where they part, it
+/// stands there with both its ends.
+fn arrived(old: &Path, new: &Path, to: Reached) -> Stage
+    requires { PartLater old.now new.now to.walked }
+    ensures { Comes old.now new.now (reached to.walked to.node) result }
+{
+    if old.common(new) == to.walked {
+        return Stage::Ends {
+            common: to,
+            old: to,
+            new: to,
+        };
     }
     Stage::At {
         walked: to.walked,
         node: to.node,
+    }
+}
+
+/// Hand over hand: holds the directory that a call comes to, and then frees what it holds no more.
+pub(crate) fn move_on(
+    store: &mut Store,
+    number: u64,
+    before: Stage,
+    after: Stage,
+    to: NodeId,
+) -> Walk
+    ensures state { store.new ≡ handed_over number before after to store.old }
+    ensures walk { result ≡ Moved after }
+{
+    store.hold(to, number);
+    let_go(store, before, after);
+    Walk::Moved(after)
+}
+
+/// Frees what a call held, but for what it holds still.
+pub fn let_go(store: &mut Store, before: Stage, after: Stage)
+    ensures { store.new ≡ let_go (nodes_of after) (nodes_of before) store.old }
+{
+    match before {
+        Stage::Fresh => {}
+        Stage::At { walked: _, node } => free_unless(store, node, after),
+        Stage::Ends { common, old, new } => {
+            free_unless(store, common.node, after);
+            free_unless(store, old.node, after);
+            free_unless(store, new.node, after);
+        }
+    }
+}
+
+/// Frees a node, unless a call at a stage holds it.
+fn free_unless(store: &mut Store, node: NodeId, kept: Stage)
+    ensures { store.new ≡ free_unless (nodes_of kept) node store.old }
+{
+    if !holds(kept, node) {
+        store.free(node);
+    }
+}
+
+/// Whether a call at a stage holds a node.
+fn holds(at: Stage, node: NodeId) -> bool
+    ensures { result ≡ is_one_of node (nodes_of at) }
+{
+    match at {
+        Stage::Fresh => false,
+        Stage::At {
+            walked: _,
+            node: held,
+        } => node == held,
+        Stage::Ends { common, old, new } => {
+            node == common.node || node == old.node || node == new.node
+        }
     }
 }

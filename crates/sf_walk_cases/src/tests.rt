@@ -10,7 +10,7 @@ use sf_field::{Attrs, NO_ATTRS, Owner, Times};
 use sf_inode::Store;
 use sf_plain::PlainTree;
 use sf_reply::{Entry, Listing, Reply, StatusCode};
-use sf_walk::{Walk, decide, from_root};
+use sf_walk::{Walk, decide, from_root, let_go};
 use std::alloc::Global;
 use std::process::Abort;
 use std::test::*;
@@ -184,23 +184,10 @@ fn by_steps(rt: &impl Abort, store: &mut Store, call: &mut Call) -> Reply {
             Walk::Blocked(holder) => panic!(rt; "call {holder} still holds a node"),
             Walk::Ready(ways) => {
                 let (reply, _) = decide(store, call, ways);
-                free(store, call.stage);
+                let_go(store, call.stage, Stage::Fresh);
                 return reply;
             }
         }
     }
     panic!(rt; "call {} does not end", call.number)
-}
-
-/// Frees what a call holds at a stage.
-fn free(store: &mut Store, stage: Stage) {
-    match stage {
-        Stage::Fresh => {}
-        Stage::At { walked: _, node } => store.free(node),
-        Stage::Ends { common, old, new } => {
-            store.free(common.node);
-            store.free(old.node);
-            store.free(new.node);
-        }
-    }
 }

@@ -3,7 +3,7 @@
 use super::steps::fresh;
 use super::*;
 use StatusCode::{Failure, NoSuchFile, Success};
-use sf_walk::{Located, Ways, locate, path_of};
+use sf_walk::{Located, Route, Ways, locate, route_of};
 
 /// The store of a pair.
 fn store_of<'a>(rt: &impl Abort, pair: &'a mut Pair) -> &'a mut Store {
@@ -57,7 +57,7 @@ fn paths_lead_somewhere(rt: HostRuntime) {
 fn a_decision_is_told_twice(rt: HostRuntime) -> Result<(), Fail> {
     let mut store = Store::new(rt.alloc())?;
     let call = fresh(Request::Close(9));
-    assert!(rt; path_of(&call.request).is_none());
+    assert!(rt; matches!(route_of(&call.request), Route::NoPath));
     match decide(&mut store, &call, Ways::along(Located::NoWay)) {
         (Reply::Status(Failure), Reply::Status(Failure)) => Ok(()),
         replies => panic!(rt; "{replies:?}"),

@@ -4,15 +4,15 @@ ghost use Rattle.std.specs.Prelude.{◌≡◌, true};
 ghost use Rattle.sf_inode.specs.Stores.{StoreState, is_directory_at};
 ghost use Rattle.sf_walk.specs.declared.finding.Ways.{Ways};
 ghost use Rattle.sf_walk.specs.declared.walking.Walk.TheVariants.{Ready};
-ghost use Rattle.sf_walk.specs.Ways.{path_of, other_of, IsLocated};
-ghost use Rattle.sf_walk.specs.Steps.{Stands};
+ghost use Rattle.sf_walk.specs.Routes.{Stands, route_of};
+ghost use Rattle.sf_walk.specs.Ways.{IsLocated};
 
 use super::calls::located;
 use super::*;
 use StatusCode::Success;
 use sf_call::Reached;
 use sf_inode::NodeId;
-use sf_walk::{Located, Ways, advance, is_move, other_of, path_of};
+use sf_walk::{Located, Route, Ways, advance, is_move, route_of};
 
 /// The number of the call that takes its steps, and that of one that holds a node in its way.
 const NUMBER: u64 = 20;
@@ -21,8 +21,7 @@ const OTHER: u64 = 9;
 
 /// A call at its beginning.
 pub(super) fn fresh(request: Request) -> Call
-    ensures { (s : StoreState)
-        → Stands s (path_of result.request) (other_of result.request) result.stage }
+    ensures { (s : StoreState) → Stands s (route_of result.request) result.stage }
 {
     Call {
         number: NUMBER,
@@ -38,15 +37,13 @@ pub(super) fn fresh(request: Request) -> Call
 /// Takes a call one step on, and notes where it then stands.
 pub(super) fn step(store: &mut Store, call: &mut Call) -> Walk
     requires root { is_directory_at store.old.nodes store.old.root ≡ true }
-    requires stands { Stands store.old (path_of call.old.request) (other_of call.old.request)
-        call.old.stage }
+    requires stands { Stands store.old (route_of call.old.request) call.old.stage }
     ensures root { is_directory_at store.new.nodes store.new.root ≡ true }
-    ensures stands { Stands store.new (path_of call.new.request) (other_of call.new.request)
-        call.new.stage }
+    ensures stands { Stands store.new (route_of call.new.request) call.new.stage }
     ensures located { (ways : Ways) → result ≡ Ready ways
         → IsLocated store.new call.new.request ways }
 {
-    let walk = advance(store, call, call.stage);
+    let walk = advance(store, call.number, route_of(&call.request), call.stage);
     if let Walk::Moved(stage) = walk {
         call.stage = stage;
     }
@@ -56,8 +53,7 @@ pub(super) fn step(store: &mut Store, call: &mut Call) -> Walk
 /// Takes a call through these stages, and one step more.
 fn steps(rt: &impl Abort, store: &mut Store, call: &mut Call, stages: &[Stage]) -> Walk
     requires root { is_directory_at store.old.nodes store.old.root ≡ true }
-    requires stands { Stands store.old (path_of call.old.request) (other_of call.old.request)
-        call.old.stage }
+    requires stands { Stands store.old (route_of call.old.request) call.old.stage }
     ensures located { (ways : Ways) → result ≡ Ready ways
         → IsLocated store.new call.new.request ways }
 {
@@ -242,7 +238,7 @@ fn the_root_does_not_move(rt: HostRuntime) -> Result<(), Fail> {
     let mut ground = Ground::new(&rt, alloc);
     let before = ground.store.look_ups();
     let rename = posix_rename(alloc, b"/", b"/b")?;
-    assert!(rt; path_of(&rename).is_none() && other_of(&rename).is_none());
+    assert!(rt; matches!(route_of(&rename), Route::NoPath));
     moves_nothing(&rt, &mut ground, rename);
     ground.looked(&rt, before, 0);
     Ok(())
@@ -271,7 +267,7 @@ fn a_rename_walks_with_two_ends(rt: HostRuntime) -> Result<(), Fail> {
     let mut ground = Ground::new(&rt, alloc);
     let before = ground.store.look_ups();
     let rename = rename(alloc, b"/d/a/b/x", b"/d/c/e/z")?;
-    assert!(rt; other_of(&rename).is_some());
+    assert!(rt; matches!(route_of(&rename), Route::Between(_, _)));
     let path = Located::At {
         parent: ground.b,
         node: ground.x,

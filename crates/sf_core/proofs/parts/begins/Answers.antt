@@ -1,4 +1,4 @@
-use Rattle.sf_core.proofs.Overtaken.{begins_is}
+use Rattle.sf_core.proofs.Passing.{begins_is}
 use Rattle.sf_core.proofs.parts.begins.Goals as goal
 
 pub returns : goal.returns

@@ -2,13 +2,13 @@ use Rattle.std.proofs.Common.{◌≡◌, ◌∙◌, suc, true, false, Some, refl
 use Rattle.sf_call.specs.declared.call.Stage.{Stage}
 use Rattle.sf_call.specs.Unanswered.{at_stage}
 use Rattle.sf_inode.specs.Stores.{StoreState, is_directory_at}
-use Rattle.sf_walk.specs.Ways.{path_of, other_of}
-use Rattle.sf_walk.specs.Steps.{Stands}
+use Rattle.sf_walk.specs.Routes.{Route, Stands, route_of}
+use Rattle.sf_walk.specs.Steps.{Advances, walker}
 use Rattle.sf_core.specs.declared.parts.Outcome.TheVariants as outcome
 use Rattle.sf_core.specs.Lanes.{LaneView}
 use Rattle.sf_core.specs.Stepping.{Stepped, come_to, is_move}
-use Rattle.sf_core.proofs.Stepped.{stands}
-use Rattle.sf_core.proofs.Steps.{moved_core, moved_more, none_moved, rooted}
+use Rattle.sf_core.proofs.Making.{stands}
+use Rattle.sf_core.proofs.Walks.{moved_core, moved_more, none_moved, rooted}
 use Rattle.sf_core.proofs.UnderWay.{one_step, step_more, under_way}
 use Rattle.sf_core.proofs.parts.go_on.Goals as goal
 
@@ -21,8 +21,9 @@ pub step-walk-requires-clause-stands : goal.step-walk-requires-clause-stands
 step-walk-requires-clause-stands c =
     let on = c.requires.core.2 in
     let call = c.args.call.now in
-    subst (λ (s : StoreState). Stands s (path_of call.request) (other_of call.request) c.args.stage.now) on.store
-    (stands c.requires.core.0 on.core.history on.core.sound c.requires.core.1 (at_stage c.args.stage.now call) on.call)
+    subst (λ (r : Route). Stands c.args.store.now r c.args.stage.now) (sym c.requires.route)
+    (subst (λ (s : StoreState). Stands s (route_of call.request) c.args.stage.now) on.store
+    (stands c.requires.core.0 on.core.history on.core.sound c.requires.core.1 (at_stage c.args.stage.now call) on.call))
 
 pub loop-init : goal.loop-init
 loop-init c =
@@ -35,7 +36,7 @@ loop-init c =
         omega arith,
         none_moved p call.session number,
         subst (λ (g : Stage). Stepped p call.session number (outcome.Walked step.result) (come_to p number step.new.store g)) (sym step.ensures.stage)
-            (one_step number call p c.args.store.now step.new.store c.args.stage.now step.result on step.ensures.fits step.ensures.advances),
+            (one_step number call p c.args.store.now step.new.store c.args.stage.now step.result on step.ensures.fits (subst (λ (r : Route). Advances c.args.store.now step.new.store (walker call.number r c.args.stage.now) step.result) c.requires.route step.ensures.advances)),
       );
     }
 
@@ -57,8 +58,9 @@ step-walk-requires-in-loop-clause-stands c =
     let it = c.loop.invariant.walks p number c.requires.core.2 in
     let q = come_to p number c.loop.store c.loop.stage in
     let core = moved_core lane number refl it.1 q (outcome.Walked c.loop.walk) it.4 (sym c.moved.ensures ∙ c.if-not-moved.false) in
-    stands q core.history core.sound number (at_stage c.loop.stage call)
-    (under_way number call p c.args.store.now c.loop.store c.args.stage.now c.loop.stage c.requires.core.2 core).call
+    subst (λ (r : Route). Stands c.loop.store r c.loop.stage) (sym c.requires.route)
+    (stands q core.history core.sound number (at_stage c.loop.stage call)
+    (under_way number call p c.args.store.now c.loop.store c.args.stage.now c.loop.stage c.requires.core.2 core).call)
 
 pub loop-preserved : goal.loop-preserved
 loop-preserved c =
@@ -76,7 +78,7 @@ loop-preserved c =
             omega (arith, it.2),
             moved_more lane number refl it.0 p it.1 q (outcome.Walked c.loop.walk) it.3 it.4 moves,
             subst (λ (g : Stage). Stepped q call.session number (outcome.Walked step.result) (come_to p number step.new.store g)) (sym step.ensures.stage)
-                (step_more number call p c.args.store.now c.loop.store step.new.store c.args.stage.now c.loop.stage step.result on core step.ensures.fits step.ensures.advances),
+                (step_more number call p c.args.store.now c.loop.store step.new.store c.args.stage.now c.loop.stage step.result on core step.ensures.fits (subst (λ (r : Route). Advances c.loop.store step.new.store (walker call.number r c.loop.stage) step.result) c.requires.route step.ensures.advances)),
           );
     }
 

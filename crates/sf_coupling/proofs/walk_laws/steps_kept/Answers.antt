@@ -4,6 +4,6 @@ use Rattle.sf_coupling.proofs.Laws.{step_keeps}
 use Rattle.sf_coupling.proofs.walk_laws.steps_kept.Goals as goal
 
 pub returns : goal.returns
-returns c s new n q g next walks same free there takes own set others holds =
-    subst (λ (t : Terrain). AreWalks (scene t new.standing_of new.holder)) (sym same)
-    (step_keeps s.terrain s.standing_of s.holder n walks q free there new.standing_of new.holder g next takes own set others holds)
+returns c s new n q walks same free there takes others hands =
+    subst (λ (t : Terrain). AreWalks (scene t new.spots new.holder)) (sym same)
+    (step_keeps s.terrain s.spots s.holder n walks q free there new.spots new.holder takes others hands)

@@ -1,7 +1,7 @@
 use Rattle.std.proofs.Common.{ap, List, ℕ, arith}
 use Rattle.sf_core.specs.Progress.{undecided_in}
 use Rattle.sf_call.specs.declared.call.Call.{Call}
-use Rattle.sf_core.proofs.Beginning.{core_new, history_new}
+use Rattle.sf_core.proofs.Beginning.{sound_new, core_new}
 use Rattle.sf_core.proofs.cores.Core.with_keep.Goals as goal
 
 pub invariant_of-result : goal.invariant_of-result
@@ -10,4 +10,4 @@ invariant_of-result c =
     (core_new c.in_ok-new.field-0 c.in_ok-new.ensures.parts, omega (arith, none))
 
 pub returns-clause-history : goal.returns-clause-history
-returns-clause-history c = history_new c.in_ok-new.field-0 c.in_ok-new.ensures.parts
+returns-clause-history c = (sound_new c.in_ok-new.field-0 c.in_ok-new.ensures.parts).history

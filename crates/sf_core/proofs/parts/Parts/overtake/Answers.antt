@@ -9,7 +9,7 @@ use Rattle.sf_book.specs.Books.{BookView}
 use Rattle.sf_core.specs.Parts.{PartsView}
 use Rattle.sf_core.specs.Progress.{overtaken, undecided_in}
 use Rattle.sf_core.specs.Stepping.{all_set_back, HelpsAll}
-use Rattle.sf_core.proofs.Sounds.{some_eq}
+use Rattle.sf_core.proofs.Maps.{some_eq}
 use Rattle.sf_core.proofs.Backing.{book_back}
 use Rattle.sf_core.proofs.Preparing.{moved_is, few_overtaken}
 use Rattle.sf_core.proofs.parts.Parts.overtake.Goals as goal

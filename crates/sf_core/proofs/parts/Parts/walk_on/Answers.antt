@@ -2,8 +2,8 @@ use Rattle.std.proofs.Common.{◌<◌, ◌^◌, ℕ, refl, sym, ap, subst, ◌�
 use Rattle.sf_call.specs.declared.call.Call.{Call}
 use Rattle.sf_core.specs.Cores.{call_at}
 use Rattle.sf_core.specs.Parts.{PartsView}
-use Rattle.sf_core.proofs.Sounds.{some_eq, none_some}
-use Rattle.sf_core.proofs.Steps.{none_moved}
+use Rattle.sf_core.proofs.Maps.{some_eq, none_some}
+use Rattle.sf_core.proofs.Walks.{none_moved}
 use Rattle.sf_core.proofs.parts.Parts.walk_on.Goals as goal
 
 pub returns-in_default : goal.returns-in_default

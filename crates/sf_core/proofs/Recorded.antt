@@ -1,0 +1,174 @@
+-- A call's record is written: the history grows by it, and the call goes, or its reply waits.
+use Rattle.std.specs.Prelude.{◌≡◌, ◌≢◌, ◌⊎◌, ℕ, Bool, true, false, if◌then◌else◌, List, [], ◌∷◌, ◌++◌, Option, Some, None, refl}
+use Rattle.std.specs.Option.{option_map_or}
+use Rattle.std.proofs.Common.{sym, ap, subst, ◌∙◌, inl, inr, arith}
+use Rattle.sf_path.specs.Names.{Path}
+use Rattle.sf_reply.specs.declared.reply.Reply.{Reply}
+use Rattle.sf_call.specs.declared.call.Call.{Call}
+use Rattle.sf_call.specs.declared.call.Stage.{Stage}
+use Rattle.sf_call.specs.declared.call.Stage.TheVariants as stage
+use Rattle.sf_call.specs.declared.record.Record.{Record}
+use Rattle.sf_call.specs.Tree.{Tree, label_at}
+use Rattle.sf_call.specs.Calls.{answer_to}
+use Rattle.sf_call.specs.Histories.{after, replay, IsNewNumber, MayFollow}
+use Rattle.sf_call.specs.Unanswered.{with_reply}
+use Rattle.sf_call.proofs.Laws.{no_object, no_handle}
+use Rattle.sf_book.specs.Books.{BookView}
+use Rattle.sf_inode.specs.Nodes.{with_holder}
+use Rattle.sf_inode.specs.Stores.{StoreState, entry_of, holder_of, edited}
+use Rattle.sf_keeps.specs.Steps.{walk}
+use Rattle.sf_keeps.specs.Keeps.{Keeps}
+use Rattle.sf_keeps.proofs.Laws.{keeps_held}
+use Rattle.sf_coupling.specs.Walks.{scene, AreWalks}
+use Rattle.sf_coupling.proofs.Laws.{same_or_not}
+use Rattle.sf_walk.specs.Routes.{IsPosition, route_of, nodes_of, spots_of, terrain}
+use Rattle.sf_walk.specs.Steps.{is_one_of, let_go, free_unless}
+use Rattle.sf_walk.specs.Served.{IsUnused, IsRefused, IsCarriedOut}
+use Rattle.sf_core.specs.Cores.{call_at, session_at}
+use Rattle.sf_core.specs.Progress.{reply_of, did}
+use Rattle.sf_core.specs.Parts.{PartsView}
+use Rattle.sf_core.specs.Sound.{spots_at, spots_in, IsCallOf, Sound}
+use Rattle.sf_core.specs.Stepping.{session_set_by, Records, FinishState, HelpState}
+use Rattle.sf_core.proofs.Maps.{some_eq, none_some}
+use Rattle.sf_core.proofs.Updates.{Updates, updates_set, updates_removed, updates_none, updates_answered}
+use Rattle.sf_core.proofs.Spared.{keeps_after}
+use Rattle.sf_core.proofs.Decided.{decided_keeps}
+use Rattle.sf_core.proofs.Ledgers.{Follows, ledger_follows}
+use Rattle.sf_core.proofs.Ledgers.Follows.{Stays, Goes}
+use Rattle.sf_core.proofs.Histories.{IsLeft, fewer, history_recorded}
+use Rattle.sf_core.proofs.Histories.IsLeft.{Gone, Waits}
+
+-- letting go leaves the tree that the store keeps
+pub let_go_keeps : (kept nodes : List ℕ) (s : StoreState) (t : Tree) → Keeps s t → Keeps (let_go kept nodes s) t
+let_go_keeps kept [] s t k = k
+let_go_keeps kept (node ∷ nodes) s t k = let_go_keeps kept nodes (free_unless kept node s) t (by (is_one_of node kept))
+  where
+    by : (b : Bool) → Keeps (if b then s else edited (with_holder None) s node) t
+    by true = k
+    by false = keeps_held None s t node k
+
+pub new_to : (p : PartsView) (h : List Record) (c : Call) → Sound p h → call_at p.calls c.number ≡ Some c → reply_of c ≡ None → IsUnused (replay h) c.number
+new_to p h c sound at undecided =
+    let call = sound.ledger.calls c.number c at in
+    let fresh = sound.history.undecided c.number c at undecided in
+    record {
+      above = call.above;
+      label = no_object h c.number sound.history.legal call.above fresh;
+      handle = no_handle h c.number sound.history.legal call.above fresh;
+    }
+
+-- a decided call holds nothing
+pub data HoldsNone : Option Call → Type 0 where
+  Away : HoldsNone None
+  Fresh : (d : Call) → d.stage ≡ stage.Fresh → HoldsNone (Some d)
+
+none_held : (now : Option Call) → HoldsNone now → option_map_or spots_at now [] ≡ []
+none_held now Away = refl
+none_held now (Fresh d e) = ap (λ (g : Stage). spots_of (route_of d.request) g) e
+
+module _ (p q : PartsView) (h : List Record) (sound : Sound p h) (c : Call) (given : Reply) (records : Records p q c given) (now : Option Call) (slot : Option ℕ)
+    (calls : Updates p.calls q.calls c.number (Some c) now) (sessions : Updates p.sessions q.sessions c.session (Some (Some c.number)) (Some slot))
+    (undecided : reply_of c ≡ None) (left : IsLeft c given now) (follows : Follows c c.number now slot) (away : HoldsNone now)
+    (positions : (d : Call) → now ≡ Some d → IsPosition (route_of d.request) d.stage)
+    (labels : (path : Path) (l holder : ℕ) → walk (entry_of p.store.nodes) p.store.root path ≡ Some l → holder_of p.store.nodes l ≡ Some holder → c.number ≢ holder
+    → label_at (after (replay h) (did c given)).names path ≡ label_at (replay h).names path) where
+  at : call_at p.calls c.number ≡ Some c
+  at = calls.was_is
+
+  call : IsCallOf p.sessions p.drawn c.number c
+  call = sound.ledger.calls c.number c at
+
+  fresh : IsNewNumber c.number h
+  fresh = sound.history.undecided c.number c at undecided
+
+  served : IsRefused p.store records.mid (replay h) given ⊎ IsCarriedOut records.mid (replay h) (answer_to (replay h) c.session c.number c.moment c.request) given
+  served = records.serves.served (replay h) sound.history.tree (new_to p h c sound at undecided)
+
+  pub may_follow : MayFollow h (did c given)
+  may_follow = record {
+    is_call = call.is_call;
+    above_zero = call.above;
+    new_number = fresh;
+    present = sound.history.sessions c.session (Some c.number) call.session;
+    answered = elim served [ inl e ↦ inr e.told | inr e ↦ inl e.told ];
+  }
+
+  keeps_now : Keeps q.store (after (replay h) (did c given))
+  keeps_now =
+      subst (λ (s : StoreState). Keeps s (after (replay h) (did c given))) (sym records.store)
+      (let_go_keeps [] (nodes_of c.stage) records.mid (after (replay h) (did c given))
+      (keeps_after p.store records.mid h c.number c.session c.moment c.request given sound.history.legal call.above fresh sound.history.tree served records.serves.nodes))
+
+  spots_now : spots_in q.calls c.number ≡ []
+  spots_now = ap (λ (o : Option Call). option_map_or spots_at o []) calls.now_is ∙ none_held now away
+
+  spots_other : (m : ℕ) → c.number ≢ m → spots_in q.calls m ≡ spots_in p.calls m
+  spots_other m ne = ap (λ (o : Option Call). option_map_or spots_at o []) (calls.rest m (λ e. ne (sym e)))
+
+  walks_now : AreWalks (scene (terrain q.store) (spots_in q.calls) (holder_of q.store.nodes))
+  walks_now =
+      subst (λ (s : StoreState). AreWalks (scene (terrain s) (spots_in q.calls) (holder_of s.nodes))) (sym records.store)
+      (decided_keeps p.store records.mid h c.number c.session c.moment c.request given sound.history.legal call.above fresh sound.history.tree served records.serves.nodes labels
+      c.stage (sound.coupled.positions c.number c at) (spots_in p.calls) sound.coupled.walks (ap (λ (o : Option Call). option_map_or spots_at o []) at) (spots_in q.calls) spots_now spots_other)
+
+  fresh_by : (o : Option Call) → HoldsNone o → now ≡ o → (d : Call) → o ≡ Some d → d.stage ≡ stage.Fresh
+  fresh_by o Away e d is = absurd (none_some d is)
+  fresh_by o (Fresh f is_fresh) e d is = ap (λ (x : Call). x.stage) (sym (some_eq f d is)) ∙ is_fresh
+
+  now_by : (m : ℕ) (d : Call) → m ≡ c.number → call_at q.calls m ≡ Some d → now ≡ Some d
+  now_by m d e is = sym calls.now_is ∙ ap (call_at q.calls) (sym e) ∙ is
+
+  pub recorded : Sound q (h ++ did c given ∷ [])
+  recorded = record {
+    history =
+        history_recorded p q h sound.history c given now calls undecided left slot sessions
+        may_follow keeps_now records.book records.drawn records.joins call.most sound.ledger.drawn_fits;
+    coupled = record {
+      walks = walks_now;
+      positions = λ m d is. elim (same_or_not m c.number) [
+        | inl e ↦ positions d (now_by m d e is)
+        | inr ne ↦ sound.coupled.positions m d (sym (calls.rest m ne) ∙ is)
+      ];
+      waiting = λ m d g is some. elim (same_or_not m c.number) [
+        | inl e ↦ fresh_by now away refl d (now_by m d e is)
+        | inr ne ↦ sound.coupled.waiting m d g (sym (calls.rest m ne) ∙ is) some
+      ];
+    };
+    ledger =
+        ledger_follows p q sound.ledger c.number c now slot calls sessions follows records.drawn records.joins
+        (let a = sound.ledger.room in
+        let b = ap (λ (x : BookView). x.room) records.book in
+        let d = fewer p q h sound.history c given now calls undecided left slot sessions
+        may_follow keeps_now records.book records.drawn records.joins call.most sound.ledger.drawn_fits in
+        let e = sessions.size in
+        omega (arith, a, b, d, e));
+  }
+
+-- ---- its two cases
+module _ (p q : PartsView) (h : List Record) (sound : Sound p h) (c : Call) (at : call_at p.calls c.number ≡ Some c) (undecided : reply_of c ≡ None) (given : Reply)
+    (labels : (path : Path) (l holder : ℕ) → walk (entry_of p.store.nodes) p.store.root path ≡ Some l → holder_of p.store.nodes l ≡ Some holder → c.number ≢ holder
+    → label_at (after (replay h) (did c given)).names path ≡ label_at (replay h).names path) where
+  busy : session_at p.sessions c.session ≡ Some (Some c.number)
+  busy = (sound.ledger.calls c.number c at).session
+
+  -- it was decided: it goes, and its session has none
+  pub finished : FinishState p q c c.number given → Sound q (h ++ did c given ∷ [])
+  finished fin =
+      recorded p q h sound c given fin.records None None
+      (subst (λ cs. Updates p.calls cs c.number (Some c) None) (sym fin.calls) (updates_removed p.calls c.number c at sound.ledger.calls_rise))
+      (subst (λ ss. Updates p.sessions ss c.session (Some (Some c.number)) (Some None)) (sym (fin.sessions ∙ ap (session_set_by p.sessions c.session None) busy)) (updates_set p.sessions c.session (Some c.number) busy None))
+      undecided Gone Goes Away (λ d e. absurd (none_some d e)) labels
+
+  reply_now : reply_of (with_reply given c) ≡ Some given
+  unfolding reply_of
+  reply_now = refl
+
+  -- it was carried out by another: its reply waits
+  pub helped : c.stage ≡ stage.Fresh → HelpState p q c c.number given → Sound q (h ++ did c given ∷ [])
+  helped fresh help =
+      recorded p q h sound c given help.records (Some (with_reply given c)) (Some c.number)
+      (subst (λ cs. Updates p.calls cs c.number (Some c) (Some (with_reply given c))) (sym help.calls) (updates_answered p.calls c.number c given at))
+      (subst (λ ss. Updates p.sessions ss c.session (Some (Some c.number)) (Some (Some c.number))) (sym help.sessions) (updates_none p.sessions c.session (Some c.number) busy))
+      undecided (Waits (with_reply given c) reply_now refl) (Stays (with_reply given c) (record { number = refl; session = refl; moment = refl; request = refl }) (λ e. absurd (none_some given (sym e ∙ reply_now))))
+      (Fresh (with_reply given c) fresh)
+      (λ d e. subst (λ (x : Call). IsPosition (route_of x.request) x.stage) (some_eq (with_reply given c) d e) (sound.coupled.positions c.number c at)) labels

@@ -1,0 +1,140 @@
+-- Slots, and what is left of a call: words in which the layer above is told of events.
+use Rattle.std.specs.Prelude.{◌≡◌, ◌≢◌, ◌⊎◌, ◌<◌, ◌≤◌, ◌+◌, ◌-◌, ℕ, true, false, if◌then◌else◌, length, Option, Some, None, refl}
+use Rattle.std.proofs.Common.{sym, ap, ◌∙◌, inl, inr, arith}
+use Rattle.sf_reply.specs.declared.reply.Reply.{Reply}
+use Rattle.sf_book.specs.Books.{BookView}
+use Rattle.sf_call.specs.declared.request.Request.{Request}
+use Rattle.sf_call.specs.declared.call.Call.{Call}
+use Rattle.sf_call.specs.declared.call.Reached.{Reached}
+use Rattle.sf_call.specs.declared.call.Stage.{Stage}
+use Rattle.sf_call.specs.declared.call.Stage.TheVariants as stage
+use Rattle.sf_call.specs.Requests.{Target, target_of}
+use Rattle.sf_call.specs.Requests.Target.{ByHandle, OnPath, OnPaths}
+use Rattle.sf_walk.specs.Routes.{Route, IsPosition, is_rooted, are_nested, route_at, route_of}
+use Rattle.sf_walk.specs.Routes.Route.{NoPath, Along, Between}
+use Rattle.sf_walk.specs.Routes.IsPosition.{Starts, IsOn, IsBefore, IsApart}
+use Rattle.sf_walk.specs.Ways.{names_at, names_on, names_of as path_names}
+use Rattle.sf_walk.specs.Steps.{WalksOn}
+use Rattle.sf_core.specs.Lanes.{LaneView}
+use Rattle.sf_core.specs.Cores.{CoreView, call_at, session_at, busy_with, slot_by, slot_of}
+use Rattle.sf_core.specs.Cores.Slot.{Idle, Busy}
+use Rattle.sf_core.specs.Progress.{reply_of, left_at, left_by, left_of, bound_of, new_call}
+use Rattle.sf_core.specs.Events.{OwnCall, KeepsRecords}
+use Rattle.sf_core.specs.Parts.{PartsView, seen}
+use Rattle.sf_core.specs.Sound.{Ledger}
+use Rattle.sf_core.proofs.Maps.{some_eq, reply_is}
+
+-- ---- slots
+pub slot_busy : (v : CoreView) (s n : ℕ) (c : Call) → session_at v.sessions s ≡ Some (Some n) → call_at v.calls n ≡ Some c → slot_of v s ≡ Busy c
+slot_busy v s n c e f = ap (slot_by v.calls) e ∙ ap busy_with f
+
+pub slot_idle : (v : CoreView) (s : ℕ) → session_at v.sessions s ≡ Some None → slot_of v s ≡ Idle
+slot_idle v s e = ap (slot_by v.calls) e
+
+busy_call : (o : Option Call) (c : Call) → busy_with o ≡ Busy c → o ≡ Some c
+busy_call None c e = absurd (let x : ⊥ = cc in x)
+busy_call (Some d) c e = let same : d ≡ c = cc in ap Some same
+
+busy_by : (v : CoreView) (s : ℕ) (c : Call) (o : Option (Option ℕ)) → session_at v.sessions s ≡ o → slot_by v.calls o ≡ Busy c → (n : ℕ) × (session_at v.sessions s ≡ Some (Some n)) × (call_at v.calls n ≡ Some c)
+busy_by v s c None e f = absurd (let x : ⊥ = cc in x)
+busy_by v s c (Some None) e f = absurd (let x : ⊥ = cc in x)
+busy_by v s c (Some (Some n)) e f = (n, e, busy_call (call_at v.calls n) c f)
+
+pub busy_slot : (v : CoreView) (s : ℕ) (c : Call) → slot_of v s ≡ Busy c → (n : ℕ) × (session_at v.sessions s ≡ Some (Some n)) × (call_at v.calls n ≡ Some c)
+busy_slot v s c e = busy_by v s c (session_at v.sessions s) refl e
+
+-- a session whose entry and whose call stay has the slot that it had
+pub slot_kept : (v w : CoreView) (s : ℕ) (o : Option (Option ℕ)) → session_at v.sessions s ≡ o → session_at w.sessions s ≡ o → ((m : ℕ) → o ≡ Some (Some m) → call_at w.calls m ≡ call_at v.calls m) → slot_of w s ≡ slot_of v s
+slot_kept v w s None e f same = ap (slot_by w.calls) f ∙ sym (ap (slot_by v.calls) e)
+slot_kept v w s (Some None) e f same = ap (slot_by w.calls) f ∙ sym (ap (slot_by v.calls) e)
+slot_kept v w s (Some (Some m)) e f same = ap (slot_by w.calls) f ∙ ap busy_with (same m refl) ∙ sym (ap (slot_by v.calls) e)
+
+-- where one call and the entry of one session are others, all other slots stay
+pub slots_kept : (v w : CoreView) (n session : ℕ) → ((m : ℕ) → m ≢ n → call_at w.calls m ≡ call_at v.calls m) → ((s : ℕ) → s ≢ session → session_at w.sessions s ≡ session_at v.sessions s)
+    → ((s m : ℕ) → s ≢ session → session_at v.sessions s ≡ Some (Some m) → m ≢ n) → (s : ℕ) → s ≢ session → slot_of w s ≡ slot_of v s
+slots_kept v w n session calls sessions others s ne = slot_kept v w s (session_at v.sessions s) refl (sessions s ne) (λ m e. calls m (others s m ne e))
+
+-- the lane's call is the one of its number
+pub own_call : (p : PartsView) → Ledger p → (lane : LaneView) (n : ℕ) (c : Call) → call_at p.calls n ≡ Some c → c.session ≡ lane.session → lane.call ≡ Some n → OwnCall (seen p) lane c
+own_call p ledger lane n c at session call =
+    let is = ledger.calls n c at in
+    record { slot = slot_busy (seen p) lane.session n c (ap (session_at p.sessions) (sym session) ∙ is.session) at; session = session; number = call ∙ ap Some (sym is.is_number) }
+
+-- no other lane has a call
+pub no_stranger : (p : PartsView) → Ledger p → (lane : LaneView) (n : ℕ) → lane.call ≡ Some n → ((c : Call) → call_at p.calls n ≡ Some c → c.session ≡ lane.session → ⊥) → (c : Call) → OwnCall (seen p) lane c → ⊥
+no_stranger p ledger lane n call never c own =
+    let b = busy_slot (seen p) lane.session c own.slot in
+    let same : b.0 ≡ n = sym (ledger.calls b.0 c b.2).is_number ∙ some_eq c.number n (sym own.number ∙ call) in
+    never c (ap (call_at p.calls) (sym same) ∙ b.2) own.session
+
+-- ---- records
+-- a book that has another room alone shows the same records
+pub same_records : (p q : PartsView) → q.book ≡ record p.book { room = q.book.room } → KeepsRecords (seen p) (seen q)
+same_records p q e = record { records = ap (λ (b : BookView). b.records) e; keep = ap (λ (b : BookView). b.keep) e; folded = ap (λ (b : BookView). b.folded) e }
+
+pub same_book : (p q : PartsView) → q.book ≡ p.book → KeepsRecords (seen p) (seen q)
+same_book p q e = record { records = ap (λ (b : BookView). b.records) e; keep = ap (λ (b : BookView). b.keep) e; folded = ap (λ (b : BookView). b.folded) e }
+
+-- ---- what is left
+pub left_is : (c : Call) → reply_of c ≡ None → left_of c ≡ left_at (path_names c.request) c.stage
+unfolding left_of
+left_is c e = ap (left_by (path_names c.request) c.stage) e
+
+pub left_one : (c : Call) (given : Reply) → reply_of c ≡ Some given → left_of c ≡ 1
+unfolding left_of
+left_one c given e = ap (left_by (path_names c.request) c.stage) e
+
+pub undecided_new : (number session moment : ℕ) (request : Request) → reply_of (new_call number session moment request) ≡ None
+undecided_new number session moment request = reply_is (new_call number session moment request)
+
+pub all_left : (number session moment : ℕ) (request : Request) → left_of (new_call number session moment request) ≡ bound_of request
+unfolding bound_of
+all_left number session moment request = left_is (new_call number session moment request) (undecided_new number session moment request)
+
+-- the names of a route are names of its request
+fit_by : (g : Target) → names_on (route_at g) ≤ names_at g
+fit_by (ByHandle handle) = omega arith
+fit_by (OnPath path) = omega arith
+fit_by (OnPaths old new) = elim (is_rooted old new) as (λ a. names_on (if a then NoPath else if are_nested old new then Along old else Between old new) ≤ length old + length new) [
+  | true ↦ omega arith
+  | false ↦ elim (are_nested old new) as (λ b. names_on (if b then Along old else Between old new) ≤ length old + length new) [ true ↦ omega arith | false ↦ omega arith ]
+]
+
+names_fit : (r : Request) → names_on (route_of r) ≤ path_names r
+names_fit r = fit_by (target_of r)
+
+-- how many names a call has walked, on both ways
+abbrev pub walked_in : Stage → ℕ
+walked_in stage.Fresh = 0
+walked_in (stage.At walked node) = walked
+walked_in (stage.Ends common from to) = from.walked + to.walked
+
+walked_on : (r : Route) (at : Stage) → IsPosition r at → walked_in at ≤ names_on r
+walked_on r at (Starts o is) = omega arith
+walked_on r at (IsOn path walked node less) = omega (arith, less)
+walked_on r at (IsBefore old new walked node count part less) = let short = part.short in omega (arith, less, short)
+walked_on r at (IsApart old new common from to is) = let a = is.short in let b = is.short_new in omega (arith, a, b)
+
+pub walked_few : (c : Call) (at : Stage) → IsPosition (route_of c.request) at → walked_in at ≤ path_names c.request
+walked_few c at is = let a = walked_on (route_of c.request) at is in let b = names_fit c.request in omega (arith, a, b)
+
+-- some steps are left, and fewer after each one
+pub some_left : (names : ℕ) (at : Stage) → walked_in at ≤ names → 0 < left_at names at
+some_left names stage.Fresh few = omega arith
+some_left names (stage.At walked node) few = omega (arith, few)
+some_left names (stage.Ends common from to) few = omega (arith, few)
+
+at_common : (c f g : Reached) → f ≡ c → g ≡ c → (f.walked ≡ c.walked) × (g.walked ≡ c.walked)
+at_common c f g e h = (ap (λ (r : Reached). r.walked) e, ap (λ (r : Reached). r.walked) h)
+
+pub less_left : (names : ℕ) (at after : Stage) → WalksOn at after → walked_in after ≤ names → left_at names after < left_at names at
+less_left names stage.Fresh (stage.At walked node) on few = omega (arith, on, few)
+less_left names stage.Fresh (stage.Ends c f g) on few = omega (arith, few)
+less_left names (stage.At v above) (stage.At walked node) on few = omega (arith, on, few)
+less_left names (stage.At v above) (stage.Ends c f g) on few = let h = at_common c f g on.1 on.2 in let n = on.0 in omega (arith, h.0, h.1, n, few)
+less_left names (stage.Ends c f g) (stage.Ends d x y) on few = by on.1
+  where
+    by : ((x.walked ≡ f.walked + 1) × (y ≡ g)) ⊎ ((x ≡ f) × (y.walked ≡ g.walked + 1)) → names + 2 - (x.walked + y.walked) < names + 2 - (f.walked + g.walked)
+    by (inl h) = let e = h.0 in let same = ap (λ (r : Reached). r.walked) h.1 in omega (arith, e, same, few)
+    by (inr h) = let e = h.1 in let same = ap (λ (r : Reached). r.walked) h.0 in omega (arith, e, same, few)
+less_left names at after on few = absurd on

@@ -1,0 +1,241 @@
+-- What a step makes of a core, of its history and of the lane.
+use Rattle.std.specs.Prelude.{◌≡◌, ◌≢◌, ◌<◌, ◌≤◌, ◌+◌, ◌-◌, ◌^◌, ℕ, min, List, [], ◌++◌, length, Option, Some, None, refl}
+use Rattle.std.specs.Option.{option_map_or}
+use Rattle.std.proofs.Common.{sym, ap, subst, ◌∙◌, inl, arith, append-nil}
+use Rattle.sf_reply.specs.declared.reply.Reply.{Reply}
+use Rattle.sf_call.specs.Answers.{Answered as Answer}
+use Rattle.sf_call.specs.declared.call.Call.{Call}
+use Rattle.sf_call.specs.declared.call.Stage.{Stage}
+use Rattle.sf_call.specs.declared.call.Stage.TheVariants as stage
+use Rattle.sf_call.specs.declared.record.Record.{Record}
+use Rattle.sf_call.specs.Unanswered.{at_stage}
+use Rattle.sf_book.proofs.Laws.{deeds-append}
+use Rattle.sf_inode.specs.Nodes.{with_holder}
+use Rattle.sf_inode.specs.Stores.{StoreState, holder_of, edited}
+use Rattle.sf_coupling.specs.Walks.{Spot, Holds, scene}
+use Rattle.sf_walk.specs.declared.walking.Walk.TheVariants as walked
+use Rattle.sf_walk.specs.Routes.{nodes_of, route_of, spots_of, terrain}
+use Rattle.sf_walk.specs.Ways.{names_of as path_names}
+use Rattle.sf_walk.specs.Steps.{entered, handed_over, walker}
+use Rattle.sf_walk.proofs.Laws.{ground_stays}
+use Rattle.sf_core.specs.declared.step.Step.{Step}
+use Rattle.sf_core.specs.declared.step.Step.TheVariants as step
+use Rattle.sf_core.specs.Lanes.{LaneView, at_rest}
+use Rattle.sf_core.specs.Cores.{call_at, session_at}
+use Rattle.sf_core.specs.Progress.{reply_of, undecided_in}
+use Rattle.sf_core.specs.Histories.{IsHistory}
+use Rattle.sf_core.specs.Events.{OwnCall, Goes, IsBlocked, Fetches, Steps, StepsOn}
+use Rattle.sf_core.specs.Parts.{PartsView, seen}
+use Rattle.sf_core.specs.Sound.{spots_at, spots_in, Sound, IsCore}
+use Rattle.sf_core.specs.Stepping.{session_set_by, Walked, FetchState}
+use Rattle.sf_core.proofs.Maps.{reply_is}
+use Rattle.sf_core.proofs.Updates.{Updates, updates_set, updates_removed, updates_staged}
+use Rattle.sf_core.proofs.LookUps.{looks_between, looks_of_looked}
+use Rattle.sf_core.proofs.Ledgers.{other_session, other_call}
+use Rattle.sf_core.proofs.Unrecorded.{looked_sound, moved_sound, blocked_wants, fetched_sound}
+use Rattle.sf_core.proofs.Deeper.{looks_deeper}
+use Rattle.sf_core.proofs.Backing.{let_go_looks}
+use Rattle.sf_core.proofs.Told.{slot_busy, slot_idle, slots_kept, slot_kept, own_call, no_stranger, same_book, left_is, left_one, walked_few, some_left, less_left}
+
+-- ---- histories
+-- parts that are a core's are sound by each history that it has
+pub sound_of : (p : PartsView) → IsCore p → (h : List Record) → IsHistory (seen p) h → Sound p h
+sound_of p core h is = record { history = is; coupled = core.sound.coupled; ledger = core.sound.ledger }
+
+-- an event adds records, and a sound core is sound by its history with them
+abbrev pub Adds : PartsView → PartsView → ((h added : List Record) → Type 0) → Type 0
+Adds p q Told = (h : List Record) → Sound p h → (added : List Record) × Sound q (h ++ added) × Told h added
+
+module _ (p q : PartsView) (Told : (h added : List Record) → Type 0) (core : IsCore p) (adds : Adds p q Told) where
+  pub core_after : IsCore q
+  core_after = let a = adds core.history core.sound in record { history = core.history ++ a.0; sound = a.1 }
+
+  -- no more calls are undecided, where no number was drawn
+  pub places_after : q.drawn ≡ p.drawn → (places : ℕ) → undecided_in p.calls ≤ places → undecided_in q.calls ≤ places
+  places_after drawn places fit =
+      let a = adds core.history core.sound in
+      let x = core.sound.history.counted in
+      let y = a.1.history.counted in
+      omega (arith, x, y, drawn, deeds-append core.history a.0, fit)
+
+-- an event without a record
+pub adds_none : (p q : PartsView) (Told : (h added : List Record) → Type 0) → ((h : List Record) → Sound p h → Sound q h × Told h []) → Adds p q Told
+adds_none p q Told each h sound = let e = each h sound in ([], subst (λ (x : List Record). Sound q x) (sym (append-nil h)) e.0, e.1)
+
+-- a step
+abbrev pub IsStep : PartsView → LaneView → Step → PartsView → LaneView → Type 0
+IsStep p lane s q lane' = Adds p q (λ h added. Steps (record { core = seen p; history = h; lane = lane }) s (record { core = seen q; added = added; lane = lane' }))
+
+pub steps_on : (p q : PartsView) (lane lane' : LaneView) (s : Step) → IsCore p → IsStep p lane s q lane' → StepsOn (seen p) lane s (seen q) lane'
+steps_on p q lane lane' s core adds h is = let a = adds h (sound_of p core h is) in (a.0, a.1.history, a.2)
+
+-- ---- a lane of no call of this core
+pub foreign_step : (p q : PartsView) (lane : LaneView) (n : ℕ) → lane.call ≡ Some n → ((c : Call) → call_at p.calls n ≡ Some c → c.session ≡ lane.session → ⊥) → q ≡ p → IsStep p lane step.Stranger q lane
+foreign_step p q lane n call never same = adds_none p q _ (λ h sound.
+    (subst (λ (x : PartsView). Sound x h) (sym same) sound, ((λ c own. no_stranger p sound.ledger lane n call never c own), ap seen same, record { none = refl; lane = refl })))
+
+-- ---- look-ups
+one_more : (s : StoreState) → s.look_ups < 2 ^ 64 → (s.look_ups ≤ min (s.look_ups + 1) (2 ^ 64 - 1)) × (min (s.look_ups + 1) (2 ^ 64 - 1) ≤ s.look_ups + 2)
+one_more s fits = (omega (arith, fits), omega arith)
+
+entered_looks : (g : Stage) (s : StoreState) → s.look_ups < 2 ^ 64 → (s.look_ups ≤ (entered g s).look_ups) × ((entered g s).look_ups ≤ s.look_ups + 2)
+entered_looks stage.Fresh s fits = (omega arith, omega arith)
+entered_looks (stage.At v above) s fits = one_more s fits
+entered_looks (stage.Ends common from to) s fits = one_more s fits
+
+moved_looks : (n : ℕ) (was now : Stage) (node : ℕ) (s : StoreState) → s.look_ups < 2 ^ 64
+    → (s.look_ups ≤ (handed_over n was now node (entered was s)).look_ups) × ((handed_over n was now node (entered was s)).look_ups ≤ s.look_ups + 2)
+moved_looks n was now node s fits =
+    let e = entered_looks was s fits in
+    let f = let_go_looks (nodes_of now) (nodes_of was) (edited (with_holder (Some n)) (entered was s) node) in
+    (let a = e.0 in omega (arith, a, f), let b = e.1 in omega (arith, b, f))
+
+-- ---- the lane's call has its turn
+pub record IsTurn (p : PartsView) (lane : LaneView) (c : Call) : Type 0 where
+  pub at : call_at p.calls c.number ≡ Some c
+  pub session : c.session ≡ lane.session
+  pub call : lane.call ≡ Some c.number
+  pub fits : p.store.look_ups < 2 ^ 64
+
+pub turn_of : (p : PartsView) → IsCore p → (lane : LaneView) (n : ℕ) (c : Call) → call_at p.calls n ≡ Some c → c.session ≡ lane.session → lane.call ≡ Some n → p.store.look_ups < 2 ^ 64 → IsTurn p lane c × (c.number ≡ n)
+turn_of p core lane n c at session call fits =
+    let is = (core.sound.ledger.calls n c at).is_number in
+    (record { at = ap (call_at p.calls) is ∙ at; session = session; call = call ∙ ap Some (sym is); fits = fits }, is)
+
+module _ (p : PartsView) (lane : LaneView) (c : Call) (turn : IsTurn p lane c) where
+  own : (h : List Record) → Sound p h → OwnCall (seen p) lane c
+  own h sound = own_call p sound.ledger lane c.number c turn.at turn.session turn.call
+
+  busy : (h : List Record) → Sound p h → session_at p.sessions lane.session ≡ Some (Some c.number)
+  busy h sound = ap (session_at p.sessions) (sym turn.session) ∙ (sound.ledger.calls c.number c turn.at).session
+
+  -- another session has another call
+  pub apart : (h : List Record) → Sound p h → (s m : ℕ) → s ≢ lane.session → session_at p.sessions s ≡ Some (Some m) → m ≢ c.number
+  apart h sound s m ne at = other_call p sound.ledger c.number c turn.at s m (λ e. ne (e ∙ turn.session)) at
+
+  -- ---- a reply is fetched
+  module _ (given : Reply) (decided : reply_of c ≡ Some given) (q : PartsView) (fetched : FetchState p q lane.session c.number) (a : Answer) (is : a ≡ record { number = c.number; session = lane.session; reply = given }) where
+    fetched_told : (h : List Record) → Sound p h → Fetches (record { core = seen p; history = h; lane = lane }) (record { core = seen q; added = []; lane = at_rest lane }) c given
+    fetched_told h sound =
+        let calls = updates_removed p.calls c.number c turn.at sound.ledger.calls_rise in
+        let sessions = updates_set p.sessions lane.session (Some c.number) (busy h sound) None in
+        let ss : (s : ℕ) → _ = λ s. ap (λ (x : List (ℕ × Option ℕ)). session_at x s) (fetched.sessions ∙ ap (session_set_by p.sessions lane.session None) (busy h sound)) in
+        record {
+          own = own h sound;
+          decided = decided;
+          some = let one = left_one c given decided in omega (arith, one);
+          recorded = sound.history.decided c.number c given turn.at decided;
+          none = refl;
+          slot = record {
+            own = slot_idle (seen q) lane.session (ss lane.session ∙ sessions.now_is);
+            others = slots_kept (seen p) (seen q) c.number lane.session (λ m ne. ap (λ cs. call_at cs m) fetched.calls ∙ calls.rest m ne) (λ s ne. ss s ∙ sessions.rest s ne) (apart h sound);
+            joined = let e = ap (λ (x : List (ℕ × Option ℕ)). length x) (fetched.sessions ∙ ap (session_set_by p.sessions lane.session None) (busy h sound)) in let f = sessions.size in omega (arith, e, f);
+            drawn = fetched.drawn;
+            joins = fetched.joins;
+          };
+          records = same_book p q fetched.book;
+          look_ups = ap (λ (x : StoreState). x.look_ups) fetched.store;
+        }
+
+    pub fetched_step : IsStep p lane (step.Answered a) q (at_rest lane)
+    fetched_step = adds_none p q _ (λ h sound. (
+      fetched_sound p q h sound c turn.at given decided (subst (λ s. FetchState p q s c.number) (sym turn.session) fetched),
+      (
+        (c, inl (subst (λ (g : Reply). Fetches (record { core = seen p; history = h; lane = lane }) (record { core = seen q; added = []; lane = at_rest lane }) c g) (sym (ap (λ (x : Answer). x.reply) is)) (fetched_told h sound))),
+        record { session = ap (λ (x : Answer). x.session) is; number = turn.call ∙ ap Some (sym (ap (λ (x : Answer). x.number) is)); lane = refl },
+      ),
+    ))
+
+  module _ (undecided : reply_of c ≡ None) (q : PartsView) where
+    -- ---- it moves
+    module _ (after : Stage) (w : Walked p q c c.number (walked.Moved after)) where
+      moved_told : (h : List Record) → Sound p h → Goes (seen p) (seen q) lane c (at_stage after c)
+      moved_told h sound =
+          let calls = subst (λ cs. Updates p.calls cs c.number (Some c) (Some (at_stage after c))) (sym w.calls) (updates_staged p.calls c.number c after turn.at) in
+          let ss : (s : ℕ) → _ = λ s. ap (λ (x : List (ℕ × Option ℕ)). session_at x s) w.sessions in
+          let none : reply_of (at_stage after c) ≡ None = reply_is (at_stage after c) ∙ sym (reply_is c) ∙ undecided in
+          let few = walked_few c after w.advances.position in
+          let now = left_is (at_stage after c) none in
+          let looks = moved_looks c.number c.stage after w.advances.spot.node p.store turn.fits in
+          let e = ap (λ (x : StoreState). x.look_ups) w.advances.state in
+          record {
+            own = own h sound;
+            same = record { number = refl; session = refl; moment = refl; request = refl };
+            before = undecided;
+            after = none;
+            walks = w.advances.walks;
+            less = let less = less_left (path_names c.request) c.stage after w.advances.walks few in omega (arith, less, now, left_is c undecided);
+            some = let some = some_left (path_names c.request) after few in omega (arith, some, now);
+            slot = record {
+              own = slot_busy (seen q) lane.session c.number (at_stage after c) (ss lane.session ∙ busy h sound) calls.now_is;
+              others = slots_kept (seen p) (seen q) c.number lane.session calls.rest (λ s ne. ss s) (apart h sound);
+              joined = ap (λ (x : List (ℕ × Option ℕ)). length x) w.sessions;
+              drawn = w.drawn;
+              joins = w.joins;
+            };
+            records = same_book p q w.book;
+            more = let a = looks.0 in omega (arith, a, e);
+            few = let b = looks.1 in omega (arith, b, e);
+          }
+
+      pub moved_step : IsStep p lane step.Moved q lane
+      moved_step = adds_none p q _ (λ h sound. (
+        subst (λ (x : PartsView). Sound x h) (λ i. record { store = q.store; book = sym w.book i; sessions = sym w.sessions i; calls = sym w.calls i; drawn = sym w.drawn i; joins = sym w.joins i })
+            (moved_sound p h sound c turn.at undecided q.store after w.advances),
+        ((c, at_stage after c, moved_told h sound), record { none = refl; lane = refl }),
+      ))
+
+    -- ---- it waits
+    module _ (holder : ℕ) (w : Walked p q c c.number (walked.Blocked holder)) where
+      the_holder : (spot : Spot) → Holds (spots_in p.calls holder) spot → (d : Call) × (call_at p.calls holder ≡ Some d) × Holds (spots_at d) spot
+      the_holder spot hold = elim (call_at p.calls holder) as (λ o. call_at p.calls holder ≡ o → Holds (option_map_or spots_at o []) spot → (d : Call) × (o ≡ Some d) × Holds (spots_at d) spot) [
+        | None ↦ λ e h. absurd h
+        | Some d ↦ λ e h. (d, refl, h)
+      ] refl hold
+
+      -- who holds a directory hasn't its reply yet
+      not_decided : (h : List Record) → Sound p h → (d : Call) (spot : Spot) → call_at p.calls holder ≡ Some d → Holds (spots_at d) spot → reply_of d ≡ None
+      not_decided h sound d spot at hold = elim (reply_of d) as (λ o. reply_of d ≡ o → o ≡ None) [
+        | None ↦ λ e. refl
+        | Some given ↦ λ e. absurd (subst (λ (g : Stage). Holds (spots_of (route_of d.request) g) spot) (sound.coupled.waiting holder d given at e) hold)
+      ] refl
+
+      blocked_told : (h : List Record) → Sound p h → IsBlocked (seen p) (seen q) lane c holder
+      blocked_told h sound =
+          let wants = blocked_wants p h sound c turn.at undecided q.store holder w.advances in
+          let d = the_holder wants.0 wants.4 in
+          let is = sound.ledger.calls holder d.0 d.1 in
+          let looks = looks_between p.store q.store 1 turn.fits (looks_of_looked p.store q.store 1 w.advances.looked) in
+          let spots : (n : ℕ) (x : Call) → call_at p.calls n ≡ Some x → spots_in p.calls n ≡ spots_of (route_of x.request) x.stage = λ n x at. ap (λ (o : Option Call). option_map_or spots_at o []) at in
+          record {
+            own = own h sound;
+            undecided = undecided;
+            other = d.0.session;
+            call = d.0;
+            apart = λ e. other_session p sound.ledger c.number c turn.at holder d.0 (λ same. w.advances.other (sym same)) d.1 (e ∙ sym turn.session);
+            slot = slot_busy (seen p) d.0.session holder d.0 is.session d.1;
+            holds = not_decided h sound d.0 wants.0 d.1 d.2;
+            number = is.is_number;
+            wanted = record { spot = wants.0; looks = wants.1; leads = wants.2; held = wants.3 ∙ ap Some (sym is.is_number); came = d.2 };
+            deeper =
+                looks_deeper (scene (terrain p.store) (spots_in p.calls) (holder_of p.store.nodes)) sound.coupled.walks c.number holder w.advances.other (route_of c.request) (route_of d.0.request) c.stage d.0.stage
+                (spots c.number c turn.at) (sound.coupled.positions c.number c turn.at) (spots holder d.0 d.1) (sound.coupled.positions holder d.0 d.1) wants.0 wants.1 wants.4;
+            looks = record {
+              records = same_book p q w.book;
+              drawn = w.drawn;
+              joins = w.joins;
+              sessions = w.sessions;
+              calls = w.calls;
+              slots = λ s. slot_kept (seen p) (seen q) s (session_at p.sessions s) refl (ap (λ ss. session_at ss s) w.sessions) (λ m f. ap (λ cs. call_at cs m) w.calls);
+              joined = ap (λ (ss : List (ℕ × Option ℕ)). length ss) w.sessions;
+              more = looks.0;
+              few = let b = looks.1 in omega (arith, b);
+            };
+          }
+
+      pub blocked_step : IsStep p lane (step.Blocked holder) q lane
+      blocked_step = adds_none p q _ (λ h sound. (
+        subst (λ (x : PartsView). Sound x h) (λ i. record { store = q.store; book = sym w.book i; sessions = sym w.sessions i; calls = sym w.calls i; drawn = sym w.drawn i; joins = sym w.joins i })
+            (looked_sound p h sound q.store 1 w.advances.looked (ground_stays p.store q.store (walker c.number (route_of c.request) c.stage) (walked.Blocked holder) w.advances)),
+        ((c, blocked_told h sound), record { none = refl; lane = refl }),
+      ))

@@ -1,0 +1,130 @@
+-- The paths that a call walks, and where it is on them.
+use Rattle.std.specs.Prelude.{◌≡◌, ◌≢◌, ◌<◌, ◌≤◌, ◌+◌, ℕ, Bool, false, ◌||◌, if◌then◌else◌, List, [], ◌∷◌, length, take, slice_get, is_some}
+use Rattle.sf_path.specs.Names.{Path}
+use Rattle.sf_call.specs.declared.call.Reached.{Reached}
+use Rattle.sf_call.specs.declared.call.Stage.{Stage}
+use Rattle.sf_call.specs.declared.call.Stage.TheVariants as stage
+use Rattle.sf_call.specs.declared.request.Request.{Request}
+use Rattle.sf_call.specs.Requests.{Target, target_of}
+use Rattle.sf_call.specs.Requests.Target.{ByHandle, OnPath, OnPaths}
+use Rattle.sf_call.specs.Tree.{after_front, is_nil}
+use Rattle.sf_inode.specs.Stores.{StoreState, entry_of, is_directory_at}
+use Rattle.sf_keeps.specs.Steps.{walk}
+use Rattle.sf_coupling.specs.Walks.{Terrain, Spot, Holds, LeadsTo}
+use Rattle.sf_walk.specs.declared.routes.Route.{Route as Borrowed}
+use Rattle.sf_walk.specs.declared.routes.Route.TheVariants as borrowed
+
+-- no path; one; or two that part
+pub data Route : Type 0 where
+  NoPath : Route
+  Along : (path : Path) → Route
+  Between : (old : Path) → (new : Path) → Route
+
+-- one of two paths begins with the other
+abbrev pub are_nested : Path → Path → Bool
+are_nested old new = is_some (after_front old new) || is_some (after_front new old)
+
+-- one of two paths is the root
+abbrev pub is_rooted : Path → Path → Bool
+is_rooted old new = is_nil old || is_nil new
+
+-- A call on two paths walks neither with the root among them, and the old one alone where one
+-- begins with the other.
+abbrev pub route_between : Path → Path → Route
+route_between old new =
+    if is_rooted old new then NoPath else if are_nested old new then Along old else Between old new
+
+abbrev pub route_at : Target → Route
+route_at (ByHandle handle) = NoPath
+route_at (OnPath path) = Along path
+route_at (OnPaths old new) = route_between old new
+
+abbrev pub route_of : Request → Route
+route_of request = route_at (target_of request)
+
+-- a route in the code
+abbrev pub route_in : Borrowed → Route
+route_in borrowed.NoPath = NoPath
+route_in (borrowed.Along path) = Along path.now
+route_in (borrowed.Between old new) = Between old.now new.now
+
+-- so many names are alike at the front of both paths, and the next of each are not
+pub record PartAt (old new : Path) (count : ℕ) : Type 0 where
+  pub alike : take count old ≡ take count new
+  pub short : count < length old
+  pub short_new : count < length new
+  pub apart : slice_get old count ≢ slice_get new count
+
+abbrev pub reached : ℕ → ℕ → Reached
+reached walked node = record { walked = walked; node = node }
+
+-- On both ends of its route a call holds the last directory of both paths; the end of the old path
+-- goes first, and the other stays at the common directory until the first is at the old path's
+-- parent.
+pub record AreEnds (old new : Path) (common from to : Reached) : Type 0 where
+  pub part : PartAt old new common.walked
+  pub old_below : common.walked ≤ from.walked
+  pub new_below : common.walked ≤ to.walked
+  pub short : from.walked < length old
+  pub short_new : to.walked < length new
+  pub in_turn : from.walked + 1 < length old → to.walked ≡ common.walked
+
+-- two paths of a route part: neither begins with the other
+abbrev pub IsRoute : Route → Type 0
+IsRoute NoPath = Unit {0}
+IsRoute (Along path) = Unit {0}
+IsRoute (Between old new) = are_nested old new ≡ false
+
+-- where a call is on its route
+pub data IsPosition : Route → Stage → Type 0 where
+  Starts : (r : Route) → IsRoute r → IsPosition r stage.Fresh
+  IsOn : (path : Path) (walked node : ℕ) → walked < length path
+      → IsPosition (Along path) (stage.At walked node)
+  IsBefore : (old new : Path) (walked node count : ℕ) → PartAt old new count → walked < count
+      → IsPosition (Between old new) (stage.At walked node)
+  IsApart : (old new : Path) (common from to : Reached) → AreEnds old new common from to
+      → IsPosition (Between old new) (stage.Ends common from to)
+
+-- the directories that a call has come to, and the paths that they lie on
+abbrev pub reached_at : Stage → List Reached
+reached_at stage.Fresh = []
+reached_at (stage.At walked node) = reached walked node ∷ []
+reached_at (stage.Ends common from to) = common ∷ from ∷ to ∷ []
+
+abbrev pub paths_on : Route → List Path
+paths_on NoPath = []
+paths_on (Along path) = path ∷ []
+paths_on (Between old new) = old ∷ old ∷ new ∷ []
+
+-- so many names of the path lead to the node
+abbrev pub spot_on : Path → Reached → Spot
+spot_on path at = record { path = take at.walked path; node = at.node }
+
+abbrev pub spots_on : List Reached → List Path → List Spot
+spots_on [] paths = []
+spots_on (r ∷ at) [] = []
+spots_on (r ∷ at) (path ∷ paths) = spot_on path r ∷ spots_on at paths
+
+-- what a call holds on its route
+abbrev pub spots_of : Route → Stage → List Spot
+spots_of route at = spots_on (reached_at at) (paths_on route)
+
+-- the nodes that a call holds
+abbrev pub nodes_in : List Reached → List ℕ
+nodes_in [] = []
+nodes_in (r ∷ at) = r.node ∷ nodes_in at
+
+abbrev pub nodes_of : Stage → List ℕ
+nodes_of at = nodes_in (reached_at at)
+
+-- where paths lead in a store
+abbrev pub terrain : StoreState → Terrain
+terrain s = record {
+  leads = λ path. walk (entry_of s.nodes) s.root path;
+  is_directory = is_directory_at s.nodes;
+}
+
+-- A call stands on its route: what it has walked leads to the directories that it holds.
+pub record Stands (s : StoreState) (route : Route) (at : Stage) : Type 0 where
+  pub position : IsPosition route at
+  pub leads : (spot : Spot) → Holds (spots_of route at) spot → LeadsTo (terrain s) spot
