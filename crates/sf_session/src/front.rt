@@ -6,7 +6,8 @@ ghost use Rattle.sf_session.specs.Sessions.{Fronts};
 
 use crate::asking::{Ask, ask_of};
 use crate::cause::Cause;
-use sf_wire::{BadCut, Cut, cut};
+use crate::unread::Unread;
+use sf_wire::{BadCut, Cut};
 use std::alloc::{AllocError, Global};
 
 /// What the bytes begin with.
@@ -21,13 +22,16 @@ pub(crate) enum Front {
 }
 
 /// What the bytes begin with, of a session whose first packet was answered if it has begun.
-pub(crate) fn front_of(alloc: Global, begun: bool, bytes: &[u8]) -> Result<Front, AllocError>
-    ensures { IfOk result (λ front. Fronts begun bytes.now front) }
+pub(crate) fn front_of(alloc: Global, begun: bool, unread: &Unread) -> Result<Front, AllocError>
+    ensures { IfOk result (λ front. Fronts begun unread.now front) }
 {
-    match cut(bytes) {
+    match unread.front() {
         Cut::More => Ok(Front::More),
         Cut::Bad(BadCut::ZeroLength) => Ok(Front::Wrong(Cause::ZeroLength)),
         Cut::Bad(BadCut::TooLong) => Ok(Front::Wrong(Cause::TooLong)),
-        Cut::Whole(len) => Ok(Front::Asks(ask_of(alloc, begun, &bytes[4..len])?, len)),
+        Cut::Whole(len) => {
+            let ask = ask_of(alloc, begun, &unread.as_slice()[4..len])?;
+            Ok(Front::Asks(ask, len))
+        }
     }
 }

@@ -15,6 +15,7 @@ mod clock;
 mod fault;
 mod front;
 mod session;
+mod unread;
 
 pub use asking::Ask;
 pub use cause::Cause;

@@ -10,9 +10,10 @@ ghost use Rattle.sf_session.specs.Sessions.{Fronts, new_session, NextGives, refu
 use crate::asking::Ask;
 use crate::cause::Cause;
 use crate::front::{Front, front_of};
+use crate::unread::Unread;
 use bytes::BytesMut;
 use sf_call::{Answer, CoreFault, Request};
-use sf_wire::{Cut, Reply, StatusCode, cut, write_reply, write_version};
+use sf_wire::{Cut, Reply, StatusCode, write_reply, write_version};
 use std::alloc::{AllocError, Global};
 use std::marker::Model;
 use std::mem;
@@ -50,7 +51,7 @@ pub enum Next {
 #[derive(Debug, Drop)]
 pub struct Session {
     alloc: Global,
-    unread: BytesMut,
+    unread: Unread,
     output: BytesMut,
     begun: bool,
     waiting: Option<u32>,
@@ -66,7 +67,7 @@ impl Model for Session {
     ghost Value = { SessionView };
 
     ghost view = { λ s. record {
-      unread = s.unread.items;
+      unread = s.unread;
       output = s.output.items;
       begun = s.begun;
       waiting = s.waiting;
@@ -83,7 +84,7 @@ impl Session {
     {
         Session {
             alloc,
-            unread: BytesMut::new(alloc),
+            unread: Unread::new(alloc),
             output: BytesMut::new(alloc),
             begun: false,
             waiting: None,
@@ -102,7 +103,7 @@ impl Session {
         if self.ended.is_some() {
             return Err(SessionFault::Ended);
         }
-        if self.unread.extend_from_slice(bytes).is_err() {
+        if self.unread.extend(bytes).is_err() {
             return Err(SessionFault::OutOfMemory);
         }
         Ok(())
@@ -112,7 +113,7 @@ impl Session {
     pub fn is_drained(&self) -> bool
         ensures { IsTrue result ↔ IsCut self.now.unread More }
     {
-        match cut(self.unread.as_slice()) {
+        match self.unread.front() {
             Cut::More => true,
             Cut::Whole(_) | Cut::Bad(_) => false,
         }
@@ -146,7 +147,7 @@ impl Session {
     fn front(&self) -> Result<Front, AllocError>
         ensures { IfOk result (λ front. Fronts self.now.begun self.now.unread front) }
     {
-        front_of(self.alloc, self.begun, self.unread.as_slice())
+        front_of(self.alloc, self.begun, &self.unread)
     }
 
     /// No whole packet is unread.
@@ -163,7 +164,7 @@ impl Session {
         ensures next { result ≡ Next.Ended cause }
         ensures session { self.new ≡ record self.old { unread = []; ended = Some cause } }
     {
-        self.unread = BytesMut::new(self.alloc);
+        self.unread = Unread::new(self.alloc);
         self.ended = Some(cause);
         self.let_go();
         Next::Ended(cause)
@@ -174,7 +175,7 @@ impl Session {
         requires { len ≤ length self.old.unread }
         ensures { self.new ≡ record self.old { unread = drop len self.old.unread; begun = true } }
     {
-        self.unread.advance(len);
+        self.unread.pass(len);
         self.begun = true;
     }
 
