@@ -15,6 +15,7 @@ use Rattle.sf_walk.specs.Routes.Route.{NoPath, Along, Between}
 use Rattle.sf_walk.specs.Routes.IsPosition.{Starts, IsOn, IsBefore, IsApart}
 use Rattle.sf_walk.specs.Ways.{names_at, names_on, names_of as path_names}
 use Rattle.sf_walk.specs.Steps.{WalksOn}
+use Rattle.sf_walk.specs.Steps.WalksOn.{TakesRoot, PartsAtRoot, GoesOn, Parts, OldGoesOn, NewGoesOn}
 use Rattle.sf_core.specs.Lanes.{LaneView}
 use Rattle.sf_core.specs.Cores.{CoreView, call_at, session_at, busy_with, slot_by, slot_of}
 use Rattle.sf_core.specs.Cores.Slot.{Idle, Busy}
@@ -124,17 +125,10 @@ some_left names stage.Fresh few = omega arith
 some_left names (stage.At walked node) few = omega (arith, few)
 some_left names (stage.Ends common from to) few = omega (arith, few)
 
-at_common : (c f g : Reached) → f ≡ c → g ≡ c → (f.walked ≡ c.walked) × (g.walked ≡ c.walked)
-at_common c f g e h = (ap (λ (r : Reached). r.walked) e, ap (λ (r : Reached). r.walked) h)
-
 pub less_left : (names : ℕ) (at after : Stage) → WalksOn at after → walked_in after ≤ names → left_at names after < left_at names at
-less_left names stage.Fresh (stage.At walked node) on few = omega (arith, on, few)
-less_left names stage.Fresh (stage.Ends c f g) on few = omega (arith, few)
-less_left names (stage.At v above) (stage.At walked node) on few = omega (arith, on, few)
-less_left names (stage.At v above) (stage.Ends c f g) on few = let h = at_common c f g on.1 on.2 in let n = on.0 in omega (arith, h.0, h.1, n, few)
-less_left names (stage.Ends c f g) (stage.Ends d x y) on few = by on.1
-  where
-    by : ((x.walked ≡ f.walked + 1) × (y ≡ g)) ⊎ ((x ≡ f) × (y.walked ≡ g.walked + 1)) → names + 2 - (x.walked + y.walked) < names + 2 - (f.walked + g.walked)
-    by (inl h) = let e = h.0 in let same = ap (λ (r : Reached). r.walked) h.1 in omega (arith, e, same, few)
-    by (inr h) = let e = h.1 in let same = ap (λ (r : Reached). r.walked) h.0 in omega (arith, e, same, few)
-less_left names at after on few = absurd on
+less_left names at after (TakesRoot node) few = omega arith
+less_left names at after (PartsAtRoot to e) few = omega (arith, e, few)
+less_left names at after (GoesOn walked node to e) few = omega (arith, e, few)
+less_left names at after (Parts walked node to e) few = omega (arith, e, few)
+less_left names at after (OldGoesOn common old new to e) few = omega (arith, e, few)
+less_left names at after (NewGoesOn common old new to e) few = omega (arith, e, few)

@@ -35,6 +35,11 @@ staged_twice calls n g h c at =
     ∙ set_twice (is_at (nat_cmp n)) calls (at_stage g c) (at_stage h c)
     ∙ sym (staged_is calls n h c at)
 
+pub stage_stays : (w : Walk) (g : Stage) → ((after : Stage) → w ≡ walk.Moved after → ⊥) → stage_after w g ≡ g
+stage_stays (walk.Moved after) g ne = absurd (ne after refl)
+stage_stays (walk.Blocked holder) g ne = refl
+stage_stays (walk.Ready ways) g ne = refl
+
 -- ---- one step
 module _ (n : ℕ) (c : Call) where
   noted : (p : PartsView) (g : Stage) → call_at p.calls n ≡ Some (at_stage g c) → (w : Walk) → staged p.calls n (stage_after w g) ≡ walked_calls p.calls n w
@@ -62,6 +67,10 @@ module _ (n : ℕ) (c : Call) where
       },
     );
   }
+
+  -- it stands where it stood
+  pub come_same : (p : PartsView) (s : StoreState) (g : Stage) → IsUnderWay p n s c g → come_to p n s g ≡ p
+  come_same p s g on = λ i. record p { store = sym on.store i; calls = staged_same p.calls n (at_stage g c) on.call i }
 
   -- ---- a step more
   pub under_way : (p : PartsView) (s t : StoreState) (g h : Stage) → IsUnderWay p n s c g → IsCore (come_to p n t h) → IsUnderWay (come_to p n t h) n t c h

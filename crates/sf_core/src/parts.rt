@@ -352,14 +352,14 @@ fn go_on(store: &mut Store, call: &Call, route: Route<'_>, stage: &mut Stage, mo
         → WalkState p call.now.session number most
         (ending (outcome.Walked result) (come_to p number store.new stage.new)) }
 {
-    let mut walk = step(store, call.number, route, stage);
     for _ in 1..most {
-        if !moved(walk) {
-            return walk;
+        let _count = store.look_ups();
+        match advance(store, call.number, route, *stage) {
+            Walk::Moved(after) => *stage = after,
+            walk => return walk,
         }
-        walk = step(store, call.number, route, stage);
     }
-    walk
+    step(store, call.number, route, stage)
 }
 
 /// Takes a call one step on from a stage.
@@ -377,13 +377,6 @@ fn step(store: &mut Store, number: u64, route: Route<'_>, stage: &mut Stage) -> 
         *stage = after;
     }
     walk
-}
-
-/// Whether the call holds another directory after a step.
-fn moved(walk: Walk) -> bool
-    ensures { result ≡ is_move (outcome.Walked walk) }
-{
-    matches!(walk, Walk::Moved(_))
 }
 
 /// A call that walks may be carried out by another one while its session waits, so its request is

@@ -10,6 +10,7 @@ use Rattle.sf_call.specs.Tree.{Tree, is_directory}
 use Rattle.sf_walk.specs.Routes.{Route, IsPosition}
 use Rattle.sf_walk.specs.Routes.IsPosition.{Starts, IsOn, IsBefore, IsApart}
 use Rattle.sf_walk.specs.Steps.{WalksOn, GoesFrom}
+use Rattle.sf_walk.specs.Steps.WalksOn.{TakesRoot, PartsAtRoot, GoesOn, Parts, OldGoesOn, NewGoesOn}
 use Rattle.sf_walk.specs.Steps.GoesFrom.{OnOne, Together, OldEnd, NewEnd}
 use Rattle.sf_core.specs.Progress.{EndsWalk, MayDecideBy}
 use Rattle.sf_core.specs.Progress.MayDecideBy.{AtOnce, AtRoot, AtEnd}
@@ -19,28 +20,12 @@ use Rattle.sf_engine.specs.Fits.{HasMoved}
 
 -- one move more
 pub moved_on : (c d : Stage) (moves : ℕ) → HasMoved c moves → WalksOn c d → HasMoved d (moves + 1)
-moved_on stage.Fresh stage.Fresh moves h w = absurd w
-moved_on stage.Fresh (stage.At walked node) moves h w = omega (arith, h, w)
-moved_on stage.Fresh (stage.Ends common old new) moves h w =
-    let a = w.0 in
-    let b = ap (λ (r : Reached). r.walked) w.1 in
-    let c = ap (λ (r : Reached). r.walked) w.2 in
-    omega (arith, h, a, b, c)
-moved_on (stage.At walked node) stage.Fresh moves h w = absurd w
-moved_on (stage.At walked node) (stage.At more child) moves h w = omega (arith, h, w)
-moved_on (stage.At walked node) (stage.Ends common old new) moves h w =
-    let a = w.0 in
-    let b = ap (λ (r : Reached). r.walked) w.1 in
-    let c = ap (λ (r : Reached). r.walked) w.2 in
-    omega (arith, h, a, b, c)
-moved_on (stage.Ends common old new) stage.Fresh moves h w = absurd w
-moved_on (stage.Ends common old new) (stage.At walked node) moves h w = absurd w
-moved_on (stage.Ends common old new) (stage.Ends same older newer) moves h w =
-    let a = ap (λ (r : Reached). r.walked) w.0 in
-    elim w.1 [
-      | inl e ↦ let b = e.0 in let c = ap (λ (r : Reached). r.walked) e.1 in omega (arith, h, a, b, c)
-      | inr e ↦ let b = ap (λ (r : Reached). r.walked) e.0 in let c = e.1 in omega (arith, h, a, b, c)
-    ]
+moved_on c d moves h (TakesRoot node) = omega (arith, h)
+moved_on c d moves h (PartsAtRoot to e) = omega (arith, h, e)
+moved_on c d moves h (GoesOn walked node to e) = omega (arith, h, e)
+moved_on c d moves h (Parts walked node to e) = omega (arith, h, e)
+moved_on c d moves h (OldGoesOn common old new to e) = omega (arith, h, e)
+moved_on c d moves h (NewGoesOn common old new to e) = omega (arith, h, e)
 
 early : (tree : Tree) (path : Path) (walked moves : ℕ) → moves ≡ walked + 1 → walked + 1 < length path → is_directory tree (take (walked + 1) path) ≡ false → StopsEarly tree path moves
 early tree path walked moves h less none = (omega (arith, h), omega (arith, h, less), ap (λ (k : ℕ). is_directory tree (take k path)) h ∙ none)

@@ -21,6 +21,7 @@ use Rattle.sf_walk.specs.Ways.{along, way_from}
 use Rattle.sf_walk.specs.Served.{LookedUp}
 use Rattle.sf_walk.specs.Further.{Comes as ComesTo, IsOnWay, PartLater, IsHeldThere, IsHeldOnWay, IsNextFree}
 use Rattle.sf_walk.specs.Steps.{walker, GoesFrom, WalksOn, entered, handed_over, Moves, Waits, EndsAt, MayDecideAt, IsFreeThere, AreFree, Decides}
+use Rattle.sf_walk.specs.Steps.WalksOn.{TakesRoot, PartsAtRoot, GoesOn, Parts, OldGoesOn, NewGoesOn}
 use Rattle.sf_walk.specs.Steps.GoesFrom.{NewEnd}
 use Rattle.sf_walk.specs.Steps.LooksAt.{Root, Next}
 use Rattle.sf_walk.specs.Steps.MayDecideAt.{AtOnce, AtRoot, AtEnd}
@@ -103,7 +104,7 @@ module _ (s : StoreState) (number root : ℕ) (is : root ≡ s.root) where
       leads = leads_root;
       free = free;
       position = IsOn path 0 root some;
-      walks = refl;
+      walks = TakesRoot root;
       state = state;
     }
 
@@ -114,7 +115,7 @@ module _ (s : StoreState) (number root : ℕ) (is : root ≡ s.root) where
       leads = leads_root;
       free = free;
       position = subst (λ (g : Stage). IsPosition (Between from to) g) (sym h.3) (IsBefore from to 0 root h.0 h.1 h.2);
-      walks = subst (WalksOn stage.Fresh) (sym h.3) refl;
+      walks = subst (WalksOn stage.Fresh) (sym h.3) (TakesRoot root);
       state = state;
     }
     moves_first_of_two from to after (inr h) state =
@@ -125,7 +126,7 @@ module _ (s : StoreState) (number root : ℕ) (is : root ≡ s.root) where
           leads = leads_root;
           free = free;
           position = subst (λ (g : Stage). IsPosition (Between from to) g) (sym h.1) (IsApart from to (reached 0 root) (reached 0 root) (reached 0 root) (ends_at from to (reached 0 root) h.0));
-          walks = subst (WalksOn stage.Fresh) (sym h.1) (refl, refl, refl);
+          walks = subst (WalksOn stage.Fresh) (sym h.1) (PartsAtRoot (reached 0 root) refl);
           state = state;
         }
 
@@ -224,7 +225,7 @@ module _ (old new : StoreState) (looked : new ≡ looked_up old) (number : ℕ) 
   moves_one path at to last way free state =
       moves (Along path) (stage.At at.walked at.node) (stage.At to.walked to.node) path at to last free
       (Comes (spot_on path at ∷ []) (spot_on path to ∷ []) (inr (spot_on path at, inl refl, next_to old number path at to free way.short)) tt (refl, tt))
-      (IsOn path to.walked to.node (next_short old number path at to free)) free.walked refl state
+      (IsOn path to.walked to.node (next_short old number path at to free)) (GoesOn at.walked at.node to free.walked) refl state
 
   -- ---- on two, which haven't parted
   pub moves_together : (from to : Path) (at next : Reached) (after : Stage) (last : StoreState) → IsOnWay old from at.walked at.node → IsNextFree old number from at next → ComesTo from to next after
@@ -239,14 +240,14 @@ module _ (old new : StoreState) (looked : new ≡ looked_up old) (number : ℕ) 
           (subst (λ (g : Stage). Takes (spot_on from next) (spot_on from at ∷ []) (spots_of (Between from to) g)) (sym h.3)
           (Comes (spot_on from at ∷ []) (spot_on from next ∷ []) (inr (spot_on from at, inl refl, goes)) tt (refl, tt)))
           (subst (λ (g : Stage). IsPosition (Between from to) g) (sym h.3) (IsBefore from to next.walked next.node h.0 h.1 h.2))
-          (subst (λ (g : Stage). WalksOn (stage.At at.walked at.node) g) (sym h.3) free.walked) refl state
+          (subst (λ (g : Stage). WalksOn (stage.At at.walked at.node) g) (sym h.3) (GoesOn at.walked at.node next free.walked)) refl state
       by goes (inr h) state =
           let same : spot_on to next ≡ spot_on from next = λ i. record { path = sym h.0.alike i; node = next.node } in
           moves (Between from to) (stage.At at.walked at.node) after from at next last free
           (subst (λ (g : Stage). Takes (spot_on from next) (spot_on from at ∷ []) (spots_of (Between from to) g)) (sym h.1)
           (Comes (spot_on from at ∷ []) (spot_on from next ∷ spot_on from next ∷ spot_on to next ∷ []) (inr (spot_on from at, inl refl, goes)) tt (refl, (refl, (same, tt)))))
           (subst (λ (g : Stage). IsPosition (Between from to) g) (sym h.1) (IsApart from to next next next (ends_at from to next h.0)))
-          (subst (λ (g : Stage). WalksOn (stage.At at.walked at.node) g) (sym h.1) (free.walked, refl, refl)) refl state
+          (subst (λ (g : Stage). WalksOn (stage.At at.walked at.node) g) (sym h.1) (Parts at.walked at.node next free.walked)) refl state
 
   -- ---- on two, which have parted
   module _ (from to : Path) (common a b : Reached) (is : AreEnds from to common a b) where
@@ -263,7 +264,7 @@ module _ (old new : StoreState) (looked : new ≡ looked_up old) (number : ℕ) 
           short_new = is.short_new;
           in_turn = λ e. is.in_turn more;
         }))
-        (refl, inl (free.walked, refl)) refl state
+        (OldGoesOn common a b next free.walked) refl state
 
     pub moves_new : (next : Reached) (last : StoreState) → a.walked + 1 ≡ length from → IsNextFree old number to b next → last ≡ handed_over number (stage.Ends common a b) (stage.Ends common a next) next.node new
         → Moves old last (walker number (Between from to) (stage.Ends common a b)) (stage.Ends common a next)
@@ -278,7 +279,7 @@ module _ (old new : StoreState) (looked : new ≡ looked_up old) (number : ℕ) 
           short_new = next_short old number to b next free;
           in_turn = λ e. absurd (omega (arith, e, parent));
         }))
-        (refl, inr (refl, free.walked)) refl state
+        (NewGoesOn common a b next free.walked) refl state
 
 -- with the end of its old path at its parent a call decides after two look-ups
 abbrev pub both : Located → Located → Ways

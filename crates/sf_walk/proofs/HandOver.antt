@@ -1,6 +1,6 @@
 -- Who holds what after a step, and after a call has let go.
-use Rattle.std.specs.Prelude.{◌≡◌, ◌≢◌, ◌⊎◌, ℕ, nat_eq, ◌||◌, true, false, if◌then◌else◌, List, [], ◌∷◌, option_map, option_and_then, Option, Some, None, refl}
-use Rattle.std.proofs.Common.{sym, ap, subst, ◌∙◌, inl, inr, eqb-true, eq-eqb}
+use Rattle.std.specs.Prelude.{◌≡◌, ◌≢◌, ◌≤◌, ◌⊎◌, ℕ, nat_eq, ◌||◌, true, false, if◌then◌else◌, List, [], ◌∷◌, length, option_map, option_and_then, Option, Some, None, refl}
+use Rattle.std.proofs.Common.{sym, ap, subst, ◌∙◌, arith, inl, inr, eqb-true, eq-eqb}
 use Rattle.sf_path.specs.Names.{Path}
 use Rattle.sf_call.specs.declared.call.Reached.{Reached}
 use Rattle.sf_call.specs.declared.call.Stage.{Stage}
@@ -63,23 +63,22 @@ node_of_spot (r ∷ at) [] l s h e = absurd h
 node_of_spot (r ∷ at) (p ∷ paths) l s (inl i) e = first_is l r.node (nodes_in at) (sym e ∙ ap (λ (x : Spot). x.node) i)
 node_of_spot (r ∷ at) (p ∷ paths) l s (inr h) e = later_is (nat_eq l r.node) (is_one_of l (nodes_in at)) (node_of_spot at paths l s h e)
 
+-- each node has a path that leads to it
 abbrev AreEnough : List Reached → List Path → Type 0
-AreEnough [] paths = Unit {0}
-AreEnough (r ∷ at) [] = ⊥
-AreEnough (r ∷ at) (p ∷ paths) = AreEnough at paths
+AreEnough at paths = length at ≤ length paths
 
 enough : (route : Route) (at : Stage) → IsPosition route at → AreEnough (reached_at at) (paths_on route)
-enough route at (Starts r is) = tt
-enough route at (IsOn path walked node less) = tt
-enough route at (IsBefore old new walked node count part less) = tt
-enough route at (IsApart old new c a b is) = tt
+enough route at (Starts r is) = omega arith
+enough route at (IsOn path walked node less) = omega arith
+enough route at (IsBefore old new walked node count part less) = omega arith
+enough route at (IsApart old new c a b is) = omega arith
 
 spot_of_node : (at : List Reached) (paths : List Path) (l : ℕ) → AreEnough at paths → is_one_of l (nodes_in at) ≡ true → IsNodeOf (spots_on at paths) l
 spot_of_node [] paths l fits e = let z : ⊥ = cc in absurd z
-spot_of_node (r ∷ at) [] l fits e = absurd fits
+spot_of_node (r ∷ at) [] l fits e = absurd (omega (arith, fits))
 spot_of_node (r ∷ at) (p ∷ paths) l fits e = elim (either_is l r.node (nodes_in at) e) [
   | inl i ↦ record { spot = spot_on p r; holds = inl refl; node = sym i }
-  | inr more ↦ let h = spot_of_node at paths l fits more in record { spot = h.spot; holds = inr h.holds; node = h.node }
+  | inr more ↦ let h = spot_of_node at paths l (omega (arith, fits)) more in record { spot = h.spot; holds = inr h.holds; node = h.node }
 ]
 
 -- ---- letting go

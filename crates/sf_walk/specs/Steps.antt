@@ -48,18 +48,19 @@ pub data LooksAt : Route → Stage → Path → Type 0 where
   Next : (r : Route) (at : Stage) (path : Path) (from : Reached) → GoesFrom r at path from
       → LooksAt r at (take (from.walked + 1) path)
 
--- one name further: the root, then one end of the stage
-abbrev pub WalksOn : Stage → Stage → Type 0
-WalksOn stage.Fresh (stage.At walked node) = walked ≡ 0
-WalksOn stage.Fresh (stage.Ends common old new) =
-    (common.walked ≡ 0) × (old ≡ common) × (new ≡ common)
-WalksOn (stage.At walked node) (stage.At more child) = more ≡ walked + 1
-WalksOn (stage.At walked node) (stage.Ends common old new) =
-    (common.walked ≡ walked + 1) × (old ≡ common) × (new ≡ common)
-WalksOn (stage.Ends common old new) (stage.Ends same older newer) =
-    (same ≡ common) × (((older.walked ≡ old.walked + 1) × (newer ≡ new))
-    ⊎ ((older ≡ old) × (newer.walked ≡ new.walked + 1)))
-WalksOn at before = ⊥
+-- A step walks one name further: it takes the root, or goes on from the directory that it holds, or
+-- with one of its two ends; where two paths part, both ends stand there.
+pub data WalksOn : Stage → Stage → Type 0 where
+  TakesRoot : (node : ℕ) → WalksOn stage.Fresh (stage.At 0 node)
+  PartsAtRoot : (to : Reached) → to.walked ≡ 0 → WalksOn stage.Fresh (stage.Ends to to to)
+  GoesOn : (walked node : ℕ) (to : Reached) → to.walked ≡ walked + 1
+      → WalksOn (stage.At walked node) (stage.At to.walked to.node)
+  Parts : (walked node : ℕ) (to : Reached) → to.walked ≡ walked + 1
+      → WalksOn (stage.At walked node) (stage.Ends to to to)
+  OldGoesOn : (common old new to : Reached) → to.walked ≡ old.walked + 1
+      → WalksOn (stage.Ends common old new) (stage.Ends common to new)
+  NewGoesOn : (common old new to : Reached) → to.walked ≡ new.walked + 1
+      → WalksOn (stage.Ends common old new) (stage.Ends common old to)
 
 -- ---- the store
 abbrev pub is_one_of : ℕ → List ℕ → Bool

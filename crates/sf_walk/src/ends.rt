@@ -4,13 +4,14 @@ ghost use Rattle.std.specs.Prelude.{◌≡◌, ◌+◌, length};
 ghost use Rattle.sf_call.specs.declared.call.Stage.TheVariants as stage;
 ghost use Rattle.sf_walk.specs.Routes.{Stands};
 ghost use Rattle.sf_walk.specs.Routes.Route.{Between};
-ghost use Rattle.sf_walk.specs.Steps.{Advances, walker};
+ghost use Rattle.sf_walk.specs.Steps.{Advances, walker, handed_over};
+ghost use Rattle.sf_walk.specs.declared.walking.Walk.TheVariants.{Moved};
 
 use crate::finding::{Located, Ways};
 use crate::looking::{Further, find_last, holder_there, look};
-use crate::walking::{Walk, move_on};
+use crate::walking::{Walk, let_go};
 use sf_call::{Reached, Stage};
-use sf_inode::Store;
+use sf_inode::{NodeId, Store};
 use sf_path::Path;
 
 /// Where a call on two paths stands: at the last directory that they have in common, and on the way
@@ -96,4 +97,14 @@ fn at_parents(store: &mut Store, number: u64, path: &Path, other: &Path, ends: E
     }
     let path = find_last(store, path, ends.old);
     Walk::Ready(Ways { path, new })
+}
+
+/// Hand over hand: holds the directory that a call comes to, and then frees what it holds no more.
+fn move_on(store: &mut Store, number: u64, before: Stage, after: Stage, to: NodeId) -> Walk
+    ensures state { store.new ≡ handed_over number before after to store.old }
+    ensures walk { result ≡ Moved after }
+{
+    store.hold(to, number);
+    let_go(store, before, after);
+    Walk::Moved(after)
 }

@@ -4,10 +4,9 @@ ghost use Rattle.std.specs.Prelude.{◌≡◌, ◌+◌, ◌<◌, true, [], lengt
 ghost use Rattle.sf_call.specs.declared.call.Stage.TheVariants as stage;
 ghost use Rattle.sf_inode.specs.Nodes.{with_holder};
 ghost use Rattle.sf_inode.specs.Stores.{is_directory_at, edited};
-ghost use Rattle.sf_walk.specs.declared.walking.Walk.TheVariants.{Moved};
 ghost use Rattle.sf_walk.specs.Routes.{Stands, route_in, reached, nodes_of};
 ghost use Rattle.sf_walk.specs.Routes.Route.{Along, Between};
-ghost use Rattle.sf_walk.specs.Steps.{Advances, walker, is_one_of, free_unless, let_go, handed_over};
+ghost use Rattle.sf_walk.specs.Steps.{Advances, walker, is_one_of, free_unless, let_go};
 ghost use Rattle.sf_walk.specs.Further.{IsOnWay, Comes, PartLater};
 
 use crate::ends::{Ends, at_ends};
@@ -91,11 +90,11 @@ fn first(store: &mut Store, number: u64, path: &Path) -> Walk
     if let Some(holder) = other_holder(store, number, root) {
         return Walk::Blocked(holder);
     }
-    let after = Stage::At {
+    store.hold(root, number);
+    Walk::Moved(Stage::At {
         walked: 0,
         node: root,
-    };
-    move_on(store, number, Stage::Fresh, after, root)
+    })
 }
 
 /// Takes the root for a call on two paths.
@@ -113,8 +112,8 @@ fn first_of_two(store: &mut Store, number: u64, old: &Path, new: &Path) -> Walk
         walked: 0,
         node: root,
     };
-    let after = arrived(old, new, to);
-    move_on(store, number, Stage::Fresh, after, root)
+    store.hold(root, number);
+    Walk::Moved(arrived(old, new, to))
 }
 
 /// Goes one name further from a directory.
@@ -128,15 +127,13 @@ fn onward(store: &mut Store, number: u64, path: &Path, at: Reached) -> Walk
         Further::NoDirectory => Walk::Ready(Ways::along(Located::NoWay)),
         Further::Held(holder) => Walk::Blocked(holder),
         Further::Free(to) => {
-            let before = Stage::At {
-                walked: at.walked,
-                node: at.node,
-            };
             let after = Stage::At {
                 walked: to.walked,
                 node: to.node,
             };
-            move_on(store, number, before, after, to.node)
+            store.hold(to.node, number);
+            free_unless(store, at.node, after);
+            Walk::Moved(after)
         }
     }
 }
@@ -167,12 +164,10 @@ fn together(store: &mut Store, number: u64, old: &Path, new: &Path, at: Reached)
         Further::NoDirectory => Walk::Ready(Ways::along(Located::NoWay)),
         Further::Held(holder) => Walk::Blocked(holder),
         Further::Free(to) => {
-            let before = Stage::At {
-                walked: at.walked,
-                node: at.node,
-            };
             let after = arrived(old, new, to);
-            move_on(store, number, before, after, to.node)
+            store.hold(to.node, number);
+            free_unless(store, at.node, after);
+            Walk::Moved(after)
         }
     }
 }
@@ -196,23 +191,8 @@ fn arrived(old: &Path, new: &Path, to: Reached) -> Stage
     }
 }
 
-/// Hand over hand: holds the directory that a call comes to, and then frees what it holds no more.
-pub(crate) fn move_on(
-    store: &mut Store,
-    number: u64,
-    before: Stage,
-    after: Stage,
-    to: NodeId,
-) -> Walk
-    ensures state { store.new ≡ handed_over number before after to store.old }
-    ensures walk { result ≡ Moved after }
-{
-    store.hold(to, number);
-    let_go(store, before, after);
-    Walk::Moved(after)
-}
-
 /// Frees what a call held, but for what it holds still.
+#[inline(always)]
 pub fn let_go(store: &mut Store, before: Stage, after: Stage)
     ensures { store.new ≡ let_go (nodes_of after) (nodes_of before) store.old }
 {
@@ -228,6 +208,7 @@ pub fn let_go(store: &mut Store, before: Stage, after: Stage)
 }
 
 /// Frees a node, unless a call at a stage holds it.
+#[inline(always)]
 fn free_unless(store: &mut Store, node: NodeId, kept: Stage)
     ensures { store.new ≡ free_unless (nodes_of kept) node store.old }
 {
@@ -237,6 +218,7 @@ fn free_unless(store: &mut Store, node: NodeId, kept: Stage)
 }
 
 /// Whether a call at a stage holds a node.
+#[inline(always)]
 fn holds(at: Stage, node: NodeId) -> bool
     ensures { result ≡ is_one_of node (nodes_of at) }
 {

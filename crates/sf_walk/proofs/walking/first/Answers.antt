@@ -1,9 +1,8 @@
 use Rattle.std.proofs.Common.{[], refl, sym, subst}
 use Rattle.sf_call.specs.declared.call.Stage.TheVariants as stage
 use Rattle.sf_walk.specs.declared.finding.Ways.{Ways}
-use Rattle.sf_walk.specs.declared.walking.Walk.{Walk}
 use Rattle.sf_walk.specs.Routes.Route.{Along}
-use Rattle.sf_walk.specs.Steps.{walker, Decides, Advances}
+use Rattle.sf_walk.specs.Steps.{walker, Decides}
 use Rattle.sf_walk.proofs.LastNames.{not_root}
 use Rattle.sf_walk.proofs.Parting.{not_nothing}
 use Rattle.sf_walk.proofs.Advancing.{decides_root, waits_root, moves_first}
@@ -21,6 +20,5 @@ returns-in-Some c = waits_root c.args.store.now c.args.number c.root-root.result
 pub returns : goal.returns
 returns c =
     let s = c.args.store.now in
-    subst (λ (w : Walk). Advances s c.move_on.new.store (walker c.args.number (Along c.args.path.now) stage.Fresh) w) (sym c.move_on.ensures.walk)
-    (moves_first s c.args.number c.root-root.result c.root-root.ensures c.requires.root c.in_default.ensures.none c.move_on.new.store c.args.path.now
-    (not_nothing c.args.path.now (not_root c.is_root.result c.args.path.now c.is_root.ensures c.if-is_root.false)) c.move_on.ensures.state)
+    moves_first s c.args.number c.root-root.result c.root-root.ensures c.requires.root c.in_default.ensures.none c.hold.new.self c.args.path.now
+    (not_nothing c.args.path.now (not_root c.is_root.result c.args.path.now c.is_root.ensures c.if-is_root.false)) c.hold.ensures

@@ -1,8 +1,6 @@
-use Rattle.std.proofs.Common.{refl, sym, subst}
-use Rattle.sf_call.specs.declared.call.Stage.TheVariants as stage
-use Rattle.sf_walk.specs.declared.walking.Walk.{Walk}
+use Rattle.std.proofs.Common.{refl}
 use Rattle.sf_walk.specs.Routes.Route.{Between}
-use Rattle.sf_walk.specs.Steps.{walker, Advances}
+use Rattle.sf_walk.specs.Steps.{walker}
 use Rattle.sf_walk.proofs.Advancing.{waits_root, moves_first_of_two}
 use Rattle.sf_walk.proofs.walking.first_of_two.Goals as goal
 
@@ -13,6 +11,5 @@ returns-in-Some c =
 pub returns : goal.returns
 returns c =
     let s = c.args.store.now in
-    subst (λ (w : Walk). Advances s c.move_on.new.store (walker c.args.number (Between c.args.old.now c.args.new.now) stage.Fresh) w) (sym c.move_on.ensures.walk)
-    (moves_first_of_two s c.args.number c.root-root.result c.root-root.ensures c.requires.root c.in_default.ensures.none c.move_on.new.store c.args.old.now c.args.new.now c.arrived-after.result c.arrived-after.ensures
-    c.move_on.ensures.state)
+    moves_first_of_two s c.args.number c.root-root.result c.root-root.ensures c.requires.root c.in_default.ensures.none c.hold.new.self c.args.old.now c.args.new.now c.arrived.result c.arrived.ensures
+    c.hold.ensures

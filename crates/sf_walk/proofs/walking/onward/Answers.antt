@@ -1,10 +1,10 @@
-use Rattle.std.proofs.Common.{sym, subst, inr}
+use Rattle.std.proofs.Common.{ap, sym, subst, ◌∙◌, inr}
 use Rattle.sf_call.specs.declared.call.Stage.TheVariants as stage
+use Rattle.sf_inode.specs.Stores.{StoreState}
 use Rattle.sf_walk.specs.declared.finding.Ways.{Ways}
-use Rattle.sf_walk.specs.declared.walking.Walk.{Walk}
-use Rattle.sf_walk.specs.Routes.{reached}
+use Rattle.sf_walk.specs.Routes.{reached, nodes_of}
 use Rattle.sf_walk.specs.Routes.Route.{Along}
-use Rattle.sf_walk.specs.Steps.{walker, Decides, Advances}
+use Rattle.sf_walk.specs.Steps.{walker, Decides, free_unless}
 use Rattle.sf_walk.specs.Steps.GoesFrom.{OnOne}
 use Rattle.sf_walk.specs.Steps.MayDecideAt.{AtEnd}
 use Rattle.sf_walk.proofs.Onward.{no_way_on}
@@ -33,5 +33,6 @@ returns-in-Free c =
     let at = c.args.at in
     let path = c.args.path.now in
     let found = c.in-Free.ensures in
-    subst (λ (w : Walk). Advances c.args.store.now c.move_on.new.store (walker c.args.number (Along path) (stage.At at.walked at.node)) w) (sym c.move_on.ensures.walk)
-    (moves_one c.args.store.now c.look.new.store found.0.0 c.args.number path at c.in-Free.to c.move_on.new.store c.requires.on_way found.1 c.move_on.ensures.state)
+    let after = stage.At c.in-Free.to.walked c.in-Free.to.node in
+    moves_one c.args.store.now c.look.new.store found.0.0 c.args.number path at c.in-Free.to c.free_unless.new.store c.requires.on_way found.1
+    (c.free_unless.ensures ∙ ap (λ (s : StoreState). free_unless (nodes_of after) at.node s) c.hold.ensures)

@@ -1,10 +1,10 @@
-use Rattle.std.proofs.Common.{sym, subst, inr}
+use Rattle.std.proofs.Common.{ap, sym, subst, ◌∙◌, inr}
 use Rattle.sf_call.specs.declared.call.Stage.TheVariants as stage
+use Rattle.sf_inode.specs.Stores.{StoreState}
 use Rattle.sf_walk.specs.declared.finding.Ways.{Ways}
-use Rattle.sf_walk.specs.declared.walking.Walk.{Walk}
-use Rattle.sf_walk.specs.Routes.{reached}
+use Rattle.sf_walk.specs.Routes.{reached, nodes_of}
 use Rattle.sf_walk.specs.Routes.Route.{Between}
-use Rattle.sf_walk.specs.Steps.{walker, Decides, Advances}
+use Rattle.sf_walk.specs.Steps.{walker, Decides, free_unless}
 use Rattle.sf_walk.specs.Steps.GoesFrom.{Together}
 use Rattle.sf_walk.specs.Steps.MayDecideAt.{AtEnd}
 use Rattle.sf_walk.proofs.Onward.{no_way_on}
@@ -36,5 +36,5 @@ returns-in-Free c =
     let old = c.args.old.now in
     let new = c.args.new.now in
     let found = c.in-Free.ensures in
-    subst (λ (w : Walk). Advances c.args.store.now c.move_on.new.store (walker c.args.number (Between old new) (stage.At at.walked at.node)) w) (sym c.move_on.ensures.walk)
-    (moves_together c.args.store.now c.look.new.store found.0.0 c.args.number old new at c.in-Free.to c.arrived-after.result c.move_on.new.store c.requires.on_way found.1 c.arrived-after.ensures c.move_on.ensures.state)
+    moves_together c.args.store.now c.look.new.store found.0.0 c.args.number old new at c.in-Free.to c.arrived-after.result c.free_unless.new.store c.requires.on_way found.1 c.arrived-after.ensures
+    (c.free_unless.ensures ∙ ap (λ (s : StoreState). free_unless (nodes_of c.arrived-after.result) at.node s) c.hold.ensures)
