@@ -2,10 +2,7 @@
 each."""
 
 import copy
-import mmap
-import os
 import re
-import struct
 import subprocess
 import tempfile
 
@@ -13,47 +10,10 @@ from checks import same
 from packets import HANDLE
 from tree import Tree, out_of_memory
 
-TOP = os.path.dirname(os.path.dirname(os.path.abspath(__file__)))
-REFUSES = os.path.join(TOP, "out/refuse.so")
 REFUSED = "refused OutOfMemory"
 STATE = ("output ", "calls ", "record ")
 # In how many ways an engine may ask for the same room.
 MOST_TRIES = 4
-
-
-class Growths:
-    """A file that a program with out/refuse.so shares: which of its growths are refused, and what
-    came of it."""
-
-    def __init__(self, path):
-        with open(path, "w+b") as file:
-            file.write(bytes(40))
-            file.flush()
-            self.room = mmap.mmap(file.fileno(), 40)
-        self.surroundings = {**os.environ, "LD_PRELOAD": REFUSES, "GROWTHS": path}
-
-    def refuse(self, left, count=1):
-        """Of the growths from now on, so many go by, and the next ones are refused."""
-        struct.pack_into("=qqqq", self.room, 0, left, count, 0, 0)
-
-    def forget(self):
-        """None is refused, as before the program began. It may be running: the count comes
-        first."""
-        struct.pack_into("=q", self.room, 8, 0)
-        struct.pack_into("=qqqqq", self.room, 0, 0, 0, 0, 0, 0)
-
-    def number(self, at):
-        return struct.unpack_from("=q", self.room, 8 * at)[0]
-
-    def seen(self):
-        return self.number(2)
-
-    def refused(self):
-        return self.number(3)
-
-    def held(self):
-        """How many blocks the program holds."""
-        return self.number(4)
 
 
 class Replayed:

@@ -1,10 +1,11 @@
-/* Refuses growths of the program that it is preloaded to: calls of malloc or realloc that the
- * program's own code makes, not those of the C library. Which are refused, and what came of it,
- * stands in the file that the environment's GROWTHS names; who runs the program reads and writes it
- * meanwhile. */
+/* Counts growths of the program that it is preloaded to, and refuses some: calls of malloc or
+ * realloc that the program's own code makes, not those of the C library. Which are refused, what
+ * came of it, and what the program holds stands in the file that the environment's GROWTHS names;
+ * who runs the program reads and writes it meanwhile. */
 #define _GNU_SOURCE
 #include <fcntl.h>
 #include <link.h>
+#include <malloc.h>
 #include <stddef.h>
 #include <stdint.h>
 #include <stdlib.h>
@@ -18,6 +19,7 @@ struct growths {
     int64_t seen;    /* how many growths there were */
     int64_t refused; /* how many were refused */
     int64_t held;    /* how many blocks the program holds */
+    int64_t bytes;   /* how many bytes these have */
 };
 
 void *__libc_malloc(size_t size);
@@ -84,6 +86,7 @@ void *malloc(size_t size)
         return __libc_malloc(size);
     void *block = is_refused() ? NULL : __libc_malloc(size);
     add(&growths->held, block != NULL);
+    add(&growths->bytes, malloc_usable_size(block));
     return block;
 }
 
@@ -91,14 +94,19 @@ void *realloc(void *block, size_t size)
 {
     if (!is_counted(__builtin_return_address(0)))
         return __libc_realloc(block, size);
+    int64_t before = malloc_usable_size(block);
     void *moved = is_refused() ? NULL : __libc_realloc(block, size);
     add(&growths->held, block == NULL && moved != NULL);
+    if (moved != NULL)
+        add(&growths->bytes, (int64_t)malloc_usable_size(moved) - before);
     return moved;
 }
 
 void free(void *block)
 {
-    if (is_counted(__builtin_return_address(0)))
+    if (is_counted(__builtin_return_address(0))) {
         add(&growths->held, -(block != NULL));
+        add(&growths->bytes, -(int64_t)malloc_usable_size(block));
+    }
     __libc_free(block);
 }
