@@ -1,11 +1,10 @@
 -- Slots, and what is left of a call: words in which the layer above is told of events.
-use Rattle.std.specs.Prelude.{◌≡◌, ◌≢◌, ◌⊎◌, ◌<◌, ◌≤◌, ◌+◌, ◌-◌, ℕ, true, false, if◌then◌else◌, length, Option, Some, None, refl}
-use Rattle.std.proofs.Common.{sym, ap, ◌∙◌, inl, inr, arith}
+use Rattle.std.specs.Prelude.{◌≡◌, ◌≢◌, ◌<◌, ◌≤◌, ◌+◌, ℕ, true, false, if◌then◌else◌, length, Option, Some, None, refl}
+use Rattle.std.proofs.Common.{sym, ap, ◌∙◌, arith}
 use Rattle.sf_reply.specs.declared.reply.Reply.{Reply}
 use Rattle.sf_book.specs.Books.{BookView}
 use Rattle.sf_call.specs.declared.request.Request.{Request}
 use Rattle.sf_call.specs.declared.call.Call.{Call}
-use Rattle.sf_call.specs.declared.call.Reached.{Reached}
 use Rattle.sf_call.specs.declared.call.Stage.{Stage}
 use Rattle.sf_call.specs.declared.call.Stage.TheVariants as stage
 use Rattle.sf_call.specs.Requests.{Target, target_of}

@@ -24,7 +24,9 @@ use sf_call::{Call, Calls, Record, Request, Stage};
 use sf_inode::Store;
 use sf_path::Path;
 use sf_reply::Reply;
-use sf_walk::{Route, Walk, Ways, advance, decide, from_root_twice, is_move, let_go, route_of};
+use sf_walk::{
+    Located, Route, Walk, Ways, advance, decide, from_root_twice, is_move, let_go, route_of,
+};
 use std::alloc::{AllocError, Global};
 use std::marker::Model;
 
@@ -244,6 +246,9 @@ impl Parts {
             → Overtakes self.old self.new c }
         ensures places { vec_capacity numbers.old ≤ vec_capacity numbers.new }
     {
+        if let Located::NoWay = ways.new {
+            return;
+        }
         let Some(call) = self.calls.get(number) else {
             return;
         };

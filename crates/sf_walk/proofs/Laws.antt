@@ -18,3 +18,5 @@ pub use Rattle.sf_walk.proofs.Standing.{stands_on, stands_unmoved, stands_still,
 pub use Rattle.sf_walk.proofs.Standing.{IsSameGround, same_itself, same_trans, same_held, same_let_go, ground_stays, walk_same, leads_same}
 -- hand over hand: who holds what after a step, and after a call has let go of all
 pub use Rattle.sf_walk.proofs.HandOver.{moved_hands, freed_hands, holder_other, holder_here, holder_freed}
+-- a call that has no way to its new path moves nothing
+pub use Rattle.sf_walk.proofs.Nowhere.{nowhere_stays}

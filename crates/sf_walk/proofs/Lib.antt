@@ -27,5 +27,6 @@ pub mod HandOver
 pub mod NoMoves
 pub mod Begins
 pub mod Courses
+pub mod Nowhere
 pub mod MovedEntries
 pub mod Linking

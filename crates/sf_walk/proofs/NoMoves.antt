@@ -28,14 +28,14 @@ use Rattle.sf_walk.specs.declared.renames.Course.{Course}
 use Rattle.sf_walk.specs.declared.renames.Course.TheVariants.{Told, Moves}
 use Rattle.sf_walk.specs.Renames.{IsCourse, does_move, renaming}
 
-abbrev Stays : Answer → Type 0
+abbrev pub Stays : Answer → Type 0
 Stays answer = moved_by answer.changes ≡ None
 
 either : (b : Bool) (this that : Answer) → Stays this → Stays that → Stays (cond b this that)
 either true this that a b = a
 either false this that a b = b
 
-rooted : (p : Path) (answer : Answer) → Stays answer → Stays (unless_root p answer)
+pub rooted : (p : Path) (answer : Answer) → Stays answer → Stays (unless_root p answer)
 rooted [] answer h = refl
 rooted (n ∷ p) answer h = h
 

@@ -1,10 +1,9 @@
 use Rattle.std.proofs.Common.{◌≡◌, ◌<◌, ◌^◌, ℕ, suc, Some, refl, sym, subst, arith}
 use Rattle.sf_call.specs.declared.call.Stage.{Stage}
 use Rattle.sf_call.specs.Unanswered.{at_stage}
-use Rattle.sf_inode.specs.Stores.{StoreState, is_directory_at}
 use Rattle.sf_walk.specs.declared.walking.Walk.{Walk}
 use Rattle.sf_walk.specs.declared.walking.Walk.TheVariants as walk
-use Rattle.sf_walk.specs.Routes.{Route, Stands, route_of, route_in}
+use Rattle.sf_walk.specs.Routes.{Route, Stands, route_in}
 use Rattle.sf_walk.specs.Steps.{Advances, walker}
 use Rattle.sf_core.specs.declared.parts.Outcome.TheVariants as outcome
 use Rattle.sf_core.specs.Lanes.{LaneView}
@@ -56,9 +55,9 @@ loop-preserved c =
           let q' = come_to p number to after in
           let stepped : Stepped q call.session number (outcome.Walked (walk.Moved after)) q' =
           step_more number call p c.args.store.now c.loop.store to c.args.stage.now c.loop.stage (walk.Moved after) on it.3
-              (subst (λ (k : ℕ). k < 2 ^ 64) c.look_ups-count.ensures c.look_ups-count.type_inv)
-              (subst (λ (r : Route). Advances c.loop.store to (walker call.number r c.loop.stage) (walk.Moved after)) c.requires.route
-              (subst (λ (w : Walk). Advances c.loop.store to (walker call.number (route_in c.args.route) c.loop.stage) w) c.in-Moved.is c.advance.ensures)) in (
+          (subst (λ (k : ℕ). k < 2 ^ 64) c.look_ups-count.ensures c.look_ups-count.type_inv)
+          (subst (λ (r : Route). Advances c.loop.store to (walker call.number r c.loop.stage) (walk.Moved after)) c.requires.route
+          (subst (λ (w : Walk). Advances c.loop.store to (walker call.number (route_in c.args.route) c.loop.stage) w) c.in-Moved.is c.advance.ensures)) in (
             suc it.0,
             omega (arith, it.1),
             moved_more lane number refl it.0 p q q' (outcome.Walked (walk.Moved after)) it.2 stepped refl,

@@ -1,9 +1,10 @@
-use Rattle.std.proofs.Common.{◌≡◌, ◌≤◌, ◌∙◌, ap, sym, subst, Some, List, ℕ, length, arith}
+use Rattle.std.proofs.Common.{◌≡◌, ◌≤◌, ◌∙◌, ap, sym, refl, subst, Some, List, [], ℕ, length, arith}
 use Rattle.sf_call.specs.declared.call.Call.{Call}
 use Rattle.sf_call.specs.Calls.{answer_to}
 use Rattle.sf_call.specs.Changes.{moved_by}
 use Rattle.sf_inode.specs.Stores.{StoreState}
 use Rattle.sf_keeps.specs.Keeps.{Keeps}
+use Rattle.sf_walk.proofs.Laws.{nowhere_stays}
 use Rattle.sf_core.specs.Cores.{call_at}
 use Rattle.sf_book.specs.Books.{BookView}
 use Rattle.sf_core.specs.Parts.{PartsView}
@@ -38,4 +39,12 @@ returns-clause-helped c = λ d at same t keeps.
       numbers,
       c.overtaken.ensures.numbers ∙ (λ i. overtaken (sym calls i) (sym same i) (sym moved_here i)),
       subst (λ (x : PartsView). HelpsAll x numbers c.help_all.new.self) back (subst (λ (ns : List ℕ). HelpsAll c.set_back_all.new.self ns c.help_all.new.self) c.deref-2.ensures.value c.help_all.ensures),
+    )
+
+pub returns-in-NoWay-clause-helped : goal.returns-in-NoWay-clause-helped
+returns-in-NoWay-clause-helped c = λ d at same t keeps.
+    let p = c.args.self.now in (
+      [],
+      ap (overtaken p.calls d.number) (sym (nowhere_stays p.store t keeps d.session d.number d.moment d.request c.args.ways (c.requires.located d at) c.in-NoWay.is)),
+      refl,
     )

@@ -1,0 +1,102 @@
+-- What has no way to its new path moves nothing.
+use Rattle.std.specs.Prelude.{◌≡◌, ℕ, true, false, cond, [], ◌∷◌, refl}
+use Rattle.std.proofs.Common.{ap, sym, ◌∙◌}
+use Rattle.sf_path.specs.Names.{Path}
+use Rattle.sf_path.specs.Order.{same_path}
+use Rattle.sf_reply.specs.declared.reply.StatusCode.{StatusCode}
+use Rattle.sf_reply.specs.declared.reply.StatusCode.TheVariants.{Failure}
+use Rattle.sf_call.specs.declared.place.Place.{Place}
+use Rattle.sf_call.specs.declared.place.Place.TheVariants as place
+use Rattle.sf_call.specs.declared.request.Request.{Request}
+use Rattle.sf_call.specs.declared.request.Request.TheVariants as request
+use Rattle.sf_call.specs.Tree.{Tree, place_at, found_at}
+use Rattle.sf_call.specs.Changes.{moved_by}
+use Rattle.sf_call.specs.Calls.{Answer, answer_to, refuses, succeeds, unless_nested, unless_root, rename_to, rename, replace_by, posix_rename}
+use Rattle.sf_inode.specs.Stores.{StoreState}
+use Rattle.sf_keeps.specs.Keeps.{Keeps}
+use Rattle.sf_walk.specs.declared.finding.Ways.{Ways}
+use Rattle.sf_walk.specs.declared.finding.Located.{Located}
+use Rattle.sf_walk.specs.declared.finding.Located.TheVariants as located
+use Rattle.sf_walk.specs.Routes.{are_nested, route_between}
+use Rattle.sf_walk.specs.Ways.{AreWays, IsLocated}
+use Rattle.sf_walk.proofs.Courses.{AreNoRoots, old_found, new_found, old_no_way, old_missing, rename_no_way, posix_same, posix_no_way}
+use Rattle.sf_walk.proofs.NoMoves.{Stays, rooted, others_stay}
+
+module _ (s : StoreState) (t : Tree) (k : Keeps s t) (moment : ℕ) (old new : Path) (ways : Ways) (are : AreWays s (route_between old new) ways) (none : ways.new ≡ located.NoWay) where
+  no_roots : are_nested old new ≡ false → AreNoRoots old new
+  no_roots apart = (λ e. by old new apart e, λ e. by_new old new apart e)
+    where
+      by : (p q : Path) → are_nested p q ≡ false → p ≡ [] → ⊥
+      by p q apart e = let h : true ≡ false = sym (ap (λ (x : Path). are_nested x q) e) ∙ apart in cc
+
+      by_new : (p q : Path) → are_nested p q ≡ false → q ≡ [] → ⊥
+      by_new [] q apart e = cc
+      by_new (n ∷ p) q apart e = let h : true ≡ false = sym (ap (λ (x : Path). are_nested (n ∷ p) x) e) ∙ apart in cc
+
+  refused : (a : Answer) (code : StatusCode) → a ≡ refuses code → Stays a
+  refused a code e = ap (λ (x : Answer). moved_by x.changes) e
+
+  rename_nested : (o : Place) → are_nested old new ≡ true → Stays (rename t moment old new o)
+  rename_nested place.NoWay e = refl
+  rename_nested place.Absent e = refl
+  rename_nested (place.At label) e = ap (λ b. moved_by (cond {A = Answer} b (refuses Failure) (rename_to t moment old new (place_at t new))).changes) e
+
+  posix_nested : (o : Place) → are_nested old new ≡ true → Stays (posix_rename t moment old new o)
+  posix_nested place.NoWay e = refl
+  posix_nested place.Absent e = refl
+  posix_nested (place.At label) e = elim (same_path old new) as (λ b. Stays (cond b (succeeds []) (unless_nested old new (replace_by t moment old new label (found_at t new))))) [
+    | true ↦ refl
+    | false ↦ ap (λ b. moved_by (cond {A = Answer} b (refuses Failure) (replace_by t moment old new label (found_at t new))).changes) e
+  ]
+
+  rename_apart : (found : Located) → ways.path ≡ found → are_nested old new ≡ false → Stays (unless_root old (unless_root new (rename t moment old new (place_at t old))))
+  rename_apart located.NoWay e apart =
+      let ne = no_roots apart in refused _ _ (old_no_way s t k moment old new ne (rename t moment old new) refl (old_found s old new ways are ne _ e))
+  rename_apart (located.Missing d) e apart =
+      let ne = no_roots apart in refused _ _ (old_missing s t k moment old new ne (rename t moment old new) refl d (old_found s old new ways are ne _ e))
+  rename_apart (located.At d y) e apart =
+      let ne = no_roots apart in
+      refused _ _ (rename_no_way s t k moment old new ne d y (old_found s old new ways are ne _ e) apart (new_found s old new ways are apart d y e _ none))
+
+  posix_apart : (found : Located) → ways.path ≡ found → are_nested old new ≡ false → Stays (unless_root old (unless_root new (posix_rename t moment old new (place_at t old))))
+  posix_apart located.NoWay e apart =
+      let ne = no_roots apart in refused _ _ (old_no_way s t k moment old new ne (posix_rename t moment old new) refl (old_found s old new ways are ne _ e))
+  posix_apart (located.Missing d) e apart =
+      let ne = no_roots apart in refused _ _ (old_missing s t k moment old new ne (posix_rename t moment old new) refl d (old_found s old new ways are ne _ e))
+  posix_apart (located.At d y) e apart =
+      let ne = no_roots apart in
+      let found = old_found s old new ways are ne _ e in
+      elim (same_path old new) as (λ b. same_path old new ≡ b → Stays (unless_root old (unless_root new (posix_rename t moment old new (place_at t old))))) [
+        | true ↦ λ same. ap (λ (x : Answer). moved_by x.changes) (posix_same s t k moment old new ne d y found same)
+        | false ↦ λ other. refused _ _ (posix_no_way s t k moment old new ne d y found apart other (new_found s old new ways are apart d y e _ none))
+      ] refl
+
+  rename_stays : Stays (unless_root old (unless_root new (rename t moment old new (place_at t old))))
+  rename_stays = elim (are_nested old new) as (λ b. are_nested old new ≡ b → Stays (unless_root old (unless_root new (rename t moment old new (place_at t old))))) [
+    | true ↦ λ e. rooted old _ (rooted new _ (rename_nested (place_at t old) e))
+    | false ↦ rename_apart ways.path refl
+  ] refl
+
+  posix_stays : Stays (unless_root old (unless_root new (posix_rename t moment old new (place_at t old))))
+  posix_stays = elim (are_nested old new) as (λ b. are_nested old new ≡ b → Stays (unless_root old (unless_root new (posix_rename t moment old new (place_at t old))))) [
+    | true ↦ λ e. rooted old _ (rooted new _ (posix_nested (place_at t old) e))
+    | false ↦ posix_apart ways.path refl
+  ] refl
+
+pub nowhere_stays : (s : StoreState) (t : Tree) → Keeps s t → (session number moment : ℕ) (r : Request) (ways : Ways) → IsLocated s r ways → ways.new ≡ located.NoWay → Stays (answer_to t session number moment r)
+nowhere_stays s t k session number moment (request.Rename old new) ways are none = rename_stays s t k moment old new ways are none
+nowhere_stays s t k session number moment (request.PosixRename old new) ways are none = posix_stays s t k moment old new ways are none
+nowhere_stays s t k session number moment (request.Stat p) ways are none = others_stay t session number moment (request.Stat p) (λ old new e. cc) (λ old new e. cc)
+nowhere_stays s t k session number moment (request.SetStat p attrs) ways are none = others_stay t session number moment (request.SetStat p attrs) (λ old new e. cc) (λ old new e. cc)
+nowhere_stays s t k session number moment (request.Mkdir p attrs) ways are none = others_stay t session number moment (request.Mkdir p attrs) (λ old new e. cc) (λ old new e. cc)
+nowhere_stays s t k session number moment (request.Rmdir p) ways are none = others_stay t session number moment (request.Rmdir p) (λ old new e. cc) (λ old new e. cc)
+nowhere_stays s t k session number moment (request.Remove p) ways are none = others_stay t session number moment (request.Remove p) (λ old new e. cc) (λ old new e. cc)
+nowhere_stays s t k session number moment (request.OpenDir p) ways are none = others_stay t session number moment (request.OpenDir p) (λ old new e. cc) (λ old new e. cc)
+nowhere_stays s t k session number moment (request.Open p flags attrs) ways are none = others_stay t session number moment (request.Open p flags attrs) (λ old new e. cc) (λ old new e. cc)
+nowhere_stays s t k session number moment (request.Close handle) ways are none = others_stay t session number moment (request.Close handle) (λ old new e. cc) (λ old new e. cc)
+nowhere_stays s t k session number moment (request.FStat handle) ways are none = others_stay t session number moment (request.FStat handle) (λ old new e. cc) (λ old new e. cc)
+nowhere_stays s t k session number moment (request.FSetStat handle attrs) ways are none = others_stay t session number moment (request.FSetStat handle attrs) (λ old new e. cc) (λ old new e. cc)
+nowhere_stays s t k session number moment (request.Read handle offset len) ways are none = others_stay t session number moment (request.Read handle offset len) (λ old new e. cc) (λ old new e. cc)
+nowhere_stays s t k session number moment (request.Write handle offset bytes) ways are none = others_stay t session number moment (request.Write handle offset bytes) (λ old new e. cc) (λ old new e. cc)
+nowhere_stays s t k session number moment (request.ReadDir handle) ways are none = others_stay t session number moment (request.ReadDir handle) (λ old new e. cc) (λ old new e. cc)
+nowhere_stays s t k session number moment (request.Link old new) ways are none = others_stay t session number moment (request.Link old new) (λ old new e. cc) (λ old new e. cc)
