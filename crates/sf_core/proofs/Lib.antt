@@ -23,5 +23,6 @@ pub mod Making
 pub mod Walks
 pub mod UnderWay
 pub mod Beginning
+pub mod AtOnce
 pub mod Stuck
 pub mod Laws

@@ -71,6 +71,19 @@ module _ {X : Type 0} where
         | Greater ↦ λ h. let r = count_put es k v h in omega (arith, r)
       ] e
 
+  -- what was put where nothing stood, and then taken out, leaves what was there
+  pub put_removed : (es : List (ℕ × X)) (k : ℕ) (v : X) → lookup (is_at (nat_cmp k)) es ≡ None → remove_entry (is_at (nat_cmp k)) (insert_entry nat_cmp es k v) ≡ es
+  put_removed [] k v e = ap (λ b. cond {A = List (ℕ × X)} b [] ((k, v) ∷ [])) (itself k)
+  put_removed (x ∷ es) k v e =
+      elim (nat_cmp k x.0) as (λ r. nat_cmp k x.0 ≡ r → remove_entry (is_at (nat_cmp k)) (match_ordering r ((k, v) ∷ x ∷ es) ((x.0, v) ∷ es) (x ∷ insert_entry nat_cmp es k v)) ≡ x ∷ es) [
+        | Less ↦ λ r. ap (λ b. cond {A = List (ℕ × X)} b (x ∷ es) ((k, v) ∷ remove_entry (is_at (nat_cmp k)) (x ∷ es))) (itself k)
+        | Equal ↦ λ r. absurd (let z : Some x.1 ≡ None = sym (ap (λ o. cond (is_eq o) (Some x.1) (lookup (is_at (nat_cmp k)) es)) r) ∙ e in let y : ⊥ = cc in y)
+        | Greater ↦ λ r.
+            let none = sym (ap (λ o. cond (is_eq o) (Some x.1) (lookup (is_at (nat_cmp k)) es)) r) ∙ e in
+            ap (λ o. cond {A = List (ℕ × X)} (is_eq o) (insert_entry nat_cmp es k v) (x ∷ remove_entry (is_at (nat_cmp k)) (insert_entry nat_cmp es k v))) r
+            ∙ ap (λ (rest : List (ℕ × X)). x ∷ rest) (put_removed es k v none)
+      ] refl
+
   -- set twice, it has the second value
   pub set_twice : (test : ℕ → Bool) (es : List (ℕ × X)) (v w : X) → set_value test (set_value test es v) w ≡ set_value test es w
   set_twice test [] v w = refl

@@ -213,11 +213,6 @@ StepsOn v lane s w lane' =
       lane = lane';
     })
 
--- so many steps, one after the other, each of which moved
-unfoldable pub Moves : ℕ → CoreView → LaneView → CoreView → Type 0
-Moves zero v lane w = w ≡ v
-Moves (suc n) v lane w = (mid : CoreView) × Moves n v lane mid × StepsOn mid lane Moved w lane
-
 -- what steps came to: the last one, and the core and the session's lane after it
 pub record Came : Type 0 where
   pub step : Step
@@ -226,6 +221,11 @@ pub record Came : Type 0 where
 
 abbrev pub came : Step → CoreView → LaneView → Came
 came s w lane = record { step = s; core = w; lane = lane }
+
+-- so many steps, one after the other, each of which moved
+unfoldable pub Moves : ℕ → CoreView → LaneView → CoreView → Type 0
+Moves zero v lane w = w ≡ v
+Moves (suc n) v lane w = (mid : CoreView) × Moves n v lane mid × StepsOn mid lane Moved w lane
 
 -- Walking on, by so many steps at most: all moved but the last, and this one too only where no more
 -- were to be made.
@@ -274,6 +274,14 @@ pub record Begins (v w : CoreView) (lane : LaneView) (request : Request) (moment
 abbrev pub begun : LaneView → ℕ → LaneView
 begun lane number =
     record { session = lane.session; call = Some number; begun = min (lane.begun + 1) (2 ^ 64 - 1) }
+
+-- a call begins, and its first step answers it
+pub record AnswersAtOnce (v : CoreView) (lane : LaneView) (request : Request) (moment : ℕ)
+    (c : Came) : Type 0 where
+  pub mid : CoreView
+  pub begins : Begins v mid lane request moment
+  pub history : (h : List Record) → IsHistory v h → IsHistory mid h
+  pub steps : StepsOn mid (begun lane mid.drawn) c.step c.core c.lane
 
 abbrev pub RefusesBegin : CoreView → LaneView → CoreFault → Type 0
 RefusesBegin v lane fault.OutOfMemory = (slot_of v lane.session ≡ Idle) × (v.drawn < last_number)

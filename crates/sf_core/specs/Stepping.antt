@@ -192,6 +192,15 @@ pub record FinishState (p q : PartsView) (c : Call) (number : ℕ) (given : Repl
   pub sessions : q.sessions ≡ session_set p.sessions c.session None
   pub calls : q.calls ≡ remove_entry (is_at (nat_cmp number)) p.calls
 
+-- a call began, and was decided by its first step: it was never among those under way
+pub record AtOnceState (p q : PartsView) (session : ℕ) (request : Request) (moment : ℕ)
+    (given : Reply) : Type 0 where
+  pub mid : PartsView
+  pub begun : BeginState p mid session request moment
+  pub finished : FinishState mid q (new_call (p.drawn + 1) session moment request) (p.drawn + 1)
+      given
+  pub calls : q.calls ≡ p.calls
+
 -- a call was set back: it holds nothing, and has walked nothing
 abbrev pub set_back_by : PartsView → ℕ → Option Call → PartsView
 set_back_by p number None = p

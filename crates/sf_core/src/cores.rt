@@ -7,14 +7,15 @@ ghost use Rattle.sf_core.specs.Cores.{Slot, new_core, slot_of, joined, last_numb
 ghost use Rattle.sf_core.specs.Cores.Slot.{Idle};
 ghost use Rattle.sf_core.specs.Histories.{IsHistory};
 ghost use Rattle.sf_core.specs.Stuck.{IsNeverStuck};
-ghost use Rattle.sf_core.specs.Events.{StepsOn, Walks, Joins, Begins, begun, Leaves, RefusesJoin, RefusesBegin, came};
+ghost use Rattle.sf_core.specs.declared.step.Step.TheVariants.{Answered};
+ghost use Rattle.sf_core.specs.Events.{StepsOn, Walks, Joins, Begins, begun, AnswersAtOnce, Leaves, RefusesJoin, RefusesBegin, came};
 
 use crate::lane::{Lane, Share};
 use crate::parts::{Outcome, Parts};
 use crate::step::Step;
 use sf_book::Book;
 use sf_call::{Answer, CoreFault, Record, Request};
-use sf_walk::Walk;
+use sf_walk::{Route, Walk, route_of};
 use std::alloc::{AllocError, Global};
 use std::marker::Model;
 
@@ -150,6 +151,47 @@ impl Core {
         lane.call = Some(self.parts.drawn());
         lane.begun = lane.begun.saturating_add(1);
         Ok(())
+    }
+
+    /// A call of the lane, under the next number. One that walks nothing is answered at once, by the
+    /// one step that it takes; any other begins, as by `begin`.
+    pub fn call(
+        &mut self,
+        lane: &mut Lane,
+        request: Request,
+        moment: u32,
+    ) -> Result<Option<Answer>, CoreFault>
+        requires { lane.old.call ≡ None }
+        ensures answered { IfOk result (λ made. IfSome made (λ answer.
+            AnswersAtOnce self.old lane.old request moment
+            (came (Answered answer) self.new lane.new))) }
+        ensures begun { IfOk result (λ made. IfNone made
+            (Begins self.old self.new lane.old request moment
+            × (lane.new ≡ begun lane.old self.new.drawn)
+            × ((h : List Record) → IsHistory self.old h → IsHistory self.new h))) }
+        ensures err { OnErr result ((self.new ≡ self.old) × (lane.new ≡ lane.old)) }
+        ensures fault { IfErr result (λ fault. RefusesBegin self.old lane.old fault) }
+    {
+        let Route::NoPath = route_of(&request) else {
+            self.begin(lane, request, moment)?;
+            return Ok(None);
+        };
+        if !self.parts.is_idle(lane.session) {
+            return Err(CoreFault::Stranger);
+        }
+        if self.parts.drawn() >= LAST_NUMBER {
+            return Err(CoreFault::NumbersSpent);
+        }
+        let _count = self.parts.look_ups();
+        let Ok(reply) = self
+            .parts
+            .answer_at_once(lane.session, request, moment)
+        else {
+            return Err(CoreFault::OutOfMemory);
+        };
+        lane.begun = lane.begun.saturating_add(1);
+        let answer = Answer::new(self.parts.drawn(), lane.session, reply);
+        Ok(Some(answer))
     }
 
     /// One step of the lane's call. Takes no memory where it moves or blocks.

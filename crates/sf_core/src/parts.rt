@@ -10,13 +10,14 @@ ghost use Rattle.sf_call.specs.Unanswered.{at_stage};
 ghost use Rattle.sf_inode.specs.Stores.{is_directory_at};
 ghost use Rattle.sf_walk.specs.Ways.{IsLocated};
 ghost use Rattle.sf_walk.specs.Routes.{Stands, route_of, route_in};
+ghost use Rattle.sf_walk.specs.Routes.Route.{NoPath};
 ghost use Rattle.sf_walk.specs.Steps.{Advances, walker};
 ghost use Rattle.sf_core.specs.Cores.{call_at, session_at};
 ghost use Rattle.sf_core.specs.Sound.{IsCore};
-ghost use Rattle.sf_core.specs.Progress.{reply_of, has_passed, is_past, overtaken, undecided_in, copy_of, old_at};
+ghost use Rattle.sf_core.specs.Progress.{reply_of, has_passed, is_past, overtaken, undecided_in, copy_of, old_at, did};
 ghost use Rattle.sf_core.specs.declared.parts.Outcome.TheVariants as outcome;
 ghost use Rattle.sf_core.specs.Parts.{PartsView};
-ghost use Rattle.sf_core.specs.Stepping.{IsNewParts, SameButRoom, JoinState, BeginState, FinishState, FetchState, Overtakes, Helps, HelpsAll, LeaveState, IsUnderWay, WalkState, come_to, is_move, stage_after, freed, set_back, all_set_back, ending};
+ghost use Rattle.sf_core.specs.Stepping.{IsNewParts, SameButRoom, JoinState, BeginState, FinishState, FetchState, Overtakes, Helps, HelpsAll, LeaveState, AtOnceState, IsUnderWay, WalkState, come_to, is_move, stage_after, freed, set_back, all_set_back, ending};
 
 use crate::sessions::Sessions;
 use sf_book::Book;
@@ -194,6 +195,39 @@ impl Parts {
         Ok(())
     }
 
+    /// A session's call that walks nothing is decided at once, under the next number.
+    pub(crate) fn answer_at_once(
+        &mut self,
+        session: u64,
+        request: Request,
+        moment: u32,
+    ) -> Result<Reply, AllocError>
+        requires unspent { self.old.drawn < 2 ^ 63 - 1 }
+        requires idle { session_at self.old.sessions session ≡ Some None }
+        requires new { call_at self.old.calls (self.old.drawn + 1) ≡ None }
+        requires route { route_of request ≡ NoPath }
+        ensures ok { IfOk result (λ given.
+            AtOnceState self.old self.new session request moment given) }
+        ensures err { OnErr result (SameButRoom self.old self.new) }
+    {
+        self.make_room()?;
+        let number = self.drawn + 1;
+        let call = Call {
+            number,
+            session,
+            moment,
+            request,
+            stage: Stage::Fresh,
+            copy: None,
+            reply: None,
+        };
+        let ways = Ways::along(Located::NoWay);
+        let (reply, copy) = decide(&mut self.store, &call, ways);
+        self.book.put(record_of(call, reply));
+        self.drawn = number;
+        Ok(copy)
+    }
+
     /// Takes a session's call on, up to a step that doesn't move it, by so many steps at most,
     /// unless its reply waits. The stage that it has come to is noted once.
     pub(crate) fn walk_on(&mut self, session: u64, number: u64, most: u64) -> Outcome
@@ -343,6 +377,28 @@ impl Parts {
         self.store.close_all(session);
         self.sessions.remove(session);
         self.book.put(Record::Left { session });
+    }
+}
+
+/// A call's record, with the reply that it was given.
+fn record_of(call: Call, reply: Reply) -> Record
+    ensures { result ≡ did call reply }
+{
+    let Call {
+        number,
+        session,
+        moment,
+        request,
+        stage: _,
+        copy: _copy,
+        reply: _waiting,
+    } = call;
+    Record::Did {
+        number,
+        session,
+        moment,
+        request,
+        reply,
     }
 }
 

@@ -8,6 +8,7 @@ pub mod Under
 pub mod Writing
 pub mod Turning
 pub mod Chains
+pub mod Packets
 pub mod Feeding
 pub mod Opening
 pub mod Running

@@ -11,10 +11,10 @@ ghost use Rattle.sf_core.specs.Events.{Leaves};
 ghost use Rattle.sf_core.specs.Histories.{IsHistory};
 ghost use Rattle.sf_core.specs.Lanes.{LaneView};
 ghost use Rattle.sf_engine.specs.Traces.{goes_on_at};
-ghost use Rattle.sf_engine.specs.Turns.{Gives, seated, part, new_part, Settles, has_lane, is_resting, is_under_way, IsLaneOf, PlaceGives, CloseGives, FeedGives, FeedFault, SentGives, SentFault, IsPlaced, is_busy, OpenGives, OpenFault, MayRefuseTurn, stand, IsReady, TurnsGive, GoesFar, finding};
+ghost use Rattle.sf_engine.specs.Turns.{Gives, seated, part, new_part, Settles, has_lane, is_resting, is_under_way, IsLaneOf, PlaceGives, PacketGives, CloseGives, FeedGives, FeedFault, SentGives, SentFault, IsPlaced, is_busy, OpenGives, OpenFault, MayRefuseTurn, stand, IsReady, TurnsGive, GoesFar, finding};
 
 use crate::event::{EngineFault, Happened};
-use sf_call::{Answer, CoreFault};
+use sf_call::{Answer, CoreFault, Request};
 use sf_core::{Core, Lane, Step};
 use sf_session::{Cause, Next, Session, SessionFault};
 use std::alloc::Global;
@@ -32,6 +32,15 @@ pub(crate) enum Place {
     /// Its call's answer waits to be written.
     Answered(Lane, Answer),
     Left(Cause),
+}
+
+/// What the next packet came to.
+#[derive(Drop)]
+enum Packet {
+    /// This, without a call.
+    Done(Happened),
+    /// It asks for a call.
+    Asks(Request),
 }
 
 impl Drop for Place {
@@ -127,7 +136,34 @@ impl Place {
         mem::replace(self, Place::Left(Cause::Closed)).into_lane()
     }
 
-    /// Takes the next packet of a resting session.
+    /// Takes the next packet of a resting session, up to the call that it asks for.
+    fn take_packet(
+        &mut self,
+        core: &mut Core,
+        session: &mut Session,
+    ) -> Result<Packet, EngineFault>
+        requires resting { is_resting self.old ≡ true }
+        requires placed { IsPlaced core.old session.old self.old }
+        ensures ok { IfOk result (λ packet. PacketGives (stand core.old session.old self.old)
+            packet (stand core.new session.new self.new)) }
+        ensures err { OnErr result ((self.new ≡ self.old) × (core.new ≡ core.old)
+            × (session.new ≡ session.old)) }
+        ensures fault { IfErr result (λ fault. fault ≡ EngineFault.OutOfMemory) }
+    {
+        match session.next() {
+            Err(_) => Err(EngineFault::OutOfMemory),
+            Ok(Next::More) => Ok(Packet::Done(Happened::Idle)),
+            Ok(Next::Local) => Ok(Packet::Done(Happened::Wrote)),
+            Ok(Next::Call(request)) => Ok(Packet::Asks(request)),
+            Ok(Next::Ended(cause)) => {
+                leave(core, self.take_lane());
+                *self = Place::Left(cause);
+                Ok(Packet::Done(Happened::Ended(cause)))
+            }
+        }
+    }
+
+    /// A turn of a resting session: takes the next packet, and its call begins.
     fn read(
         &mut self,
         core: &mut Core,
@@ -143,27 +179,21 @@ impl Place {
             × (session.new ≡ session.old)) }
         ensures fault { IfErr result (λ fault. fault ≡ EngineFault.OutOfMemory) }
     {
+        let request = match self.take_packet(core, session)? {
+            Packet::Done(happened) => return Ok(happened),
+            Packet::Asks(request) => request,
+        };
         let Place::Resting(lane) = self else {
             unreachable!();
         };
-        match session.next() {
-            Err(_) => Err(EngineFault::OutOfMemory),
-            Ok(Next::More) => Ok(Happened::Idle),
-            Ok(Next::Local) => Ok(Happened::Wrote),
-            Ok(Next::Call(request)) => match core.begin(lane, request, moment) {
-                Ok(()) => {
-                    *self = Place::UnderWay(self.take_lane());
-                    Ok(Happened::Begun)
-                }
-                Err(fault) => {
-                    session.refuse(fault);
-                    Ok(Happened::Wrote)
-                }
-            },
-            Ok(Next::Ended(cause)) => {
-                leave(core, self.take_lane());
-                *self = Place::Left(cause);
-                Ok(Happened::Ended(cause))
+        match core.begin(lane, request, moment) {
+            Ok(()) => {
+                *self = Place::UnderWay(self.take_lane());
+                Ok(Happened::Begun)
+            }
+            Err(fault) => {
+                session.refuse(fault);
+                Ok(Happened::Wrote)
             }
         }
     }
@@ -228,7 +258,7 @@ impl Place {
         }
     }
 
-    /// The turns of a resting session: a call that begins goes on.
+    /// The turns of a resting session: its call goes on, if it wasn't answered at once.
     #[inline(always)]
     fn read_on(
         &mut self,
@@ -242,9 +272,24 @@ impl Place {
         ensures { GoesFar (stand core.old session.old self.old) closed moment result
             (stand core.new session.new self.new) }
     {
-        match self.read(core, session, moment)? {
-            Happened::Begun => self.walk_on(core, session, closed),
-            happened => Ok(happened),
+        let request = match self.take_packet(core, session)? {
+            Packet::Done(happened) => return Ok(happened),
+            Packet::Asks(request) => request,
+        };
+        let Place::Resting(lane) = self else {
+            unreachable!();
+        };
+        let made = match core.call(lane, request, moment) {
+            Ok(made) => made,
+            Err(fault) => {
+                session.refuse(fault);
+                return Ok(Happened::Wrote);
+            }
+        };
+        *self = Place::UnderWay(self.take_lane());
+        match made {
+            Some(answer) => self.write_on(core, session, closed, answer),
+            None => self.walk_on(core, session, closed),
         }
     }
 

@@ -20,3 +20,5 @@ pub use Rattle.sf_walk.proofs.Standing.{IsSameGround, same_itself, same_trans, s
 pub use Rattle.sf_walk.proofs.HandOver.{moved_hands, freed_hands, holder_other, holder_here, holder_freed}
 -- a call that has no way to its new path moves nothing
 pub use Rattle.sf_walk.proofs.Nowhere.{nowhere_stays}
+-- a call that walks no path decides at once
+pub use Rattle.sf_walk.proofs.Advancing.{at_once}

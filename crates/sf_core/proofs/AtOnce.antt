@@ -1,0 +1,134 @@
+-- A call that walks nothing begins and is decided in one event.
+use Rattle.std.specs.Prelude.{◌≡◌, ◌<◌, ◌≤◌, ◌+◌, ◌^◌, ℕ, List, [], length, Option, Some, None, refl}
+use Rattle.std.proofs.Common.{sym, ap, subst, ◌∙◌}
+use Rattle.std.specs.Ordering.{nat_cmp}
+use Rattle.std.specs.Map.{set_value}
+use Rattle.std.specs.BTreeMap.{is_at, insert_entry}
+use Rattle.std.proofs.lemmas.Map.Steps.{set_value_same}
+use Rattle.sf_reply.specs.declared.reply.Reply.{Reply}
+use Rattle.sf_call.specs.declared.call.Call.{Call}
+use Rattle.sf_call.specs.declared.call.Stage.TheVariants as stage
+use Rattle.sf_call.specs.declared.record.Record.{Record}
+use Rattle.sf_call.specs.Answers.{Answered as Answer}
+use Rattle.sf_call.specs.Histories.{IsGiven}
+use Rattle.sf_call.specs.declared.request.Request.{Request}
+use Rattle.sf_call.specs.Values.{IsCall}
+use Rattle.sf_book.specs.Books.{BookView, put}
+use Rattle.sf_inode.specs.Stores.{StoreState}
+use Rattle.sf_walk.specs.declared.finding.Ways.{Ways}
+use Rattle.sf_walk.specs.declared.finding.Located.TheVariants as located
+use Rattle.sf_walk.specs.declared.walking.Walk.TheVariants as walk
+use Rattle.sf_walk.specs.Routes.{Route, Stands, route_of}
+use Rattle.sf_walk.specs.Routes.Route.{NoPath}
+use Rattle.sf_walk.specs.Steps.{walker, Decides as Ready}
+use Rattle.sf_walk.specs.Ways.{along}
+use Rattle.sf_walk.proofs.Laws.{at_once, nowhere_stays, stands_fresh}
+use Rattle.sf_core.specs.declared.step.Step.TheVariants as step
+use Rattle.sf_core.specs.Lanes.{LaneView, at_rest}
+use Rattle.sf_core.specs.Cores.{call_at, session_at, last_number}
+use Rattle.sf_core.specs.Events.{StepsOn, AnswersAtOnce, begun, came}
+use Rattle.sf_core.specs.Progress.{reply_of, overtaken, did, new_call}
+use Rattle.sf_core.specs.Parts.{PartsView, seen}
+use Rattle.sf_core.specs.Sound.{Sound, IsCore}
+use Rattle.sf_core.specs.Stepping.{SameButRoom, BeginState, Serves, Walked, Overtakes, AtOnceState, session_set, session_set_by}
+use Rattle.sf_core.proofs.Maps.{reply_is, put_same, set_same, set_twice, put_removed}
+use Rattle.sf_core.proofs.Starting.{begun_sound, begun_told}
+use Rattle.sf_core.proofs.Turns.{IsStep, IsTurn, core_after, sound_of, steps_on, turn_of}
+use Rattle.sf_core.proofs.Making.{decided_step, decided_given}
+
+-- a session that has a call, and then none, is as it was
+session_back : (sessions : List (ℕ × Option ℕ)) (session number : ℕ) → session_at sessions session ≡ Some None → session_set (session_set sessions session (Some number)) session None ≡ sessions
+session_back sessions session number idle =
+    let test = is_at (nat_cmp session) in
+    ap (λ ss. session_set ss session None) (ap (session_set_by sessions session (Some number)) idle)
+    ∙ ap (session_set_by (set_value test sessions (Some number)) session None) (set_same sessions session (Some number) None idle)
+    ∙ set_twice test sessions (Some number) None ∙ set_value_same test sessions None idle
+
+module _ (p m : PartsView) (same : SameButRoom p m) (room : length p.calls + length p.sessions + 1 ≤ m.book.room) (session : ℕ) (request : Request) (moment : ℕ) (is_call : IsCall (p.drawn + 1) session moment request)
+    (idle : session_at p.sessions session ≡ Some None) (new : call_at p.calls (p.drawn + 1) ≡ None) where
+  abbrev c : Call
+  c = new_call (p.drawn + 1) session moment request
+
+  abbrev mid : PartsView
+  mid = record {
+    store = p.store;
+    book = m.book;
+    sessions = session_set p.sessions session (Some (p.drawn + 1));
+    calls = insert_entry nat_cmp p.calls (p.drawn + 1) c;
+    drawn = p.drawn + 1;
+    joins = p.joins;
+  }
+
+  pub decided_at_once : (s : StoreState) (book : BookView) (given : Reply) → Serves p.store s c given → s.look_ups ≡ p.store.look_ups → book ≡ put m.book (did c given)
+      → AtOnceState p (record { store = s; book = book; sessions = p.sessions; calls = p.calls; drawn = p.drawn + 1; joins = p.joins }) session request moment given
+  decided_at_once s book given serves looks is = record {
+    mid = mid;
+    begun = record { store = refl; book = same.book; room = room; sessions = refl; calls = refl; drawn = refl; joins = refl; is_call = is_call };
+    finished = record {
+      records = record { mid = s; serves = serves; store = refl; book = is; drawn = refl; joins = refl };
+      look_ups = looks;
+      sessions = sym (session_back p.sessions session (p.drawn + 1) idle);
+      calls = sym (put_removed p.calls (p.drawn + 1) c new);
+    };
+    calls = refl;
+  }
+
+-- ---- what is told of it
+module _ (lane : LaneView) (p q : PartsView) (core : IsCore p) (request : Request) (moment : ℕ) (given : Reply) (route : route_of request ≡ NoPath) (idle : session_at p.sessions lane.session ≡ Some None) (unspent : p.drawn < last_number)
+    (fits : p.store.look_ups < 2 ^ 64) (at : AtOnceState p q lane.session request moment given) where
+  abbrev its : Call
+  its = new_call (p.drawn + 1) lane.session moment request
+
+  abbrev its_lane : LaneView
+  its_lane = begun lane (p.drawn + 1)
+
+  sound_mid : (h : List Record) → Sound p h → Sound at.mid h
+  sound_mid h sound = begun_sound p at.mid h sound lane.session request moment at.begun idle unspent
+
+  core_mid : IsCore at.mid
+  core_mid = record { history = core.history; sound = sound_mid core.history core.sound }
+
+  there : call_at at.mid.calls (p.drawn + 1) ≡ Some its
+  there = ap (λ cs. call_at cs (p.drawn + 1)) at.begun.calls ∙ put_same p.calls (p.drawn + 1) its
+
+  turn : IsTurn at.mid its_lane its
+  turn = (turn_of at.mid core_mid its_lane (p.drawn + 1) its there refl refl (subst (λ (s : StoreState). s.look_ups < 2 ^ 64) (sym at.begun.store) fits)).0
+
+  undecided : reply_of its ≡ None
+  undecided = reply_is its
+
+  abbrev nowhere : Ways
+  nowhere = along located.NoWay
+
+  walked : Walked at.mid at.mid its its.number (walk.Ready nowhere)
+  walked = record {
+    advances =
+        subst (λ (r : Route). Ready at.mid.store at.mid.store (walker its.number r stage.Fresh) nowhere) (sym route)
+        (at_once at.mid.store its.number stage.Fresh (subst (λ (r : Route). Stands at.mid.store r stage.Fresh) route (stands_fresh at.mid.store request)));
+    book = refl;
+    sessions = refl;
+    calls = refl;
+    drawn = refl;
+    joins = refl;
+  }
+
+  over : Overtakes at.mid at.mid its
+  over = λ t keeps. ([], ap (overtaken at.mid.calls its.number) (sym (nowhere_stays at.mid.store t keeps its.session its.number its.moment request nowhere walked.advances.located refl)), refl)
+
+  pub given_at_once : IsGiven (p.drawn + 1) lane.session given
+  given_at_once = decided_given at.mid its_lane its turn undecided at.mid nowhere walked at.mid over core.history (sound_mid core.history core.sound) q given at.finished
+
+  module _ (a : Answer) (is : a ≡ record { number = p.drawn + 1; session = lane.session; reply = given }) where
+    steps : IsStep at.mid its_lane (step.Answered a) q (at_rest its_lane)
+    steps = decided_step at.mid its_lane its turn undecided at.mid nowhere walked at.mid over q given at.finished a is
+
+    pub answered_at_once : AnswersAtOnce (seen p) lane request moment (came (step.Answered a) (seen q) (at_rest its_lane))
+    answered_at_once = record {
+      mid = seen at.mid;
+      begins = begun_told p at.mid core.history core.sound lane.session request moment at.begun idle unspent lane.call lane.begun;
+      history = λ h written. (sound_mid h (sound_of p core h written)).history;
+      steps = subst (λ k. StepsOn (seen at.mid) (begun lane k) (step.Answered a) (seen q) (at_rest its_lane)) (sym at.begun.drawn) (steps_on at.mid q its_lane (at_rest its_lane) (step.Answered a) core_mid steps);
+    }
+
+  pub core_at_once : IsCore q
+  core_at_once = core_after at.mid q _ core_mid (steps (record { number = p.drawn + 1; session = lane.session; reply = given }) refl)
