@@ -7,7 +7,7 @@
 #include <string.h>
 #include <time.h>
 
-enum { MOMENT = 100, DEPTH = 4, ROOM = 256, TURNS = 100, REPLY = 41 };
+enum { MOMENT = 100, DEPTH = 4, ROOM = 256, REPLIES = 100, REPLY = 41 };
 
 static lt_engine *engine;
 static uint64_t session;
@@ -24,7 +24,7 @@ static void ask(const uint8_t *packet, size_t length, int64_t reply)
 {
     if (lt_feed(engine, session, packet, length) != 0)
         stop("refused");
-    if (lt_settle(engine, session, MOMENT, TURNS) != LT_IDLE)
+    if (lt_settle(engine, session, MOMENT, REPLIES, NULL) != LT_IDLE)
         stop("not idle");
     if (lt_output(engine, session, room, sizeof room) != reply)
         stop("another reply");
@@ -52,7 +52,7 @@ int main(int count, char **words)
     uint8_t packet[ROOM];
     long stats = count > 1 ? atol(words[1]) : 1000000;
     struct timespec begin, end;
-    engine = lt_new(256);
+    engine = lt_new();
     session = (uint64_t)lt_open(engine);
     ask(init, sizeof init, 71);
     for (int names = 1; names <= DEPTH; names++)

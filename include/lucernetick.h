@@ -4,18 +4,20 @@
  * is fed the bytes that its client sends, is given turns, and has the bytes that its client is to be
  * sent. Nothing happens between two calls, so the same calls give the same bytes each time.
  *
- *     lt_engine *engine = lt_new(1);
+ *     lt_engine *engine = lt_new();
  *     int64_t session = lt_open(engine);
  *     lt_feed(engine, session, request, request_length);
- *     lt_settle(engine, session, moment, 1000);
+ *     lt_settle(engine, session, moment, 1000, NULL);
  *     int64_t waiting = lt_output(engine, session, room, room_length);
  *     size_t count = (size_t)waiting < room_length ? (size_t)waiting : room_length;
  *     fwrite(room, 1, count, client);
  *     lt_sent(engine, session, count);
  *     lt_free(engine);
  *
- * `./library` builds it, and `cc -Iinclude program.c out/liblucernetick.a` a program with it. The whole of one
- * is interop/c/serve.c, a server for many clients. Functions answer numbers: those below 0 are refusals.
+ * `./library` builds it, and `cc -Iinclude program.c out/liblucernetick.a` a program with it. Where
+ * `./library --prefix` has installed it, `pkg-config --cflags --libs lucernetick` tells the words. The whole of
+ * a program is interop/c/serve.c, a server for many clients. Functions answer numbers: those below 0 are
+ * refusals, and lt_message has their text.
  *
  * What a caller owes, which nothing checks:
  * - A pointer to an engine is NULL, or one that lt_new gave and lt_free wasn't given.
@@ -30,8 +32,12 @@
 #ifndef LUCERNETICK_H
 #define LUCERNETICK_H
 
+#include <stdbool.h>
 #include <stddef.h>
 #include <stdint.h>
+
+/* The version that this file is of; that of the library is lt_version(). */
+#define LT_VERSION "0.2.0"
 
 #ifdef __cplusplus
 extern "C" {
@@ -43,7 +49,7 @@ typedef struct lt_engine lt_engine;
 enum {
     LT_OUT_OF_MEMORY = -1,
     LT_NO_SUCH_SESSION = -2, /* no session of this number was ever opened */
-    LT_SESSIONS = -3,        /* 256 sessions are open */
+    LT_TOO_MANY_SESSIONS = -3, /* 256 sessions are open */
     LT_HAS_ENDED = -4,       /* the session has ended or was closed, and takes no more bytes */
     LT_NUMBERS_SPENT = -5,   /* 2^63 - 1 sessions were opened */
     LT_NOT_SENT = -6,        /* fewer bytes wait to be sent */
@@ -59,7 +65,7 @@ enum {
     LT_MOVED = 3,   /* the call made a step on its way */
     LT_BLOCKED = 4, /* the call of another session holds what the call wants: that one has to go on first */
     LT_DECIDED = 5, /* the call is decided: the next turn writes its reply */
-    LT_SPENT = 6,   /* by lt_settle alone: all its turns were made, and the session goes on */
+    LT_SPENT = 6,   /* by lt_settle alone: as many replies as it may were written, and the session goes on */
     LT_ENDED = 16   /* the session has ended: the answer is LT_ENDED + one of the causes below */
 };
 
@@ -74,10 +80,20 @@ enum {
     LT_CLOSED = 7       /* by lt_close */
 };
 
-/* An engine with no session, whose tree is the root alone. It keeps the records of its last `keep`
- * calls, or of all of them where `keep` is 0. They take memory, change no answer, and no function here
- * shows them: 1 will do. NULL: out of memory. */
-lt_engine *lt_new(uint64_t keep);
+/* The library's version, as LT_VERSION. */
+const char *lt_version(void);
+
+/* The text of what lt_turn or lt_settle answered, or of any function's refusal: a few words in English, as
+ * "256 sessions are open". It isn't to be freed. A number that none of them answers has a text that says so. */
+const char *lt_message(int64_t answer);
+
+/* An engine with no session, whose tree is the root alone. It keeps the records of its last 256 calls.
+ * NULL: out of memory. */
+lt_engine *lt_new(void);
+
+/* As lt_new, but it keeps the records of its last `keep` calls, or of all of them where `keep` is 0. They take
+ * memory, with what was written and read, and change no answer. */
+lt_engine *lt_new_keeping(uint64_t keep);
 
 /* Frees an engine with its sessions and its tree. NULL: does nothing. */
 void lt_free(lt_engine *engine);
@@ -94,10 +110,12 @@ int64_t lt_feed(lt_engine *engine, uint64_t session, const uint8_t *bytes, size_
  * LT_DECIDED, or LT_ENDED + a cause. */
 int64_t lt_turn(lt_engine *engine, uint64_t session, uint32_t moment);
 
-/* Turns, `most` at most, until one answers LT_IDLE, LT_BLOCKED, LT_ENDED + a cause, or a refusal, and
- * answers the same; or LT_SPENT where none of so many does. The turns before a refusal were made. Where
- * `most` is 0, the session isn't looked at, and the answer is LT_SPENT. */
-int64_t lt_settle(lt_engine *engine, uint64_t session, uint32_t moment, uint64_t most);
+/* Turns, until one answers LT_IDLE, LT_BLOCKED, LT_ENDED + a cause, or a refusal, and answers the same; or
+ * LT_SPENT where `most` replies were written before. The turns before a refusal were made. Where `most` is 0,
+ * the session isn't looked at, and the answer is LT_SPENT. `*moved` is set to whether any turn did something,
+ * that is, answered LT_WROTE, LT_BEGUN, LT_MOVED or LT_DECIDED, for which another session may have waited;
+ * `moved` may be NULL. */
+int64_t lt_settle(lt_engine *engine, uint64_t session, uint32_t moment, uint64_t most, bool *moved);
 
 /* Rounds, until no call is under way: in each, every session whose call is under way has one turn, at the moment
  * 0, by rising session numbers. Answers how many there were: 0 where no call is under way, and at most the sum,
@@ -116,6 +134,82 @@ int64_t lt_output(lt_engine *engine, uint64_t session, uint8_t *room, size_t len
 
 /* The first `count` bytes that waited were sent: they are dropped; answers 0. */
 int64_t lt_sent(lt_engine *engine, uint64_t session, size_t count);
+
+/* What a call asked: an lt_call's `kind`. Those below 200 are the types of packets; LSTAT is STAT here. */
+enum {
+    LT_LEFT = 0, /* no call: the session has left */
+    LT_OPEN = 3,
+    LT_CLOSE = 4,
+    LT_READ = 5,
+    LT_WRITE = 6,
+    LT_FSTAT = 8,
+    LT_SETSTAT = 9,
+    LT_FSETSTAT = 10,
+    LT_OPENDIR = 11,
+    LT_READDIR = 12,
+    LT_REMOVE = 13,
+    LT_MKDIR = 14,
+    LT_RMDIR = 15,
+    LT_STAT = 17,
+    LT_RENAME = 18,
+    LT_POSIX_RENAME = 201, /* posix-rename@openssh.com */
+    LT_HARDLINK = 202      /* hardlink@openssh.com */
+};
+
+/* What a call was answered: an lt_call's `answer`. Those above 100 are the types of packets. */
+enum {
+    LT_NO_MEMORY = 100, /* the status FAILURE, for want of memory */
+    LT_STATUS = 101,
+    LT_HANDLE = 102,
+    LT_DATA = 103,
+    LT_NAMES = 104,
+    LT_ATTRS = 105
+};
+
+/* Attributes. `given` has the protocol's bits for those that are there: 1 for the size, 2 for uid and gid, 4 for the
+ * permissions, 8 for both times. The others are 0. */
+typedef struct lt_attributes {
+    uint64_t size;
+    uint32_t given;
+    uint32_t uid;
+    uint32_t gid;
+    uint32_t permissions;
+    uint32_t atime;
+    uint32_t mtime;
+} lt_attributes;
+
+/* So many bytes, without an end of their own. */
+typedef struct lt_bytes {
+    const uint8_t *at;
+    size_t length;
+} lt_bytes;
+
+/* The record of a call. What its kind, or its answer, doesn't have is 0 or no bytes. */
+typedef struct lt_call {
+    uint64_t number;  /* calls are 1, 2, 3 and so on as they begin; 0 for LT_LEFT */
+    uint64_t session;
+    uint32_t moment;  /* at which it began */
+    uint32_t kind;
+    lt_bytes path;     /* of a rename or a link the old one; in normal form, from / on */
+    lt_bytes new_path; /* of a rename or a link */
+    uint64_t handle;   /* the number of the call that opened it */
+    uint64_t offset;
+    uint64_t length;   /* how many bytes were asked for, or written */
+    uint32_t flags;    /* the pflags of OPEN */
+    uint32_t answer;
+    lt_attributes attributes;
+    lt_bytes written; /* by WRITE */
+    uint32_t status;  /* the code of LT_STATUS, or of LT_NO_MEMORY */
+    uint32_t names;   /* how many names LT_NAMES has */
+    uint64_t answer_handle;
+    lt_attributes answer_attributes;
+    lt_bytes answer_bytes; /* of LT_DATA; of LT_NAMES the names, each with a byte 0 behind it */
+} lt_call;
+
+/* The records that are kept, by their places in the order in which the calls took effect, the oldest at 0. Answers how
+ * many there are. Where `at` is less, `*call` is set to the record there; its bytes are the engine's, until the next call
+ * of any function on it. */
+int64_t lt_calls(lt_engine *engine, uint64_t at, lt_call *call);
 
 #ifdef __cplusplus
 }

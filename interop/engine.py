@@ -18,7 +18,7 @@ ENDED = 16
 NOT_INIT, OLD_VERSION, SECOND_INIT, ZERO_LENGTH, TOO_LONG, NO_ID, CLOSED = range(1, 8)
 
 MOMENT = 100
-MOST_TURNS = 1 << 40
+MOST_REPLIES = 1 << 40
 ROOM = 1 << 19
 
 
@@ -46,12 +46,12 @@ def load():
     library = ctypes.CDLL(find_library())
     pointer, u64, u32, size = ctypes.c_void_p, ctypes.c_uint64, ctypes.c_uint32, ctypes.c_size_t
     for name, gives, takes in (
-        ("lt_new", pointer, [u64]),
+        ("lt_new_keeping", pointer, [u64]),
         ("lt_free", None, [pointer]),
         ("lt_open", ctypes.c_int64, [pointer]),
         ("lt_feed", ctypes.c_int64, [pointer, u64, ctypes.c_char_p, size]),
         ("lt_turn", ctypes.c_int64, [pointer, u64, u32]),
-        ("lt_settle", ctypes.c_int64, [pointer, u64, u32, u64]),
+        ("lt_settle", ctypes.c_int64, [pointer, u64, u32, u64, pointer]),
         ("lt_run_all", ctypes.c_int64, [pointer]),
         ("lt_close", ctypes.c_int64, [pointer, u64]),
         ("lt_output", ctypes.c_int64, [pointer, u64, pointer, size]),
@@ -68,7 +68,7 @@ class Engine:
     library = None
 
     def __init__(self, keep=1):
-        self.at = self.library.lt_new(keep)
+        self.at = self.library.lt_new_keeping(keep)
         self.room = ctypes.create_string_buffer(ROOM)
         if self.at is None:
             raise AssertionError("no engine")
@@ -89,7 +89,7 @@ class Engine:
         return granted(self.library.lt_turn(self.at, session, MOMENT))
 
     def settle(self, session):
-        return granted(self.library.lt_settle(self.at, session, MOMENT, MOST_TURNS))
+        return granted(self.library.lt_settle(self.at, session, MOMENT, MOST_REPLIES, None))
 
     def run_all(self):
         return granted(self.library.lt_run_all(self.at))

@@ -1,12 +1,48 @@
-/* The functions of lucernetick.h over those that the crate `ffi` exports: what can't be refused there,
+/* The functions of lucernetick.h over those that the crate `sf_c` exports: what can't be refused there,
  * since a reference isn't NULL, is refused here. */
 #include "lucernetick.h"
 
 #include <stdlib.h>
 
-/* What the crate has of an engine: its box, or NULL. */
+/* How many records lt_new keeps. */
+enum { KEEP = 256 };
+
+/* What the crate has of an engine, its box or NULL, and room for the bytes of a record, of which the crate doesn't
+ * know. */
 struct lt_engine {
     void *at;
+    uint8_t *room;
+    size_t capacity;
+};
+
+/* A record as the crate tells it, in `src/told.rt`. */
+struct asked {
+    lt_attributes attributes;
+    uint64_t handle;
+    uint64_t offset;
+    uint64_t length;
+    uint32_t kind;
+    uint32_t flags;
+};
+
+struct answered {
+    lt_attributes attributes;
+    uint64_t handle;
+    uint64_t names;
+    uint32_t kind;
+    uint32_t status;
+};
+
+struct told {
+    uint64_t number;
+    uint64_t session;
+    struct asked asked;
+    struct answered answered;
+    uint64_t path;
+    uint64_t new_path;
+    uint64_t written;
+    uint64_t answer;
+    uint32_t moment;
 };
 
 int64_t lucernetick_new(lt_engine *engine, uint64_t keep);
@@ -14,11 +50,12 @@ void lucernetick_free(lt_engine *engine);
 int64_t lucernetick_open(lt_engine *engine);
 int64_t lucernetick_feed(lt_engine *engine, uint64_t session, const uint8_t *bytes, size_t length);
 int64_t lucernetick_turn(lt_engine *engine, uint64_t session, uint32_t moment);
-int64_t lucernetick_settle(lt_engine *engine, uint64_t session, uint32_t moment, uint64_t most);
+int64_t lucernetick_settle(lt_engine *engine, uint64_t session, uint32_t moment, uint64_t most, bool *moved);
 uint64_t lucernetick_run_all(lt_engine *engine);
 int64_t lucernetick_close(lt_engine *engine, uint64_t session);
 int64_t lucernetick_output(lt_engine *engine, uint64_t session, uint8_t *room, size_t length);
 int64_t lucernetick_sent(lt_engine *engine, uint64_t session, size_t count);
+int64_t lucernetick_call(lt_engine *engine, uint64_t at, struct told *told, uint8_t *room, size_t length);
 
 /* Whether so many bytes may be there. */
 static int are_bytes(const uint8_t *bytes, size_t length)
@@ -26,12 +63,93 @@ static int are_bytes(const uint8_t *bytes, size_t length)
     return length <= PTRDIFF_MAX && (bytes != NULL || length == 0);
 }
 
-lt_engine *lt_new(uint64_t keep)
+const char *lt_version(void)
+{
+    return LT_VERSION;
+}
+
+static const char *refusal_text(int64_t answer)
+{
+    switch (answer) {
+    case LT_OUT_OF_MEMORY:
+        return "out of memory";
+    case LT_NO_SUCH_SESSION:
+        return "no session of this number was ever opened";
+    case LT_TOO_MANY_SESSIONS:
+        return "256 sessions are open";
+    case LT_HAS_ENDED:
+        return "the session has ended, and takes no more bytes";
+    case LT_NUMBERS_SPENT:
+        return "all session numbers are spent";
+    case LT_NOT_SENT:
+        return "fewer bytes wait to be sent";
+    case LT_BAD_POINTER:
+        return "the engine was closed, or a pointer is NULL, or a length too large";
+    default:
+        return "an unknown refusal";
+    }
+}
+
+static const char *ending_text(int64_t cause)
+{
+    switch (cause) {
+    case LT_NOT_INIT:
+        return "ended: the first packet isn't INIT";
+    case LT_OLD_VERSION:
+        return "ended: the client has a version below 3";
+    case LT_SECOND_INIT:
+        return "ended: a later packet is INIT";
+    case LT_ZERO_LENGTH:
+        return "ended: a packet of length 0";
+    case LT_TOO_LONG:
+        return "ended: a packet of a length above 262144";
+    case LT_NO_ID:
+        return "ended: a packet ends before its id";
+    case LT_CLOSED:
+        return "ended: the session was closed";
+    default:
+        return "an unknown answer";
+    }
+}
+
+static const char *turn_text(int64_t answer)
+{
+    switch (answer) {
+    case LT_IDLE:
+        return "no whole packet is unread";
+    case LT_WROTE:
+        return "a reply was written";
+    case LT_BEGUN:
+        return "a call has begun";
+    case LT_MOVED:
+        return "the call made a step";
+    case LT_BLOCKED:
+        return "the call of another session is in the way";
+    case LT_DECIDED:
+        return "the call is decided";
+    case LT_SPENT:
+        return "as many replies as may be were written";
+    default:
+        return ending_text(answer - LT_ENDED);
+    }
+}
+
+const char *lt_message(int64_t answer)
+{
+    return answer < 0 ? refusal_text(answer) : turn_text(answer);
+}
+
+lt_engine *lt_new(void)
+{
+    return lt_new_keeping(KEEP);
+}
+
+lt_engine *lt_new_keeping(uint64_t keep)
 {
     lt_engine *engine = malloc(sizeof *engine);
     if (engine == NULL)
         return NULL;
-    engine->at = NULL;
+    *engine = (lt_engine){.at = NULL};
     if (lucernetick_new(engine, keep) < 0) {
         free(engine);
         return NULL;
@@ -44,6 +162,7 @@ void lt_free(lt_engine *engine)
     if (engine == NULL)
         return;
     lucernetick_free(engine);
+    free(engine->room);
     free(engine);
 }
 
@@ -65,9 +184,15 @@ int64_t lt_turn(lt_engine *engine, uint64_t session, uint32_t moment)
     return engine == NULL ? LT_BAD_POINTER : lucernetick_turn(engine, session, moment);
 }
 
-int64_t lt_settle(lt_engine *engine, uint64_t session, uint32_t moment, uint64_t most)
+int64_t lt_settle(lt_engine *engine, uint64_t session, uint32_t moment, uint64_t most, bool *moved)
 {
-    return engine == NULL ? LT_BAD_POINTER : lucernetick_settle(engine, session, moment, most);
+    bool told = false;
+    int64_t answer = LT_BAD_POINTER;
+    if (engine != NULL)
+        answer = lucernetick_settle(engine, session, moment, most, &told);
+    if (moved != NULL)
+        *moved = told;
+    return answer;
 }
 
 int64_t lt_run_all(lt_engine *engine)
@@ -91,4 +216,72 @@ int64_t lt_output(lt_engine *engine, uint64_t session, uint8_t *room, size_t len
 int64_t lt_sent(lt_engine *engine, uint64_t session, size_t count)
 {
     return engine == NULL ? LT_BAD_POINTER : lucernetick_sent(engine, session, count);
+}
+
+/* The next so many bytes at a place, which moves behind them. */
+static lt_bytes next_bytes(const uint8_t **at, uint64_t length)
+{
+    lt_bytes bytes = {*at, (size_t)length};
+    *at += bytes.length;
+    return bytes;
+}
+
+static lt_call call_of(const struct told *told, const uint8_t *bytes)
+{
+    lt_call call = {
+        .number = told->number,
+        .session = told->session,
+        .moment = told->moment,
+        .kind = told->asked.kind,
+        .handle = told->asked.handle,
+        .offset = told->asked.offset,
+        .length = told->asked.length,
+        .flags = told->asked.flags,
+        .answer = told->answered.kind,
+        .attributes = told->asked.attributes,
+        .status = told->answered.status,
+        .names = (uint32_t)told->answered.names,
+        .answer_handle = told->answered.handle,
+        .answer_attributes = told->answered.attributes,
+    };
+    call.path = next_bytes(&bytes, told->path);
+    call.new_path = next_bytes(&bytes, told->new_path);
+    call.written = next_bytes(&bytes, told->written);
+    call.answer_bytes = next_bytes(&bytes, told->answer);
+    return call;
+}
+
+/* Makes room for so many bytes. Answers whether there is memory for it. */
+static bool make_room(lt_engine *engine, size_t length)
+{
+    if (length <= engine->capacity)
+        return true;
+    uint8_t *room = realloc(engine->room, length);
+    if (room == NULL)
+        return false;
+    engine->room = room;
+    engine->capacity = length;
+    return true;
+}
+
+int64_t lt_calls(lt_engine *engine, uint64_t at, lt_call *call)
+{
+    struct told told;
+    if (engine == NULL || call == NULL)
+        return LT_BAD_POINTER;
+    if (!make_room(engine, 1))
+        return LT_OUT_OF_MEMORY;
+    int64_t count = lucernetick_call(engine, at, &told, engine->room, engine->capacity);
+    if (count < 0 || at >= (uint64_t)count)
+        return count;
+    uint64_t length = told.path + told.new_path + told.written + told.answer;
+    if (length > engine->capacity) {
+        if (!make_room(engine, (size_t)length))
+            return LT_OUT_OF_MEMORY;
+        count = lucernetick_call(engine, at, &told, engine->room, engine->capacity);
+        if (count < 0)
+            return count;
+    }
+    *call = call_of(&told, engine->room);
+    return count;
 }

@@ -28,7 +28,7 @@ func connect(t *testing.T, engine *Engine, clock Clock) *sftp.Client {
 
 func newEngine(t *testing.T) *Engine {
 	t.Helper()
-	engine, err := New(1)
+	engine, err := New()
 	must(t, err)
 	t.Cleanup(engine.Close)
 	return engine
@@ -136,15 +136,21 @@ func TestTimesAreVirtual(t *testing.T) {
 	same(t, []uint32{found["/"].Mtime, found["/d"].Mtime, found["/d"].Atime}, []uint32{1700000000, 7, 1700000000})
 }
 
+// hold makes a session's turns until its call has taken the root.
+func hold(t *testing.T, session *Session) {
+	t.Helper()
+	for _, wanted := range []Turn{Wrote, Begun, Moved} {
+		turn, err := session.Turn(100)
+		must(t, err)
+		same(t, turn, wanted)
+	}
+}
+
 func TestAConnWaitsForACallThatIsHeld(t *testing.T) {
 	engine := newEngine(t)
 	must(t, engine.WriteFiles(map[string][]byte{"/f": []byte("1")}, 0))
 	held := open(t, engine, makes)
-	for _, wanted := range []Turn{Wrote, Begun, Moved} {
-		turn, err := held.Turn(100)
-		must(t, err)
-		same(t, turn, wanted)
-	}
+	hold(t, held)
 	_, err := engine.Snapshot()
 	same(t, errors.Is(err, ErrBlocked), true)
 	client := connect(t, engine, WallClock)
@@ -167,8 +173,7 @@ func TestAConnWaitsForACallThatIsHeld(t *testing.T) {
 func TestAConnGoesOnAfterRounds(t *testing.T) {
 	engine := newEngine(t)
 	held := open(t, engine, makes)
-	_, err := held.Settle(100, 3)
-	must(t, err)
+	hold(t, held)
 	conn, err := engine.Connect(WallClock)
 	must(t, err)
 	_, err = conn.Write([]byte(looks))
@@ -195,15 +200,15 @@ func TestAConnGoesOnAfterRounds(t *testing.T) {
 func TestManyClientsAtOnce(t *testing.T) {
 	engine := newEngine(t)
 	var group sync.WaitGroup
-	for _, name := range []string{"/a", "/b", "/c", "/d", "/e", "/f"} {
-		client := connect(t, engine, WallClock)
+	for number := 0; number < 50; number++ {
+		name, client := fmt.Sprintf("/d%d", number), connect(t, engine, WallClock)
 		group.Add(1)
 		go func(name string) {
 			defer group.Done()
 			if err := client.Mkdir(name); err != nil {
 				t.Error(err)
 			}
-			for count := 0; count < 20; count++ {
+			for count := 0; count < 4; count++ {
 				file, err := client.Create(name + "/" + string(rune('a'+count)))
 				if err != nil {
 					t.Error(err)
@@ -216,7 +221,7 @@ func TestManyClientsAtOnce(t *testing.T) {
 	group.Wait()
 	found, err := engine.Snapshot()
 	must(t, err)
-	same(t, len(found), 1+6+120)
+	same(t, len(found), 1+50+200)
 }
 
 func TestAClosedConn(t *testing.T) {

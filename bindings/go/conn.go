@@ -30,8 +30,8 @@ func (clock *VirtualTime) Now() uint32 { return clock.moment.Load() }
 // Set makes it this moment, earlier or later than before.
 func (clock *VirtualTime) Set(moment uint32) { clock.moment.Store(moment) }
 
-// most is how many turns are made before another session may have the engine.
-const most = 256
+// most is how many replies are written before another session may have the engine.
+const most = 64
 
 // A Conn is a session as a client's connection: what is written to it are requests, what is read from it
 // their replies. One goroutine may read while another one writes.

@@ -7,14 +7,13 @@
 package lucernetick
 
 /*
-#cgo CFLAGS: -I${SRCDIR}/../../include
-#cgo LDFLAGS: ${SRCDIR}/../../out/liblucernetick.a
+#cgo CFLAGS: -I${SRCDIR} -I${SRCDIR}/../../include
+#cgo LDFLAGS: -L${SRCDIR} -L${SRCDIR}/../../out -l:liblucernetick.a
 #include "lucernetick.h"
 */
 import "C"
 
 import (
-	"fmt"
 	"sync"
 	"unsafe"
 )
@@ -24,34 +23,17 @@ type Refusal int64
 
 // The refusals.
 const (
-	OutOfMemory   Refusal = C.LT_OUT_OF_MEMORY
-	NoSuchSession Refusal = C.LT_NO_SUCH_SESSION
-	TooMany       Refusal = C.LT_SESSIONS // 256 sessions are open
-	HasEnded      Refusal = C.LT_HAS_ENDED
-	NumbersSpent  Refusal = C.LT_NUMBERS_SPENT
-	NotSent       Refusal = C.LT_NOT_SENT    // fewer bytes wait to be sent
-	EngineClosed  Refusal = C.LT_BAD_POINTER // the engine was closed
+	ErrOutOfMemory     Refusal = C.LT_OUT_OF_MEMORY
+	ErrNoSuchSession   Refusal = C.LT_NO_SUCH_SESSION
+	ErrTooManySessions Refusal = C.LT_TOO_MANY_SESSIONS // 256 sessions are open
+	ErrHasEnded        Refusal = C.LT_HAS_ENDED         // the session has ended or was closed, and takes no more bytes
+	ErrNumbersSpent    Refusal = C.LT_NUMBERS_SPENT
+	ErrNotSent         Refusal = C.LT_NOT_SENT    // fewer bytes wait to be sent
+	ErrBadPointer      Refusal = C.LT_BAD_POINTER // the engine was closed
 )
 
-func (refusal Refusal) Error() string {
-	switch refusal {
-	case OutOfMemory:
-		return "lucernetick: out of memory"
-	case NoSuchSession:
-		return "lucernetick: no session of this number was ever opened"
-	case TooMany:
-		return "lucernetick: 256 sessions are open"
-	case HasEnded:
-		return "lucernetick: the session has ended, and takes no more bytes"
-	case NumbersSpent:
-		return "lucernetick: all session numbers are spent"
-	case NotSent:
-		return "lucernetick: fewer bytes wait to be sent"
-	case EngineClosed:
-		return "lucernetick: the engine was closed"
-	}
-	return fmt.Sprintf("lucernetick: refused by %d", int64(refusal))
-}
+// Error is the library's text.
+func (refusal Refusal) Error() string { return "lucernetick: " + message(C.int64_t(refusal)) }
 
 // A Turn is what a turn did, or why the session has ended.
 type Turn int64
@@ -64,7 +46,7 @@ const (
 	Moved      Turn = C.LT_MOVED   // the call made a step on its way
 	Blocked    Turn = C.LT_BLOCKED // the call of another session has to go on first
 	Decided    Turn = C.LT_DECIDED // the call is decided: the next turn writes its reply
-	Spent      Turn = C.LT_SPENT   // by Settle alone: all its turns were made, and the session goes on
+	Spent      Turn = C.LT_SPENT   // by Settle alone: as many replies as it may were written
 	NotInit    Turn = C.LT_ENDED + C.LT_NOT_INIT
 	OldVersion Turn = C.LT_ENDED + C.LT_OLD_VERSION
 	SecondInit Turn = C.LT_ENDED + C.LT_SECOND_INIT
@@ -73,6 +55,9 @@ const (
 	NoID       Turn = C.LT_ENDED + C.LT_NO_ID
 	Closed     Turn = C.LT_ENDED + C.LT_CLOSED
 )
+
+// String is the library's text.
+func (turn Turn) String() string { return message(C.int64_t(turn)) }
 
 // HasEnded tells whether the session has ended.
 func (turn Turn) HasEnded() bool { return turn > C.LT_ENDED }
@@ -85,12 +70,17 @@ type Engine struct {
 	pointer *C.lt_engine
 }
 
-// New makes an engine whose tree is the root alone. It keeps the records of its last keep calls, or of all
-// of them where keep is 0: this takes memory, and changes no answer. Close frees it.
-func New(keep uint64) (*Engine, error) {
-	pointer := C.lt_new(C.uint64_t(keep))
+// New makes an engine whose tree is the root alone. It keeps the records of its last 256 calls. Close frees
+// it.
+func New() (*Engine, error) { return over(C.lt_new()) }
+
+// NewKeeping makes an engine as New does, which keeps the records of its last keep calls, or of all of them
+// where keep is 0. They take memory, with what was written and read, and change no answer.
+func NewKeeping(keep uint64) (*Engine, error) { return over(C.lt_new_keeping(C.uint64_t(keep))) }
+
+func over(pointer *C.lt_engine) (*Engine, error) {
 	if pointer == nil {
-		return nil, OutOfMemory
+		return nil, ErrOutOfMemory
 	}
 	engine := &Engine{pointer: pointer}
 	engine.moved = sync.NewCond(&engine.lock)
@@ -148,10 +138,15 @@ func (session *Session) Turn(moment uint32) (Turn, error) {
 	session.engine.lock.Lock()
 	defer session.engine.lock.Unlock()
 	engine := session.engine
-	return engine.told(C.lt_turn(engine.pointer, session.number, C.uint32_t(moment)))
+	number, err := checked(C.lt_turn(engine.pointer, session.number, C.uint32_t(moment)))
+	turn := Turn(number)
+	if err == nil && turn != Idle && turn != Blocked {
+		engine.moved.Broadcast()
+	}
+	return turn, err
 }
 
-// Settle turns until the session is idle or blocked or has ended, most turns at most.
+// Settle turns until the session is idle or blocked or has ended, or until most replies were written.
 func (session *Session) Settle(moment uint32, most uint64) (Turn, error) {
 	session.engine.lock.Lock()
 	defer session.engine.lock.Unlock()
@@ -194,23 +189,16 @@ func (session *Session) feed(data []byte) error {
 	return err
 }
 
-// settle makes the first turn apart, since a session that does nothing mustn't wake those that wait.
+// settle tells sessions that were blocked where something moved, also before a refusal.
 func (session *Session) settle(moment uint32, most uint64) (Turn, error) {
-	first := most
-	if first > 1 {
-		first = 1
-	}
-	turn, err := session.settled(moment, first)
-	if err != nil || turn != Spent || most <= 1 {
-		return turn, err
-	}
-	return session.settled(moment, most-1)
-}
-
-func (session *Session) settled(moment uint32, most uint64) (Turn, error) {
 	engine := session.engine
-	answer := C.lt_settle(engine.pointer, session.number, C.uint32_t(moment), C.uint64_t(most))
-	return engine.told(answer)
+	var moved C.bool
+	answer := C.lt_settle(engine.pointer, session.number, C.uint32_t(moment), C.uint64_t(most), &moved)
+	if moved {
+		engine.moved.Broadcast()
+	}
+	number, err := checked(answer)
+	return Turn(number), err
 }
 
 func (session *Session) output() ([]byte, error) {
@@ -232,7 +220,7 @@ func (session *Session) look(room []byte) (int, error) {
 
 func (session *Session) sent(count int) error {
 	if count < 0 {
-		return NotSent
+		return ErrNotSent
 	}
 	_, err := checked(C.lt_sent(session.engine.pointer, session.number, C.size_t(count)))
 	return err
@@ -244,15 +232,10 @@ func (session *Session) close() error {
 	return err
 }
 
-// told is a turn by the library's answer. Where something was done, sessions that were blocked are told.
-func (engine *Engine) told(answer C.int64_t) (Turn, error) {
-	number, err := checked(answer)
-	turn := Turn(number)
-	if err == nil && turn != Idle && turn != Blocked {
-		engine.moved.Broadcast()
-	}
-	return turn, err
-}
+// Version is the library's version.
+func Version() string { return C.GoString(C.lt_version()) }
+
+func message(answer C.int64_t) string { return C.GoString(C.lt_message(answer)) }
 
 func checked(answer C.int64_t) (int64, error) {
 	if answer < 0 {

@@ -114,7 +114,7 @@ func TestNoRoundsWithoutACallUnderWay(t *testing.T) {
 	same(t, rounds, uint64(0))
 	engine.Close()
 	_, err = engine.RunAll()
-	same(t, err, EngineClosed)
+	same(t, err, ErrBadPointer)
 }
 
 func TestOutputWaitsUntilItWasSent(t *testing.T) {
@@ -125,8 +125,8 @@ func TestOutputWaitsUntilItWasSent(t *testing.T) {
 	must(t, err)
 	same(t, len(waiting), version)
 	must(t, session.Sent(version-2))
-	same(t, session.Sent(3), NotSent)
-	same(t, session.Sent(-1), NotSent)
+	same(t, session.Sent(3), ErrNotSent)
+	same(t, session.Sent(-1), ErrNotSent)
 	rest, err := session.Output()
 	must(t, err)
 	same(t, rest, waiting[version-2:])
@@ -147,25 +147,25 @@ func TestHowSessionsEnd(t *testing.T) {
 		must(t, err)
 		same(t, turn, wanted)
 		same(t, turn.HasEnded(), true)
-		same(t, session.Feed([]byte("more")), HasEnded)
+		same(t, session.Feed([]byte("more")), ErrHasEnded)
 	}
 }
 
 func TestRefusals(t *testing.T) {
 	engine := newEngine(t)
 	_, err := (&Session{engine, 1}).Turn(0)
-	same(t, err, NoSuchSession)
+	same(t, err, ErrNoSuchSession)
 	for count := 0; count < 256; count++ {
 		open(t, engine, "")
 	}
 	_, err = engine.Open()
-	same(t, err, TooMany)
+	same(t, err, ErrTooManySessions)
 	engine.Close()
 	engine.Close()
 	_, err = engine.Open()
-	same(t, err, EngineClosed)
+	same(t, err, ErrBadPointer)
 	_, err = engine.Snapshot()
-	same(t, err, EngineClosed)
+	same(t, err, ErrBadPointer)
 }
 
 // setSize sets a file's size by a SETSTAT.
@@ -188,4 +188,20 @@ func TestAFileTooLargeForASnapshot(t *testing.T) {
 	same(t, *refused, TooLarge{"/d/f", 1 << 40})
 	setSize(t, engine, "/d/f", 2)
 	same(t, string(snapshot(t, engine)["/d/f"].Contents), "2\x00")
+}
+
+func TestVersionAndTexts(t *testing.T) {
+	same(t, Version(), "0.2.0")
+	same(t, ErrTooManySessions.Error(), "lucernetick: 256 sessions are open")
+	same(t, Closed.String(), "ended: the session was closed")
+}
+
+// Each of these makes turns up to one reply, and the last one finds nothing to do.
+func TestSettleByReplies(t *testing.T) {
+	session := open(t, newEngine(t), makes)
+	for _, wanted := range []Turn{Spent, Spent, Idle} {
+		turn, err := session.Settle(100, 1)
+		must(t, err)
+		same(t, turn, wanted)
+	}
 }

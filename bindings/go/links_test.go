@@ -127,7 +127,7 @@ func TestASnapshotThatIsRefusedLeavesAllAttributes(t *testing.T) {
 		last = open(t, engine, "")
 	}
 	found, err := engine.Snapshot()
-	same(t, err, TooMany)
+	same(t, err, ErrTooManySessions)
 	same(t, len(found), 0)
 	same(t, lookedAt(t, session), before)
 	must(t, last.Close())

@@ -48,7 +48,7 @@ const (
 // ErrBlocked: the call of another session, which has yet to take its turns, holds what a request wants. The
 // request stays as it is, in a session that gets no further turn but by RunAll: it may hold a directory until
 // then.
-var ErrBlocked = errors.New("lucernetick: the call of another session is in the way")
+var ErrBlocked = errors.New("lucernetick: " + Blocked.String())
 
 // A Status is the answer to a request of WriteFiles, Link or Snapshot that wasn't done.
 type Status struct {
@@ -88,9 +88,9 @@ func (entry Entry) IsDir() bool { return entry.Mode&kindMask == kindDirectory }
 // Permissions are the lowest twelve bits of its mode.
 func (entry Entry) Permissions() uint32 { return entry.Mode & 0o7777 }
 
-// FromFiles makes an engine whose tree has these files, as by WriteFiles. It keeps one record.
+// FromFiles makes an engine whose tree has these files, as by WriteFiles.
 func FromFiles(files map[string][]byte, moment uint32) (*Engine, error) {
-	engine, err := New(1)
+	engine, err := New()
 	if err != nil {
 		return nil, err
 	}

@@ -1,14 +1,22 @@
-//! Says where the archive is: in the folder that LUCERNETICK_ARCHIVE names, or where `./library` leaves it.
+//! Says where the archive is: in the folder that LUCERNETICK_ARCHIVE names, or beside this file, or where
+//! `./library` leaves it.
 
 use std::env;
-use std::path::PathBuf;
+use std::path::{Path, PathBuf};
 
 fn main() {
     println!("cargo:rerun-if-env-changed=LUCERNETICK_ARCHIVE");
     let folder = match env::var_os("LUCERNETICK_ARCHIVE") {
         Some(folder) => PathBuf::from(folder),
-        None => PathBuf::from(env!("CARGO_MANIFEST_DIR")).join("../../out"),
+        None => beside(Path::new(env!("CARGO_MANIFEST_DIR"))),
     };
     println!("cargo:rustc-link-search=native={}", folder.display());
     println!("cargo:rustc-link-lib=static=lucernetick");
+}
+
+fn beside(crate_folder: &Path) -> PathBuf {
+    if crate_folder.join("liblucernetick.a").exists() {
+        return crate_folder.to_path_buf();
+    }
+    crate_folder.join("../../out")
 }

@@ -29,16 +29,38 @@ static const uint8_t STAT[] = {0, 0, 0, 11, 17, 0, 0, 0, 8, 0, 0, 0, 2, '/', 'a'
 /* The length of VERSION, and that of OK's STATUS. */
 enum { VERSION = 71, OK = 28 };
 
+static void texts(void)
+{
+    const struct { int64_t answer; const char *text; } rows[] = {
+        {LT_IDLE, "no whole packet is unread"},
+        {LT_SPENT, "as many replies as may be were written"},
+        {LT_ENDED + LT_NOT_INIT, "ended: the first packet isn't INIT"},
+        {LT_ENDED + LT_CLOSED, "ended: the session was closed"},
+        {LT_OUT_OF_MEMORY, "out of memory"},
+        {LT_TOO_MANY_SESSIONS, "256 sessions are open"},
+        {LT_BAD_POINTER, "the engine was closed, or a pointer is NULL, or a length too large"},
+        {LT_BAD_POINTER - 1, "an unknown refusal"},
+        {INT64_MIN, "an unknown refusal"},
+        {LT_ENDED, "an unknown answer"},
+        {INT64_MAX, "an unknown answer"},
+    };
+    for (size_t i = 0; i < sizeof rows / sizeof *rows; i++)
+        same(rows[i].text, strcmp(lt_message(rows[i].answer), rows[i].text), 0);
+    same("the version", strcmp(lt_version(), LT_VERSION), 0);
+}
+
 static void null_pointers(void)
 {
-    lt_engine *engine = lt_new(0);
+    lt_engine *engine = lt_new();
+    bool moved = true;
     uint8_t byte = 0;
     int64_t session = lt_open(engine);
     lt_free(NULL);
     same("open without an engine", lt_open(NULL), LT_BAD_POINTER);
     same("feed without an engine", lt_feed(NULL, 1, &byte, 1), LT_BAD_POINTER);
     same("turn without an engine", lt_turn(NULL, 1, MOMENT), LT_BAD_POINTER);
-    same("settle without an engine", lt_settle(NULL, 1, MOMENT, 1), LT_BAD_POINTER);
+    same("settle without an engine", lt_settle(NULL, 1, MOMENT, 1, &moved), LT_BAD_POINTER);
+    same("which moves nothing", moved, false);
     same("rounds without an engine", lt_run_all(NULL), LT_BAD_POINTER);
     same("close without an engine", lt_close(NULL, 1), LT_BAD_POINTER);
     same("output without an engine", lt_output(NULL, 1, &byte, 1), LT_BAD_POINTER);
@@ -54,13 +76,13 @@ static void null_pointers(void)
 static void unknown_sessions(void)
 {
     const uint64_t numbers[] = {0, 2, UINT64_MAX};
-    lt_engine *engine = lt_new(3);
+    lt_engine *engine = lt_new_keeping(3);
     uint8_t byte = 0;
     same("the first session", lt_open(engine), 1);
     for (size_t i = 0; i < 3; i++) {
         same("feed nobody", lt_feed(engine, numbers[i], &byte, 1), LT_NO_SUCH_SESSION);
         same("turn of nobody", lt_turn(engine, numbers[i], MOMENT), LT_NO_SUCH_SESSION);
-        same("settle nobody", lt_settle(engine, numbers[i], MOMENT, 1), LT_NO_SUCH_SESSION);
+        same("settle nobody", lt_settle(engine, numbers[i], MOMENT, 1, NULL), LT_NO_SUCH_SESSION);
         same("close nobody", lt_close(engine, numbers[i]), LT_NO_SUCH_SESSION);
         same("output of nobody", lt_output(engine, numbers[i], &byte, 1), LT_NO_SUCH_SESSION);
         same("sent of nobody", lt_sent(engine, numbers[i], 0), LT_NO_SUCH_SESSION);
@@ -70,14 +92,14 @@ static void unknown_sessions(void)
 
 static void lengths_of_zero(void)
 {
-    lt_engine *engine = lt_new(0);
+    lt_engine *engine = lt_new();
     uint8_t byte = 9;
     lt_open(engine);
     same("feed nothing", lt_feed(engine, 1, NULL, 0), 0);
     same("feed no byte", lt_feed(engine, 1, &byte, 0), 0);
     same("a turn with nothing to do", lt_turn(engine, 1, MOMENT), LT_IDLE);
-    same("no turns", lt_settle(engine, 1, MOMENT, 0), LT_SPENT);
-    same("no turns of nobody", lt_settle(engine, 2, MOMENT, 0), LT_SPENT);
+    same("no turns", lt_settle(engine, 1, MOMENT, 0, NULL), LT_SPENT);
+    same("no turns of nobody", lt_settle(engine, 2, MOMENT, 0, NULL), LT_SPENT);
     same("nothing waits", lt_output(engine, 1, NULL, 0), 0);
     same("nothing waits for no room", lt_output(engine, 1, &byte, 0), 0);
     same("no byte was written", byte, 9);
@@ -88,7 +110,7 @@ static void lengths_of_zero(void)
 
 static void one_session(void)
 {
-    lt_engine *engine = lt_new(0);
+    lt_engine *engine = lt_new();
     uint8_t room[128];
     lt_open(engine);
     lt_feed(engine, 1, INIT, sizeof INIT);
@@ -99,9 +121,9 @@ static void one_session(void)
     same("MKDIR begins", lt_turn(engine, 1, MOMENT), LT_BEGUN);
     same("it takes the root", lt_turn(engine, 1, MOMENT), LT_MOVED);
     same("it is decided", lt_turn(engine, 1, MOMENT), LT_DECIDED);
-    same("its turns run out", lt_settle(engine, 1, MOMENT, 1), LT_SPENT);
+    same("its turns run out", lt_settle(engine, 1, MOMENT, 1, NULL), LT_SPENT);
     lt_feed(engine, 1, STAT, sizeof STAT);
-    same("STAT", lt_settle(engine, 1, MOMENT, 100), LT_IDLE);
+    same("STAT", lt_settle(engine, 1, MOMENT, 100, NULL), LT_IDLE);
     same("both replies", lt_output(engine, 1, room, sizeof room), OK + 41);
     same("OK's id", room[8], 7);
     same("ATTRS' moment", room[OK + 40], MOMENT);
@@ -114,14 +136,14 @@ static void one_session(void)
 
 static void after_the_end(void)
 {
-    lt_engine *engine = lt_new(0);
+    lt_engine *engine = lt_new();
     uint8_t room[8];
     lt_open(engine);
     lt_feed(engine, 1, MKDIR, sizeof MKDIR);
     same("not INIT", lt_turn(engine, 1, MOMENT), LT_ENDED + LT_NOT_INIT);
     same("a feed after the end", lt_feed(engine, 1, INIT, sizeof INIT), LT_HAS_ENDED);
     same("a turn after the end", lt_turn(engine, 1, MOMENT), LT_ENDED + LT_NOT_INIT);
-    same("settle after the end", lt_settle(engine, 1, MOMENT, 9), LT_ENDED + LT_NOT_INIT);
+    same("settle after the end", lt_settle(engine, 1, MOMENT, 9, NULL), LT_ENDED + LT_NOT_INIT);
     same("output after the end", lt_output(engine, 1, room, sizeof room), 0);
     same("sent after the end", lt_sent(engine, 1, 1), LT_NOT_SENT);
     same("close after the end", lt_close(engine, 1), 0);
@@ -134,9 +156,45 @@ static void after_the_end(void)
     lt_free(engine);
 }
 
+/* Whether a session's turns move anything, and what they come to. */
+static void moves(const char *name, lt_engine *engine, uint64_t session, uint64_t most, bool wanted, int64_t answer)
+{
+    bool moved = !wanted;
+    same(name, lt_settle(engine, session, MOMENT, most, &moved), answer);
+    same(name, moved, wanted);
+}
+
+static void moved(void)
+{
+    lt_engine *engine = lt_new();
+    lt_open(engine);
+    lt_open(engine);
+    moves("nothing to do", engine, 1, 9, false, LT_IDLE);
+    moves("nobody", engine, 3, 9, false, LT_NO_SUCH_SESSION);
+    lt_feed(engine, 1, INIT, sizeof INIT);
+    moves("no reply is asked for", engine, 1, 0, false, LT_SPENT);
+    moves("VERSION alone", engine, 1, 1, true, LT_SPENT);
+    moves("and no more", engine, 1, 1, false, LT_IDLE);
+    lt_feed(engine, 1, MKDIR, sizeof MKDIR);
+    lt_feed(engine, 2, INIT, sizeof INIT);
+    lt_feed(engine, 2, STAT, sizeof STAT);
+    lt_feed(engine, 2, STAT, sizeof STAT);
+    same("MKDIR begins", lt_turn(engine, 1, MOMENT), LT_BEGUN);
+    same("it takes the root", lt_turn(engine, 1, MOMENT), LT_MOVED);
+    moves("VERSION, and a call that is blocked", engine, 2, 9, true, LT_BLOCKED);
+    moves("it is blocked still", engine, 2, 9, false, LT_BLOCKED);
+    moves("MKDIR goes on, up to its reply", engine, 1, 9, true, LT_IDLE);
+    moves("the call goes by, up to its reply", engine, 2, 1, true, LT_SPENT);
+    moves("and the next one", engine, 2, 2, true, LT_IDLE);
+    same("VERSION and two replies", lt_output(engine, 2, NULL, 0), VERSION + 2 * 41);
+    lt_feed(engine, 1, INIT, sizeof INIT);
+    moves("a second INIT", engine, 1, 9, false, LT_ENDED + LT_SECOND_INIT);
+    lt_free(engine);
+}
+
 static void blocked(void)
 {
-    lt_engine *engine = lt_new(0);
+    lt_engine *engine = lt_new();
     lt_open(engine);
     lt_open(engine);
     lt_feed(engine, 1, INIT, sizeof INIT);
@@ -145,9 +203,9 @@ static void blocked(void)
     lt_feed(engine, 2, STAT, sizeof STAT);
     for (int i = 0; i < 3; i++)
         lt_turn(engine, 1, MOMENT);
-    same("the other one holds the root", lt_settle(engine, 2, MOMENT, 100), LT_BLOCKED);
-    same("which goes on", lt_settle(engine, 1, MOMENT, 100), LT_IDLE);
-    same("and lets it by", lt_settle(engine, 2, MOMENT, 100), LT_IDLE);
+    same("the other one holds the root", lt_settle(engine, 2, MOMENT, 100, NULL), LT_BLOCKED);
+    same("which goes on", lt_settle(engine, 1, MOMENT, 100, NULL), LT_IDLE);
+    same("and lets it by", lt_settle(engine, 2, MOMENT, 100, NULL), LT_IDLE);
     lt_free(engine);
 }
 
@@ -165,7 +223,7 @@ static const uint8_t TO_A[] = {0, 0, 0, 23, 18, 0, 0, 0, 9, 0, 0, 0, 4, '/', 'b'
 /* Two sessions, whose renames begin. What was written before is sent. */
 static lt_engine *crossing(void)
 {
-    lt_engine *engine = lt_new(0);
+    lt_engine *engine = lt_new();
     lt_open(engine);
     lt_open(engine);
     lt_feed(engine, 1, INIT, sizeof INIT);
@@ -174,8 +232,8 @@ static lt_engine *crossing(void)
     lt_feed(engine, 1, MAKE_X, sizeof MAKE_X);
     lt_feed(engine, 1, MAKE_B, sizeof MAKE_B);
     lt_feed(engine, 1, MAKE_Y, sizeof MAKE_Y);
-    lt_settle(engine, 1, MOMENT, 100);
-    lt_settle(engine, 2, MOMENT, 100);
+    lt_settle(engine, 1, MOMENT, 100, NULL);
+    lt_settle(engine, 2, MOMENT, 100, NULL);
     same("VERSION and four directories", lt_sent(engine, 1, VERSION + 4 * OK), 0);
     same("VERSION", lt_sent(engine, 2, VERSION), 0);
     lt_feed(engine, 1, TO_B, sizeof TO_B);
@@ -204,7 +262,7 @@ static void rounds(void)
     same("its id", room[8], 9);
     same("it is NO_SUCH_FILE", room[12], 2);
     lt_free(engine);
-    engine = lt_new(1);
+    engine = lt_new_keeping(0);
     same("no round without a session", lt_run_all(engine), 0);
     lt_free(engine);
 }
@@ -221,7 +279,7 @@ static void schedule(uint8_t first[128], uint8_t second[128])
     const uint64_t sessions[] = {1, 2, 2, 1, 1, 2, 1, 2, 2, 2, 1};
     const int64_t did[] = {LT_WROTE, LT_WROTE, LT_BEGUN, LT_BEGUN, LT_MOVED, LT_BLOCKED,
                            LT_DECIDED, LT_MOVED, LT_DECIDED, LT_WROTE, LT_WROTE};
-    lt_engine *engine = lt_new(0);
+    lt_engine *engine = lt_new();
     lt_open(engine);
     lt_open(engine);
     lt_feed(engine, 1, INIT, sizeof INIT);
@@ -245,24 +303,135 @@ static void replayed(void)
     same("the second one's reply", memcmp(second[0] + VERSION, LOOKED, sizeof LOOKED), 0);
 }
 
+/* OPEN of /f to write it anew, under the id 9; WRITE of 3 bytes at 5 and READ of all by the handle 3, CLOSE of it;
+ * OPENDIR of /, READDIR by the handle 7; SETSTAT of the mode of /a. */
+static const uint8_t OPEN[] = {0, 0, 0, 19, 3, 0, 0, 0, 9, 0, 0, 0, 2, '/', 'f', 0, 0, 0, 0x1b, 0, 0, 0, 0};
+static const uint8_t WRITE[] = {0, 0, 0, 32, 6, 0, 0, 0, 9, 0, 0, 0, 8, 0, 0, 0, 0, 0, 0, 0, 3,
+                                0, 0, 0, 0, 0, 0, 0, 5, 0, 0, 0, 3, 'x', 'y', 'z'};
+static const uint8_t READ[] = {0, 0, 0, 29, 5, 0, 0, 0, 9, 0, 0, 0, 8, 0, 0, 0, 0, 0, 0, 0, 3,
+                               0, 0, 0, 0, 0, 0, 0, 4, 0, 0, 1, 0};
+static const uint8_t CLOSE[] = {0, 0, 0, 17, 4, 0, 0, 0, 9, 0, 0, 0, 8, 0, 0, 0, 0, 0, 0, 0, 3};
+static const uint8_t OPENDIR[] = {0, 0, 0, 10, 11, 0, 0, 0, 9, 0, 0, 0, 1, '/'};
+static const uint8_t READDIR[] = {0, 0, 0, 17, 12, 0, 0, 0, 9, 0, 0, 0, 8, 0, 0, 0, 0, 0, 0, 0, 7};
+static const uint8_t SETSTAT[] = {0, 0, 0, 19, 9, 0, 0, 0, 9, 0, 0, 0, 2, '/', 'a', 0, 0, 0, 4, 0, 0, 1, 0xc0};
+static const uint8_t RENAME[] = {0, 0, 0, 17, 18, 0, 0, 0, 9, 0, 0, 0, 2, '/', 'f', 0, 0, 0, 2, '/', 'a'};
+
+static int are(lt_bytes bytes, const char *text, size_t length)
+{
+    return bytes.length == length && memcmp(bytes.at, text, length) == 0;
+}
+
+/* The record at a place, of which there are ten; its number, and its kind. */
+static lt_call record(lt_engine *engine, uint64_t at, uint64_t number, uint32_t kind)
+{
+    lt_call call;
+    memset(&call, 9, sizeof call);
+    same("ten records", lt_calls(engine, at, &call), 10);
+    same("its number", (int64_t)call.number, (int64_t)number);
+    same("its session", (int64_t)call.session, 1);
+    same("its kind", call.kind, kind);
+    return call;
+}
+
+static void records_of_data(lt_engine *engine)
+{
+    lt_call call = record(engine, 2, 3, LT_OPEN);
+    same("what OPEN opens", are(call.path, "/f", 2), 1);
+    same("OPEN's flags", call.flags, 0x1b);
+    same("OPEN's attributes", call.attributes.given, 0);
+    same("OPEN's answer", call.answer, LT_HANDLE);
+    same("OPEN's handle", (int64_t)call.answer_handle, 3);
+    call = record(engine, 3, 4, LT_WRITE);
+    same("WRITE's handle", (int64_t)call.handle, 3);
+    same("WRITE's offset", (int64_t)call.offset, 5);
+    same("WRITE's length", (int64_t)call.length, 3);
+    same("WRITE's bytes", are(call.written, "xyz", 3), 1);
+    same("WRITE's path", are(call.path, "", 0), 1);
+    call = record(engine, 4, 5, LT_READ);
+    same("READ's offset", (int64_t)call.offset, 4);
+    same("READ's length", (int64_t)call.length, 256);
+    same("READ's answer", call.answer, LT_DATA);
+    same("READ's bytes", are(call.answer_bytes, "\0xyz", 4), 1);
+}
+
+static void records_of_paths(lt_engine *engine)
+{
+    lt_call call = record(engine, 0, 1, LT_MKDIR);
+    same("its moment", call.moment, MOMENT);
+    same("what MKDIR makes", are(call.path, "/a", 2), 1);
+    same("MKDIR's new path", are(call.new_path, "", 0), 1);
+    same("MKDIR's answer", call.answer, LT_STATUS);
+    same("MKDIR's status", call.status, 0);
+    call = record(engine, 1, 2, LT_STAT);
+    same("STAT's answer", call.answer, LT_ATTRS);
+    same("STAT's parts", call.answer_attributes.given, 15);
+    same("STAT's permissions", call.answer_attributes.permissions, 040755);
+    same("STAT's mtime", call.answer_attributes.mtime, MOMENT);
+    call = record(engine, 8, 9, LT_SETSTAT);
+    same("SETSTAT's parts", call.attributes.given, 4);
+    same("SETSTAT's permissions", call.attributes.permissions, 0700);
+    call = record(engine, 9, 10, LT_RENAME);
+    same("RENAME's old path", are(call.path, "/f", 2), 1);
+    same("RENAME's new path", are(call.new_path, "/a", 2), 1);
+    same("RENAME's status", call.status, 4);
+}
+
+static void records(void)
+{
+    lt_engine *engine = lt_new_keeping(10);
+    lt_call call = {.number = 9};
+    lt_open(engine);
+    same("no record yet", lt_calls(engine, 0, &call), 0);
+    lt_feed(engine, 1, INIT, sizeof INIT);
+    lt_feed(engine, 1, MKDIR, sizeof MKDIR);
+    lt_feed(engine, 1, STAT, sizeof STAT);
+    lt_feed(engine, 1, OPEN, sizeof OPEN);
+    lt_feed(engine, 1, WRITE, sizeof WRITE);
+    lt_feed(engine, 1, READ, sizeof READ);
+    lt_feed(engine, 1, CLOSE, sizeof CLOSE);
+    lt_feed(engine, 1, OPENDIR, sizeof OPENDIR);
+    lt_feed(engine, 1, READDIR, sizeof READDIR);
+    lt_feed(engine, 1, SETSTAT, sizeof SETSTAT);
+    lt_feed(engine, 1, RENAME, sizeof RENAME);
+    same("ten calls", lt_settle(engine, 1, MOMENT, 100, NULL), LT_IDLE);
+    same("past the last one", lt_calls(engine, 10, &call), 10);
+    same("far past it", lt_calls(engine, UINT64_MAX, &call), 10);
+    same("which sets nothing", (int64_t)call.number, 9);
+    records_of_paths(engine);
+    records_of_data(engine);
+    call = record(engine, 7, 8, LT_READDIR);
+    same("READDIR's names", call.names, 2);
+    same("they are", are(call.answer_bytes, "a\0f", 4), 1);
+    lt_close(engine, 1);
+    call = record(engine, 9, 0, LT_LEFT);
+    same("the oldest one went", lt_calls(engine, 0, &call), 10);
+    same("and the second one is the oldest", (int64_t)call.number, 2);
+    same("calls without an engine", lt_calls(NULL, 0, &call), LT_BAD_POINTER);
+    same("calls without a record", lt_calls(engine, 0, NULL), LT_BAD_POINTER);
+    lt_free(engine);
+}
+
 static void many_sessions(void)
 {
-    lt_engine *engine = lt_new(0);
+    lt_engine *engine = lt_new();
     for (int64_t i = 1; i <= 256; i++)
         same("one of 256", lt_open(engine), i);
-    same("one more than 256", lt_open(engine), LT_SESSIONS);
+    same("one more than 256", lt_open(engine), LT_TOO_MANY_SESSIONS);
     lt_free(engine);
 }
 
 int main(void)
 {
+    texts();
     null_pointers();
     unknown_sessions();
     lengths_of_zero();
     after_the_end();
+    moved();
     blocked();
     rounds();
     replayed();
+    records();
     many_sessions();
     for (int i = 0; i < MANY_ENGINES; i++)
         one_session();

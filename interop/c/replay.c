@@ -83,10 +83,10 @@ static int64_t try_event(lt_engine *engine)
 
 static lt_engine *make_engine(void)
 {
-    lt_engine *engine = lt_new(0);
+    lt_engine *engine = lt_new_keeping(0);
     if (engine == NULL) {
         printf("refused OutOfMemory\n");
-        engine = lt_new(0);
+        engine = lt_new_keeping(0);
     }
     return engine;
 }

@@ -14,7 +14,7 @@
 #include <sys/un.h>
 #include <unistd.h>
 
-enum { CLIENTS = 64, PIECE = 65536, TURNS = 256 };
+enum { CLIENTS = 64, PIECE = 65536, REPLIES = 256 };
 
 /* How many bytes a client may send ahead, while the replies that it is to be sent wait for it. */
 enum { AHEAD = 1 << 24 };
@@ -111,7 +111,7 @@ static int settle(struct server *server, nfds_t at)
         int64_t waiting = send_output(server, at);
         if (waiting != 0 || client->has_ended)
             return waiting > 0;
-        int64_t turn = lt_settle(server->engine, client->session, server->moment, TURNS);
+        int64_t turn = lt_settle(server->engine, client->session, server->moment, REPLIES, NULL);
         client->has_ended = turn != LT_SPENT && turn != LT_IDLE;
         if (turn != LT_IDLE || lt_output(server->engine, client->session, NULL, 0) > 0)
             continue;
@@ -141,7 +141,7 @@ static void leave(struct server *server, nfds_t at)
 {
     struct client *client = &server->clients[at];
     lt_close(server->engine, client->session);
-    lt_settle(server->engine, client->session, server->moment, UINT64_MAX);
+    lt_settle(server->engine, client->session, server->moment, UINT64_MAX, NULL);
     while (client->first != NULL) {
         struct piece *first = client->first;
         client->first = first->next;
@@ -159,7 +159,7 @@ static void take_client(struct server *server)
     int line = accept(server->lines[LISTENER].fd, NULL, NULL);
     if (line < 0)
         return;
-    int64_t session = server->count < FIRST + CLIENTS ? lt_open(server->engine) : LT_SESSIONS;
+    int64_t session = server->count < FIRST + CLIENTS ? lt_open(server->engine) : LT_TOO_MANY_SESSIONS;
     if (session < 0) {
         close(line);
         return;
@@ -199,7 +199,7 @@ int main(int count, char **words)
 {
     static struct server server;
     int line = count == 3 ? listen_at(words[1]) : -1;
-    if (line < 0 || (server.engine = lt_new(1)) == NULL) {
+    if (line < 0 || (server.engine = lt_new_keeping(1)) == NULL) {
         fprintf(stderr, "serve: wants SOCKET, a path that isn't there yet, and MOMENT\n");
         return 1;
     }

@@ -5,29 +5,38 @@ it behind connected sockets, for clients that want one. The pytest plugin of thi
 `sftp_tree` and `virtual_time`.
 """
 
+from ._calls import Answer, Attributes, Call, Kind, Reply
 from ._clock import Clock, VirtualTime, wall_clock
 from ._engine import Engine, Session, Turn
-from ._faults import Blocked, Ended, Fault, Refused, Refusal, Status, TooLarge
+from ._faults import BlockedError, EndedError, Error, Refusal, RefusedError, StatusError, TooLargeError
+from ._library import library
 from ._server import Connection, Server
 from ._tree import Contents, Entry, Files, Link
 
+__version__: str = library.lt_version().decode()
+
 __all__ = [
-    "Blocked",
+    "Answer",
+    "Attributes",
+    "BlockedError",
+    "Call",
     "Clock",
     "Connection",
     "Contents",
-    "Ended",
+    "EndedError",
     "Engine",
     "Entry",
-    "Fault",
+    "Error",
     "Files",
+    "Kind",
     "Link",
     "Refusal",
-    "Refused",
+    "RefusedError",
+    "Reply",
     "Server",
     "Session",
-    "Status",
-    "TooLarge",
+    "StatusError",
+    "TooLargeError",
     "Turn",
     "VirtualTime",
     "wall_clock",

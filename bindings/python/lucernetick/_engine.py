@@ -7,11 +7,14 @@ import enum
 import threading
 from typing import Optional
 
-from ._faults import Refusal, Refused
+from ._calls import Call, read_calls
+from ._faults import Refusal, RefusedError
 from ._library import library
 from ._tree import Entry, Files, read_tree, write_tree
 
 ROOM = 65536
+KEEP = 256
+"""How many records of calls are kept where nobody says."""
 
 
 class Turn(enum.IntEnum):
@@ -30,7 +33,7 @@ class Turn(enum.IntEnum):
     DECIDED = 5
     """The call is decided: the next turn writes its reply."""
     SPENT = 6
-    """By `settle` alone: all its turns were made, and the session goes on."""
+    """By `settle` alone: as many replies as it may were written, and the session goes on."""
     NOT_INIT = 17
     """Ended: its first packet isn't INIT."""
     OLD_VERSION = 18
@@ -54,7 +57,7 @@ class Turn(enum.IntEnum):
 def checked(answer: int) -> int:
     """An answer of the library; a refusal is raised."""
     if answer < 0:
-        raise Refused(Refusal(answer))
+        raise RefusedError(Refusal(answer))
     return answer
 
 
@@ -64,19 +67,19 @@ class Engine:
     The same calls give the same bytes each time. Threads may share an engine: one call is made at a time.
     """
 
-    def __init__(self, keep: int = 1) -> None:
+    def __init__(self, keep: int = KEEP) -> None:
         """An engine whose tree is the root alone. It keeps the records of its last `keep` calls, or of all
-        of them where `keep` is 0: this takes memory, and changes no answer."""
+        of them where `keep` is 0. They take memory, with what was written and read, and change no answer."""
         self.lock = threading.RLock()
         self.moved = threading.Condition(self.lock)
         """Told when a session did something, so that one that was blocked may try again."""
-        self._engine: Optional[int] = library.lt_new(unsigned(keep))
+        self._engine: Optional[int] = library.lt_new_keeping(unsigned(keep))
         if not self._engine:
-            raise Refused(Refusal.OUT_OF_MEMORY)
+            raise RefusedError(Refusal.OUT_OF_MEMORY)
         self._room = ctypes.create_string_buffer(ROOM)
 
     @classmethod
-    def from_files(cls, files: Files, *, moment: int = 0, keep: int = 1) -> Engine:
+    def from_files(cls, files: Files, *, moment: int = 0, keep: int = KEEP) -> Engine:
         """An engine whose tree has these files, as by `write_files`."""
         engine = cls(keep)
         try:
@@ -91,15 +94,15 @@ class Engine:
 
         Keys are paths, values contents, or None for a directory, or `Link(path)` for a further name of the
         file at that path. Directories on the way are made where they are missing. Links are made after all
-        others, in their order; one is refused with `Status` where its own path is there already. Text is
+        others, in their order; one is refused with `StatusError` where its own path is there already. Text is
         encoded as UTF-8.
         """
         write_tree(self, files, moment)
 
     def snapshot(self) -> dict[str, Entry]:
         """The whole tree by paths, `/` first, in the order of their bytes, read by requests of a session of
-        its own. Names that aren't UTF-8 are decoded as `os.fsdecode` does. Raises `Blocked` where a call of
-        another session is under way and holds a directory, and `TooLarge` at a file of more than 2^30 bytes.
+        its own. Names that aren't UTF-8 are decoded as `os.fsdecode` does. Raises `BlockedError` where a call of
+        another session is under way and holds a directory, and `TooLargeError` at a file of more than 2^30 bytes.
 
         The engine's lock is held: no other session takes a turn meanwhile. Where several files that have
         several names look alike in all but these, their atimes are set for a moment, to tell which names are
@@ -117,6 +120,12 @@ class Engine:
             if rounds:
                 self.moved.notify_all()
             return rounds
+
+    def calls(self) -> list[Call]:
+        """The records of calls that are kept, in the order in which they took effect, the oldest first."""
+        with self.lock:
+            told = [(checked(answer), call) for answer, call in read_calls(self._engine)]
+            return [call for _, call in told if call is not None]
 
     def open(self) -> Session:
         """Opens a session. At most 256 are open at a time."""
@@ -146,22 +155,19 @@ class Engine:
 
     def _turn(self, session: int, moment: int) -> Turn:
         with self.moved:
-            return self._told(library.lt_turn(self._engine, session, moment))
-
-    def _settle(self, session: int, moment: int, most: int) -> Turn:
-        """The first turn apart, since a session that does nothing mustn't wake those that wait."""
-        with self.moved:
-            turn = self._told(library.lt_settle(self._engine, session, moment, min(most, 1)))
-            if turn == Turn.SPENT and most > 1:
-                turn = self._told(library.lt_settle(self._engine, session, moment, most - 1))
+            turn = Turn(checked(library.lt_turn(self._engine, session, moment)))
+            if turn not in (Turn.IDLE, Turn.BLOCKED):
+                self.moved.notify_all()
             return turn
 
-    def _told(self, answer: int) -> Turn:
-        """A turn by the library's answer. Where something was done, sessions that were blocked are told."""
-        turn = Turn(checked(answer))
-        if turn not in (Turn.IDLE, Turn.BLOCKED):
-            self.moved.notify_all()
-        return turn
+    def _settle(self, session: int, moment: int, most: int) -> Turn:
+        """Where something moved, also before a refusal, sessions that were blocked are told."""
+        moved = ctypes.c_bool()
+        with self.moved:
+            answer = library.lt_settle(self._engine, session, moment, most, moved)
+            if moved:
+                self.moved.notify_all()
+            return Turn(checked(answer))
 
     def _close(self, session: int) -> None:
         with self.moved:
@@ -201,7 +207,7 @@ class Session:
         return self.engine._turn(self.number, seconds(moment))
 
     def settle(self, moment: int, most: int = 1_000_000) -> Turn:
-        """Turns until one is idle or blocked or the session has ended, `most` at most."""
+        """Turns until one is idle or blocked or the session has ended, or until `most` replies were written."""
         return self.engine._settle(self.number, seconds(moment), unsigned(most))
 
     def output(self) -> bytes:

@@ -2,8 +2,10 @@
 
 import enum
 
+from ._library import message
 
-class Fault(Exception):
+
+class Error(Exception):
     """Whatever this package raises of its own."""
 
 
@@ -12,33 +14,22 @@ class Refusal(enum.IntEnum):
 
     OUT_OF_MEMORY = -1
     NO_SUCH_SESSION = -2
-    SESSIONS = -3
+    TOO_MANY_SESSIONS = -3
     HAS_ENDED = -4
     NUMBERS_SPENT = -5
     NOT_SENT = -6
     BAD_POINTER = -7
 
 
-WORDS = {
-    Refusal.OUT_OF_MEMORY: "out of memory",
-    Refusal.NO_SUCH_SESSION: "no session of this number was ever opened",
-    Refusal.SESSIONS: "256 sessions are open",
-    Refusal.HAS_ENDED: "the session has ended, and takes no more bytes",
-    Refusal.NUMBERS_SPENT: "all session numbers are spent",
-    Refusal.NOT_SENT: "fewer bytes wait to be sent",
-    Refusal.BAD_POINTER: "the engine was closed",
-}
-
-
-class Refused(Fault):
+class RefusedError(Error):
     """The engine refused a call."""
 
     def __init__(self, refusal: Refusal) -> None:
-        super().__init__(WORDS[refusal])
+        super().__init__(message(refusal))
         self.refusal = refusal
 
 
-class Status(Fault):
+class StatusError(Error):
     """A request of `write_files` or `snapshot` was answered by a status other than OK."""
 
     def __init__(self, code: int, message: str, request: str) -> None:
@@ -47,7 +38,7 @@ class Status(Fault):
         self.message = message
 
 
-class TooLarge(Fault):
+class TooLargeError(Error):
     """A file has more bytes than a snapshot takes of one. A sparse file may have 2^40 and take little memory in
     the engine; in a snapshot each byte would be there."""
 
@@ -57,11 +48,11 @@ class TooLarge(Fault):
         self.size = size
 
 
-class Blocked(Fault):
+class BlockedError(Error):
     """The call of another session, which has yet to take its turns, holds what a request wants. The request
     stays as it is, in a session that gets no further turn but by `Engine.run_all`: it may hold a directory
     until then."""
 
 
-class Ended(Fault):
+class EndedError(Error):
     """A session ended where a reply was due."""

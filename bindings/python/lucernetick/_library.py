@@ -36,14 +36,16 @@ def find() -> pathlib.Path:
 def load(path: pathlib.Path) -> ctypes.CDLL:
     library = ctypes.CDLL(str(path))
     engine, number, size, count = ctypes.c_void_p, ctypes.c_uint64, ctypes.c_size_t, ctypes.c_int64
-    moment, data = ctypes.c_uint32, ctypes.c_char_p
+    moment, data, truth = ctypes.c_uint32, ctypes.c_char_p, ctypes.POINTER(ctypes.c_bool)
     for name, answer, words in (
-        ("lt_new", engine, [number]),
+        ("lt_version", data, []),
+        ("lt_message", data, [count]),
+        ("lt_new_keeping", engine, [number]),
         ("lt_free", None, [engine]),
         ("lt_open", count, [engine]),
         ("lt_feed", count, [engine, number, data, size]),
         ("lt_turn", count, [engine, number, moment]),
-        ("lt_settle", count, [engine, number, moment, number]),
+        ("lt_settle", count, [engine, number, moment, number, truth]),
         ("lt_run_all", count, [engine]),
         ("lt_close", count, [engine, number]),
         ("lt_output", count, [engine, number, data, size]),
@@ -56,3 +58,8 @@ def load(path: pathlib.Path) -> ctypes.CDLL:
 
 
 library = load(find())
+
+
+def message(answer: int) -> str:
+    """The library's text of an answer."""
+    return str(library.lt_message(answer).decode())

@@ -11,7 +11,7 @@ import itertools
 from collections import defaultdict
 from typing import TYPE_CHECKING, Iterable, Mapping
 
-from ._faults import Fault
+from ._faults import Error
 
 if TYPE_CHECKING:
     from ._tree import Found, Requests
@@ -79,7 +79,7 @@ def set_back(requests: Requests, paths: list[bytes], atime: int, mtime: int) -> 
     for path in paths:
         try:
             requests.set_times(path, atime, mtime)
-        except Fault as fault:
+        except Error as fault:
             faults.append(fault)
     if faults:
         raise faults[0]

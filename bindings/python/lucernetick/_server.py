@@ -2,23 +2,23 @@
 
 from __future__ import annotations
 
+import asyncio
 import contextlib
 import select
 import socket
 import threading
 from collections import deque
-from typing import Optional
+from typing import Optional, Protocol
 
+from ._calls import Call
 from ._clock import Clock, wall_clock
 from ._engine import Engine, Session, Turn
-from ._faults import Refused, Refusal
+from ._faults import RefusedError, Refusal
 from ._tree import Entry
 
 PIECE = 65536
-TURNS = 256
-"""How many turns are made before the output goes out, but for those of the call that is under way then."""
-UNDER_WAY = (Turn.SPENT, Turn.BEGUN, Turn.MOVED, Turn.DECIDED)
-"""After these a call may be under way."""
+REPLIES = 64
+"""How many replies are written before the output goes out."""
 MOST_AHEAD = 1 << 24
 """How many bytes of requests are read ahead at most, while the replies before them can't be sent."""
 PATIENCE = 5.0
@@ -81,6 +81,38 @@ class _Line:
             self._ahead.append(bytearray(data))
 
 
+class StreamReader(Protocol):
+    """What is read of a stream of asyncio's."""
+
+    async def read(self, n: int = -1) -> bytes:
+        """Some bytes, as many at most; none at the end."""
+
+
+class StreamWriter(Protocol):
+    """What is written by a stream of asyncio's."""
+
+    def write(self, data: bytes) -> None:
+        """Writes bytes, at some time."""
+
+    async def drain(self) -> None:
+        """Waits until more should be written."""
+
+    def write_eof(self) -> None:
+        """Nothing more comes."""
+
+    def close(self) -> None:
+        """Closes it."""
+
+
+async def _pass_on(reader: StreamReader, writer: StreamWriter) -> None:
+    """Passes bytes on to their end, which is told."""
+    with contextlib.suppress(ConnectionError):
+        while data := await reader.read(PIECE):
+            writer.write(data)
+            await writer.drain()
+        writer.write_eof()
+
+
 class Server:
     """Serves sessions on one tree, each over a connected socket whose other end a thread has.
 
@@ -116,9 +148,25 @@ class Server:
         thread.start()
         return connection
 
+    async def serve(self, reader: StreamReader, writer: StreamWriter) -> None:
+        """Serves one session over asyncio's streams, or others that have their methods, to its end: it is what
+        `asyncio.start_unix_server` calls for each connection."""
+        back, forth = await asyncio.open_connection(sock=self.connect())
+        to_server = asyncio.ensure_future(_pass_on(reader, forth))
+        try:
+            await _pass_on(back, writer)
+        finally:
+            to_server.cancel()
+            forth.close()
+            writer.close()
+
     def snapshot(self) -> dict[str, Entry]:
         """The whole tree now, as `Engine.snapshot`."""
         return self.engine.snapshot()
+
+    def calls(self) -> list[Call]:
+        """What its clients did, as `Engine.calls`."""
+        return self.engine.calls()
 
     def close(self) -> None:
         """Ends all connections at both ends, and waits until their threads are done."""
@@ -147,7 +195,7 @@ class Server:
             with line, contextlib.suppress(OSError):
                 self._pump(session, _Line(line))
             self._leave(session)
-        except Refused as refused:
+        except RefusedError as refused:
             if refused.refusal != Refusal.BAD_POINTER:
                 raise
 
@@ -164,16 +212,14 @@ class Server:
             turn = self._turns(session)
             if output := session.take():
                 line.sendall(output)
-            if turn not in (Turn.WROTE, Turn.BLOCKED) or self._left:
+            if turn not in (Turn.SPENT, Turn.BLOCKED) or self._left:
                 return turn
 
     def _turns(self, session: Session) -> Turn:
         """Some turns; where the call of another session is in its way, waits until one has moved. No call
         stands half way while its client is slow to read, so none keeps other clients waiting."""
         with self.engine.moved:
-            turn = session.settle(self.clock(), TURNS)
-            while turn in UNDER_WAY:
-                turn = session.turn(self.clock())
+            turn = session.settle(self.clock(), REPLIES)
             if turn == Turn.BLOCKED and not session.output() and not self._left:
                 self.engine.moved.wait()
             return turn
@@ -181,5 +227,5 @@ class Server:
     def _leave(self, session: Session) -> None:
         """Ends a session whose client has gone; a call of its that is under way is carried out."""
         session.close()
-        while self._turns(session) in (Turn.WROTE, Turn.BLOCKED) and not self._left:
+        while self._turns(session) in (Turn.SPENT, Turn.BLOCKED) and not self._left:
             session.take()

@@ -8,7 +8,7 @@ from dataclasses import dataclass
 from types import TracebackType
 from typing import TYPE_CHECKING, Iterator, Mapping, Optional, Union
 
-from ._faults import Blocked, Ended, Status, TooLarge
+from ._faults import BlockedError, EndedError, StatusError, TooLargeError
 from ._links import number_files
 
 if TYPE_CHECKING:
@@ -187,7 +187,7 @@ class Requests:
         turn = self.session.settle(self.moment)
         reply = self.session.take()
         if not reply:
-            raise (Ended if turn.has_ended else Blocked)(f"{told}: no reply ({turn.name})")
+            raise (EndedError if turn.has_ended else BlockedError)(f"{told}: no reply ({turn.name})")
         return reply[4:]
 
     def ask(self, due: int, told: str, kind: int, *fields: bytes) -> Fields:
@@ -197,13 +197,13 @@ class Requests:
         if reply[0] == due:
             return found
         code, message = found.number(), found.string()
-        raise Status(code, message.decode(), told)
+        raise StatusError(code, message.decode(), told)
 
     def succeed(self, told: str, kind: int, *fields: bytes) -> None:
         found = self.ask(STATUS, told, kind, *fields)
         code, message = found.number(), found.string()
         if code != OK:
-            raise Status(code, message.decode(), told)
+            raise StatusError(code, message.decode(), told)
 
     def handle(self, told: str, kind: int, *fields: bytes) -> bytes:
         """The handle of OPEN or OPENDIR, as a field."""
@@ -245,7 +245,7 @@ class Requests:
     def is_directory(self, path: bytes) -> bool:
         try:
             return stat.S_ISDIR(self.attributes(path).mode)
-        except Status as status:
+        except StatusError as status:
             if status.code != NO_SUCH_FILE:
                 raise
             return False
@@ -264,7 +264,7 @@ class Requests:
         """A file's contents, of this size."""
         name = path_text(path)
         if size > MOST_CONTENTS:
-            raise TooLarge(name, size)
+            raise TooLargeError(name, size)
         pflags = struct.pack(">I", TO_READ)
         handle = self.handle(f"OPEN {name}", OPEN, string(path), pflags, NO_ATTRIBUTES)
         contents = bytearray()
@@ -288,7 +288,7 @@ class Requests:
         """The next names of a listing; none at its end."""
         try:
             fields = self.ask(NAME, f"READDIR {name}", READDIR, handle)
-        except Status as status:
+        except StatusError as status:
             if status.code != EOF:
                 raise
             return []

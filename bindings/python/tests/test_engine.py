@@ -4,7 +4,7 @@ import threading
 
 import pytest
 
-from lucernetick import Blocked, Engine, Refusal, Refused, Session, Turn
+from lucernetick import BlockedError, Engine, Refusal, RefusedError, Session, Turn
 from packets import (
     ATTRS,
     INIT,
@@ -111,7 +111,7 @@ def test_output_waits_until_it_was_sent() -> None:
         assert session.output() == waiting != b""
         session.sent(4)
         assert session.output() == waiting[4:]
-        with pytest.raises(Refused) as refused:
+        with pytest.raises(RefusedError) as refused:
             session.sent(len(waiting))
         assert refused.value.refusal == Refusal.NOT_SENT
         assert session.take() == waiting[4:]
@@ -145,7 +145,7 @@ def test_how_sessions_end(data: bytes, end: Turn) -> None:
         session.feed(data)
         assert session.settle(0) == end
         assert end.has_ended
-        with pytest.raises(Refused) as refused:
+        with pytest.raises(RefusedError) as refused:
             session.feed(b"more")
         assert refused.value.refusal == Refusal.HAS_ENDED
 
@@ -154,7 +154,7 @@ def test_a_session_that_is_closed_takes_no_more() -> None:
     with Engine() as engine:
         session = engine.open()
         session.close()
-        with pytest.raises(Refused) as refused:
+        with pytest.raises(RefusedError) as refused:
             session.feed(b"more")
         assert refused.value.refusal == Refusal.HAS_ENDED
 
@@ -163,9 +163,9 @@ def test_the_257th_session_is_refused() -> None:
     with Engine() as engine:
         sessions = [engine.open() for _ in range(256)]
         assert [session.number for session in sessions] == list(range(1, 257))
-        with pytest.raises(Refused) as refused:
+        with pytest.raises(RefusedError) as refused:
             engine.open()
-        assert refused.value.refusal == Refusal.SESSIONS
+        assert refused.value.refusal == Refusal.TOO_MANY_SESSIONS
         sessions[0].close()
         assert engine.open().number == 257
 
@@ -173,7 +173,7 @@ def test_the_257th_session_is_refused() -> None:
 def test_a_session_that_never_was() -> None:
     with Engine() as engine:
         for action in (lambda s: s.feed(b"x"), lambda s: s.turn(0), Session.output, Session.close):
-            with pytest.raises(Refused) as refused:
+            with pytest.raises(RefusedError) as refused:
                 action(Session(engine, 1))
             assert refused.value.refusal == Refusal.NO_SUCH_SESSION
 
@@ -184,7 +184,7 @@ def test_a_closed_engine_refuses() -> None:
     engine.close()
     engine.close()
     for action in (engine.open, session.output, engine.snapshot, engine.run_all):
-        with pytest.raises(Refused) as refused:
+        with pytest.raises(RefusedError) as refused:
             action()
         assert refused.value.refusal == Refusal.BAD_POINTER
 
@@ -207,7 +207,7 @@ def test_a_snapshot_does_not_wait_for_a_call_under_way() -> None:
         session.feed(MAKES)
         did = [session.turn(100) for _ in range(3)]
         assert did == [Turn.WROTE, Turn.BEGUN, Turn.MOVED]
-        with pytest.raises(Blocked):
+        with pytest.raises(BlockedError):
             engine.snapshot()
         assert session.settle(100) == Turn.IDLE
         assert list(engine.snapshot()) == ["/", "/a", "/f"]
@@ -220,10 +220,10 @@ def test_rounds_carry_out_a_request_that_was_blocked() -> None:
         held.feed(packet(INIT, u32(3)) + packet(STAT, u32(8), string(b"/a/f")))
         did = [held.turn(100) for _ in range(4)]
         assert did == [Turn.WROTE, Turn.BEGUN, Turn.MOVED, Turn.MOVED]
-        with pytest.raises(Blocked):
+        with pytest.raises(BlockedError):
             engine.snapshot()
         assert held.settle(100) == Turn.IDLE
-        with pytest.raises(Blocked):
+        with pytest.raises(BlockedError):
             engine.snapshot()
         assert engine.run_all() > 0
         assert list(engine.snapshot()) == ["/", "/a", "/a/f"]

@@ -5,7 +5,7 @@ from typing import Optional
 
 import pytest
 
-from lucernetick import Contents, Engine, Link, Refusal, Refused, Session, Status
+from lucernetick import Contents, Engine, Link, Refusal, RefusedError, Session, StatusError
 from lucernetick._links import marks, set_back
 from lucernetick._tree import Requests
 from packets import ATTRS, INIT, OK, REMOVE, SETSTAT, STAT, packet, replies, status, string, u32
@@ -96,9 +96,9 @@ def test_a_snapshot_that_is_refused_leaves_all_attributes() -> None:
         session = client(engine)
         before = look(session)
         others = [engine.open() for _ in range(254)]
-        with pytest.raises(Refused) as refused:
+        with pytest.raises(RefusedError) as refused:
             engine.snapshot()
-        assert refused.value.refusal == Refusal.SESSIONS
+        assert refused.value.refusal == Refusal.TOO_MANY_SESSIONS
         assert look(session) == before
         others[0].close()
         assert numbers(engine) == ALIKE_NUMBERS
@@ -110,7 +110,7 @@ def test_a_request_that_fails_half_way_leaves_all_attributes() -> None:
         before = look(session)
         with Requests(engine, 0) as requests:
             one = dict(requests.walk(b"/", 1, requests.attributes(b"/")))[b"/a"]
-            with pytest.raises(Status) as refused:
+            with pytest.raises(StatusError) as refused:
                 marks(requests, one, [b"/a", b"/b", b"/none", b"/c"])
         assert str(refused.value) == "SETSTAT /none: No such file"
         assert look(session) == before
@@ -118,7 +118,7 @@ def test_a_request_that_fails_half_way_leaves_all_attributes() -> None:
 
 def test_times_are_set_back_past_what_fails() -> None:
     with alike() as engine, Requests(engine, 0) as requests:
-        with pytest.raises(Status):
+        with pytest.raises(StatusError):
             set_back(requests, [b"/none", b"/a"], 1, 2)
         found = engine.snapshot()
     assert (found["/d/a"].atime, found["/d/a"].mtime) == (1, 2)
@@ -174,6 +174,6 @@ def test_many_names() -> None:
 )
 def test_links_that_are_refused(files: dict[str, Contents], code: int) -> None:
     with Engine() as engine:
-        with pytest.raises(Status) as refused:
+        with pytest.raises(StatusError) as refused:
             engine.write_files(files)
         assert refused.value.code == code

@@ -210,15 +210,16 @@ def test_many_clients_at_once(sftp_tree: Server) -> None:
     def work(name: str) -> None:
         with paramiko.SFTPClient(sftp_tree.connect()) as client:
             client.mkdir(name)
-            for number in range(20):
+            for number in range(4):
                 write(client, f"{name}/{number}", name.encode())
 
-    threads = [threading.Thread(target=work, args=(name,)) for name in "abcdef"]
+    names = [f"d{number}" for number in range(50)]
+    threads = [threading.Thread(target=work, args=(name,)) for name in names]
     for thread in threads:
         thread.start()
     for thread in threads:
         thread.join()
     found = sftp_tree.snapshot()
-    assert len(found) == 1 + 6 + 120
-    for name in "abcdef":
-        assert {found[f"/{name}/{number}"].contents for number in range(20)} == {name.encode()}
+    assert len(found) == 1 + 50 + 200
+    for name in names:
+        assert {found[f"/{name}/{number}"].contents for number in range(4)} == {name.encode()}

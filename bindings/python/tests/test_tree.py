@@ -5,7 +5,7 @@ from typing import Union
 
 import pytest
 
-from lucernetick import Engine, Status, TooLarge
+from lucernetick import Engine, StatusError, TooLargeError
 from packets import INIT, SETSTAT, packet, string, u32
 
 
@@ -70,7 +70,7 @@ def test_snapshots_and_files_leave_no_session_open() -> None:
 @pytest.mark.parametrize("path", ["x" * 256, "a\0b", "/"])
 def test_paths_that_are_refused(path: str) -> None:
     with Engine() as engine:
-        with pytest.raises(Status) as refused:
+        with pytest.raises(StatusError) as refused:
             engine.write_files({path: b""})
         assert (refused.value.code, refused.value.message) == (4, "Failure")
 
@@ -86,7 +86,7 @@ def set_size(engine: Engine, path: bytes, size: int) -> None:
 def test_a_file_too_large_for_a_snapshot() -> None:
     with Engine.from_files({"/a": b"1", "/d/f": b"2"}) as engine:
         set_size(engine, b"/d/f", 2**40)
-        with pytest.raises(TooLarge) as refused:
+        with pytest.raises(TooLargeError) as refused:
             engine.snapshot()
         assert (refused.value.path, refused.value.size) == ("/d/f", 2**40)
         assert "1099511627776" in str(refused.value)

@@ -1,53 +1,61 @@
 //! What can go wrong.
 
-use std::error::Error;
+use crate::message;
+use std::error;
 use std::fmt;
 use std::io;
 
 /// Why the engine refused a call. A refused call has changed nothing, and may be made again.
 #[derive(Clone, Copy, Debug, PartialEq, Eq)]
+#[non_exhaustive]
 pub enum Refusal {
     OutOfMemory,
     /// No session of this number was ever opened.
     NoSuchSession,
     /// 256 sessions are open.
-    Sessions,
+    TooManySessions,
     /// The session has ended or was closed, and takes no more bytes.
     HasEnded,
     NumbersSpent,
     /// Fewer bytes wait to be sent.
     NotSent,
+    /// By a number of the library that this crate doesn't know.
+    Other(i64),
 }
 
 impl Refusal {
-    /// A refusal by the library's number. Of those, a bad pointer can't be: it isn't passed.
     pub(crate) fn of_number(number: i64) -> Self {
         match number {
             -1 => Refusal::OutOfMemory,
             -2 => Refusal::NoSuchSession,
-            -3 => Refusal::Sessions,
+            -3 => Refusal::TooManySessions,
             -4 => Refusal::HasEnded,
             -5 => Refusal::NumbersSpent,
             -6 => Refusal::NotSent,
-            _ => unreachable!("the library has no refusal {}", number),
+            other => Refusal::Other(other),
+        }
+    }
+
+    fn number(self) -> i64 {
+        match self {
+            Refusal::OutOfMemory => -1,
+            Refusal::NoSuchSession => -2,
+            Refusal::TooManySessions => -3,
+            Refusal::HasEnded => -4,
+            Refusal::NumbersSpent => -5,
+            Refusal::NotSent => -6,
+            Refusal::Other(other) => other,
         }
     }
 }
 
 impl fmt::Display for Refusal {
     fn fmt(&self, f: &mut fmt::Formatter<'_>) -> fmt::Result {
-        f.write_str(match self {
-            Refusal::OutOfMemory => "out of memory",
-            Refusal::NoSuchSession => "no session of this number was ever opened",
-            Refusal::Sessions => "256 sessions are open",
-            Refusal::HasEnded => "the session has ended, and takes no more bytes",
-            Refusal::NumbersSpent => "all session numbers are spent",
-            Refusal::NotSent => "fewer bytes wait to be sent",
-        })
+        f.write_str(message(self.number()))
     }
 }
 
-impl Error for Refusal {}
+impl error::Error for Refusal {}
 
 impl From<Refusal> for io::Error {
     fn from(refusal: Refusal) -> Self {
@@ -57,7 +65,8 @@ impl From<Refusal> for io::Error {
 
 /// Why a tree wasn't written or read.
 #[derive(Clone, Debug, PartialEq, Eq)]
-pub enum Fault {
+#[non_exhaustive]
+pub enum Error {
     /// The engine refused a call.
     Refused(Refusal),
     /// A request was answered by a status other than OK: its code, and its message.
@@ -72,24 +81,31 @@ pub enum Fault {
     Reply,
 }
 
-impl From<Refusal> for Fault {
+impl From<Refusal> for Error {
     fn from(refusal: Refusal) -> Self {
-        Fault::Refused(refusal)
+        Error::Refused(refusal)
     }
 }
 
-impl fmt::Display for Fault {
+impl fmt::Display for Error {
     fn fmt(&self, f: &mut fmt::Formatter<'_>) -> fmt::Result {
         match self {
-            Fault::Refused(refusal) => refusal.fmt(f),
-            Fault::Status(code, message) => write!(f, "status {}: {}", code, message),
-            Fault::Blocked => f.write_str("the call of another session is in the way"),
-            Fault::TooLarge(path, size) => {
+            Error::Refused(refusal) => refusal.fmt(f),
+            Error::Status(code, message) => write!(f, "status {}: {}", code, message),
+            Error::Blocked => f.write_str("the call of another session is in the way"),
+            Error::TooLarge(path, size) => {
                 write!(f, "{}: a file of {} bytes is too large for a snapshot", path, size)
             }
-            Fault::Reply => f.write_str("a reply isn't what its request is answered"),
+            Error::Reply => f.write_str("a reply isn't what its request is answered"),
         }
     }
 }
 
-impl Error for Fault {}
+impl error::Error for Error {
+    fn source(&self) -> Option<&(dyn error::Error + 'static)> {
+        match self {
+            Error::Refused(refusal) => Some(refusal),
+            _ => None,
+        }
+    }
+}

@@ -13,11 +13,12 @@
 //! engine.settle(session, 100, 1000)?;
 //! assert_eq!(engine.take(session)?.len(), 71);
 //! assert_eq!(engine.snapshot()?["/a/b".as_bytes()].contents.as_deref(), Some(&b"contents"[..]));
-//! # Ok::<(), lucernetick::Fault>(())
+//! # Ok::<(), lucernetick::Error>(())
 //! ```
 //!
 //! A [`Server`] has an engine behind connected sockets, for clients that want one.
 
+mod calls;
 mod clock;
 mod fault;
 mod line;
@@ -28,12 +29,15 @@ mod sys;
 mod tree;
 mod turn;
 
+pub use calls::{Answer, Attributes, Call, Calls, Kind};
 pub use clock::{wall_clock, VirtualTime};
-pub use fault::{Fault, Refusal};
+pub use fault::{Error, Refusal};
 pub use server::Server;
 pub use tree::{Entry, Snapshot};
 pub use turn::{Ending, Turn};
 
+use std::ffi::CStr;
+use std::os::raw::c_char;
 use std::ptr::NonNull;
 
 /// One tree of files, and any sessions on it.
@@ -50,11 +54,20 @@ unsafe impl Send for Engine {}
 pub struct Session(pub u64);
 
 impl Engine {
-    /// An engine whose tree is the root alone. It keeps the records of its last `keep` calls, or of
-    /// all of them where `keep` is 0: this takes memory, and changes no answer.
-    pub fn new(keep: u64) -> Result<Self, Refusal> {
+    /// An engine whose tree is the root alone. It keeps the records of its last 256 calls.
+    pub fn new() -> Result<Self, Refusal> {
+        // SAFETY: it takes nothing.
+        Self::over(unsafe { sys::lt_new() })
+    }
+
+    /// As `new`, but it keeps the records of its last `keep` calls, or of all of them where `keep`
+    /// is 0. They take memory, with what was written and read, and change no answer.
+    pub fn with_keep(keep: u64) -> Result<Self, Refusal> {
         // SAFETY: a number is all that it takes.
-        let pointer = unsafe { sys::lt_new(keep) };
+        Self::over(unsafe { sys::lt_new_keeping(keep) })
+    }
+
+    fn over(pointer: *mut sys::Engine) -> Result<Self, Refusal> {
         match NonNull::new(pointer) {
             Some(pointer) => Ok(Self { pointer }),
             None => Err(Refusal::OutOfMemory),
@@ -85,11 +98,25 @@ impl Engine {
         checked(answer).map(Turn::of_number)
     }
 
-    /// Turns until the session is idle or blocked or has ended, `most` turns at most.
+    /// Turns until the session is idle or blocked or has ended, or until `most` replies were written.
     pub fn settle(&mut self, session: Session, moment: u32, most: u64) -> Result<Turn, Refusal> {
-        // SAFETY: the pointer is an engine's, which `drop` alone frees.
-        let answer = unsafe { sys::lt_settle(self.pointer.as_ptr(), session.0, moment, most) };
-        checked(answer).map(Turn::of_number)
+        self.settle_moving(session, moment, most).0
+    }
+
+    /// As `settle`, and tells whether anything moved, also before a refusal.
+    pub(crate) fn settle_moving(
+        &mut self,
+        session: Session,
+        moment: u32,
+        most: u64,
+    ) -> (Result<Turn, Refusal>, bool) {
+        let mut moved = false;
+        // SAFETY: the pointer is an engine's, which `drop` alone frees, and the other one is of a
+        // variable here.
+        let answer = unsafe {
+            sys::lt_settle(self.pointer.as_ptr(), session.0, moment, most, &mut moved)
+        };
+        (checked(answer).map(Turn::of_number), moved)
     }
 
     /// Rounds, until no call is under way: in each, every session whose call is under way has one
@@ -146,6 +173,23 @@ impl Drop for Engine {
         // SAFETY: the pointer came from `lt_new`, and isn't used again.
         unsafe { sys::lt_free(self.pointer.as_ptr()) }
     }
+}
+
+/// The library's version.
+pub fn version() -> &'static str {
+    // SAFETY: the library answers a text that stays.
+    text(unsafe { sys::lt_version() })
+}
+
+/// The library's text of an answer.
+pub(crate) fn message(answer: i64) -> &'static str {
+    // SAFETY: as above.
+    text(unsafe { sys::lt_message(answer) })
+}
+
+fn text(pointer: *const c_char) -> &'static str {
+    // SAFETY: both functions that this is called for answer a text with its end, which stays.
+    unsafe { CStr::from_ptr(pointer) }.to_str().unwrap_or("")
 }
 
 /// An answer of the library as a number or a refusal.

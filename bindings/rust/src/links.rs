@@ -6,7 +6,7 @@
 
 use crate::packets::*;
 use crate::tree::{Found, Requests};
-use crate::Fault;
+use crate::Error;
 use std::collections::BTreeMap;
 
 /// What a walk has found, by paths.
@@ -16,7 +16,7 @@ pub type Tree = BTreeMap<Vec<u8>, Found>;
 pub fn number_files(
     requests: &mut Requests<'_>,
     found: &Tree,
-) -> Result<BTreeMap<Vec<u8>, u64>, Fault> {
+) -> Result<BTreeMap<Vec<u8>, u64>, Error> {
     let firsts = first_names(requests, found)?;
     let mut numbers = BTreeMap::new();
     let mut count = 0;
@@ -35,7 +35,7 @@ pub fn number_files(
 fn first_names<'a>(
     requests: &mut Requests<'_>,
     found: &'a Tree,
-) -> Result<BTreeMap<&'a [u8], &'a [u8]>, Fault> {
+) -> Result<BTreeMap<&'a [u8], &'a [u8]>, Error> {
     let mut firsts = BTreeMap::new();
     for (one, paths) in look_alike(found) {
         let marks = if paths.len() as u64 == one.links {
@@ -67,7 +67,7 @@ fn marks(
     requests: &mut Requests<'_>,
     before: &Attributes,
     paths: &[&[u8]],
-) -> Result<Vec<u32>, Fault> {
+) -> Result<Vec<u32>, Error> {
     let marked = requests.another(|marking| {
         for (mark, path) in (0..).zip(paths) {
             marking.set_times(path, mark, before.mtime)?;
@@ -84,7 +84,7 @@ fn set_back(
     requests: &mut Requests<'_>,
     before: &Attributes,
     paths: &[&[u8]],
-) -> Result<(), Fault> {
+) -> Result<(), Error> {
     let mut done = Ok(());
     for path in paths {
         done = done.and(requests.set_times(path, before.atime, before.mtime));
@@ -95,7 +95,7 @@ fn set_back(
 #[cfg(test)]
 mod tests {
     use super::{marks, set_back, Attributes};
-    use crate::{Engine, Fault};
+    use crate::{Engine, Error};
 
     const FILES: [&[u8]; 4] = [b"/a", b"/b", b"/c", b"/d"];
 
@@ -136,7 +136,7 @@ mod tests {
         let before = Attributes { atime: 1, mtime: 2, ..attributes() };
         let names: [&[u8]; 2] = [b"/none", b"/a"];
         let told = engine.requests(0, |requests| set_back(requests, &before, &names));
-        assert_eq!(told, Err(Fault::Status(2, "No such file".to_string())));
+        assert_eq!(told, Err(Error::Status(2, "No such file".to_string())));
         assert_eq!(times(&mut engine), [(1, 2), (5, 9), (1, 2), (5, 9)]);
     }
 
@@ -145,7 +145,7 @@ mod tests {
         let mut engine = engine();
         let names: [&[u8]; 4] = [b"/a", b"/b", b"/none", b"/c"];
         let told = engine.requests(0, |requests| marks(requests, &attributes(), &names));
-        assert_eq!(told, Err(Fault::Status(2, "No such file".to_string())));
+        assert_eq!(told, Err(Error::Status(2, "No such file".to_string())));
         assert_eq!(times(&mut engine), [(5, 9); 4]);
     }
 }

@@ -1,6 +1,6 @@
 //! The packets that trees are written and read by (docs/PROTOCOL.md).
 
-use crate::Fault;
+use crate::Error;
 
 pub const INIT: u8 = 1;
 pub const OPEN: u8 = 3;
@@ -85,26 +85,26 @@ pub struct Attributes {
 pub struct Fields<'a>(pub &'a [u8]);
 
 impl<'a> Fields<'a> {
-    pub fn take(&mut self, count: usize) -> Result<&'a [u8], Fault> {
+    pub fn take(&mut self, count: usize) -> Result<&'a [u8], Error> {
         if count > self.0.len() {
-            return Err(Fault::Reply);
+            return Err(Error::Reply);
         }
         let (front, rest) = self.0.split_at(count);
         self.0 = rest;
         Ok(front)
     }
 
-    pub fn number(&mut self) -> Result<u32, Fault> {
+    pub fn number(&mut self) -> Result<u32, Error> {
         let bytes = self.take(4)?;
         Ok(bytes.iter().fold(0, |value, byte| value << 8 | u32::from(*byte)))
     }
 
-    pub fn string(&mut self) -> Result<&'a [u8], Fault> {
+    pub fn string(&mut self) -> Result<&'a [u8], Error> {
         let count = self.number()?;
         self.take(count as usize)
     }
 
-    pub fn attributes(&mut self) -> Result<Attributes, Fault> {
+    pub fn attributes(&mut self) -> Result<Attributes, Error> {
         self.number()?;
         let high = u64::from(self.number()?);
         let low = u64::from(self.number()?);

@@ -1,7 +1,7 @@
 //! An engine behind connected sockets.
 
 use crate::line::Line;
-use crate::{Engine, Fault, Refusal, Session, Snapshot, Turn};
+use crate::{Call, Engine, Error, Refusal, Session, Snapshot, Turn};
 use std::collections::BTreeMap;
 use std::fs;
 use std::io::{self, ErrorKind};
@@ -57,8 +57,13 @@ impl Server {
     }
 
     /// The whole tree now, as `Engine::snapshot`.
-    pub fn snapshot(&self) -> Result<Snapshot, Fault> {
+    pub fn snapshot(&self) -> Result<Snapshot, Error> {
         self.with_engine(Engine::snapshot)
+    }
+
+    /// What its clients did: the records of calls that are kept, as `Engine::calls`.
+    pub fn calls(&self) -> Result<Vec<Call>, Refusal> {
+        self.with_engine(|engine| engine.calls().collect())
     }
 
     /// Ends all connections at both ends.
@@ -164,7 +169,7 @@ impl Connection {
         loop {
             let (turn, output) = self.reply()?;
             line.write_all(&output)?;
-            if turn != Turn::Wrote {
+            if turn != Turn::Spent {
                 return Ok(turn);
             }
         }
@@ -176,21 +181,20 @@ impl Connection {
     fn reply(&self) -> Result<(Turn, Vec<u8>), Refusal> {
         let mut state = self.shared.lock();
         loop {
-            match self.turn(&mut state.engine)? {
-                Turn::Begun | Turn::Moved | Turn::Decided => {}
+            match self.settle(&mut state.engine)? {
                 Turn::Blocked if !state.left => state = self.shared.wait(state),
                 turn => return Ok((turn, state.engine.take(self.session)?)),
             }
         }
     }
 
-    /// One turn. Where it did something, sessions that are blocked are told.
-    fn turn(&self, engine: &mut Engine) -> Result<Turn, Refusal> {
-        let turn = engine.turn(self.session, (self.shared.clock)())?;
-        if !matches!(turn, Turn::Idle | Turn::Blocked) {
+    /// Turns up to a reply. Where something moved, sessions that are blocked are told.
+    fn settle(&self, engine: &mut Engine) -> Result<Turn, Refusal> {
+        let (turn, moved) = engine.settle_moving(self.session, (self.shared.clock)(), 1);
+        if moved {
             self.shared.moved.notify_all();
         }
-        Ok(turn)
+        turn
     }
 }
 

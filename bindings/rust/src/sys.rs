@@ -1,6 +1,6 @@
 //! The library's functions, as include/lucernetick.h declares them, and two of the system's (Linux).
 
-use std::os::raw::{c_int, c_short, c_ulong};
+use std::os::raw::{c_char, c_int, c_short, c_ulong};
 
 /// An engine, of which the library alone knows what it is.
 #[repr(C)]
@@ -8,17 +8,76 @@ pub struct Engine {
     _private: [u8; 0],
 }
 
+/// So many bytes.
+#[repr(C)]
+pub struct Bytes {
+    pub at: *const u8,
+    pub length: usize,
+}
+
+impl Default for Bytes {
+    fn default() -> Self {
+        Bytes { at: std::ptr::null(), length: 0 }
+    }
+}
+
+#[repr(C)]
+#[derive(Default)]
+pub struct Attributes {
+    pub size: u64,
+    pub given: u32,
+    pub uid: u32,
+    pub gid: u32,
+    pub permissions: u32,
+    pub atime: u32,
+    pub mtime: u32,
+}
+
+/// The record of a call.
+#[repr(C)]
+#[derive(Default)]
+pub struct Call {
+    pub number: u64,
+    pub session: u64,
+    pub moment: u32,
+    pub kind: u32,
+    pub path: Bytes,
+    pub new_path: Bytes,
+    pub handle: u64,
+    pub offset: u64,
+    pub length: u64,
+    pub flags: u32,
+    pub answer: u32,
+    pub attributes: Attributes,
+    pub written: Bytes,
+    pub status: u32,
+    pub names: u32,
+    pub answer_handle: u64,
+    pub answer_attributes: Attributes,
+    pub answer_bytes: Bytes,
+}
+
 extern "C" {
-    pub fn lt_new(keep: u64) -> *mut Engine;
+    pub fn lt_version() -> *const c_char;
+    pub fn lt_message(answer: i64) -> *const c_char;
+    pub fn lt_new() -> *mut Engine;
+    pub fn lt_new_keeping(keep: u64) -> *mut Engine;
     pub fn lt_free(engine: *mut Engine);
     pub fn lt_open(engine: *mut Engine) -> i64;
     pub fn lt_feed(engine: *mut Engine, session: u64, bytes: *const u8, length: usize) -> i64;
     pub fn lt_turn(engine: *mut Engine, session: u64, moment: u32) -> i64;
-    pub fn lt_settle(engine: *mut Engine, session: u64, moment: u32, most: u64) -> i64;
+    pub fn lt_settle(
+        engine: *mut Engine,
+        session: u64,
+        moment: u32,
+        most: u64,
+        moved: *mut bool,
+    ) -> i64;
     pub fn lt_run_all(engine: *mut Engine) -> i64;
     pub fn lt_close(engine: *mut Engine, session: u64) -> i64;
     pub fn lt_output(engine: *mut Engine, session: u64, room: *mut u8, length: usize) -> i64;
     pub fn lt_sent(engine: *mut Engine, session: u64, count: usize) -> i64;
+    pub fn lt_calls(engine: *mut Engine, at: u64, call: *mut Call) -> i64;
 }
 
 /// What is asked of a descriptor, and what it shows.

@@ -2,7 +2,7 @@
 
 use crate::links::{number_files, Tree};
 use crate::packets::*;
-use crate::{Engine, Fault, Session, Turn};
+use crate::{Engine, Error, Session, Turn};
 use std::collections::BTreeMap;
 
 /// A tree's files and directories by their paths, the root `/` among them.
@@ -43,21 +43,21 @@ impl Entry {
 }
 
 impl Engine {
-    /// An engine whose tree has these files, as by `write_files`. It keeps one record.
-    pub fn from_files<P, C, I>(files: I, moment: u32) -> Result<Self, Fault>
+    /// An engine whose tree has these files, as by `write_files`.
+    pub fn from_files<P, C, I>(files: I, moment: u32) -> Result<Self, Error>
     where
         P: AsRef<[u8]>,
         C: AsRef<[u8]>,
         I: IntoIterator<Item = (P, C)>,
     {
-        let mut engine = Engine::new(1)?;
+        let mut engine = Engine::new()?;
         engine.write_files(files, moment)?;
         Ok(engine)
     }
 
     /// Makes or replaces files, given by paths and contents, by requests of a session of its own at
     /// this moment. Directories on the way are made where they are missing.
-    pub fn write_files<P, C, I>(&mut self, files: I, moment: u32) -> Result<(), Fault>
+    pub fn write_files<P, C, I>(&mut self, files: I, moment: u32) -> Result<(), Error>
     where
         P: AsRef<[u8]>,
         C: AsRef<[u8]>,
@@ -72,7 +72,7 @@ impl Engine {
     }
 
     /// Makes a directory, and those on its way, where they are missing.
-    pub fn make_directories(&mut self, path: impl AsRef<[u8]>, moment: u32) -> Result<(), Fault> {
+    pub fn make_directories(&mut self, path: impl AsRef<[u8]>, moment: u32) -> Result<(), Error> {
         self.requests(moment, |requests| requests.make_directories(path.as_ref()))
     }
 
@@ -84,7 +84,7 @@ impl Engine {
         old: impl AsRef<[u8]>,
         new: impl AsRef<[u8]>,
         moment: u32,
-    ) -> Result<(), Fault> {
+    ) -> Result<(), Error> {
         self.requests(moment, |requests| requests.link(old.as_ref(), new.as_ref()))
     }
 
@@ -96,7 +96,7 @@ impl Engine {
     /// for a moment, to tell which names are of one file. They are set back, also where a request
     /// fails; only if that is refused, as for want of memory, does one of them stay, and the refusal
     /// is answered.
-    pub fn snapshot(&mut self) -> Result<Snapshot, Fault> {
+    pub fn snapshot(&mut self) -> Result<Snapshot, Error> {
         self.requests(0, |requests| {
             let mut found = Tree::new();
             let root = requests.stat(b"/")?;
@@ -114,8 +114,8 @@ impl Engine {
     pub(crate) fn requests<T>(
         &mut self,
         moment: u32,
-        work: impl FnOnce(&mut Requests<'_>) -> Result<T, Fault>,
-    ) -> Result<T, Fault> {
+        work: impl FnOnce(&mut Requests<'_>) -> Result<T, Error>,
+    ) -> Result<T, Error> {
         let session = self.open()?;
         let mut requests = Requests { engine: self, session, moment };
         let done = requests.reply(Packet::init()).and_then(|_| work(&mut requests));
@@ -152,26 +152,26 @@ impl Requests<'_> {
     /// What is done by a further session at the same moment, which is closed then.
     pub fn another<T>(
         &mut self,
-        work: impl FnOnce(&mut Requests<'_>) -> Result<T, Fault>,
-    ) -> Result<T, Fault> {
+        work: impl FnOnce(&mut Requests<'_>) -> Result<T, Error>,
+    ) -> Result<T, Error> {
         self.engine.requests(self.moment, work)
     }
 
     /// The body of the reply to a packet.
-    fn reply(&mut self, packet: Packet) -> Result<Vec<u8>, Fault> {
+    fn reply(&mut self, packet: Packet) -> Result<Vec<u8>, Error> {
         self.engine.feed(self.session, &packet.bytes())?;
         if self.engine.settle(self.session, self.moment, TURNS)? == Turn::Blocked {
-            return Err(Fault::Blocked);
+            return Err(Error::Blocked);
         }
         let mut reply = self.engine.take(self.session)?;
         if reply.len() < 9 {
-            return Err(Fault::Reply);
+            return Err(Error::Reply);
         }
         Ok(reply.split_off(4))
     }
 
     /// What follows the id in a reply, which must be of the type that is due.
-    fn ask(&mut self, due: u8, packet: Packet) -> Result<Vec<u8>, Fault> {
+    fn ask(&mut self, due: u8, packet: Packet) -> Result<Vec<u8>, Error> {
         let mut reply = self.reply(packet)?;
         let kind = reply[0];
         let found = reply.split_off(5);
@@ -180,43 +180,43 @@ impl Requests<'_> {
             let code = fields.number()?;
             if due != STATUS || code != OK {
                 let message = String::from_utf8_lossy(fields.string()?).into_owned();
-                return Err(Fault::Status(code, message));
+                return Err(Error::Status(code, message));
             }
         } else if kind != due {
-            return Err(Fault::Reply);
+            return Err(Error::Reply);
         }
         Ok(found)
     }
 
-    fn handle(&mut self, packet: Packet) -> Result<Vec<u8>, Fault> {
+    fn handle(&mut self, packet: Packet) -> Result<Vec<u8>, Error> {
         let found = self.ask(HANDLE, packet)?;
         Ok(Fields(&found).string()?.to_vec())
     }
 
-    fn close(&mut self, handle: &[u8]) -> Result<(), Fault> {
+    fn close(&mut self, handle: &[u8]) -> Result<(), Error> {
         self.ask(STATUS, Packet::request(CLOSE).string(handle)).map(drop)
     }
 
-    pub fn stat(&mut self, path: &[u8]) -> Result<Attributes, Fault> {
+    pub fn stat(&mut self, path: &[u8]) -> Result<Attributes, Error> {
         let found = self.ask(ATTRS, Packet::request(STAT).string(path))?;
         Fields(&found).attributes()
     }
 
     /// Sets an object's times, and nothing else.
-    pub fn set_times(&mut self, path: &[u8], atime: u32, mtime: u32) -> Result<(), Fault> {
+    pub fn set_times(&mut self, path: &[u8], atime: u32, mtime: u32) -> Result<(), Error> {
         let set = Packet::request(SETSTAT).string(path).number(TIMES).number(atime).number(mtime);
         self.ask(STATUS, set).map(drop)
     }
 
-    fn is_directory(&mut self, path: &[u8]) -> Result<bool, Fault> {
+    fn is_directory(&mut self, path: &[u8]) -> Result<bool, Error> {
         match self.stat(path) {
             Ok(found) => Ok(found.mode & KIND == DIRECTORY),
-            Err(Fault::Status(NO_SUCH_FILE, _)) => Ok(false),
+            Err(Error::Status(NO_SUCH_FILE, _)) => Ok(false),
             Err(fault) => Err(fault),
         }
     }
 
-    fn make_directories(&mut self, path: &[u8]) -> Result<(), Fault> {
+    fn make_directories(&mut self, path: &[u8]) -> Result<(), Error> {
         let mut front = Vec::new();
         for name in path.split(|byte| *byte == b'/').filter(|name| !name.is_empty()) {
             front.push(b'/');
@@ -229,7 +229,7 @@ impl Requests<'_> {
     }
 
     /// Makes the directories on a path's way.
-    fn make_way(&mut self, path: &[u8]) -> Result<(), Fault> {
+    fn make_way(&mut self, path: &[u8]) -> Result<(), Error> {
         match path.iter().rposition(|byte| *byte == b'/') {
             Some(at) => self.make_directories(&path[..at]),
             None => Ok(()),
@@ -237,14 +237,14 @@ impl Requests<'_> {
     }
 
     /// Gives the file at the old path the new one too, and makes the directories on its way.
-    fn link(&mut self, old: &[u8], new: &[u8]) -> Result<(), Fault> {
+    fn link(&mut self, old: &[u8], new: &[u8]) -> Result<(), Error> {
         self.make_way(new)?;
         let link = Packet::request(EXTENDED).string(HARDLINK).string(old).string(new);
         self.ask(STATUS, link).map(drop)
     }
 
     /// Makes a file, or replaces its contents, and the directories on its way.
-    fn place(&mut self, path: &[u8], contents: &[u8]) -> Result<(), Fault> {
+    fn place(&mut self, path: &[u8], contents: &[u8]) -> Result<(), Error> {
         self.make_way(path)?;
         let open = Packet::request(OPEN).string(path).number(TO_WRITE_ANEW).number(0);
         let handle = self.handle(open)?;
@@ -255,9 +255,9 @@ impl Requests<'_> {
         self.close(&handle)
     }
 
-    fn read_file(&mut self, path: &[u8], size: u64) -> Result<Vec<u8>, Fault> {
+    fn read_file(&mut self, path: &[u8], size: u64) -> Result<Vec<u8>, Error> {
         if size > MOST_CONTENTS {
-            return Err(Fault::TooLarge(String::from_utf8_lossy(path).into_owned(), size));
+            return Err(Error::TooLarge(String::from_utf8_lossy(path).into_owned(), size));
         }
         let open = Packet::request(OPEN).string(path).number(TO_READ).number(0);
         let handle = self.handle(open)?;
@@ -272,13 +272,13 @@ impl Requests<'_> {
     }
 
     /// A directory's names.
-    fn list(&mut self, path: &[u8]) -> Result<Vec<Listed>, Fault> {
+    fn list(&mut self, path: &[u8]) -> Result<Vec<Listed>, Error> {
         let handle = self.handle(Packet::request(OPENDIR).string(path))?;
         let mut names = Vec::new();
         loop {
             match self.ask(NAME, Packet::request(READDIR).string(&handle)) {
                 Ok(found) => names.extend(listed(&found)?),
-                Err(Fault::Status(EOF, _)) => break,
+                Err(Error::Status(EOF, _)) => break,
                 Err(fault) => return Err(fault),
             }
         }
@@ -293,7 +293,7 @@ impl Requests<'_> {
         links: u64,
         attributes: Attributes,
         found: &mut Tree,
-    ) -> Result<(), Fault> {
+    ) -> Result<(), Error> {
         let mut contents = None;
         if attributes.mode & KIND == DIRECTORY {
             for below in self.list(&path)? {
@@ -317,7 +317,7 @@ struct Listed {
 }
 
 /// The names of one NAME reply.
-fn listed(found: &[u8]) -> Result<Vec<Listed>, Fault> {
+fn listed(found: &[u8]) -> Result<Vec<Listed>, Error> {
     let mut fields = Fields(found);
     let count = fields.number()?;
     let mut names = Vec::new();
@@ -330,8 +330,8 @@ fn listed(found: &[u8]) -> Result<Vec<Listed>, Fault> {
 }
 
 /// The number of links that a listing's line tells: its second word.
-fn links_of(line: &[u8]) -> Result<u64, Fault> {
+fn links_of(line: &[u8]) -> Result<u64, Error> {
     let mut words = line.split(|byte| *byte == b' ').filter(|word| !word.is_empty());
     let word = words.nth(1).and_then(|word| std::str::from_utf8(word).ok());
-    word.and_then(|word| word.parse().ok()).ok_or(Fault::Reply)
+    word.and_then(|word| word.parse().ok()).ok_or(Error::Reply)
 }

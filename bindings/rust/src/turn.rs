@@ -2,6 +2,7 @@
 
 /// What a turn did, or why the session has ended.
 #[derive(Clone, Copy, Debug, PartialEq, Eq)]
+#[non_exhaustive]
 pub enum Turn {
     /// Nothing: no whole packet is unread.
     Idle,
@@ -15,7 +16,7 @@ pub enum Turn {
     Blocked,
     /// The call is decided: the next turn writes its reply.
     Decided,
-    /// By `settle` alone: all its turns were made, and the session goes on.
+    /// By `settle` alone: as many replies as it may were written, and the session goes on.
     Spent,
     /// The session has ended.
     Ended(Ending),
@@ -23,6 +24,7 @@ pub enum Turn {
 
 /// Why a session ended.
 #[derive(Clone, Copy, Debug, PartialEq, Eq)]
+#[non_exhaustive]
 pub enum Ending {
     /// Its first packet isn't INIT.
     NotInit,
@@ -38,10 +40,12 @@ pub enum Ending {
     NoId,
     /// It was closed.
     Closed,
+    /// By a number of the library that this crate doesn't know.
+    Other(u64),
 }
 
 impl Turn {
-    /// A turn by the library's number, which is one of these.
+    /// A turn by the library's number.
     pub(crate) fn of_number(number: u64) -> Self {
         match number {
             0 => Turn::Idle,
@@ -58,7 +62,7 @@ impl Turn {
             21 => Turn::Ended(Ending::TooLong),
             22 => Turn::Ended(Ending::NoId),
             23 => Turn::Ended(Ending::Closed),
-            _ => unreachable!("the library has no turn {}", number),
+            other => Turn::Ended(Ending::Other(other)),
         }
     }
 }

@@ -1,6 +1,7 @@
 //! OpenSSH's `sftp` on a server. `socat` joins it to the server's socket.
 
-use lucernetick::{Engine, Server, Session, Turn, VirtualTime};
+use lucernetick::{Engine, Kind, Server, Session, Turn, VirtualTime};
+use std::collections::BTreeSet;
 use std::fs::{self, Permissions};
 use std::io::{BufRead, BufReader, ErrorKind, Read, Write};
 use std::os::unix::fs::PermissionsExt;
@@ -39,7 +40,7 @@ impl Listening {
     }
 
     fn empty(test: &str) -> Self {
-        Self::new(test, Engine::new(1).unwrap())
+        Self::new(test, Engine::new().unwrap())
     }
 
     fn client(&self) -> Client {
@@ -264,6 +265,28 @@ fn many_clients_at_once() {
     assert_eq!(files.filter(|file| file.contents.as_deref() == Some(b"contents")).count(), 120);
 }
 
+/// Fifty sessions at once, each of which makes `/dNN` and looks at it.
+#[test]
+fn fifty_sessions_at_once() {
+    let server = Server::new(Engine::with_keep(0).unwrap(), || 7);
+    thread::scope(|scope| {
+        for number in 0..50 {
+            let mut line = server.connect().unwrap();
+            scope.spawn(move || {
+                let path = format!("/d{:02}", number);
+                let mkdir = [b"\0\0\0\x11\x0e\0\0\0\x01\0\0\0\x04", path.as_bytes(), &[0; 4]].concat();
+                let stat = [b"\0\0\0\x0d\x11\0\0\0\x02\0\0\0\x04", path.as_bytes()].concat();
+                line.write_all(&[INIT, &mkdir, &stat].concat()).unwrap();
+                let replies = take(&mut line, VERSION + 28 + 41);
+                assert_eq!((replies[VERSION + 12], &replies[VERSION + 28 + 37..]), (0, &[0, 0, 0, 7][..]));
+            });
+        }
+    });
+    assert_eq!(server.snapshot().unwrap().len(), 1 + 50);
+    let made = server.calls().unwrap().into_iter().filter(|call| call.kind == Kind::Mkdir);
+    assert_eq!(made.map(|call| call.session).collect::<BTreeSet<_>>().len(), 50);
+}
+
 /// A session that is moved by hand, and is fed these bytes.
 fn fed(server: &Server, bytes: &[u8]) -> Session {
     server.with_engine(|engine| {
@@ -271,6 +294,12 @@ fn fed(server: &Server, bytes: &[u8]) -> Session {
         engine.feed(session, bytes).unwrap();
         session
     })
+}
+
+/// So many turns by hand, at the moment 100, after which the session's call is on its way.
+fn hold(server: &Server, session: Session, turns: u64) {
+    let last = (0..turns).map(|_| server.with_engine(|engine| engine.turn(session, 100).unwrap()));
+    assert_eq!(last.last(), Some(Turn::Moved));
 }
 
 /// Turns by hand, at the moment 100.
@@ -288,10 +317,10 @@ fn take(line: &mut UnixStream, count: usize) -> Vec<u8> {
 
 #[test]
 fn a_connection_waits_for_a_call_that_is_held() {
-    let server = Server::new(Engine::new(1).unwrap(), || 0);
+    let server = Server::new(Engine::new().unwrap(), || 0);
     let held = fed(&server, MAKES);
     // VERSION, the call's beginning, and the root taken.
-    assert_eq!(settle(&server, held, 3), Turn::Spent);
+    hold(&server, held, 3);
 
     let mut line = server.connect().unwrap();
     line.write_all(LOOKS).unwrap();
@@ -308,9 +337,9 @@ fn a_connection_waits_for_a_call_that_is_held() {
 /// A client that a held session keeps waiting goes on when the rounds have carried out both calls.
 #[test]
 fn rounds_carry_out_the_calls_of_connections() {
-    let server = Server::new(Engine::new(1).unwrap(), || 0);
+    let server = Server::new(Engine::new().unwrap(), || 0);
     let held = fed(&server, MAKES);
-    assert_eq!(settle(&server, held, 3), Turn::Spent);
+    hold(&server, held, 3);
 
     let mut line = server.connect().unwrap();
     line.write_all(LOOKS).unwrap();
@@ -339,7 +368,7 @@ fn blocked_connections_go_on_one_after_the_other() {
         let server = Server::new(Engine::from_files([("/a/f", "1")], 0).unwrap(), || 0);
         let probe = fed(&server, INIT);
         let held = fed(&server, &[INIT, LOOKS_BELOW].concat());
-        assert_eq!(settle(&server, held, 4), Turn::Spent);
+        hold(&server, held, 4);
         assert!(!root_is_held(&server, probe));
         let mut lines = vec![server.connect().unwrap()];
         lines[0].write_all(&[INIT, LOOKS_BELOW].concat()).unwrap();
@@ -360,9 +389,9 @@ fn blocked_connections_go_on_one_after_the_other() {
 
 #[test]
 fn a_call_is_carried_out_though_its_client_has_gone() {
-    let server = Server::new(Engine::new(1).unwrap(), || 5);
+    let server = Server::new(Engine::new().unwrap(), || 5);
     let held = fed(&server, LOOKS);
-    assert_eq!(settle(&server, held, 3), Turn::Spent);
+    hold(&server, held, 3);
 
     let mut line = server.connect().unwrap();
     line.write_all(MAKES).unwrap();
@@ -378,7 +407,7 @@ fn a_call_is_carried_out_though_its_client_has_gone() {
 
 #[test]
 fn clients_that_go_free_their_sessions() {
-    let server = Server::new(Engine::new(1).unwrap(), || 0);
+    let server = Server::new(Engine::new().unwrap(), || 0);
     for number in 1..=600 {
         let mut line = server.connect().unwrap();
         line.write_all(INIT).unwrap();
@@ -424,7 +453,7 @@ fn a_client_may_send_much_before_it_reads() {
 
 #[test]
 fn a_session_that_ends_closes_its_connection() {
-    let server = Server::new(Engine::new(1).unwrap(), || 0);
+    let server = Server::new(Engine::new().unwrap(), || 0);
     let mut line = server.connect().unwrap();
     line.write_all(&[0; 4]).unwrap();
     line.set_read_timeout(Some(Duration::from_secs(10))).unwrap();
@@ -436,7 +465,7 @@ fn a_clock_that_panics_ends_the_connection_that_asked_it() {
     let time = VirtualTime::new(13);
     let clock = time.clock();
     let told = move || if clock() == 13 { panic!("an unlucky time") } else { clock() };
-    let server = Server::new(Engine::new(1).unwrap(), told);
+    let server = Server::new(Engine::new().unwrap(), told);
     let mut other = server.connect().unwrap();
     let mut unlucky = server.connect().unwrap();
     unlucky.write_all(INIT).unwrap();
@@ -448,7 +477,7 @@ fn a_clock_that_panics_ends_the_connection_that_asked_it() {
 
 #[test]
 fn a_257th_client_is_refused() {
-    let server = Server::new(Engine::new(1).unwrap(), || 0);
+    let server = Server::new(Engine::new().unwrap(), || 0);
     let lines: Vec<UnixStream> = (0..256).map(|_| server.connect().unwrap()).collect();
     let refused = server.connect().unwrap_err();
     assert_eq!(refused.to_string(), "256 sessions are open");
@@ -471,7 +500,7 @@ fn a_server_that_is_dropped_ends_its_connections() {
     reads_none.write_all(INIT).unwrap();
     while reads_none.write_all(&LOOKS[INIT.len()..]).is_ok() {}
     let held = fed(&server, MAKES);
-    assert_eq!(settle(&server, held, 3), Turn::Spent);
+    hold(&server, held, 3);
     let mut blocked = server.connect().unwrap();
     blocked.write_all(LOOKS).unwrap();
     take(&mut blocked, VERSION);

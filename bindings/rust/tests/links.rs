@@ -1,6 +1,6 @@
 //! Files with several names.
 
-use lucernetick::{Engine, Fault, Refusal, Session, Snapshot, Turn};
+use lucernetick::{Engine, Error, Refusal, Session, Snapshot, Turn};
 
 const INIT: &[u8] = b"\0\0\0\x05\x01\0\0\0\x03";
 const ATTRS: u8 = 105;
@@ -112,7 +112,7 @@ fn a_snapshot_that_is_refused_leaves_all_attributes() {
     let session = client(&mut engine);
     let before = look(&mut engine, session);
     let others: Vec<Session> = (0..254).map(|_| engine.open().unwrap()).collect();
-    assert_eq!(engine.snapshot(), Err(Fault::Refused(Refusal::Sessions)));
+    assert_eq!(engine.snapshot(), Err(Error::Refused(Refusal::TooManySessions)));
     assert_eq!(look(&mut engine, session), before);
     engine.close(others[0]).unwrap();
     assert_eq!(numbers(&engine.snapshot().unwrap()), ALIKE);
@@ -140,7 +140,7 @@ fn links_that_are_refused() {
     let mut engine = alike();
     for (old, new, code) in [("/none", "/x", 2), ("/d", "/x", 4), ("/a", "/b", 4)] {
         let refused = engine.hard_link(old, new, 0).unwrap_err();
-        assert!(matches!(refused, Fault::Status(found, _) if found == code), "{refused}");
+        assert!(matches!(refused, Error::Status(found, _) if found == code), "{refused}");
     }
     assert_eq!(numbers(&engine.snapshot().unwrap()), ALIKE);
 }

@@ -1,6 +1,6 @@
 //! Sessions by their packets, and whole trees.
 
-use lucernetick::{Ending, Engine, Fault, Refusal, Session, Turn};
+use lucernetick::{Ending, Engine, Error, Refusal, Session, Turn};
 
 const STATUS: u8 = 101;
 const HANDLE: u8 = 102;
@@ -59,7 +59,7 @@ fn file(size: u64, moment: u32) -> Vec<u8> {
 
 #[test]
 fn write_read_list_rename() {
-    let mut engine = Engine::new(1).unwrap();
+    let mut engine = Engine::new().unwrap();
     let session = client(&mut engine);
     let open = request(3, 1, &[&string(b"/f"), &[0, 0, 0, 11], &[0; 4]]);
     let opened = ask(&mut engine, session, 100, &open);
@@ -94,7 +94,7 @@ fn two_sessions_on_one_tree() {
 
 #[test]
 fn times_are_those_of_turns() {
-    let mut engine = Engine::new(1).unwrap();
+    let mut engine = Engine::new().unwrap();
     let session = client(&mut engine);
     let open = request(3, 1, &[&string(b"/f"), &[0, 0, 0, 10], &[0; 4]]);
     ask(&mut engine, session, 4_000_000_000, &open);
@@ -107,7 +107,7 @@ fn times_are_those_of_turns() {
 /// What a schedule's turns did, and what its two sessions were sent. The second one looks at `/a`
 /// before the first one has made it.
 fn replay() -> (Vec<Turn>, [Vec<u8>; 2]) {
-    let mut engine = Engine::new(0).unwrap();
+    let mut engine = Engine::with_keep(0).unwrap();
     let (first, second) = (engine.open().unwrap(), engine.open().unwrap());
     engine.feed(first, MAKES).unwrap();
     engine.feed(second, LOOKS).unwrap();
@@ -143,7 +143,7 @@ fn begun(engine: &mut Engine, old: &[u8], new: &[u8]) -> Session {
 /// other one takes the root, and three more, since what that moves to is gone.
 #[test]
 fn crossing_renames_in_rounds() {
-    let mut engine = Engine::new(1).unwrap();
+    let mut engine = Engine::new().unwrap();
     engine.make_directories("/a/x", 0).unwrap();
     engine.make_directories("/b/y", 0).unwrap();
     let first = begun(&mut engine, b"/a/x", b"/b/y/x");
@@ -164,7 +164,7 @@ fn crossing_renames_in_rounds() {
 
 #[test]
 fn no_rounds_without_a_call_under_way() {
-    let mut engine = Engine::new(1).unwrap();
+    let mut engine = Engine::new().unwrap();
     assert_eq!(engine.run_all(), 0);
     let session = client(&mut engine);
     engine.feed(session, &LOOKS[INIT.len()..]).unwrap();
@@ -174,7 +174,7 @@ fn no_rounds_without_a_call_under_way() {
 
 #[test]
 fn how_sessions_end() {
-    let mut engine = Engine::new(1).unwrap();
+    let mut engine = Engine::new().unwrap();
     for (bytes, ending) in [
         (LOOKS[9..].to_vec(), Ending::NotInit),
         (b"\0\0\0\x05\x01\0\0\0\x02".to_vec(), Ending::OldVersion),
@@ -192,7 +192,7 @@ fn how_sessions_end() {
 
 #[test]
 fn refusals() {
-    let mut engine = Engine::new(1).unwrap();
+    let mut engine = Engine::new().unwrap();
     assert_eq!(engine.turn(Session(1), 0), Err(Refusal::NoSuchSession));
     assert_eq!(engine.output(Session(0)), Err(Refusal::NoSuchSession));
     let session = client(&mut engine);
@@ -200,7 +200,7 @@ fn refusals() {
     for number in 2..=256 {
         assert_eq!(engine.open(), Ok(Session(number)));
     }
-    assert_eq!(engine.open(), Err(Refusal::Sessions));
+    assert_eq!(engine.open(), Err(Refusal::TooManySessions));
     engine.close(session).unwrap();
     assert_eq!(engine.open(), Ok(Session(257)));
 }
@@ -235,7 +235,7 @@ fn more_names_than_one_listing_has() {
 
 #[test]
 fn what_trees_refuse() {
-    let failure = Fault::Status(4, "Failure".to_string());
+    let failure = Error::Status(4, "Failure".to_string());
     assert_eq!(Engine::from_files([("a\0b", "")], 0).err(), Some(failure.clone()));
     let mut engine = Engine::from_files([("/f", "")], 0).unwrap();
     assert_eq!(engine.write_files([("/f/g", "")], 0), Err(failure));
@@ -244,8 +244,10 @@ fn what_trees_refuse() {
     }
     let held = engine.open().unwrap();
     engine.feed(held, MAKES).unwrap();
-    assert_eq!(engine.settle(held, 0, 3), Ok(Turn::Spent));
-    assert_eq!(engine.snapshot(), Err(Fault::Blocked));
+    for wanted in [Turn::Wrote, Turn::Begun, Turn::Moved] {
+        assert_eq!(engine.turn(held, 0), Ok(wanted));
+    }
+    assert_eq!(engine.snapshot(), Err(Error::Blocked));
 }
 
 #[test]
@@ -267,7 +269,7 @@ fn set_size(engine: &mut Engine, path: &str, size: u64) {
 fn a_file_too_large_for_a_snapshot() {
     let mut engine = Engine::from_files([("/a", "1"), ("/d/f", "2")], 0).unwrap();
     set_size(&mut engine, "/d/f", 1 << 40);
-    let refused = Fault::TooLarge("/d/f".to_string(), 1 << 40);
+    let refused = Error::TooLarge("/d/f".to_string(), 1 << 40);
     assert_eq!(engine.snapshot(), Err(refused));
     set_size(&mut engine, "/d/f", 2);
     let found = engine.snapshot().unwrap();

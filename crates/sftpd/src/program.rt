@@ -55,6 +55,9 @@ impl From<AllocError> for Refused {
     }
 }
 
+/// As the file VERSION says at the top of the repository.
+const VERSION: &str = "0.2.0";
+
 /// How many records of calls are kept where the words don't say, and at most.
 const KEEP: usize = 256;
 
@@ -144,6 +147,7 @@ pub(crate) fn read_words<'a>(alloc: Global, words: &'a [String]) -> Result<Actio
     ensures { IfOk result CanBeDone }
 {
     let program = Command::new(alloc, "sftpd")
+        .version(VERSION)
         .about("An SFTP server, version 3, with its tree in memory")
         .subcommand_required(true)
         .subcommand(stdio_words(alloc)?)?

@@ -1,0 +1,19 @@
+use Rattle.std.proofs.Common.{◌≡◌, ◌∙◌, ◌≤◌, ◌<◌, ◌-◌, ℕ, suc, true, sym, subst, arith}
+use Rattle.sf_engine.specs.declared.event.Event.TheVariants as event
+use Rattle.sf_c.specs.Numbers.{leads_on, replies_of, TurnsTo}
+use Rattle.sf_c.proofs.Settling.{first_apart}
+use Rattle.sf_c.proofs.turns.settle.Goals as goal
+
+pub returns : goal.returns
+returns c =
+    let turn = event.Turn c.args.session c.args.moment in
+    let first = c.apply-first.result in
+    let on : leads_on first ≡ true = sym c.leads_on.ensures ∙ c.if-not-leads_on.false in
+    let is : c.replies_of.result ≡ replies_of first = c.replies_of.ensures.is in
+    let few : c.replies_of.result ≤ 1 = c.replies_of.ensures.few in
+    let some : c.args.most ≡ 0 → ⊥ = c.if-most-eq0.false in
+    let under : replies_of first ≤ c.args.most = grind arith in
+    let others = c.follow.ensures in
+    let further = subst (λ (n : ℕ). TurnsTo others.0 turn (c.args.most - n) c.apply-first.new.self c.follow.result c.follow.new.engine) is others.1 in
+    let one : 0 < suc others.0 = omega arith in
+    (suc others.0, first_apart others.0 c.args.most c.args.engine.now c.apply-first.new.self c.follow.new.engine turn first c.follow.result (c.apply-first.ensures.fits, c.apply-first.ensures.err) on under further, (λ e. one), λ e. absurd cc)

@@ -1,0 +1,192 @@
+-- What C is told of a record.
+use Rattle.std.specs.Prelude.{◌≡◌, ◌+◌, ◌++◌, ◌∷◌, ◌⊎◌, ℕ, ℤ, pos, negsuc, List, [], length, take, drop, slice_get, Option, Some, None}
+use Rattle.std.specs.List.{flat_map}
+use Rattle.sf_path.specs.Names.{text_of}
+use Rattle.sf_field.specs.declared.attrs.Attrs.{Attrs}
+use Rattle.sf_field.specs.declared.attrs.Owner.{Owner}
+use Rattle.sf_field.specs.declared.attrs.Times.{Times}
+use Rattle.sf_field.specs.OpenFlags.{bits_of}
+use Rattle.sf_reply.specs.declared.reply.Entry.{Entry}
+use Rattle.sf_reply.specs.declared.reply.Reply.{Reply}
+use Rattle.sf_reply.specs.declared.reply.Reply.TheVariants as reply
+use Rattle.sf_reply.specs.Replies.{number_of}
+use Rattle.sf_call.specs.declared.request.Request.{Request}
+use Rattle.sf_call.specs.declared.request.Request.TheVariants as request
+use Rattle.sf_call.specs.declared.record.Record.{Record}
+use Rattle.sf_call.specs.declared.record.Record.TheVariants as record_of
+use Rattle.sf_engine.specs.Views.{EngineView}
+use Rattle.sf_c.specs.declared.told.Attributes.{Attributes}
+use Rattle.sf_c.specs.declared.told.Asked.{Asked}
+use Rattle.sf_c.specs.declared.told.Answered.{Answered}
+use Rattle.sf_c.specs.declared.told.Told.{Told}
+use Rattle.sf_c.specs.declared.told.Recounted.{Recounted}
+
+-- the flag of each part that is given, and its numbers
+abbrev pub size_told : Option ℕ → ℕ × ℕ
+size_told (Some size) = (1, size)
+size_told None = (0, 0)
+
+abbrev pub owner_told : Option Owner → ℕ × ℕ × ℕ
+owner_told (Some owner) = (2, owner.uid, owner.gid)
+owner_told None = (0, 0, 0)
+
+abbrev pub permissions_told : Option ℕ → ℕ × ℕ
+permissions_told (Some permissions) = (4, permissions)
+permissions_told None = (0, 0)
+
+abbrev pub times_told : Option Times → ℕ × ℕ × ℕ
+times_told (Some times) = (8, times.atime, times.mtime)
+times_told None = (0, 0, 0)
+
+abbrev pub attributes_told : Attrs → Attributes
+attributes_told attrs = record {
+  size = (size_told attrs.size).1;
+  given = (size_told attrs.size).0 + (owner_told attrs.owner).0
+      + (permissions_told attrs.permissions).0 + (times_told attrs.times).0;
+  uid = (owner_told attrs.owner).1;
+  gid = (owner_told attrs.owner).2;
+  permissions = (permissions_told attrs.permissions).1;
+  atime = (times_told attrs.times).1;
+  mtime = (times_told attrs.times).2;
+}
+
+abbrev pub no_attributes : Attributes
+no_attributes = record {
+  size = 0;
+  given = 0;
+  uid = 0;
+  gid = 0;
+  permissions = 0;
+  atime = 0;
+  mtime = 0;
+}
+
+-- the numbers of a request, and of a reply: a packet's type, and what it has in numbers
+abbrev pub plainly : ℕ → Asked
+plainly kind = record {
+  attributes = no_attributes;
+  handle = 0;
+  offset = 0;
+  length = 0;
+  kind = kind;
+  flags = 0;
+}
+
+abbrev pub asked_told : Request → Asked
+asked_told (request.Open path flags attrs) =
+    record (plainly 3) { flags = bits_of flags; attributes = attributes_told attrs }
+asked_told (request.Close handle) = record (plainly 4) { handle = handle }
+asked_told (request.Read handle offset len) =
+    record (plainly 5) { handle = handle; offset = offset; length = len }
+asked_told (request.Write handle offset written) =
+    record (plainly 6) { handle = handle; offset = offset; length = length written }
+asked_told (request.FStat handle) = record (plainly 8) { handle = handle }
+asked_told (request.SetStat path attrs) =
+    record (plainly 9) { attributes = attributes_told attrs }
+asked_told (request.FSetStat handle attrs) =
+    record (plainly 10) { handle = handle; attributes = attributes_told attrs }
+asked_told (request.OpenDir path) = plainly 11
+asked_told (request.ReadDir handle) = record (plainly 12) { handle = handle }
+asked_told (request.Remove path) = plainly 13
+asked_told (request.Mkdir path attrs) =
+    record (plainly 14) { attributes = attributes_told attrs }
+asked_told (request.Rmdir path) = plainly 15
+asked_told (request.Stat path) = plainly 17
+asked_told (request.Rename old new) = plainly 18
+asked_told (request.PosixRename old new) = plainly 201
+asked_told (request.Link old new) = plainly 202
+
+abbrev pub answer : ℕ → Answered
+answer kind = record { attributes = no_attributes; handle = 0; names = 0; kind = kind; status = 0 }
+
+abbrev pub answered_told : Reply → Answered
+answered_told (reply.Status code) = record (answer 101) { status = number_of code }
+answered_told reply.NoMemory = record (answer 100) { status = 4 }
+answered_told (reply.Handle handle) = record (answer 102) { handle = handle }
+answered_told (reply.Data bytes) = answer 103
+answered_told (reply.Names entries) = record (answer 104) { names = length entries }
+answered_told (reply.Attrs attrs) = record (answer 105) { attributes = attributes_told attrs }
+
+-- the texts of its paths, in their order
+abbrev pub first_text : Request → List ℕ
+first_text (request.Open path flags attrs) = text_of path
+first_text (request.SetStat path attrs) = text_of path
+first_text (request.Mkdir path attrs) = text_of path
+first_text (request.OpenDir path) = text_of path
+first_text (request.Remove path) = text_of path
+first_text (request.Rmdir path) = text_of path
+first_text (request.Stat path) = text_of path
+first_text (request.Rename old new) = text_of old
+first_text (request.PosixRename old new) = text_of old
+first_text (request.Link old new) = text_of old
+first_text _ = []
+
+abbrev pub second_text : Request → List ℕ
+second_text (request.Rename old new) = text_of new
+second_text (request.PosixRename old new) = text_of new
+second_text (request.Link old new) = text_of new
+second_text _ = []
+
+-- the bytes of a WRITE
+abbrev pub data_told : Request → List ℕ
+data_told (request.Write handle offset written) = written
+data_told _ = []
+
+-- the names of a listing, each with a byte 0 behind it
+abbrev pub name_told : Entry → List ℕ
+name_told entry = entry.filename ++ 0 ∷ []
+
+abbrev pub names_told : List Entry → List ℕ
+names_told entries = flat_map name_told entries
+
+-- the bytes of a reply
+abbrev pub answer_bytes : Reply → List ℕ
+answer_bytes (reply.Data bytes) = bytes
+answer_bytes (reply.Names entries) = names_told entries
+answer_bytes _ = []
+
+-- What is told of a call: its numbers, the bytes of its parts one behind another, and how many each has.
+abbrev pub IsRecounted : ℕ → ℕ → ℕ → Request → Reply → Recounted → Type 0
+IsRecounted number session moment q a r =
+    (r.told ≡ record {
+      number = number;
+      session = session;
+      asked = asked_told q;
+      answered = answered_told a;
+      path = length (first_text q);
+      new_path = length (second_text q);
+      written = length (data_told q);
+      answer = length (answer_bytes a);
+      moment = moment;
+    })
+    × (r.bytes.items ≡ ((first_text q ++ second_text q) ++ data_told q) ++ answer_bytes a)
+
+-- of a session that left
+abbrev pub left_told : ℕ → Told
+left_told session = record {
+  number = 0;
+  session = session;
+  asked = plainly 0;
+  answered = answer 0;
+  path = 0;
+  new_path = 0;
+  written = 0;
+  answer = 0;
+  moment = 0;
+}
+
+abbrev pub Recounts : Record → Recounted → Type 0
+Recounts (record_of.Did number session moment q a) r = IsRecounted number session moment q a r
+Recounts (record_of.Left session) r = (r.told ≡ left_told session) × (r.bytes.items ≡ [])
+
+-- The record at a place was told, and its bytes copied as far as there is room.
+abbrev pub IsTold : EngineView → ℕ → List ℕ → Told → List ℕ → Type 0
+IsTold engine at old told new = (kept : Record) × (r : Recounted)
+    × (slice_get engine.core.records at ≡ Some kept) × Recounts kept r × (told ≡ r.told)
+    × (new ≡ take (length old) r.bytes.items ++ drop (length r.bytes.items) old)
+
+-- how many records are kept; the one at a place was told, or there is none there, or no memory to tell it
+abbrev pub TellsOf : EngineView → ℕ → Told → List ℕ → ℤ → Told → List ℕ → Type 0
+TellsOf engine at before old n told new = ((n ≡ pos (length engine.core.records)) × IsTold engine at old told new)
+    ⊎ (((n ≡ negsuc 0) ⊎ ((n ≡ pos (length engine.core.records)) × (slice_get engine.core.records at ≡ None)))
+    × (told ≡ before) × (new ≡ old))

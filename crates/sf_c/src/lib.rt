@@ -1,0 +1,233 @@
+//! The engine as a library for C.
+//!
+//! Start with `lucernetick_turn`. Each function takes an engine as a `Held` (`held.rt`), makes one event
+//! of what it is given, and answers the engine again and a number: `specs/Numbers.antt` says which, for
+//! what the engine answered. `bindings/c/lucernetick.c` has the functions of `include/lucernetick.h`,
+//! which call these.
+#![tactic(auto)]
+
+ghost use Rattle.std.specs.Prelude.{◌≡◌, ◌++◌, length, take, drop, None, IsSome, IfOk, IfSome};
+ghost use Rattle.sf_engine.specs.declared.event.Event.TheVariants as event;
+ghost use Rattle.sf_c.specs.Records.{TellsOf};
+ghost use Rattle.sf_c.specs.Numbers.{Answers, AnswersSettled, RunsAll, IsFresh, IsMade, Feeds, Outputs};
+
+mod held;
+mod number;
+mod told;
+mod turns;
+
+use held::Held;
+use sf_engine::{Engine, Event};
+use std::alloc::{AllocError, Global};
+use told::{Told, recount};
+use turns::{apply, feed, settle_at};
+
+/// Makes an engine that keeps the last `keep` records, or all of them.
+fn new_engine(alloc: Global, keep: u64) -> Result<Engine, AllocError>
+    ensures { IfOk result (λ engine. IsFresh keep engine) }
+{
+    if keep == 0 {
+        return Engine::new(alloc);
+    }
+    Engine::with_keep(alloc, keep as usize)
+}
+
+/// Makes an engine in place of nothing. Answers 0, or -1 for want of memory, which leaves nothing.
+#[unsafe(no_mangle)]
+pub extern "C" fn lucernetick_new(alloc: Global, held: &mut Held, keep: u64) -> i64
+    requires { held.old.engine ≡ None }
+    ensures { IsMade keep result held.new.engine }
+{
+    let Ok(engine) = new_engine(alloc, keep) else {
+        return -1;
+    };
+    let Ok(engine) = Box::new(alloc, engine) else {
+        return -1;
+    };
+    held.put(engine);
+    0
+}
+
+/// Drops an engine.
+#[unsafe(no_mangle)]
+pub extern "C" fn lucernetick_free(alloc: Global, held: &mut Held)
+    requires { IsSome held.old.engine }
+    ensures { held.new.engine ≡ None }
+{
+    let _engine = held.take(alloc);
+}
+
+/// Applies an event, and answers its number.
+fn answer(alloc: Global, held: &mut Held, event: &Event) -> i64
+    requires { IsSome held.old.engine }
+    ensures { Answers held.old.engine event.now result held.new.engine }
+{
+    let mut engine = held.take(alloc);
+    let number = apply(&mut engine, event);
+    held.put(engine);
+    number
+}
+
+/// Opens a session.
+#[unsafe(no_mangle)]
+pub extern "C" fn lucernetick_open(alloc: Global, held: &mut Held) -> i64
+    requires { IsSome held.old.engine }
+    ensures { Answers held.old.engine event.Open result held.new.engine }
+{
+    answer(alloc, held, &Event::Open)
+}
+
+/// Bytes come for a session.
+#[unsafe(no_mangle)]
+pub extern "C" fn lucernetick_feed(
+    alloc: Global,
+    held: &mut Held,
+    session: u64,
+    bytes: &[u8],
+) -> i64
+    requires { IsSome held.old.engine }
+    ensures { Feeds held.old.engine session bytes.now result held.new.engine }
+{
+    let mut engine = held.take(alloc);
+    let number = feed(&mut engine, session, bytes);
+    held.put(engine);
+    number
+}
+
+/// A session goes on, at a moment in seconds since 1970.
+#[unsafe(no_mangle)]
+pub extern "C" fn lucernetick_turn(alloc: Global, held: &mut Held, session: u64, moment: u32) -> i64
+    requires { IsSome held.old.engine }
+    ensures { Answers held.old.engine (event.Turn session moment) result held.new.engine }
+{
+    answer(alloc, held, &Event::Turn(session, moment))
+}
+
+/// Turns of a session, until one leads to no other, or `most` replies were written. Tells whether anything
+/// moved.
+#[unsafe(no_mangle)]
+pub extern "C" fn lucernetick_settle(
+    alloc: Global,
+    held: &mut Held,
+    session: u64,
+    moment: u32,
+    most: u64,
+    moved: &mut bool,
+) -> i64
+    requires { IsSome held.old.engine }
+    ensures { AnswersSettled held.old.engine (Event.Turn session moment) most result moved.new
+        held.new.engine }
+{
+    let mut engine = held.take(alloc);
+    let number = settle_at(&mut engine, session, moment, most, moved);
+    held.put(engine);
+    number
+}
+
+/// Rounds of turns, up to where no call is under way. Answers how many there were.
+#[unsafe(no_mangle)]
+pub extern "C" fn lucernetick_run_all(alloc: Global, held: &mut Held) -> u64
+    requires { IsSome held.old.engine }
+    ensures { RunsAll held.old.engine result held.new.engine }
+{
+    let mut engine = held.take(alloc);
+    let rounds = engine.run_all();
+    held.put(engine);
+    rounds
+}
+
+/// Closes a session.
+#[unsafe(no_mangle)]
+pub extern "C" fn lucernetick_close(alloc: Global, held: &mut Held, session: u64) -> i64
+    requires { IsSome held.old.engine }
+    ensures { Answers held.old.engine (event.Close session) result held.new.engine }
+{
+    answer(alloc, held, &Event::Close(session))
+}
+
+/// The first bytes of a session's output were sent.
+#[unsafe(no_mangle)]
+pub extern "C" fn lucernetick_sent(
+    alloc: Global,
+    held: &mut Held,
+    session: u64,
+    count: usize,
+) -> i64
+    requires { IsSome held.old.engine }
+    ensures { Answers held.old.engine (event.Sent session count) result held.new.engine }
+{
+    answer(alloc, held, &Event::Sent(session, count))
+}
+
+/// Copies bytes into a room, as far as there is room.
+fn copy_front(room: &mut [u8], bytes: &[u8])
+    ensures { room.new ≡ take (length room.old) bytes.now ++ drop (length bytes.now) room.old }
+{
+    let count = bytes.len().min(room.len());
+    room[..count].copy_from_slice(&bytes[..count]);
+}
+
+/// Copies the front of what a session is to be sent, and answers how much that is.
+fn copy_output(engine: &Engine, session: u64, room: &mut [u8]) -> i64
+    ensures { Outputs engine.now session room.old result room.new }
+{
+    let Some(output) = engine.output(session) else {
+        return -2;
+    };
+    copy_front(room, output);
+    output.len() as i64
+}
+
+/// Copies the front of what a session is to be sent into the room.
+#[unsafe(no_mangle)]
+pub extern "C" fn lucernetick_output(
+    alloc: Global,
+    held: &mut Held,
+    session: u64,
+    room: &mut [u8],
+) -> i64
+    requires { IsSome held.old.engine }
+    ensures same { held.new.engine ≡ held.old.engine }
+    ensures copied { IfSome held.old.engine (λ e. Outputs e session room.old result room.new) }
+{
+    let engine = held.take(alloc);
+    let number = copy_output(&engine, session, room);
+    held.put(engine);
+    number
+}
+
+/// Tells the record at a place, and copies its bytes into the room, as far as there is room.
+fn copy_record(alloc: Global, engine: &Engine, at: u64, told: &mut Told, room: &mut [u8]) -> i64
+    ensures { TellsOf engine.now at told.old room.old result told.new room.new }
+{
+    let records = engine.core().history();
+    let Some(record) = records.get(at as usize) else {
+        return records.len() as i64;
+    };
+    let Ok(recounted) = recount(alloc, record) else {
+        return -1;
+    };
+    *told = recounted.told;
+    copy_front(room, &recounted.bytes);
+    records.len() as i64
+}
+
+/// Tells one of the records that are kept, the oldest at 0, and how many these are.
+#[unsafe(no_mangle)]
+pub extern "C" fn lucernetick_call(
+    alloc: Global,
+    held: &mut Held,
+    at: u64,
+    told: &mut Told,
+    room: &mut [u8],
+) -> i64
+    requires { IsSome held.old.engine }
+    ensures same { held.new.engine ≡ held.old.engine }
+    ensures told { IfSome held.old.engine
+        (λ e. TellsOf e at told.old room.old result told.new room.new) }
+{
+    let engine = held.take(alloc);
+    let number = copy_record(alloc, &engine, at, told, room);
+    held.put(engine);
+    number
+}

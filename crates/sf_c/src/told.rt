@@ -1,0 +1,390 @@
+//! The records that an engine keeps, as numbers and bytes.
+
+ghost use Rattle.std.specs.Prelude.{◌≡◌, ◌≤◌, IfOk};
+ghost use Rattle.sf_c.specs.Records.{size_told, owner_told, permissions_told, times_told, attributes_told, plainly, asked_told, answer, answered_told, first_text, second_text, data_told, names_told, answer_bytes, left_told, IsRecounted, Recounts};
+
+use sf_call::{Record, Request};
+use sf_field::{Attrs, Owner, Times};
+use sf_reply::{Entry, Reply};
+use std::alloc::{AllocError, Global};
+
+/// Attributes: `given` has a bit for each part that is there, as the protocol's flags do.
+#[repr(C)]
+#[derive(Clone, Copy, Debug)]
+pub struct Attributes {
+    pub size: u64,
+    pub given: u32,
+    pub uid: u32,
+    pub gid: u32,
+    pub permissions: u32,
+    pub atime: u32,
+    pub mtime: u32,
+}
+
+/// What a call asked, by the type of its packet, without its paths and the bytes of a WRITE.
+#[repr(C)]
+#[derive(Clone, Copy, Debug)]
+pub struct Asked {
+    pub attributes: Attributes,
+    pub handle: u64,
+    pub offset: u64,
+    pub length: u64,
+    pub kind: u32,
+    pub flags: u32,
+}
+
+/// What a call was answered, by the type of that packet, without bytes and names.
+#[repr(C)]
+#[derive(Clone, Copy, Debug)]
+pub struct Answered {
+    pub attributes: Attributes,
+    pub handle: u64,
+    pub names: u64,
+    pub kind: u32,
+    pub status: u32,
+}
+
+/// A record, and how many bytes its parts have: these stand one behind another.
+#[repr(C)]
+#[derive(Clone, Copy, Debug)]
+pub struct Told {
+    pub number: u64,
+    pub session: u64,
+    pub asked: Asked,
+    pub answered: Answered,
+    pub path: u64,
+    pub new_path: u64,
+    pub written: u64,
+    pub answer: u64,
+    pub moment: u32,
+}
+
+fn size_told(size: Option<u64>) -> (u32, u64)
+    ensures is { result ≡ size_told size }
+    ensures few { result.0 ≤ 1 }
+{
+    match size {
+        Some(size) => (1, size),
+        None => (0, 0),
+    }
+}
+
+fn owner_told(owner: Option<Owner>) -> (u32, u32, u32)
+    ensures is { result ≡ owner_told owner }
+    ensures few { result.0 ≤ 2 }
+{
+    match owner {
+        Some(Owner { uid, gid }) => (2, uid, gid),
+        None => (0, 0, 0),
+    }
+}
+
+fn permissions_told(permissions: Option<u32>) -> (u32, u32)
+    ensures is { result ≡ permissions_told permissions }
+    ensures few { result.0 ≤ 4 }
+{
+    match permissions {
+        Some(permissions) => (4, permissions),
+        None => (0, 0),
+    }
+}
+
+fn times_told(times: Option<Times>) -> (u32, u32, u32)
+    ensures is { result ≡ times_told times }
+    ensures few { result.0 ≤ 8 }
+{
+    match times {
+        Some(Times { atime, mtime }) => (8, atime, mtime),
+        None => (0, 0, 0),
+    }
+}
+
+fn attributes_told(attrs: &Attrs) -> Attributes
+    ensures { result ≡ attributes_told attrs.now }
+{
+    let (has_size, size) = size_told(attrs.size);
+    let (has_owner, uid, gid) = owner_told(attrs.owner);
+    let (has_permissions, permissions) = permissions_told(attrs.permissions);
+    let (has_times, atime, mtime) = times_told(attrs.times);
+    Attributes {
+        size,
+        given: has_size + has_owner + has_permissions + has_times,
+        uid,
+        gid,
+        permissions,
+        atime,
+        mtime,
+    }
+}
+
+/// No attributes.
+const NONE: Attributes = Attributes {
+    size: 0,
+    given: 0,
+    uid: 0,
+    gid: 0,
+    permissions: 0,
+    atime: 0,
+    mtime: 0,
+};
+
+/// A packet of this type, of which nothing else is told in numbers.
+fn plainly(kind: u32) -> Asked
+    ensures { result ≡ plainly kind }
+{
+    Asked {
+        attributes: NONE,
+        handle: 0,
+        offset: 0,
+        length: 0,
+        kind,
+        flags: 0,
+    }
+}
+
+/// The numbers of a request. Both renames and links by extensions have types of their own.
+fn asked_told(request: &Request) -> Asked
+    ensures { result ≡ asked_told request.now }
+{
+    match request {
+        Request::Open(_, flags, attrs) => Asked {
+            flags: flags.bits(),
+            attributes: attributes_told(attrs),
+            ..plainly(3)
+        },
+        Request::Close(handle) => Asked {
+            handle: *handle,
+            ..plainly(4)
+        },
+        Request::Read {
+            handle,
+            offset,
+            len,
+        } => Asked {
+            handle: *handle,
+            offset: *offset,
+            length: u64::from(*len),
+            ..plainly(5)
+        },
+        Request::Write {
+            handle,
+            offset,
+            data,
+        } => Asked {
+            handle: *handle,
+            offset: *offset,
+            length: data.as_slice().len() as u64,
+            ..plainly(6)
+        },
+        Request::FStat(handle) => Asked {
+            handle: *handle,
+            ..plainly(8)
+        },
+        Request::SetStat(_, attrs) => Asked {
+            attributes: attributes_told(attrs),
+            ..plainly(9)
+        },
+        Request::FSetStat(handle, attrs) => Asked {
+            handle: *handle,
+            attributes: attributes_told(attrs),
+            ..plainly(10)
+        },
+        Request::OpenDir(_) => plainly(11),
+        Request::ReadDir(handle) => Asked {
+            handle: *handle,
+            ..plainly(12)
+        },
+        Request::Remove(_) => plainly(13),
+        Request::Mkdir(_, attrs) => Asked {
+            attributes: attributes_told(attrs),
+            ..plainly(14)
+        },
+        Request::Rmdir(_) => plainly(15),
+        Request::Stat(_) => plainly(17),
+        Request::Rename(_, _) => plainly(18),
+        Request::PosixRename(_, _) => plainly(201),
+        Request::Link(_, _) => plainly(202),
+    }
+}
+
+/// An answer of this type, of which nothing else is told in numbers.
+fn answer(kind: u32) -> Answered
+    ensures { result ≡ answer kind }
+{
+    Answered {
+        attributes: NONE,
+        handle: 0,
+        names: 0,
+        kind,
+        status: 0,
+    }
+}
+
+/// The numbers of a reply. Want of memory is the status FAILURE, with a type of its own.
+fn answered_told(reply: &Reply) -> Answered
+    ensures { result ≡ answered_told reply.now }
+{
+    match reply {
+        Reply::Status(code) => Answered {
+            status: code.number(),
+            ..answer(101)
+        },
+        Reply::NoMemory => Answered {
+            status: 4,
+            ..answer(100)
+        },
+        Reply::Handle(handle) => Answered {
+            handle: *handle,
+            ..answer(102)
+        },
+        Reply::Data(_) => answer(103),
+        Reply::Names(listing) => Answered {
+            names: listing.as_slice().len() as u64,
+            ..answer(104)
+        },
+        Reply::Attrs(attrs) => Answered {
+            attributes: attributes_told(attrs),
+            ..answer(105)
+        },
+    }
+}
+
+/// The text of a request's path, or of its old one; none where it has no path.
+fn first_text(alloc: Global, request: &Request) -> Result<Vec<u8>, AllocError>
+    ensures { IfOk result (λ text. text.items ≡ first_text request.now) }
+{
+    match request {
+        Request::Open(path, _, _) => path.text(alloc),
+        Request::SetStat(path, _) => path.text(alloc),
+        Request::Mkdir(path, _) => path.text(alloc),
+        Request::OpenDir(path) => path.text(alloc),
+        Request::Remove(path) => path.text(alloc),
+        Request::Rmdir(path) => path.text(alloc),
+        Request::Stat(path) => path.text(alloc),
+        Request::Rename(old, _) => old.text(alloc),
+        Request::PosixRename(old, _) => old.text(alloc),
+        Request::Link(old, _) => old.text(alloc),
+        _ => Ok(Vec::new(alloc)),
+    }
+}
+
+/// The text of a request's new path, if it has one.
+fn second_text(alloc: Global, request: &Request) -> Result<Vec<u8>, AllocError>
+    ensures { IfOk result (λ text. text.items ≡ second_text request.now) }
+{
+    match request {
+        Request::Rename(_, new) => new.text(alloc),
+        Request::PosixRename(_, new) => new.text(alloc),
+        Request::Link(_, new) => new.text(alloc),
+        _ => Ok(Vec::new(alloc)),
+    }
+}
+
+/// The bytes of a WRITE.
+fn data_told(request: &Request) -> &[u8]
+    ensures { result.now ≡ data_told request.now }
+{
+    match request {
+        Request::Write { data, .. } => data.as_slice(),
+        _ => &[],
+    }
+}
+
+/// The names of a listing, each with a byte 0 behind it, which no name has.
+fn names_told(alloc: Global, entries: &[Entry]) -> Result<Vec<u8>, AllocError>
+    ensures { IfOk result (λ bytes. bytes.items ≡ names_told entries.now) }
+{
+    let mut bytes = Vec::new(alloc);
+    for entry in entries {
+        bytes.extend_from_slice(entry.filename.as_slice())?;
+        bytes.push(0)?;
+    }
+    Ok(bytes)
+}
+
+/// The bytes of a reply: those that were read, or names.
+fn answer_bytes(alloc: Global, reply: &Reply) -> Result<Vec<u8>, AllocError>
+    ensures { IfOk result (λ bytes. bytes.items ≡ answer_bytes reply.now) }
+{
+    match reply {
+        Reply::Data(bytes) => Vec::from_slice(alloc, bytes.as_slice()),
+        Reply::Names(listing) => names_told(alloc, listing.as_slice()),
+        _ => Ok(Vec::new(alloc)),
+    }
+}
+
+/// A record's parts, one behind another, and its numbers with how long each part is.
+#[derive(Drop)]
+pub struct Recounted {
+    pub told: Told,
+    pub bytes: Vec<u8>,
+}
+
+/// What is told of a call.
+fn call_told(
+    alloc: Global,
+    number: u64,
+    session: u64,
+    moment: u32,
+    request: &Request,
+    reply: &Reply,
+) -> Result<Recounted, AllocError>
+    ensures { IfOk result (λ r. IsRecounted number session moment request.now reply.now r) }
+{
+    let mut bytes = first_text(alloc, request)?;
+    let path = bytes.len();
+    let new = second_text(alloc, request)?;
+    let data = data_told(request);
+    let read = answer_bytes(alloc, reply)?;
+    bytes.extend_from_slice(&new)?;
+    bytes.extend_from_slice(data)?;
+    bytes.extend_from_slice(&read)?;
+    let told = Told {
+        number,
+        session,
+        asked: asked_told(request),
+        answered: answered_told(reply),
+        path: path as u64,
+        new_path: new.len() as u64,
+        written: data.len() as u64,
+        answer: read.len() as u64,
+        moment,
+    };
+    Ok(Recounted { told, bytes })
+}
+
+/// What is told of a record.
+pub fn recount(alloc: Global, record: &Record) -> Result<Recounted, AllocError>
+    ensures { IfOk result (λ r. Recounts record.now r) }
+{
+    match record {
+        Record::Did {
+            number,
+            session,
+            moment,
+            request,
+            reply,
+        } => call_told(alloc, *number, *session, *moment, request, reply),
+        Record::Left { session } => Ok(Recounted {
+            told: left_told(*session),
+            bytes: Vec::new(alloc),
+        }),
+    }
+}
+
+/// A session that left: the number of its record is 0, as no call's is.
+fn left_told(session: u64) -> Told
+    ensures { result ≡ left_told session }
+{
+    Told {
+        number: 0,
+        session,
+        asked: plainly(0),
+        answered: answer(0),
+        path: 0,
+        new_path: 0,
+        written: 0,
+        answer: 0,
+        moment: 0,
+    }
+}
