@@ -30,7 +30,7 @@ use Rattle.sf_core.specs.Events.{StepsOn, AnswersAtOnce, begun, came}
 use Rattle.sf_core.specs.Progress.{reply_of, overtaken, did, new_call}
 use Rattle.sf_core.specs.Parts.{PartsView, seen}
 use Rattle.sf_core.specs.Sound.{Sound, IsCore}
-use Rattle.sf_core.specs.Stepping.{SameButRoom, BeginState, Serves, Walked, Overtakes, AtOnceState, session_set, session_set_by}
+use Rattle.sf_core.specs.Stepping.{SameButRoom, Serves, Walked, Overtakes, AtOnceState, session_set, session_set_by}
 use Rattle.sf_core.proofs.Maps.{reply_is, put_same, set_same, set_twice, put_removed}
 use Rattle.sf_core.proofs.Starting.{begun_sound, begun_told}
 use Rattle.sf_core.proofs.Turns.{IsStep, IsTurn, core_after, sound_of, steps_on, turn_of}

@@ -183,10 +183,7 @@ impl Core {
             return Err(CoreFault::NumbersSpent);
         }
         let _count = self.parts.look_ups();
-        let Ok(reply) = self
-            .parts
-            .answer_at_once(lane.session, request, moment)
-        else {
+        let Ok(reply) = self.parts.answer_at_once(lane.session, request, moment) else {
             return Err(CoreFault::OutOfMemory);
         };
         lane.begun = lane.begun.saturating_add(1);

@@ -1,7 +1,9 @@
 //! Calls of several sessions on one core, step by step, with what each step comes to.
 
 use sf_call::{CoreFault, Record, Request};
-use sf_cases::requests::{link, mkdir, open, path, posix_rename, rename, rmdir, stat};
+use sf_cases::requests::{
+    close, link, mkdir, open, path, posix_rename, rename, rmdir, stat, stat_handle,
+};
 use sf_core::{Core, Lane, Share, Step};
 use sf_reply::{Reply, StatusCode};
 use std::alloc::Global;
@@ -71,6 +73,24 @@ fn begin_at(
     match core.begin(lane, request, moment) {
         Ok(()) => {}
         Err(fault) => panic!(rt; "not begun: {fault}"),
+    }
+}
+
+/// What a call was answered at once, or that it has begun.
+fn calls(
+    rt: &impl Abort,
+    core: &mut Core,
+    lane: &mut Lane,
+    request: Result<Request, Fail>,
+) -> Option<Told> {
+    let Ok(request) = request else {
+        panic!(rt; "no request");
+    };
+    assert!(rt; lane.is_idle());
+    match core.call(lane, request, 100) {
+        Ok(Some(answer)) => Some(outcome_of(answer.reply())),
+        Ok(None) => None,
+        Err(fault) => panic!(rt; "not made: {fault}"),
     }
 }
 

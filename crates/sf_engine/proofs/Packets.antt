@@ -1,13 +1,12 @@
 -- What the next packet of a resting session leads to.
-use Rattle.std.proofs.Common.{◌≡◌, ◌≢◌, ℕ, List, [], ◌++◌, Bool, true, false, None, Result, Ok, IfSome, refl, ap, sym, ◌∙◌, subst, arith, inr, append-nil}
+use Rattle.std.proofs.Common.{◌≡◌, ◌≢◌, ℕ, List, [], ◌++◌, Bool, true, false, None, Result, IfSome, refl, sym, ◌∙◌, subst, arith, inr, append-nil}
 use Rattle.sf_field.specs.Fields.{packet as packet_of}
 use Rattle.sf_reply.specs.Replies.{reply_body}
 use Rattle.sf_call.specs.declared.record.Record.{Record}
 use Rattle.sf_call.specs.declared.request.Request.{Request}
 use Rattle.sf_call.specs.declared.fault.CoreFault.{CoreFault}
 use Rattle.sf_call.specs.Answers.{Answered as Answer}
-use Rattle.sf_session.specs.declared.session.Next.TheVariants as next
-use Rattle.sf_session.specs.Sessions.{SessionView, NextGives, refusal_of}
+use Rattle.sf_session.specs.Sessions.{SessionView, refusal_of}
 use Rattle.sf_core.specs.declared.step.Step.{Step}
 use Rattle.sf_core.specs.declared.step.Step.TheVariants as step
 use Rattle.sf_core.specs.Lanes.{LaneView}

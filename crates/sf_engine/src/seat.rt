@@ -137,11 +137,7 @@ impl Place {
     }
 
     /// Takes the next packet of a resting session, up to the call that it asks for.
-    fn take_packet(
-        &mut self,
-        core: &mut Core,
-        session: &mut Session,
-    ) -> Result<Packet, EngineFault>
+    fn take_packet(&mut self, core: &mut Core, session: &mut Session) -> Result<Packet, EngineFault>
         requires resting { is_resting self.old ≡ true }
         requires placed { IsPlaced core.old session.old self.old }
         ensures ok { IfOk result (λ packet. PacketGives (stand core.old session.old self.old)

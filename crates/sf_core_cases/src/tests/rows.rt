@@ -60,6 +60,47 @@ fn many_steps_at_once(rt: HostRuntime) {
     b.abandon();
 }
 
+/// A call that walks nothing is answered as it begins, while another one holds the tree; one on a
+/// path begins, and steps answer it.
+#[test]
+fn answers_at_once(rt: HostRuntime) {
+    let alloc = rt.alloc();
+    let (mut core, mut a) = with_a(&rt, alloc);
+    let mut b = join(&rt, &mut core);
+    assert!(&rt; calls(&rt, &mut core, &mut a, open(alloc, b"/f", b"wc")) == None);
+    walks_to(&rt, &mut core, &mut a, 300, Told::Handle(2));
+    begin(&rt, &mut core, &mut b, rmdir(alloc, b"/a"));
+    steps_to(&rt, &mut core, &mut b, Told::Moved);
+    assert!(&rt; calls(&rt, &mut core, &mut a, stat_handle(2)) == Some(Told::Attrs));
+    let success = Some(Told::Status(StatusCode::Success));
+    let failure = Some(Told::Status(StatusCode::Failure));
+    assert!(&rt; calls(&rt, &mut core, &mut a, close(2)) == success);
+    assert!(&rt; calls(&rt, &mut core, &mut a, close(2)) == failure);
+    assert!(&rt; calls(&rt, &mut core, &mut a, rename(alloc, b"/", b"/b")) == failure);
+    records_are(&rt, &core, &[1, 2, 4, 5, 6, 7]);
+    assert!(&rt; core.calls() == 7);
+    steps_to(&rt, &mut core, &mut b, Told::Status(StatusCode::Success));
+    records_are(&rt, &core, &[1, 2, 4, 5, 6, 7, 3]);
+    let share = leave(&rt, &mut core, a).merge(leave(&rt, &mut core, b));
+    assert!(&rt; share.calls() == 7);
+}
+
+/// A lane of another core has no call here.
+#[test]
+fn stranger_is_not_answered(rt: HostRuntime) -> Result<(), Fail> {
+    let alloc = rt.alloc();
+    let request = close(1)?;
+    let mut core = made(&rt, alloc);
+    let mut other = made(&rt, alloc);
+    let mut lane = join(&rt, &mut other);
+    assert!(&rt; lane.is_idle());
+    let fault = core.call(&mut lane, request, 100);
+    assert!(&rt; matches!(fault, Err(CoreFault::Stranger)));
+    assert!(&rt; core.calls() == 0);
+    lane.abandon();
+    Ok(())
+}
+
 #[test]
 fn root_is_waited_for(rt: HostRuntime) {
     let alloc = rt.alloc();

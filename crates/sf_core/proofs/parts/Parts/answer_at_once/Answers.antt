@@ -1,9 +1,8 @@
-use Rattle.std.proofs.Common.{◌≡◌, ◌+◌, ◌∙◌, ap, sym, subst, refl, arith}
+use Rattle.std.proofs.Common.{◌≡◌, ◌+◌, ◌∙◌, ap, sym, subst, arith}
 use Rattle.sf_reply.specs.declared.reply.Reply.{Reply}
 use Rattle.sf_call.proofs.Laws.{held_request}
-use Rattle.sf_call.specs.declared.record.Record.{Record}
 use Rattle.sf_call.specs.Values.{IsCall}
-use Rattle.sf_book.specs.Books.{BookView, put}
+use Rattle.sf_book.specs.Books.{put}
 use Rattle.sf_inode.specs.Stores.{StoreState}
 use Rattle.sf_core.specs.Parts.{PartsView}
 use Rattle.sf_core.specs.Progress.{did, new_call}
