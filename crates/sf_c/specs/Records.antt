@@ -72,24 +72,30 @@ plainly kind = record {
   flags = 0;
 }
 
+abbrev pub by_handle : ℕ → ℕ → Asked
+by_handle kind handle = record (plainly kind) { handle = handle }
+
+abbrev pub at_place : ℕ → ℕ → ℕ → ℕ → Asked
+at_place kind handle offset length =
+    record (by_handle kind handle) { offset = offset; length = length }
+
+abbrev pub with_attributes : ℕ → Attrs → Asked
+with_attributes kind attrs = record (plainly kind) { attributes = attributes_told attrs }
+
 abbrev pub asked_told : Request → Asked
 asked_told (request.Open path flags attrs) =
-    record (plainly 3) { flags = bits_of flags; attributes = attributes_told attrs }
-asked_told (request.Close handle) = record (plainly 4) { handle = handle }
-asked_told (request.Read handle offset len) =
-    record (plainly 5) { handle = handle; offset = offset; length = len }
-asked_told (request.Write handle offset written) =
-    record (plainly 6) { handle = handle; offset = offset; length = length written }
-asked_told (request.FStat handle) = record (plainly 8) { handle = handle }
-asked_told (request.SetStat path attrs) =
-    record (plainly 9) { attributes = attributes_told attrs }
+    record (with_attributes 3 attrs) { flags = bits_of flags }
+asked_told (request.Close handle) = by_handle 4 handle
+asked_told (request.Read handle offset len) = at_place 5 handle offset len
+asked_told (request.Write handle offset written) = at_place 6 handle offset (length written)
+asked_told (request.FStat handle) = by_handle 8 handle
+asked_told (request.SetStat path attrs) = with_attributes 9 attrs
 asked_told (request.FSetStat handle attrs) =
-    record (plainly 10) { handle = handle; attributes = attributes_told attrs }
+    record (with_attributes 10 attrs) { handle = handle }
 asked_told (request.OpenDir path) = plainly 11
-asked_told (request.ReadDir handle) = record (plainly 12) { handle = handle }
+asked_told (request.ReadDir handle) = by_handle 12 handle
 asked_told (request.Remove path) = plainly 13
-asked_told (request.Mkdir path attrs) =
-    record (plainly 14) { attributes = attributes_told attrs }
+asked_told (request.Mkdir path attrs) = with_attributes 14 attrs
 asked_told (request.Rmdir path) = plainly 15
 asked_told (request.Stat path) = plainly 17
 asked_told (request.Rename old new) = plainly 18

@@ -1,7 +1,7 @@
 //! The records that an engine keeps, as numbers and bytes.
 
 ghost use Rattle.std.specs.Prelude.{◌≡◌, ◌≤◌, IfOk};
-ghost use Rattle.sf_c.specs.Records.{size_told, owner_told, permissions_told, times_told, attributes_told, plainly, asked_told, answer, answered_told, first_text, second_text, data_told, names_told, answer_bytes, left_told, IsRecounted, Recounts};
+ghost use Rattle.sf_c.specs.Records.{size_told, owner_told, permissions_told, times_told, attributes_told, plainly, by_handle, at_place, with_attributes, asked_told, answer, answered_told, first_text, second_text, data_told, names_told, answer_bytes, left_told, IsRecounted, Recounts};
 
 use sf_call::{Record, Request};
 use sf_field::{Attrs, Owner, Times};
@@ -142,6 +142,37 @@ fn plainly(kind: u32) -> Asked
     }
 }
 
+/// A packet of this type by a handle, of which nothing else is told in numbers.
+fn by_handle(kind: u32, handle: u64) -> Asked
+    ensures { result ≡ by_handle kind handle }
+{
+    Asked {
+        handle,
+        ..plainly(kind)
+    }
+}
+
+/// A packet of this type by a handle, of so many bytes from a place in its file.
+fn at_place(kind: u32, handle: u64, offset: u64, length: u64) -> Asked
+    ensures { result ≡ at_place kind handle offset length }
+{
+    Asked {
+        offset,
+        length,
+        ..by_handle(kind, handle)
+    }
+}
+
+/// A packet of this type with attributes.
+fn with_attributes(kind: u32, attrs: &Attrs) -> Asked
+    ensures { result ≡ with_attributes kind attrs.now }
+{
+    Asked {
+        attributes: attributes_told(attrs),
+        ..plainly(kind)
+    }
+}
+
 /// The numbers of a request. Both renames and links by extensions have types of their own.
 fn asked_told(request: &Request) -> Asked
     ensures { result ≡ asked_told request.now }
@@ -149,56 +180,29 @@ fn asked_told(request: &Request) -> Asked
     match request {
         Request::Open(_, flags, attrs) => Asked {
             flags: flags.bits(),
-            attributes: attributes_told(attrs),
-            ..plainly(3)
+            ..with_attributes(3, attrs)
         },
-        Request::Close(handle) => Asked {
-            handle: *handle,
-            ..plainly(4)
-        },
+        Request::Close(handle) => by_handle(4, *handle),
         Request::Read {
             handle,
             offset,
             len,
-        } => Asked {
-            handle: *handle,
-            offset: *offset,
-            length: u64::from(*len),
-            ..plainly(5)
-        },
+        } => at_place(5, *handle, *offset, u64::from(*len)),
         Request::Write {
             handle,
             offset,
             data,
-        } => Asked {
-            handle: *handle,
-            offset: *offset,
-            length: data.as_slice().len() as u64,
-            ..plainly(6)
-        },
-        Request::FStat(handle) => Asked {
-            handle: *handle,
-            ..plainly(8)
-        },
-        Request::SetStat(_, attrs) => Asked {
-            attributes: attributes_told(attrs),
-            ..plainly(9)
-        },
+        } => at_place(6, *handle, *offset, data.as_slice().len() as u64),
+        Request::FStat(handle) => by_handle(8, *handle),
+        Request::SetStat(_, attrs) => with_attributes(9, attrs),
         Request::FSetStat(handle, attrs) => Asked {
             handle: *handle,
-            attributes: attributes_told(attrs),
-            ..plainly(10)
+            ..with_attributes(10, attrs)
         },
         Request::OpenDir(_) => plainly(11),
-        Request::ReadDir(handle) => Asked {
-            handle: *handle,
-            ..plainly(12)
-        },
+        Request::ReadDir(handle) => by_handle(12, *handle),
         Request::Remove(_) => plainly(13),
-        Request::Mkdir(_, attrs) => Asked {
-            attributes: attributes_told(attrs),
-            ..plainly(14)
-        },
+        Request::Mkdir(_, attrs) => with_attributes(14, attrs),
         Request::Rmdir(_) => plainly(15),
         Request::Stat(_) => plainly(17),
         Request::Rename(_, _) => plainly(18),

@@ -18,8 +18,6 @@ use Rattle.sf_core.specs.Cores.{CoreView, slot_of, joined, most_sessions, last_n
 use Rattle.sf_core.specs.Events.{Before, After, Joins, OwnCall, Goes, IsBlocked, Fetches, Decides, AddsNothing, Answers, Begins, begun, RefusesBegin, Leaves}
 use Rattle.sf_core.specs.Histories.{IsHistory}
 use Rattle.sf_engine.specs.declared.seat.Seat.{Seat}
-use Rattle.sf_engine.specs.declared.seat.Packet.{Packet}
-use Rattle.sf_engine.specs.declared.seat.Packet.TheVariants as packet
 use Rattle.sf_engine.specs.declared.seat.Place.{Place}
 use Rattle.sf_engine.specs.declared.seat.Place.TheVariants as place
 use Rattle.sf_engine.specs.declared.event.Happened.{Happened}
@@ -255,12 +253,9 @@ TurnGives a closed m r b =
     Gives a.core b.core (λ h added. PlaceGives (part a.core h a.session closed) a.place m r
     (new_part b.core added b.session b.place))
 
--- The next packet was taken: it came to a turn's end without a call, or it asks for one that is
--- still to be made.
-abbrev pub PacketGives : Stand → Packet → Stand → Type 0
-PacketGives a (packet.Done r) b = ((m : ℕ) → TurnGives a false m r b) × (r ≢ happened.Begun)
-PacketGives a (packet.Asks request) b =
-    NextGives a.session (next.Call request) b.session × (b.core ≡ a.core) × (b.place ≡ a.place)
+-- the next packet was taken, and asked for no call
+abbrev pub OtherGives : Stand → Happened → Stand → Type 0
+OtherGives a r b = ((m : ℕ) → TurnGives a false m r b) × (r ≢ happened.Begun)
 
 -- what turns find: whether the session was closed, and the moment
 pub record Finding : Type 0 where

@@ -1,17 +1,19 @@
 //! One session of an engine: how far it is, and its turns.
 
-ghost use Rattle.std.specs.Prelude.{◌≡◌, ◌≢◌, ◌++◌, ◌∷◌, ◌||◌, ◌↔◌, IsTrue, All, ℕ, Bool, List, [], true, false, Some, None, IfOk, IfErr, OnErr, OnOk, Ok};
+ghost use Rattle.std.specs.Prelude.{◌≡◌, ◌≢◌, ◌++◌, ◌∷◌, ◌||◌, ◌↔◌, IsTrue, All, ℕ, Bool, List, [], true, false, Some, None, IfOk, IfErr, OnErr, OnOk};
 ghost use Rattle.sf_wire.specs.declared.cutting.Cut.TheVariants.{More};
 ghost use Rattle.sf_wire.specs.Packets.{IsCut};
 ghost use Rattle.sf_call.specs.declared.record.Record.{Record};
 ghost use Rattle.sf_call.specs.declared.record.Record.TheVariants.{Left};
+ghost use Rattle.sf_session.specs.declared.session.Next.TheVariants as TheNext;
+ghost use Rattle.sf_session.specs.Sessions.{SessionView, NextGives};
 ghost use Rattle.sf_core.specs.Cores.Slot.{Idle};
 ghost use Rattle.sf_core.specs.Cores.{slot_of};
 ghost use Rattle.sf_core.specs.Events.{Leaves};
 ghost use Rattle.sf_core.specs.Histories.{IsHistory};
 ghost use Rattle.sf_core.specs.Lanes.{LaneView};
 ghost use Rattle.sf_engine.specs.Traces.{goes_on_at};
-ghost use Rattle.sf_engine.specs.Turns.{Gives, seated, part, new_part, Settles, has_lane, is_resting, is_under_way, IsLaneOf, PlaceGives, PacketGives, CloseGives, FeedGives, FeedFault, SentGives, SentFault, IsPlaced, is_busy, OpenGives, OpenFault, MayRefuseTurn, stand, IsReady, TurnsGive, GoesFar, finding};
+ghost use Rattle.sf_engine.specs.Turns.{Gives, seated, part, new_part, Settles, has_lane, is_resting, is_under_way, IsLaneOf, PlaceGives, OtherGives, CloseGives, FeedGives, FeedFault, SentGives, SentFault, IsPlaced, is_busy, OpenGives, OpenFault, MayRefuseTurn, stand, IsReady, TurnsGive, GoesFar, finding};
 
 use crate::event::{EngineFault, Happened};
 use sf_call::{Answer, CoreFault, Request};
@@ -32,15 +34,6 @@ pub(crate) enum Place {
     /// Its call's answer waits to be written.
     Answered(Lane, Answer),
     Left(Cause),
-}
-
-/// What the next packet came to.
-#[derive(Drop)]
-enum Packet {
-    /// This, without a call.
-    Done(Happened),
-    /// It asks for a call.
-    Asks(Request),
 }
 
 impl Drop for Place {
@@ -136,25 +129,22 @@ impl Place {
         mem::replace(self, Place::Left(Cause::Closed)).into_lane()
     }
 
-    /// Takes the next packet of a resting session, up to the call that it asks for.
-    fn take_packet(&mut self, core: &mut Core, session: &mut Session) -> Result<Packet, EngineFault>
+    /// What the next packet of a resting session came to, where it asks for no call.
+    fn read_other(&mut self, core: &mut Core, next: Next) -> Happened
         requires resting { is_resting self.old ≡ true }
-        requires placed { IsPlaced core.old session.old self.old }
-        ensures ok { IfOk result (λ packet. PacketGives (stand core.old session.old self.old)
-            packet (stand core.new session.new self.new)) }
-        ensures err { OnErr result ((self.new ≡ self.old) × (core.new ≡ core.old)
-            × (session.new ≡ session.old)) }
-        ensures fault { IfErr result (λ fault. fault ≡ EngineFault.OutOfMemory) }
+        requires placed { (x : SessionView) × IsPlaced core.old x self.old }
+        requires other { (request : Request) → next ≢ TheNext.Call request }
+        ensures { (x y : SessionView) → NextGives x next y
+            → OtherGives (stand core.old x self.old) result (stand core.new y self.new) }
     {
-        match session.next() {
-            Err(_) => Err(EngineFault::OutOfMemory),
-            Ok(Next::More) => Ok(Packet::Done(Happened::Idle)),
-            Ok(Next::Local) => Ok(Packet::Done(Happened::Wrote)),
-            Ok(Next::Call(request)) => Ok(Packet::Asks(request)),
-            Ok(Next::Ended(cause)) => {
+        match next {
+            Next::More => Happened::Idle,
+            Next::Local => Happened::Wrote,
+            Next::Call(_request) => unreachable!(),
+            Next::Ended(cause) => {
                 leave(core, self.take_lane());
                 *self = Place::Left(cause);
-                Ok(Packet::Done(Happened::Ended(cause)))
+                Happened::Ended(cause)
             }
         }
     }
@@ -175,9 +165,11 @@ impl Place {
             × (session.new ≡ session.old)) }
         ensures fault { IfErr result (λ fault. fault ≡ EngineFault.OutOfMemory) }
     {
-        let request = match self.take_packet(core, session)? {
-            Packet::Done(happened) => return Ok(happened),
-            Packet::Asks(request) => request,
+        let Ok(next) = session.next() else {
+            return Err(EngineFault::OutOfMemory);
+        };
+        let Next::Call(request) = next else {
+            return Ok(self.read_other(core, next));
         };
         let Place::Resting(lane) = self else {
             unreachable!();
@@ -268,9 +260,11 @@ impl Place {
         ensures { GoesFar (stand core.old session.old self.old) closed moment result
             (stand core.new session.new self.new) }
     {
-        let request = match self.take_packet(core, session)? {
-            Packet::Done(happened) => return Ok(happened),
-            Packet::Asks(request) => request,
+        let Ok(next) = session.next() else {
+            return Err(EngineFault::OutOfMemory);
+        };
+        let Next::Call(request) = next else {
+            return Ok(self.read_other(core, next));
         };
         let Place::Resting(lane) = self else {
             unreachable!();

@@ -1,4 +1,6 @@
 use Rattle.std.proofs.Common.{◌≡◌, false, sym, subst, ◌∙◌}
+use Rattle.sf_session.specs.declared.session.Next.{Next}
+use Rattle.sf_session.specs.Sessions.{NextGives}
 use Rattle.sf_core.specs.Lanes.{LaneView}
 use Rattle.sf_engine.specs.declared.event.Happened.TheVariants as happened
 use Rattle.sf_engine.specs.declared.seat.Place.TheVariants as place
@@ -7,21 +9,22 @@ use Rattle.sf_engine.proofs.Chains.{going}
 use Rattle.sf_engine.proofs.Packets.{begun_turn, refused_turn}
 use Rattle.sf_engine.proofs.seat.Place.read.Goals as goal
 
-pub returns-in-Ok-clause-ok : goal.returns-in-Ok-clause-ok
-returns-in-Ok-clause-ok c =
+pub returns-in_default-next-clause-ok : goal.returns-in_default-next-clause-ok
+returns-in_default-next-clause-ok c = (c.read_other.ensures c.args.session.now c.next.new.self c.in-Ok.ensures.ok).0 c.args.moment
+
+pub returns-in-Ok-begin-clause-ok : goal.returns-in-Ok-begin-clause-ok
+returns-in-Ok-begin-clause-ok c =
     let old = c.args in
-    let new = c.take_packet.new in
     let a = stand old.core.now old.session.now old.self.now in
-    subst (λ (l : LaneView). TurnGives a false old.moment happened.Begun (going c.begin.new.self new.session l)) (sym (c.take_lane.ensures ∙ c.in-Ok.ensures.place))
-    (begun_turn a (stand new.core new.session new.self) c.in_ok-happened.field-0 c.in_ok-happened.ensures.ok c.in-Asks.request c.in-Asks.is c.in-Resting.lane c.in-Resting.is c.begin.new.self old.moment c.in-Ok.ensures.ok c.in-Ok.ensures.history)
+    subst (λ (l : LaneView). TurnGives a false old.moment happened.Begun (going c.begin.new.self c.next.new.self l)) (sym (c.take_lane.ensures ∙ c.in-Ok-begin.ensures.place))
+    (begun_turn (stand old.core.now old.session.now old.self.now) c.next.new.self c.in-Call.request (subst (λ (n : Next). NextGives c.args.session.now n c.next.new.self) c.in-Call.is c.in-Ok.ensures.ok) c.in-Resting.lane c.in-Resting.is c.begin.new.self old.moment c.in-Ok-begin.ensures.ok c.in-Ok-begin.ensures.history)
 
 pub returns-in-Err-clause-ok : goal.returns-in-Err-clause-ok
 returns-in-Err-clause-ok c =
     let old = c.args in
-    let new = c.take_packet.new in
     let a = stand old.core.now old.session.now old.self.now in
     let same = c.in-Err.ensures.err in
-    let moved : stand new.core c.refuse.new.self (place.Resting c.in-Resting.lane) ≡ stand c.begin.new.self c.refuse.new.self (place.Resting c.begin.new.lane) =
+    let moved : stand old.core.now c.refuse.new.self (place.Resting c.in-Resting.lane) ≡ stand c.begin.new.self c.refuse.new.self (place.Resting c.begin.new.lane) =
     λ i. stand (sym same.0 i) c.refuse.new.self (place.Resting (sym same.1 i)) in
     subst (λ (b : Stand). TurnGives a false old.moment happened.Wrote b) moved
-    (refused_turn a (stand new.core new.session new.self) c.in_ok-happened.field-0 c.in_ok-happened.ensures.ok c.in-Asks.request c.in-Asks.is c.in-Resting.lane c.in-Resting.is old.moment c.in-Err.fault c.refuse.new.self c.in-Err.ensures.fault c.refuse.ensures)
+    (refused_turn (stand old.core.now old.session.now old.self.now) c.next.new.self c.in-Call.request (subst (λ (n : Next). NextGives c.args.session.now n c.next.new.self) c.in-Call.is c.in-Ok.ensures.ok) c.in-Resting.lane c.in-Resting.is old.moment c.in-Err.fault c.refuse.new.self c.in-Err.ensures.fault c.refuse.ensures)
