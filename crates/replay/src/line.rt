@@ -12,6 +12,7 @@ pub enum Line {
 }
 
 impl Line {
+    /// A line of a schedule, read from its text: see `replay` for the form of each.
     pub fn parse(alloc: Global, text: &str) -> anyhow::Result<Line> {
         let words: Vec<&str> = text.split_whitespace().collect(alloc)?;
         let event = match words.as_slice() {

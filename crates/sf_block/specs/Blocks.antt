@@ -1,3 +1,4 @@
+-- No public clause cites this module.
 -- Bytes in blocks of 4096, each under its number. A missing block is zeros, and so is what a
 -- shorter one lacks.
 use Rattle.std.specs.Prelude.{◌≡◌, ◌⊎◌, ◌≢◌, ◌<◌, ◌≤◌, ◌+◌, ◌-◌, ◌*◌, ◌/◌, ◌%◌, ℕ, max, min, nat_le, nat_lt, ◌&&◌, if◌then◌else◌, List, [], map, length, take, drop, Option, Some, slice_index_or}

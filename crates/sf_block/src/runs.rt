@@ -27,6 +27,7 @@ impl Model for Runs {
 }
 
 impl Runs {
+    /// No runs, and memory for none.
     pub(crate) fn new(alloc: Global) -> Runs
         ensures { (k : ℕ) → entry_in result k ≡ None }
     {
@@ -44,6 +45,7 @@ impl Runs {
         })
     }
 
+    /// The bytes of the run of a number, if it isn't missing.
     pub(crate) fn get(&self, number: u64) -> Option<&ByteString>
         ensures { option_copied result ≡ entry_in self.now number }
     {

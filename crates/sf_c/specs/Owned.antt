@@ -1,3 +1,4 @@
+-- No public clause cites this module.
 -- What C has of an engine.
 use Rattle.std.specs.Prelude.{Option, Some, None}
 use Rattle.std.specs.Global.{Global}

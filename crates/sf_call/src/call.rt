@@ -44,6 +44,13 @@ pub enum Stage {
         old: Reached,
         new: Reached,
     },
+    /// A WRITE that has its record: it holds its file, into which so many blocks are still to be
+    /// copied.
+    Copies {
+        /// The file's number in the store.
+        node: usize,
+        left: usize,
+    },
 }
 
 /// A call of a session that has not been answered yet.

@@ -1,3 +1,4 @@
+-- No public clause cites this module.
 -- What stands at the front of a line's input.
 use Rattle.std.specs.Prelude.{◌≡◌, ◌<◌, ℕ, List, ◌++◌, length, Option, IfSome}
 use Rattle.sf_field.specs.Fields.{packet}

@@ -1,6 +1,7 @@
 -- A call that walks nothing begins and is decided in one event.
-use Rattle.std.specs.Prelude.{◌≡◌, ◌<◌, ◌≤◌, ◌+◌, ◌^◌, ℕ, List, [], length, Option, Some, None, refl}
+use Rattle.std.specs.Prelude.{◌≡◌, ◌<◌, ◌≤◌, ◌+◌, ◌^◌, ◌&&◌, ℕ, Bool, true, false, not, if◌then◌else◌, List, [], length, Option, Some, None, is_none, refl}
 use Rattle.std.proofs.Common.{sym, ap, subst, ◌∙◌}
+use Rattle.std.specs.Option.{option_and_then}
 use Rattle.std.specs.Ordering.{nat_cmp}
 use Rattle.std.specs.Map.{set_value}
 use Rattle.std.specs.BTreeMap.{is_at, insert_entry}
@@ -14,12 +15,14 @@ use Rattle.sf_call.specs.Histories.{IsGiven}
 use Rattle.sf_call.specs.declared.request.Request.{Request}
 use Rattle.sf_call.specs.Values.{IsCall}
 use Rattle.sf_book.specs.Books.{BookView, put}
-use Rattle.sf_inode.specs.Stores.{StoreState}
+use Rattle.sf_inode.specs.declared.handle.OpenHandle.{OpenHandle}
+use Rattle.sf_inode.specs.Stores.{StoreState, handle_at, holder_of, is_file_at}
 use Rattle.sf_walk.specs.declared.finding.Ways.{Ways}
 use Rattle.sf_walk.specs.declared.finding.Located.TheVariants as located
 use Rattle.sf_walk.specs.declared.walking.Walk.TheVariants as walk
 use Rattle.sf_walk.specs.Routes.{Route, Stands, route_of}
-use Rattle.sf_walk.specs.Routes.Route.{NoPath}
+use Rattle.sf_walk.specs.Routes.Route.{NoPath, Along, Between}
+use Rattle.sf_walk.specs.Files.{IsFileFree, IsSettled, file_handle, file_holder_of, holder_by}
 use Rattle.sf_walk.specs.Steps.{walker, Decides as Ready}
 use Rattle.sf_walk.specs.Ways.{along}
 use Rattle.sf_walk.proofs.Laws.{at_once, nowhere_stays, stands_fresh}
@@ -27,14 +30,59 @@ use Rattle.sf_core.specs.declared.step.Step.TheVariants as step
 use Rattle.sf_core.specs.Lanes.{LaneView, at_rest}
 use Rattle.sf_core.specs.Cores.{call_at, session_at, last_number}
 use Rattle.sf_core.specs.Events.{StepsOn, AnswersAtOnce, begun, came}
-use Rattle.sf_core.specs.Progress.{reply_of, overtaken, did, new_call}
+use Rattle.sf_core.specs.Progress.{reply_of, is_at_once, is_write, walks_nothing, overtaken, did, new_call}
 use Rattle.sf_core.specs.Parts.{PartsView, seen}
 use Rattle.sf_core.specs.Sound.{Sound, IsCore}
+use Rattle.sf_core.specs.Finishing.{IsSettledWhereFree}
 use Rattle.sf_core.specs.Stepping.{SameButRoom, Serves, Walked, Overtakes, AtOnceState, session_set, session_set_by}
-use Rattle.sf_core.proofs.Maps.{reply_is, put_same, set_same, set_twice, put_removed}
+use Rattle.sf_core.proofs.FreeFiles.{left_where}
+use Rattle.sf_core.proofs.OneBlock.{no_block}
+use Rattle.sf_core.proofs.Passing.{both_true}
+use Rattle.sf_core.proofs.Maps.{none_some, reply_is, put_same, set_same, set_twice, put_removed}
 use Rattle.sf_core.proofs.Starting.{begun_sound, begun_told}
 use Rattle.sf_core.proofs.Turns.{IsStep, IsTurn, core_after, sound_of, steps_on, turn_of}
 use Rattle.sf_core.proofs.Making.{decided_step, decided_given}
+
+-- ---- a call that waits for nobody
+is_no_path : (r : Route) → walks_nothing r ≡ true → r ≡ NoPath
+is_no_path NoPath e = refl
+is_no_path (Along path) e = absurd (let z : ⊥ = cc in z)
+is_no_path (Between old new) e = absurd (let z : ⊥ = cc in z)
+
+is_not : (b : Bool) → not b ≡ true → b ≡ false
+is_not false e = refl
+is_not true e = absurd (let z : ⊥ = cc in z)
+
+is_nobody : (o : Option ℕ) → is_none o ≡ true → o ≡ None
+is_nobody None e = refl
+is_nobody (Some n) e = absurd (let z : ⊥ = cc in z)
+
+module _ (s : StoreState) (session : ℕ) (request : Request) (once : is_at_once s session request ≡ true) where
+  pub at_once_route : route_of request ≡ NoPath
+  at_once_route = is_no_path (route_of request) (both_true (walks_nothing (route_of request)) (not (is_write request) && is_none (holder_by s session request)) once).0
+
+  pub at_once_silent : is_write request ≡ false
+  at_once_silent = is_not (is_write request) (both_true (not (is_write request)) (is_none (holder_by s session request)) (both_true (walks_nothing (route_of request)) (not (is_write request) && is_none (holder_by s session request)) once).1).0
+
+  nobody : holder_by s session request ≡ None
+  nobody = is_nobody (holder_by s session request) (both_true (not (is_write request)) (is_none (holder_by s session request)) (both_true (walks_nothing (route_of request)) (not (is_write request) && is_none (holder_by s session request)) once).1).1
+
+  -- nobody holds the file that its handle opens
+  unheld : (number : ℕ) (h : OpenHandle) → file_handle request ≡ Some number → handle_at s session number ≡ Some h → is_file_at s.nodes h.node ≡ true → holder_of s.nodes h.node ≡ None
+  unheld number h by opens file =
+      sym (ap (option_and_then (λ k. file_holder_of s.nodes (handle_at s session k))) by ∙ ap (file_holder_of s.nodes) opens ∙ ap (λ (b : Bool). if b then holder_of s.nodes h.node else None) file) ∙ nobody
+
+  pub at_once_free : (c : Call) → c.session ≡ session → c.request ≡ request → IsFileFree s c
+  at_once_free c ses req = record {
+    free = λ number h by opens file m held.
+        absurd (none_some m (sym (unheld number h (sym (ap file_handle req) ∙ by) (ap (λ k. handle_at s k number) (sym ses) ∙ opens) file) ∙ held));
+  }
+
+  pub at_once_settled : IsSettledWhereFree s → IsSettled s session request located.NoWay
+  at_once_settled free = record {
+    by_handle = λ number h by opens. left_where s h.node (λ file. free h.node (ap (λ (b : Bool). if b then holder_of s.nodes h.node else None) file ∙ unheld number h by opens file));
+    on_path = λ parent node cuts there. absurd (let z : ⊥ = cc in z);
+  }
 
 -- a session that has a call, and then none, is as it was
 session_back : (sessions : List (ℕ × Option ℕ)) (session number : ℕ) → session_at sessions session ≡ Some None → session_set (session_set sessions session (Some number)) session None ≡ sessions
@@ -74,13 +122,16 @@ module _ (p m : PartsView) (same : SameButRoom p m) (room : length p.calls + len
   }
 
 -- ---- what is told of it
-module _ (lane : LaneView) (p q : PartsView) (core : IsCore p) (request : Request) (moment : ℕ) (given : Reply) (route : route_of request ≡ NoPath) (idle : session_at p.sessions lane.session ≡ Some None) (unspent : p.drawn < last_number)
+module _ (lane : LaneView) (p q : PartsView) (core : IsCore p) (request : Request) (moment : ℕ) (given : Reply) (once : is_at_once p.store lane.session request ≡ true) (idle : session_at p.sessions lane.session ≡ Some None) (unspent : p.drawn < last_number)
     (fits : p.store.look_ups < 2 ^ 64) (at : AtOnceState p q lane.session request moment given) where
   abbrev its : Call
   its = new_call (p.drawn + 1) lane.session moment request
 
   abbrev its_lane : LaneView
   its_lane = begun lane (p.drawn + 1)
+
+  route : route_of request ≡ NoPath
+  route = at_once_route p.store lane.session request once
 
   sound_mid : (h : List Record) → Sound p h → Sound at.mid h
   sound_mid h sound = begun_sound p at.mid h sound lane.session request moment at.begun idle unspent
@@ -100,6 +151,9 @@ module _ (lane : LaneView) (p q : PartsView) (core : IsCore p) (request : Reques
   abbrev nowhere : Ways
   nowhere = along located.NoWay
 
+  free : IsFileFree at.mid.store its
+  free = record { free = (subst (λ (s : StoreState). IsFileFree s its) (sym at.begun.store) (at_once_free p.store lane.session request once its refl refl)).free }
+
   walked : Walked at.mid at.mid its its.number (walk.Ready nowhere)
   walked = record {
     advances =
@@ -116,11 +170,11 @@ module _ (lane : LaneView) (p q : PartsView) (core : IsCore p) (request : Reques
   over = λ t keeps. ([], ap (overtaken at.mid.calls its.number) (sym (nowhere_stays at.mid.store t keeps its.session its.number its.moment request nowhere walked.advances.located refl)), refl)
 
   pub given_at_once : IsGiven (p.drawn + 1) lane.session given
-  given_at_once = decided_given at.mid its_lane its turn undecided at.mid nowhere walked at.mid over core.history (sound_mid core.history core.sound) q given at.finished
+  given_at_once = decided_given at.mid its_lane its turn undecided at.mid nowhere walked free at.mid over core.history (sound_mid core.history core.sound) q given at.finished
 
   module _ (a : Answer) (is : a ≡ record { number = p.drawn + 1; session = lane.session; reply = given }) where
     steps : IsStep at.mid its_lane (step.Answered a) q (at_rest its_lane)
-    steps = decided_step at.mid its_lane its turn undecided at.mid nowhere walked at.mid over q given at.finished a is
+    steps = decided_step at.mid its_lane its turn undecided at.mid nowhere walked free at.mid over q given at.finished a is (no_block at.mid.store its given (at_once_silent p.store lane.session request once))
 
     pub answered_at_once : AnswersAtOnce (seen p) lane request moment (came (step.Answered a) (seen q) (at_rest its_lane))
     answered_at_once = record {

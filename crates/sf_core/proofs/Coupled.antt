@@ -1,11 +1,11 @@
 -- The facts about walks after a step.
-use Rattle.std.specs.Prelude.{◌≡◌, ◌≢◌, ◌⊎◌, ℕ, List, [], Option, Some}
+use Rattle.std.specs.Prelude.{◌≡◌, ◌≢◌, ◌⊎◌, ℕ, true, List, [], Option, Some}
 use Rattle.std.proofs.Common.{sym, ap, subst, ◌∙◌, inl, inr}
 use Rattle.sf_call.specs.declared.call.Stage.{Stage}
 use Rattle.sf_call.specs.declared.call.Stage.TheVariants as stage
 use Rattle.sf_call.specs.declared.record.Record.{Record}
 use Rattle.sf_call.specs.Histories.{replay}
-use Rattle.sf_inode.specs.Stores.{StoreState, node_in, holder_of}
+use Rattle.sf_inode.specs.Stores.{StoreState, node_in, holder_of, is_directory_at, is_file_at}
 use Rattle.sf_keeps.specs.Keeps.{Keeps}
 use Rattle.sf_keeps.proofs.Laws.{reached_node}
 use Rattle.sf_coupling.specs.Walks.{Terrain, Spot, Holds, IsNodeOf, LeadsTo, scene, AreWalks, HandsOver}
@@ -15,6 +15,9 @@ use Rattle.sf_walk.specs.declared.walking.Walk.TheVariants.{Moved}
 use Rattle.sf_walk.specs.Routes.{Route, IsPosition, spots_of, nodes_of, terrain}
 use Rattle.sf_walk.specs.Steps.{Walker, entered, handed_over, let_go, Moves}
 use Rattle.sf_walk.proofs.Laws.{ground_stays, same_let_go, leads_same, moved_hands, freed_hands}
+use Rattle.sf_core.specs.Sound.{walker_of, writer_of}
+use Rattle.sf_core.proofs.Walkers.{walker_holds, free_walks, walks_hands}
+use Rattle.sf_core.proofs.Writers.{SameFiles, no_directory, files_let_go, writers_stay}
 
 -- walks are coupled where all spots lead as before
 pub walks_on : (t u : Terrain) (f : ℕ → List Spot) (k : ℕ → Option ℕ) → ((spot : Spot) → LeadsTo t spot → LeadsTo u spot) → AreWalks (scene t f k) → AreWalks (scene u f k)
@@ -24,15 +27,25 @@ entered_nodes : (at : Stage) (s : StoreState) → (entered at s).nodes ≡ s.nod
 entered_nodes stage.Fresh s = λ i. s.nodes
 entered_nodes (stage.At walked node) s = λ i. s.nodes
 entered_nodes (stage.Ends common from to) s = λ i. s.nodes
+entered_nodes (stage.Copies node left) s = λ i. s.nodes
 
 -- ---- a step to a directory that no other call holds
 module _ (old new : StoreState) (history : List Record) (keeps : Keeps old (replay history))
-    (f : ℕ → List Spot) (walks : AreWalks (scene (terrain old) f (holder_of old.nodes)))
+    (f : ℕ → List Spot) (walks : AreWalks (scene (terrain old) f (walker_of old.nodes)))
     (w : Walker) (after : Stage) (own : f w.number ≡ spots_of w.route w.at) (is : IsPosition w.route w.at) (moves : Moves old new w after) where
-  held_by : (l : ℕ) → IsNodeOf (spots_of w.route after) l → (l ≡ moves.spot.node) ⊎ (holder_of old.nodes l ≡ Some w.number)
-  held_by l h = elim (takes_held moves.spot (spots_of w.route w.at) (spots_of w.route after) h.spot moves.takes h.holds) [
+  was_held : (l : ℕ) → IsNodeOf (spots_of w.route after) l → (l ≡ moves.spot.node) ⊎ (walker_of old.nodes l ≡ Some w.number)
+  was_held l h = elim (takes_held moves.spot (spots_of w.route w.at) (spots_of w.route after) h.spot moves.takes h.holds) [
     | inl e ↦ inl (sym h.node ∙ ap (λ (s : Spot). s.node) e)
-    | inr was ↦ inr (holder_is (scene (terrain old) f (holder_of old.nodes)) walks w.number l (record { spot = h.spot; holds = subst (λ (x : List Spot). Holds x h.spot) (sym own) was; node = h.node }))
+    | inr was ↦ inr (holder_is (scene (terrain old) f (walker_of old.nodes)) walks w.number l (record { spot = h.spot; holds = subst (λ (x : List Spot). Holds x h.spot) (sym own) was; node = h.node }))
+  ]
+
+  held_by : (l : ℕ) → IsNodeOf (spots_of w.route after) l → (l ≡ moves.spot.node) ⊎ (holder_of old.nodes l ≡ Some w.number)
+  held_by l h = elim (was_held l h) [ inl e ↦ inl e | inr e ↦ inr (walker_holds old.nodes l w.number e).1 ]
+
+  is_directory : (l : ℕ) → IsNodeOf (spots_of w.route after) l → is_directory_at new.nodes l ≡ true
+  is_directory l h = (ground_stays old new w (Moved after) moves).directory l ∙ elim (was_held l h) [
+    | inl e ↦ ap (is_directory_at old.nodes) e ∙ moves.leads.directory
+    | inr e ↦ (walker_holds old.nodes l w.number e).0
   ]
 
   hands : HandsOver (holder_of old.nodes) (holder_of new.nodes) w.number (spots_of w.route w.at) (spots_of w.route after)
@@ -45,18 +58,42 @@ module _ (old new : StoreState) (history : List Record) (keeps : Keeps old (repl
       subst (λ (s : StoreState). HandsOver (holder_of old.nodes) (holder_of s.nodes) w.number (spots_of w.route w.at) (spots_of w.route after)) (sym moves.state)
       (subst (λ ns. HandsOver (holder_of ns) (holder_of (handed_over w.number w.at after moves.spot.node mid).nodes) w.number (spots_of w.route w.at) (spots_of w.route after)) nodes moved)
 
-  pub moved_keeps : (f' : ℕ → List Spot) → f' w.number ≡ spots_of w.route after → ((m : ℕ) → w.number ≢ m → f' m ≡ f m) → AreWalks (scene (terrain new) f' (holder_of new.nodes))
+  walkers : HandsOver (walker_of old.nodes) (walker_of new.nodes) w.number (spots_of w.route w.at) (spots_of w.route after)
+  walkers = walks_hands old new w.number (spots_of w.route w.at) (spots_of w.route after) (ground_stays old new w (Moved after) moves).directory is_directory hands
+
+  pub moved_keeps : (f' : ℕ → List Spot) → f' w.number ≡ spots_of w.route after → ((m : ℕ) → w.number ≢ m → f' m ≡ f m) → AreWalks (scene (terrain new) f' (walker_of new.nodes))
   moved_keeps f' set same =
-      walks_on (terrain old) (terrain new) f' (holder_of new.nodes) (leads_same old new (ground_stays old new w (Moved after) moves))
-      (step_keeps (terrain old) f (holder_of old.nodes) w.number walks moves.spot moves.free moves.leads f' (holder_of new.nodes)
+      walks_on (terrain old) (terrain new) f' (walker_of new.nodes) (leads_same old new (ground_stays old new w (Moved after) moves))
+      (step_keeps (terrain old) f (walker_of old.nodes) w.number walks moves.spot (free_walks old.nodes w.number moves.spot.node moves.free) moves.leads f' (walker_of new.nodes)
       (subst (λ (x : List Spot). Takes moves.spot x (f' w.number)) (sym own) (subst (λ (y : List Spot). Takes moves.spot (spots_of w.route w.at) y) (sym set) moves.takes)) same
-      (subst (λ (x : List Spot). HandsOver (holder_of old.nodes) (holder_of new.nodes) w.number x (f' w.number)) (sym own)
-      (subst (λ (y : List Spot). HandsOver (holder_of old.nodes) (holder_of new.nodes) w.number (spots_of w.route w.at) y) (sym set) hands)))
+      (subst (λ (x : List Spot). HandsOver (walker_of old.nodes) (walker_of new.nodes) w.number x (f' w.number)) (sym own)
+      (subst (λ (y : List Spot). HandsOver (walker_of old.nodes) (walker_of new.nodes) w.number (spots_of w.route w.at) y) (sym set) walkers)))
+
+  -- it held directories, and holds directories
+  no_file_was : (l : ℕ) → IsNodeOf (spots_of w.route w.at) l → is_file_at old.nodes l ≡ true → ⊥
+  no_file_was l h file =
+      let leads = walks.leads w.number h.spot (subst (λ (x : List Spot). Holds x h.spot) (sym own) h.holds) in
+      no_directory old.nodes l file (ap (is_directory_at old.nodes) (sym h.node) ∙ leads.directory)
+
+  -- who holds a file holds it still
+  pub moved_writers : SameFiles old new → (id : ℕ) → writer_of new.nodes id ≡ writer_of old.nodes id
+  moved_writers same =
+      writers_stay old new w.number (spots_of w.route w.at) (spots_of w.route after) same no_file_was
+      (λ l h file. no_directory old.nodes l file (sym ((ground_stays old new w (Moved after) moves).directory l) ∙ is_directory l h)) hands
 
 -- ---- a call is set back: nothing is asked of it
-pub reset_keeps : (s : StoreState) (f f' : ℕ → List Spot) (n : ℕ) (route : Route) (at : Stage) → AreWalks (scene (terrain s) f (holder_of s.nodes)) → IsPosition route at → f n ≡ spots_of route at → f' n ≡ []
-    → ((m : ℕ) → n ≢ m → f' m ≡ f m) → AreWalks (scene (terrain (let_go [] (nodes_of at) s)) f' (holder_of (let_go [] (nodes_of at) s).nodes))
+pub reset_keeps : (s : StoreState) (f f' : ℕ → List Spot) (n : ℕ) (route : Route) (at : Stage) → AreWalks (scene (terrain s) f (walker_of s.nodes)) → IsPosition route at → f n ≡ spots_of route at → f' n ≡ []
+    → ((m : ℕ) → n ≢ m → f' m ≡ f m) → AreWalks (scene (terrain (let_go [] (nodes_of at) s)) f' (walker_of (let_go [] (nodes_of at) s).nodes))
 reset_keeps s f f' n route at walks is own none same =
-    walks_on (terrain s) (terrain (let_go [] (nodes_of at) s)) f' (holder_of (let_go [] (nodes_of at) s).nodes) (leads_same s (let_go [] (nodes_of at) s) (same_let_go [] (nodes_of at) s))
-    (let_go_keeps (terrain s) f f' (holder_of s.nodes) (holder_of (let_go [] (nodes_of at) s).nodes) n walks none same
-    (subst (λ (x : List Spot). HandsOver (holder_of s.nodes) (holder_of (let_go [] (nodes_of at) s).nodes) n x []) (sym own) (freed_hands route at is s n)))
+    walks_on (terrain s) (terrain (let_go [] (nodes_of at) s)) f' (walker_of (let_go [] (nodes_of at) s).nodes) (leads_same s (let_go [] (nodes_of at) s) (same_let_go [] (nodes_of at) s))
+    (let_go_keeps (terrain s) f f' (walker_of s.nodes) (walker_of (let_go [] (nodes_of at) s).nodes) n walks none same
+    (subst (λ (x : List Spot). HandsOver (walker_of s.nodes) (walker_of (let_go [] (nodes_of at) s).nodes) n x []) (sym own)
+    (walks_hands s (let_go [] (nodes_of at) s) n (spots_of route at) [] (same_let_go [] (nodes_of at) s).directory (λ l h. absurd h.holds) (freed_hands route at is s n))))
+
+pub reset_writers : (s : StoreState) (f : ℕ → List Spot) (n : ℕ) (route : Route) (at : Stage) → AreWalks (scene (terrain s) f (walker_of s.nodes)) → IsPosition route at → f n ≡ spots_of route at
+    → (id : ℕ) → writer_of (let_go [] (nodes_of at) s).nodes id ≡ writer_of s.nodes id
+reset_writers s f n route at walks is own =
+    writers_stay s (let_go [] (nodes_of at) s) n (spots_of route at) [] (files_let_go [] (nodes_of at) s)
+    (λ l h file.
+    let leads = walks.leads n h.spot (subst (λ (x : List Spot). Holds x h.spot) (sym own) h.holds) in
+    no_directory s.nodes l file (ap (is_directory_at s.nodes) (sym h.node) ∙ leads.directory)) (λ l h file. h.holds) (freed_hands route at is s n)

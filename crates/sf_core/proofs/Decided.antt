@@ -1,5 +1,5 @@
 -- The facts about walks after a decision that leaves the labels of all paths at which other calls stand.
-use Rattle.std.specs.Prelude.{◌≡◌, ◌≢◌, ◌⊎◌, ◌<◌, ℕ, List, [], option_and_then, Option, Some, None, refl}
+use Rattle.std.specs.Prelude.{◌≡◌, ◌≢◌, ◌⊎◌, ◌<◌, ℕ, true, false, if◌then◌else◌, List, [], option_and_then, Option, Some, None, refl}
 use Rattle.std.proofs.Common.{sym, ap, subst, ◌∙◌, inl, inr}
 use Rattle.sf_path.specs.Names.{Path}
 use Rattle.sf_reply.specs.declared.reply.Reply.{Reply}
@@ -11,7 +11,7 @@ use Rattle.sf_call.specs.Calls.{answer_to}
 use Rattle.sf_call.specs.Tree.{label_at}
 use Rattle.sf_call.specs.Histories.{after, replay, IsLegal, IsNewNumber}
 use Rattle.sf_inode.specs.declared.node.Node.{Node}
-use Rattle.sf_inode.specs.Stores.{StoreState, node_in, entry_of, holder_of}
+use Rattle.sf_inode.specs.Stores.{StoreState, node_in, entry_of, holder_of, is_directory_at}
 use Rattle.sf_keeps.specs.Steps.{walk}
 use Rattle.sf_keeps.specs.Keeps.{Keeps}
 use Rattle.sf_keeps.proofs.Laws.{reached_node}
@@ -21,19 +21,24 @@ use Rattle.sf_walk.specs.Routes.{IsPosition, route_of, spots_of, terrain}
 use Rattle.sf_walk.specs.Served.{IsAsBefore, NodesStay, IsRefused, IsCarriedOut}
 use Rattle.sf_walk.specs.Routes.{nodes_of}
 use Rattle.sf_walk.proofs.Laws.{same_let_go, leads_same, freed_hands}
+use Rattle.sf_core.specs.Sound.{walker_of, writer_of}
 use Rattle.sf_core.specs.Stepping.{freed}
+use Rattle.sf_core.proofs.Maps.{none_some}
+use Rattle.sf_core.proofs.Walkers.{if_none, walker_is, walker_holds}
+use Rattle.sf_core.proofs.SparedFiles.{file_there}
 use Rattle.sf_core.proofs.Spared.{leads_still, directory_still}
 
 module _ (old mid : StoreState) (history : List Record) (n session moment : ℕ) (r : Request) (given : Reply)
     (legal : IsLegal history) (above : 0 < n) (fresh : IsNewNumber n history) (keeps : Keeps old (replay history))
     (served : IsRefused old mid (replay history) given ⊎ IsCarriedOut mid (replay history) (answer_to (replay history) session n moment r) given)
     (stays : NodesStay n old mid)
-    (labels : (q : Path) (l holder : ℕ) → walk (entry_of old.nodes) old.root q ≡ Some l → holder_of old.nodes l ≡ Some holder → n ≢ holder
+    (labels : (q : Path) (l holder : ℕ) → walk (entry_of old.nodes) old.root q ≡ Some l → walker_of old.nodes l ≡ Some holder → n ≢ holder
     → label_at (after (replay history) (Did n session moment r given)).names q ≡ label_at (replay history).names q)
-    (at : Stage) (is : IsPosition (route_of r) at) (f : ℕ → List Spot) (walks : AreWalks (scene (terrain old) f (holder_of old.nodes))) (own : f n ≡ spots_of (route_of r) at) where
+    (files : (l m : ℕ) → writer_of old.nodes l ≡ Some m → is_directory_at mid.nodes l ≡ true → ⊥)
+    (at : Stage) (is : IsPosition (route_of r) at) (f : ℕ → List Spot) (walks : AreWalks (scene (terrain old) f (walker_of old.nodes))) (own : f n ≡ spots_of (route_of r) at) where
   -- a node's holder after the decision is the one that it had
   holder_was : (l m : ℕ) (o : Option Node) (node : Node) → node_in old.nodes l ≡ o → IsAsBefore (λ holder label. (holder ≡ None) × (label ≡ n)) o node → node.holder ≡ Some m → holder_of old.nodes l ≡ Some m
-  holder_was l m None node e is h = let x : None ≡ Some m = sym is.0 ∙ h in absurd (let z : ⊥ = cc in z)
+  holder_was l m None node e is h = let x : None ≡ Some m = sym is.0.0 ∙ h in absurd (let z : ⊥ = cc in z)
   holder_was l m (Some was) node e is h = ap (option_and_then (λ (x : Node). x.holder)) e ∙ sym is.0 ∙ h
 
   mid_was : (l m : ℕ) → holder_of mid.nodes l ≡ Some m → holder_of old.nodes l ≡ Some m
@@ -57,47 +62,60 @@ module _ (old mid : StoreState) (history : List Record) (n session moment : ℕ)
         leads_still old mid history n session moment r given legal above fresh keeps served stays s.path s.node leads.names
         (labels s.path s.node m leads.names (walks.held m s hold) other)
 
-    spared : LeadsTo (terrain (freed at mid)) s
-    spared =
-        let was = reached_node old (replay history) keeps s.path s.node leads.names in
-        leads_same mid (freed at mid) (same_let_go [] (nodes_of at) mid) s (record {
-          names = still.0;
-          directory = directory_still old mid history n session moment r given legal above fresh keeps served stays s.node was.0 still.1.0 was.1 still.1.1 leads.directory;
-        })
+    was : (it : Node) × (node_in old.nodes s.node ≡ Some it)
+    was = reached_node old (replay history) keeps s.path s.node leads.names
 
-    held_still : holder_of mid.nodes s.node ≡ Some m
-    held_still = ap (option_and_then (λ (x : Node). x.holder)) still.1.1 ∙ holder_is s.node m (node_in old.nodes s.node) still.1.0 refl (stays.node s.node still.1.0 still.1.1) (walks.held m s hold)
+    directory : is_directory_at mid.nodes s.node ≡ true
+    directory = directory_still old mid history n session moment r given legal above fresh keeps served stays s.node was.0 still.1.0 was.1 still.1.1 leads.directory
+
+    spared : LeadsTo (terrain (freed at mid)) s
+    spared = leads_same mid (freed at mid) (same_let_go [] (nodes_of at) mid) s (record { names = still.0; directory = directory })
+
+    held_still : walker_of mid.nodes s.node ≡ Some m
+    held_still =
+        walker_is mid.nodes s.node m directory
+        (ap (option_and_then (λ (x : Node). x.holder)) still.1.1 ∙ holder_is s.node m (node_in old.nodes s.node) still.1.0 refl (stays.node s.node still.1.0 still.1.1) (walker_holds old.nodes s.node m (walks.held m s hold)).1)
+
+  -- nobody comes to hold a directory
+  none_more : (l m : ℕ) → walker_of old.nodes l ≡ None → walker_of mid.nodes l ≡ Some m → ⊥
+  none_more l m none some =
+      let h = walker_holds mid.nodes l m some in
+      let before = mid_was l m h.1 in
+      elim (is_directory_at old.nodes l) as (λ b. is_directory_at old.nodes l ≡ b → ⊥) [
+        | true ↦ λ e. none_some m (sym none ∙ walker_is old.nodes l m e before)
+        | false ↦ λ e. files l m (file_there old.nodes l m e before) h.0
+      ] refl
 
   -- what is held by none of the call's own has the holder that it had
-  mid_same : (l : ℕ) → (IsNodeOf (f n) l → ⊥) → holder_of mid.nodes l ≡ holder_of old.nodes l
+  mid_same : (l : ℕ) → (IsNodeOf (f n) l → ⊥) → walker_of mid.nodes l ≡ walker_of old.nodes l
   mid_same l not =
-      elim (holder_of old.nodes l) as (λ o. holder_of old.nodes l ≡ o → holder_of mid.nodes l ≡ o) [
+      elim (walker_of old.nodes l) as (λ o. walker_of old.nodes l ≡ o → walker_of mid.nodes l ≡ o) [
         | Some m ↦ λ e. elim (same_or_not n m) [
           | inl same ↦ absurd (not (subst (λ x. IsNodeOf (f x) l) (sym same) (walks.holds l m e)))
-          | inr other ↦ let w = walks.holds l m e in ap (holder_of mid.nodes) (sym w.node) ∙ held_still m w.spot other w.holds
+          | inr other ↦ let w = walks.holds l m e in ap (walker_of mid.nodes) (sym w.node) ∙ held_still m w.spot other w.holds
         ]
-        | None ↦ λ e. elim (holder_of mid.nodes l) as (λ o. holder_of mid.nodes l ≡ o → o ≡ None) [
+        | None ↦ λ e. elim (walker_of mid.nodes l) as (λ o. walker_of mid.nodes l ≡ o → o ≡ None) [
           | None ↦ λ g. refl
-          | Some m ↦ λ g. let x : None ≡ Some m = sym e ∙ mid_was l m g in absurd (let z : ⊥ = cc in z)
+          | Some m ↦ λ g. absurd (none_more l m e g)
         ] refl
       ] refl
 
-  hands : HandsOver (holder_of old.nodes) (holder_of (freed at mid).nodes) n (f n) []
+  hands : HandsOver (walker_of old.nodes) (walker_of (freed at mid).nodes) n (f n) []
   hands =
       let freeing = freed_hands (route_of r) at is mid n in
       record {
         here = λ l h. absurd h.holds;
-        gone = λ l was none. freeing.gone l (subst (λ (x : List Spot). IsNodeOf x l) own was) none;
-        rest = λ l not none. freeing.rest l (λ h. not (subst (λ (x : List Spot). IsNodeOf x l) (sym own) h)) none ∙ mid_same l not;
+        gone = λ l was none. if_none (is_directory_at (freed at mid).nodes l) (holder_of (freed at mid).nodes l) (freeing.gone l (subst (λ (x : List Spot). IsNodeOf x l) own was) none);
+        rest = λ l not none. (λ i. if (same_let_go [] (nodes_of at) mid).directory l i then freeing.rest l (λ h. not (subst (λ (x : List Spot). IsNodeOf x l) (sym own) h)) none i else None) ∙ mid_same l not;
       }
 
   -- the other calls' walks are what they were, and what is left of the call holds nothing
-  pub decided_keeps : (f' : ℕ → List Spot) → f' n ≡ [] → ((m : ℕ) → n ≢ m → f' m ≡ f m) → AreWalks (scene (terrain (freed at mid)) f' (holder_of (freed at mid).nodes))
+  pub decided_keeps : (f' : ℕ → List Spot) → f' n ≡ [] → ((m : ℕ) → n ≢ m → f' m ≡ f m) → AreWalks (scene (terrain (freed at mid)) f' (walker_of (freed at mid).nodes))
   decided_keeps f' none same =
       let nothing : (s : Spot) → Holds (f' n) s → ⊥ = λ s h. subst (λ (x : List Spot). Holds x s) none h in
-      keeps_walks (scene (terrain old) f (holder_of old.nodes)) (scene (terrain (freed at mid)) f' (holder_of (freed at mid).nodes)) n walks (record {
+      keeps_walks (scene (terrain old) f (walker_of old.nodes)) (scene (terrain (freed at mid)) f' (walker_of (freed at mid).nodes)) n walks (record {
         same = same;
-        hands = subst (λ (x : List Spot). HandsOver (holder_of old.nodes) (holder_of (freed at mid).nodes) n (f n) x) (sym none) hands;
+        hands = subst (λ (x : List Spot). HandsOver (walker_of old.nodes) (walker_of (freed at mid).nodes) n (f n) x) (sym none) hands;
         free = λ l h. absurd (nothing h.spot h.holds);
         shaped = subst IsShaped (sym none) tt;
         spared = λ m s other hold _. spared m s other hold;

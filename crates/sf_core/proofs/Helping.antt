@@ -32,17 +32,20 @@ use Rattle.sf_walk.specs.Routes.{Route, is_rooted, are_nested, route_at, route_o
 use Rattle.sf_walk.specs.Routes.Route.{NoPath, Along, Between}
 use Rattle.sf_walk.specs.Steps.{is_one_of}
 use Rattle.sf_walk.specs.Served.{IsRefused, IsCarriedOut}
+use Rattle.sf_walk.proofs.Laws.{walk_same}
 use Rattle.sf_walk.specs.Ways.{names_of as path_names}
 use Rattle.sf_core.specs.Cores.{call_at}
-use Rattle.sf_core.specs.Progress.{reply_of, did, copy_of, names_in, names_of, number_at}
+use Rattle.sf_core.specs.Progress.{reply_of, did, copy_of, IsCopying, names_in, names_of, number_at}
 use Rattle.sf_core.specs.Sure.{AreSure}
-use Rattle.sf_core.specs.Events.{AreRecordsOf}
+use Rattle.sf_walk.specs.Files.{cuts_file}
+use Rattle.sf_core.specs.Events.{AreRecordsOf, HasCut}
 use Rattle.sf_core.specs.Parts.{PartsView}
 use Rattle.sf_core.specs.Sound.{spots_at, spots_in, Sound}
 use Rattle.sf_core.specs.Stepping.{freed, Serves, HelpState, HelpsAll}
 use Rattle.sf_core.proofs.Maps.{some_eq, none_some}
 use Rattle.sf_core.proofs.Updates.{Updates, updates_answered}
 use Rattle.sf_core.proofs.LookUps.{looks_fit, looks_between}
+use Rattle.sf_core.proofs.Finished.{IsStill, still_on, still_undecided, Readied, readied}
 use Rattle.sf_core.proofs.Spared.{keeps_after, leads_still, directory_still, own_either}
 use Rattle.sf_core.proofs.Recorded.{new_to, helped as helped_sound}
 use Rattle.sf_core.proofs.Numbers.{AreApart}
@@ -215,9 +218,9 @@ module _ (old : Path) (p : PartsView) (history : List Record) (sound : Sound p h
     drawn = helped.records.drawn;
     joins = helped.records.joins;
     keep = ap (λ (b : BookView). b.keep) helped.records.book;
-    fits = looks_fit p.store q.store (path_names c.request) helped.looks fits;
-    more = (looks_between p.store q.store (path_names c.request) fits helped.looks).0;
-    few = let f = (looks_between p.store q.store (path_names c.request) fits helped.looks).1 in omega (arith, f);
+    fits = let e = helped.look_ups in omega (arith, e, fits);
+    more = let e = helped.look_ups in omega (arith, e);
+    few = let e = helped.look_ups in omega (arith, e);
   }
 
 -- ---- one after the other
@@ -277,6 +280,27 @@ nothing_led old p h sound fits = record {
   few = omega arith;
 }
 
+-- look-ups were made before, so many as the record's paths have names, and perhaps a WRITE was finished
+readied_led : (old : Path) (p mid q : PartsView) (h : List Record) (c : Call) (given : Reply) → p.store.look_ups < 2 ^ 64 → Readied p mid h (path_names c.request) c.request → AreLed old mid q h (did c given ∷ []) → q.store.look_ups ≡ mid.store.look_ups
+    → AreLed old p q h (did c given ∷ [])
+readied_led old p mid q h c given fits r led e =
+    let same = walk_same p.store mid.store r.ground in
+    let looks = looks_between p.store mid.store (path_names c.request) fits r.looks in
+    record {
+      sound = led.sound;
+      sure = led.sure;
+      walks = λ x aside. led.walks x aside ∙ same x;
+      directory = λ x l aside w dir. led.directory x l aside (same x ∙ w) (r.ground.directory l ∙ dir);
+      stood = λ m s hold. r.stood m s (led.stood m s hold);
+      sessions = led.sessions ∙ r.sessions;
+      drawn = led.drawn ∙ r.drawn;
+      joins = led.joins ∙ r.joins;
+      keep = led.keep ∙ ap (λ (b : BookView). b.keep) r.book;
+      fits = led.fits;
+      more = let a = looks.0 in omega (arith, a, e);
+      few = let b = looks.1 in omega (arith, b, e, names_more (did c given) []);
+    }
+
 -- the call of a number was carried out, and its record is among these
 abbrev pub WasHelped : PartsView → PartsView → List Record → ℕ → Type 0
 WasHelped p q helped n = (c : Call) → call_at p.calls n ≡ Some c → (given : Reply) × (call_at q.calls n ≡ Some (with_reply given c)) × IsAmong (did c given) helped
@@ -288,7 +312,7 @@ pub record HelpedAll (old : Path) (p q : PartsView) (h : List Record) (ns : List
   pub records : AreRecordsOf p.calls ns helped
   pub numbers : filter_map number_at helped ≡ ns
   pub these : (n : ℕ) → is_one_of n ns ≡ true → WasHelped p q helped n
-  pub others : (m : ℕ) → is_one_of m ns ≡ false → call_at q.calls m ≡ call_at p.calls m
+  pub others : (m : ℕ) (d : Call) → is_one_of m ns ≡ false → call_at p.calls m ≡ Some d → IsStill q (HasCut helped) m d
 
 none_recorded : (p : PartsView) → AreRecordsOf p.calls [] []
 unfolding AreRecordsOf
@@ -306,6 +330,11 @@ among_later : (r x : Record) (rs : List Record) → IsAmong r rs → IsAmong r (
 unfolding IsAmong
 among_later r x rs a = inr a
 
+-- a call that held nothing is as it was
+still_fresh : (q : PartsView) (why : Type 0) (m : ℕ) (d : Call) → d.stage ≡ stage.Fresh → IsStill q why m d → call_at q.calls m ≡ Some d
+still_fresh q why m d fresh (inl at) = at
+still_fresh q why m d fresh (inr f) = absurd (subst IsCopying fresh f.0)
+
 pub help_all : (ns : List ℕ) (old : Path) (p q : PartsView) (h : List Record) → Sound p h → IsClear p old → p.store.look_ups < 2 ^ 64 → ((n : ℕ) → is_one_of n ns ≡ true → IsReady p old n) → AreApart ns → HelpsAll p ns q → HelpedAll old p q h ns
 help_all [] old p q h sound clear fits ready apart helps = record {
   helped = [];
@@ -313,45 +342,60 @@ help_all [] old p q h sound clear fits ready apart helps = record {
   records = none_recorded p;
   numbers = refl;
   these = λ n e. let z : ⊥ = cc in absurd z;
-  others = λ m ne. ap (λ (x : PartsView). call_at x.calls m) helps;
+  others = λ m d ne at. inl (ap (λ (x : PartsView). call_at x.calls m) helps ∙ at);
 }
 help_all (n ∷ ns) old p q h sound clear fits ready apart helps =
     let r = ready n (ap (λ b. b || is_one_of n ns) (eq-eqb n n refl)) in
     let c = r.call in
     let own = sound.ledger.calls n c r.at in
     let is = own.is_number in
-    let at : call_at p.calls c.number ≡ Some c = ap (call_at p.calls) is ∙ r.at in
     let mid = helps.0 in
-    let given = helps.1 c r.at r.fresh (own.copied r.undecided ∙ copied old (route_of c.request) c.request r.below) in
-    let done : HelpState p mid c c.number given.0 = subst (λ k. HelpState p mid c k given.0) (sym is) given.1 in
-    let one = one_led old p h sound clear c at r.undecided r.fresh r.below fits mid given.0 done in
-    let now = calls_now old p h sound clear c at r.undecided r.fresh r.below fits mid given.0 done in
-    let same : (m : ℕ) → m ≢ n → call_at mid.calls m ≡ call_at p.calls m = λ m ne. now.rest m (λ e. ne (e ∙ is)) in
+    let step = helps.1 c r.at r.fresh (own.copied r.undecided ∙ copied old (route_of c.request) c.request r.below) in
+    let f = step.0 in
+    let before = readied p f h sound c step.1 in
+    let in_f : call_at f.calls n ≡ Some c = still_undecided p f h sound (cuts_file c.request ≡ true) n c r.at r.undecided (before.each n c r.at) in
+    let at : call_at f.calls c.number ≡ Some c = ap (call_at f.calls) is ∙ in_f in
+    let given = step.2 in
+    let done : HelpState f mid c c.number given.0 = subst (λ k. HelpState f mid c k given.0) (sym is) given.1 in
+    let clear_f : IsClear f old = λ m s hold. clear m s (before.stood m s hold) in
+    let fits_f = looks_fit p.store f.store (path_names c.request) before.looks fits in
+    let led = one_led old f h before.sound clear_f c at r.undecided r.fresh r.below fits_f mid given.0 done in
+    let one = readied_led old p f mid h c given.0 fits before led done.look_ups in
+    let now = calls_now old f h before.sound clear_f c at r.undecided r.fresh r.below fits_f mid given.0 done in
+    let same : (m : ℕ) → m ≢ n → call_at mid.calls m ≡ call_at f.calls m = λ m ne. now.rest m (λ e. ne (e ∙ is)) in
     let here : call_at mid.calls n ≡ Some (with_reply given.0 c) = ap (call_at mid.calls) (sym is) ∙ now.now_is in
+    let there : (m : ℕ) (x : Call) → m ≢ n → call_at p.calls m ≡ Some x → reply_of x ≡ None → call_at mid.calls m ≡ Some x =
+    λ m x ne at_x none. same m ne ∙ still_undecided p f h sound (cuts_file c.request ≡ true) m x at_x none (before.each m x at_x) in
     let all = help_all ns old mid q (h ++ did c given.0 ∷ []) one.sound (λ m s hold. clear m s (one.stood m s hold)) one.fits
-    (λ m there. let x = ready m (or_right (nat_eq m n) (is_one_of m ns) there) in
-    record { call = x.call; at = same m (not_there m n ns there apart.0) ∙ x.at; undecided = x.undecided; fresh = x.fresh; below = x.below })
+    (λ m here. let x = ready m (or_right (nat_eq m n) (is_one_of m ns) here) in
+    record { call = x.call; at = there m x.call (not_there m n ns here apart.0) x.at x.undecided; undecided = x.undecided; fresh = x.fresh; below = x.below })
     apart.1 helps.2 in
     record {
       helped = did c given.0 ∷ all.helped;
       led = led_on old p mid q h (did c given.0) all.helped one all.led;
       records = one_recorded p n ns c given.0 all.helped r.at r.undecided
-          (records_on p.calls mid.calls ns all.helped (λ m d there at_d none. (d, sym (same m (not_there m n ns there apart.0)) ∙ at_d, none, λ g. refl)) all.records);
+          (records_on p.calls mid.calls ns all.helped (λ m d later at_d none.
+          let x = ready m (or_right (nat_eq m n) (is_one_of m ns) later) in
+          let in_mid = there m x.call (not_there m n ns later apart.0) x.at x.undecided in
+          (x.call, x.at, x.undecided, λ g. ap (λ (y : Call). did y g) (some_eq d x.call (sym at_d ∙ in_mid)))) all.records);
       numbers = let x : c.number ∷ filter_map number_at all.helped ≡ n ∷ ns = (ap (λ k. k ∷ filter_map number_at all.helped) is) ∙ ap (λ (ks : List ℕ). n ∷ ks) all.numbers in x;
-      these = λ m there d at_d.
+      these = λ m one_of d at_d.
           elim (nat_eq m n) as (λ b. nat_eq m n ≡ b → (b || is_one_of m ns) ≡ true → (g : Reply) × (call_at q.calls m ≡ Some (with_reply g d)) × IsAmong (did d g) (did c given.0 ∷ all.helped)) [
             | true ↦ λ e _.
                 let k = eqb-true m n e in
                 let same_call : c ≡ d = some_eq c d (sym r.at ∙ ap (call_at p.calls) (sym k) ∙ at_d) in (
                   given.0,
-                  ap (call_at q.calls) k ∙ all.others n apart.0 ∙ here ∙ ap (λ (x : Call). Some (with_reply given.0 x)) same_call,
+                  ap (call_at q.calls) k ∙ still_fresh q (HasCut all.helped) n (with_reply given.0 c) r.fresh (all.others n (with_reply given.0 c) apart.0 here) ∙ ap (λ (x : Call). Some (with_reply given.0 x)) same_call,
                   subst (λ (x : Call). IsAmong (did x given.0) (did c given.0 ∷ all.helped)) same_call (among_first (did c given.0) all.helped),
                 )
             | false ↦ λ e later.
-                let w = all.these m later d (same m (not_there m n ns later apart.0) ∙ at_d) in
+                let x = ready m (or_right (nat_eq m n) (is_one_of m ns) later) in
+                let undecided_d : reply_of d ≡ None = ap reply_of (some_eq d x.call (sym at_d ∙ x.at)) ∙ x.undecided in
+                let w = all.these m later d (there m d (not_there m n ns later apart.0) at_d undecided_d) in
                 (w.0, w.1, among_later (did d w.0) (did c given.0) all.helped w.2)
-          ] refl there;
-      others = λ m ne.
+          ] refl one_of;
+      others = λ m d ne at_d.
           let both = or_false (nat_eq m n) (is_one_of m ns) ne in
-          all.others m both.1 ∙ same m (λ e. let x = sym (eq-eqb m n e) ∙ both.0 in let z : ⊥ = cc in z);
+          let not_n : m ≢ n = λ e. let x = sym (eq-eqb m n e) ∙ both.0 in let z : ⊥ = cc in z in
+          still_on f q (cuts_file c.request ≡ true) (HasCut all.helped) (HasCut (did c given.0 ∷ all.helped)) (λ e. (did c given.0, among_first (did c given.0) all.helped, e)) (λ e. (e.0, among_later e.0 (did c given.0) all.helped e.1, e.2)) m d (before.each m d at_d) (λ x at_x. all.others m x both.1 (same m not_n ∙ at_x));
     }

@@ -5,14 +5,14 @@ use Rattle.sf_call.specs.declared.call.Call.{Call}
 use Rattle.sf_call.specs.declared.record.Record.{Record}
 use Rattle.sf_call.specs.Histories.{replay}
 use Rattle.sf_book.specs.Books.{BookView}
-use Rattle.sf_inode.specs.Stores.{StoreState, holder_of}
+use Rattle.sf_inode.specs.Stores.{StoreState}
 use Rattle.sf_keeps.specs.Keeps.{Keeps}
 use Rattle.sf_coupling.specs.Walks.{scene, AreWalks}
 use Rattle.sf_walk.specs.Routes.{terrain}
 use Rattle.sf_core.specs.Cores.{call_at, session_at, slot_by, last_number, most_sessions}
 use Rattle.sf_core.specs.Progress.{undecided_in}
 use Rattle.sf_core.specs.Parts.{PartsView, seen}
-use Rattle.sf_core.specs.Sound.{spots_in, Sound}
+use Rattle.sf_core.specs.Sound.{walker_of, spots_in, Sound}
 use Rattle.sf_core.specs.Stepping.{JoinState}
 use Rattle.sf_core.proofs.Maps.{some_eq, none_some}
 use Rattle.sf_core.proofs.Updates.{Updates, updates_nothing}
@@ -20,6 +20,7 @@ use Rattle.sf_core.specs.Events.{Joins}
 use Rattle.sf_core.proofs.Told.{slot_idle, slot_kept, same_records}
 use Rattle.sf_core.proofs.Histories.{IsWritten, history_changed}
 use Rattle.sf_core.proofs.Ledgers.{ledger_changed}
+use Rattle.sf_core.proofs.Writers.{copied_same}
 use Rattle.sf_core.proofs.Starting.{updates_put, undecided_few, no_call, has_call}
 
 module _ (p q : PartsView) (h : List Record) (sound : Sound p h) (joined : JoinState p q) (unspent : p.joins < last_number) (fewer : length p.sessions < most_sessions) where
@@ -48,11 +49,12 @@ module _ (p q : PartsView) (h : List Record) (sound : Sound p h) (joined : JoinS
         (let b = sessions.size in omega (arith, fewer, b));
     coupled = record {
       walks =
-          subst (λ (s : StoreState). AreWalks (scene (terrain s) (spots_in q.calls) (holder_of s.nodes))) (sym joined.store)
-          (subst (λ cs. AreWalks (scene (terrain p.store) (spots_in cs) (holder_of p.store.nodes))) (sym joined.calls) sound.coupled.walks);
+          subst (λ (s : StoreState). AreWalks (scene (terrain s) (spots_in q.calls) (walker_of s.nodes))) (sym joined.store)
+          (subst (λ cs. AreWalks (scene (terrain p.store) (spots_in cs) (walker_of p.store.nodes))) (sym joined.calls) sound.coupled.walks);
       positions = λ m d at. sound.coupled.positions m d (still m d at);
       waiting = λ m d g at some. sound.coupled.waiting m d g (still m d at) some;
     };
+    copied = copied_same p q sound.copied joined.store joined.calls;
     ledger =
         ledger_changed p q sound.ledger (p.drawn + 1) (p.joins + 1) None None None (Some None) calls sessions
         (λ m d ne at e. none_some (Some m) (sym none_yet ∙ ap (session_at p.sessions) (sym e) ∙ (sound.ledger.calls m d at).session))

@@ -1,5 +1,9 @@
 pub mod Maps
 pub mod Updates
+pub mod Walkers
+pub mod CopySteps
+pub mod Writers
+pub mod SparedFiles
 pub mod Coupled
 pub mod Spared
 pub mod Decided
@@ -7,6 +11,11 @@ pub mod Ledgers
 pub mod Histories
 pub mod Recorded
 pub mod Unrecorded
+pub mod BlockSteps
+pub mod Finished
+pub mod FreeFiles
+pub mod Readying
+pub mod Helped
 pub mod Deeper
 pub mod Starting
 pub mod Joining
@@ -20,9 +29,14 @@ pub mod Helping
 pub mod Preparing
 pub mod Turns
 pub mod Making
+pub mod BlockTurns
+pub mod WriteSteps
+pub mod WriteTurns
 pub mod Walks
+pub mod WriteWalks
 pub mod UnderWay
 pub mod Beginning
 pub mod AtOnce
+pub mod OneBlock
 pub mod Stuck
 pub mod Laws

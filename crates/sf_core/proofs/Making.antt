@@ -31,10 +31,11 @@ use Rattle.sf_keeps.specs.Steps.{walk}
 use Rattle.sf_keeps.specs.Keeps.{Keeps}
 use Rattle.sf_keeps.proofs.Laws.{object_there, reached_node, label_found, walk_on}
 use Rattle.sf_coupling.specs.Walks.{Holds}
+use Rattle.sf_copying.specs.Copies.{copying}
 use Rattle.sf_walk.specs.declared.finding.Ways.{Ways}
 use Rattle.sf_walk.specs.declared.walking.Walk.TheVariants as walked
 use Rattle.sf_walk.specs.Routes.{Route, Stands, route_of}
-use Rattle.sf_walk.specs.Ways.{names_of as path_names}
+use Rattle.sf_walk.specs.Files.{IsFileFree, IsSettled}
 use Rattle.sf_walk.specs.Served.{IsUnused}
 use Rattle.sf_walk.specs.Steps.{is_one_of, walker, LeadsNowhere, EndsAt, MayDecideAt, AreFree}
 use Rattle.sf_walk.specs.Steps.MayDecideAt.{AtOnce as NowAtOnce, AtRoot as NowAtRoot, AtEnd as NowAtEnd}
@@ -42,10 +43,10 @@ use Rattle.sf_walk.proofs.Laws.{looked_nodes, ground_stays}
 use Rattle.sf_core.specs.declared.step.Step.TheVariants as step
 use Rattle.sf_core.specs.Lanes.{LaneView, at_rest}
 use Rattle.sf_core.specs.Cores.{call_at, session_at, slot_of}
-use Rattle.sf_core.specs.Progress.{reply_of, EndsWalk, MayDecideBy, did, overtaken}
+use Rattle.sf_core.specs.Progress.{reply_of, IsCopying, EndsWalk, MayDecideBy, did, overtaken}
 use Rattle.sf_core.specs.Progress.MayDecideBy.{AtOnce, AtRoot, AtEnd}
 use Rattle.sf_core.specs.Sure.{IsSure, AreSure}
-use Rattle.sf_core.specs.Events.{AreRecordsOf, IsOfOther, IsHelped, Decides}
+use Rattle.sf_core.specs.Events.{AreRecordsOf, IsOfOther, HasCut, IsHelped, IsFinished, Decides}
 use Rattle.sf_core.specs.Parts.{PartsView, seen}
 use Rattle.sf_core.specs.Sound.{spots_at, Sound}
 use Rattle.sf_core.specs.Stepping.{session_set_by, FinishState, Walked, Overtakes}
@@ -56,10 +57,14 @@ use Rattle.sf_core.proofs.Histories.{among_last}
 use Rattle.sf_core.proofs.Ledgers.{other_session}
 use Rattle.sf_core.proofs.Recorded.{new_to, finished}
 use Rattle.sf_core.proofs.Unrecorded.{looked_sound}
+use Rattle.sf_core.proofs.SparedFiles.{copying_is, copying_stage}
+use Rattle.sf_core.proofs.FreeFiles.{file_free_looked, settled_free}
 use Rattle.sf_core.proofs.Deeper.{on_way}
 use Rattle.sf_core.proofs.Helping.{or_right}
 use Rattle.sf_core.proofs.Preparing.{Prepared, prepared, overtaken_other}
-use Rattle.sf_core.proofs.Told.{slot_kept, slot_busy, slot_idle, own_call, left_is, left_one, walked_few, some_left}
+use Rattle.sf_core.proofs.Told.{slot_kept, slot_busy, slot_idle, own_call, left_is, left_one, left_copying, some_left}
+use Rattle.sf_core.specs.Writing.{CopiesOne}
+use Rattle.sf_core.proofs.OneBlock.{one_block}
 use Rattle.sf_core.proofs.Turns.{IsStep, IsTurn, apart}
 
 -- ---- where a call may decide, in the tree
@@ -105,7 +110,7 @@ module _ (s : StoreState) (t : Tree) (keeps : Keeps s t) (path : Path) (w node :
             no_directory t (take (w + 1) path) it.0.label (object_in it.0.metadata it.0.content) label (object_there s t keeps child it.0 it.1) (no_metadata it.0.metadata it.0.content file)
       ] refl
 
-may_by : (s : StoreState) (t : Tree) → Keeps s t → (r : Route) (at : Stage) → Stands s r at → MayDecideAt s.nodes r at → MayDecideBy t r at
+pub may_by : (s : StoreState) (t : Tree) → Keeps s t → (r : Route) (at : Stage) → Stands s r at → MayDecideAt s.nodes r at → MayDecideBy t r at
 may_by s t keeps r at stands NowAtOnce = AtOnce
 may_by s t keeps r at stands NowAtRoot = AtRoot
 may_by s t keeps r at stands (NowAtEnd o g path from goes ends) = AtEnd r at path from goes (by ends)
@@ -120,26 +125,33 @@ sure_more h [] r a s = (subst (λ (x : List Record). IsSure x r) (append-nil h) 
 sure_more h (x ∷ rs) r a s = (a.0, sure_more (h ++ x ∷ []) rs r a.1 (subst (λ (y : List Record). IsSure y r) (sym (append_assoc h (x ∷ []) rs)) s))
 
 -- ---- where a call stands
-pub stands : (p : PartsView) (h : List Record) → Sound p h → (n : ℕ) (c : Call) → call_at p.calls n ≡ Some c → Stands p.store (route_of c.request) c.stage
-stands p h sound n c at = record {
-  position = sound.coupled.positions n c at;
+pub stands : (p : PartsView) (h : List Record) → Sound p h → (n : ℕ) (c : Call) → call_at p.calls n ≡ Some c → reply_of c ≡ None → Stands p.store (route_of c.request) c.stage
+stands p h sound n c at undecided = record {
+  position = sound.coupled.positions n c at undecided;
   leads = λ spot held. sound.coupled.walks.leads n spot (subst (λ (o : Option Call). Holds (option_map_or spots_at o []) spot) (sym at) held);
 }
 
-module _ (p : PartsView) (lane : LaneView) (c : Call) (turn : IsTurn p lane c) (undecided : reply_of c ≡ None) (q : PartsView) (ways : Ways) (w : Walked p q c c.number (walked.Ready ways)) where
+module _ (p : PartsView) (lane : LaneView) (c : Call) (turn : IsTurn p lane c) (undecided : reply_of c ≡ None) (q : PartsView) (ways : Ways) (w : Walked p q c c.number (walked.Ready ways)) (free : IsFileFree p.store c) where
   pub ready_sound : (h : List Record) → Sound p h → Sound q h
   ready_sound h sound =
       subst (λ (x : PartsView). Sound x h) (λ i. record { store = q.store; book = sym w.book i; sessions = sym w.sessions i; calls = sym w.calls i; drawn = sym w.drawn i; joins = sym w.joins i })
       (looked_sound p h sound q.store 2 w.advances.looked (ground_stays p.store q.store (walker c.number (route_of c.request) c.stage) (walked.Ready ways) w.advances))
 
-  at_q : call_at q.calls c.number ≡ Some c
+  pub at_q : call_at q.calls c.number ≡ Some c
   at_q = ap (λ cs. call_at cs c.number) w.calls ∙ turn.at
+
+  free_q : AreFree (holder_of q.store.nodes) c.number (route_of c.request) ways
+  free_q = subst (λ (ns : List (Option Node)). AreFree (holder_of ns) c.number (route_of c.request) ways) (sym (looked_nodes p.store q.store 2 w.advances.looked)) w.advances.free
+
+  -- nothing is left to be copied into the files that it uses
+  pub ready_settled : (h : List Record) → Sound p h → IsSettled q.store c.session c.request ways.path
+  ready_settled h sound = settled_free q h (ready_sound h sound) c at_q undecided (file_free_looked p.store q.store 2 c w.advances.looked free) ways w.advances.located free_q
 
   module _ (m : PartsView) (over : Overtakes q m c) where
     pub made : (h : List Record) → Sound p h → Prepared q m h c ways
     made h sound =
         prepared q h (ready_sound h sound) (looks_fit p.store q.store 2 (looks_of_looked p.store q.store 2 w.advances.looked) turn.fits) c at_q undecided ways w.advances.located
-        (subst (λ (ns : List (Option Node)). AreFree (holder_of ns) c.number (route_of c.request) ways) (sym (looked_nodes p.store q.store 2 w.advances.looked)) w.advances.free) w.advances.holds m over
+        free_q w.advances.holds (ready_settled h sound) m over
 
     pub made_drawn : (h : List Record) → Sound p h → m.drawn ≡ p.drawn
     made_drawn h sound = (made h sound).drawn ∙ w.drawn
@@ -175,11 +187,41 @@ module _ (p : PartsView) (lane : LaneView) (c : Call) (turn : IsTurn p lane c) (
         m_sessions : m.sessions ≡ p.sessions
         m_sessions = it.sessions ∙ w.sessions
 
+        -- another session's WRITE that was finished
+        finished_told : (s k : ℕ) (d after : Call) → session_at p.sessions s ≡ Some (Some k) → call_at p.calls k ≡ Some d → session_at r.sessions s ≡ Some (Some k) → IsCopying d.stage → after ≡ at_stage stage.Fresh d
+            → after.stage ≡ stage.Fresh → call_at r.calls k ≡ Some after → HasCut (made h sound).helped → IsFinished (seen p) (seen r) s (made h sound).helped
+        finished_told s k d after was_at at_d now_at copies after_is fresh at_r cut =
+            let g = copying_stage d.stage copies in
+            let w = sound.copied.writing k d g.0 g.1 at_d g.2 in
+            let some = sound.copied.copies.some k (copying g.0 g.1) (copying_is p.calls k d g.0 g.1 at_d g.2) in
+            let has : reply_of after ≡ Some w.given = ap reply_of after_is ∙ reply_is (at_stage stage.Fresh d) ∙ sym (reply_is d) ∙ w.decided in
+            let many = left_copying d w.given g.0 g.1 w.decided g.2 in
+            let one = left_one after w.given has fresh in
+            record {
+              cut = cut;
+              before = d;
+              after = after;
+              given = w.given;
+              was = slot_busy (seen p) s k d was_at at_d;
+              copying = copies;
+              now = slot_busy (seen r) s k after now_at at_r;
+              same = record {
+                number = ap (λ (x : Call). x.number) after_is;
+                session = ap (λ (x : Call). x.session) after_is;
+                moment = ap (λ (x : Call). x.moment) after_is;
+                request = ap (λ (x : Call). x.request) after_is;
+              };
+              had = w.decided;
+              has = has;
+              rests = fresh;
+              less = omega (arith, many, one, some);
+            }
+
         -- what there is for another session
-        other_slot : (s : ℕ) → s ≢ lane.session → (slot_of (seen r) s ≡ slot_of (seen p) s) ⊎ IsHelped (seen p) (seen r) s (made h sound).helped
+        other_slot : (s : ℕ) → s ≢ lane.session → (slot_of (seen r) s ≡ slot_of (seen p) s) ⊎ IsHelped (seen p) (seen r) s (made h sound).helped ⊎ IsFinished (seen p) (seen r) s (made h sound).helped
         other_slot s ne = by (session_at p.sessions s) refl (sessions.rest s (λ e. ne (e ∙ turn.session)) ∙ ap (λ x. session_at x s) m_sessions)
           where
-            by : (o : Option (Option ℕ)) → session_at p.sessions s ≡ o → session_at r.sessions s ≡ session_at p.sessions s → (slot_of (seen r) s ≡ slot_of (seen p) s) ⊎ IsHelped (seen p) (seen r) s (made h sound).helped
+            by : (o : Option (Option ℕ)) → session_at p.sessions s ≡ o → session_at r.sessions s ≡ session_at p.sessions s → (slot_of (seen r) s ≡ slot_of (seen p) s) ⊎ IsHelped (seen p) (seen r) s (made h sound).helped ⊎ IsFinished (seen p) (seen r) s (made h sound).helped
             by None e same = inl (slot_kept (seen p) (seen r) s None e (same ∙ e) (λ k f. absurd (none_some (Some k) f)))
             by (Some None) e same = inl (slot_kept (seen p) (seen r) s (Some None) e (same ∙ e) (λ k f. absurd (none_some k (some_eq None (Some k) f))))
             by (Some (Some k)) e same =
@@ -188,14 +230,17 @@ module _ (p : PartsView) (lane : LaneView) (c : Call) (turn : IsTurn p lane c) (
                 let not_own : k ≢ c.number = apart p lane c turn h sound s k ne e in
                 let in_r = calls.rest k not_own in
                 elim (it.each k d not_own (ap (λ (cs : List (ℕ × Call)). call_at cs k) w.calls ∙ b.1)) [
-                  | inl as_was ↦ inl (slot_kept (seen p) (seen r) s (Some (Some k)) e (same ∙ e)
-                      (λ j f. let jk : k ≡ j = some_eq k j (some_eq (Some k) (Some j) f) in ap (call_at r.calls) (sym jk) ∙ in_r ∙ as_was ∙ sym b.1 ∙ ap (call_at p.calls) jk))
+                  | inl still ↦ elim still [
+                    | inl as_was ↦ inl (slot_kept (seen p) (seen r) s (Some (Some k)) e (same ∙ e)
+                        (λ j f. let jk : k ≡ j = some_eq k j (some_eq (Some k) (Some j) f) in ap (call_at r.calls) (sym jk) ∙ in_r ∙ as_was ∙ sym b.1 ∙ ap (call_at p.calls) jk))
+                    | inr over ↦ inr (inr (finished_told s k d (at_stage stage.Fresh d) e b.1 (same ∙ e) over.0 refl refl (in_r ∙ over.1) over.2))
+                  ]
                   | inr was ↦
                       let e_is = with_reply was.0 (at_stage stage.Fresh d) in
-                      let one = left_one e_is was.0 (reply_is e_is) in
+                      let one = left_one e_is was.0 (reply_is e_is) refl in
                       let many = left_is d was.2 in
-                      let some = some_left (path_names d.request) d.stage (walked_few d d.stage (sound.coupled.positions k d b.1)) in
-                      inr (record {
+                      let some = some_left d d.stage (sound.coupled.positions k d b.1 was.2) in
+                      inr (inl (record {
                         before = d;
                         after = e_is;
                         given = was.0;
@@ -204,9 +249,10 @@ module _ (p : PartsView) (lane : LaneView) (c : Call) (turn : IsTurn p lane c) (
                         now = slot_busy (seen r) s k e_is (same ∙ e) (in_r ∙ was.1);
                         same = record { number = refl; session = refl; moment = refl; request = refl };
                         decided = reply_is e_is;
+                        rests = refl;
                         less = omega (arith, one, many, some);
                         recorded = was.3;
-                      })
+                      }))
                 ]
 
         -- the records are of other sessions' calls
@@ -224,8 +270,8 @@ module _ (p : PartsView) (lane : LaneView) (c : Call) (turn : IsTurn p lane c) (
               of_others ns rs (λ j there. others j (or_right (nat_eq j k) (is_one_of j ns) there)) b.1,
             )
 
-        decided_told : Decides (record { core = seen p; history = h; lane = lane }) (record { core = seen r; added = (made h sound).helped ++ did c given ∷ []; lane = at_rest lane }) c given
-        decided_told =
+        decided_told : CopiesOne q.store c given → Decides (record { core = seen p; history = h; lane = lane }) (record { core = seen r; added = (made h sound).helped ++ did c given ∷ []; lane = at_rest lane }) c given
+        decided_told one =
             let looks = looks_between p.store q.store 2 turn.fits (looks_of_looked p.store q.store 2 w.advances.looked) in
             let e = fin.look_ups in
             let more = it.more in
@@ -234,10 +280,11 @@ module _ (p : PartsView) (lane : LaneView) (c : Call) (turn : IsTurn p lane c) (
             record {
               own = own_call p sound.ledger lane c.number c turn.at turn.session turn.call;
               undecided = undecided;
-              some = let many = left_is c undecided in let some = some_left (path_names c.request) c.stage (walked_few c c.stage (sound.coupled.positions c.number c turn.at)) in omega (arith, many, some);
+              some = let many = left_is c undecided in let some = some_left c c.stage (sound.coupled.positions c.number c turn.at undecided) in omega (arith, many, some);
               new_number = sound.history.undecided c.number c turn.at undecided;
-              position = sound.coupled.positions c.number c turn.at;
-              way = may_by p.store (replay h) sound.history.tree (route_of c.request) c.stage (stands p h sound c.number c turn.at) w.advances.may;
+              position = sound.coupled.positions c.number c turn.at undecided;
+              way = may_by p.store (replay h) sound.history.tree (route_of c.request) c.stage (stands p h sound c.number c turn.at undecided) w.advances.may;
+              one = one_block q.store (replay h) (ready_sound h sound).history.tree c given one;
               helped = it.helped;
               order = record { records = subst (λ (cs : List (ℕ × Call)). AreRecordsOf cs (overtaken cs c.number ones) it.helped) w.calls it.records; rising = it.rising };
               of_others = of_others (overtaken q.calls c.number ones) it.helped (overtaken_other q.calls (ready_sound h sound).ledger.calls_rise c.number ones) it.records;
@@ -253,15 +300,15 @@ module _ (p : PartsView) (lane : LaneView) (c : Call) (turn : IsTurn p lane c) (
               few = let b = looks.1 in omega (arith, b, e, few);
             }
 
-      pub decided_step : IsStep p lane (step.Answered a) r (at_rest lane)
-      decided_step h sound = (
+      pub decided_step : CopiesOne q.store c given → IsStep p lane (step.Answered a) r (at_rest lane)
+      decided_step one h sound = (
         (made h sound).helped ++ did c given ∷ [],
         subst (λ (x : List Record). Sound r x) (append_assoc h (made h sound).helped (did c given ∷ [])) (decided_sound h sound),
         (
           (
             c,
             inr (subst (λ (g : Reply). Decides (record { core = seen p; history = h; lane = lane }) (record { core = seen r; added = (made h sound).helped ++ did c given ∷ []; lane = at_rest lane }) c g)
-                (sym (ap (λ (x : Answer). x.reply) is)) (decided_told h sound)),
+                (sym (ap (λ (x : Answer). x.reply) is)) (decided_told h sound one)),
           ),
           record { session = ap (λ (x : Answer). x.session) is; number = turn.call ∙ ap Some (sym (ap (λ (x : Answer). x.number) is)); lane = refl },
         ),

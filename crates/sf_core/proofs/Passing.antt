@@ -16,7 +16,7 @@ use Rattle.sf_walk.specs.Routes.{Route, spots_on}
 use Rattle.sf_walk.specs.Routes.Route.{NoPath, Along, Between}
 use Rattle.sf_core.specs.Progress.{is_past, are_past}
 
-both_true : (a b : Bool) → (a && b) ≡ true → (a ≡ true) × (b ≡ true)
+pub both_true : (a b : Bool) → (a && b) ≡ true → (a ≡ true) × (b ≡ true)
 both_true true b e = (refl, e)
 both_true false b e = absurd (let z : ⊥ = cc in z)
 

@@ -17,6 +17,7 @@ use Rattle.sf_call.specs.declared.call.Reached.{Reached}
 use Rattle.sf_call.specs.declared.call.Stage.{Stage}
 use Rattle.sf_call.specs.declared.call.Stage.TheVariants as stage
 use Rattle.sf_call.specs.declared.request.Request.{Request}
+use Rattle.sf_call.specs.declared.request.Request.TheVariants as request
 use Rattle.sf_call.specs.Requests.{Target, target_of}
 use Rattle.sf_call.specs.Requests.Target.{ByHandle, OnPath, OnPaths}
 use Rattle.sf_call.specs.Tree.{Tree, label_at, after_front, place_of, place_at}
@@ -43,17 +44,20 @@ use Rattle.sf_walk.specs.Routes.{Route, PartAt, AreEnds, IsPosition, is_rooted, 
 use Rattle.sf_walk.specs.Routes.Route.{NoPath, Along, Between}
 use Rattle.sf_walk.specs.Routes.IsPosition.{Starts, IsOn, IsBefore, IsApart}
 use Rattle.sf_walk.specs.Ways.{way_from, missing, IsThere, AreWays, IsLocated}
+use Rattle.sf_walk.specs.Files.{IsSettled, file_handle, cuts_file}
 use Rattle.sf_walk.specs.Served.{NodesStay, IsRefused, IsCarriedOut}
 use Rattle.sf_walk.specs.Steps.{is_one_of, IsFreeThere, AreFree, HoldsParent}
 use Rattle.sf_walk.proofs.Laws.{no_way, walk_same}
 use Rattle.sf_core.specs.Cores.{call_at}
 use Rattle.sf_core.specs.Progress.{reply_of, did, is_past, are_past, has_passed, old_at, overtaken, undecided_in, names_of, number_at}
 use Rattle.sf_core.specs.Sure.{AreSure}
-use Rattle.sf_core.specs.Events.{AreRecordsOf}
+use Rattle.sf_core.specs.Events.{AreRecordsOf, HasCut}
 use Rattle.sf_core.specs.Parts.{PartsView}
-use Rattle.sf_core.specs.Sound.{spots_at, spots_in, Sound}
+use Rattle.sf_core.specs.Sound.{walker_of, spots_at, spots_in, Sound}
 use Rattle.sf_core.specs.Stepping.{all_set_back, HelpsAll, Overtakes}
 use Rattle.sf_core.proofs.Maps.{some_eq, none_some, reply_is}
+use Rattle.sf_core.proofs.Walkers.{walker_holds, rests_none}
+use Rattle.sf_core.proofs.Finished.{IsStill, still_undecided}
 use Rattle.sf_core.proofs.Spared.{located_at, label_after, label_by_handle, label_still}
 use Rattle.sf_core.proofs.Numbers.{among, numbers_rise, numbers_few, rising_apart}
 use Rattle.sf_core.proofs.Passing.{past_on, past_back, never_past, past_front, front_past, begins_more, longer_front, IsBelow, passed_below, LiesBelow, held_aside}
@@ -64,12 +68,12 @@ use Rattle.sf_core.proofs.Helping.{IsAside, IsClear, IsReady, HelpedAll, records
 abbrev pub LeavesLabels : PartsView → List Record → Call → Type 0
 LeavesLabels m h c = (given : Reply) (mid : StoreState)
     → IsRefused m.store mid (replay h) given ⊎ IsCarriedOut mid (replay h) (answer_to (replay h) c.session c.number c.moment c.request) given → NodesStay c.number m.store mid
-    → (path : Path) (l holder : ℕ) → walk (entry_of m.store.nodes) m.store.root path ≡ Some l → holder_of m.store.nodes l ≡ Some holder → c.number ≢ holder
+    → (path : Path) (l holder : ℕ) → walk (entry_of m.store.nodes) m.store.root path ≡ Some l → walker_of m.store.nodes l ≡ Some holder → c.number ≢ holder
     → label_at (after (replay h) (did c given)).names path ≡ label_at (replay h).names path
 
--- what became of another call: it is as it was, or it was carried out
+-- what became of another call: it is as it was, or what it had left to copy was copied, or it was carried out
 abbrev pub Became : PartsView → List Record → ℕ → Call → Type 0
-Became m helped k d = (call_at m.calls k ≡ Some d) ⊎ ((given : Reply) × (call_at m.calls k ≡ Some (with_reply given (at_stage stage.Fresh d))) × (reply_of d ≡ None) × IsAmong (did d given) helped)
+Became m helped k d = IsStill m (HasCut helped) k d ⊎ ((given : Reply) × (call_at m.calls k ≡ Some (with_reply given (at_stage stage.Fresh d))) × (reply_of d ≡ None) × IsAmong (did d given) helped)
 
 pub record Prepared (p m : PartsView) (h : List Record) (c : Call) (ways : Ways) : Type 0 where
   pub helped : List Record
@@ -77,6 +81,7 @@ pub record Prepared (p m : PartsView) (h : List Record) (c : Call) (ways : Ways)
   pub at : call_at m.calls c.number ≡ Some c
   pub labels : LeavesLabels m (h ++ helped) c
   pub located : IsLocated m.store c.request ways
+  pub settled : IsSettled m.store c.session c.request ways.path
   pub sure : AreSure h helped
   pub records : AreRecordsOf p.calls (overtaken p.calls c.number (moved_by (answer_to (replay h) c.session c.number c.moment c.request).changes)) helped
   pub rising : IsStrictlySortedBy nat_cmp (filter_map number_at helped)
@@ -87,6 +92,49 @@ pub record Prepared (p m : PartsView) (h : List Record) (c : Call) (ways : Ways)
   pub keep : m.book.keep ≡ p.book.keep
   pub more : p.store.look_ups ≤ m.store.look_ups
   pub few : m.store.look_ups ≤ p.store.look_ups + names_of helped
+
+-- a rename and a link touch no file's bytes
+no_handle_by : (r : Request) (number : ℕ) (old new : Path) → target_of r ≡ OnPaths old new → file_handle r ≡ Some number → ⊥
+no_handle_by (request.Read handle offset len) number old new e f = let z : ⊥ = cc in z
+no_handle_by (request.Write handle offset bytes) number old new e f = let z : ⊥ = cc in z
+no_handle_by (request.FSetStat handle attrs) number old new e f = let z : ⊥ = cc in z
+no_handle_by (request.Stat path) number old new e f = none_some number f
+no_handle_by (request.SetStat path attrs) number old new e f = none_some number f
+no_handle_by (request.Mkdir path attrs) number old new e f = none_some number f
+no_handle_by (request.Rmdir path) number old new e f = none_some number f
+no_handle_by (request.Remove path) number old new e f = none_some number f
+no_handle_by (request.OpenDir path) number old new e f = none_some number f
+no_handle_by (request.Open path flags attrs) number old new e f = none_some number f
+no_handle_by (request.Close handle) number old new e f = none_some number f
+no_handle_by (request.FStat handle) number old new e f = none_some number f
+no_handle_by (request.ReadDir handle) number old new e f = none_some number f
+no_handle_by (request.Rename from to) number old new e f = none_some number f
+no_handle_by (request.PosixRename from to) number old new e f = none_some number f
+no_handle_by (request.Link from to) number old new e f = none_some number f
+
+no_cut_by : (r : Request) (old new : Path) → target_of r ≡ OnPaths old new → cuts_file r ≡ true → ⊥
+no_cut_by (request.SetStat path attrs) old new e f = let z : ⊥ = cc in z
+no_cut_by (request.Open path flags attrs) old new e f = let z : ⊥ = cc in z
+no_cut_by (request.Stat path) old new e f = let z : ⊥ = cc in z
+no_cut_by (request.Mkdir path attrs) old new e f = let z : ⊥ = cc in z
+no_cut_by (request.Rmdir path) old new e f = let z : ⊥ = cc in z
+no_cut_by (request.Remove path) old new e f = let z : ⊥ = cc in z
+no_cut_by (request.OpenDir path) old new e f = let z : ⊥ = cc in z
+no_cut_by (request.Close handle) old new e f = let z : ⊥ = cc in z
+no_cut_by (request.FStat handle) old new e f = let z : ⊥ = cc in z
+no_cut_by (request.FSetStat handle attrs) old new e f = let z : ⊥ = cc in z
+no_cut_by (request.Read handle offset len) old new e f = let z : ⊥ = cc in z
+no_cut_by (request.Write handle offset bytes) old new e f = let z : ⊥ = cc in z
+no_cut_by (request.ReadDir handle) old new e f = let z : ⊥ = cc in z
+no_cut_by (request.Rename from to) old new e f = let z : ⊥ = cc in z
+no_cut_by (request.PosixRename from to) old new e f = let z : ⊥ = cc in z
+no_cut_by (request.Link from to) old new e f = let z : ⊥ = cc in z
+
+settled_paths : (s : StoreState) (session : ℕ) (r : Request) (found : Located) (old new : Path) → target_of r ≡ OnPaths old new → IsSettled s session r found
+settled_paths s session r found old new e = record {
+  by_handle = λ number x is opens. absurd (no_handle_by r number old new e is);
+  on_path = λ parent node cuts at. absurd (no_cut_by r old new e cuts);
+}
 
 nothing_rises : IsStrictlySortedBy nat_cmp []
 unfolding IsStrictlySortedBy
@@ -103,7 +151,7 @@ nobody calls n (Some old) e = absurd (none_some old (sym e))
 
 -- ---- a call that moves nothing
 module _ (p : PartsView) (h : List Record) (sound : Sound p h) (c : Call) (at : call_at p.calls c.number ≡ Some c) (undecided : reply_of c ≡ None) (ways : Ways) (are_located : IsLocated p.store c.request ways)
-    (free : AreFree (holder_of p.store.nodes) c.number (route_of c.request) ways) (unmoved : moved_by (answer_to (replay h) c.session c.number c.moment c.request).changes ≡ None) where
+    (free : AreFree (holder_of p.store.nodes) c.number (route_of c.request) ways) (settled : IsSettled p.store c.session c.request ways.path) (unmoved : moved_by (answer_to (replay h) c.session c.number c.moment c.request).changes ≡ None) where
   above : 0 < c.number
   above = (sound.ledger.calls c.number c at).above
 
@@ -114,7 +162,7 @@ module _ (p : PartsView) (h : List Record) (sound : Sound p h) (c : Call) (at : 
   labels_by (ByHandle handle) e w f given mid served stays path l holder leads held other =
       label_by_handle p.store mid h c.number c.session c.moment c.request given sound.history.legal above fresh sound.history.tree served stays handle e path
   labels_by (OnPath x) e w f given mid served stays path l holder leads held other =
-      label_still p.store mid h c.number c.session c.moment c.request given sound.history.legal above fresh sound.history.tree served stays x e ways w f path l holder leads held other
+      label_still p.store mid h c.number c.session c.moment c.request given sound.history.legal above fresh sound.history.tree served stays x e ways w f path l holder leads (walker_holds p.store.nodes l holder held).1 other
   labels_by (OnPaths old new) e w f given mid served stays path l holder leads held other =
       let it = reached_node p.store (replay h) sound.history.tree path l leads in
       let some : label_at (replay h).names path ≡ Some it.0.label =
@@ -129,10 +177,11 @@ module _ (p : PartsView) (h : List Record) (sound : Sound p h) (c : Call) (at : 
     at = at;
     labels = subst (λ (x : List Record). LeavesLabels p x c) (sym (append-nil h)) (labels_by (target_of c.request) refl are_located free);
     located = are_located;
+    settled = settled;
     sure = nothing_sure h;
     records = nobody p.calls c.number (moved_by (answer_to (replay h) c.session c.number c.moment c.request).changes) unmoved;
     rising = nothing_rises;
-    each = λ k d ne is. inl is;
+    each = λ k d ne is. inl (inl is);
     sessions = refl;
     drawn = refl;
     joins = refl;
@@ -152,7 +201,7 @@ three_false true true c e f g = e
 three_false true false c e f g = absurd (let z : ⊥ = cc in z)
 three_false false b c e f g = absurd (let z : ⊥ = cc in z)
 
-none_of : (o : Option Reply) → is_none o ≡ true → o ≡ None
+pub none_of : (o : Option Reply) → is_none o ≡ true → o ≡ None
 none_of None e = refl
 none_of (Some given) e = absurd (let z : ⊥ = cc in z)
 
@@ -310,7 +359,7 @@ module _ (p : PartsView) (h : List Record) (sound : Sound p h) (fits : p.store.l
   own_ends : AreEnds old new at_parent.0 at_parent.1 at_parent.2
   own_ends =
       ends_are old new at_parent.0 at_parent.1 at_parent.2
-      (subst (λ (r : Route). IsPosition r (stage.Ends at_parent.0 at_parent.1 at_parent.2)) route_is (subst (λ (g : Stage). IsPosition (route_of c.request) g) at_parent.3 (sound.coupled.positions c.number c at)))
+      (subst (λ (r : Route). IsPosition r (stage.Ends at_parent.0 at_parent.1 at_parent.2)) route_is (subst (λ (g : Stage). IsPosition (route_of c.request) g) at_parent.3 (sound.coupled.positions c.number c at undecided)))
 
   own_spots : spots_in p.calls c.number ≡ spots_of (Between old new) (stage.Ends at_parent.0 at_parent.1 at_parent.2)
   own_spots = ap (λ (o : Option Call). option_map_or spots_at o []) at ∙ (λ i. spots_of (route_is i) (at_parent.3 i))
@@ -410,7 +459,7 @@ module _ (p : PartsView) (h : List Record) (sound : Sound p h) (fits : p.store.l
         at = is_back k d.0 d.1 d.2;
         undecided = reply_is (at_stage stage.Fresh d.0) ∙ sym (reply_is d.0) ∙ t.1;
         fresh = refl;
-        below = lies_by k t.0 (route_of d.0.request) d.0.stage (sound.coupled.positions k d.0 d.1) (ap (λ (o : Option Call). option_map_or spots_at o []) d.1) t.2;
+        below = lies_by k t.0 (route_of d.0.request) d.0.stage (sound.coupled.positions k d.0 d.1 t.1) (ap (λ (o : Option Call). option_map_or spots_at o []) d.1) t.2;
       }
 
   -- ---- nobody is left at the old path or below it
@@ -422,7 +471,7 @@ module _ (p : PartsView) (h : List Record) (sound : Sound p h) (fits : p.store.l
         let waits : is_none (reply_of d) ≡ true =
         elim (reply_of d) as (λ x. reply_of d ≡ x → is_none x ≡ true) [
           | None ↦ λ r. refl
-          | Some given ↦ λ r. absurd (subst (λ (g : Stage). Holds (spots_of (route_of d.request) g) s) (sound.coupled.waiting k d given is r) hold)
+          | Some given ↦ λ r. absurd (subst (λ (x : List Spot). Holds x s) (rests_none (route_of d.request) d.stage (sound.coupled.waiting k d given is r)) hold)
         ] refl in
         three_false (not (nat_eq k c.number)) (is_none (reply_of d)) (has_passed d old) e (apart_test k c.number ne) waits
   ]
@@ -442,14 +491,14 @@ module _ (p : PartsView) (h : List Record) (sound : Sound p h) (fits : p.store.l
   pub all : HelpedAll old b m h numbers
   all = help_all numbers old b m h back.sound clear (let e = back.look_ups in omega (arith, e, fits)) ready (rising_apart numbers rise) helps
 
-  not_these : (k : ℕ) (d : Call) → call_at p.calls k ≡ Some d → test (k, d) ≡ false → call_at m.calls k ≡ Some d
-  not_these k d is e = all.others k (one_is k d is ∙ e) ∙ in_b k d is ∙ ap (λ x. back_if x (Some d)) e
+  not_these : (k : ℕ) (d : Call) → call_at p.calls k ≡ Some d → test (k, d) ≡ false → IsStill m (HasCut all.helped) k d
+  not_these k d is e = all.others k d (one_is k d is ∙ e) (in_b k d is ∙ ap (λ x. back_if x (Some d)) e)
 
   at_m : call_at m.calls c.number ≡ Some c
-  at_m = not_these c.number c at (elim (test (c.number, c)) as (λ y. test (c.number, c) ≡ y → y ≡ false) [
+  at_m = still_undecided p m h sound (HasCut all.helped) c.number c at undecided (not_these c.number c at (elim (test (c.number, c)) as (λ y. test (c.number, c) ≡ y → y ≡ false) [
     | true ↦ λ e. absurd ((tests c.number c e).0 refl)
     | false ↦ λ e. refl
-  ] refl)
+  ] refl))
 
   now : Sound m (h ++ all.helped)
   now = all.led.sound
@@ -458,7 +507,7 @@ module _ (p : PartsView) (h : List Record) (sound : Sound p h) (fits : p.store.l
   module _ (given : Reply) (mid : StoreState)
       (served : IsRefused m.store mid (replay (h ++ all.helped)) given ⊎ IsCarriedOut mid (replay (h ++ all.helped)) (answer_to (replay (h ++ all.helped)) c.session c.number c.moment c.request) given)
       (stays : NodesStay c.number m.store mid)
-      (path : Path) (l holder : ℕ) (leads : walk (entry_of m.store.nodes) m.store.root path ≡ Some l) (held : holder_of m.store.nodes l ≡ Some holder) (other : c.number ≢ holder) where
+      (path : Path) (l holder : ℕ) (leads : walk (entry_of m.store.nodes) m.store.root path ≡ Some l) (held : walker_of m.store.nodes l ≡ Some holder) (other : c.number ≢ holder) where
     the : IsNodeOf (spots_in m.calls holder) l
     the = now.coupled.walks.holds l holder held
 
@@ -475,7 +524,7 @@ module _ (p : PartsView) (h : List Record) (sound : Sound p h) (fits : p.store.l
         let held_in_p = in_p holder the.spot held_in_b in
         let way = located_at p.store.nodes new p.store.root p.store.root the.spot.node (ap (walk (entry_of p.store.nodes) p.store.root) (sym (same_path ∙ same)) ∙ (sound.coupled.walks.leads holder the.spot held_in_p).names) in
         let free_at : IsFree (holder_of p.store.nodes) c.number the.spot.node = subst (λ (f : Located). IsFreeThere (holder_of p.store.nodes) c.number f) (new_is ∙ way.1) free_new in
-        other (free_at holder (sound.coupled.walks.held holder the.spot held_in_p))
+        other (free_at holder (walker_holds p.store.nodes the.spot.node holder (sound.coupled.walks.held holder the.spot held_in_p)).1)
 
     label_some : IsSome (label_at (replay (h ++ all.helped)).names path)
     label_some =
@@ -532,6 +581,7 @@ module _ (p : PartsView) (h : List Record) (sound : Sound p h) (fits : p.store.l
     at = at_m;
     labels = label_there;
     located = located_m;
+    settled = settled_paths m.store c.session c.request ways.path old new paths;
     sure = all.led.sure;
     records = subst (λ (o : Option Path). AreRecordsOf p.calls (overtaken p.calls c.number o) all.helped) (sym moved)
         (records_on p.calls b.calls numbers all.helped
@@ -551,13 +601,13 @@ module _ (p : PartsView) (h : List Record) (sound : Sound p h) (fits : p.store.l
 
 -- ---- both
 pub prepared : (p : PartsView) (h : List Record) → Sound p h → p.store.look_ups < 2 ^ 64 → (c : Call) → call_at p.calls c.number ≡ Some c → reply_of c ≡ None → (ways : Ways) → IsLocated p.store c.request ways
-    → AreFree (holder_of p.store.nodes) c.number (route_of c.request) ways → HoldsParent (route_of c.request) c.stage ways → (m : PartsView) → Overtakes p m c → Prepared p m h c ways
-prepared p h sound fits c at undecided ways are_located free holds m overtakes =
+    → AreFree (holder_of p.store.nodes) c.number (route_of c.request) ways → HoldsParent (route_of c.request) c.stage ways → IsSettled p.store c.session c.request ways.path → (m : PartsView) → Overtakes p m c → Prepared p m h c ways
+prepared p h sound fits c at undecided ways are_located free holds settled m overtakes =
     let o = overtakes (replay h) sound.history.tree in
     elim (moved_by (answer_to (replay h) c.session c.number c.moment c.request).changes) as (λ x. moved_by (answer_to (replay h) c.session c.number c.moment c.request).changes ≡ x → Prepared p m h c ways) [
       | None ↦ λ e.
           let none : o.0 ≡ [] = o.1 ∙ ap (overtaken p.calls c.number) e in
-          prepared_unmoved p h sound c at undecided ways are_located free e m (subst (λ (ns : List ℕ). HelpsAll (all_set_back p ns) ns m) none o.2)
+          prepared_unmoved p h sound c at undecided ways are_located free settled e m (subst (λ (ns : List ℕ). HelpsAll (all_set_back p ns) ns m) none o.2)
       | Some x ↦ λ e. by_target x e (target_of c.request) refl
     ] refl
   where

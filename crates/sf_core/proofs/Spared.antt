@@ -179,7 +179,7 @@ module _ (old mid : StoreState) (history : List Record) (n session moment : ℕ)
   same_node l id was node at label None e is =
       let some = object_there old (replay history) keeps l was at in
       let none = no_object history n legal above fresh in
-      let same : n ≡ was.label = sym is.1 ∙ label in
+      let same : n ≡ was.label = sym is.0.1 ∙ label in
       let x = ap (object_of (replay history).objects) same in
       absurd (let z : ⊥ = cc in z)
   same_node l id was node at label (Some w) e is = one_node old (replay history) keeps id l w was e at (sym is.1 ∙ label)

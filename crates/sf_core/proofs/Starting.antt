@@ -11,7 +11,7 @@ use Rattle.sf_call.specs.declared.call.Call.{Call}
 use Rattle.sf_call.specs.declared.record.Record.{Record}
 use Rattle.sf_call.specs.Histories.{replay}
 use Rattle.sf_book.specs.Books.{BookView}
-use Rattle.sf_inode.specs.Stores.{StoreState, holder_of}
+use Rattle.sf_inode.specs.Stores.{StoreState}
 use Rattle.sf_keeps.specs.Keeps.{Keeps}
 use Rattle.sf_coupling.specs.Walks.{Spot, scene, AreWalks}
 use Rattle.sf_coupling.proofs.Laws.{same_or_not}
@@ -20,7 +20,7 @@ use Rattle.sf_walk.proofs.Laws.{starts}
 use Rattle.sf_core.specs.Cores.{call_at, session_at, last_number}
 use Rattle.sf_core.specs.Progress.{reply_of, undecided_in, new_call}
 use Rattle.sf_core.specs.Parts.{PartsView, seen}
-use Rattle.sf_core.specs.Sound.{spots_at, spots_in, IsCallOf, Ledger, Sound}
+use Rattle.sf_core.specs.Sound.{walker_of, spots_at, spots_in, IsCallOf, Ledger, Sound}
 use Rattle.sf_core.specs.Stepping.{session_set_by, set_back, set_back_by, BeginState}
 use Rattle.sf_core.proofs.Maps.{some_eq, none_some, one_if, put_same, put_other, count_put, passing_put, rise_put}
 use Rattle.sf_core.proofs.Updates.{Updates, updates_set}
@@ -28,6 +28,7 @@ use Rattle.sf_core.specs.Events.{Begins}
 use Rattle.sf_core.proofs.Told.{slot_idle, slot_busy, slots_kept, all_left, same_records}
 use Rattle.sf_core.proofs.Ledgers.{ledger_changed}
 use Rattle.sf_core.proofs.Histories.{IsWritten, is_undecided, history_changed}
+use Rattle.sf_core.proofs.Writers.{copied_still}
 use Rattle.sf_core.proofs.Unrecorded.{reset_sound}
 
 -- a call that is set back
@@ -110,17 +111,18 @@ module _ (p q : PartsView) (h : List Record) (sound : Sound p h) (session : ℕ)
         (let a = is.few in let b = sessions.size in omega (arith, a, b));
     coupled = record {
       walks =
-          subst (λ (s : StoreState). AreWalks (scene (terrain s) (spots_in q.calls) (holder_of s.nodes))) (sym begun.store)
-          (subst (λ (f : ℕ → List Spot). AreWalks (scene (terrain p.store) f (holder_of p.store.nodes))) (λ i m. sym (spots_same m) i) sound.coupled.walks);
-      positions = λ m d at. elim (same_or_not m (p.drawn + 1)) [
+          subst (λ (s : StoreState). AreWalks (scene (terrain s) (spots_in q.calls) (walker_of s.nodes))) (sym begun.store)
+          (subst (λ (f : ℕ → List Spot). AreWalks (scene (terrain p.store) f (walker_of p.store.nodes))) (λ i m. sym (spots_same m) i) sound.coupled.walks);
+      positions = λ m d at none. elim (same_or_not m (p.drawn + 1)) [
         | inl e ↦ subst (λ (x : Call). IsPosition (route_of x.request) x.stage) (own m d e at) (starts request)
-        | inr ne ↦ sound.coupled.positions m d (sym (calls.rest m ne) ∙ at)
+        | inr ne ↦ sound.coupled.positions m d (sym (calls.rest m ne) ∙ at) none
       ];
       waiting = λ m d g at some. elim (same_or_not m (p.drawn + 1)) [
-        | inl e ↦ ap (λ (x : Call). x.stage) (sym (own m d e at))
+        | inl e ↦ inl (ap (λ (x : Call). x.stage) (sym (own m d e at)))
         | inr ne ↦ sound.coupled.waiting m d g (sym (calls.rest m ne) ∙ at) some
       ];
     };
+    copied = copied_still p q (p.drawn + 1) None (Some c) sound.copied calls refl refl begun.store;
     ledger =
         ledger_changed p q sound.ledger (p.drawn + 1) session None (Some c) (Some None) (Some (Some (p.drawn + 1))) calls sessions
         (λ m d ne at e. none_some m (some_eq None (Some m) (sym idle ∙ ap (session_at p.sessions) (sym e) ∙ (sound.ledger.calls m d at).session)))

@@ -3,6 +3,8 @@ use Rattle.std.specs.Prelude.{◌≡◌, ◌≢◌, ◌⊎◌, ◌<◌, ◌≤�
 use Rattle.std.proofs.Common.{sym, ap, subst, ◌∙◌, inl, inr, arith}
 use Rattle.std.proofs.lemmas.Bool.{cases_lt}
 use Rattle.sf_call.specs.declared.call.Call.{Call}
+use Rattle.sf_call.specs.declared.call.Stage.{Stage}
+use Rattle.sf_call.specs.declared.call.Stage.TheVariants as stage
 use Rattle.sf_call.specs.declared.record.Record.{Record}
 use Rattle.sf_coupling.proofs.Laws.{same_or_not}
 use Rattle.sf_reply.specs.declared.reply.Reply.{Reply}
@@ -11,8 +13,8 @@ use Rattle.sf_core.specs.declared.step.Step.TheVariants.{Moved, Blocked, Answere
 use Rattle.sf_core.specs.Lanes.{LaneView}
 use Rattle.sf_core.specs.Cores.{CoreView, Slot, slot_of}
 use Rattle.sf_core.specs.Cores.Slot.{Gone, Idle, Busy}
-use Rattle.sf_core.specs.Progress.{left_of, depth_of, IsBehind}
-use Rattle.sf_core.specs.Events.{OwnCall, Goes, IsHelped, Before, After, Fetches, Decides, Steps}
+use Rattle.sf_core.specs.Progress.{left_of, depth_of, IsCopying, IsBehind}
+use Rattle.sf_core.specs.Events.{OwnCall, Goes, Writes, CopiesBlock, IsHelped, IsFinished, Before, After, Fetches, Decides, Steps}
 use Rattle.sf_core.specs.Parts.{PartsView, seen}
 use Rattle.sf_core.specs.Sound.{IsCore}
 use Rattle.sf_core.specs.Stuck.{is_onward, CanGoOn, IsNeverStuck, left_in, left_below}
@@ -21,14 +23,35 @@ use Rattle.sf_core.proofs.Told.{busy_slot}
 
 -- ---- who is behind whom
 -- All that is said of it: it is so or not, it goes on, and no call is behind itself.
+copying_or_not : (g : Stage) → IsCopying g ⊎ (IsCopying g → ⊥)
+copying_or_not stage.Fresh = inr (λ copies. copies)
+copying_or_not (stage.At walked node) = inr (λ copies. copies)
+copying_or_not (stage.Ends common from to) = inr (λ copies. copies)
+copying_or_not (stage.Copies node left) = inl tt
+
 behind_or_not : (c d : Call) → IsBehind c d ⊎ (IsBehind c d → ⊥)
-behind_or_not c d = elim (cases_lt (depth_of c) (depth_of d)) [ inl less ↦ inl less | inr ge ↦ inr (λ less. omega (arith, less, ge)) ]
+behind_or_not c d = elim (copying_or_not c.stage) [
+  | inl copies ↦ inr (λ h. h.0 copies)
+  | inr not ↦ elim (copying_or_not d.stage) [
+    | inl copies ↦ inl (not, inl copies)
+    | inr neither ↦ elim (cases_lt (depth_of c) (depth_of d)) [
+      | inl less ↦ inl (not, inr less)
+      | inr ge ↦ inr (λ h. elim h.1 [ inl copies ↦ neither copies | inr less ↦ omega (arith, less, ge) ])
+    ]
+  ]
+]
 
 behind_on : (c d e : Call) → IsBehind c d → IsBehind d e → IsBehind c e
-behind_on c d e h k = omega (arith, h, k)
+behind_on c d e h k = (
+  h.0,
+  elim k.1 [
+    | inl copies ↦ inl copies
+    | inr more ↦ elim h.1 [ inl copies ↦ absurd (k.0 copies) | inr less ↦ inr (omega (arith, less, more)) ]
+  ],
+)
 
 not_behind_itself : (c : Call) → IsBehind c c → ⊥
-not_behind_itself c h = omega (arith, h)
+not_behind_itself c h = elim h.1 [ inl copies ↦ h.0 copies | inr less ↦ omega (arith, less) ]
 
 -- of the sessions below a number none has a call
 abbrev pub NoCall : CoreView → ℕ → Type 0
@@ -186,17 +209,37 @@ goes_falls v w lane c d n g below =
     let less = g.less in
     set_falls v w n lane.session (omega (arith, old, new, less)) (λ i ne. same_left (slot_of w i) (slot_of v i) (g.slot.others i ne)) below
 
+-- with the first step of a WRITE, and with one that copies a block
+pub writes_falls : (b : Before) (a : After) (c d : Call) (given : Reply) (n : ℕ) → Writes b a c d given → b.lane.session < n → left_below a.core n < left_below b.core n
+writes_falls b a c d given n w below =
+    let old = busy_left b.core b.lane.session c w.own.slot in
+    let new = busy_left a.core b.lane.session d w.slot.own in
+    let less = w.less in
+    set_falls b.core a.core n b.lane.session (omega (arith, old, new, less)) (λ i ne. same_left (slot_of a.core i) (slot_of b.core i) (w.slot.others i ne)) below
+
+pub copies_falls : (v w : CoreView) (lane : LaneView) (c d : Call) (n : ℕ) → CopiesBlock v w lane c d → lane.session < n → left_below w n < left_below v n
+copies_falls v w lane c d n b below =
+    let old = busy_left v lane.session c b.own.slot in
+    let new = busy_left w lane.session d b.slot.own in
+    let one = b.one in
+    set_falls v w n lane.session (omega (arith, old, new, one)) (λ i ne. same_left (slot_of w i) (slot_of v i) (b.slot.others i ne)) below
+
 -- and with one that answers
 pub fetches_falls : (b : Before) (a : After) (c : Call) (given : Reply) (n : ℕ) → Fetches b a c given → b.lane.session < n → left_below a.core n < left_below b.core n
 fetches_falls b a c given n f below =
     let old = busy_left b.core b.lane.session c f.own.slot in
     let new = idle_left a.core b.lane.session f.slot.own in
-    let some = f.some in
-    set_falls b.core a.core n b.lane.session (omega (arith, old, new, some)) (λ i ne. same_left (slot_of a.core i) (slot_of b.core i) (f.slot.others i ne)) below
+    let one = f.one in
+    set_falls b.core a.core n b.lane.session (omega (arith, old, new, one)) (λ i ne. same_left (slot_of a.core i) (slot_of b.core i) (f.slot.others i ne)) below
 
-helped_left : (v w : CoreView) (s : ℕ) (helped : List Record) → (slot_of w s ≡ slot_of v s) ⊎ IsHelped v w s helped → left_in (slot_of w s) ≤ left_in (slot_of v s)
+helped_left : (v w : CoreView) (s : ℕ) (helped : List Record) → (slot_of w s ≡ slot_of v s) ⊎ IsHelped v w s helped ⊎ IsFinished v w s helped → left_in (slot_of w s) ≤ left_in (slot_of v s)
 helped_left v w s helped (inl e) = same_left (slot_of w s) (slot_of v s) e
-helped_left v w s helped (inr h) =
+helped_left v w s helped (inr (inl h)) =
+    let old = busy_left v s h.before h.was in
+    let new = busy_left w s h.after h.now in
+    let less = h.less in
+    omega (arith, old, new, less)
+helped_left v w s helped (inr (inr h)) =
     let old = busy_left v s h.before h.was in
     let new = busy_left w s h.after h.now in
     let less = h.less in

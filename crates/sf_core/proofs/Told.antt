@@ -18,7 +18,7 @@ use Rattle.sf_walk.specs.Steps.WalksOn.{TakesRoot, PartsAtRoot, GoesOn, Parts, O
 use Rattle.sf_core.specs.Lanes.{LaneView}
 use Rattle.sf_core.specs.Cores.{CoreView, call_at, session_at, busy_with, slot_by, slot_of}
 use Rattle.sf_core.specs.Cores.Slot.{Idle, Busy}
-use Rattle.sf_core.specs.Progress.{reply_of, left_at, left_by, left_of, bound_of, new_call}
+use Rattle.sf_core.specs.Progress.{reply_of, left_at, left_by, left_of, bound_of, new_call, left_decided}
 use Rattle.sf_core.specs.Events.{OwnCall, KeepsRecords}
 use Rattle.sf_core.specs.Parts.{PartsView, seen}
 use Rattle.sf_core.specs.Sound.{Ledger}
@@ -76,13 +76,17 @@ pub same_book : (p q : PartsView) → q.book ≡ p.book → KeepsRecords (seen p
 same_book p q e = record { records = ap (λ (b : BookView). b.records) e; keep = ap (λ (b : BookView). b.keep) e; folded = ap (λ (b : BookView). b.folded) e }
 
 -- ---- what is left
-pub left_is : (c : Call) → reply_of c ≡ None → left_of c ≡ left_at (path_names c.request) c.stage
+pub left_is : (c : Call) → reply_of c ≡ None → left_of c ≡ left_at c.request c.stage
 unfolding left_of
-left_is c e = ap (left_by (path_names c.request) c.stage) e
+left_is c e = ap (left_by c.request c.stage) e
 
-pub left_one : (c : Call) (given : Reply) → reply_of c ≡ Some given → left_of c ≡ 1
+pub left_one : (c : Call) (given : Reply) → reply_of c ≡ Some given → c.stage ≡ stage.Fresh → left_of c ≡ 1
 unfolding left_of
-left_one c given e = ap (left_by (path_names c.request) c.stage) e
+left_one c given e fresh = ap (left_by c.request c.stage) e ∙ ap left_decided fresh
+
+pub left_copying : (c : Call) (given : Reply) (node left : ℕ) → reply_of c ≡ Some given → c.stage ≡ stage.Copies node left → left_of c ≡ left
+unfolding left_of
+left_copying c given node left e copies = ap (left_by c.request c.stage) e ∙ ap left_decided copies
 
 pub undecided_new : (number session moment : ℕ) (request : Request) → reply_of (new_call number session moment request) ≡ None
 undecided_new number session moment request = reply_is (new_call number session moment request)
@@ -100,7 +104,7 @@ fit_by (OnPaths old new) = elim (is_rooted old new) as (λ a. names_on (if a the
   | false ↦ elim (are_nested old new) as (λ b. names_on (if b then Along old else Between old new) ≤ length old + length new) [ true ↦ omega arith | false ↦ omega arith ]
 ]
 
-names_fit : (r : Request) → names_on (route_of r) ≤ path_names r
+pub names_fit : (r : Request) → names_on (route_of r) ≤ path_names r
 names_fit r = fit_by (target_of r)
 
 -- how many names a call has walked, on both ways
@@ -108,6 +112,7 @@ abbrev pub walked_in : Stage → ℕ
 walked_in stage.Fresh = 0
 walked_in (stage.At walked node) = walked
 walked_in (stage.Ends common from to) = from.walked + to.walked
+walked_in (stage.Copies node left) = 0
 
 walked_on : (r : Route) (at : Stage) → IsPosition r at → walked_in at ≤ names_on r
 walked_on r at (Starts o is) = omega arith
@@ -119,15 +124,19 @@ pub walked_few : (c : Call) (at : Stage) → IsPosition (route_of c.request) at 
 walked_few c at is = let a = walked_on (route_of c.request) at is in let b = names_fit c.request in omega (arith, a, b)
 
 -- some steps are left, and fewer after each one
-pub some_left : (names : ℕ) (at : Stage) → walked_in at ≤ names → 0 < left_at names at
-some_left names stage.Fresh few = omega arith
-some_left names (stage.At walked node) few = omega (arith, few)
-some_left names (stage.Ends common from to) few = omega (arith, few)
+some_by : (r : Request) (g : Route) (at : Stage) → IsPosition g at → walked_in at ≤ path_names r → 0 < left_at r at
+some_by r g at (Starts o is) few = omega arith
+some_by r g at (IsOn path walked node less) few = omega (arith, few)
+some_by r g at (IsBefore old new walked node count part less) few = omega (arith, few)
+some_by r g at (IsApart old new common from to is) few = omega (arith, few)
 
-pub less_left : (names : ℕ) (at after : Stage) → WalksOn at after → walked_in after ≤ names → left_at names after < left_at names at
-less_left names at after (TakesRoot node) few = omega arith
-less_left names at after (PartsAtRoot to e) few = omega (arith, e, few)
-less_left names at after (GoesOn walked node to e) few = omega (arith, e, few)
-less_left names at after (Parts walked node to e) few = omega (arith, e, few)
-less_left names at after (OldGoesOn common old new to e) few = omega (arith, e, few)
-less_left names at after (NewGoesOn common old new to e) few = omega (arith, e, few)
+pub some_left : (c : Call) (at : Stage) → IsPosition (route_of c.request) at → 0 < left_at c.request at
+some_left c at is = some_by c.request (route_of c.request) at is (walked_few c at is)
+
+pub less_left : (r : Request) (at after : Stage) → WalksOn at after → walked_in after ≤ path_names r → left_at r after < left_at r at
+less_left r at after (TakesRoot node) few = omega arith
+less_left r at after (PartsAtRoot to e) few = omega (arith, e, few)
+less_left r at after (GoesOn walked node to e) few = omega (arith, e, few)
+less_left r at after (Parts walked node to e) few = omega (arith, e, few)
+less_left r at after (OldGoesOn common old new to e) few = omega (arith, e, few)
+less_left r at after (NewGoesOn common old new to e) few = omega (arith, e, few)

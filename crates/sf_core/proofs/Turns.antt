@@ -1,9 +1,10 @@
 -- What a step makes of a core, of its history and of the lane.
-use Rattle.std.specs.Prelude.{◌≡◌, ◌≢◌, ◌<◌, ◌≤◌, ◌+◌, ◌-◌, ◌^◌, ℕ, min, List, [], ◌++◌, length, Option, Some, None, refl}
+use Rattle.std.specs.Prelude.{◌≡◌, ◌≢◌, ◌⊎◌, ◌<◌, ◌≤◌, ◌+◌, ◌-◌, ◌^◌, ℕ, min, true, false, List, [], ◌++◌, length, Option, Some, None, refl}
 use Rattle.std.specs.Option.{option_map_or}
-use Rattle.std.proofs.Common.{sym, ap, subst, ◌∙◌, inl, arith, append-nil}
+use Rattle.std.proofs.Common.{sym, ap, subst, ◌∙◌, inl, inr, arith, append-nil}
 use Rattle.sf_reply.specs.declared.reply.Reply.{Reply}
 use Rattle.sf_call.specs.Answers.{Answered as Answer}
+use Rattle.sf_call.specs.declared.request.Request.{Request}
 use Rattle.sf_call.specs.declared.call.Call.{Call}
 use Rattle.sf_call.specs.declared.call.Stage.{Stage}
 use Rattle.sf_call.specs.declared.call.Stage.TheVariants as stage
@@ -11,27 +12,33 @@ use Rattle.sf_call.specs.declared.record.Record.{Record}
 use Rattle.sf_call.specs.Unanswered.{at_stage}
 use Rattle.sf_book.proofs.Laws.{deeds-append}
 use Rattle.sf_inode.specs.Nodes.{with_holder}
-use Rattle.sf_inode.specs.Stores.{StoreState, holder_of, edited}
+use Rattle.sf_inode.specs.Stores.{StoreState, edited}
 use Rattle.sf_coupling.specs.Walks.{Spot, Holds, scene}
 use Rattle.sf_walk.specs.declared.walking.Walk.TheVariants as walked
-use Rattle.sf_walk.specs.Routes.{nodes_of, route_of, spots_of, terrain}
-use Rattle.sf_walk.specs.Ways.{names_of as path_names}
-use Rattle.sf_walk.specs.Steps.{entered, handed_over, walker}
+use Rattle.sf_walk.specs.Routes.{IsPosition, nodes_of, route_of, spots_of, terrain}
+use Rattle.sf_walk.specs.Steps.{entered, handed_over, walker, WalksOn}
+use Rattle.sf_walk.specs.Files.{WaitsForFile, file_handle}
 use Rattle.sf_walk.proofs.Laws.{ground_stays}
 use Rattle.sf_core.specs.declared.step.Step.{Step}
 use Rattle.sf_core.specs.declared.step.Step.TheVariants as step
 use Rattle.sf_core.specs.Lanes.{LaneView, at_rest}
 use Rattle.sf_core.specs.Cores.{call_at, session_at}
-use Rattle.sf_core.specs.Progress.{reply_of, undecided_in}
+use Rattle.sf_core.specs.Progress.{reply_of, is_write, undecided_in, IsBehind, IsCopying, CopiesInto}
 use Rattle.sf_core.specs.Histories.{IsHistory}
-use Rattle.sf_core.specs.Events.{OwnCall, Goes, IsBlocked, Fetches, Steps, StepsOn}
+use Rattle.sf_core.specs.Events.{OwnCall, Goes, HoldsWanted, HoldsFile, LooksOnly, IsBlocked, Fetches, Steps, StepsOn}
 use Rattle.sf_core.specs.Parts.{PartsView, seen}
-use Rattle.sf_core.specs.Sound.{spots_at, spots_in, Sound, IsCore}
+use Rattle.sf_core.specs.Sound.{walker_of, spots_at, spots_in, Sound, IsCore}
 use Rattle.sf_core.specs.Stepping.{session_set_by, Walked, FetchState}
 use Rattle.sf_core.proofs.Maps.{reply_is}
 use Rattle.sf_core.proofs.Updates.{Updates, updates_set, updates_removed, updates_staged}
 use Rattle.sf_core.proofs.LookUps.{looks_between, looks_of_looked}
 use Rattle.sf_core.proofs.Ledgers.{other_session, other_call}
+use Rattle.sf_core.proofs.Walkers.{rests_none}
+use Rattle.sf_core.proofs.Writers.{writer_is}
+use Rattle.sf_core.proofs.SparedFiles.{file_writer}
+use Rattle.sf_core.proofs.CopySteps.{is_a_write, is_write_by}
+use Rattle.sf_core.proofs.FreeFiles.{no_handle_moved}
+use Rattle.sf_core.proofs.Finished.{not_copying}
 use Rattle.sf_core.proofs.Unrecorded.{looked_sound, moved_sound, blocked_wants, fetched_sound}
 use Rattle.sf_core.proofs.Deeper.{looks_deeper}
 use Rattle.sf_core.proofs.Backing.{let_go_looks}
@@ -40,7 +47,7 @@ use Rattle.sf_core.proofs.Told.{slot_busy, slot_idle, slots_kept, slot_kept, own
 -- ---- histories
 -- parts that are a core's are sound by each history that it has
 pub sound_of : (p : PartsView) → IsCore p → (h : List Record) → IsHistory (seen p) h → Sound p h
-sound_of p core h is = record { history = is; coupled = core.sound.coupled; ledger = core.sound.ledger }
+sound_of p core h is = record { history = is; coupled = core.sound.coupled; copied = core.sound.copied; ledger = core.sound.ledger }
 
 -- an event adds records, and a sound core is sound by its history with them
 abbrev pub Adds : PartsView → PartsView → ((h added : List Record) → Type 0) → Type 0
@@ -82,6 +89,7 @@ entered_looks : (g : Stage) (s : StoreState) → s.look_ups < 2 ^ 64 → (s.look
 entered_looks stage.Fresh s fits = (omega arith, omega arith)
 entered_looks (stage.At v above) s fits = one_more s fits
 entered_looks (stage.Ends common from to) s fits = one_more s fits
+entered_looks (stage.Copies node left) s fits = one_more s fits
 
 moved_looks : (n : ℕ) (was now : Stage) (node : ℕ) (s : StoreState) → s.look_ups < 2 ^ 64
     → (s.look_ups ≤ (handed_over n was now node (entered was s)).look_ups) × ((handed_over n was now node (entered was s)).look_ups ≤ s.look_ups + 2)
@@ -89,6 +97,13 @@ moved_looks n was now node s fits =
     let e = entered_looks was s fits in
     let f = let_go_looks (nodes_of now) (nodes_of was) (edited (with_holder (Some n)) (entered was s) node) in
     (let a = e.0 in omega (arith, a, f), let b = e.1 in omega (arith, b, f))
+
+-- a call that walks is no WRITE
+not_write : (r : Request) (g after : Stage) → IsPosition (route_of r) after → WalksOn g after → is_write r ≡ false
+not_write r g after is on = elim (is_write r) as (λ b. is_write r ≡ b → b ≡ false) [
+  | true ↦ λ e. let w = is_a_write r (is_write_by r e) in absurd (no_handle_moved r g after is on w.0 (ap file_handle w.3))
+  | false ↦ λ e. refl
+] refl
 
 -- ---- the lane's call has its turn
 pub record IsTurn (p : PartsView) (lane : LaneView) (c : Call) : Type 0 where
@@ -114,7 +129,7 @@ module _ (p : PartsView) (lane : LaneView) (c : Call) (turn : IsTurn p lane c) w
   apart h sound s m ne at = other_call p sound.ledger c.number c turn.at s m (λ e. ne (e ∙ turn.session)) at
 
   -- ---- a reply is fetched
-  module _ (given : Reply) (decided : reply_of c ≡ Some given) (q : PartsView) (fetched : FetchState p q lane.session c.number) (a : Answer) (is : a ≡ record { number = c.number; session = lane.session; reply = given }) where
+  module _ (given : Reply) (decided : reply_of c ≡ Some given) (fresh : c.stage ≡ stage.Fresh) (q : PartsView) (fetched : FetchState p q lane.session c.number) (a : Answer) (is : a ≡ record { number = c.number; session = lane.session; reply = given }) where
     fetched_told : (h : List Record) → Sound p h → Fetches (record { core = seen p; history = h; lane = lane }) (record { core = seen q; added = []; lane = at_rest lane }) c given
     fetched_told h sound =
         let calls = updates_removed p.calls c.number c turn.at sound.ledger.calls_rise in
@@ -123,7 +138,7 @@ module _ (p : PartsView) (lane : LaneView) (c : Call) (turn : IsTurn p lane c) w
         record {
           own = own h sound;
           decided = decided;
-          some = let one = left_one c given decided in omega (arith, one);
+          one = left_one c given decided fresh;
           recorded = sound.history.decided c.number c given turn.at decided;
           none = refl;
           slot = record {
@@ -139,7 +154,7 @@ module _ (p : PartsView) (lane : LaneView) (c : Call) (turn : IsTurn p lane c) w
 
     pub fetched_step : IsStep p lane (step.Answered a) q (at_rest lane)
     fetched_step = adds_none p q _ (λ h sound. (
-      fetched_sound p q h sound c turn.at given decided (subst (λ s. FetchState p q s c.number) (sym turn.session) fetched),
+      fetched_sound p q h sound c turn.at given decided fresh (subst (λ s. FetchState p q s c.number) (sym turn.session) fetched),
       (
         (c, inl (subst (λ (g : Reply). Fetches (record { core = seen p; history = h; lane = lane }) (record { core = seen q; added = []; lane = at_rest lane }) c g) (sym (ap (λ (x : Answer). x.reply) is)) (fetched_told h sound))),
         record { session = ap (λ (x : Answer). x.session) is; number = turn.call ∙ ap Some (sym (ap (λ (x : Answer). x.number) is)); lane = refl },
@@ -163,9 +178,10 @@ module _ (p : PartsView) (lane : LaneView) (c : Call) (turn : IsTurn p lane c) w
             same = record { number = refl; session = refl; moment = refl; request = refl };
             before = undecided;
             after = none;
+            no_write = not_write c.request c.stage after w.advances.position w.advances.walks;
             walks = w.advances.walks;
-            less = let less = less_left (path_names c.request) c.stage after w.advances.walks few in omega (arith, less, now, left_is c undecided);
-            some = let some = some_left (path_names c.request) after few in omega (arith, some, now);
+            less = let less = less_left c.request c.stage after w.advances.walks few in omega (arith, less, now, left_is c undecided);
+            some = let some = some_left c after w.advances.position in omega (arith, some, now);
             slot = record {
               own = slot_busy (seen q) lane.session c.number (at_stage after c) (ss lane.session ∙ busy h sound) calls.now_is;
               others = slots_kept (seen p) (seen q) c.number lane.session calls.rest (λ s ne. ss s) (apart h sound);
@@ -182,10 +198,29 @@ module _ (p : PartsView) (lane : LaneView) (c : Call) (turn : IsTurn p lane c) w
       moved_step = adds_none p q _ (λ h sound. (
         subst (λ (x : PartsView). Sound x h) (λ i. record { store = q.store; book = sym w.book i; sessions = sym w.sessions i; calls = sym w.calls i; drawn = sym w.drawn i; joins = sym w.joins i })
             (moved_sound p h sound c turn.at undecided q.store after w.advances),
-        ((c, at_stage after c, moved_told h sound), record { none = refl; lane = refl }),
+        inl ((c, at_stage after c, moved_told h sound), record { none = refl; lane = refl }),
       ))
 
     -- ---- it waits
+    told_by : (h : List Record) → Sound p h → (holder : ℕ) (d : Call) → call_at p.calls holder ≡ Some d → c.number ≢ holder → (reply_of d ≡ None) ⊎ IsCopying d.stage → HoldsWanted p.store c d ⊎ HoldsFile p.store c d → IsBehind c d
+        → LooksOnly (seen p) (seen q) 2 → IsBlocked (seen p) (seen q) lane c holder
+    told_by h sound holder d at_d other holds wanted deeper looks =
+        let is = sound.ledger.calls holder d at_d in
+        record {
+          own = own h sound;
+          undecided = undecided;
+          other = d.session;
+          call = d;
+          apart = λ e. other_session p sound.ledger c.number c turn.at holder d (λ same. other (sym same)) at_d (e ∙ sym turn.session);
+          slot = slot_busy (seen p) d.session holder d is.session at_d;
+          holds = holds;
+          number = is.is_number;
+          wanted = wanted;
+          deeper = deeper;
+          looks = looks;
+        }
+
+    -- for a node that the next name leads to
     module _ (holder : ℕ) (w : Walked p q c c.number (walked.Blocked holder)) where
       the_holder : (spot : Spot) → Holds (spots_in p.calls holder) spot → (d : Call) × (call_at p.calls holder ≡ Some d) × Holds (spots_at d) spot
       the_holder spot hold = elim (call_at p.calls holder) as (λ o. call_at p.calls holder ≡ o → Holds (option_map_or spots_at o []) spot → (d : Call) × (o ≡ Some d) × Holds (spots_at d) spot) [
@@ -197,41 +232,46 @@ module _ (p : PartsView) (lane : LaneView) (c : Call) (turn : IsTurn p lane c) w
       not_decided : (h : List Record) → Sound p h → (d : Call) (spot : Spot) → call_at p.calls holder ≡ Some d → Holds (spots_at d) spot → reply_of d ≡ None
       not_decided h sound d spot at hold = elim (reply_of d) as (λ o. reply_of d ≡ o → o ≡ None) [
         | None ↦ λ e. refl
-        | Some given ↦ λ e. absurd (subst (λ (g : Stage). Holds (spots_of (route_of d.request) g) spot) (sound.coupled.waiting holder d given at e) hold)
+        | Some given ↦ λ e. absurd (subst (λ (x : List Spot). Holds x spot) (rests_none (route_of d.request) d.stage (sound.coupled.waiting holder d given at e)) hold)
       ] refl
 
+      looks_few : LooksOnly (seen p) (seen q) 2
+      looks_few = let looks = looks_between p.store q.store 1 turn.fits (looks_of_looked p.store q.store 1 w.advances.looked) in record {
+        records = same_book p q w.book;
+        drawn = w.drawn;
+        joins = w.joins;
+        sessions = w.sessions;
+        calls = w.calls;
+        slots = λ s. slot_kept (seen p) (seen q) s (session_at p.sessions s) refl (ap (λ ss. session_at ss s) w.sessions) (λ m f. ap (λ cs. call_at cs m) w.calls);
+        joined = ap (λ (ss : List (ℕ × Option ℕ)). length ss) w.sessions;
+        more = looks.0;
+        few = let b = looks.1 in omega (arith, b);
+      }
+
       blocked_told : (h : List Record) → Sound p h → IsBlocked (seen p) (seen q) lane c holder
-      blocked_told h sound =
-          let wants = blocked_wants p h sound c turn.at undecided q.store holder w.advances in
-          let d = the_holder wants.0 wants.4 in
-          let is = sound.ledger.calls holder d.0 d.1 in
-          let looks = looks_between p.store q.store 1 turn.fits (looks_of_looked p.store q.store 1 w.advances.looked) in
-          let spots : (n : ℕ) (x : Call) → call_at p.calls n ≡ Some x → spots_in p.calls n ≡ spots_of (route_of x.request) x.stage = λ n x at. ap (λ (o : Option Call). option_map_or spots_at o []) at in
-          record {
-            own = own h sound;
-            undecided = undecided;
-            other = d.0.session;
-            call = d.0;
-            apart = λ e. other_session p sound.ledger c.number c turn.at holder d.0 (λ same. w.advances.other (sym same)) d.1 (e ∙ sym turn.session);
-            slot = slot_busy (seen p) d.0.session holder d.0 is.session d.1;
-            holds = not_decided h sound d.0 wants.0 d.1 d.2;
-            number = is.is_number;
-            wanted = record { spot = wants.0; looks = wants.1; leads = wants.2; held = wants.3 ∙ ap Some (sym is.is_number); came = d.2 };
-            deeper =
-                looks_deeper (scene (terrain p.store) (spots_in p.calls) (holder_of p.store.nodes)) sound.coupled.walks c.number holder w.advances.other (route_of c.request) (route_of d.0.request) c.stage d.0.stage
-                (spots c.number c turn.at) (sound.coupled.positions c.number c turn.at) (spots holder d.0 d.1) (sound.coupled.positions holder d.0 d.1) wants.0 wants.1 wants.4;
-            looks = record {
-              records = same_book p q w.book;
-              drawn = w.drawn;
-              joins = w.joins;
-              sessions = w.sessions;
-              calls = w.calls;
-              slots = λ s. slot_kept (seen p) (seen q) s (session_at p.sessions s) refl (ap (λ ss. session_at ss s) w.sessions) (λ m f. ap (λ cs. call_at cs m) w.calls);
-              joined = ap (λ (ss : List (ℕ × Option ℕ)). length ss) w.sessions;
-              more = looks.0;
-              few = let b = looks.1 in omega (arith, b);
-            };
-          }
+      blocked_told h sound = elim (blocked_wants p h sound c turn.at undecided q.store holder w.advances) [
+        | inl wants ↦
+            let d = the_holder wants.0 wants.4 in
+            let spots : (n : ℕ) (x : Call) → call_at p.calls n ≡ Some x → spots_in p.calls n ≡ spots_of (route_of x.request) x.stage = λ n x at. ap (λ (o : Option Call). option_map_or spots_at o []) at in
+            let none = not_decided h sound d.0 wants.0 d.1 d.2 in
+            told_by h sound holder d.0 d.1 w.advances.other (inl none)
+            (inl (record { spot = wants.0; looks = wants.1; leads = wants.2; held = wants.3 ∙ ap Some (sym (sound.ledger.calls holder d.0 d.1).is_number); came = inl d.2 })) (
+              not_copying p h sound c.number c turn.at undecided,
+              inr (looks_deeper (scene (terrain p.store) (spots_in p.calls) (walker_of p.store.nodes)) sound.coupled.walks c.number holder w.advances.other (route_of c.request) (route_of d.0.request) c.stage d.0.stage
+                  (spots c.number c turn.at) (sound.coupled.positions c.number c turn.at undecided) (spots holder d.0 d.1) (sound.coupled.positions holder d.0 d.1 none) wants.0 wants.1 wants.4),
+            ) looks_few
+        | inr f ↦
+            let copies : IsCopying f.0.stage = subst IsCopying (sym f.3) tt in
+            told_by h sound holder f.0 f.2 w.advances.other (inr copies)
+            (inl (record {
+              spot = record { path = w.advances.to; node = w.advances.node };
+              looks = w.advances.looks;
+              leads = w.advances.leads;
+              held = w.advances.held ∙ ap Some (sym (sound.ledger.calls holder f.0 f.2).is_number);
+              came = inr (subst (λ (g : Stage). CopiesInto g w.advances.node) (sym f.3) refl);
+            }))
+            (not_copying p h sound c.number c turn.at undecided, inl copies) looks_few
+      ]
 
       pub blocked_step : IsStep p lane (step.Blocked holder) q lane
       blocked_step = adds_none p q _ (λ h sound. (
@@ -239,3 +279,38 @@ module _ (p : PartsView) (lane : LaneView) (c : Call) (turn : IsTurn p lane c) w
             (looked_sound p h sound q.store 1 w.advances.looked (ground_stays p.store q.store (walker c.number (route_of c.request) c.stage) (walked.Blocked holder) w.advances)),
         ((c, blocked_told h sound), record { none = refl; lane = refl }),
       ))
+
+    -- for the file that its handle opens
+    module _ (holder : ℕ) (same : q ≡ p) (waits : WaitsForFile p.store c holder) where
+      file_told : (h : List Record) → Sound p h → IsBlocked (seen p) (seen q) lane c holder
+      file_told h sound =
+          let f = file_writer p.store p.calls sound.copied.copies waits.handle.node holder (writer_is p.store.nodes waits.handle.node holder waits.file waits.held) in
+          let copies : IsCopying f.0.stage = subst IsCopying (sym f.3) tt in
+          let number : f.0.number ≡ holder = (sound.ledger.calls holder f.0 f.2).is_number in
+          told_by h sound holder f.0 f.2 waits.other (inr copies)
+          (inr (record {
+            waits = record {
+              number = waits.number;
+              handle = waits.handle;
+              by_handle = waits.by_handle;
+              opens = waits.opens;
+              file = waits.file;
+              held = waits.held ∙ ap Some (sym number);
+              other = λ e. waits.other (e ∙ number);
+            };
+            copies = subst (λ (g : Stage). CopiesInto g waits.handle.node) (sym f.3) refl;
+          }))
+          (not_copying p h sound c.number c turn.at undecided, inl copies) (subst (λ (x : PartsView). LooksOnly (seen p) (seen x) 2) (sym same) (record {
+            records = record { records = refl; keep = refl; folded = refl };
+            drawn = refl;
+            joins = refl;
+            sessions = refl;
+            calls = refl;
+            slots = λ s. refl;
+            joined = refl;
+            more = omega arith;
+            few = omega arith;
+          }))
+
+      pub file_blocked_step : IsStep p lane (step.Blocked holder) q lane
+      file_blocked_step = adds_none p q _ (λ h sound. (subst (λ (x : PartsView). Sound x h) (sym same) sound, ((c, file_told h sound), record { none = refl; lane = refl })))

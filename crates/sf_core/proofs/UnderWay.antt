@@ -11,6 +11,7 @@ use Rattle.sf_call.specs.Unanswered.{at_stage, staged}
 use Rattle.sf_inode.specs.Stores.{StoreState}
 use Rattle.sf_walk.specs.declared.walking.Walk.{Walk}
 use Rattle.sf_walk.specs.declared.walking.Walk.TheVariants as walk
+use Rattle.sf_walk.specs.Files.{IsFileFree}
 use Rattle.sf_walk.specs.Routes.{route_of}
 use Rattle.sf_walk.specs.Steps.{Advances, walker}
 use Rattle.sf_core.specs.declared.parts.Outcome.TheVariants as outcome
@@ -25,7 +26,7 @@ use Rattle.sf_core.proofs.Updates.{staged_is}
 staged_same : (calls : List (ℕ × Call)) (n : ℕ) (c : Call) → call_at calls n ≡ Some c → staged calls n c.stage ≡ calls
 staged_same calls n c at = staged_is calls n c.stage c at ∙ set_value_same (is_at (nat_cmp n)) calls c at
 
-staged_there : (calls : List (ℕ × Call)) (n : ℕ) (g : Stage) (c : Call) → call_at calls n ≡ Some c → call_at (staged calls n g) n ≡ Some (at_stage g c)
+pub staged_there : (calls : List (ℕ × Call)) (n : ℕ) (g : Stage) (c : Call) → call_at calls n ≡ Some c → call_at (staged calls n g) n ≡ Some (at_stage g c)
 staged_there calls n g c at = ap (λ cs. call_at cs n) (staged_is calls n g c at) ∙ set_same calls n (at_stage g c) c at
 
 staged_twice : (calls : List (ℕ × Call)) (n : ℕ) (g h : Stage) (c : Call) → call_at calls n ≡ Some c → staged (staged calls n g) n h ≡ staged calls n h
@@ -57,6 +58,7 @@ module _ (n : ℕ) (c : Call) where
       on.call,
       refl,
       on.undecided,
+      record { free = (subst (λ (x : StoreState). IsFileFree x c) (sym on.store) on.free).free },
       record {
         advances = subst (λ (x : StoreState). Advances x t (walker c.number (route_of c.request) g) w) (sym on.store) advances;
         book = refl;
@@ -73,17 +75,18 @@ module _ (n : ℕ) (c : Call) where
   come_same p s g on = λ i. record p { store = sym on.store i; calls = staged_same p.calls n (at_stage g c) on.call i }
 
   -- ---- a step more
-  pub under_way : (p : PartsView) (s t : StoreState) (g h : Stage) → IsUnderWay p n s c g → IsCore (come_to p n t h) → IsUnderWay (come_to p n t h) n t c h
-  under_way p s t g h on core = record {
+  pub under_way : (p : PartsView) (s t : StoreState) (g h : Stage) → IsUnderWay p n s c g → IsCore (come_to p n t h) → IsFileFree t c → IsUnderWay (come_to p n t h) n t c h
+  under_way p s t g h on core free = record {
     core = core;
     store = refl;
     call = staged_there p.calls n h (at_stage g c) on.call;
     undecided = on.undecided;
+    free = free;
   }
 
-  pub step_more : (p : PartsView) (s t u : StoreState) (g h : Stage) (w : Walk) → IsUnderWay p n s c g → IsCore (come_to p n t h) → t.look_ups < 2 ^ 64 → Advances t u (walker c.number (route_of c.request) h) w
+  pub step_more : (p : PartsView) (s t u : StoreState) (g h : Stage) (w : Walk) → IsUnderWay p n s c g → IsCore (come_to p n t h) → IsFileFree t c → t.look_ups < 2 ^ 64 → Advances t u (walker c.number (route_of c.request) h) w
       → Stepped (come_to p n t h) c.session n (outcome.Walked w) (come_to p n u (stage_after w h))
-  step_more p s t u g h w on core fits advances =
+  step_more p s t u g h w on core free fits advances =
       subst (λ (q : PartsView). Stepped (come_to p n t h) c.session n (outcome.Walked w) q)
       (ap (λ cs. record p { store = u; calls = cs }) (staged_twice p.calls n h (stage_after w h) (at_stage g c) on.call))
-      (one_step (come_to p n t h) t u h w (under_way p s t g h on core) fits advances)
+      (one_step (come_to p n t h) t u h w (under_way p s t g h on core free) fits advances)

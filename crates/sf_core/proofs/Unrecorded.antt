@@ -1,5 +1,5 @@
 -- An event of one call that adds no record: a step, its setting back, the fetching of its reply.
-use Rattle.std.specs.Prelude.{◌≡◌, ◌≢◌, ◌≤◌, ℕ, is_none, List, [], Option, Some, None, refl}
+use Rattle.std.specs.Prelude.{◌≡◌, ◌≢◌, ◌⊎◌, ◌≤◌, ℕ, true, false, is_none, List, [], Option, Some, None, refl}
 use Rattle.std.specs.Option.{option_map_or}
 use Rattle.std.proofs.Common.{sym, ap, subst, ◌∙◌, inl, inr, arith}
 use Rattle.sf_path.specs.Names.{Path}
@@ -29,11 +29,14 @@ use Rattle.sf_core.specs.Cores.{call_at, session_at}
 use Rattle.sf_core.specs.Progress.{reply_of, did, undecided_in}
 use Rattle.sf_core.specs.Histories.{IsHistory}
 use Rattle.sf_core.specs.Parts.{PartsView, seen}
-use Rattle.sf_core.specs.Sound.{spots_at, spots_in, Coupled, Sound}
+use Rattle.sf_core.specs.Sound.{walker_of, writer_of, spots_at, spots_in, copying_at, Coupled, Copied, Sound}
 use Rattle.sf_core.specs.Stepping.{session_set_by, freed, SameButRoom, FetchState}
 use Rattle.sf_core.proofs.Maps.{some_eq, none_some, one_if}
 use Rattle.sf_core.proofs.Updates.{one_by, Updates, updates_set, updates_removed, updates_none, updates_staged}
-use Rattle.sf_core.proofs.Coupled.{walks_on, moved_keeps, reset_keeps}
+use Rattle.sf_core.proofs.Walkers.{walker_is, walker_holds}
+use Rattle.sf_core.proofs.Writers.{SameFiles, none_copied, same_copying, still_copying, files_let_go, files_moved, files_looked, copied_on, copied_still, copied_same}
+use Rattle.sf_core.proofs.SparedFiles.{file_there, file_writer}
+use Rattle.sf_core.proofs.Coupled.{walks_on, moved_keeps, moved_writers, reset_keeps, reset_writers}
 use Rattle.sf_core.proofs.Ledgers.{Follows, ledger_follows}
 use Rattle.sf_core.proofs.Ledgers.Follows.{Stays, Goes}
 use Rattle.sf_core.proofs.Histories.{IsWritten, is_undecided, history_changed}
@@ -69,11 +72,12 @@ module _ (p q : PartsView) (h : List Record) (is : IsHistory (seen p) h) (n : �
 
 module _ (p q : PartsView) (h : List Record) (sound : Sound p h) (n : ℕ) (c : Call) (now : Option Call) (slot : Option ℕ) (calls : Updates p.calls q.calls n (Some c) now)
     (sessions : Updates p.sessions q.sessions c.session (Some (Some n)) (Some slot)) (kept : IsKept c now) (follows : Follows c n now slot)
-    (keeps : Keeps q.store (replay h)) (book : q.book ≡ p.book) (drawn : q.drawn ≡ p.drawn) (joins : q.joins ≡ p.joins) (coupled : Coupled q) where
+    (keeps : Keeps q.store (replay h)) (book : q.book ≡ p.book) (drawn : q.drawn ≡ p.drawn) (joins : q.joins ≡ p.joins) (coupled : Coupled q) (copied : Copied q) where
   pub unrecorded : Sound q h
   unrecorded = record {
     history = history_kept p q h sound.history n c now calls kept slot sessions keeps book drawn joins;
     coupled = coupled;
+    copied = copied;
     ledger =
         ledger_follows p q sound.ledger n c now slot calls sessions follows drawn joins
         (let a = sound.ledger.room in
@@ -85,7 +89,8 @@ module _ (p q : PartsView) (h : List Record) (sound : Sound p h) (n : ℕ) (c : 
 
 -- ---- the store and the book alone are others
 module _ (p : PartsView) (h : List Record) (sound : Sound p h) (s : StoreState) (b : BookView) (records : b.records ≡ p.book.records) (keep : b.keep ≡ p.book.keep) (folded : b.folded ≡ p.book.folded) (room : p.book.room ≤ b.room)
-    (tree : Keeps s (replay h)) (walks : AreWalks (scene (terrain s) (spots_in p.calls) (holder_of s.nodes))) where
+    (tree : Keeps s (replay h)) (walks : AreWalks (scene (terrain s) (spots_in p.calls) (walker_of s.nodes)))
+    (copied : Copied (record { store = s; book = b; sessions = p.sessions; calls = p.calls; drawn = p.drawn; joins = p.joins })) where
   pub calls_stay : Sound (record { store = s; book = b; sessions = p.sessions; calls = p.calls; drawn = p.drawn; joins = p.joins }) h
   calls_stay = let is = sound.history in let l = sound.ledger in record {
     history = record {
@@ -102,6 +107,7 @@ module _ (p : PartsView) (h : List Record) (sound : Sound p h) (s : StoreState) 
       few = is.few;
     };
     coupled = record { walks = walks; positions = sound.coupled.positions; waiting = sound.coupled.waiting };
+    copied = copied;
     ledger = record {
       calls = l.calls;
       sessions = l.sessions;
@@ -117,15 +123,18 @@ module _ (p : PartsView) (h : List Record) (sound : Sound p h) (s : StoreState) 
 pub roomy : (p q : PartsView) (h : List Record) → Sound p h → SameButRoom p q → Sound q h
 roomy p q h sound same =
     subst (λ (x : PartsView). Sound x h) (λ i. record { store = sym same.store i; book = q.book; sessions = sym same.sessions i; calls = sym same.calls i; drawn = sym same.drawn i; joins = sym same.joins i })
-    (calls_stay p h sound p.store q.book (ap (λ (b : BookView). b.records) same.book) (ap (λ (b : BookView). b.keep) same.book) (ap (λ (b : BookView). b.folded) same.book) same.more sound.history.tree sound.coupled.walks)
+    (calls_stay p h sound p.store q.book (ap (λ (b : BookView). b.records) same.book) (ap (λ (b : BookView). b.keep) same.book) (ap (λ (b : BookView). b.folded) same.book) same.more sound.history.tree sound.coupled.walks
+    (copied_same p (record { store = p.store; book = q.book; sessions = p.sessions; calls = p.calls; drawn = p.drawn; joins = p.joins }) sound.copied refl refl))
 
 -- look-ups were made
 pub looked_sound : (p : PartsView) (h : List Record) → Sound p h → (s : StoreState) (most : ℕ) → LookedUp p.store s most → IsSameGround p.store s
     → Sound (record { store = s; book = p.book; sessions = p.sessions; calls = p.calls; drawn = p.drawn; joins = p.joins }) h
 looked_sound p h sound s most looked ground =
     calls_stay p h sound s p.book refl refl refl (omega arith) (keeps_counted p.store s (replay h) most looked sound.history.tree)
-    (subst (λ (ns : List (Option Node)). AreWalks (scene (terrain s) (spots_in p.calls) (holder_of ns))) (sym (looked_nodes p.store s most looked))
-    (walks_on (terrain p.store) (terrain s) (spots_in p.calls) (holder_of p.store.nodes) (leads_same p.store s ground) sound.coupled.walks))
+    (subst (λ (ns : List (Option Node)). AreWalks (scene (terrain s) (spots_in p.calls) (walker_of ns))) (sym (looked_nodes p.store s most looked))
+    (walks_on (terrain p.store) (terrain s) (spots_in p.calls) (walker_of p.store.nodes) (leads_same p.store s ground) sound.coupled.walks))
+    (let files = files_looked p.store s most looked in
+    copied_on p (record { store = s; book = p.book; sessions = p.sessions; calls = p.calls; drawn = p.drawn; joins = p.joins }) sound.copied (λ m. refl) (λ m c node left at is. at) files.0 files.1)
 
 -- ---- a call that comes to another stage
 module _ (p : PartsView) (h : List Record) (sound : Sound p h) (c : Call) (at : call_at p.calls c.number ≡ Some c) (undecided : reply_of c ≡ None) (s : StoreState) (after : Stage) where
@@ -151,31 +160,39 @@ module _ (p : PartsView) (h : List Record) (sound : Sound p h) (c : Call) (at : 
   now_is : (m : ℕ) (d : Call) → m ≡ c.number → call_at (staged p.calls c.number after) m ≡ Some d → at_stage after c ≡ d
   now_is m d e is = some_eq (at_stage after c) d (sym staged_updates.now_is ∙ ap (call_at (staged p.calls c.number after)) (sym e) ∙ is)
 
-  pub come_sound : Keeps s (replay h) → AreWalks (scene (terrain s) (spots_in (staged p.calls c.number after)) (holder_of s.nodes)) → IsPosition (route_of c.request) after
+  pub come_sound : Keeps s (replay h) → AreWalks (scene (terrain s) (spots_in (staged p.calls c.number after)) (walker_of s.nodes)) → IsPosition (route_of c.request) after → SameFiles p.store s → ((id : ℕ) → writer_of s.nodes id ≡ writer_of p.store.nodes id)
       → Sound (record { store = s; book = p.book; sessions = p.sessions; calls = staged p.calls c.number after; drawn = p.drawn; joins = p.joins }) h
-  come_sound keeps walks position =
+  come_sound keeps walks position files writers =
       let call = sound.ledger.calls c.number c at in
       unrecorded p q h sound c.number c (Some (at_stage after c)) (Some c.number) staged_updates (updates_none p.sessions c.session (Some c.number) call.session)
       (Same (at_stage after c) reply_same (λ g. refl)) (Stays (at_stage after c) (record { number = refl; session = refl; moment = refl; request = refl }) (λ e. call.copied undecided))
       keeps refl refl refl (record {
         walks = walks;
-        positions = λ m d is. elim (same_or_not m c.number) [
+        positions = λ m d is none. elim (same_or_not m c.number) [
           | inl e ↦ subst (λ (x : Call). IsPosition (route_of x.request) x.stage) (now_is m d e is) position
-          | inr ne ↦ sound.coupled.positions m d (sym (staged_updates.rest m ne) ∙ is)
+          | inr ne ↦ sound.coupled.positions m d (sym (staged_updates.rest m ne) ∙ is) none
         ];
         waiting = λ m d g is some. elim (same_or_not m c.number) [
           | inl e ↦ absurd (none_some g (sym undecided ∙ sym reply_same ∙ ap reply_of (now_is m d e is) ∙ some))
           | inr ne ↦ sound.coupled.waiting m d g (sym (staged_updates.rest m ne) ∙ is) some
         ];
       })
+      (let was = none_copied (route_of c.request) c.stage (sound.coupled.positions c.number c at undecided) in
+      let now = none_copied (route_of c.request) after position in
+      copied_on p q sound.copied (same_copying p.calls (staged p.calls c.number after) c.number (Some c) (Some (at_stage after c)) staged_updates was now)
+      (λ m d node left there is. (still_copying p.calls (staged p.calls c.number after) c.number (Some c) (Some (at_stage after c)) staged_updates was now m d node left there is).1) files writers)
 
 -- looking up leaves the tree that the store keeps
 entered_keeps : (at : Stage) (s : StoreState) (t : Tree) → Keeps s t → Keeps (entered at s) t
 entered_keeps stage.Fresh s t k = k
 entered_keeps (stage.At walked node) s t k = keeps_looked s t k
 entered_keeps (stage.Ends common from to) s t k = keeps_looked s t k
+entered_keeps (stage.Copies node left) s t k = keeps_looked s t k
 
 module _ (p : PartsView) (h : List Record) (sound : Sound p h) (c : Call) (at : call_at p.calls c.number ≡ Some c) (undecided : reply_of c ≡ None) where
+  files : (s : StoreState) (after : Stage) → Moves p.store s (walker c.number (route_of c.request) c.stage) after → SameFiles p.store s
+  files s after moves = subst (SameFiles p.store) (sym moves.state) (files_moved c.number c.stage after moves.spot.node p.store)
+
   -- a step
   pub moved_sound : (s : StoreState) (after : Stage) → Moves p.store s (walker c.number (route_of c.request) c.stage) after
       → Sound (record { store = s; book = p.book; sessions = p.sessions; calls = staged p.calls c.number after; drawn = p.drawn; joins = p.joins }) h
@@ -184,9 +201,11 @@ module _ (p : PartsView) (h : List Record) (sound : Sound p h) (c : Call) (at : 
       (subst (λ (x : StoreState). Keeps x (replay h)) (sym moves.state)
       (let_go_keeps (nodes_of after) (nodes_of c.stage) (edited (with_holder (Some c.number)) (entered c.stage p.store) moves.spot.node) (replay h)
       (keeps_held (Some c.number) (entered c.stage p.store) (replay h) moves.spot.node (entered_keeps c.stage p.store (replay h) sound.history.tree))))
-      (moved_keeps p.store s h sound.history.tree (spots_in p.calls) sound.coupled.walks (walker c.number (route_of c.request) c.stage) after (spots_were p h sound c at undecided s after) (sound.coupled.positions c.number c at) moves
+      (moved_keeps p.store s h sound.history.tree (spots_in p.calls) sound.coupled.walks (walker c.number (route_of c.request) c.stage) after (spots_were p h sound c at undecided s after) (sound.coupled.positions c.number c at undecided) moves
       (spots_in (staged p.calls c.number after)) (spots_now p h sound c at undecided s after) (spots_other p h sound c at undecided s after))
-      moves.position
+      moves.position (files s after moves)
+      (moved_writers p.store s h sound.history.tree (spots_in p.calls) sound.coupled.walks (walker c.number (route_of c.request) c.stage) after (spots_were p h sound c at undecided s after) (sound.coupled.positions c.number c at undecided) moves
+      (files s after moves))
 
   -- setting back: the call's route is one
   pub reset_sound : IsPosition (route_of c.request) stage.Fresh
@@ -194,23 +213,38 @@ module _ (p : PartsView) (h : List Record) (sound : Sound p h) (c : Call) (at : 
   reset_sound start =
       let s = freed c.stage p.store in
       come_sound p h sound c at undecided s stage.Fresh (let_go_keeps [] (nodes_of c.stage) p.store (replay h) sound.history.tree)
-      (reset_keeps p.store (spots_in p.calls) (spots_in (staged p.calls c.number stage.Fresh)) c.number (route_of c.request) c.stage sound.coupled.walks (sound.coupled.positions c.number c at)
+      (reset_keeps p.store (spots_in p.calls) (spots_in (staged p.calls c.number stage.Fresh)) c.number (route_of c.request) c.stage sound.coupled.walks (sound.coupled.positions c.number c at undecided)
       (spots_were p h sound c at undecided s stage.Fresh) (spots_now p h sound c at undecided s stage.Fresh) (spots_other p h sound c at undecided s stage.Fresh))
-      start
+      start (files_let_go [] (nodes_of c.stage) p.store)
+      (reset_writers p.store (spots_in p.calls) c.number (route_of c.request) c.stage sound.coupled.walks (sound.coupled.positions c.number c at undecided) (spots_were p h sound c at undecided s stage.Fresh))
 
-  -- who waits, waits for a spot that another call holds: the one that its next names lead to
-  pub blocked_wants : (new : StoreState) (holder : ℕ) → Waits p.store new (walker c.number (route_of c.request) c.stage) holder
-      → (spot : Spot) × LooksAt (route_of c.request) c.stage spot.path × (walk (entry_of p.store.nodes) p.store.root spot.path ≡ Some spot.node)
-      × (holder_of p.store.nodes spot.node ≡ Some holder) × Holds (spots_in p.calls holder) spot
+  -- who waits, waits for a spot that another call holds, the one that its next names lead to; or for
+  -- a file that another call copies into
+  pub blocked_wants : (new : StoreState) (holder : ℕ) → (waits : Waits p.store new (walker c.number (route_of c.request) c.stage) holder)
+      → ((spot : Spot) × LooksAt (route_of c.request) c.stage spot.path × (walk (entry_of p.store.nodes) p.store.root spot.path ≡ Some spot.node)
+      × (holder_of p.store.nodes spot.node ≡ Some holder) × Holds (spots_in p.calls holder) spot)
+      ⊎ ((d : Call) × (left : ℕ) × (call_at p.calls holder ≡ Some d) × (d.stage ≡ stage.Copies waits.node left))
   blocked_wants new holder waits =
-      let w = sound.coupled.walks.holds waits.node holder waits.held in
-      let leads = sound.coupled.walks.leads holder w.spot w.holds in
-      let same : waits.to ≡ w.spot.path = one_way p.store (replay h) sound.history.tree waits.to w.spot.path waits.node waits.leads (leads.names ∙ ap Some w.node)
-      (ap (is_directory_at p.store.nodes) (sym w.node) ∙ leads.directory) in
-      (w.spot, subst (λ (x : Path). LooksAt (route_of c.request) c.stage x) same waits.looks, leads.names, sound.coupled.walks.held holder w.spot w.holds, w.holds)
+      elim (is_directory_at p.store.nodes waits.node) as (λ b. is_directory_at p.store.nodes waits.node ≡ b → ((spot : Spot) × LooksAt (route_of c.request) c.stage spot.path × (walk (entry_of p.store.nodes) p.store.root spot.path ≡ Some spot.node)
+      × (holder_of p.store.nodes spot.node ≡ Some holder) × Holds (spots_in p.calls holder) spot)
+      ⊎ ((d : Call) × (left : ℕ) × (call_at p.calls holder ≡ Some d) × (d.stage ≡ stage.Copies waits.node left))) [
+        | true ↦ λ e.
+            let w = sound.coupled.walks.holds waits.node holder (walker_is p.store.nodes waits.node holder e waits.held) in
+            let leads = sound.coupled.walks.leads holder w.spot w.holds in
+            let same : waits.to ≡ w.spot.path = one_way p.store (replay h) sound.history.tree waits.to w.spot.path waits.node waits.leads (leads.names ∙ ap Some w.node)
+            (ap (is_directory_at p.store.nodes) (sym w.node) ∙ leads.directory) in
+            inl (
+              w.spot,
+              subst (λ (x : Path). LooksAt (route_of c.request) c.stage x) same waits.looks,
+              leads.names,
+              (walker_holds p.store.nodes w.spot.node holder (sound.coupled.walks.held holder w.spot w.holds)).1,
+              w.holds,
+            )
+        | false ↦ λ e. inr (file_writer p.store p.calls sound.copied.copies waits.node holder (file_there p.store.nodes waits.node holder e waits.held))
+      ] refl
 
 -- ---- a reply that waited is fetched
-module _ (p q : PartsView) (h : List Record) (sound : Sound p h) (c : Call) (at : call_at p.calls c.number ≡ Some c) (given : Reply) (decided : reply_of c ≡ Some given) (fetched : FetchState p q c.session c.number) where
+module _ (p q : PartsView) (h : List Record) (sound : Sound p h) (c : Call) (at : call_at p.calls c.number ≡ Some c) (given : Reply) (decided : reply_of c ≡ Some given) (fresh : c.stage ≡ stage.Fresh) (fetched : FetchState p q c.session c.number) where
   busy : session_at p.sessions c.session ≡ Some (Some c.number)
   busy = (sound.ledger.calls c.number c at).session
 
@@ -218,7 +252,7 @@ module _ (p q : PartsView) (h : List Record) (sound : Sound p h) (c : Call) (at 
   calls_now = subst (λ cs. Updates p.calls cs c.number (Some c) None) (sym fetched.calls) (updates_removed p.calls c.number c at sound.ledger.calls_rise)
 
   held_nothing : spots_in p.calls c.number ≡ []
-  held_nothing = ap (λ (o : Option Call). option_map_or spots_at o []) at ∙ ap (λ (g : Stage). spots_of (route_of c.request) g) (sound.coupled.waiting c.number c given at decided)
+  held_nothing = ap (λ (o : Option Call). option_map_or spots_at o []) at ∙ ap (spots_of (route_of c.request)) fresh
 
   spots_same : (m : ℕ) → spots_in q.calls m ≡ spots_in p.calls m
   spots_same m = elim (same_or_not m c.number) [
@@ -239,8 +273,9 @@ module _ (p q : PartsView) (h : List Record) (sound : Sound p h) (c : Call) (at 
       (Fetch given decided) Goes (subst (λ (s : StoreState). Keeps s (replay h)) (sym fetched.store) sound.history.tree) fetched.book fetched.drawn fetched.joins
       (record {
         walks =
-            subst (λ (s : StoreState). AreWalks (scene (terrain s) (spots_in q.calls) (holder_of s.nodes))) (sym fetched.store)
-            (subst (λ (f : ℕ → List Spot). AreWalks (scene (terrain p.store) f (holder_of p.store.nodes))) (λ i m. sym (spots_same m) i) sound.coupled.walks);
+            subst (λ (s : StoreState). AreWalks (scene (terrain s) (spots_in q.calls) (walker_of s.nodes))) (sym fetched.store)
+            (subst (λ (f : ℕ → List Spot). AreWalks (scene (terrain p.store) f (walker_of p.store.nodes))) (λ i m. sym (spots_same m) i) sound.coupled.walks);
         positions = λ m d is. sound.coupled.positions m d (still m d is);
         waiting = λ m d g is some. sound.coupled.waiting m d g (still m d is) some;
       })
+      (copied_still p q c.number (Some c) None sound.copied calls_now (ap copying_at fresh) refl fetched.store)

@@ -1,25 +1,19 @@
 -- What steps of the lane's call come to, one after the other.
-use Rattle.std.specs.Prelude.{◌≡◌, ◌<◌, ◌≤◌, ◌+◌, ℕ, zero, suc, true, false, option_map, option_and_then, is_some, is_none, IsSome, Option, Some, None, refl}
-use Rattle.std.specs.Option.{option_map_or}
+use Rattle.std.specs.Prelude.{◌≡◌, ◌<◌, ◌≤◌, ◌+◌, ℕ, zero, suc, true, option_and_then, is_none, IsSome, Option, Some, None, refl}
 use Rattle.std.proofs.Common.{sym, ap, subst, ◌∙◌, arith}
 use Rattle.std.specs.Ordering.{nat_cmp}
 use Rattle.std.specs.BTreeMap.{is_at}
 use Rattle.sf_reply.specs.declared.reply.Reply.{Reply}
 use Rattle.sf_call.specs.Answers.{Answered as Answer}
-use Rattle.sf_call.specs.Histories.{IsGiven}
+use Rattle.sf_call.specs.Histories.{replay, IsGiven}
 use Rattle.sf_call.proofs.Laws.{given_before}
-use Rattle.sf_call.specs.Attributes.{Object}
-use Rattle.sf_call.specs.Tree.{directory_metadata}
 use Rattle.sf_call.specs.declared.call.Call.{Call}
 use Rattle.sf_call.specs.declared.call.Stage.{Stage}
-use Rattle.sf_call.specs.declared.metadata.Metadata.{Metadata}
-use Rattle.sf_inode.specs.declared.node.Node.{Node}
-use Rattle.sf_inode.specs.declared.node.Content.{Content}
-use Rattle.sf_inode.specs.declared.node.Content.TheVariants as content
-use Rattle.sf_inode.specs.Nodes.{object_in, is_directory_content}
-use Rattle.sf_inode.specs.Stores.{node_in, shown_node, is_directory_at}
+use Rattle.sf_call.specs.Unanswered.{at_stage}
+use Rattle.sf_inode.specs.Stores.{is_directory_at}
 use Rattle.sf_walk.specs.declared.finding.Ways.{Ways}
 use Rattle.sf_walk.specs.Ways.{IsLocated}
+use Rattle.sf_walk.specs.Files.{IsFileFree, IsSettled}
 use Rattle.sf_walk.specs.declared.walking.Walk.TheVariants as walked
 use Rattle.sf_core.specs.declared.step.Step.{Step}
 use Rattle.sf_core.specs.declared.step.Step.TheVariants as step
@@ -34,21 +28,16 @@ use Rattle.sf_core.specs.Sound.{Sound, IsCore}
 use Rattle.sf_core.specs.Stepping.{is_move, Walked, Stepped, Moved, WalkState, ending, FetchState, Overtakes, FinishState}
 use Rattle.sf_core.proofs.Maps.{some_eq, reply_is, passing_removed, one_if}
 use Rattle.sf_core.proofs.Histories.{is_undecided}
-use Rattle.sf_core.proofs.Turns.{IsStep, IsTurn, core_after, places_after, steps_on, turn_of, foreign_step, fetched_step, moved_step, blocked_step}
+use Rattle.sf_core.proofs.Updates.{updates_staged}
+use Rattle.sf_core.proofs.Turns.{IsStep, IsTurn, core_after, places_after, steps_on, turn_of, foreign_step, fetched_step, moved_step, blocked_step, file_blocked_step}
+use Rattle.sf_core.proofs.FreeFiles.{root_kept, file_free_moved}
 use Rattle.sf_core.proofs.Preparing.{Prepared}
+use Rattle.sf_core.specs.Writing.{CopiesOne}
 use Rattle.sf_core.proofs.Making.{ready_sound, made, decided_step, decided_given}
 
 -- the root is a directory
 pub rooted : (p : PartsView) → IsCore p → is_directory_at p.store.nodes p.store.root ≡ true
-rooted p core = by_node (node_in p.store.nodes p.store.root) core.sound.history.tree.shows.by.sound.rooted
-  where
-    by_node : (o : Option Node) → is_some (option_and_then (λ (w : ℕ × Object). directory_metadata w.1) (option_map shown_node o)) ≡ true → option_map_or (λ (it : Node). is_directory_content it.content) o false ≡ true
-    by_node None is = is
-    by_node (Some it) is = by_content it.metadata it.content is
-      where
-        by_content : (m : Metadata) (z : Content) → is_some (directory_metadata (object_in m z)) ≡ true → is_directory_content z ≡ true
-        by_content m (content.Directory entries) is = refl
-        by_content m (content.File contents) is = is
+rooted p core = root_kept p.store (replay core.history) core.sound.history.tree
 
 pub none_moved : (p : PartsView) (session n : ℕ) → Moved 0 p session n p
 unfolding Moved
@@ -59,7 +48,7 @@ module _ (lane : LaneView) (n : ℕ) (call : lane.call ≡ Some n) where
   moved_by p q after it =
       let c = it.comes in
       let t = turn_of p it.core lane n c.0 c.1 c.2 call it.fits in
-      (moved_step p lane c.0 t.0 (reply_is c.0 ∙ c.3) q after (subst (λ k. Walked p q c.0 k (walked.Moved after)) (sym t.1) c.4), c.4.drawn)
+      (moved_step p lane c.0 t.0 (reply_is c.0 ∙ c.3) q after (subst (λ k. Walked p q c.0 k (walked.Moved after)) (sym t.1) c.5), c.5.drawn)
 
   moves_by : (k : ℕ) (p q : PartsView) → Moved k p lane.session n q → Moves k (seen p) lane (seen q)
   unfolding Moved Moves
@@ -81,6 +70,9 @@ module _ (lane : LaneView) (n : ℕ) (call : lane.call ≡ Some n) where
   moved_core p q (outcome.Walked (walked.Ready ways)) it is = absurd cc
   moved_core p q outcome.Foreign it is = absurd cc
   moved_core p q outcome.Waits it is = absurd cc
+  moved_core p q outcome.Copies it is = absurd cc
+  moved_core p q outcome.Writes it is = absurd cc
+  moved_core p q (outcome.FileHeld holder) it is = absurd cc
 
   pub moved_more : (k : ℕ) (o p q : PartsView) (r : Outcome) → Moved k o lane.session n p → Stepped p lane.session n r q → is_move r ≡ true → Moved (suc k) o lane.session n q
   unfolding Moved
@@ -89,6 +81,24 @@ module _ (lane : LaneView) (n : ℕ) (call : lane.call ≡ Some n) where
   moved_more k o p q (outcome.Walked (walked.Ready ways)) moved it is = absurd cc
   moved_more k o p q outcome.Foreign moved it is = absurd cc
   moved_more k o p q outcome.Waits moved it is = absurd cc
+  moved_more k o p q outcome.Copies moved it is = absurd cc
+  moved_more k o p q outcome.Writes moved it is = absurd cc
+  moved_more k o p q (outcome.FileHeld holder) moved it is = absurd cc
+
+  -- and no other call holds a file that it uses by a handle: it uses none
+  pub moved_free : (p q : PartsView) (r : Outcome) → Stepped p lane.session n r q → is_move r ≡ true → (d : Call) → call_at q.calls n ≡ Some d → IsFileFree q.store d
+  moved_free p q (outcome.Walked (walked.Moved after)) it is d at =
+      let x = it.comes.0 in
+      let w = it.comes.5 in
+      let own : at_stage after x ≡ d = some_eq (at_stage after x) d (sym (ap (λ cs. call_at cs n) w.calls ∙ (updates_staged p.calls n x after it.comes.1).now_is) ∙ at) in
+      subst (IsFileFree q.store) own (record { free = (file_free_moved p.store q.store x after w.advances).free })
+  moved_free p q (outcome.Walked (walked.Blocked holder)) it is d at = absurd cc
+  moved_free p q (outcome.Walked (walked.Ready ways)) it is d at = absurd cc
+  moved_free p q outcome.Foreign it is d at = absurd cc
+  moved_free p q outcome.Waits it is d at = absurd cc
+  moved_free p q outcome.Copies it is d at = absurd cc
+  moved_free p q outcome.Writes it is d at = absurd cc
+  moved_free p q (outcome.FileHeld holder) it is d at = absurd cc
 
   -- ---- a whole walk, of so many steps at most
   module _ (p : PartsView) (most places : ℕ) (fit : undecided_in p.calls ≤ places) (v : CoreView) (ev : seen p ≡ v) (l : LaneView) (el : lane ≡ l) where
@@ -96,19 +106,25 @@ module _ (lane : LaneView) (n : ℕ) (call : lane.call ≡ Some n) where
     abbrev pub Ends : PartsView → Step → LaneView → Type 0
     Ends q s lane' = IsCore q × (undecided_in q.calls ≤ places) × Walks v l most (came s (seen q) lane')
 
-    ended : (o : Outcome) (q : PartsView) (w : WalkState p lane.session n most (ending o q)) (s : Step) (r : PartsView) (lane' : LaneView) → IsStep w.mid lane s r lane' → r.drawn ≡ w.mid.drawn → (s ≡ step.Moved → w.moves + 1 ≡ most) → Ends r s lane'
-    ended o q w s r lane' last drawn full = (
-      core_after w.mid r _ w.last.core last,
-      places_after w.mid r _ w.last.core last drawn places (places_by w.moves p w.mid places w.moved fit),
+    -- after steps that moved, one more
+    pub ended_by : (k : ℕ) (mid r : PartsView) (s : Step) (lane' : LaneView) → k < most → Moves k (seen p) lane (seen mid) → IsCore mid → undecided_in mid.calls ≤ places → IsStep mid lane s r lane' → r.drawn ≡ mid.drawn → (s ≡ step.Moved → k + 1 ≡ most)
+        → Ends r s lane'
+    ended_by k mid r s lane' few moved core fits last drawn full = (
+      core_after mid r _ core last,
+      places_after mid r _ core last drawn places fits,
       subst (λ (x : CoreView). Walks x l most (came s (seen r) lane')) ev (subst (λ (x : LaneView). Walks (seen p) x most (came s (seen r) lane')) el (record {
-        moves = w.moves;
-        mid = seen w.mid;
-        few = w.few;
-        moved = moves_by w.moves p w.mid w.moved;
-        last = steps_on w.mid r lane lane' s w.last.core last;
+        moves = k;
+        mid = seen mid;
+        few = few;
+        moved = moved;
+        last = steps_on mid r lane lane' s core last;
         full = full;
       })),
     )
+
+    ended : (o : Outcome) (q : PartsView) (w : WalkState p lane.session n most (ending o q)) (s : Step) (r : PartsView) (lane' : LaneView) → IsStep w.mid lane s r lane' → r.drawn ≡ w.mid.drawn → (s ≡ step.Moved → w.moves + 1 ≡ most) → Ends r s lane'
+    ended o q w s r lane' last drawn full =
+        ended_by w.moves w.mid r s lane' w.few (moves_by w.moves p w.mid w.moved) w.last.core (places_by w.moves p w.mid places w.moved fit) last drawn full
 
     pub foreign_end : (q : PartsView) → WalkState p lane.session n most (ending outcome.Foreign q) → Ends q step.Stranger l
     foreign_end q w =
@@ -126,7 +142,15 @@ module _ (lane : LaneView) (n : ℕ) (call : lane.call ≡ Some n) where
         let t = turn_of w.mid w.last.core lane n c.0 c.1 c.2 call w.last.fits in
         subst (λ (x : LaneView). Ends q (step.Blocked holder) x) el
         (ended (outcome.Walked (walked.Blocked holder)) q w (step.Blocked holder) q lane
-        (blocked_step w.mid lane c.0 t.0 (reply_is c.0 ∙ c.3) q holder (subst (λ k. Walked w.mid q c.0 k (walked.Blocked holder)) (sym t.1) c.4)) c.4.drawn (λ e. absurd cc))
+        (blocked_step w.mid lane c.0 t.0 (reply_is c.0 ∙ c.3) q holder (subst (λ k. Walked w.mid q c.0 k (walked.Blocked holder)) (sym t.1) c.5)) c.5.drawn (λ e. absurd cc))
+
+    -- another call holds its file
+    pub file_end : (holder : ℕ) (q : PartsView) → WalkState p lane.session n most (ending (outcome.FileHeld holder) q) → Ends q (step.Blocked holder) l
+    file_end holder q w =
+        let c = w.last.comes in
+        let t = turn_of w.mid w.last.core lane n c.1 c.2 c.3 call w.last.fits in
+        subst (λ (x : LaneView). Ends q (step.Blocked holder) x) el
+        (ended (outcome.FileHeld holder) q w (step.Blocked holder) q lane (file_blocked_step w.mid lane c.1 t.0 (reply_is c.1 ∙ c.4) q holder c.0 c.5) (ap (λ (x : PartsView). x.drawn) c.0) (λ e. absurd cc))
 
     -- ---- a reply waits
     module _ (q : PartsView) (w : WalkState p lane.session n most (ending outcome.Waits q)) (r : PartsView) (given : Reply) (waits : Some given ≡ option_and_then (λ (c : Call). c.reply) (call_at q.calls n)) (fetched : FetchState q r lane.session n) where
@@ -149,7 +173,7 @@ module _ (lane : LaneView) (n : ℕ) (call : lane.call ≡ Some n) where
       waited_end a is =
           let same = w.last.comes.0 in
           ended outcome.Waits q w (step.Answered a) r (at_rest lane)
-          (fetched_step w.mid lane w.last.comes.1 there.0 given decided r (subst (λ k. FetchState w.mid r lane.session k) (sym there.1) (subst (λ (x : PartsView). FetchState x r lane.session n) same fetched)) a
+          (fetched_step w.mid lane w.last.comes.1 there.0 given decided w.last.comes.5 r (subst (λ k. FetchState w.mid r lane.session k) (sym there.1) (subst (λ (x : PartsView). FetchState x r lane.session n) same fetched)) a
           (is ∙ ap (λ k. record { number = k; session = lane.session; reply = given }) (sym there.1)))
           (fetched.drawn ∙ ap (λ (x : PartsView). x.drawn) same) (λ e. absurd cc)
 
@@ -158,22 +182,28 @@ module _ (lane : LaneView) (n : ℕ) (call : lane.call ≡ Some n) where
       abbrev its : Call
       its = w.last.comes.0
 
-      its_turn : IsTurn w.mid lane w.last.comes.0 × (w.last.comes.0.number ≡ n)
+      pub its_turn : IsTurn w.mid lane w.last.comes.0 × (w.last.comes.0.number ≡ n)
       its_turn = let x = w.last.comes in turn_of w.mid w.last.core lane n x.0 x.1 x.2 call w.last.fits
 
-      undecided : reply_of w.last.comes.0 ≡ None
+      pub undecided : reply_of w.last.comes.0 ≡ None
       undecided = let x = w.last.comes in reply_is x.0 ∙ x.3
 
-      walk : Walked w.mid q w.last.comes.0 w.last.comes.0.number (walked.Ready ways)
-      walk = subst (λ k. Walked w.mid q w.last.comes.0 k (walked.Ready ways)) (sym its_turn.1) w.last.comes.4
+      pub walk : Walked w.mid q w.last.comes.0 w.last.comes.0.number (walked.Ready ways)
+      walk = subst (λ k. Walked w.mid q w.last.comes.0 k (walked.Ready ways)) (sym its_turn.1) w.last.comes.5
+
+      pub free_file : IsFileFree w.mid.store w.last.comes.0
+      free_file = w.last.comes.4
 
       sound_q : Sound q w.last.core.history
-      sound_q = ready_sound w.mid lane its its_turn.0 undecided q ways walk w.last.core.history w.last.core.sound
+      sound_q = ready_sound w.mid lane its its_turn.0 undecided q ways walk free_file w.last.core.history w.last.core.sound
 
       at_q : call_at q.calls n ≡ Some w.last.comes.0
-      at_q = let x = w.last.comes in ap (λ cs. call_at cs n) x.4.calls ∙ x.1
+      at_q = let x = w.last.comes in ap (λ cs. call_at cs n) x.5.calls ∙ x.1
 
       -- what overtaking asks
+      pub ready_core : IsCore q
+      ready_core = record { history = w.last.core.history; sound = sound_q }
+
       pub ready_ways : (d : Call) → call_at q.calls n ≡ Some d → IsLocated q.store d.request ways
       ready_ways d at = subst (λ (x : Call). IsLocated q.store x.request ways) (some_eq its d (sym at_q ∙ at)) walk.advances.located
 
@@ -185,7 +215,7 @@ module _ (lane : LaneView) (n : ℕ) (call : lane.call ≡ Some n) where
 
       module _ (m : PartsView) (over : (d : Call) → call_at q.calls n ≡ Some d → d.number ≡ n → Overtakes q m d) where
         makes : Prepared q m w.last.core.history w.last.comes.0 ways
-        makes = made w.mid lane its its_turn.0 undecided q ways walk m (over its at_q its_turn.1) w.last.core.history w.last.core.sound
+        makes = made w.mid lane its its_turn.0 undecided q ways walk free_file m (over its at_q its_turn.1) w.last.core.history w.last.core.sound
 
         at_m : call_at m.calls n ≡ Some w.last.comes.0
         at_m = ap (call_at m.calls) (sym its_turn.1) ∙ makes.at
@@ -197,6 +227,9 @@ module _ (lane : LaneView) (n : ℕ) (call : lane.call ≡ Some n) where
         pub made_ways : (d : Call) → call_at m.calls n ≡ Some d → IsLocated m.store d.request ways
         made_ways d at = subst (λ (x : Call). IsLocated m.store x.request ways) (some_eq its d (sym at_m ∙ at)) makes.located
 
+        pub made_settled : (d : Call) → call_at m.calls n ≡ Some d → IsSettled m.store d.session d.request ways.path
+        made_settled d at = subst (λ (x : Call). IsSettled m.store x.session x.request ways.path) (some_eq its d (sym at_m ∙ at)) makes.settled
+
         pub made_room : 0 < m.book.room
         made_room =
             let a = passing_removed is_undecided (is_at (nat_cmp n)) m.calls its at_m in
@@ -204,15 +237,15 @@ module _ (lane : LaneView) (n : ℕ) (call : lane.call ≡ Some n) where
             let room = makes.sound.ledger.room in
             omega (arith, a, b, room)
 
-        module _ (r : PartsView) (given : Reply) (fin : (d : Call) → call_at m.calls n ≡ Some d → FinishState m r d n given) where
+        module _ (r : PartsView) (given : Reply) (fin : (d : Call) → call_at m.calls n ≡ Some d → FinishState m r d n given) (one : (d : Call) → call_at q.calls n ≡ Some d → CopiesOne q.store d given) where
           finishes : FinishState m r w.last.comes.0 w.last.comes.0.number given
           finishes = subst (λ k. FinishState m r its k given) (sym its_turn.1) (fin its at_m)
 
           pub its_given : IsGiven n lane.session given
-          its_given = subst (λ k. IsGiven k lane.session given) its_turn.1 (decided_given w.mid lane its its_turn.0 undecided q ways walk m (over its at_q its_turn.1) w.last.core.history w.last.core.sound r given finishes)
+          its_given = subst (λ k. IsGiven k lane.session given) its_turn.1 (decided_given w.mid lane its its_turn.0 undecided q ways walk free_file m (over its at_q its_turn.1) w.last.core.history w.last.core.sound r given finishes)
 
           pub decided_end : (a : Answer) → a ≡ record { number = n; session = lane.session; reply = given } → Ends r (step.Answered a) (at_rest lane)
           decided_end a is =
               ended (outcome.Walked (walked.Ready ways)) q w (step.Answered a) r (at_rest lane)
-              (decided_step w.mid lane its its_turn.0 undecided q ways walk m (over its at_q its_turn.1) r given finishes a (is ∙ ap (λ k. record { number = k; session = lane.session; reply = given }) (sym its_turn.1)))
+              (decided_step w.mid lane its its_turn.0 undecided q ways walk free_file m (over its at_q its_turn.1) r given finishes a (is ∙ ap (λ k. record { number = k; session = lane.session; reply = given }) (sym its_turn.1)) (one its at_q))
               (finishes.records.drawn ∙ makes.drawn ∙ walk.drawn) (λ e. absurd cc)

@@ -1,24 +1,35 @@
 -- What each event does to a core.
-use Rattle.std.specs.Prelude.{◌≡◌, ◌≢◌, ◌⊎◌, ◌<◌, ◌≤◌, ◌+◌, ◌-◌, ◌^◌, ℕ, zero, suc, min, List, [], ◌∷◌, ◌++◌, filter_map, Some, None}
+use Rattle.std.specs.Prelude.{◌≡◌, ◌≢◌, ◌⊎◌, ◌<◌, ◌≤◌, ◌+◌, ◌-◌, ◌^◌, ℕ, zero, suc, min, true, false, List, [], ◌∷◌, ◌++◌, filter_map, Some, None}
 use Rattle.std.specs.Ordering.{nat_cmp}
 use Rattle.std.specs.List.{AllByRecursion}
 use Rattle.std.specs.List.Sorted.{IsStrictlySortedBy}
 use Rattle.sf_reply.specs.declared.reply.Reply.{Reply}
+use Rattle.sf_reply.specs.declared.reply.Reply.TheVariants as reply
+use Rattle.sf_reply.specs.declared.reply.StatusCode.TheVariants.{Success}
+use Rattle.sf_block.specs.Contents.{blocks_of}
+use Rattle.sf_call.specs.declared.metadata.Metadata.{Metadata}
+use Rattle.sf_call.specs.declared.handle.Handle.{Handle}
+use Rattle.sf_call.specs.Tree.{Tree}
 use Rattle.sf_call.specs.declared.request.Request.{Request}
+use Rattle.sf_call.specs.declared.request.Request.TheVariants as request
 use Rattle.sf_call.specs.declared.record.Record.{Record}
 use Rattle.sf_call.specs.declared.record.Record.TheVariants.{Did, Left}
 use Rattle.sf_call.specs.declared.call.Call.{Call}
+use Rattle.sf_call.specs.declared.call.Stage.TheVariants as stage
 use Rattle.sf_call.specs.Answers.{Answered as Answer}
 use Rattle.sf_call.specs.declared.fault.CoreFault.{CoreFault}
 use Rattle.sf_call.specs.declared.fault.CoreFault.TheVariants as fault
 use Rattle.sf_call.specs.Changes.{moved_by}
-use Rattle.sf_call.specs.Calls.{answer_to}
+use Rattle.sf_call.specs.Calls.{answer_to, start_of}
+use Rattle.sf_call.specs.Handles.{opened}
+use Rattle.sf_call.specs.Handles.Opened.{OpenFile}
 use Rattle.sf_call.specs.Histories.{replay, IsNewNumber, IsAmong}
 use Rattle.sf_inode.specs.Stores.{StoreState, entry_of, holder_of}
 use Rattle.sf_keeps.specs.Steps.{walk}
 use Rattle.sf_coupling.specs.Walks.{Spot, Holds}
 use Rattle.sf_walk.specs.Routes.{IsPosition, route_of, spots_of}
 use Rattle.sf_walk.specs.Steps.{LooksAt, WalksOn}
+use Rattle.sf_walk.specs.Files.{WaitsForFile, cuts_file}
 use Rattle.sf_core.specs.Sure.{AreSure}
 use Rattle.sf_core.specs.declared.step.Step.{Step}
 use Rattle.sf_core.specs.declared.step.Step.TheVariants.{Moved, Blocked, Answered, Stranger}
@@ -26,7 +37,7 @@ use Rattle.sf_core.specs.Lanes.{LaneView, at_rest}
 use Rattle.sf_core.specs.Cores.{CoreView, Slot, call_at, slot_of, joined, last_number, most_sessions}
 use Rattle.sf_core.specs.Cores.Slot.{Gone, Idle, Busy}
 use Rattle.sf_core.specs.Histories.{IsHistory}
-use Rattle.sf_core.specs.Progress.{reply_of, left_of, bound_of, IsBehind, MayDecide, did, new_call, SameCall, overtaken, names_of, number_at}
+use Rattle.sf_core.specs.Progress.{reply_of, left_of, bound_of, is_write, IsBehind, CopiesInto, IsCopying, MayDecide, did, new_call, SameCall, overtaken, names_of, number_at}
 
 -- the lane's call, if the lane is this core's
 pub record OwnCall (v : CoreView) (lane : LaneView) (c : Call) : Type 0 where
@@ -67,6 +78,7 @@ pub record Goes (v w : CoreView) (lane : LaneView) (c d : Call) : Type 0 where
   pub same : SameCall c d
   pub before : reply_of c ≡ None
   pub after : reply_of d ≡ None
+  pub no_write : is_write c.request ≡ false
   pub walks : WalksOn c.stage d.stage
   pub less : left_of d < left_of c
   pub some : 0 < left_of d
@@ -76,15 +88,21 @@ pub record Goes (v w : CoreView) (lane : LaneView) (c d : Call) : Type 0 where
   pub few : w.look_ups ≤ v.look_ups + 2
 
 -- The names that a call looks up next lead to a node, and another call holds it: its number stands
--- at the node, and it has come there by the same names.
+-- at the node, and it has come there by the same names, or copies into it.
 pub record HoldsWanted (s : StoreState) (c d : Call) : Type 0 where
   pub spot : Spot
   pub looks : LooksAt (route_of c.request) c.stage spot.path
   pub leads : walk (entry_of s.nodes) s.root spot.path ≡ Some spot.node
   pub held : holder_of s.nodes spot.node ≡ Some d.number
-  pub came : Holds (spots_of (route_of d.request) d.stage) spot
+  pub came : Holds (spots_of (route_of d.request) d.stage) spot ⊎ CopiesInto d.stage spot.node
 
--- another session's undecided call, which looks further down, holds what the call wants
+-- another call copies into the file that the call's handle opens
+pub record HoldsFile (s : StoreState) (c d : Call) : Type 0 where
+  pub waits : WaitsForFile s c d.number
+  pub copies : CopiesInto d.stage waits.handle.node
+
+-- another session's call, which is undecided and looks further down, or copies, holds what the call
+-- wants
 pub record IsBlocked (v w : CoreView) (lane : LaneView) (c : Call) (holder : ℕ) : Type 0 where
   pub own : OwnCall v lane c
   pub undecided : reply_of c ≡ None
@@ -92,9 +110,9 @@ pub record IsBlocked (v w : CoreView) (lane : LaneView) (c : Call) (holder : ℕ
   pub call : Call
   pub apart : other ≢ lane.session
   pub slot : slot_of v other ≡ Busy call
-  pub holds : reply_of call ≡ None
+  pub holds : (reply_of call ≡ None) ⊎ IsCopying call.stage
   pub number : call.number ≡ holder
-  pub wanted : HoldsWanted v.store c call
+  pub wanted : HoldsWanted v.store c call ⊎ HoldsFile v.store c call
   pub deeper : IsBehind c call
   pub looks : LooksOnly v w 2
 
@@ -110,16 +128,95 @@ pub record After : Type 0 where
   pub added : List Record
   pub lane : LaneView
 
--- the record was there: a fetch
+-- the record was there: a fetch, after the last block of a WRITE
 pub record Fetches (b : Before) (a : After) (c : Call) (given : Reply) : Type 0 where
   pub own : OwnCall b.core b.lane c
   pub decided : reply_of c ≡ Some given
-  pub some : 0 < left_of c
+  pub one : left_of c ≡ 1
   pub recorded : IsAmong (did c given) b.history
   pub none : a.added ≡ []
   pub slot : SetsSlot b.core a.core b.lane.session Idle
   pub records : KeepsRecords b.core a.core
   pub look_ups : a.core.look_ups ≡ b.core.look_ups
+
+-- as many blocks are left as the call writes, but for the first
+abbrev pub HasLeft : Tree → Call → ℕ → Type 0
+HasLeft t c left =
+    (number offset : ℕ) (bytes : List ℕ) → c.request ≡ request.Write number offset bytes
+    → (handle : Handle) (m : Metadata) (contents : List ℕ)
+    → opened t c.session number ≡ OpenFile handle m contents
+    → left + 1 ≡ blocks_of (start_of handle contents offset) bytes
+
+-- a WRITE that succeeds writes one block at most
+abbrev pub IsOfOneBlock : Tree → Call → Reply → Type 0
+IsOfOneBlock t c given =
+    (number offset : ℕ) (bytes : List ℕ) → c.request ≡ request.Write number offset bytes
+    → given ≡ reply.Status Success → (handle : Handle) (m : Metadata) (contents : List ℕ)
+    → opened t c.session number ≡ OpenFile handle m contents
+    → blocks_of (start_of handle contents offset) bytes ≤ 1
+
+-- The first step of a WRITE of more than one block: its record is the one that is added, its reply
+-- waits, and it has copied its first block. It holds its file from now on.
+pub record Writes (b : Before) (a : After) (c d : Call) (given : Reply) : Type 0 where
+  pub own : OwnCall b.core b.lane c
+  pub same : SameCall c d
+  pub undecided : reply_of c ≡ None
+  pub decided : reply_of d ≡ Some given
+  pub write : is_write c.request ≡ true
+  pub position : IsPosition (route_of c.request) c.stage
+  pub way : MayDecide (replay b.history) c.request c.stage
+  pub copies : IsCopying d.stage
+  pub new_number : IsNewNumber c.number b.history
+  pub sure : AreSure b.history a.added
+  pub records : a.added ≡ did c given ∷ []
+  pub told : given ≡ (answer_to (replay b.history) c.session c.number c.moment c.request).reply
+  pub blocks : HasLeft (replay b.history) c (left_of d)
+  pub some : 0 < left_of d
+  pub less : left_of d < left_of c
+  pub slot : SetsSlot b.core a.core b.lane.session (Busy d)
+  pub keep : a.core.keep ≡ b.core.keep
+  pub more : b.core.look_ups ≤ a.core.look_ups
+  pub few : a.core.look_ups ≤ b.core.look_ups + 2
+  pub lane : a.lane ≡ b.lane
+
+-- a WRITE copies one block more, which isn't its last
+pub record CopiesBlock (v w : CoreView) (lane : LaneView) (c d : Call) : Type 0 where
+  pub own : OwnCall v lane c
+  pub same : SameCall c d
+  pub given : Reply
+  pub had : reply_of c ≡ Some given
+  pub has : reply_of d ≡ Some given
+  pub before : IsCopying c.stage
+  pub after : IsCopying d.stage
+  pub one : left_of c ≡ left_of d + 1
+  pub some : 0 < left_of d
+  pub slot : SetsSlot v w lane.session (Busy d)
+  pub records : KeepsRecords v w
+  pub look_ups : w.look_ups ≡ v.look_ups
+
+-- the call of a record cuts a file, or fills it up
+abbrev pub CutsFile : Record → Type 0
+CutsFile (Did number session moment request given) = cuts_file request ≡ true
+CutsFile (Left session) = ⊥
+
+abbrev pub HasCut : List Record → Type 0
+HasCut records = (r : Record) × IsAmong r records × CutsFile r
+
+-- what is left of another session's WRITE was copied, since a call that is helped cuts a file: its
+-- reply waits still
+pub record IsFinished (v w : CoreView) (session : ℕ) (helped : List Record) : Type 0 where
+  pub cut : HasCut helped
+  pub before : Call
+  pub after : Call
+  pub given : Reply
+  pub was : slot_of v session ≡ Busy before
+  pub copying : IsCopying before.stage
+  pub now : slot_of w session ≡ Busy after
+  pub same : SameCall before after
+  pub had : reply_of before ≡ Some given
+  pub has : reply_of after ≡ Some given
+  pub rests : after.stage ≡ stage.Fresh
+  pub less : left_of after ≤ left_of before
 
 -- an undecided call was carried out by another session's: its record is among these, and its reply
 -- waits
@@ -132,6 +229,7 @@ pub record IsHelped (v w : CoreView) (session : ℕ) (helped : List Record) : Ty
   pub now : slot_of w session ≡ Busy after
   pub same : SameCall before after
   pub decided : reply_of after ≡ Some given
+  pub rests : after.stage ≡ stage.Fresh
   pub less : left_of after ≤ left_of before
   pub recorded : IsAmong (did before given) helped
 
@@ -158,7 +256,8 @@ IsOfOther v session (Did number s moment request given) = (c : Call) × (s ≢ s
     × (Did number s moment request given ≡ did c given)
 IsOfOther v session (Left s) = ⊥
 
--- The call is decided: its record is the last of those added. Want of memory is told in place of a
+-- The call is decided: its record is the last of those added. A WRITE that is carried out so has one
+-- block at most. Want of memory is told in place of a
 -- reply of the tree, after the records before it, only where that takes memory.
 pub record Decides (b : Before) (a : After) (c : Call) (given : Reply) : Type 0 where
   pub own : OwnCall b.core b.lane c
@@ -167,6 +266,7 @@ pub record Decides (b : Before) (a : After) (c : Call) (given : Reply) : Type 0 
   pub new_number : IsNewNumber c.number b.history
   pub position : IsPosition (route_of c.request) c.stage
   pub way : MayDecide (replay b.history) c.request c.stage
+  pub one : IsOfOneBlock (replay b.history) c given
   pub helped : List Record
   pub order : HelpsInOrder b.core b.history c helped
   pub of_others : AllByRecursion (IsOfOther b.core b.lane.session) helped
@@ -175,7 +275,7 @@ pub record Decides (b : Before) (a : After) (c : Call) (given : Reply) : Type 0 
   pub keep : a.core.keep ≡ b.core.keep
   pub slot : slot_of a.core b.lane.session ≡ Idle
   pub others : (s : ℕ) → s ≢ b.lane.session → (slot_of a.core s ≡ slot_of b.core s)
-      ⊎ IsHelped b.core a.core s helped
+      ⊎ IsHelped b.core a.core s helped ⊎ IsFinished b.core a.core s helped
   pub joined : joined a.core ≡ joined b.core
   pub drawn : a.core.drawn ≡ b.core.drawn
   pub joins : a.core.joins ≡ b.core.joins
@@ -193,9 +293,16 @@ pub record Answers (b : Before) (given : Answer) (a : After) : Type 0 where
   pub number : b.lane.call ≡ Some given.number
   pub lane : a.lane ≡ at_rest b.lane
 
+-- The call took the root or walked one name further; or it is a WRITE, and copied its first block,
+-- or another one that isn't its last.
+abbrev pub MovesOn : Before → After → Type 0
+MovesOn b a = (((c : Call) × (d : Call) × Goes b.core a.core b.lane c d) × AddsNothing b a)
+    ⊎ ((c : Call) × (d : Call) × (given : Reply) × Writes b a c d given)
+    ⊎ (((c : Call) × (d : Call) × CopiesBlock b.core a.core b.lane c d) × AddsNothing b a)
+
 -- what a step does to a core and to the lane, and the records that it adds
 abbrev pub Steps : Before → Step → After → Type 0
-Steps b Moved a = ((c : Call) × (d : Call) × Goes b.core a.core b.lane c d) × AddsNothing b a
+Steps b Moved a = MovesOn b a
 Steps b (Blocked holder) a =
     ((c : Call) × IsBlocked b.core a.core b.lane c holder) × AddsNothing b a
 Steps b (Answered given) a =

@@ -8,3 +8,5 @@ pub mod Sound
 pub mod Histories
 pub mod Events
 pub mod Stuck
+pub mod Finishing
+pub mod Writing

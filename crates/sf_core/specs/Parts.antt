@@ -1,3 +1,4 @@
+-- No public clause cites this module.
 -- What a core is made of.
 use Rattle.std.specs.Prelude.{ℕ, List, Option}
 use Rattle.sf_book.specs.Books.{BookView}

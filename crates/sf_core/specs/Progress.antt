@@ -1,8 +1,10 @@
 -- How far an unanswered call is.
-use Rattle.std.specs.Prelude.{◌≡◌, ◌⊎◌, ◌<◌, ◌+◌, ◌-◌, ℕ, Bool, false, not, nat_eq, nat_le, ◌&&◌, ◌||◌, if◌then◌else◌, List, [], ◌∷◌, length, take, map, sum, filter, Option, Some, None, is_none, is_some}
+use Rattle.std.specs.Prelude.{◌≡◌, ◌⊎◌, ◌<◌, ◌+◌, ◌-◌, ℕ, Bool, true, false, not, nat_eq, nat_le, ◌&&◌, ◌||◌, if◌then◌else◌, List, [], ◌∷◌, length, take, map, sum, filter, Option, Some, None, is_none, is_some}
 use Rattle.sf_path.specs.Names.{Path}
 use Rattle.sf_reply.specs.declared.reply.Reply.{Reply}
+use Rattle.sf_block.specs.Contents.{most_blocks}
 use Rattle.sf_call.specs.declared.request.Request.{Request}
+use Rattle.sf_call.specs.declared.request.Request.TheVariants as request
 use Rattle.sf_call.specs.declared.record.Record.{Record}
 use Rattle.sf_call.specs.declared.record.Record.TheVariants.{Did, Left}
 use Rattle.sf_call.specs.declared.call.Call.{Call}
@@ -13,6 +15,8 @@ use Rattle.sf_call.specs.declared.call.Reached.{Reached}
 use Rattle.sf_walk.specs.Routes.{Route, route_of, paths_on, reached_at}
 use Rattle.sf_walk.specs.Routes.Route.{NoPath, Along, Between}
 use Rattle.sf_walk.specs.Steps.{GoesFrom}
+use Rattle.sf_walk.specs.Files.{holder_by}
+use Rattle.sf_inode.specs.Stores.{StoreState}
 use Rattle.sf_walk.specs.Ways.{names_of as path_names}
 use Rattle.sf_call.specs.Requests.{Target}
 use Rattle.sf_call.specs.Requests.Target.{ByHandle, OnPath, OnPaths}
@@ -21,29 +25,57 @@ use Rattle.sf_call.specs.Requests.Target.{ByHandle, OnPath, OnPaths}
 unfoldable pub reply_of : Call → Option Reply
 reply_of c = c.reply
 
+abbrev pub walks_nothing : Route → Bool
+walks_nothing NoPath = true
+walks_nothing route = false
+
+-- whether a call is a WRITE
+abbrev pub is_write : Request → Bool
+is_write (request.Write handle offset bytes) = true
+is_write other = false
+
+-- Whether a session's call is decided as it begins: it walks nothing, is no WRITE, and no call holds
+-- a file that it reads or sets.
+abbrev pub is_at_once : StoreState → ℕ → Request → Bool
+is_at_once s session request =
+    walks_nothing (route_of request)
+    && (not (is_write request) && is_none (holder_by s session request))
+
+-- how many blocks a call copies at most: those of a WRITE's data, wherever they start
+abbrev pub blocks_in : Request → ℕ
+blocks_in (request.Write handle offset bytes) = most_blocks bytes
+blocks_in other = 0
+
 -- the most steps of a call that aren't blocked
 unfoldable pub bound_of : Request → ℕ
-bound_of request = path_names request + 3
+bound_of request = path_names request + 3 + blocks_in request
 
--- how many of them are left
-abbrev pub left_at : ℕ → Stage → ℕ
-left_at names stage.Fresh = names + 3
-left_at names (stage.At walked node) = names + 2 - walked
-left_at names (stage.Ends common old new) = names + 2 - (old.walked + new.walked)
+-- how many of them are left: to a call that copies, as many as there are blocks left
+abbrev pub left_at : Request → Stage → ℕ
+left_at request stage.Fresh = path_names request + 3 + blocks_in request
+left_at request (stage.At walked node) = path_names request + 2 - walked
+left_at request (stage.Ends common old new) =
+    path_names request + 2 - (old.walked + new.walked)
+left_at request (stage.Copies node left) = left
 
--- a call whose reply waits makes one step more, which fetches it
-abbrev pub left_by : ℕ → Stage → Option Reply → ℕ
-left_by names at None = left_at names at
-left_by names at (Some given) = 1
+-- a call whose reply waits and that copies nothing makes one step more, which fetches it
+abbrev pub left_decided : Stage → ℕ
+left_decided (stage.Copies node left) = left
+left_decided at = 1
+
+abbrev pub left_by : Request → Stage → Option Reply → ℕ
+left_by request at None = left_at request at
+left_by request at (Some given) = left_decided at
 
 unfoldable pub left_of : Call → ℕ
-left_of c = left_by (path_names c.request) c.stage (reply_of c)
+left_of c = left_by c.request c.stage (reply_of c)
 
 -- how far down a call looks next: on two paths that have parted, on the way of the old one up to
 -- its parent, then on the other
 abbrev pub depth_at : Route → Stage → ℕ
 depth_at route stage.Fresh = 0
 depth_at route (stage.At walked node) = walked + 1
+depth_at route (stage.Copies node left) = 0
 depth_at NoPath (stage.Ends common old new) = 0
 depth_at (Along path) (stage.Ends common old new) = 0
 depth_at (Between from to) (stage.Ends common old new) =
@@ -52,9 +84,20 @@ depth_at (Between from to) (stage.Ends common old new) =
 abbrev pub depth_of : Call → ℕ
 depth_of c = depth_at (route_of c.request) c.stage
 
--- a call that another blocks is behind that one: it looks less far down
+-- the call copies into this file
+abbrev pub CopiesInto : Stage → ℕ → Type 0
+CopiesInto (stage.Copies file left) node = file ≡ node
+CopiesInto at node = ⊥
+
+-- a call that copies
+abbrev pub IsCopying : Stage → Type 0
+IsCopying (stage.Copies file left) = Unit {0}
+IsCopying at = ⊥
+
+-- A call that another blocks is behind that one: it looks less far down, or that one copies, which
+-- waits for nobody.
 abbrev pub IsBehind : Call → Call → Type 0
-IsBehind c d = depth_of c < depth_of d
+IsBehind c d = (IsCopying c.stage → ⊥) × (IsCopying d.stage ⊎ (depth_of c < depth_of d))
 
 -- all names but the last are walked, or all up to the one that is missing or no directory
 abbrev pub EndsWalk : Tree → Path → ℕ → Type 0
@@ -76,10 +119,14 @@ MayDecide tree request at = MayDecideBy tree (route_of request) at
 abbrev pub did : Call → Reply → Record
 did c given = Did c.number c.session c.moment c.request given
 
--- a call that walks may be carried out by another one while its session waits, so its request is
--- there twice
+-- A call that walks may be carried out by another one while its session waits, and a WRITE's record
+-- may stand before its session is answered: so its request is there twice.
+abbrev pub copy_by_handle : Request → Option Request
+copy_by_handle (request.Write handle offset bytes) = Some (request.Write handle offset bytes)
+copy_by_handle other = None
+
 abbrev pub copy_of : Route → Request → Option Request
-copy_of NoPath request = None
+copy_of NoPath request = copy_by_handle request
 copy_of route request = Some request
 
 abbrev pub new_call : ℕ → ℕ → ℕ → Request → Call

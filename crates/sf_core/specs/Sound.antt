@@ -1,18 +1,25 @@
--- What is true of every core between two events: its history, its walks, and its numbers.
-use Rattle.std.specs.Prelude.{◌≡◌, ◌<◌, ◌≤◌, ◌+◌, ℕ, T, List, [], length, Option, Some, None}
+-- No public clause cites this module.
+-- What is true of every core between two events: its history, its walks, its files that are being
+-- written, and its numbers.
+use Rattle.std.specs.Prelude.{◌≡◌, ◌⊎◌, ◌<◌, ◌≤◌, ◌+◌, ℕ, T, if◌then◌else◌, List, [], length, Option, Some, None, option_and_then}
 use Rattle.std.specs.Option.{option_map_or}
 use Rattle.std.specs.Ordering.{nat_cmp}
 use Rattle.std.specs.FinMap.{is_sorted}
 use Rattle.sf_reply.specs.declared.reply.Reply.{Reply}
 use Rattle.sf_call.specs.declared.call.Call.{Call}
+use Rattle.sf_call.specs.declared.call.Stage.{Stage}
 use Rattle.sf_call.specs.declared.call.Stage.TheVariants as stage
 use Rattle.sf_call.specs.declared.record.Record.{Record}
+use Rattle.sf_call.specs.declared.request.Request.TheVariants as request
 use Rattle.sf_call.specs.Values.{IsCall}
-use Rattle.sf_inode.specs.Stores.{holder_of}
+use Rattle.sf_inode.specs.declared.node.Node.{Node}
+use Rattle.sf_inode.specs.declared.handle.OpenHandle.{OpenHandle}
+use Rattle.sf_inode.specs.Stores.{StoreState, holder_of, handle_at, left_at, is_directory_at, is_file_at}
+use Rattle.sf_copying.specs.Copies.{Copying, copying, AreCopies, Scene as CopyingScene}
 use Rattle.sf_coupling.specs.Walks.{Spot, scene, AreWalks}
 use Rattle.sf_walk.specs.Routes.{IsPosition, route_of, spots_of, terrain}
 use Rattle.sf_core.specs.Cores.{call_at, session_at, last_number}
-use Rattle.sf_core.specs.Progress.{reply_of, undecided_in, copy_of}
+use Rattle.sf_core.specs.Progress.{reply_of, undecided_in, copy_of, IsCopying}
 use Rattle.sf_core.specs.Histories.{IsHistory}
 use Rattle.sf_core.specs.Parts.{PartsView, seen}
 
@@ -23,13 +30,59 @@ spots_at c = spots_of (route_of c.request) c.stage
 abbrev pub spots_in : List (ℕ × Call) → ℕ → List Spot
 spots_in calls number = option_map_or spots_at (call_at calls number) []
 
--- The calls' walks are coupled, and each is on its route; one whose reply waits holds nothing.
+-- who holds a directory, and who a file
+abbrev pub walker_of : List (Option Node) → ℕ → Option ℕ
+walker_of nodes id = if is_directory_at nodes id then holder_of nodes id else None
+
+abbrev pub writer_of : List (Option Node) → ℕ → Option ℕ
+writer_of nodes id = if is_file_at nodes id then holder_of nodes id else None
+
+-- a call whose reply waits stands nowhere, or copies
+abbrev pub IsResting : Stage → Type 0
+IsResting at = (at ≡ stage.Fresh) ⊎ IsCopying at
+
+-- The calls' walks are coupled, and each undecided one is on its route; one whose reply waits holds
+-- no directory.
 pub record Coupled (p : PartsView) : Type 0 where
-  pub walks : AreWalks (scene (terrain p.store) (spots_in p.calls) (holder_of p.store.nodes))
-  pub positions : (number : ℕ) (c : Call) → call_at p.calls number ≡ Some c
+  pub walks : AreWalks (scene (terrain p.store) (spots_in p.calls) (walker_of p.store.nodes))
+  pub positions : (number : ℕ) (c : Call) → call_at p.calls number ≡ Some c → reply_of c ≡ None
       → IsPosition (route_of c.request) c.stage
   pub waiting : (number : ℕ) (c : Call) (given : Reply) → call_at p.calls number ≡ Some c
-      → reply_of c ≡ Some given → c.stage ≡ stage.Fresh
+      → reply_of c ≡ Some given → IsResting c.stage
+
+-- what a call copies into
+abbrev pub copying_at : Stage → Option Copying
+copying_at (stage.Copies node left) = Some (copying node left)
+copying_at at = None
+
+abbrev pub copying_in : List (ℕ × Call) → ℕ → Option Copying
+copying_in calls number = option_and_then (λ (c : Call). copying_at c.stage) (call_at calls number)
+
+abbrev pub copying_scene : StoreState → List (ℕ × Call) → CopyingScene
+copying_scene s calls = record {
+  copying_of = copying_in calls;
+  writer = writer_of s.nodes;
+  left = left_at s.nodes;
+}
+
+-- a WRITE that copies: its own session's handle opens the file, and its reply waits
+pub record IsWriting (s : StoreState) (c : Call) (file : ℕ) : Type 0 where
+  pub handle : ℕ
+  pub offset : ℕ
+  pub bytes : List ℕ
+  pub write : c.request ≡ request.Write handle offset bytes
+  pub opened : OpenHandle
+  pub opens : handle_at s c.session handle ≡ Some opened
+  pub leads : opened.node ≡ file
+  pub given : Reply
+  pub decided : reply_of c ≡ Some given
+
+-- Each call that copies holds its file, which is a WRITE's; no other file is held, and of one that
+-- nobody holds nothing is left to be copied.
+pub record Copied (p : PartsView) : Type 0 where
+  pub copies : AreCopies (copying_scene p.store p.calls)
+  pub writing : (number : ℕ) (c : Call) (node left : ℕ) → call_at p.calls number ≡ Some c
+      → c.stage ≡ stage.Copies node left → IsWriting p.store c node
 
 -- an unanswered call, and its session's
 pub record IsCallOf (sessions : List (ℕ × Option ℕ)) (drawn number : ℕ) (c : Call) : Type 0 where
@@ -63,6 +116,7 @@ pub record Ledger (p : PartsView) : Type 0 where
 pub record Sound (p : PartsView) (h : List Record) : Type 0 where
   pub history : IsHistory (seen p) h
   pub coupled : Coupled p
+  pub copied : Copied p
   pub ledger : Ledger p
 
 -- some history is the whole one

@@ -1,3 +1,4 @@
+-- No public clause cites this module.
 -- What each event does to the parts of a core.
 use Rattle.std.specs.Prelude.{◌≡◌, ◌⊎◌, ◌<◌, ◌≤◌, ◌+◌, ◌^◌, ℕ, zero, suc, Bool, true, false, List, [], ◌∷◌, length, Option, Some, None, IsSome}
 use Rattle.std.specs.Ordering.{nat_cmp}
@@ -19,16 +20,17 @@ use Rattle.sf_inode.specs.Stores.{StoreState, IsFirst, closed_all}
 use Rattle.sf_keeps.specs.Keeps.{Keeps}
 use Rattle.sf_walk.specs.declared.walking.Walk.{Walk}
 use Rattle.sf_walk.specs.declared.walking.Walk.TheVariants as walk
-use Rattle.sf_walk.specs.Ways.{names_of}
-use Rattle.sf_walk.specs.Served.{IsCarriedOut, IsRefused, IsUnused, LooksUp, NodesStay, may_want_memory}
+use Rattle.sf_walk.specs.Files.{IsFileFree, WaitsForFile}
+use Rattle.sf_walk.specs.Served.{IsCarriedOut, IsRefused, IsUnused, NodesStay, may_want_memory}
 use Rattle.sf_walk.specs.Routes.{route_of, nodes_of}
 use Rattle.sf_walk.specs.Steps.{Advances, walker, let_go}
 use Rattle.sf_core.specs.declared.parts.Outcome.{Outcome}
 use Rattle.sf_core.specs.declared.parts.Outcome.TheVariants as outcome
 use Rattle.sf_core.specs.Cores.{call_at, session_at}
-use Rattle.sf_core.specs.Progress.{did, new_call, overtaken}
+use Rattle.sf_core.specs.Progress.{did, is_write, new_call, overtaken, IsCopying}
 use Rattle.sf_core.specs.Parts.{PartsView}
 use Rattle.sf_core.specs.Sound.{IsCore}
+use Rattle.sf_core.specs.Finishing.{FinishesWriter}
 
 -- a session has this call, or none, if it is joined
 abbrev pub session_set_by : List (ℕ × Option ℕ) → ℕ → Option ℕ → Option (Option ℕ)
@@ -99,15 +101,22 @@ pub record Walked (p q : PartsView) (c : Call) (number : ℕ) (step : Walk) : Ty
   pub drawn : q.drawn ≡ p.drawn
   pub joins : q.joins ≡ p.joins
 
--- A session's call was to go on: it is none of the session's, or its reply waits, or it made a
--- step.
+-- A session's call was to go on: it is none of the session's; or its reply waits, or it is still to
+-- copy; or another call holds its file; or it is a WRITE that is to start; or it made a step.
 abbrev pub ComesTo : PartsView → PartsView → ℕ → ℕ → Outcome → Type 0
 ComesTo p q session number outcome.Foreign =
     (q ≡ p) × ((c : Call) → call_at p.calls number ≡ Some c → c.session ≡ session → ⊥)
 ComesTo p q session number outcome.Waits = (q ≡ p) × (c : Call) × (call_at p.calls number ≡ Some c)
-    × (c.session ≡ session) × IsSome c.reply
+    × (c.session ≡ session) × IsSome c.reply × (c.stage ≡ stage.Fresh)
+ComesTo p q session number outcome.Copies = (q ≡ p) × (c : Call) × (call_at p.calls number ≡ Some c)
+    × (c.session ≡ session) × IsCopying c.stage
+ComesTo p q session number (outcome.FileHeld holder) = (q ≡ p) × (c : Call)
+    × (call_at p.calls number ≡ Some c) × (c.session ≡ session) × (c.reply ≡ None)
+    × WaitsForFile p.store c holder
+ComesTo p q session number outcome.Writes = (q ≡ p) × (c : Call) × (call_at p.calls number ≡ Some c)
+    × (c.session ≡ session) × (c.reply ≡ None) × IsFileFree p.store c × (is_write c.request ≡ true)
 ComesTo p q session number (outcome.Walked step) = (c : Call) × (call_at p.calls number ≡ Some c)
-    × (c.session ≡ session) × (c.reply ≡ None) × Walked p q c number step
+    × (c.session ≡ session) × (c.reply ≡ None) × IsFileFree p.store c × Walked p q c number step
 
 -- the stage after a step
 abbrev pub stage_after : Walk → Stage → Stage
@@ -122,10 +131,16 @@ pub record IsUnderWay (p : PartsView) (number : ℕ) (s : StoreState) (c : Call)
   pub store : p.store ≡ s
   pub call : call_at p.calls number ≡ Some (at_stage at c)
   pub undecided : c.reply ≡ None
+  pub free : IsFileFree s c
 
 -- the parts where the call of the number has come to a stage, on this store
 abbrev pub come_to : PartsView → ℕ → StoreState → Stage → PartsView
 come_to p number s at = record p { store = s; calls = staged p.calls number at }
+
+-- it made a step, or came to where it decides
+abbrev pub IsWalked : Outcome → Type 0
+IsWalked (outcome.Walked walk) = Unit {0}
+IsWalked _ = ⊥
 
 -- whether a step moved the call
 abbrev pub is_move : Outcome → Bool
@@ -185,6 +200,14 @@ pub record Records (p q : PartsView) (c : Call) (given : Reply) : Type 0 where
   pub drawn : q.drawn ≡ p.drawn
   pub joins : q.joins ≡ p.joins
 
+-- a call goes, and its record is the next one
+abbrev pub gone : PartsView → Call → ℕ → Reply → PartsView
+gone p c number given = record p {
+  book = put p.book (did c given);
+  sessions = session_set p.sessions c.session None;
+  calls = remove_entry (is_at (nat_cmp number)) p.calls;
+}
+
 -- A call was decided: it goes.
 pub record FinishState (p q : PartsView) (c : Call) (number : ℕ) (given : Reply) : Type 0 where
   pub records : Records p q c given
@@ -217,7 +240,7 @@ all_set_back p (number ∷ numbers) = all_set_back (set_back p number) numbers
 -- A call that held nothing was carried out for its session to fetch: its reply waits.
 pub record HelpState (p q : PartsView) (c : Call) (number : ℕ) (given : Reply) : Type 0 where
   pub records : Records p q c given
-  pub looks : LooksUp p.store q.store (names_of c.request)
+  pub look_ups : q.store.look_ups ≡ p.store.look_ups
   pub sessions : q.sessions ≡ p.sessions
   pub calls : q.calls ≡ answered p.calls number given
 
@@ -225,7 +248,7 @@ pub record HelpState (p q : PartsView) (c : Call) (number : ℕ) (given : Reply)
 abbrev pub Helps : PartsView → PartsView → ℕ → Type 0
 Helps p q number = (c : Call) → call_at p.calls number ≡ Some c → c.stage ≡ stage.Fresh
     → c.copy ≡ Some c.request
-    → (given : Reply) × HelpState p q c number given
+    → (mid : PartsView) × FinishesWriter p mid c × ((given : Reply) × HelpState mid q c number given)
 
 -- so were the calls of all these numbers, one after the other
 abbrev pub HelpsAll : PartsView → List ℕ → PartsView → Type 0

@@ -1,13 +1,17 @@
 //! All calls of all sessions, on one tree.
 
-ghost use Rattle.std.specs.Prelude.{◌≡◌, ◌≢◌, ◌<◌, ◌+◌, ◌++◌, ◌∷◌, [], List, None, Some, IsSome, IfOk, IfErr, IfSome, IfNone, OnOk, OnErr};
+ghost use Rattle.std.specs.Prelude.{◌≡◌, ◌≢◌, ◌<◌, ◌+◌, ◌++◌, ◌∷◌, [], List, None, Some, false, IsSome, IfOk, IfErr, IfSome, IfNone, OnOk, OnErr};
 ghost use Rattle.sf_call.specs.declared.record.Record.{Record};
 ghost use Rattle.sf_call.specs.declared.record.Record.TheVariants.{Left};
+ghost use Rattle.sf_call.specs.Histories.{IsGiven};
 ghost use Rattle.sf_core.specs.Cores.{Slot, new_core, slot_of, joined, last_number, most_sessions};
 ghost use Rattle.sf_core.specs.Cores.Slot.{Idle};
 ghost use Rattle.sf_core.specs.Histories.{IsHistory};
+ghost use Rattle.sf_core.specs.Progress.{is_at_once};
+ghost use Rattle.sf_reply.specs.declared.reply.Reply.{Reply};
 ghost use Rattle.sf_core.specs.Stuck.{IsNeverStuck};
 ghost use Rattle.sf_core.specs.declared.step.Step.TheVariants.{Answered};
+ghost use Rattle.sf_core.specs.Writing.{Tells};
 ghost use Rattle.sf_core.specs.Events.{StepsOn, Walks, Joins, Begins, begun, AnswersAtOnce, Leaves, RefusesJoin, RefusesBegin, came};
 
 use crate::lane::{Lane, Share};
@@ -15,7 +19,8 @@ use crate::parts::{Outcome, Parts};
 use crate::step::Step;
 use sf_book::Book;
 use sf_call::{Answer, CoreFault, Record, Request};
-use sf_walk::{Route, Walk, route_of};
+use sf_reply::Reply;
+use sf_walk::Walk;
 use std::alloc::{AllocError, Global};
 use std::marker::Model;
 
@@ -153,8 +158,8 @@ impl Core {
         Ok(())
     }
 
-    /// A call of the lane, under the next number. One that walks nothing is answered at once, by the
-    /// one step that it takes; any other begins, as by `begin`.
+    /// A call of the lane, under the next number. One that walks nothing and waits for nobody, and is
+    /// no WRITE, is answered at once, by the one step that it takes; any other begins, as by `begin`.
     pub fn call(
         &mut self,
         lane: &mut Lane,
@@ -169,13 +174,15 @@ impl Core {
             (Begins self.old self.new lane.old request moment
             × (lane.new ≡ begun lane.old self.new.drawn)
             × ((h : List Record) → IsHistory self.old h → IsHistory self.new h))) }
+        ensures later { IfOk result (λ made. IfNone made
+            (is_at_once self.old.store lane.old.session request ≡ false)) }
         ensures err { OnErr result ((self.new ≡ self.old) × (lane.new ≡ lane.old)) }
         ensures fault { IfErr result (λ fault. RefusesBegin self.old lane.old fault) }
     {
-        let Route::NoPath = route_of(&request) else {
+        if !self.parts.is_at_once(lane.session, &request) {
             self.begin(lane, request, moment)?;
             return Ok(None);
-        };
+        }
         if !self.parts.is_idle(lane.session) {
             return Err(CoreFault::Stranger);
         }
@@ -191,7 +198,8 @@ impl Core {
         Ok(Some(answer))
     }
 
-    /// One step of the lane's call. Takes no memory where it moves or blocks.
+    /// One step of the lane's call. It takes no memory where it moves or blocks, but for a WRITE's
+    /// first step.
     pub fn step(&mut self, lane: &mut Lane) -> Step
         requires { IsSome lane.old.call }
         ensures { StepsOn self.old lane.old result self.new lane.new }
@@ -226,6 +234,15 @@ impl Core {
                 };
                 lane.call = None;
                 Step::Answered(Answer::new(number, lane.session, reply))
+            }
+            Outcome::Copies => {
+                let reply = self.parts.copy_on(lane.session, number, most);
+                told(lane, number, reply)
+            }
+            Outcome::FileHeld(holder) => Step::Blocked(holder),
+            Outcome::Writes => {
+                let reply = self.parts.write_on(lane.session, number, most);
+                told(lane, number, reply)
             }
             Outcome::Walked(Walk::Moved(_)) => Step::Moved,
             Outcome::Walked(Walk::Blocked(holder)) => Step::Blocked(holder),
@@ -290,5 +307,19 @@ impl Core {
         ensures { result ≡ self.now.look_ups }
     {
         self.parts.look_ups()
+    }
+}
+
+/// What steps of a WRITE came to: it is answered, and the lane is at rest; or it has more to copy.
+fn told(lane: &mut Lane, number: u64, reply: Option<Reply>) -> Step
+    requires { (given : Reply) → reply ≡ Some given → IsGiven number lane.old.session given }
+    ensures { Tells number lane.old reply result lane.new }
+{
+    match reply {
+        None => Step::Moved,
+        Some(reply) => {
+            lane.call = None;
+            Step::Answered(Answer::new(number, lane.session, reply))
+        }
     }
 }

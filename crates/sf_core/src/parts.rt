@@ -1,6 +1,6 @@
 //! What a core is made of, and what each event does to it.
 
-ghost use Rattle.std.specs.Prelude.{◌≡◌, ◌<◌, ◌≤◌, ◌+◌, ◌-◌, ◌^◌, ◌↔◌, ◌&&◌, [], ℕ, not, nat_eq, true, length, Some, None, is_none, is_some, IsTrue, IsSome, IfOk, OnOk, OnErr, IfSome, IfNone};
+ghost use Rattle.std.specs.Prelude.{◌≡◌, ◌<◌, ◌≤◌, ◌+◌, ◌-◌, ◌^◌, ◌↔◌, ◌&&◌, [], ℕ, not, nat_eq, true, false, length, Some, None, is_none, is_some, IsTrue, IsSome, IfOk, OnOk, OnErr, IfSome, IfNone};
 ghost use Rattle.std.specs.Option.{option_and_then, option_copied};
 ghost use Rattle.sf_call.specs.Requests.{target_of};
 ghost use Rattle.std.specs.Vec.{vec_capacity};
@@ -8,16 +8,20 @@ ghost use Rattle.sf_call.specs.declared.call.Call.{Call};
 ghost use Rattle.sf_call.specs.Tree.{after_front};
 ghost use Rattle.sf_call.specs.Unanswered.{at_stage};
 ghost use Rattle.sf_inode.specs.Stores.{is_directory_at};
+ghost use Rattle.sf_call.specs.declared.call.Stage.TheVariants as stage;
+ghost use Rattle.sf_inode.specs.Stores.{left_at};
+ghost use Rattle.sf_walk.specs.Files.{IsSettled, file_handle};
 ghost use Rattle.sf_walk.specs.Ways.{IsLocated};
 ghost use Rattle.sf_walk.specs.Routes.{Stands, route_of, route_in};
-ghost use Rattle.sf_walk.specs.Routes.Route.{NoPath};
 ghost use Rattle.sf_walk.specs.Steps.{Advances, walker};
 ghost use Rattle.sf_core.specs.Cores.{call_at, session_at};
 ghost use Rattle.sf_core.specs.Sound.{IsCore};
-ghost use Rattle.sf_core.specs.Progress.{reply_of, has_passed, is_past, overtaken, undecided_in, copy_of, old_at, did};
+ghost use Rattle.sf_core.specs.Progress.{reply_of, has_passed, is_at_once, is_past, is_write, overtaken, undecided_in, copy_of, old_at, did};
 ghost use Rattle.sf_core.specs.declared.parts.Outcome.TheVariants as outcome;
 ghost use Rattle.sf_core.specs.Parts.{PartsView};
-ghost use Rattle.sf_core.specs.Stepping.{IsNewParts, SameButRoom, JoinState, BeginState, FinishState, FetchState, Overtakes, Helps, HelpsAll, LeaveState, AtOnceState, IsUnderWay, WalkState, come_to, is_move, stage_after, freed, set_back, all_set_back, ending};
+ghost use Rattle.sf_core.specs.Finishing.{AreOnPaths, IsReadyToHelp, IsSettledWhereFree, KeepsRequests, write_finished};
+ghost use Rattle.sf_core.specs.Writing.{CopiedOn, CopiesNow, CopiesOne, EndsCopying, HasBegun, IsCopyingOn, IsReadyToWrite, WritesOn, block_copied, file_held};
+ghost use Rattle.sf_core.specs.Stepping.{IsNewParts, SameButRoom, JoinState, BeginState, FinishState, FetchState, gone, Overtakes, Helps, HelpsAll, LeaveState, AtOnceState, IsUnderWay, IsWalked, WalkState, come_to, is_move, stage_after, freed, set_back, all_set_back, ending};
 
 use crate::sessions::Sessions;
 use sf_book::Book;
@@ -26,7 +30,8 @@ use sf_inode::Store;
 use sf_path::Path;
 use sf_reply::Reply;
 use sf_walk::{
-    Located, Route, Walk, Ways, advance, decide, from_root_twice, is_move, let_go, route_of,
+    Copying, Located, Route, Walk, Ways, Writer, advance, decide, file_holder, holder_by, is_move,
+    left_to_copy, let_go, locate_all, route_of, start, writer_to_finish,
 };
 use std::alloc::{AllocError, Global};
 use std::marker::Model;
@@ -38,6 +43,12 @@ pub(crate) enum Outcome {
     Foreign,
     /// Its reply waits for the session.
     Waits,
+    /// Its reply waits, and blocks are still to be copied into its file.
+    Copies,
+    /// The call of this number holds the file that it reads, writes or sets.
+    FileHeld(u64),
+    /// It is a WRITE that may start.
+    Writes,
     Walked(Walk),
 }
 
@@ -195,6 +206,16 @@ impl Parts {
         Ok(())
     }
 
+    /// Whether a session's call is decided as it begins.
+    pub(crate) fn is_at_once(&self, session: u64, request: &Request) -> bool
+        ensures { result ≡ is_at_once self.now.store session request.now }
+    {
+        let (Route::NoPath, false) = (route_of(request), is_write(request)) else {
+            return false;
+        };
+        holder_by(&self.store, session, request).is_none()
+    }
+
     /// A session's call that walks nothing is decided at once, under the next number.
     pub(crate) fn answer_at_once(
         &mut self,
@@ -205,7 +226,8 @@ impl Parts {
         requires unspent { self.old.drawn < 2 ^ 63 - 1 }
         requires idle { session_at self.old.sessions session ≡ Some None }
         requires new { call_at self.old.calls (self.old.drawn + 1) ≡ None }
-        requires route { route_of request ≡ NoPath }
+        requires at_once { is_at_once self.old.store session request ≡ true }
+        requires settled { IsSettledWhereFree self.old.store }
         ensures ok { IfOk result (λ given.
             AtOnceState self.old self.new session request moment given) }
         ensures err { OnErr result (SameButRoom self.old self.new) }
@@ -233,7 +255,9 @@ impl Parts {
     pub(crate) fn walk_on(&mut self, session: u64, number: u64, most: u64) -> Outcome
         requires core { IsCore self.old }
         requires some { 0 < most }
-        ensures { WalkState self.old session number most (ending result self.new) }
+        ensures comes { WalkState self.old session number most (ending result self.new) }
+        ensures other { IsWalked result → (c : Call) → call_at self.new.calls number ≡ Some c
+            → is_write c.request ≡ false }
     {
         let _count = self.store.look_ups();
         let Some(call) = self.calls.get(number) else {
@@ -242,8 +266,17 @@ impl Parts {
         if call.session != session {
             return Outcome::Foreign;
         }
+        if let Stage::Copies { .. } = call.stage {
+            return Outcome::Copies;
+        }
         if call.reply.is_some() {
             return Outcome::Waits;
+        }
+        if let Some(holder) = file_holder(&self.store, call) {
+            return Outcome::FileHeld(holder);
+        }
+        if is_write(&call.request) {
+            return Outcome::Writes;
         }
         let mut stage = call.stage;
         let walk = go_on(
@@ -269,9 +302,148 @@ impl Parts {
         Some(reply)
     }
 
+    /// The first step of a WRITE. It is decided where nothing is left to be copied then; else its
+    /// record is written, its reply waits, and it holds its file.
+    pub(crate) fn write(&mut self, number: u64) -> Option<Reply>
+        requires there { IsSome (call_at self.old.calls number) }
+        requires write { (c : Call) → call_at self.old.calls number ≡ Some c
+            → IsReadyToWrite self.old c number }
+        requires room { 0 < self.old.book.room }
+        ensures decided { IfSome result (λ given. (c : Call)
+            → call_at self.old.calls number ≡ Some c
+            → FinishState self.old self.new c number given
+            × CopiesOne self.old.store c given) }
+        ensures begun { IfNone result ((c : Call) → call_at self.old.calls number ≡ Some c
+            → HasBegun self.old self.new c number) }
+    {
+        let Some(call) = self.calls.get(number) else {
+            unreachable!();
+        };
+        let (reply, copy) = start(&mut self.store, call);
+        match left_to_copy(&self.store, call) {
+            None => Some(self.answer(number, reply, copy)),
+            Some(into) => {
+                self.hold_file(number, reply, copy, into);
+                None
+            }
+        }
+    }
+
+    /// A call goes, and its record is written.
+    fn answer(&mut self, number: u64, reply: Reply, copy: Reply) -> Reply
+        requires there { IsSome (call_at self.old.calls number) }
+        requires room { 0 < self.old.book.room }
+        ensures copy { result ≡ copy }
+        ensures state { (c : Call) → call_at self.old.calls number ≡ Some c
+            → self.new ≡ gone self.old c number reply }
+    {
+        let Some(call) = self.calls.remove(number) else {
+            unreachable!();
+        };
+        self.sessions.set(call.as_call().session, None);
+        self.book.put(call.into_record(reply));
+        copy
+    }
+
+    /// A WRITE holds its file: its record is written, and its reply waits.
+    fn hold_file(&mut self, number: u64, reply: Reply, copy: Reply, into: Copying)
+        requires { 0 < self.old.book.room }
+        ensures { (c : Call) → call_at self.old.calls number ≡ Some c
+            → c.copy ≡ Some c.request → self.new ≡ file_held self.old c number reply copy into }
+    {
+        let Some(call) = self.calls.get(number) else {
+            return;
+        };
+        let (session, moment) = (call.session, call.moment);
+        let Some(request) = self.calls.set_reply(number, copy) else {
+            return;
+        };
+        self.calls.set_stage(
+            number,
+            Stage::Copies {
+                node: into.node,
+                left: into.left,
+            },
+        );
+        self.store.hold(into.node, number);
+        self.book.put(Record::Did {
+            number,
+            session,
+            moment,
+            request,
+            reply,
+        });
+    }
+
+    /// Copies one block of a WRITE, and tells how many are left: with none left it holds its file
+    /// no more. It takes no memory.
+    pub(crate) fn copy(&mut self, number: u64) -> usize
+        requires { IsCopyingOn self.old number }
+        ensures { (node : ℕ) (left : ℕ) → CopiesNow self.old number node left
+            → (result + 1 ≡ left) × (self.new ≡ block_copied self.old number node result) }
+    {
+        let Some(call) = self.calls.get(number) else {
+            return 0;
+        };
+        let Stage::Copies { node, left } = call.stage else {
+            return 0;
+        };
+        self.store.copy_block(node);
+        if left <= 1 {
+            self.store.free(node);
+            self.calls.set_stage(number, Stage::Fresh);
+            return 0;
+        }
+        let left = left - 1;
+        self.calls.set_stage(number, Stage::Copies { node, left });
+        left
+    }
+
+    /// Steps of a WRITE that copies, so many at most: the one that copies the last block fetches its
+    /// reply.
+    pub(crate) fn copy_on(&mut self, session: u64, number: u64, most: u64) -> Option<Reply>
+        requires { IsCopyingOn self.old number }
+        ensures some { IfSome result (λ given. EndsCopying self.old self.new session number most
+            given) }
+        ensures none { IfNone result (CopiedOn most self.old number self.new) }
+    {
+        for _ in 0..most {
+            if self.copy(number) == 0 {
+                return self.fetch(session, number);
+            }
+        }
+        None
+    }
+
+    /// The first step of a WRITE, and as many more as may be made: its reply, where it is answered.
+    pub(crate) fn write_on(&mut self, session: u64, number: u64, most: u64) -> Option<Reply>
+        requires there { IsSome (call_at self.old.calls number) }
+        requires write { (c : Call) → call_at self.old.calls number ≡ Some c
+            → IsReadyToWrite self.old c number }
+        requires room { 0 < self.old.book.room }
+        requires some { 0 < most }
+        ensures { (c : Call) → call_at self.old.calls number ≡ Some c
+            → WritesOn self.old self.new c session number most result }
+    {
+        match self.write(number) {
+            Some(reply) => Some(reply),
+            None => self.copy_on(session, number, most - 1),
+        }
+    }
+
+    /// Copies what is left of a WRITE: it holds its file no more. It takes no memory.
+    fn finish_write(&mut self, writer: Writer)
+        ensures { self.new ≡ write_finished self.old writer.number writer.node }
+    {
+        self.store.copy_rest(writer.node);
+        self.store.free(writer.node);
+        self.calls.set_stage(writer.number, Stage::Fresh);
+    }
+
     /// Before a call is decided that moves a path: all calls that it overtakes are set back, and
     /// then carried out whole, by rising number. Their sessions fetch the replies.
     pub(crate) fn overtake(&mut self, number: u64, ways: Ways, numbers: &mut Vec<u64>)
+        requires core { IsCore self.old }
         requires located { (c : Call) → call_at self.old.calls number ≡ Some c
             → IsLocated self.old.store c.request ways }
         requires room { undecided_in self.old.calls ≤ self.old.book.room }
@@ -318,7 +490,9 @@ impl Parts {
     }
 
     fn help_all(&mut self, numbers: &[u64])
-        requires { length numbers.now ≤ self.old.book.room }
+        requires room { length numbers.now ≤ self.old.book.room }
+        requires settled { IsSettledWhereFree self.old.store }
+        requires paths { AreOnPaths self.old numbers.now }
         ensures { HelpsAll self.old numbers.now self.new }
     {
         for number in numbers {
@@ -329,15 +503,21 @@ impl Parts {
     /// Carries a call out whole, for its session to fetch: writes its record, for which the copy of
     /// the request is there, and lets the reply wait.
     fn help(&mut self, overtaken: u64)
-        requires { 0 < self.old.book.room }
+        requires room { 0 < self.old.book.room }
+        requires settled { IsSettledWhereFree self.old.store }
+        requires path { (c : Call) → call_at self.old.calls overtaken ≡ Some c
+            → file_handle c.request ≡ None }
         ensures helps { Helps self.old self.new overtaken }
         ensures room { self.old.book.room ≤ self.new.book.room + 1 }
+        ensures settled { IsSettledWhereFree self.new.store }
+        ensures requests { KeepsRequests self.old self.new }
     {
+        let ways = self.ways_to(overtaken);
         let Some(call) = self.calls.get(overtaken) else {
             return;
         };
         let (number, session, moment) = (call.number, call.session, call.moment);
-        let (reply, waiting) = from_root_twice(&mut self.store, call);
+        let (reply, waiting) = decide(&mut self.store, call, ways);
         let Some(request) = self.calls.set_reply(overtaken, waiting) else {
             return;
         };
@@ -350,11 +530,31 @@ impl Parts {
         });
     }
 
+    /// Where the paths of a call lead. Where it cuts a file or fills it up that another call holds,
+    /// what that one has left is copied first.
+    fn ways_to(&mut self, number: u64) -> Ways
+        requires { IsSettledWhereFree self.old.store }
+        ensures ready { (c : Call) → call_at self.old.calls number ≡ Some c
+            → IsReadyToHelp self.old self.new c result }
+        ensures none { call_at self.old.calls number ≡ None → self.new ≡ self.old }
+    {
+        let Some(call) = self.calls.get(number) else {
+            return Ways::along(Located::NoWay);
+        };
+        let ways = locate_all(&mut self.store, route_of(&call.request));
+        if let Some(writer) = writer_to_finish(&self.store, &call.request, ways.path) {
+            self.finish_write(writer);
+        }
+        ways
+    }
+
     /// Decides a call, and writes its record.
     pub(crate) fn finish(&mut self, number: u64, ways: Ways) -> Reply
         requires there { IsSome (call_at self.old.calls number) }
         requires located { (c : Call) → call_at self.old.calls number ≡ Some c
             → IsLocated self.old.store c.request ways }
+        requires settled { (c : Call) → call_at self.old.calls number ≡ Some c
+            → IsSettled self.old.store c.session c.request ways.path }
         requires room { 0 < self.old.book.room }
         ensures { (c : Call) → call_at self.old.calls number ≡ Some c
             → FinishState self.old self.new c number result }
@@ -440,15 +640,22 @@ fn step(store: &mut Store, number: u64, route: Route<'_>, stage: &mut Stage) -> 
     walk
 }
 
-/// A call that walks may be carried out by another one while its session waits, so its request is
-/// there twice.
+/// A call that walks may be carried out by another one while its session waits, and a WRITE's
+/// record may stand before its session is answered: so its request is there twice.
 fn copy_of(request: &Request) -> Result<Option<Request>, AllocError>
     ensures { IfOk result (λ copy. copy ≡ copy_of (route_of request.now) request.now) }
 {
-    match route_of(request) {
-        Route::NoPath => Ok(None),
-        _ => Ok(Some(request.share()?)),
+    if let (Route::NoPath, false) = (route_of(request), is_write(request)) {
+        return Ok(None);
     }
+    Ok(Some(request.share()?))
+}
+
+/// Whether a request is a WRITE.
+fn is_write(request: &Request) -> bool
+    ensures { result ≡ is_write request.now }
+{
+    matches!(request, Request::Write { .. })
 }
 
 /// The old path of a request on two paths, which a rename moves.
@@ -499,6 +706,7 @@ fn has_passed(call: &Call, front: &Path) -> bool
                 old: _,
                 new: _,
             } => is_past(path, common.walked, front),
+            Stage::Copies { .. } => false,
         },
         Route::Between(from, to) => match call.stage {
             Stage::Fresh => false,
@@ -508,6 +716,7 @@ fn has_passed(call: &Call, front: &Path) -> bool
                     || is_past(from, old.walked, front)
                     || is_past(to, new.walked, front)
             }
+            Stage::Copies { .. } => false,
         },
     }
 }

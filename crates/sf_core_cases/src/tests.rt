@@ -12,8 +12,10 @@ use std::test::*;
 
 mod book;
 mod drawn;
+mod drawn_writes;
 mod kept;
 mod rows;
+mod writes;
 
 /// What a step came to, without the contents of a reply.
 #[derive(Clone, Copy, Debug, PartialEq, Eq)]

@@ -126,7 +126,10 @@ module _ (n s m : ℕ) (q : Request) (given : Reply) where
   turn_began : (front : List Entry) (w : World) (z k : ℕ) (t t' : Told) (f : Phase) (r : Happened) (added : List Record) → HaveBegun front w → IsSession w z t → t.phase ≡ f
       → TurnLeads k (record { world = w; session = z; told = t; added = added; now = t' }) f r → IsAmong (Did n s m q given) added → Began front n s m q
   turn_began front w z k t t' Resting r added h session e g a = absurd (rest_began w z k t t' r added g a)
-  turn_began front w z k t t' (UnderWay id c o p moves) happened.Moved added h session e g a = absurd (among_none (Did n s m q given) added g.1 a)
+  turn_began front w z k t t' (UnderWay id c o p moves) happened.Moved added h session e g a = elim g.1 [
+    | inl none ↦ absurd (among_none (Did n s m q given) added none.0 a)
+    | inr writes ↦ decided_began front w z t 0 c o p writes.2.0 added h session (subst (λ (x : Phase). IsUnderWay x c o p) (sym e) (refl, refl, refl)) (inr writes.2.1) n s m q given a
+  ]
   turn_began front w z k t t' (UnderWay id c o p moves) (happened.Blocked holder) added h session e g a = absurd (among_none (Did n s m q given) added g.1 a)
   turn_began front w z k t t' (UnderWay id c o p moves) happened.Decided added h session e g a =
       decided_began front w z t moves c o p g.0 added h session (subst (λ (x : Phase). IsUnderWay x c o p) (sym e) (refl, refl, refl)) g.1 n s m q given a

@@ -26,6 +26,7 @@ use Rattle.sf_engine.specs.Turns.{Gives, part, new_part, seated, Settles, IsLane
 use Rattle.sf_engine.specs.Views.{EngineView}
 use Rattle.sf_engine.specs.Fits.{PlaceAgrees, Agrees, IsEngine, HasTurns}
 use Rattle.sf_engine.proofs.Tracing.{Steps, goes_on_trace, stays_engine}
+use Rattle.sf_engine.proofs.MovesBy.{moves_by}
 use Rattle.sf_engine.proofs.Moving.{get_set_same, set_twice}
 use Rattle.sf_engine.proofs.Resting.{seat}
 use Rattle.sf_engine.proofs.Turning.{engine, told_at, same_engine, any_turn_steps, is_placed}
@@ -42,7 +43,7 @@ moves_give zero v w lane x closed m k r b moved give =
     let here = subst (λ (u : CoreView). TurnsGive k (going u x lane) (finding closed m) r b) moved give in
     subst (λ (i : ℕ). TurnsGive i (going v x lane) (finding closed m) r b) (sym (zero-add k)) here
 moves_give (suc n) v w lane x closed m k r b moved give =
-    let turn : TurnGives (going moved.0 x lane) closed m happened.Moved (going w x lane) = λ h is. let s = moved.2 h is in (s.0, s.1, ((lane, (s.2.0, s.2.1, refl)), refl)) in
+    let turn : TurnGives (going moved.0 x lane) closed m happened.Moved (going w x lane) = λ h is. let s = moved.2 h is in (s.0, s.1, ((lane, (s.2, refl)), refl)) in
     let num : n + suc k ≡ suc n + k = omega arith in
     subst (λ (i : ℕ). TurnsGive i (going v x lane) (finding closed m) r b) num (moves_give n v moved.0 lane x closed m (suc k) r b moved.1 (happened.Moved, going w x lane, refl, turn, give))
 
@@ -53,9 +54,9 @@ still_own zero v w lane x moved own = subst (λ (u : CoreView). IsPlaced u x (pl
 still_own (suc n) v w lane x moved own =
     let was = still_own n v moved.0 lane x moved.1 own in
     let s = moved.2 was.0 was.2 in
-    let goes = s.2.0.2 in (
+    let goes = moves_by (record { core = moved.0; history = was.0; lane = lane }) (record { core = w; added = s.0; lane = lane }) s.2 in (
       was.0 ++ s.0,
-      s.2.0.1,
+      goes.after,
       s.1,
       record {
         slot = goes.slot.own;
@@ -99,7 +100,7 @@ blocked_walk v w lane lane' x closed most holder m k =
 pub moved_walk : (v w : CoreView) (lane lane' : LaneView) (x : SessionView) (closed : Bool) (most m : ℕ) → most ≡ 2 ^ 64 - 1 → Walks v lane most (came step.Moved w lane')
     → GoesFar (going v x lane) closed m (Ok happened.Moved) (going w x lane')
 moved_walk v w lane lane' x closed most m many k =
-    let turn : TurnGives (going k.mid x lane) closed m happened.Moved (going w x lane') = λ h is. let s = k.last h is in (s.0, s.1, ((lane', (s.2.0, s.2.1, refl)), refl)) in
+    let turn : TurnGives (going k.mid x lane) closed m happened.Moved (going w x lane') = λ h is. let s = k.last h is in (s.0, s.1, ((lane', (s.2, refl)), refl)) in
     let full : k.moves + 1 ≡ 2 ^ 64 - 1 = k.full refl ∙ many in
     record {
       turns = k.moves + 0;

@@ -1,4 +1,5 @@
 pub mod Tracing
+pub mod MovesBy
 pub mod Moving
 pub mod Deciding
 pub mod Working

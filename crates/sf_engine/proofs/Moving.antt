@@ -1,5 +1,5 @@
 -- One session goes on, and the others stay as they are, but for calls that were carried out for them.
-use Rattle.std.proofs.Common.{◌≡◌, ◌≢◌, ℕ, zero, suc, ◌+◌, ◌-◌, ◌<◌, ◌≤◌, ◌⊎◌, List, [], ◌∷◌, ◌++◌, Some, None, cond, slice_get, slice_set, length, refl, ap, sym, ◌∙◌, subst, arith, inl, inr, get_or, length-set}
+use Rattle.std.proofs.Common.{◌≡◌, ◌≢◌, ℕ, zero, suc, ◌+◌, ◌-◌, ◌<◌, ◌≤◌, ◌⊎◌, List, [], ◌∷◌, ◌++◌, Some, cond, slice_get, slice_set, length, refl, ap, sym, ◌∙◌, subst, arith, inl, inr, get_or, length-set}
 use Rattle.std.specs.List.{sum_by}
 use Rattle.std.proofs.lemmas.Bool.{cases_eq}
 use Rattle.std.proofs.lemmas.Option.{slice_get_within, get_or_from_slice_get}
@@ -9,12 +9,12 @@ use Rattle.sf_call.specs.declared.record.Record.{Record}
 use Rattle.sf_session.specs.Sessions.{SessionView}
 use Rattle.sf_core.specs.Cores.Slot.{Gone as nobody, Idle, Busy}
 use Rattle.sf_core.specs.Cores.{CoreView, slot_of, joined}
-use Rattle.sf_core.specs.Progress.{reply_of, left_of, SameCall}
+use Rattle.sf_core.specs.Progress.{left_of, SameCall}
 use Rattle.sf_core.specs.Histories.{IsHistory}
 use Rattle.sf_engine.specs.declared.seat.Seat.{Seat}
 use Rattle.sf_engine.specs.declared.seat.Place.{Place}
 use Rattle.sf_engine.specs.Worlds.{Phase, Resting, UnderWay, Decided, Gone, Told, World, with_told, is_here}
-use Rattle.sf_engine.specs.Fits.{PlaceAgrees, SeatAgrees, Agrees}
+use Rattle.sf_engine.specs.Fits.{IsOnWay, PlaceAgrees, SeatAgrees, Agrees}
 
 pub get_set_same : {A : Type 0} (xs : List A) (i : ℕ) (x v : A) → slice_get xs i ≡ Some x → slice_get (slice_set xs i v) i ≡ Some v
 get_set_same [] i x v h = absurd cc
@@ -56,7 +56,7 @@ here_in t = cond (is_here t) 1 0
 -- another session's slot stays, or its call was carried out
 abbrev pub OtherStays : CoreView → CoreView → ℕ → Type 0
 OtherStays v v' s = (slot_of v' s ≡ slot_of v s)
-    ⊎ ((before : Call) × (after : Call) × (slot_of v s ≡ Busy before) × (slot_of v' s ≡ Busy after) × SameCall before after × (left_of after ≤ left_of before) × (reply_of after ≢ None))
+    ⊎ ((before : Call) × (after : Call) × (slot_of v s ≡ Busy before) × (slot_of v' s ≡ Busy after) × SameCall before after × (left_of after ≤ left_of before) × (IsOnWay after → ⊥))
 
 -- what an event does to the core for one session, of which this is told before and after it
 pub record Moves (v v' : CoreView) (s : ℕ) (t t' : Told) (more : ℕ) : Type 0 where
@@ -98,7 +98,7 @@ agrees_same v v' s x (Decided id n q given) p e h = record {
 agrees_same v v' s x (Gone cause) p e h = (h.0, e ∙ h.1, h.2)
 
 -- a place whose call was carried out
-pub agrees_helped : (v v' : CoreView) (s : ℕ) (x : SessionView) (f : Phase) (p : Place) (c d : Call) → slot_of v s ≡ Busy c → slot_of v' s ≡ Busy d → SameCall c d → left_of d ≤ left_of c → reply_of d ≢ None
+pub agrees_helped : (v v' : CoreView) (s : ℕ) (x : SessionView) (f : Phase) (p : Place) (c d : Call) → slot_of v s ≡ Busy c → slot_of v' s ≡ Busy d → SameCall c d → left_of d ≤ left_of c → (IsOnWay d → ⊥)
     → PlaceAgrees v s x f p → PlaceAgrees v' s x f p
 agrees_helped v v' s x Resting p c d was now same less done h = absurd (let w : Idle ≡ Busy c = sym h.slot ∙ was in cc)
 agrees_helped v v' s x (UnderWay id n m q moves) p c d was now same less done h =

@@ -71,7 +71,7 @@ decides_sure w s moves own added (inr g) = g.sure
 
 turn_sure : (w : World) (s m : ℕ) (t t' : Told) (f : Phase) (r : Happened) (added : List Record) → TurnLeads m (record { world = w; session = s; told = t; added = added; now = t' }) f r → AreSure w.records added
 turn_sure w s m t t' Resting r added g = rest_sure w s m t t' r added g
-turn_sure w s m t t' (UnderWay id n k q moves) happened.Moved added g = no_sure w.records added g.1
+turn_sure w s m t t' (UnderWay id n k q moves) happened.Moved added g = elim g.1 [ inl none ↦ no_sure w.records added none.0 | inr writes ↦ writes.2.1.sure ]
 turn_sure w s m t t' (UnderWay id n k q moves) (happened.Blocked holder) added g = no_sure w.records added g.1
 turn_sure w s m t t' (UnderWay id n k q moves) happened.Decided added g = decides_sure w s moves (Did n s k q g.0) added g.1
 turn_sure w s m t t' (UnderWay id n k q moves) (happened.Opened z) added g = absurd g

@@ -13,7 +13,7 @@ use Rattle.sf_core.specs.Cores.{CoreView, slot_of}
 use Rattle.sf_core.specs.Progress.{IsBehind}
 use Rattle.sf_core.specs.Events.{Before, After}
 use Rattle.sf_core.specs.Stuck.{left_in, left_below}
-use Rattle.sf_core.proofs.Laws.{furthest, one_call, busy_left, idle_left, gone_left, left_stays, goes_falls, fetches_falls, decides_falls}
+use Rattle.sf_core.proofs.Laws.{furthest, one_call, busy_left, idle_left, gone_left, left_stays, goes_falls, writes_falls, copies_falls, fetches_falls, decides_falls}
 use Rattle.sf_engine.specs.declared.seat.Seat.{Seat}
 use Rattle.sf_engine.specs.declared.seat.Place.{Place}
 use Rattle.sf_engine.specs.declared.event.Event.TheVariants as event
@@ -153,7 +153,15 @@ StepDoes v s w = (SameSlots v w × ((c : Call) → slot_of v s ≡ Busy c → Wa
 does : (x : Turn) (call : Walking) (s m : ℕ) (p : Passage) (h : Happened) → StepLeads x call h → IsStep (event.Turn s m) (Ok h) p → StepDoes p.old s p.new
 does x call s m p happened.Moved leads step =
     let own : step.0.session ≡ s = step.2 in
-    inr (λ n below. goes_falls p.old p.new step.0 step.3.0 step.3.1 n step.3.2 (omega (arith, below, own)))
+    let before : Before = record { core = p.old; history = p.history; lane = step.0 } in
+    let after : After = record { core = p.new; added = p.added; lane = step.1 } in
+    elim step.3 [
+      | inl go ↦ inr (λ n below. goes_falls p.old p.new step.0 go.0.0 go.0.1 n go.0.2 (omega (arith, below, own)))
+      | inr other ↦ elim other [
+        | inl w ↦ inr (λ n below. writes_falls before after w.0 w.1 w.2 n w.3 (omega (arith, below, own)))
+        | inr b ↦ inr (λ n below. copies_falls p.old p.new step.0 b.0.0 b.0.1 n b.0.2 (omega (arith, below, own)))
+      ]
+    ]
 does x call s m p (happened.Blocked holder) leads step =
     let own : step.0.session ≡ s = step.2 in
     let b = step.3.1 in (

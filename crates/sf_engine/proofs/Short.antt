@@ -1,5 +1,5 @@
 -- All calls of an engine together have few steps left: their paths were read from short texts, and few sessions are there.
-use Rattle.std.proofs.Common.{◌≡◌, ℕ, zero, suc, ◌+◌, ◌-◌, ◌*◌, ◌≤◌, List, [], ◌∷◌, ◌++◌, Bool, true, false, Option, Some, None, cond, slice_get, length, map, refl, ap, sym, ◌∙◌, subst, arith, length-append}
+use Rattle.std.proofs.Common.{◌≡◌, ℕ, zero, suc, ◌+◌, ◌-◌, ◌*◌, ◌^◌, ◌≤◌, ◌<◌, List, [], ◌∷◌, ◌++◌, Bool, true, false, Option, Some, None, cond, slice_get, length, map, refl, ap, sym, ◌∙◌, subst, arith, length-append}
 use Rattle.std.specs.Prelude.{nat_lt, ◌==◌, if◌then◌else◌, option_map, option_and_then}
 use Rattle.std.specs.List.{sum_by, count_by, flat_map, list_any}
 use Rattle.std.proofs.lemmas.Bool.{ltb-false}
@@ -20,7 +20,8 @@ use Rattle.sf_session.specs.declared.asking.Ask.{Ask}
 use Rattle.sf_session.specs.declared.asking.Ask.TheVariants as ask
 use Rattle.sf_session.specs.declared.cause.Cause.TheVariants.{OldVersion}
 use Rattle.sf_session.specs.Asking.{path_unless, path_at, handle_at, call_of, call_ask, real_path_at, request_ask, ask_in, AsksFor}
-use Rattle.sf_core.specs.Progress.{bound_of}
+use Rattle.sf_request.specs.Requests.{SpellsFields, Asks}
+use Rattle.sf_core.specs.Progress.{bound_of, blocks_in}
 use Rattle.sf_engine.specs.Worlds.{Entry, Phase, Resting, UnderWay, Decided, Gone, Told, asked_by, is_here, is_here_in}
 use Rattle.sf_engine.specs.Traces.{IsSession}
 use Rattle.sf_engine.specs.Laws.{AreAsked, asks_of}
@@ -50,13 +51,13 @@ short_by text none false short = omega (arith, ltb-false 4096 (length text) shor
 short_text : (text : List ℕ) → fault_of text ≡ None → length (norm text) ≤ 4097
 short_text text none = short_by text none (nat_lt 4096 (length text)) refl
 
--- the names of a call's paths
+-- the names of a call's paths, and the blocks that it writes
 abbrev IsShortCall : Option Request → Type 0
 IsShortCall None = Unit {0}
-IsShortCall (Some request) = names_of request ≤ 8194
+IsShortCall (Some request) = names_of request + blocks_in request ≤ 2 ^ 21
 
 abbrev IsShortAsk : Ask → Type 0
-IsShortAsk (ask.Call id request) = names_of request ≤ 8194
+IsShortAsk (ask.Call id request) = names_of request + blocks_in request ≤ 2 ^ 21
 IsShortAsk _ = Unit {0}
 
 abbrev IsShortPath : Option Path → Type 0
@@ -70,39 +71,44 @@ path_unless_short text (Some fault) e = tt
 path_short : (text : List ℕ) → IsShortPath (path_at text)
 path_short text = path_unless_short text (fault_of text) refl
 
-one_path : (f : Path → Request) → ((path : Path) → names_of (f path) ≡ length path) → (o : Option Path) → IsShortPath o → IsShortCall (option_map f o)
+one_path : (f : Path → Request) → ((path : Path) → names_of (f path) + blocks_in (f path) ≡ length path) → (o : Option Path) → IsShortPath o → IsShortCall (option_map f o)
 one_path f names None h = tt
 one_path f names (Some path) h = omega (arith, h, names path)
 
-two_paths : (f : Path → Path → Request) → ((old new : Path) → names_of (f old new) ≡ length old + length new) → (o u : Option Path) → IsShortPath o → IsShortPath u
+two_paths : (f : Path → Path → Request) → ((old new : Path) → names_of (f old new) + blocks_in (f old new) ≡ length old + length new) → (o u : Option Path) → IsShortPath o → IsShortPath u
     → IsShortCall (option_map (λ (paths : Path × Path). f paths.0 paths.1) (option_and_then (λ from. option_map (λ to. (from, to)) u) o))
 two_paths f names None u h k = tt
 two_paths f names (Some old) None h k = tt
 two_paths f names (Some old) (Some new) h k = omega (arith, h, k, names old new)
 
-by_handle : (f : ℕ → Request) → ((handle : ℕ) → names_of (f handle) ≡ 0) → (o : Option ℕ) → IsShortCall (option_map f o)
+by_handle : (f : ℕ → Request) → ((handle : ℕ) → names_of (f handle) + blocks_in (f handle) ≡ 0) → (o : Option ℕ) → IsShortCall (option_map f o)
 by_handle f names None = tt
 by_handle f names (Some handle) = omega (arith, names handle)
 
-call_short : (request : WireRequest) → IsShortCall (call_of request)
-call_short (wire.Open text flags attrs) = one_path (λ path. call.Open path flags attrs) (λ path. refl) (path_at text) (path_short text)
-call_short (wire.LStat text) = one_path call.Stat (λ path. refl) (path_at text) (path_short text)
-call_short (wire.SetStat text attrs) = one_path (λ path. call.SetStat path attrs) (λ path. refl) (path_at text) (path_short text)
-call_short (wire.OpenDir text) = one_path call.OpenDir (λ path. refl) (path_at text) (path_short text)
-call_short (wire.Remove text) = one_path call.Remove (λ path. refl) (path_at text) (path_short text)
-call_short (wire.Mkdir text attrs) = one_path (λ path. call.Mkdir path attrs) (λ path. refl) (path_at text) (path_short text)
-call_short (wire.Rmdir text) = one_path call.Rmdir (λ path. refl) (path_at text) (path_short text)
-call_short (wire.RealPath text) = tt
-call_short (wire.Stat text) = one_path call.Stat (λ path. refl) (path_at text) (path_short text)
-call_short (wire.Rename old new) = two_paths call.Rename (λ a b. refl) (path_at old) (path_at new) (path_short old) (path_short new)
-call_short (wire.PosixRename old new) = two_paths call.PosixRename (λ a b. refl) (path_at old) (path_at new) (path_short old) (path_short new)
-call_short (wire.Link old new) = two_paths call.Link (λ a b. refl) (path_at old) (path_at new) (path_short old) (path_short new)
-call_short (wire.Close handle) = by_handle call.Close (λ n. refl) (handle_at handle)
-call_short (wire.Read handle offset len) = by_handle (λ n. call.Read n offset len) (λ n. refl) (handle_at handle)
-call_short (wire.Write handle offset bytes) = by_handle (λ n. call.Write n offset bytes) (λ n. refl) (handle_at handle)
-call_short (wire.FStat handle) = by_handle call.FStat (λ n. refl) (handle_at handle)
-call_short (wire.FSetStat handle attrs) = by_handle (λ n. call.FSetStat n attrs) (λ n. refl) (handle_at handle)
-call_short (wire.ReadDir handle) = by_handle call.ReadDir (λ n. refl) (handle_at handle)
+-- a WRITE's data are shorter than their length can tell
+write_short : (offset : ℕ) (bytes : List ℕ) (o : Option ℕ) → length bytes < 2 ^ 32 → IsShortCall (option_map (λ n. call.Write n offset bytes) o)
+write_short offset bytes None short = tt
+write_short offset bytes (Some handle) short = omega (arith, short)
+
+call_short : (request : WireRequest) (text : List ℕ) → SpellsFields text request → IsShortCall (call_of request)
+call_short (wire.Open text flags attrs) fields spelled = one_path (λ path. call.Open path flags attrs) (λ path. omega arith) (path_at text) (path_short text)
+call_short (wire.LStat text) fields spelled = one_path call.Stat (λ path. omega arith) (path_at text) (path_short text)
+call_short (wire.SetStat text attrs) fields spelled = one_path (λ path. call.SetStat path attrs) (λ path. omega arith) (path_at text) (path_short text)
+call_short (wire.OpenDir text) fields spelled = one_path call.OpenDir (λ path. omega arith) (path_at text) (path_short text)
+call_short (wire.Remove text) fields spelled = one_path call.Remove (λ path. omega arith) (path_at text) (path_short text)
+call_short (wire.Mkdir text attrs) fields spelled = one_path (λ path. call.Mkdir path attrs) (λ path. omega arith) (path_at text) (path_short text)
+call_short (wire.Rmdir text) fields spelled = one_path call.Rmdir (λ path. omega arith) (path_at text) (path_short text)
+call_short (wire.RealPath text) fields spelled = tt
+call_short (wire.Stat text) fields spelled = one_path call.Stat (λ path. omega arith) (path_at text) (path_short text)
+call_short (wire.Rename old new) fields spelled = two_paths call.Rename (λ a b. omega arith) (path_at old) (path_at new) (path_short old) (path_short new)
+call_short (wire.PosixRename old new) fields spelled = two_paths call.PosixRename (λ a b. omega arith) (path_at old) (path_at new) (path_short old) (path_short new)
+call_short (wire.Link old new) fields spelled = two_paths call.Link (λ a b. omega arith) (path_at old) (path_at new) (path_short old) (path_short new)
+call_short (wire.Close handle) fields spelled = by_handle call.Close (λ n. omega arith) (handle_at handle)
+call_short (wire.Read handle offset len) fields spelled = by_handle (λ n. call.Read n offset len) (λ n. omega arith) (handle_at handle)
+call_short (wire.Write handle offset bytes) fields spelled = write_short offset bytes (handle_at handle) spelled.second.second.short
+call_short (wire.FStat handle) fields spelled = by_handle call.FStat (λ n. omega arith) (handle_at handle)
+call_short (wire.FSetStat handle attrs) fields spelled = by_handle (λ n. call.FSetStat n attrs) (λ n. omega arith) (handle_at handle)
+call_short (wire.ReadDir handle) fields spelled = by_handle call.ReadDir (λ n. omega arith) (handle_at handle)
 
 call_ask_short : (id : ℕ) (o : Option Request) → IsShortCall o → IsShortAsk (call_ask id o)
 call_ask_short id None h = tt
@@ -112,30 +118,30 @@ real_path_short : (id : ℕ) (o : Option Path) → IsShortAsk (real_path_at id o
 real_path_short id None = tt
 real_path_short id (Some path) = tt
 
-request_short : (id : ℕ) (request : WireRequest) → IsShortAsk (request_ask id request)
-request_short id (wire.RealPath text) = real_path_short id (path_at text)
-request_short id request = call_ask_short id (call_of request) (call_short request)
+request_short : (id : ℕ) (request : WireRequest) (text : List ℕ) → SpellsFields text request → IsShortAsk (request_ask id request)
+request_short id (wire.RealPath path) text spelled = real_path_short id (path_at path)
+request_short id request text spelled = call_ask_short id (call_of request) (call_short request text spelled)
 
-ask_short : (begun : Bool) (packet : Asked) → IsShortAsk (ask_in begun packet)
-ask_short true (asked.Init version) = tt
-ask_short true (asked.Request id request) = request_short id request
-ask_short true (asked.BadFields id) = tt
-ask_short true (asked.Unknown id) = tt
-ask_short true asked.NoVersion = tt
-ask_short true asked.NoId = tt
-ask_short false (asked.Init version) = first_short (nat_lt version 3)
+ask_short : (begun : Bool) (body : List ℕ) (packet : Asked) → Asks body packet → IsShortAsk (ask_in begun packet)
+ask_short true body (asked.Init version) asks = tt
+ask_short true body (asked.Request id request) asks = request_short id request asks.0 asks.3
+ask_short true body (asked.BadFields id) asks = tt
+ask_short true body (asked.Unknown id) asks = tt
+ask_short true body asked.NoVersion asks = tt
+ask_short true body asked.NoId asks = tt
+ask_short false body (asked.Init version) asks = first_short (nat_lt version 3)
   where
     first_short : (b : Bool) → IsShortAsk (cond b (ask.End OldVersion) ask.Version)
     first_short true = tt
     first_short false = tt
-ask_short false (asked.Request id request) = tt
-ask_short false (asked.BadFields id) = tt
-ask_short false (asked.Unknown id) = tt
-ask_short false asked.NoVersion = tt
-ask_short false asked.NoId = tt
+ask_short false body (asked.Request id request) asks = tt
+ask_short false body (asked.BadFields id) asks = tt
+ask_short false body (asked.Unknown id) asks = tt
+ask_short false body asked.NoVersion asks = tt
+ask_short false body asked.NoId asks = tt
 
 asked_short : (begun : Bool) (body : List ℕ) (a : Ask) → AsksFor begun body a → IsShortAsk a
-asked_short begun body a h = subst IsShortAsk (sym h.2) (ask_short begun h.0)
+asked_short begun body a h = subst IsShortAsk (sym h.2) (ask_short begun body h.0 h.1)
 
 -- the last ask of all
 last_short : (begun : Bool) (bodies : List (List ℕ)) (asks : List Ask) (a : Ask) → AreAsked begun bodies (asks ++ a ∷ []) → IsShortAsk a
@@ -146,27 +152,27 @@ last_short begun (body ∷ bodies) [] a h = asked_short begun body a h.0
 last_short begun (body ∷ bodies) (b ∷ asks) a h = last_short true bodies asks a h.1
 
 -- ---- bounds
-bound_is : (request : Request) → bound_of request ≡ names_of request + 3
+bound_is : (request : Request) → bound_of request ≡ names_of request + 3 + blocks_in request
 unfolding bound_of
 bound_is request = refl
 
 -- a session that is there has few steps left, and another one none
-phase_short : (t : Told) (f : Phase) → AreAsked false t.bodies (asks_of t.answers f) → bound_at f ≤ cond (is_here_in f) 1 0 * 8197
+phase_short : (t : Told) (f : Phase) → AreAsked false t.bodies (asks_of t.answers f) → bound_at f ≤ cond (is_here_in f) 1 0 * (2 ^ 21 + 3)
 phase_short t Resting h = omega arith
 phase_short t (UnderWay id n m q moves) h =
-    let few : names_of q ≤ 8194 = last_short false t.bodies (map asked_by t.answers) (ask.Call id q) h in
+    let few : names_of q + blocks_in q ≤ 2 ^ 21 = last_short false t.bodies (map asked_by t.answers) (ask.Call id q) h in
     omega (arith, few, bound_is q)
 phase_short t (Decided id n q given) h = omega arith
 phase_short t (Gone cause) h = omega arith
 
-sum_short : (ts : List Told) → ((i : ℕ) (t : Told) → slice_get ts i ≡ Some t → bound_at t.phase ≤ cond (is_here t) 1 0 * 8197) → sum_by (λ (t : Told). bound_at t.phase) ts ≤ count_by is_here ts * 8197
+sum_short : (ts : List Told) → ((i : ℕ) (t : Told) → slice_get ts i ≡ Some t → bound_at t.phase ≤ cond (is_here t) 1 0 * (2 ^ 21 + 3)) → sum_by (λ (t : Told). bound_at t.phase) ts ≤ count_by is_here ts * (2 ^ 21 + 3)
 sum_short [] each = omega arith
 sum_short (t ∷ ts) each =
     let rest = sum_short ts (λ i u at. each (suc i) u at) in
     let one = each zero t refl in
     omega (arith, rest, one, sum_by-cons (λ (u : Told). bound_at u.phase) t ts, sum_by-cons (λ (u : Told). cond (is_here u) 1 0) t ts)
 
-pub bounds_short : (e : EngineView) (trace : List Entry) (fits : Fits e trace) → bounds fits.world ≤ 256 * 8197
+pub bounds_short : (e : EngineView) (trace : List Entry) (fits : Fits e trace) → bounds fits.world ≤ 256 * (2 ^ 21 + 3)
 bounds_short e trace fits =
     let w = fits.world in
     let sum = sum_short w.sessions (λ i t at.

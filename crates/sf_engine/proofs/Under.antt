@@ -1,9 +1,15 @@
 -- A turn of a session whose call is under way.
-use Rattle.std.proofs.Common.{◌≡◌, ◌≢◌, ℕ, zero, suc, ◌+◌, ◌-◌, ◌<◌, ◌≤◌, ◌⊎◌, List, [], ◌∷◌, ◌++◌, Some, None, Bool, slice_get, length, refl, ap, sym, ◌∙◌, subst, arith, inl, inr}
+use Rattle.std.proofs.Common.{◌≡◌, ◌≢◌, ℕ, zero, suc, ◌+◌, ◌-◌, ◌<◌, ◌≤◌, ◌⊎◌, List, [], ◌∷◌, ◌++◌, Some, None, Bool, true, false, slice_get, length, refl, ap, sym, ◌∙◌, subst, arith, inl, inr}
 use Rattle.std.specs.List.{AllByRecursion}
+use Rattle.std.specs.List.Sorted.{IsStrictlySortedBy}
+use Rattle.std.specs.Ordering.{nat_cmp}
 use Rattle.std.proofs.lemmas.Bool.{cases_lt}
 use Rattle.sf_reply.specs.declared.reply.Reply.{Reply}
 use Rattle.sf_call.specs.declared.request.Request.{Request}
+use Rattle.sf_call.specs.declared.request.Request.TheVariants as request
+use Rattle.sf_call.specs.declared.call.Stage.{Stage}
+use Rattle.sf_call.specs.declared.call.Stage.TheVariants as stage
+use Rattle.sf_call.specs.Tree.{Tree}
 use Rattle.sf_call.specs.declared.call.Call.{Call}
 use Rattle.sf_call.specs.declared.record.Record.{Record}
 use Rattle.sf_call.specs.declared.record.Record.TheVariants.{Did, Left}
@@ -14,8 +20,8 @@ use Rattle.sf_session.specs.Sessions.{SessionView}
 use Rattle.sf_core.specs.Cores.Slot.{Gone as nobody, Idle, Busy}
 use Rattle.sf_core.specs.Lanes.{LaneView, at_rest}
 use Rattle.sf_core.specs.Cores.{CoreView, slot_of}
-use Rattle.sf_core.specs.Progress.{reply_of, left_of, bound_of, MayDecide, did}
-use Rattle.sf_core.specs.Events.{IsOfOther}
+use Rattle.sf_core.specs.Progress.{reply_of, left_of, bound_of, is_write, IsCopying, MayDecide, did}
+use Rattle.sf_core.specs.Events.{IsOfOther, IsFinished}
 use Rattle.sf_core.specs.Events.{IsHelped as IsHelpedAt}
 use Rattle.sf_engine.specs.declared.seat.Seat.{Seat}
 use Rattle.sf_engine.specs.declared.seat.Place.{Place}
@@ -23,10 +29,11 @@ use Rattle.sf_engine.specs.declared.seat.Place.TheVariants as place
 use Rattle.sf_engine.specs.declared.event.Happened.{Happened}
 use Rattle.sf_engine.specs.declared.event.Happened.TheVariants as happened
 use Rattle.sf_engine.specs.Worlds.{Phase, Resting, UnderWay, Decided, Gone, Told, World, with_phase}
-use Rattle.sf_engine.specs.Traces.{IsUnderWay, IsOthersCall, IsHelped, Decides, StepLeads, walking, calls_begun, other_call}
+use Rattle.sf_engine.specs.Traces.{IsUnderWay, IsOthersCall, IsHelped, MoveAdds, Decides, StepLeads, walking, calls_begun, other_call}
 use Rattle.sf_engine.specs.Turns.{GoesOn, before, after}
-use Rattle.sf_engine.specs.Deciding.{HasStopped, AreSure}
-use Rattle.sf_engine.specs.Fits.{HasMoved, IsGoing, PlaceAgrees, SeatAgrees, Agrees}
+use Rattle.sf_engine.specs.Deciding.{HasStopped, Stops, AreSure}
+use Rattle.sf_engine.specs.Fits.{IsOnWay, HasMoved, IsGoing, PlaceAgrees, SeatAgrees, Agrees}
+use Rattle.sf_engine.proofs.MovesBy.{MovesBy, moves_by}
 use Rattle.sf_engine.proofs.Moving.{Moves, OtherStays, get_within}
 use Rattle.sf_engine.proofs.Deciding.{moved_on, stops, step_sure}
 use Rattle.sf_engine.proofs.Resting.{Turned, seat}
@@ -93,7 +100,7 @@ has_stopped : (w : World) (v : CoreView) (s : ℕ) (x : SessionView) (id n m : �
     → did c given ≡ Did n s m q given → IsPosition (route_of c.request) c.stage → MayDecide (replay w.records) c.request c.stage → reply_of c ≡ None → HasStopped (replay w.records) moves (Did n s m q given)
 has_stopped w v s x id n m q moves p c given at here is position way undecided =
     let own : at.call ≡ c = let z : Busy at.call ≡ Busy c = sym at.slot ∙ here in cc in
-    let moved : HasMoved c.stage moves = subst (λ (y : Call). HasMoved y.stage moves) own (at.walked (ap reply_of own ∙ undecided)) in
+    let moved : HasMoved c.stage moves = subst (λ (y : Call). HasMoved y.stage moves) own (at.walked (inl (ap reply_of own ∙ undecided))) in
     subst (λ (r : Record). HasStopped (replay w.records) moves r) is (stops (replay w.records) (route_of c.request) c.stage moves position moved way)
 
 -- the session's call was decided, and its answer waits
@@ -118,9 +125,101 @@ decided_now w v v' s t c x p q id n m request moves a added h at moved idle qis 
   };
 }
 
-helped_stays : (v v' : CoreView) (s : ℕ) (helped : List Record) → (slot_of v' s ≡ slot_of v s) ⊎ IsHelpedAt v v' s helped → OtherStays v v' s
+not_on_way : (c : Call) (given : Reply) → reply_of c ≡ Some given → c.stage ≡ stage.Fresh → IsOnWay c → ⊥
+not_on_way c given has rests (inl none) = let k : Some given ≡ None = sym has ∙ none in cc
+not_on_way c given has rests (inr copies) = subst IsCopying rests copies
+
+helped_stays : (v v' : CoreView) (s : ℕ) (helped : List Record) → (slot_of v' s ≡ slot_of v s) ⊎ IsHelpedAt v v' s helped ⊎ IsFinished v v' s helped → OtherStays v v' s
 helped_stays v v' s helped (inl e) = inl e
-helped_stays v v' s helped (inr h) = inr (h.before, h.after, h.was, h.now, h.same, h.less, λ e. let k : Some h.given ≡ None = sym h.decided ∙ e in cc)
+helped_stays v v' s helped (inr (inl h)) = inr (h.before, h.after, h.was, h.now, h.same, h.less, not_on_way h.after h.given h.decided h.rests)
+helped_stays v v' s helped (inr (inr h)) = inr (h.before, h.after, h.was, h.now, h.same, h.less, not_on_way h.after h.given h.has h.rests)
+
+-- ---- what a move adds
+copies_moved : (g : Stage) (moves : ℕ) → IsCopying g → HasMoved g moves → 0 < moves
+copies_moved stage.Fresh moves copies h = absurd copies
+copies_moved (stage.At walked node) moves copies h = absurd copies
+copies_moved (stage.Ends common old new) moves copies h = absurd copies
+copies_moved (stage.Copies node left) moves copies h = h
+
+has_copied : (g : Stage) (moves : ℕ) → IsCopying g → 0 < moves → HasMoved g moves
+has_copied stage.Fresh moves copies some = absurd copies
+has_copied (stage.At walked node) moves copies some = absurd copies
+has_copied (stage.Ends common old new) moves copies some = absurd copies
+has_copied (stage.Copies node left) moves copies some = some
+
+write_stops : (t : Tree) (q : Request) (moves : ℕ) → is_write q ≡ true → Stops t (route_of q) moves → moves ≡ 0
+write_stops t (request.Write handle offset bytes) moves e stops = stops
+write_stops t (request.Stat path) moves e stops = let z : ⊥ = cc in absurd z
+write_stops t (request.SetStat path attrs) moves e stops = let z : ⊥ = cc in absurd z
+write_stops t (request.Mkdir path attrs) moves e stops = let z : ⊥ = cc in absurd z
+write_stops t (request.Rmdir path) moves e stops = let z : ⊥ = cc in absurd z
+write_stops t (request.Remove path) moves e stops = let z : ⊥ = cc in absurd z
+write_stops t (request.OpenDir path) moves e stops = let z : ⊥ = cc in absurd z
+write_stops t (request.Open path flags attrs) moves e stops = let z : ⊥ = cc in absurd z
+write_stops t (request.Close handle) moves e stops = let z : ⊥ = cc in absurd z
+write_stops t (request.FStat handle) moves e stops = let z : ⊥ = cc in absurd z
+write_stops t (request.FSetStat handle attrs) moves e stops = let z : ⊥ = cc in absurd z
+write_stops t (request.Read handle offset len) moves e stops = let z : ⊥ = cc in absurd z
+write_stops t (request.ReadDir handle) moves e stops = let z : ⊥ = cc in absurd z
+write_stops t (request.Rename old new) moves e stops = let z : ⊥ = cc in absurd z
+write_stops t (request.PosixRename old new) moves e stops = let z : ⊥ = cc in absurd z
+write_stops t (request.Link old new) moves e stops = let z : ⊥ = cc in absurd z
+
+nothing_rises : IsStrictlySortedBy nat_cmp []
+unfolding IsStrictlySortedBy
+nothing_rises = tt
+
+module _ (w : World) (v v' : CoreView) (s : ℕ) (x : SessionView) (p : Place) (id n m : ℕ) (q : Request) (moves : ℕ) (at : IsGoing v s x (walking id n m q moves) p) (h added : List Record) (hist : h ≡ w.records) (lane' : LaneView)
+    (k : MovesBy (before v h at.lane) (after v' added lane')) where
+  here : slot_of v s ≡ Busy k.before
+  here = ap (λ (i : ℕ). slot_of v i) (sym at.session) ∙ k.own.slot
+
+  own : at.call ≡ k.before
+  own = let z : Busy at.call ≡ Busy k.before = sym at.slot ∙ here in cc
+
+  request_is : k.before.request ≡ q
+  request_is = ap (λ (y : Call). y.request) (sym own) ∙ at.own.3
+
+  moved : IsOnWay k.before → HasMoved k.before.stage moves
+  moved way = subst (λ (y : Call). IsOnWay y → HasMoved y.stage moves) own at.walked way
+
+  move_adds : (t t' : Told) → MoveAdds (record { world = w; session = s; told = t; added = added; now = t' }) (walking id n m q moves)
+  move_adds t t' = elim k.kind [
+    | inl g ↦ inl (g.1.none, λ e. absurd (let z : true ≡ false = sym e ∙ ap is_write (sym request_is) ∙ g.0.no_write in cc))
+    | inr other ↦ elim other [
+      | inl g ↦
+          let it = g.1 in
+          let is = own_record v s x id n m q moves p k.before g.0 at here in
+          let write : is_write q ≡ true = ap is_write (sym request_is) ∙ it.write in
+          let stopped = has_stopped w v s x id n m q moves p k.before g.0 at here is it.position (subst (λ (y : List Record). MayDecide (replay y) k.before.request k.before.stage) hist it.way) it.undecided in
+          let zero : moves ≡ 0 = write_stops (replay w.records) q moves write stopped in
+          inr (
+            zero,
+            write,
+            (
+              g.0,
+              record {
+                stopped = subst (λ (i : ℕ). HasStopped (replay w.records) i (Did n s m q g.0)) zero stopped;
+                helped = [];
+                of_others = tt;
+                rising = nothing_rises;
+                records = it.records ∙ ap (λ (y : Record). y ∷ []) is;
+                sure = subst (λ (y : List Record). AreSure y added) hist it.sure;
+              },
+            ),
+          )
+      | inr g ↦ inl (g.1.none, λ _. copies_moved k.before.stage moves g.0.before (moved (inr g.0.before)))
+    ]
+  ]
+
+  moves_way : HasMoved k.after.stage (moves + 1)
+  moves_way = elim k.kind [
+    | inl g ↦ moved_on k.before.stage k.after.stage moves (moved (inl g.0.before)) g.0.walks
+    | inr other ↦ elim other [
+      | inl g ↦ has_copied k.after.stage (moves + 1) g.1.copies (omega arith)
+      | inr g ↦ has_copied k.after.stage (moves + 1) g.0.after (omega arith)
+    ]
+  ]
 
 pub step_turned : (w : World) (v v' : CoreView) (seats : List Seat) (s : ℕ) (t : Told) (c : Bool) (x : SessionView) (p q : Place) (id n m : ℕ) (request : Request) (moves : ℕ)
     (r : Happened) (h added : List Record)
@@ -130,22 +229,19 @@ pub step_turned : (w : World) (v v' : CoreView) (seats : List Seat) (s : ℕ) (t
     → Turned v v' s (with_phase t (UnderWay id n m request moves)) (calls_begun r) (seat x q c)
     (λ t'. StepLeads (record { world = w; session = s; told = (with_phase t (UnderWay id n m request moves)); added = added; now = t' }) (walking id n m request moves) r)
 step_turned w v v' seats s t c x p q id n m request moves happened.Moved h added agrees hist old at lane' g =
-    let go = g.0.2 in
-    let a = g.0.0 in
-    let d = g.0.1 in
+    let k = moves_by (before v h at.lane) (after v' added lane') g.0 in
     let was = with_phase t (UnderWay id n m request moves) in
     let told = with_phase was (UnderWay id n m request (moves + 1)) in
-    let here : slot_of v s ≡ Busy a = ap (λ (k : ℕ). slot_of v k) (sym at.session) ∙ go.own.slot in
-    let own : at.call ≡ a = let z : Busy at.call ≡ Busy a = sym at.slot ∙ here in cc in
-    let few : moves + 1 + left_of d ≤ bound_of request = omega (arith, at.few, go.less, ap left_of own) in
+    let is = own w v v' s x p id n m request moves at h added hist lane' k in
+    let few : moves + 1 + left_of k.after ≤ bound_of request = let less = k.less in omega (arith, at.few, less, ap left_of is) in
     record {
       told = told;
-      lead = (omega (arith, few, go.some), g.1.none, refl);
+      lead = (let some = k.some in omega (arith, few, some), move_adds w v v' s x p id n m request moves at h added hist lane' k was told, refl);
       moves = record {
-        joins = go.slot.joins;
-        drawn = go.slot.drawn ∙ omega arith;
-        joined = ap (λ (k : ℕ). k + 1) go.slot.joined;
-        others = λ i ne. inl (go.slot.others i (λ e. ne (e ∙ at.session)));
+        joins = k.slot.joins;
+        drawn = k.slot.drawn ∙ omega arith;
+        joined = ap (λ (i : ℕ). i + 1) k.slot.joined;
+        others = λ i ne. inl (k.slot.others i (λ e. ne (e ∙ at.session)));
       };
       agrees = record {
         unread = old.unread;
@@ -154,19 +250,19 @@ step_turned w v v' seats s t c x p q id n m request moves happened.Moved h added
         closed = old.closed;
         at = record {
           lane = at.lane;
-          call = d;
+          call = k.after;
           session = at.session;
           number_is = at.number_is;
-          place_is = g.2 ∙ ap (λ (l : LaneView). place.UnderWay l) g.1.lane;
-          slot = ap (λ (k : ℕ). slot_of v' k) (sym at.session) ∙ go.slot.own;
+          place_is = g.1 ∙ ap (λ (l : LaneView). place.UnderWay l) k.lane;
+          slot = ap (λ (i : ℕ). slot_of v' i) (sym at.session) ∙ k.slot.own;
           own = (
-            go.same.session ∙ ap (λ (y : Call). y.session) (sym own) ∙ at.own.0,
-            go.same.number ∙ ap (λ (y : Call). y.number) (sym own) ∙ at.own.1,
-            go.same.moment ∙ ap (λ (y : Call). y.moment) (sym own) ∙ at.own.2,
-            go.same.request ∙ ap (λ (y : Call). y.request) (sym own) ∙ at.own.3,
+            k.same.session ∙ ap (λ (y : Call). y.session) (sym is) ∙ at.own.0,
+            k.same.number ∙ ap (λ (y : Call). y.number) (sym is) ∙ at.own.1,
+            k.same.moment ∙ ap (λ (y : Call). y.moment) (sym is) ∙ at.own.2,
+            k.same.request ∙ ap (λ (y : Call). y.request) (sym is) ∙ at.own.3,
           );
           few = few;
-          walked = λ e. moved_on a.stage d.stage moves (subst (λ (y : Call). HasMoved y.stage moves) own (at.walked (ap reply_of own ∙ go.before))) go.walks;
+          walked = λ e. moves_way w v v' s x p id n m request moves at h added hist lane' k;
           waiting = at.waiting;
           ended = at.ended;
         };

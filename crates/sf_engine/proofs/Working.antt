@@ -21,6 +21,7 @@ use Rattle.sf_engine.specs.Worlds.{Phase, Resting, UnderWay, Decided as IsDecide
 use Rattle.sf_engine.specs.Works.{Passage, is_of_other, names_helped, IsWork, IsStep}
 use Rattle.sf_engine.specs.Turns.{Part, NewPart, Seated, Reads, Settles, GoesOn, PlaceGives, CloseGives, before, after, seated}
 use Rattle.sf_engine.specs.Traces.{walking}
+use Rattle.sf_engine.proofs.MovesBy.{moves_by}
 use Rattle.sf_engine.specs.Fits.{IsResting, IsGoing, IsAnswered, PlaceAgrees, due}
 
 -- from a core with its history to another
@@ -59,7 +60,7 @@ same_work s m p e = (omega (arith, e), omega (arith, e))
 step_works : (v : CoreView) (h : List Record) (s m : ℕ) (lane lane' : LaneView) (r : Happened) (a : NewPart) → lane.session ≡ s → GoesOn (before v h lane) r (after a.core a.added lane') a.place → Works s m r (passing v h a.added a.core)
 step_works v h s m lane lane' happened.Moved a e g = record {
   step = (lane, lane', e, g.0);
-  work = (g.0.2.more, omega (arith, g.0.2.few));
+  work = let m = moves_by (before v h lane) (after a.core a.added lane') g.0 in let more = m.more in let few = m.few in (more, omega (arith, few));
 }
 step_works v h s m lane lane' (happened.Blocked holder) a e g = record {
   step = (lane, lane', e, g.0);

@@ -13,7 +13,7 @@ use Rattle.sf_session.specs.Sessions.{SessionView}
 use Rattle.sf_core.specs.Lanes.{LaneView}
 use Rattle.sf_core.specs.Cores.Slot.{Gone, Idle, Busy}
 use Rattle.sf_core.specs.Cores.{CoreView, slot_of, joined}
-use Rattle.sf_core.specs.Progress.{reply_of, left_of, bound_of}
+use Rattle.sf_core.specs.Progress.{reply_of, left_of, bound_of, IsCopying}
 use Rattle.sf_core.specs.Histories.{IsHistory}
 use Rattle.sf_engine.specs.declared.seat.Seat.{Seat}
 use Rattle.sf_engine.specs.declared.seat.Place.{Place}
@@ -36,12 +36,17 @@ pub record IsResting (v : CoreView) (s : ℕ) (x : SessionView) (p : Place) : Ty
   pub waiting : x.waiting ≡ None
   pub ended : x.ended ≡ None
 
--- the moves of an undecided call: the first took the root, and each further one walked a name,
--- those up to a rename's common directory for both its paths
+-- a call that is undecided, or copies: it is on its way
+abbrev pub IsOnWay : Call → Type 0
+IsOnWay c = (reply_of c ≡ None) ⊎ IsCopying c.stage
+
+-- the moves of such a call: the first took the root, and each further one walked a name, those up
+-- to a rename's common directory for both its paths; a WRITE that copies has made its first
 abbrev pub HasMoved : Stage → ℕ → Type 0
 HasMoved stage.Fresh moves = moves ≡ 0
 HasMoved (stage.At walked node) moves = moves ≡ walked + 1
 HasMoved (stage.Ends common old new) moves = moves + common.walked ≡ old.walked + new.walked + 1
+HasMoved (stage.Copies node blocks) moves = 0 < moves
 
 -- A session whose call is under way as is told: the core has the call, and so many steps are left to it at most.
 pub record IsGoing (v : CoreView) (s : ℕ) (x : SessionView) (told : Walking) (p : Place) : Type 0 where
@@ -54,7 +59,7 @@ pub record IsGoing (v : CoreView) (s : ℕ) (x : SessionView) (told : Walking) (
   pub own : (call.session ≡ s) × (call.number ≡ told.number) × (call.moment ≡ told.moment)
       × (call.request ≡ told.request)
   pub few : told.moves + left_of call ≤ bound_of told.request
-  pub walked : reply_of call ≡ None → HasMoved call.stage told.moves
+  pub walked : IsOnWay call → HasMoved call.stage told.moves
   pub waiting : x.waiting ≡ Some told.id
   pub ended : x.ended ≡ None
 

@@ -1,3 +1,4 @@
+-- No public clause cites this module.
 -- What an event does to a core and to one session, from their public contracts.
 use Rattle.std.specs.Prelude.{◌≡◌, ◌≢◌, ◌<◌, ◌≤◌, ◌+◌, ◌-◌, ◌^◌, ◌⊎◌, ◌++◌, ◌∷◌, ℕ, zero, suc, List, [], length, drop, Bool, true, false, Some, None, Result, Ok, Err, IsSome, IfSome}
 use Rattle.sf_field.specs.Fields.{packet}
@@ -15,7 +16,7 @@ use Rattle.sf_core.specs.Lanes.{LaneView}
 use Rattle.sf_session.specs.Sessions.{new_session}
 use Rattle.sf_core.specs.Cores.Slot.{Idle}
 use Rattle.sf_core.specs.Cores.{CoreView, slot_of, joined, most_sessions, last_number}
-use Rattle.sf_core.specs.Events.{Before, After, Joins, OwnCall, Goes, IsBlocked, Fetches, Decides, AddsNothing, Answers, Begins, begun, RefusesBegin, Leaves}
+use Rattle.sf_core.specs.Events.{Before, After, Joins, OwnCall, MovesOn, IsBlocked, Fetches, Decides, AddsNothing, Answers, Begins, begun, RefusesBegin, Leaves}
 use Rattle.sf_core.specs.Histories.{IsHistory}
 use Rattle.sf_engine.specs.declared.seat.Seat.{Seat}
 use Rattle.sf_engine.specs.declared.seat.Place.{Place}
@@ -68,8 +69,7 @@ after w added lane = record { core = w; added = added; lane = lane }
 
 -- the step of a call under way
 abbrev pub GoesOn : Before → Happened → After → Place → Type 0
-GoesOn b happened.Moved a p = ((c : Call) × (d : Call) × Goes b.core a.core b.lane c d)
-    × AddsNothing b a × (p ≡ place.UnderWay a.lane)
+GoesOn b happened.Moved a p = MovesOn b a × (p ≡ place.UnderWay a.lane)
 GoesOn b (happened.Blocked holder) a p = ((c : Call) × IsBlocked b.core a.core b.lane c holder)
     × AddsNothing b a × (p ≡ place.UnderWay a.lane)
 GoesOn b happened.Decided a p =

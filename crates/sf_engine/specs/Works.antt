@@ -7,7 +7,7 @@ use Rattle.sf_call.specs.declared.record.Record.TheVariants.{Did, Left}
 use Rattle.sf_core.specs.Lanes.{LaneView}
 use Rattle.sf_core.specs.Cores.{CoreView}
 use Rattle.sf_core.specs.Progress.{names_of}
-use Rattle.sf_core.specs.Events.{Before, After, Goes, IsBlocked, Fetches, Decides}
+use Rattle.sf_core.specs.Events.{Before, After, MovesOn, IsBlocked, Fetches, Decides}
 use Rattle.sf_engine.specs.declared.event.Event.{Event}
 use Rattle.sf_engine.specs.declared.event.Event.TheVariants as event
 use Rattle.sf_engine.specs.declared.event.Happened.{Happened}
@@ -36,10 +36,11 @@ IsWork (event.Turn s m) p = (p.old.look_ups ≤ p.new.look_ups)
     × (p.new.look_ups ≤ p.old.look_ups + (2 + names_helped s p.added))
 IsWork _ p = p.new.look_ups ≡ p.old.look_ups
 
--- A step of a lane's call: it walks one name; or another call that looks further down holds what it wants; or its record was there; or
--- it is carried out where its walk ends, behind those that it helps, in their order.
+-- A step of a lane's call: it walks one name, or copies a block, the first with its record; or
+-- another call that looks further down, or that copies, holds what it wants; or its record was
+-- there; or it is carried out where its walk ends, behind those that it helps, in their order.
 abbrev pub StepsTo : Before → Happened → After → Type 0
-StepsTo b happened.Moved a = (c : Call) × (d : Call) × Goes b.core a.core b.lane c d
+StepsTo b happened.Moved a = MovesOn b a
 StepsTo b (happened.Blocked holder) a = (c : Call) × IsBlocked b.core a.core b.lane c holder
 StepsTo b happened.Decided a =
     (c : Call) × (given : Reply) × (Fetches b a c given ⊎ Decides b a c given)

@@ -11,6 +11,7 @@ use Rattle.sf_call.specs.declared.metadata.Metadata.{Metadata}
 use Rattle.sf_call.specs.Attributes.{Object}
 use Rattle.sf_call.specs.Attributes.Object.{Directory, File}
 use Rattle.sf_call.specs.Tree.{is_nil}
+use Rattle.sf_block.specs.Contents.{FileBytes, whole}
 use Rattle.sf_inode.specs.declared.node.Node.{Node}
 use Rattle.sf_inode.specs.declared.node.NewNode.{NewNode}
 use Rattle.sf_inode.specs.declared.node.Content.{Content}
@@ -43,11 +44,17 @@ is_bare_content (content.File contents) = true
 -- a file's bytes; a directory has none
 abbrev pub bytes_in : Content → List ℕ
 bytes_in (content.Directory entries) = []
-bytes_in (content.File contents) = contents
+bytes_in (content.File contents) = contents.bytes
 
+-- how many blocks of a file are still to be copied
+abbrev pub left_in : Content → ℕ
+left_in (content.Directory entries) = 0
+left_in (content.File contents) = contents.left
+
+-- what is still to be copied counts as copied
 abbrev pub object_in : Metadata → Content → Object
 object_in m (content.Directory entries) = Directory m
-object_in m (content.File contents) = File m contents
+object_in m (content.File contents) = File m contents.bytes
 
 -- no name and no handle leads to it
 abbrev pub is_unused : Node → Bool
@@ -60,7 +67,7 @@ entries_past last entries = filter (λ e. is_past last e.0) entries
 -- ---- new nodes
 abbrev pub new_content : FileType → Content
 new_content file_type.Directory = content.Directory []
-new_content file_type.File = content.File []
+new_content file_type.File = content.File (whole [])
 
 -- a node with one name, which nothing holds and no handle opens
 abbrev pub new_node : NewNode → Node
@@ -86,9 +93,18 @@ less_content n (content.Directory entries) = content.Directory (remove_entry (sa
 less_content n (content.File contents) = content.File contents
 
 -- ---- changes of a file's bytes; a directory stays
+abbrev pub with_file : FileBytes → Content → Content
+with_file new (content.Directory entries) = content.Directory entries
+with_file new (content.File contents) = content.File new
+
 abbrev pub with_bytes : List ℕ → Content → Content
-with_bytes new (content.Directory entries) = content.Directory entries
-with_bytes new (content.File contents) = content.File new
+with_bytes new = with_file (whole new)
+
+-- so many blocks are left
+abbrev pub with_left : ℕ → Content → Content
+with_left left (content.Directory entries) = content.Directory entries
+with_left left (content.File contents) =
+    content.File (record { bytes = contents.bytes; left = left })
 
 -- ---- changes of a node
 abbrev pub with_content : (Content → Content) → Node → Node

@@ -5,13 +5,14 @@ use Rattle.std.specs.Ordering.{nat_cmp}
 use Rattle.std.specs.Map.{lookup, set_value, remove_entry}
 use Rattle.std.specs.BTreeMap.{is_at, insert_entry}
 use Rattle.sf_path.specs.Names.{Name}
+use Rattle.sf_block.specs.Contents.{FileBytes, whole}
 use Rattle.sf_call.specs.declared.handle.Handle.{Handle}
 use Rattle.sf_call.specs.Attributes.{Object, made_at}
 use Rattle.sf_inode.specs.declared.node.Node.{Node}
 use Rattle.sf_inode.specs.declared.node.Content.TheVariants as content
 use Rattle.sf_inode.specs.declared.handle.OpenHandle.{OpenHandle}
 use Rattle.sf_inode.specs.declared.handle.Marks.{Marks}
-use Rattle.sf_inode.specs.Nodes.{entry_in, entries_in, object_in, is_directory_content, is_bare_content, less_content, more_content, bytes_in, is_file_content, with_bytes, with_content, with_name, without_name, with_opened, is_unused}
+use Rattle.sf_inode.specs.Nodes.{entry_in, entries_in, object_in, is_directory_content, is_bare_content, less_content, more_content, bytes_in, left_in, is_file_content, with_file, with_left, with_content, with_name, without_name, with_opened, is_unused}
 
 -- a node or nothing at each number from 0 on, each session's handles by their numbers, and how many
 -- look-ups were made
@@ -131,6 +132,10 @@ relinked s old_dir old_name new_dir new_name =
 abbrev pub bytes_of : List (Option Node) → ℕ → List ℕ
 bytes_of nodes id = option_map_or (λ node. bytes_in node.content) (node_in nodes id) []
 
+-- how many blocks of a file are still to be copied
+abbrev pub left_at : List (Option Node) → ℕ → ℕ
+left_at nodes id = option_map_or (λ node. left_in node.content) (node_in nodes id) 0
+
 -- a directory's entries, in the order of their names; a file has none
 abbrev pub entries_at : List (Option Node) → ℕ → List (Name × ℕ)
 entries_at nodes id = option_map_or (λ node. entries_in node.content) (node_in nodes id) []
@@ -150,9 +155,17 @@ is_directory_at nodes id =
 abbrev pub is_bare_at : List (Option Node) → ℕ → Bool
 is_bare_at nodes id = option_map_or (λ node. is_bare_content node.content) (node_in nodes id) false
 
--- with other bytes of a file and other room
+-- with other bytes of a file
+abbrev pub file_set : StoreState → ℕ → FileBytes → StoreState
+file_set s id new = edited (with_content (with_file new)) s id
+
+-- with other bytes of a file, of which nothing is left to be copied
 abbrev pub bytes_set : StoreState → ℕ → List ℕ → StoreState
-bytes_set s id new = edited (with_content (with_bytes new)) s id
+bytes_set s id new = file_set s id (whole new)
+
+-- so many blocks of a file are left to be copied
+abbrev pub left_set : StoreState → ℕ → ℕ → StoreState
+left_set s id left = edited (with_content (with_left left)) s id
 
 -- ---- handles
 abbrev pub with_sessions : StoreState → List (ℕ × List (ℕ × OpenHandle)) → StoreState

@@ -1,15 +1,15 @@
 //! A file, or a directory with its entries.
 
-ghost use Rattle.std.specs.Prelude.{◌≡◌, ◌+◌, ◌<◌, ◌≤◌, ◌^◌, [], Some, None, true, false, length, take, IfSome, IfNone, IsOk, IfOk, OnOk, OnErr};
+ghost use Rattle.std.specs.Prelude.{◌≡◌, ◌+◌, ◌-◌, ◌<◌, ◌≤◌, ◌^◌, [], Some, None, true, false, length, take, IfSome, IfNone, IsOk, IfOk, OnOk, OnErr};
 ghost use Rattle.std.specs.Option.{option_copied};
 ghost use Rattle.sf_field.specs.declared.attrs.Attrs.{Attrs};
 ghost use Rattle.sf_call.specs.Attributes.{attrs_of, with_parts, modified_at};
-ghost use Rattle.sf_inode.specs.Nodes.{entry_in, entries_in, entries_past, is_directory_content, is_file_content, is_bare_content, object_in, new_node, with_content, with_metadata, less_content, more_content, bytes_in, with_bytes, is_unused};
-ghost use Rattle.sf_block.specs.Contents.{resized, written};
+ghost use Rattle.sf_inode.specs.Nodes.{entry_in, entries_in, entries_past, is_directory_content, is_file_content, is_bare_content, object_in, new_node, with_content, with_metadata, less_content, more_content, bytes_in, left_in, with_file, with_bytes, with_left, is_unused};
+ghost use Rattle.sf_block.specs.Contents.{resized, written, writing};
 
 use crate::NodeId;
 use crate::entries::Entries;
-use sf_block::WholeContents;
+use sf_block::Contents;
 use sf_call::{FileType, Metadata};
 use sf_field::{Attrs, ByteString};
 use sf_path::Name;
@@ -27,7 +27,7 @@ pub struct NewNode {
 #[derive(Drop)]
 pub(crate) enum Content {
     Directory(Entries),
-    File(WholeContents),
+    File(Contents),
 }
 
 #[derive(Drop)]
@@ -51,7 +51,7 @@ impl Node {
     {
         let content = match made.file_type {
             FileType::Directory => Content::Directory(Entries::new(alloc)),
-            FileType::File => Content::File(WholeContents::new(alloc)),
+            FileType::File => Content::File(Contents::new(alloc)),
         };
         Node {
             label: made.label,
@@ -157,14 +157,66 @@ impl Node {
     }
 
     /// The bytes, if it is a file.
-    pub(crate) fn file(&self) -> Option<&WholeContents>
+    pub(crate) fn file(&self) -> Option<&Contents>
         ensures some { IfSome result (λ file. (is_file_content self.now.content ≡ true)
-            × (file.now ≡ bytes_in self.now.content)) }
+            × (file.now.bytes ≡ bytes_in self.now.content)
+            × (file.now.left ≡ left_in self.now.content)) }
         ensures none { IfNone result (is_file_content self.now.content ≡ false) }
     {
         match &self.content {
             Content::Directory(_) => None,
             Content::File(contents) => Some(contents),
+        }
+    }
+
+    /// How many blocks of a file are still to be copied.
+    pub(crate) fn left(&self) -> usize
+        ensures { result ≡ left_in self.now.content }
+    {
+        match &self.content {
+            Content::Directory(_) => 0,
+            Content::File(contents) => contents.left(),
+        }
+    }
+
+    /// Begins to replace bytes from an offset on; a gap before them is filled with zeros. It takes
+    /// all memory that this wants, and copies no block.
+    pub(crate) fn start_write(
+        &mut self,
+        alloc: Global,
+        offset: u64,
+        bytes: &ByteString,
+    ) -> Result<(), AllocError>
+        requires settled { left_in self.old.content ≡ 0 }
+        requires some { 0 < length bytes.now }
+        requires fits { offset + length bytes.now < 2 ^ 64 }
+        ensures ok { OnOk result (self.new
+            ≡ with_content (with_file (writing (bytes_in self.old.content) offset bytes.now))
+            self.old) }
+        ensures err { OnErr result (self.new ≡ self.old) }
+    {
+        match &mut self.content {
+            Content::Directory(_) => Ok(()),
+            Content::File(contents) => contents.start_write(alloc, offset, bytes),
+        }
+    }
+
+    /// Copies one block of a file that is being written. It takes no memory.
+    pub(crate) fn copy_block(&mut self)
+        requires { 0 < left_in self.old.content }
+        ensures { self.new ≡ with_content (with_left (left_in self.old.content - 1)) self.old }
+    {
+        if let Content::File(contents) = &mut self.content {
+            contents.copy_block();
+        }
+    }
+
+    /// Copies all blocks of a file that are left. It takes no memory.
+    pub(crate) fn copy_rest(&mut self)
+        ensures { self.new ≡ with_content (with_left 0) self.old }
+    {
+        if let Content::File(contents) = &mut self.content {
+            contents.copy_rest();
         }
     }
 
@@ -175,7 +227,9 @@ impl Node {
         offset: u64,
         bytes: &ByteString,
     ) -> Result<(), AllocError>
-        requires { offset + length bytes.now < 2 ^ 64 }
+        requires settled { left_in self.old.content ≡ 0 }
+        requires some { 0 < length bytes.now }
+        requires fits { offset + length bytes.now < 2 ^ 64 }
         ensures ok { OnOk result (self.new
             ≡ with_content (with_bytes (written (bytes_in self.old.content) offset bytes.now))
             self.old) }
@@ -189,6 +243,7 @@ impl Node {
 
     /// Cuts the bytes at a size, or fills them up to it with zeros. It takes no memory.
     pub(crate) fn set_len(&mut self, n: u64)
+        requires { left_in self.old.content ≡ 0 }
         ensures { self.new ≡ with_content (with_bytes (resized (bytes_in self.old.content) n))
             self.old }
     {

@@ -1,19 +1,19 @@
 //! The nodes, and what is open.
 
-ghost use Rattle.std.specs.Prelude.{◌≡◌, ◌≤◌, ℕ, ◌+◌, ◌<◌, ◌^◌, [], true, false, length, take, Some, None, IfSome, IfNone, IsOk, IfOk, OnOk, OnErr, is_some, option_map};
+ghost use Rattle.std.specs.Prelude.{◌≡◌, ◌≤◌, ℕ, ◌+◌, ◌-◌, ◌<◌, ◌^◌, [], true, false, length, take, Some, None, IfSome, IfNone, IsOk, IfOk, OnOk, OnErr, is_some, option_map};
 ghost use Rattle.std.specs.Option.{option_map_or};
 ghost use Rattle.std.specs.declared.alloc.Global.{Global};
 ghost use Rattle.sf_call.specs.Attributes.{attrs_of, with_parts, modified_at};
 ghost use Rattle.sf_inode.specs.Nodes.{new_node, object_in, with_metadata, with_holder, entries_past};
-ghost use Rattle.sf_inode.specs.Stores.{IsFirst, Inserted, with_nodes, node_in, entry_of, holder_of, looked_up, edited, entry_taken, entry_put, released, forgotten, let_go, unlinked, names_at, linked, relinked, bytes_of, is_file_at, file_size, is_directory_at, is_bare_at, bytes_set, opened, handle_put, handle_at, handles_of, handle_dropped, handle_listed, entries_at, closed, each_let_go, closed_all, new_entry};
+ghost use Rattle.sf_inode.specs.Stores.{IsFirst, Inserted, with_nodes, node_in, entry_of, holder_of, looked_up, edited, entry_taken, entry_put, released, forgotten, let_go, unlinked, names_at, linked, relinked, bytes_of, is_file_at, file_size, is_directory_at, is_bare_at, left_at, file_set, bytes_set, left_set, opened, handle_put, handle_at, handles_of, handle_dropped, handle_listed, entries_at, closed, each_let_go, closed_all, new_entry};
 ghost use Rattle.std.specs.Option.{option_copied};
-ghost use Rattle.sf_block.specs.Contents.{resized, written};
+ghost use Rattle.sf_block.specs.Contents.{resized, written, writing};
 
 use crate::NodeId;
 use crate::entries::Entries;
 use crate::handle::{Marks, OpenHandle, SessionHandles};
 use crate::node::{Content, NewNode, Node};
-use sf_block::WholeContents;
+use sf_block::Contents;
 use sf_call::Metadata;
 use sf_field::{Attrs, ByteString, Owner, Times};
 use sf_path::Name;
@@ -343,9 +343,10 @@ impl Store {
     }
 
     /// The bytes of a file. A directory has none.
-    pub fn file(&self, node: NodeId) -> Option<&WholeContents>
+    pub fn file(&self, node: NodeId) -> Option<&Contents>
         ensures some { IfSome result (λ file. (is_file_at self.now.nodes node ≡ true)
-            × (file.now ≡ bytes_of self.now.nodes node)) }
+            × (file.now.bytes ≡ bytes_of self.now.nodes node)
+            × (file.now.left ≡ left_at self.now.nodes node)) }
         ensures none { IfNone result (is_file_at self.now.nodes node ≡ false) }
     {
         self.nodes.get(node)?.file()
@@ -358,9 +359,61 @@ impl Store {
         Some(self.file(node)?.len())
     }
 
+    /// How many blocks of a file are still to be copied.
+    pub fn left(&self, node: NodeId) -> usize
+        ensures { result ≡ left_at self.now.nodes node }
+    {
+        match self.nodes.get(node) {
+            Some(it) => it.left(),
+            None => 0,
+        }
+    }
+
+    /// Begins to replace a file's bytes from an offset on; a gap before them is filled with zeros.
+    /// It takes all memory that this wants, and copies no block.
+    pub fn start_write(
+        &mut self,
+        node: NodeId,
+        offset: u64,
+        bytes: &ByteString,
+    ) -> Result<(), AllocError>
+        requires settled { left_at self.old.nodes node ≡ 0 }
+        requires some { 0 < length bytes.now }
+        requires fits { offset + length bytes.now < 2 ^ 64 }
+        ensures ok { OnOk result (self.new
+            ≡ file_set self.old node (writing (bytes_of self.old.nodes node) offset bytes.now)) }
+        ensures err { OnErr result (self.new ≡ self.old) }
+    {
+        match self.nodes.get_mut(node) {
+            Some(it) => it.start_write(self.alloc, offset, bytes),
+            None => Ok(()),
+        }
+    }
+
+    /// Copies one block of a file that is being written. It takes no memory.
+    pub fn copy_block(&mut self, node: NodeId)
+        requires { 0 < left_at self.old.nodes node }
+        ensures { self.new ≡ left_set self.old node (left_at self.old.nodes node - 1) }
+    {
+        if let Some(it) = self.nodes.get_mut(node) {
+            it.copy_block();
+        }
+    }
+
+    /// Copies all blocks of a file that are left. It takes no memory.
+    pub fn copy_rest(&mut self, node: NodeId)
+        ensures { self.new ≡ left_set self.old node 0 }
+    {
+        if let Some(it) = self.nodes.get_mut(node) {
+            it.copy_rest();
+        }
+    }
+
     /// Replaces a file's bytes from an offset on; a gap before them is filled with zeros.
     pub fn write(&mut self, node: NodeId, offset: u64, bytes: &ByteString) -> Result<(), AllocError>
-        requires { offset + length bytes.now < 2 ^ 64 }
+        requires settled { left_at self.old.nodes node ≡ 0 }
+        requires some { 0 < length bytes.now }
+        requires fits { offset + length bytes.now < 2 ^ 64 }
         ensures ok { OnOk result (self.new
             ≡ bytes_set self.old node (written (bytes_of self.old.nodes node) offset bytes.now)) }
         ensures err { OnErr result (self.new ≡ self.old) }
@@ -373,6 +426,7 @@ impl Store {
 
     /// Cuts a file's bytes at a size, or fills them up to it with zeros. It takes no memory.
     pub fn set_len(&mut self, node: NodeId, n: u64)
+        requires { left_at self.old.nodes node ≡ 0 }
         ensures { self.new ≡ bytes_set self.old node (resized (bytes_of self.old.nodes node) n) }
     {
         if let Some(it) = self.nodes.get_mut(node) {

@@ -132,7 +132,8 @@ impl Ground {
         assert!(rt; opened.is_ok());
     }
 
-    fn set_len(&mut self, node: NodeId, len: u64) {
+    fn set_len(&mut self, rt: &impl Abort, node: NodeId, len: u64) {
+        assert_eq!(rt; self.store.left(node), 0);
         self.store.set_len(node, len);
     }
 
@@ -228,17 +229,15 @@ impl Ground {
         }
     }
 
-    fn try_write(&mut self, file: NodeId, offset: u64, bytes: &[u8]) -> Result<(), Fail>
-        requires { offset + length bytes.now < 2 ^ 64 }
-    {
-        let bytes = ByteString::from_slice(self.alloc, bytes)?;
-        Ok(self.store.write(file, offset, &bytes)?)
-    }
-
     fn write(&mut self, rt: &impl Abort, file: NodeId, offset: u64, bytes: &[u8])
         requires { offset + length bytes.now < 2 ^ 64 }
     {
-        given(rt, self.try_write(file, offset, bytes));
+        let Ok(bytes) = ByteString::from_slice(self.alloc, bytes) else {
+            panic!(rt; "no memory");
+        };
+        assert!(rt; !bytes.is_empty());
+        assert_eq!(rt; self.store.left(file), 0);
+        assert!(rt; self.store.write(file, offset, &bytes).is_ok());
     }
 
     /// The first four bytes of a file, or all where it has fewer.
@@ -246,6 +245,7 @@ impl Ground {
         let Some(file) = self.store.file(node) else {
             panic!(rt; "no file");
         };
+        assert_eq!(rt; self.store.left(node), 0);
         match file.read(self.alloc, 0, 4) {
             Ok(bytes) => assert!(rt; bytes.as_slice() == want),
             Err(_) => panic!(rt; "no memory"),
@@ -299,7 +299,7 @@ fn bytes_outlive_the_name(rt: HostRuntime) {
     let mut ground = Ground::new(&rt, rt.alloc());
     let root = ground.root();
     let a = ground.file(&rt, root, b"/a", 1);
-    ground.set_len(a, 2);
+    ground.set_len(&rt, a, 2);
     ground.has_size(&rt, a, 2);
     ground.open(&rt, 3, 10, a, true);
     ground.open(&rt, 4, 11, a, false);
@@ -323,7 +323,7 @@ fn written_bytes_are_read(rt: HostRuntime) {
     ground.write(&rt, a, 1, b"xy");
     ground.begins(&rt, a, b"\0xy");
     assert!(rt; ground.store.file(root).is_none());
-    ground.set_len(a, 2);
+    ground.set_len(&rt, a, 2);
     ground.has_size(&rt, a, 2);
     ground.begins(&rt, a, b"\0x")
 }
@@ -485,7 +485,7 @@ fn trimmed_nodes_stay(rt: HostRuntime) {
     let mut ground = Ground::new(&rt, alloc);
     let root = ground.root();
     let kept = ground.file(&rt, root, b"/k", 1);
-    ground.set_len(kept, 3);
+    ground.set_len(&rt, kept, 3);
     let mut chain = [root; 64];
     let mut last = root;
     for (above, label) in chain.iter_mut().zip(2..) {

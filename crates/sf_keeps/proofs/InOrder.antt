@@ -9,7 +9,8 @@ use Rattle.sf_call.proofs.Laws.{sorted_put, sorted_removed}
 use Rattle.sf_inode.specs.declared.node.Node.{Node}
 use Rattle.sf_inode.specs.declared.node.Content.{Content}
 use Rattle.sf_inode.specs.declared.node.Content.TheVariants as content
-use Rattle.sf_inode.specs.Nodes.{entries_in, less_content, more_content, with_bytes}
+use Rattle.sf_block.specs.Contents.{FileBytes}
+use Rattle.sf_inode.specs.Nodes.{entries_in, less_content, more_content, with_file, with_left}
 use Rattle.sf_inode.specs.Stores.{node_in, entries_at}
 
 abbrev pub IsInOrder : Content → Type 0
@@ -40,6 +41,10 @@ pub more_in_order : (n : Name) (id : ℕ) (c : Content) → IsInOrder c → IsIn
 more_in_order n id (content.Directory es) h = sorted_put name_cmp name_total es n id h
 more_in_order n id (content.File contents) h = h
 
-pub stored_in_order : (new : List ℕ) (c : Content) → IsInOrder c → IsInOrder (with_bytes new c)
+pub stored_in_order : (new : FileBytes) (c : Content) → IsInOrder c → IsInOrder (with_file new c)
 stored_in_order new (content.Directory es) h = h
 stored_in_order new (content.File contents) h = h
+
+pub left_in_order : (left : ℕ) (c : Content) → IsInOrder c → IsInOrder (with_left left c)
+left_in_order left (content.Directory es) h = h
+left_in_order left (content.File contents) h = h

@@ -12,13 +12,14 @@ use Rattle.sf_call.specs.Changes.Change.{SetObject}
 use Rattle.sf_inode.specs.declared.node.Node.{Node}
 use Rattle.sf_inode.specs.declared.node.Content.{Content}
 use Rattle.sf_inode.specs.declared.node.Content.TheVariants as content
-use Rattle.sf_inode.specs.Nodes.{entry_in, object_in, is_file_content, with_content, with_metadata, with_bytes, with_holder}
+use Rattle.sf_block.specs.Contents.{FileBytes}
+use Rattle.sf_inode.specs.Nodes.{entry_in, object_in, is_file_content, with_content, with_metadata, with_file, with_left, with_holder}
 use Rattle.sf_keeps.specs.Shows.{View, Shows}
-use Rattle.sf_inode.specs.Stores.{StoreState, node_in, entry_of, handle_at, shown_node, edited, edited_by, with_nodes, looked_up, is_file_at, bytes_set}
+use Rattle.sf_inode.specs.Stores.{StoreState, node_in, entry_of, handle_at, shown_node, edited, edited_by, with_nodes, looked_up, is_file_at, file_set, left_set}
 use Rattle.sf_keeps.specs.Keeps.{view_of, Keeps, times_open}
 use Rattle.sf_keeps.proofs.StoreLaws.{node_in-edited, entry_same, shows_edited, view_unseen, kind_metadata}
-use Rattle.sf_keeps.proofs.StoreBytes.{entry_stored, kind_stored}
-use Rattle.sf_keeps.proofs.InOrder.{IsInOrder, node_in_order, in_order_put, stored_in_order}
+use Rattle.sf_keeps.proofs.StoreBytes.{entry_stored, kind_stored, entry_left, object_left}
+use Rattle.sf_keeps.proofs.InOrder.{IsInOrder, node_in_order, in_order_put, stored_in_order, left_in_order}
 use Rattle.sf_keeps.proofs.Counted.{Mark, mark_of, marks_of, marked, keeps_marked, marked_same}
 
 -- marks that stay where one node has changed
@@ -58,22 +59,22 @@ pub keeps_metadata : (f : Metadata → Metadata) (s : StoreState) (t : Tree) (id
 keeps_metadata f s t id node k here = keeps_edited (with_metadata f) s t id node k here (λ m. refl) refl (node_in_order s.nodes id node k.entries here) (kind_metadata node.metadata (f node.metadata) node.content)
 
 -- a file at a number is a node
-file_there : (nodes : List (Option Node)) (id : ℕ) (node : Node) → node_in nodes id ≡ Some node → is_file_at nodes id ≡ true → (contents : List ℕ) × (node.content ≡ content.File contents)
+file_there : (nodes : List (Option Node)) (id : ℕ) (node : Node) → node_in nodes id ≡ Some node → is_file_at nodes id ≡ true → (contents : FileBytes) × (node.content ≡ content.File contents)
 file_there nodes id node here file =
     let is : is_file_content node.content ≡ true = sym (ap (λ (o : Option Node). option_map_or (λ (it : Node). is_file_content it.content) o false) here) ∙ file in
-    elim node.content as (λ c. is_file_content c ≡ true → (contents : List ℕ) × (c ≡ content.File contents)) [
+    elim node.content as (λ c. is_file_content c ≡ true → (contents : FileBytes) × (c ≡ content.File contents)) [
       | content.Directory es ↦ λ e. absurd (cc)
       | content.File contents ↦ λ e. (contents, refl)
     ] is
 
 -- other bytes of a file
-pub keeps_bytes : (new : List ℕ) (s : StoreState) (t : Tree) (id : ℕ) (node : Node) → Keeps s t → node_in s.nodes id ≡ Some node → is_file_at s.nodes id ≡ true
-    → Keeps (bytes_set s id new) (changed t (SetObject node.label (File node.metadata new)))
+pub keeps_bytes : (new : FileBytes) (s : StoreState) (t : Tree) (id : ℕ) (node : Node) → Keeps s t → node_in s.nodes id ≡ Some node → is_file_at s.nodes id ≡ true
+    → Keeps (file_set s id new) (changed t (SetObject node.label (File node.metadata new.bytes)))
 keeps_bytes new s t id node k here file =
     let w = file_there s.nodes id node here file in
-    subst (λ (o : Object). Keeps (bytes_set s id new) (changed t (SetObject node.label o)))
-    (ap (λ (c : Content). object_in node.metadata (with_bytes new c)) w.1)
-    (keeps_edited (with_content (with_bytes new)) s t id node k here (entry_stored new node.content) refl (stored_in_order new node.content (node_in_order s.nodes id node k.entries here)) (kind_stored new node.metadata node.content))
+    subst (λ (o : Object). Keeps (file_set s id new) (changed t (SetObject node.label o)))
+    (ap (λ (c : Content). object_in node.metadata (with_file new c)) w.1)
+    (keeps_edited (with_content (with_file new)) s t id node k here (entry_stored new node.content) refl (stored_in_order new node.content (node_in_order s.nodes id node k.entries here)) (kind_stored new node.metadata node.content))
 
 -- ---- what is not seen
 -- nothing is changed where no node is
@@ -92,6 +93,11 @@ keeps_always f s t id k entries same own alike = elim (node_in s.nodes id) as (�
 
 pub keeps_held : (r : Option ℕ) (s : StoreState) (t : Tree) (id : ℕ) → Keeps s t → Keeps (edited (with_holder r) s id) t
 keeps_held r s t id k = keeps_always (with_holder r) s t id k (λ node e m. refl) (λ node. refl) (λ node h. h) (λ node e. refl)
+
+-- copying is not seen
+pub keeps_left : (left : ℕ) (s : StoreState) (t : Tree) (id : ℕ) → Keeps s t → Keeps (left_set s id left) t
+keeps_left left s t id k = keeps_always (with_content (with_left left)) s t id k (λ node e m. entry_left left node.content m) (λ node. refl) (λ node h. left_in_order left node.content h)
+    (λ node e. λ i. (node.label, object_left left node.metadata node.content i))
 
 pub keeps_looked : (s : StoreState) (t : Tree) → Keeps s t → Keeps (looked_up s) t
 keeps_looked s t k = keeps_marked s (looked_up s) t t (entry_of s.nodes) (marks_of s.nodes) k k.shows (λ x m. refl) (λ i. refl) refl refl (marked s t k) k.entries

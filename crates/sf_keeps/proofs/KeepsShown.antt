@@ -14,8 +14,9 @@ use Rattle.sf_call.specs.Changes.Change.{SetObject}
 use Rattle.sf_inode.specs.declared.node.Node.{Node}
 use Rattle.sf_inode.specs.declared.node.Content.{Content}
 use Rattle.sf_inode.specs.declared.node.Content.TheVariants as content
+use Rattle.sf_block.specs.Contents.{FileBytes}
 use Rattle.sf_inode.specs.Nodes.{object_in, is_directory_content, is_file_content, bytes_in, with_metadata}
-use Rattle.sf_inode.specs.Stores.{StoreState, node_in, shown_node, shown_of, edited, bytes_set, bytes_of, is_directory_at, is_file_at}
+use Rattle.sf_inode.specs.Stores.{StoreState, node_in, shown_node, shown_of, edited, file_set, bytes_of, is_directory_at, is_file_at}
 use Rattle.sf_keeps.specs.Keeps.{Keeps}
 use Rattle.sf_keeps.proofs.KeepsEdited.{keeps_metadata, keeps_bytes}
 
@@ -74,11 +75,11 @@ keeps_file f s t id label m bytes k e =
     subst (λ (v : ℕ × Object). Keeps (edited (with_metadata f) s id) (changed t (SetObject v.0 v.1))) (λ i. (w.2 i, other_file f w.0.metadata m bytes w.0.content w.3 i))
     (keeps_metadata f s t id w.0 k w.1)
 
-pub keeps_contents : (new : List ℕ) (s : StoreState) (t : Tree) (id label : ℕ) (m : Metadata) (old : List ℕ) → Keeps s t → shown_of s.nodes id ≡ Some (label, File m old)
-    → Keeps (bytes_set s id new) (changed t (SetObject label (File m new)))
+pub keeps_contents : (new : FileBytes) (s : StoreState) (t : Tree) (id label : ℕ) (m : Metadata) (old : List ℕ) → Keeps s t → shown_of s.nodes id ≡ Some (label, File m old)
+    → Keeps (file_set s id new) (changed t (SetObject label (File m new.bytes)))
 keeps_contents new s t id label m old k e =
     let w = node_shown s.nodes id label (File m old) e in
-    subst (λ (v : ℕ × Metadata). Keeps (bytes_set s id new) (changed t (SetObject v.0 (File v.1 new)))) (λ i. (w.2 i, (file_content w.0.metadata m old w.0.content w.3).0 i))
+    subst (λ (v : ℕ × Metadata). Keeps (file_set s id new) (changed t (SetObject v.0 (File v.1 new.bytes)))) (λ i. (w.2 i, (file_content w.0.metadata m old w.0.content w.3).0 i))
     (keeps_bytes new s t id w.0 k w.1 (file_shown s.nodes id label m old e).0)
 
 -- ---- objects set twice

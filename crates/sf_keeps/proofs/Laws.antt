@@ -16,8 +16,8 @@ pub use Rattle.sf_keeps.proofs.Bare.{bare_found}
 pub use Rattle.sf_keeps.proofs.StoreLaws.{node_in-set}
 -- what a change leaves alone
 pub use Rattle.sf_keeps.proofs.Untouched.{edited_apart, edited_itself, inserted_alike, unlinked_alike, relinked_alike}
--- the same tree: a look-up, a holder, reserved memory
-pub use Rattle.sf_keeps.proofs.KeepsEdited.{keeps_looked, keeps_held}
+-- the same tree: a look-up, a holder, blocks that are still to be copied
+pub use Rattle.sf_keeps.proofs.KeepsEdited.{keeps_looked, keeps_held, keeps_left}
 -- another object under a label
 pub use Rattle.sf_keeps.proofs.KeepsEdited.{keeps_metadata, keeps_bytes}
 pub use Rattle.sf_keeps.proofs.KeepsShown.{keeps_directory, keeps_file, keeps_contents, object_again}

@@ -19,6 +19,7 @@ pub mod Counted
 pub mod CountedSteps
 pub mod KeepsFirst
 pub mod KeepsEdited
+pub mod Copied
 pub mod Forgotten
 pub mod KeepsNames
 pub mod KeepsLinked

@@ -14,7 +14,8 @@ ghost use Rattle.sf_inode.specs.declared.node.Node.{Node};
 ghost use Rattle.sf_inode.specs.declared.node.NewNode.{NewNode};
 ghost use Rattle.sf_inode.specs.Nodes.{object_in, new_content, new_node, with_metadata, with_holder};
 ghost use Rattle.sf_keeps.specs.Steps.{walk};
-ghost use Rattle.sf_inode.specs.Stores.{StoreState, IsFirst, Inserted, node_in, entry_of, shown_of, holder_of, looked_up, edited, unlinked, linked, relinked, bytes_of, is_file_at, is_directory_at, is_bare_at, bytes_set, new_entry};
+ghost use Rattle.sf_block.specs.Contents.{FileBytes};
+ghost use Rattle.sf_inode.specs.Stores.{StoreState, IsFirst, Inserted, node_in, entry_of, shown_of, holder_of, looked_up, edited, unlinked, linked, relinked, bytes_of, is_file_at, is_directory_at, is_bare_at, left_at, file_set, left_set, new_entry};
 ghost use Rattle.sf_keeps.specs.Keeps.{Keeps};
 
 /// A store keeps at most one tree, and a new one the root alone.
@@ -111,11 +112,28 @@ pub fn found_paths()
         → walk (entry_of s.nodes) s.root p ≡ Some id → is_empty t.names p ≡ is_bare_at s.nodes id }
 {}
 
-/// A look-up and a holder leave the tree as it is.
+/// A look-up and a holder leave the tree as it is, and so does the copying of what is written.
 pub fn same_tree()
     ensures find { (s : StoreState) (t : Tree) → Keeps s t → Keeps (looked_up s) t }
     ensures hold { (holder : Option ℕ) (s : StoreState) (t : Tree) (id : ℕ) → Keeps s t
         → Keeps (edited (with_holder holder) s id) t }
+    ensures copy { (left : ℕ) (s : StoreState) (t : Tree) (id : ℕ) → Keeps s t
+        → Keeps (left_set s id left) t }
+{}
+
+/// Copying a file's blocks changes no holder, nothing that is seen and no other file; and what is
+/// left after some blocks is copied as if none had been before.
+pub fn copied_blocks()
+    ensures shown { (left : ℕ) (s : StoreState) (id i : ℕ)
+        → shown_of (left_set s id left).nodes i ≡ shown_of s.nodes i }
+    ensures holders { (left : ℕ) (s : StoreState) (id i : ℕ)
+        → holder_of (left_set s id left).nodes i ≡ holder_of s.nodes i }
+    ensures there { (left : ℕ) (s : StoreState) (id : ℕ) → is_file_at s.nodes id ≡ true
+        → left_at (left_set s id left).nodes id ≡ left }
+    ensures others { (left : ℕ) (s : StoreState) (id i : ℕ) → i ≢ id
+        → left_at (left_set s id left).nodes i ≡ left_at s.nodes i }
+    ensures rest { (j k : ℕ) (s : StoreState) (id i : ℕ)
+        → node_in (left_set (left_set s id k) id j).nodes i ≡ node_in (left_set s id j).nodes i }
 {}
 
 /// Other metadata of a node, or other bytes of a file, are another object under its label. Of
@@ -125,9 +143,10 @@ pub fn changed_object()
         → Keeps s t → node_in s.nodes id ≡ Some node
         → Keeps (edited (with_metadata f) s id)
         (changed t (SetObject node.label (object_in (f node.metadata) node.content))) }
-    ensures bytes { (new : List ℕ) (s : StoreState) (t : Tree) (id : ℕ) (node : Node) → Keeps s t
+    ensures bytes { (new : FileBytes) (s : StoreState) (t : Tree) (id : ℕ) (node : Node) → Keeps s t
         → node_in s.nodes id ≡ Some node → is_file_at s.nodes id ≡ true
-        → Keeps (bytes_set s id new) (changed t (SetObject node.label (File node.metadata new))) }
+        → Keeps (file_set s id new)
+        (changed t (SetObject node.label (File node.metadata new.bytes))) }
     ensures directory { (f : Metadata
         → Metadata) (s : StoreState) (t : Tree) (id label : ℕ) (m : Metadata) → Keeps s t
         → shown_of s.nodes id ≡ Some (label, Directory m)
@@ -136,9 +155,9 @@ pub fn changed_object()
         → Metadata) (s : StoreState) (t : Tree) (id label : ℕ) (m : Metadata) (bytes : List ℕ)
         → Keeps s t → shown_of s.nodes id ≡ Some (label, File m bytes)
         → Keeps (edited (with_metadata f) s id) (changed t (SetObject label (File (f m) bytes))) }
-    ensures contents { (new : List ℕ) (s : StoreState) (t : Tree) (id label : ℕ) (m : Metadata)
+    ensures contents { (new : FileBytes) (s : StoreState) (t : Tree) (id label : ℕ) (m : Metadata)
         (old : List ℕ) → Keeps s t → shown_of s.nodes id ≡ Some (label, File m old)
-        → Keeps (bytes_set s id new) (changed t (SetObject label (File m new))) }
+        → Keeps (file_set s id new) (changed t (SetObject label (File m new.bytes))) }
     ensures again { (t : Tree) (label : ℕ) (o u : Object)
         → changed (changed t (SetObject label o)) (SetObject label u)
         ≡ changed t (SetObject label u) }

@@ -21,6 +21,8 @@ pub use Rattle.sf_laws.proofs.Renames.{unmoved_labels, unmoved_nested, moved_cha
 -- A rename leaves the labels of paths that begin with neither of its two. A request with one path,
 -- strictly below old, leaves those that aren't strictly below old, and the move of old.
 pub use Rattle.sf_laws.proofs.Renames.{spared_labels, below_labels, still_move}
+-- a call leaves the open handles of other sessions
+pub use Rattle.sf_laws.proofs.OtherSessions.{others_handles}
 -- where a move may be made, the renames make it
 pub use Rattle.sf_laws.proofs.MovingRenames.{rename_moves, posix_rename_moves}
 

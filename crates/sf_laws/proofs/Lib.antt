@@ -16,3 +16,4 @@ mod InOrder
 mod ListedAll
 mod SameReplies
 pub mod Laws
+mod OtherSessions

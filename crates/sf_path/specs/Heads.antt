@@ -1,3 +1,4 @@
+-- No public clause cites this module.
 -- A name's first bytes as a number.
 use Rattle.std.specs.Prelude.{ℕ, zero, suc, ◌+◌, ◌*◌, List, [], ◌∷◌}
 

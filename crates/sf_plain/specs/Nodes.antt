@@ -1,3 +1,4 @@
+-- No public clause cites this module.
 -- The object that a node is.
 use Rattle.std.specs.Prelude.{ℕ, nat_eq, Bool, true, false, ◌&&◌, Option, Some, None}
 use Rattle.sf_call.specs.Attributes.{Object}

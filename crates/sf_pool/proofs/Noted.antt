@@ -10,7 +10,7 @@ use Rattle.sf_pool.specs.declared.desk.Told.TheVariants.{Answered}
 use Rattle.sf_pool.specs.Audits.{Deed, told}
 use Rattle.sf_pool.specs.Stays.{IsStay}
 use Rattle.sf_pool.specs.OnCores.{call_in, IsLaneAt}
-use Rattle.sf_pool.specs.Desks.{Place, New, Resting, UnderWay, Gone, IsAnswered, IsLast, DeskView, Answers, Steps, last_of, call_place, lane_place, kept_calls}
+use Rattle.sf_pool.specs.Desks.{Place, New, Resting, UnderWay, Gone, IsAnswered, IsUnderWay, IsLast, DeskView, Answers, Steps, last_of, call_place, lane_place, kept_calls}
 
 abbrev pub deed : ℕ → Request → Reply → Deed
 deed number request reply = record { number = number; request = request; reply = reply }
@@ -83,6 +83,21 @@ lane_at v place t asked keeps lane number request view stay here had busy =
     let at : v.place ≡ UnderWay number request = ap (λ u. u.place) view ∙ ap (λ p. lane_place p t.session asked (map told t.calls.items)) here
     ∙ ap (λ q. lane_place (Some lane) t.session q (map told t.calls.items)) had ∙ ap (λ call. call_place call (Some request) (map told t.calls.items)) busy in
     record { session = (subst P here stay).1 ∙ sym (ap (λ u. u.session) view); call = busy ∙ sym (ap call_in at) }
+
+under_way_by : (call : Option ℕ) (asked : Option Request) (es : List Deed) → IsUnderWay (call_place call asked es) → call ≡ call_in (call_place call asked es)
+under_way_by None asked es is = absurd is
+under_way_by (Some number) None es is = absurd is
+under_way_by (Some number) (Some request) es is = refl
+
+-- so it is where a call is under way
+pub lane_under_way : (v : DeskView) (place : Option LaneView) (t : Transcript) (asked : Option Request) (keeps : Bool) (lane : LaneView)
+    → v ≡ record { session = t.session; place = lane_place place t.session asked (map told t.calls.items); calls = kept_calls keeps t.calls.items }
+    → IsStay place t keeps → place ≡ Some lane → IsUnderWay v.place → IsLaneAt v lane
+lane_under_way v place t asked keeps lane view stay here under =
+    let P : Option LaneView → Type 0 = λ p. IsStay p t keeps in
+    let at : v.place ≡ call_place lane.call asked (map told t.calls.items) = ap (λ u. u.place) view ∙ ap (λ p. lane_place p t.session asked (map told t.calls.items)) here in
+    let U : Place → Type 0 = λ p. IsUnderWay p in
+    record { session = (subst P here stay).1 ∙ sym (ap (λ u. u.session) view); call = under_way_by lane.call asked (map told t.calls.items) (subst U at under) ∙ sym (ap call_in at) }
 
 -- the answer is the last that was noted
 pub now_last : (lane lane' : LaneView) (session number : ℕ) (asked : Option Request) (request : Request) (reply : Reply) (keeps : Bool) (calls calls' : List Exchange)

@@ -1,3 +1,4 @@
+-- No public clause cites this module.
 -- What the parts of serving do.
 use Rattle.std.specs.Prelude.{◌≡◌, ℕ, List, [], ◌∷◌, ◌++◌, length, Bool, true, false, Option, None, Ok, IfSome}
 use Rattle.sf_wire.specs.declared.cutting.Cut.TheVariants as cut

@@ -1,3 +1,4 @@
+-- No public clause cites this module.
 -- What is true of a session's stay between two events.
 use Rattle.std.specs.Prelude.{◌≡◌, ◌≢◌, ◌<◌, ◌+◌, ℕ, [], length, Bool, true, Option, Some, None, vec_len}
 use Rattle.std.specs.Vec.{vec_capacity}

@@ -86,6 +86,7 @@ impl Hall {
         self.taken.store(is_taken as u64, Ordering::SeqCst);
     }
 
+    /// Whether the lock was taken, as it was last marked.
     pub(crate) fn is_taken(&self) -> bool {
         self.taken.load(Ordering::SeqCst) != 0
     }

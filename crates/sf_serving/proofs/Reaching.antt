@@ -23,11 +23,14 @@ all_back P [] ys h = h
 all_back P (x ∷ xs) ys h = all_back P xs ys h.1
 
 -- nothing more is owed where no entry is left
-owes_none : (h : List Record) (begun : ℕ) (f : Phase) → Owes h begun f [] []
-owes_none h begun Resting = from_nothing (replay h) begun [] [] refl
-owes_none h begun (UnderWay id n m q moves) = from_nothing (replay h) (begun - 1) (m ∷ []) [] refl
-owes_none h begun (Decided id n q given) = inl refl
-owes_none h begun (Gone cause) = refl
+owes_none : (h : List Record) (begun : ℕ) (f : Phase) → Stands f h begun → Owes h begun f [] []
+owes_none h begun Resting k = from_nothing (replay h) begun [] [] refl
+owes_none h begun (UnderWay id n m q moves) k = elim k.3 [
+  | inl low ↦ inl (low, from_nothing (replay h) (begun - 1) (m ∷ []) [] refl)
+  | inr told ↦ inr (told.1.0, told.1.1, inl refl)
+]
+owes_none h begun (Decided id n q given) k = inl refl
+owes_none h begun (Gone cause) k = refl
 
 told_last : (h : List Record) (begun : ℕ) (t t' : Told) (w' : World) → w' ≡ lone h begun t → IsSession w' 1 t' → t' ≡ t
 told_last h begun t t' w' e is = let same : Some t ≡ Some t' = (subst (λ (z : World). IsSession z 1 t') e is).1 in cc
@@ -38,7 +41,7 @@ pub reaches : (entries : List Entry) (h : List Record) (begun : ℕ) (t : Told) 
     → Reaches h begun t (moments_begun entries) t'.answers
 unfolding Runs
 reaches [] h begun t w' t' runs own stands legal heard is had =
-    ([], ap (λ (z : Told). z.answers) (told_last h begun t t' w' runs is) ∙ sym (append-nil t.answers), owes_none h begun t.phase)
+    ([], ap (λ (z : Told). z.answers) (told_last h begun t t' w' runs is) ∙ sym (append-nil t.answers), owes_none h begun t.phase stands)
 reaches (e ∷ entries) h begun t w' t' runs own stands legal heard is had =
     let on = leads_on h e.added (order entries) begun t runs.0 e.event e.result stands legal (all_front HadMemoryFor e.added (order entries) heard) own.0 runs.1 in
     let runs' : Runs (lone (h ++ e.added) on.count on.told) entries w' = subst (λ (z : World). Runs z entries w') on.world runs.2 in

@@ -11,7 +11,7 @@ use Rattle.sf_call.specs.declared.record.Record.{Record}
 use Rattle.sf_call.specs.declared.record.Record.TheVariants.{Did, Left}
 use Rattle.sf_call.specs.Tree.{Tree}
 use Rattle.sf_call.specs.Calls.{apply}
-use Rattle.sf_call.specs.Histories.{after, replay, IsAmong, IsLegal, IsLegalAfter, MayFollow}
+use Rattle.sf_call.specs.Histories.{after, replay, IsOther, IsNewNumber, IsAmong, IsLegal, IsLegalAfter, MayFollow}
 use Rattle.sf_call.proofs.Laws.{replay-push, after_told}
 use Rattle.sf_session.specs.declared.asking.Ask.{Ask}
 use Rattle.sf_session.specs.declared.asking.Ask.TheVariants as ask
@@ -24,7 +24,7 @@ use Rattle.sf_engine.specs.declared.event.Happened.{Happened}
 use Rattle.sf_engine.specs.declared.event.Happened.TheVariants as happened
 use Rattle.sf_engine.specs.declared.event.EngineFault.{EngineFault}
 use Rattle.sf_engine.specs.Worlds.{Answered, Version, Locally, ByCall, Refused, asked_by, Phase, Resting, UnderWay, Decided, Gone, Told, World, with_phase}
-use Rattle.sf_engine.specs.Traces.{IsSession, IsHelped, IsAtOnce, Decides, StepLeads, RestLeads, TurnLeads, Happens, LeadsBy, with_answer, left_if_closed, leaving, left_by_close, closed_now, fed, sent_more, calls_begun}
+use Rattle.sf_engine.specs.Traces.{IsSession, IsHelped, IsAtOnce, Decides, StepLeads, RestLeads, CarriesOut, MoveAdds, walking, TurnLeads, Happens, LeadsBy, with_answer, left_if_closed, leaving, left_by_close, closed_now, fed, sent_more, calls_begun}
 use Rattle.sf_serving.specs.Serving.{IsOf}
 use Rattle.sf_serving.specs.Alone.{answers_from, moment_begun, HadMemoryFor, HadMemoryAt}
 
@@ -85,18 +85,28 @@ IsBelow limit (Left session) = Unit {0}
 abbrev pub AreBelow : ℕ → List Record → Type 0
 AreBelow limit h = AllByRecursion (IsBelow limit) h
 
--- The last call that began is the one under way.
+-- A call under way is the last that began. Its record isn't there yet; or, of a WRITE that goes on block by block, it is.
+abbrev pub IsTold : ℕ → ℕ → Request → List Record → Type 0
+IsTold n m q h = (given : Reply) × IsAmong (Did n 1 m q given) h
+
 abbrev pub Stands : Phase → List Record → ℕ → Type 0
 Stands Resting h begun = AreBelow (begun + 1) h
-Stands (UnderWay id n m q moves) h begun = (n ≡ begun) × (0 < begun) × (begun ≤ last_number) × AreBelow begun h
+Stands (UnderWay id n m q moves) h begun = (n ≡ begun) × (0 < begun) × (begun ≤ last_number) × (AreBelow begun h ⊎ (AreBelow (begun + 1) h × IsTold n m q h))
 Stands (Decided id n q given) h begun = AreBelow (begun + 1) h
 Stands (Gone cause) h begun = Unit {0}
+
+-- what a session is still to be answered once its call is decided
+abbrev pub OwesTold : List Record → ℕ → ℕ → ℕ → Request → Reply → List ℕ → List Answered → Type 0
+OwesTold h begun id n q given moments more =
+    (more ≡ []) ⊎ ((later : List Answered) × (more ≡ ByCall id n q given ∷ later) × (later ≡ answers_from (replay h) begun moments (map asked_by later)))
 
 -- what a session is still to be answered, where calls will begin at these moments
 abbrev pub Owes : List Record → ℕ → Phase → List ℕ → List Answered → Type 0
 Owes h begun Resting moments more = more ≡ answers_from (replay h) begun moments (map asked_by more)
-Owes h begun (UnderWay id n m q moves) moments more = more ≡ answers_from (replay h) (begun - 1) (m ∷ moments) (map asked_by more)
-Owes h begun (Decided id n q given) moments more = (more ≡ []) ⊎ ((later : List Answered) × (more ≡ ByCall id n q given ∷ later) × (later ≡ answers_from (replay h) begun moments (map asked_by later)))
+Owes h begun (UnderWay id n m q moves) moments more =
+    (AreBelow begun h × (more ≡ answers_from (replay h) (begun - 1) (m ∷ moments) (map asked_by more)))
+    ⊎ ((given : Reply) × IsAmong (Did n 1 m q given) h × OwesTold h begun id n q given moments more)
+Owes h begun (Decided id n q given) moments more = OwesTold h begun id n q given moments more
 Owes h begun (Gone cause) moments more = more ≡ []
 
 -- so it comes to these answers
@@ -117,6 +127,34 @@ unfolding IsAmong
 not_among limit n s m q given [] le b k = k
 not_among limit n s m q given (x ∷ h) le b (inl e) = let low : n < limit = subst (λ (r : Record). IsBelow limit r) e b.0 in omega (arith, le, low)
 not_among limit n s m q given (x ∷ h) le b (inr k) = not_among limit n s m q given h le b.1 k
+
+-- what is owed under way, where the call's record isn't there
+not_told : (h : List Record) (begun id n m : ℕ) (q : Request) (moments : List ℕ) (more : List Answered) → n ≡ begun → AreBelow begun h
+    → Owes h begun (UnderWay id n m q 0) moments more → more ≡ answers_from (replay h) (begun - 1) (m ∷ moments) (map asked_by more)
+not_told h begun id n m q moments more same low (inl o) = o.1
+not_told h begun id n m q moments more same low (inr o) = absurd (not_among begun n 1 m q o.0 h (omega (arith, same)) low o.1)
+
+-- the record of a number that is new isn't there
+not_new : (n s m : ℕ) (q : Request) (given : Reply) (h : List Record) → IsNewNumber n h → IsAmong (Did n s m q given) h → ⊥
+unfolding IsAmong
+not_new n s m q given [] new k = k
+not_new n s m q given (x ∷ h) new (inl e) = absurd ((subst (λ (r : Record). IsOther n r) e new.0) refl)
+not_new n s m q given (x ∷ h) new (inr k) = not_new n s m q given h new.1 k
+
+-- the record that was added last
+told_last_of : (limit n s m : ℕ) (q : Request) (given given' : Reply) (h : List Record) → limit ≤ n → AreBelow limit h
+    → IsAmong (Did n s m q given') (h ++ Did n s m q given ∷ []) → given' ≡ given
+unfolding IsAmong
+told_last_of limit n s m q given given' [] le b (inl e) = cc
+told_last_of limit n s m q given given' [] le b (inr k) = absurd k
+told_last_of limit n s m q given given' (x ∷ h) le b (inl e) =
+    let low : n < limit = subst (λ (r : Record). IsBelow limit r) e b.0 in absurd (omega (arith, le, low))
+told_last_of limit n s m q given given' (x ∷ h) le b (inr k) = told_last_of limit n s m q given given' h le b.1 k
+
+among_last : (r : Record) (h : List Record) → IsAmong r (h ++ r ∷ [])
+unfolding IsAmong
+among_last r [] = inl refl
+among_last r (x ∷ h) = inr (among_last r h)
 
 no_helped : (h : List Record) (begun : ℕ) (t : Told) (helped : List Record) → AllByRecursion (IsHelped (lone h begun t) 1) helped → helped ≡ []
 no_helped h begun t [] k = refl
@@ -194,12 +232,12 @@ rest_goes h added begun m t t' happened.Begun k g =
     let room : begun < last_number = x.room in
     let same = same_records h added g.1 in record {
       stands = subst (λ (f : Phase). Stands f (h ++ added) (begun + 1)) (sym goes_on)
-          (refl, omega arith, omega (arith, room), subst (λ (y : List Record). AreBelow (begun + 1) y) (sym same) k);
+          (refl, omega arith, omega (arith, room), inl (subst (λ (y : List Record). AreBelow (begun + 1) y) (sym same) k));
       back = λ moments all had r.
           let owes : Owes (h ++ added) (begun + 1) (UnderWay x.id (begun + 1) m x.request 0) moments r.0 = subst (λ (f : Phase). Owes (h ++ added) (begun + 1) f moments r.0) goes_on r.2 in
           let less : begun + 1 - 1 ≡ begun = omega arith in
           let from : r.0 ≡ answers_from (replay h) (begun + 1 - 1) (m ∷ moments) (map asked_by r.0) =
-          subst (λ (y : List Record). r.0 ≡ answers_from (replay y) (begun + 1 - 1) (m ∷ moments) (map asked_by r.0)) same owes in
+          not_told h (begun + 1) x.id (begun + 1) m x.request moments r.0 refl k (subst (λ (y : List Record). Owes y (begun + 1) (UnderWay x.id (begun + 1) m x.request 0) moments r.0) same owes) in
           (r.0, r.1 ∙ ap (λ (xs : List Answered). xs ++ r.0) answered, subst (λ (n : ℕ). r.0 ≡ answers_from (replay h) n (m ∷ moments) (map asked_by r.0)) less from);
     }
 rest_goes h added begun m t t' (happened.Ended cause) k g =
@@ -218,12 +256,18 @@ rest_goes h added begun m t t' happened.Decided k g = absurd g
 rest_goes h added begun m t t' happened.Closed k g = absurd g
 rest_goes h added begun m t t' happened.Sent k g = absurd g
 
--- the call's own record alone was added
-own_alone : (h added : List Record) (begun moves : ℕ) (t : Told) (id n m : ℕ) (q : Request) (given : Reply) → Stands (UnderWay id n m q moves) h begun
-    → Decides (lone h begun t) 1 moves (Did n 1 m q given) added → added ≡ Did n 1 m q given ∷ []
-own_alone h added begun moves t id n m q given k (inl d) = absurd (not_among begun n 1 m q given h (omega (arith, k.0)) k.3 d.1)
-own_alone h added begun moves t id n m q given k (inr d) =
+-- a call that is carried out has its own record added alone, and it wasn't there
+carried_alone : (h added : List Record) (begun moves : ℕ) (t : Told) (n m : ℕ) (q : Request) (given : Reply)
+    → CarriesOut (lone h begun t) 1 moves (Did n 1 m q given) added → added ≡ Did n 1 m q given ∷ []
+carried_alone h added begun moves t n m q given d =
     d.records ∙ ap (λ (xs : List Record). xs ++ Did n 1 m q given ∷ []) (no_helped h begun t d.helped d.of_others)
+
+carried_new : (h added rest : List Record) (begun n m : ℕ) (q : Request) (given : Reply) → IsLegal (h ++ (added ++ rest)) → added ≡ Did n 1 m q given ∷ []
+    → AreBelow begun h ⊎ (AreBelow (begun + 1) h × IsTold n m q h) → AreBelow begun h
+carried_new h added rest begun n m q given legal is (inl low) = low
+carried_new h added rest begun n m q given legal is (inr told) =
+    let may : MayFollow h (Did n 1 m q given) = next_legal h rest (Did n 1 m q given) (subst (λ (xs : List Record). IsLegal (h ++ (xs ++ rest))) is legal) in
+    absurd (not_new n 1 m q told.1.0 h may.new_number told.1.1)
 
 -- its reply is the tree's
 own_reply : (h rest : List Record) (n m : ℕ) (q : Request) (given : Reply) → IsLegal (h ++ Did n 1 m q given ∷ rest) → given ≢ reply.NoMemory → given ≡ (apply (replay h) 1 n m q).reply
@@ -252,41 +296,109 @@ by_call h begun moments id n m q given more same some low e (inr x) =
     (sym (from_call tree (begun - 1) m moments id q asks (omega (arith, some, low)))) in
     subst (λ (xs : List Answered). xs ≡ answers_from tree (begun - 1) (m ∷ moments) (map asked_by xs)) (sym x.1) (whole ∙ spelled)
 
+-- ---- a call under way
+
+-- The call's record was added alone: what is owed after it comes from before.
+module _ (h added rest : List Record) (begun : ℕ) (id n m : ℕ) (q : Request) (given : Reply) (is : added ≡ Did n 1 m q given ∷ [])
+    (legal : IsLegal (h ++ (added ++ rest))) (heard : AllByRecursion HadMemoryFor added) (same : n ≡ begun) (some : 0 < begun) (few : begun ≤ last_number) (low : AreBelow begun h) where
+  told_now : AreBelow (begun + 0 + 1) (h ++ added)
+  told_now = subst (λ (xs : List Record). AreBelow (begun + 0 + 1) (h ++ xs)) (sym is)
+      (below_push (begun + 0 + 1) h (Did n 1 m q given) (below_more begun (begun + 0 + 1) h (omega arith) low) (omega (arith, same)))
+
+  tells : given ≡ (apply (replay h) 1 n m q).reply
+  tells =
+      let had : AllByRecursion HadMemoryFor (Did n 1 m q given ∷ []) = subst (λ (xs : List Record). AllByRecursion HadMemoryFor xs) is heard in
+      own_reply h rest n m q given (subst (λ (xs : List Record). IsLegal (h ++ (xs ++ rest))) is legal) had.0
+
+  told_back : (moments : List ℕ) (more : List Answered) → OwesTold (h ++ added) (begun + 0) id n q given moments more → Owes h begun (UnderWay id n m q 0) moments more
+  told_back moments more owes =
+      let owes' : OwesTold (h ++ Did n 1 m q given ∷ []) begun id n q given moments more =
+      subst (λ (y : ℕ). OwesTold (h ++ Did n 1 m q given ∷ []) y id n q given moments more) (same_begun begun) (subst (λ (xs : List Record). OwesTold (h ++ xs) (begun + 0) id n q given moments more) is owes) in
+      inl (low, by_call h begun moments id n m q given more same some few tells owes')
+
+  among_now : IsAmong (Did n 1 m q given) (h ++ added)
+  among_now = subst (λ (xs : List Record). IsAmong (Did n 1 m q given) (h ++ xs)) (sym is) (among_last (Did n 1 m q given) h)
+
+  is_told_now : IsTold n m q (h ++ added)
+  is_told_now = (given, among_now)
+
+  moved_back : (moments : List ℕ) (more : List Answered) → Owes (h ++ added) (begun + 0) (UnderWay id n m q 0) moments more → Owes h begun (UnderWay id n m q 0) moments more
+  moved_back moments more (inl o) =
+      absurd (not_among (begun + 0) n 1 m q given (h ++ added) (omega (arith, same)) o.0 among_now)
+  moved_back moments more (inr o) =
+      let whose : o.0 ≡ given = told_last_of begun n 1 m q given o.0 h (omega (arith, same)) low (subst (λ (xs : List Record). IsAmong (Did n 1 m q o.0) (h ++ xs)) is o.1) in
+      told_back moments more (subst (λ (y : Reply). OwesTold (h ++ added) (begun + 0) id n q y moments more) whose o.2)
+
+-- the same phase, moved once more
+stands_moved : (h : List Record) (begun id n m : ℕ) (q : Request) (moves : ℕ) → Stands (UnderWay id n m q moves) h begun → Stands (UnderWay id n m q (moves + 1)) h begun
+stands_moved h begun id n m q moves k = k
+
+moved_goes : (h added rest : List Record) (begun : ℕ) (t t' : Told) (id n m : ℕ) (q : Request) (moves : ℕ) → Stands (UnderWay id n m q moves) h begun
+    → IsLegal (h ++ (added ++ rest)) → AllByRecursion HadMemoryFor added
+    → MoveAdds (record { world = (lone h begun (with_phase t (UnderWay id n m q moves))); session = 1; told = (with_phase t (UnderWay id n m q moves)); added = added; now = t' }) (walking id n m q moves)
+    → t'.answers ≡ t.answers → t'.phase ≡ UnderWay id n m q (moves + 1)
+    → Goes h added begun (begun + 0) (with_phase t (UnderWay id n m q moves)) t' []
+moved_goes h added rest begun t t' id n m q moves k legal had (inl none) answered goes_on = record {
+  stands = subst (λ (f : Phase). Stands f (h ++ added) (begun + 0)) (sym goes_on) (still_stands (UnderWay id n m q (moves + 1)) h added begun none.0 (stands_moved h begun id n m q moves k));
+  back = λ moments all hads r. (
+    r.0,
+    r.1 ∙ ap (λ (xs : List Answered). xs ++ r.0) answered,
+    still_owes (UnderWay id n m q (moves + 1)) h added begun moments r.0 none.0 (subst (λ (f : Phase). Owes (h ++ added) (begun + 0) f moments r.0) goes_on r.2),
+  );
+}
+moved_goes h added rest begun t t' id n m q moves k legal had (inr first) answered goes_on =
+    let given = first.2.0 in
+    let is : added ≡ Did n 1 m q given ∷ [] = carried_alone h added begun 0 (with_phase t (UnderWay id n m q moves)) n m q given first.2.1 in
+    let low : AreBelow begun h = carried_new h added rest begun n m q given legal is k.3 in record {
+      stands = subst (λ (f : Phase). Stands f (h ++ added) (begun + 0)) (sym goes_on) (
+        k.0 ∙ sym (same_begun begun),
+        subst (λ (y : ℕ). 0 < y) (sym (same_begun begun)) k.1,
+        subst (λ (y : ℕ). y ≤ last_number) (sym (same_begun begun)) k.2,
+        inr (told_now h added rest begun id n m q given is legal had k.0 k.1 k.2 low, is_told_now h added rest begun id n m q given is legal had k.0 k.1 k.2 low),
+      );
+      back = λ moments all hads r. (
+        r.0,
+        r.1 ∙ ap (λ (xs : List Answered). xs ++ r.0) answered,
+        moved_back h added rest begun id n m q given is legal had k.0 k.1 k.2 low moments r.0 (subst (λ (f : Phase). Owes (h ++ added) (begun + 0) f moments r.0) goes_on r.2),
+      );
+    }
+
+decided_goes : (h added rest : List Record) (begun : ℕ) (t t' : Told) (id n m : ℕ) (q : Request) (moves : ℕ) (given : Reply) → Stands (UnderWay id n m q moves) h begun
+    → IsLegal (h ++ (added ++ rest)) → AllByRecursion HadMemoryFor added
+    → Decides (lone h begun (with_phase t (UnderWay id n m q moves))) 1 moves (Did n 1 m q given) added
+    → t'.answers ≡ t.answers → t'.phase ≡ Decided id n q given
+    → Goes h added begun (begun + 0) (with_phase t (UnderWay id n m q moves)) t' []
+decided_goes h added rest begun t t' id n m q moves given k legal had (inl there) answered decided =
+    let below : AreBelow (begun + 1) h = elim k.3 [ inl low ↦ below_more begun (begun + 1) h (omega arith) low | inr told ↦ told.0 ] in record {
+      stands = subst (λ (f : Phase). Stands f (h ++ added) (begun + 0)) (sym decided) (still_stands (Decided id n q given) h added begun there.0 below);
+      back = λ moments all hads r. (
+        r.0,
+        r.1 ∙ ap (λ (xs : List Answered). xs ++ r.0) answered,
+        inr (given, there.1, still_owes (Decided id n q given) h added begun moments r.0 there.0 (subst (λ (f : Phase). Owes (h ++ added) (begun + 0) f moments r.0) decided r.2)),
+      );
+    }
+decided_goes h added rest begun t t' id n m q moves given k legal had (inr d) answered decided =
+    let is : added ≡ Did n 1 m q given ∷ [] = carried_alone h added begun moves (with_phase t (UnderWay id n m q moves)) n m q given d in
+    let low : AreBelow begun h = carried_new h added rest begun n m q given legal is k.3 in record {
+      stands = subst (λ (f : Phase). Stands f (h ++ added) (begun + 0)) (sym decided) (told_now h added rest begun id n m q given is legal had k.0 k.1 k.2 low);
+      back = λ moments all hads r. (
+        r.0,
+        r.1 ∙ ap (λ (xs : List Answered). xs ++ r.0) answered,
+        told_back h added rest begun id n m q given is legal had k.0 k.1 k.2 low moments r.0 (subst (λ (f : Phase). Owes (h ++ added) (begun + 0) f moments r.0) decided r.2),
+      );
+    }
+
 -- a turn of a session whose call is under way
 step_goes : (h added rest : List Record) (begun turn : ℕ) (t t' : Told) (id n m : ℕ) (q : Request) (moves : ℕ) (r : Happened) → Stands (UnderWay id n m q moves) h begun
     → IsLegal (h ++ (added ++ rest)) → AllByRecursion HadMemoryFor added
     → StepLeads (record { world = (lone h begun (with_phase t (UnderWay id n m q moves))); session = 1; told = (with_phase t (UnderWay id n m q moves)); added = added; now = t' }) (record { id = id; number = n; moment = m; request = q; moves = moves }) r
     → Goes h added begun (begun + calls_begun r) (with_phase t (UnderWay id n m q moves)) t' (moment_begun (event.Turn 1 turn) (Ok r))
 step_goes h added rest begun turn t t' id n m q moves happened.Moved k legal had g =
-    let answered : t'.answers ≡ t.answers = ap (λ (z : Told). z.answers) g.2 in
-    let goes_on : t'.phase ≡ UnderWay id n m q (moves + 1) = ap (λ (z : Told). z.phase) g.2 in record {
-      stands = subst (λ (f : Phase). Stands f (h ++ added) (begun + 0)) (sym goes_on) (still_stands (UnderWay id n m q (moves + 1)) h added begun g.1 k);
-      back = λ moments all hads r. (
-        r.0,
-        r.1 ∙ ap (λ (xs : List Answered). xs ++ r.0) answered,
-        still_owes (UnderWay id n m q (moves + 1)) h added begun moments r.0 g.1 (subst (λ (f : Phase). Owes (h ++ added) (begun + 0) f moments r.0) goes_on r.2),
-      );
-    }
+    moved_goes h added rest begun t t' id n m q moves k legal had g.1 (ap (λ (z : Told). z.answers) g.2) (ap (λ (z : Told). z.phase) g.2)
 step_goes h added rest begun turn t t' id n m q moves (happened.Blocked holder) k legal had g =
     goes_same h added begun (with_phase t (UnderWay id n m q moves)) t' g.1 (ap (λ (z : Told). z.answers) g.2) (ap (λ (z : Told). z.phase) g.2) k
 step_goes h added rest begun turn t t' id n m q moves happened.Decided k legal had g =
-    let given = g.0 in
-    let own = Did n 1 m q given in
-    let is : added ≡ own ∷ [] = own_alone h added begun moves (with_phase t (UnderWay id n m q moves)) id n m q given k g.1 in
-    let answered : t'.answers ≡ t.answers = ap (λ (z : Told). z.answers) g.2 in
-    let decided : t'.phase ≡ Decided id n q given = ap (λ (z : Told). z.phase) g.2 in
-    let heard : AllByRecursion HadMemoryFor (own ∷ []) = subst (λ (xs : List Record). AllByRecursion HadMemoryFor xs) is had in
-    let tells : given ≡ (apply (replay h) 1 n m q).reply = own_reply h rest n m q given (subst (λ (xs : List Record). IsLegal (h ++ (xs ++ rest))) is legal) heard.0 in
-    record {
-      stands = subst (λ (f : Phase). Stands f (h ++ added) (begun + 0)) (sym decided)
-          (subst (λ (xs : List Record). AreBelow (begun + 0 + 1) (h ++ xs)) (sym is)
-          (below_push (begun + 0 + 1) h own (below_more begun (begun + 0 + 1) h (omega arith) k.3) (let same : n ≡ begun = k.0 in omega (arith, same))));
-      back = λ moments all hads r.
-          let owes : Owes (h ++ added) (begun + 0) (Decided id n q given) moments r.0 = subst (λ (f : Phase). Owes (h ++ added) (begun + 0) f moments r.0) decided r.2 in
-          let owes' : Owes (h ++ own ∷ []) begun (Decided id n q given) moments r.0 =
-          subst (λ (y : ℕ). Owes (h ++ own ∷ []) y (Decided id n q given) moments r.0) (same_begun begun) (subst (λ (xs : List Record). Owes (h ++ xs) (begun + 0) (Decided id n q given) moments r.0) is owes) in
-          (r.0, r.1 ∙ ap (λ (xs : List Answered). xs ++ r.0) answered, by_call h begun moments id n m q given r.0 k.0 k.1 k.2 tells owes');
-    }
+    decided_goes h added rest begun t t' id n m q moves g.0 k legal had g.1 (ap (λ (z : Told). z.answers) g.2) (ap (λ (z : Told). z.phase) g.2)
 step_goes h added rest begun turn t t' id n m q moves (happened.Opened z) k legal had g = absurd g
 step_goes h added rest begun turn t t' id n m q moves happened.Fed k legal had g = absurd g
 step_goes h added rest begun turn t t' id n m q moves happened.Wrote k legal had g = absurd g

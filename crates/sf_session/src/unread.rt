@@ -39,6 +39,7 @@ impl Unread {
         }
     }
 
+    /// The bytes that are unread.
     pub(crate) fn as_slice(&self) -> &[u8]
         ensures { result.now ≡ self.now }
     {

@@ -9,7 +9,7 @@ use Rattle.sf_call.specs.declared.metadata.Metadata.{Metadata}
 use Rattle.sf_call.specs.declared.limits.TheConstants.{MAX_FILE_SIZE}
 use Rattle.sf_call.specs.Attributes.{Object, modified_at}
 use Rattle.sf_call.specs.Attributes.Object.{File}
-use Rattle.sf_block.specs.Contents.{written}
+use Rattle.sf_block.specs.Contents.{whole, written}
 use Rattle.sf_call.specs.Tree.{Tree, is_nil}
 use Rattle.sf_call.specs.Handles.{Opened, opened, opened_object}
 use Rattle.sf_call.specs.Handles.Opened.{OpenDirectory, OpenFile}
@@ -68,7 +68,7 @@ some_bytes b [] h e = let t : b ≡ true = h.1 refl in cc
 some_bytes b (x ∷ xs) h e = refl
 
 -- ---- sizes
-size_is : (nodes : List (Option Node)) (id size : ℕ) → Some size ≡ file_size nodes id → (is_file_at nodes id ≡ true) × (size ≡ length (bytes_of nodes id))
+pub size_is : (nodes : List (Option Node)) (id size : ℕ) → Some size ≡ file_size nodes id → (is_file_at nodes id ≡ true) × (size ≡ length (bytes_of nodes id))
 size_is nodes id size e =
     elim (is_file_at nodes id) as (λ b. is_file_at nodes id ≡ b → Some size ≡ (if b then Some (length (bytes_of nodes id)) else None) → (is_file_at nodes id ≡ true) × (size ≡ length (bytes_of nodes id))) [
       | true ↦ λ f q. (f, (let w : size ≡ length (bytes_of nodes id) = cc in w))
@@ -154,7 +154,7 @@ put_keeps s first new t id label moment start m old bytes keeps shows put marked
     let after : now ≡ written old start bytes = ap (λ (b : List ℕ). written b start bytes) (stored_bytes (node_in s.nodes id) label m old shows) in
     let one = changed t (SetObject label (File m now)) in
     let last : Object = File (modified_at moment m) now in
-    let keeps_first : Keeps first one = subst (λ (x : StoreState). Keeps x one) (sym put) (keeps_contents now s t id label m old keeps shows) in
+    let keeps_first : Keeps first one = subst (λ (x : StoreState). Keeps x one) (sym put) (keeps_contents (whole now) s t id label m old keeps shows) in
     let shows_first : shown_of first.nodes id ≡ Some (label, File m now) = shows_bytes s first id label m old now shows put in
     let keeps_new : Keeps new (changed one (SetObject label last)) =
     subst (λ (x : StoreState). Keeps x (changed one (SetObject label last))) (sym marked) (keeps_file (modified_at moment) first one id label m now keeps_first shows_first) in

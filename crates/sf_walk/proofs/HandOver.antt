@@ -73,6 +73,13 @@ enough route at (IsOn path walked node less) = omega arith
 enough route at (IsBefore old new walked node count part less) = omega arith
 enough route at (IsApart old new c a b is) = omega arith
 
+-- a call on its way holds the directories that it has come to
+nodes_on : (route : Route) (at : Stage) → IsPosition route at → nodes_of at ≡ nodes_in (reached_at at)
+nodes_on route at (Starts r is) = refl
+nodes_on route at (IsOn path walked node less) = refl
+nodes_on route at (IsBefore old new walked node count part less) = refl
+nodes_on route at (IsApart old new c a b is) = refl
+
 spot_of_node : (at : List Reached) (paths : List Path) (l : ℕ) → AreEnough at paths → is_one_of l (nodes_in at) ≡ true → IsNodeOf (spots_on at paths) l
 spot_of_node [] paths l fits e = let z : ⊥ = cc in absurd z
 spot_of_node (r ∷ at) [] l fits e = absurd (omega (arith, fits))
@@ -127,10 +134,10 @@ module _ (kept : List ℕ) where
 -- ---- a call
 module _ (route : Route) (at : Stage) (is : IsPosition route at) where
   node_there : (l : ℕ) → IsNodeOf (spots_of route at) l → is_one_of l (nodes_of at) ≡ true
-  node_there l h = node_of_spot (reached_at at) (paths_on route) l h.spot h.holds h.node
+  node_there l h = ap (is_one_of l) (nodes_on route at is) ∙ node_of_spot (reached_at at) (paths_on route) l h.spot h.holds h.node
 
   spot_there : (l : ℕ) → is_one_of l (nodes_of at) ≡ true → IsNodeOf (spots_of route at) l
-  spot_there l e = spot_of_node (reached_at at) (paths_on route) l (enough route at is) e
+  spot_there l e = spot_of_node (reached_at at) (paths_on route) l (enough route at is) (sym (ap (is_one_of l) (nodes_on route at is)) ∙ e)
 
   none_there : (l : ℕ) → (IsNodeOf (spots_of route at) l → ⊥) → is_one_of l (nodes_of at) ≡ false
   none_there l not = elim (one_or_not l (nodes_of at)) [ inl e ↦ absurd (not (spot_there l e)) | inr e ↦ e ]

@@ -22,3 +22,5 @@ pub use Rattle.sf_walk.proofs.HandOver.{moved_hands, freed_hands, holder_other, 
 pub use Rattle.sf_walk.proofs.Nowhere.{nowhere_stays}
 -- a call that walks no path decides at once
 pub use Rattle.sf_walk.proofs.Advancing.{at_once}
+-- a file that another session's handle opens is there still after a decision
+pub use Rattle.sf_walk.proofs.Spared.{file_spared}

@@ -30,3 +30,6 @@ pub mod Courses
 pub mod Nowhere
 pub mod MovedEntries
 pub mod Linking
+pub mod Settled
+pub mod Spared
+pub mod Beginning

@@ -26,6 +26,7 @@ use Rattle.sf_inode.specs.declared.node.Content.{Content}
 use Rattle.sf_inode.specs.declared.node.Content.TheVariants as content
 use Rattle.sf_inode.specs.declared.handle.OpenHandle as open_handle
 use Rattle.sf_inode.specs.declared.handle.Marks.{Marks}
+use Rattle.sf_block.specs.Contents.{whole}
 use Rattle.sf_inode.specs.Nodes.{object_in, bytes_in, new_node, is_directory_content, with_opened, with_metadata, with_content, with_bytes}
 use Rattle.sf_keeps.specs.Steps.{walk}
 use Rattle.sf_inode.specs.Stores.{StoreState, node_in, entry_of, is_directory_at, shown_node, shown_of, edited, bytes_set, handle_put, new_handle, opened_by, opened}
@@ -36,7 +37,7 @@ use Rattle.sf_walk.specs.declared.finding.Located.{Located}
 use Rattle.sf_walk.specs.declared.finding.Located.TheVariants as located
 use Rattle.sf_walk.specs.Opening.{marks_of, OpenedNew, to_open}
 use Rattle.sf_walk.specs.Served.{IsCarriedOut, Gives, IsAlike, LookedUp, Stays, IsUnused, is_success}
-use Rattle.sf_walk.proofs.Holders.{put_nodes, stays_inserted, stays_opened}
+use Rattle.sf_walk.proofs.Holders.{put_nodes, new_left, stays_inserted, stays_opened}
 use Rattle.sf_walk.proofs.LookUps.{looked_nodes}
 use Rattle.sf_walk.proofs.Fits.{no_way, name_missing, node_at}
 use Rattle.sf_walk.proofs.Undone.{edited_node, edited_itself}
@@ -169,7 +170,7 @@ cut_node (content.Directory es) l label k m bytes e =
     absurd (let x : ⊥ = cc in x)
 cut_node (content.File contents) l label k m bytes e =
     let labels : Some l ≡ Some label = ap (option_map (λ (v : ℕ × Object). v.0)) e in
-    let objects : Some (File k contents) ≡ Some (File m bytes) = ap (option_map (λ (v : ℕ × Object). v.1)) e in
+    let objects : Some (File k contents.bytes) ≡ Some (File m bytes) = ap (option_map (λ (v : ℕ × Object). v.1)) e in
     let one : l ≡ label = cc in
     let same : k ≡ m = cc in
     λ i. shown_as (one i) (File (same i) [])
@@ -182,7 +183,7 @@ cut_shown (Some node) label m bytes e = cut_node node.content node.label label n
 pub cut_served : (s mid new : StoreState) (t : Tree) (id moment label : ℕ) (m : Metadata) (bytes : List ℕ) → Keeps s t → shown_of s.nodes id ≡ Some (label, File m bytes)
     → mid ≡ bytes_set s id [] → new ≡ edited (with_metadata (modified_at moment)) mid id → Keeps new (changed t (SetObject label (File (modified_at moment m) [])))
 cut_served s mid new t id moment label m bytes k at is state =
-    let kept : Keeps mid (changed t (SetObject label (File m []))) = subst (λ (x : StoreState). Keeps x (changed t (SetObject label (File m [])))) (sym is) (keeps_contents [] s t id label m bytes k at) in
+    let kept : Keeps mid (changed t (SetObject label (File m []))) = subst (λ (x : StoreState). Keeps x (changed t (SetObject label (File m [])))) (sym is) (keeps_contents (whole []) s t id label m bytes k at) in
     let shown : shown_of mid.nodes id ≡ Some (label, File m []) =
     ap (λ (x : StoreState). shown_of x.nodes id) is
     ∙ ap (option_map shown_node) (edited_itself (with_content (with_bytes [])) s id)
@@ -194,7 +195,7 @@ cut_served s mid new t id moment label m bytes k at is state =
 -- ---- what opening leaves of holders
 pub stays_opened_new : {N : Option ℕ → ℕ → Type 0} (before s new : StoreState) (session number dir : ℕ) (n : Name) (marks : Marks) (made : NewNode) → s.nodes ≡ before.nodes → OpenedNew s new (to_open session number dir n marks) made → N None made.label → Stays N before new
 stays_opened_new {N} before s new session number dir n marks made same did is_new =
-    subst (Stays N before) (sym did.state) (stays_opened before did.mid session number did.id marks (stays_inserted before s did.mid dir n did.id (new_node made) same did.inserted is_new))
+    subst (Stays N before) (sym did.state) (stays_opened before did.mid session number did.id marks (stays_inserted before s did.mid dir n did.id (new_node made) same did.inserted is_new (new_left made.file_type)))
 
 pub alike_err : {A E : Type 0} (old mid new : StoreState) (most : ℕ) (r : Result A E) → LookedUp old mid most → OnErr r (new ≡ mid) → OnErr r (IsAlike old new)
 alike_err old mid new most r looked = on_err_map r (new ≡ mid) (IsAlike old new) (alike_after old mid new most looked)

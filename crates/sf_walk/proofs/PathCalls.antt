@@ -34,7 +34,7 @@ use Rattle.sf_walk.proofs.Told.{tells_served, past_root, past_root_wants}
 pub stays_gone : {N : Option ℕ → ℕ → Type 0} (old mid new : StoreState) (most moment dir : ℕ) (n : Name) → LookedUp old mid most → new ≡ edited (with_metadata (modified_at moment)) (unlinked mid dir n) dir → Stays N old new
 stays_gone {N} old mid new most moment dir n looked state =
     subst (λ (x : StoreState). Stays N old x) (sym state)
-    (stays_edited (with_metadata (modified_at moment)) (λ node. (refl, refl)) old (unlinked mid dir n) dir (stays_unlinked old mid dir n (stays_looked old mid most looked)))
+    (stays_edited (with_metadata (modified_at moment)) (λ node. (refl, refl, refl)) old (unlinked mid dir n) dir (stays_unlinked old mid dir n (stays_looked old mid most looked)))
 
 file_content_bare : (c : Content) → is_directory_content c ≡ false → is_bare_content c ≡ true
 file_content_bare (content.Directory es) e = cc

@@ -10,7 +10,7 @@ use Rattle.sf_call.specs.declared.metadata.Metadata.{Metadata}
 use Rattle.sf_call.specs.declared.limits.TheConstants.{MAX_FILE_SIZE}
 use Rattle.sf_call.specs.Attributes.{Object, modified_at, with_parts}
 use Rattle.sf_call.specs.Attributes.Object.{Directory, File}
-use Rattle.sf_block.specs.Contents.{resized}
+use Rattle.sf_block.specs.Contents.{whole, resized}
 use Rattle.sf_call.specs.Tree.{Tree}
 use Rattle.sf_call.specs.Changes.{changed}
 use Rattle.sf_call.specs.Changes.Change.{SetObject}
@@ -29,7 +29,7 @@ not_above size h = grind (arith, nat_tests)
 
 sets_plain : (moment l : ℕ) (attrs : Attrs) (m : Metadata) (c : Content) → attrs.size ≡ None → sets moment l attrs (object_in m c) ≡ succeeds (SetObject l (object_in (with_parts m attrs) c) ∷ [])
 sets_plain moment l attrs m (content.Directory es) e = λ i. if refuses_size (Directory m) (e i) then refuses Failure else succeeds (SetObject l (Directory (with_parts m attrs)) ∷ [])
-sets_plain moment l attrs m (content.File c) e = λ i. if refuses_size (File m c) (e i) then refuses Failure else succeeds (SetObject l (with_size moment attrs (e i) m c) ∷ [])
+sets_plain moment l attrs m (content.File c) e = λ i. if refuses_size (File m c.bytes) (e i) then refuses Failure else succeeds (SetObject l (with_size moment attrs (e i) m c.bytes) ∷ [])
 
 sets_cut : (moment l : ℕ) (attrs : Attrs) (m : Metadata) (bytes : List ℕ) (size : ℕ) → attrs.size ≡ Some size → nat_lt MAX_FILE_SIZE size ≡ false
     → sets moment l attrs (File m bytes) ≡ succeeds (SetObject l (File (with_parts (modified_at moment m) attrs) (resized bytes size)) ∷ [])
@@ -61,7 +61,7 @@ marked_content f l k m n (content.File c) bytes e =
     let g = ap (λ (o : Option (ℕ × Object)). option_map (λ (v : ℕ × Object). v.0) o) e in
     let a : k ≡ l = cc in
     let b : n ≡ m = cc in
-    let d : c ≡ bytes = cc in
+    let d : c.bytes ≡ bytes = cc in
     λ i. Some (a i, File (f (b i)) (d i))
 
 pub shown_stored : (o : Option Node) (l : ℕ) (m : Metadata) (old : List ℕ) (r : List ℕ) → option_map shown_node o ≡ Some (l, File m old) → option_map shown_node (option_map (with_content (with_bytes r)) o) ≡ Some (l, File m r)
@@ -90,7 +90,7 @@ set_cut : (s first second new : StoreState) (t : Tree) (id label moment size : �
 set_cut s first second new t id label moment size attrs m old cut_to is_cut h shows some fits cut marked set =
     let bytes = cut_to in
     let one = changed t (SetObject label (File m bytes)) in
-    let keeps_one : Keeps first one = subst (λ (x : StoreState). Keeps x one) (sym cut) (keeps_contents cut_to s t id label m old h shows) in
+    let keeps_one : Keeps first one = subst (λ (x : StoreState). Keeps x one) (sym cut) (keeps_contents (whole cut_to) s t id label m old h shows) in
     let shows_one : shown_of first.nodes id ≡ Some (label, File m bytes) =
     ap (λ (x : StoreState). shown_of x.nodes id) cut ∙ ap (option_map shown_node) (edited_itself (with_content (with_bytes cut_to)) s id)
     ∙ shown_stored (node_in s.nodes id) label m old cut_to shows in
@@ -111,8 +111,8 @@ set_content_cut : (s first second new : StoreState) (t : Tree) (id label moment 
     → IsCarriedOut new t (sets moment label attrs (object_in m c)) (reply.Status Success)
 set_content_cut s first second new t id label moment size attrs m (content.Directory es) h shows d some fits cut marked set = absurd (let x : ⊥ = cc in x)
 set_content_cut s first second new t id label moment size attrs m (content.File c) h shows d some fits cut marked set =
-    set_cut s first second new t id label moment size attrs m c (resized (bytes_of s.nodes id) size)
-    (ap (λ (bytes : List ℕ). resized bytes size) (stored_bytes (node_in s.nodes id) label m c shows)) h shows some fits cut marked set
+    set_cut s first second new t id label moment size attrs m c.bytes (resized (bytes_of s.nodes id) size)
+    (ap (λ (bytes : List ℕ). resized bytes size) (stored_bytes (node_in s.nodes id) label m c.bytes shows)) h shows some fits cut marked set
 
 pub set_sized : (s first second new : StoreState) (t : Tree) (id moment size : ℕ) (attrs : Attrs) (it : Node) → Keeps s t → node_in s.nodes id ≡ Some it → is_directory_at s.nodes id ≡ false
     → attrs.size ≡ Some size → nat_lt MAX_FILE_SIZE size ≡ false

@@ -1,3 +1,4 @@
+-- No public clause cites this module.
 -- What the parts of a step do.
 use Rattle.std.specs.Prelude.{◌≡◌, ◌≢◌, ◌⊎◌, ◌<◌, ◌≤◌, ◌+◌, ℕ, true, length, take, slice_get, Some}
 use Rattle.sf_path.specs.Names.{Path}

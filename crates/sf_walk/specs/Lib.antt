@@ -7,3 +7,4 @@ pub mod Steps
 pub mod Further
 pub mod Renames
 pub mod Links
+pub mod Files

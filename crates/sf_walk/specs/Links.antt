@@ -1,3 +1,4 @@
+-- No public clause cites this module.
 -- What a link comes to in the store.
 use Rattle.std.specs.Prelude.{◌≡◌, ℕ, ◌<◌, true, nat_lt, if◌then◌else◌, [], ◌∷◌, ◌++◌, length, Some, None}
 use Rattle.sf_path.specs.Names.{Name, Path}

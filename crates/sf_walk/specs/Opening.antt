@@ -1,3 +1,4 @@
+-- No public clause cites this module.
 -- What opening does to the store.
 use Rattle.std.specs.Prelude.{◌≡◌, ℕ, not, ◌||◌}
 use Rattle.sf_path.specs.Names.{Name}

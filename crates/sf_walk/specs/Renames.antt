@@ -1,3 +1,4 @@
+-- No public clause cites this module.
 -- What a rename comes to in the store.
 use Rattle.std.specs.Prelude.{◌≡◌, ◌≢◌, ◌<◌, ℕ, Bool, true, false, not, ◌&&◌, if◌then◌else◌, List, [], ◌∷◌, ◌++◌, length, Option, Some, None}
 use Rattle.sf_path.specs.Names.{Name, Path}

@@ -75,7 +75,7 @@ IsRoute NoPath = Unit {0}
 IsRoute (Along path) = Unit {0}
 IsRoute (Between old new) = are_nested old new ≡ false
 
--- where a call is on its route
+-- where a call is on its route; one that copies is on its way no more
 pub data IsPosition : Route → Stage → Type 0 where
   Starts : (r : Route) → IsRoute r → IsPosition r stage.Fresh
   IsOn : (path : Path) (walked node : ℕ) → walked < length path
@@ -90,6 +90,7 @@ abbrev pub reached_at : Stage → List Reached
 reached_at stage.Fresh = []
 reached_at (stage.At walked node) = reached walked node ∷ []
 reached_at (stage.Ends common from to) = common ∷ from ∷ to ∷ []
+reached_at (stage.Copies node left) = []
 
 abbrev pub paths_on : Route → List Path
 paths_on NoPath = []
@@ -109,12 +110,13 @@ spots_on (r ∷ at) (path ∷ paths) = spot_on path r ∷ spots_on at paths
 abbrev pub spots_of : Route → Stage → List Spot
 spots_of route at = spots_on (reached_at at) (paths_on route)
 
--- the nodes that a call holds
+-- the nodes that a call holds: directories, or the file that it copies into
 abbrev pub nodes_in : List Reached → List ℕ
 nodes_in [] = []
 nodes_in (r ∷ at) = r.node ∷ nodes_in at
 
 abbrev pub nodes_of : Stage → List ℕ
+nodes_of (stage.Copies node left) = node ∷ []
 nodes_of at = nodes_in (reached_at at)
 
 -- where paths lead in a store

@@ -14,6 +14,7 @@ use Rattle.sf_call.specs.Tree.{Tree, object_of, handle_of, is_nil}
 use Rattle.sf_call.specs.Changes.{done}
 use Rattle.sf_call.specs.Calls.{Answer}
 use Rattle.sf_inode.specs.declared.node.Node.{Node}
+use Rattle.sf_inode.specs.Nodes.{left_in}
 use Rattle.sf_inode.specs.Stores.{StoreState, node_in, looked_up}
 use Rattle.sf_keeps.specs.Keeps.{Keeps}
 
@@ -40,22 +41,23 @@ pub record IsAlike (old new : StoreState) : Type 0 where
   pub root : new.root ≡ old.root
   pub sessions : new.sessions ≡ old.sessions
 
--- a node that was there has the holder and the label that it had, and a new one has such as are
--- told
+-- a node that was there has the holder and the label that it had, and as many blocks are left to be
+-- copied into it; a new one has such as are told, and none is left
 abbrev pub IsAsBefore : (Option ℕ → ℕ → Type 0) → Option Node → Node → Type 0
-IsAsBefore new None node = new node.holder node.label
+IsAsBefore new None node = new node.holder node.label × (left_in node.content ≡ 0)
 IsAsBefore new (Some was) node = (node.holder ≡ was.holder) × (node.label ≡ was.label)
+    × (left_in node.content ≡ left_in was.content)
 
 pub record Stays (told : Option ℕ → ℕ → Type 0) (old new : StoreState) : Type 0 where
   pub node : (id : ℕ) (node : Node) → node_in new.nodes id ≡ Some node
       → IsAsBefore told (node_in old.nodes id) node
 
--- each node has the holder and the label that it had, and none is new
+-- each node has the holder and the label that it had, and as much is left to be copied; none is new
 abbrev pub HoldersStay : StoreState → StoreState → Type 0
 HoldersStay old new = Stays (λ holder label. ⊥) old new
 
--- each node has the holder and the label that it had; what is new has no holder, and the number as
--- its label
+-- each node has the holder and the label that it had, and as much is left to be copied; what is new
+-- has no holder, and the number as its label
 abbrev pub NodesStay : ℕ → StoreState → StoreState → Type 0
 NodesStay number old new = Stays (λ holder label. (holder ≡ None) × (label ≡ number)) old new
 

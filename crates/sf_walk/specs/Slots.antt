@@ -1,3 +1,4 @@
+-- No public clause cites this module.
 -- The last name of a path whose way is there.
 use Rattle.std.specs.Prelude.{◌≡◌, ℕ}
 use Rattle.sf_walk.specs.declared.finding.Located.{Located}

@@ -37,7 +37,7 @@ last_of path = slice_index_or path (length path - 1) []
 -- what is found where a node is
 abbrev pub found_content : ℕ → Metadata → Content → Found
 found_content label m (content.Directory entries) = DirectoryAt label m
-found_content label m (content.File contents) = FileAt label m contents
+found_content label m (content.File contents) = FileAt label m contents.bytes
 
 abbrev pub found_node : Node → Found
 found_node node = found_content node.label node.metadata node.content

@@ -1,13 +1,17 @@
 //! Whole calls, from the root or from where they decide.
 
-ghost use Rattle.std.specs.Prelude.{◌≡◌, ◌⊎◌, true, false, IfOk, IsOk, OnErr};
+ghost use Rattle.std.specs.Prelude.{◌≡◌, ◌⊎◌, ℕ, Some, true, false, IfOk, IsOk, OnErr};
 ghost use Rattle.std.specs.Result.{result_map_both};
 ghost use Rattle.sf_reply.specs.Replies.{IsPlain};
 ghost use Rattle.sf_call.specs.Tree.{Tree};
 ghost use Rattle.sf_call.specs.Handles.{opened};
 ghost use Rattle.sf_call.specs.Calls.{answer_to, read};
+ghost use Rattle.sf_inode.specs.declared.handle.OpenHandle.{OpenHandle};
+ghost use Rattle.sf_inode.specs.Stores.{handle_at, left_at};
+ghost use Rattle.sf_walk.specs.declared.finding.Ways.{Ways};
 ghost use Rattle.sf_keeps.specs.Keeps.{Keeps};
 ghost use Rattle.sf_walk.specs.Ways.{names_of, IsLocated};
+ghost use Rattle.sf_walk.specs.Files.{IsSettled};
 ghost use Rattle.sf_walk.specs.Served.{IsCarriedOut, IsRefused, IsAlike, LooksUp, NodesStay, IsUnused, is_success, takes_memory, may_want_memory};
 
 use crate::finding::{Ways, locate_all};
@@ -24,10 +28,13 @@ use sf_reply::Reply;
 use std::alloc::AllocError;
 
 /// Answers a call whole, from the root on and without locks, whoever holds the nodes on its way.
-/// Its number is above 0, and no label and no handle of the tree. `NoMemory` changes nothing but
-/// the count of look-ups; it is told in place of success alone, and never where a call makes
-/// nothing, and neither gives nor takes bytes or names.
+/// Nothing is left to be copied into a file that it reads, writes, cuts or fills up. Its number is
+/// above 0, and no label and no handle of the tree. `NoMemory` changes nothing but the count of
+/// look-ups; it is told in place of success alone, and never where a call makes nothing, and neither
+/// gives nor takes bytes or names.
 pub fn from_root(store: &mut Store, call: &Call) -> Reply
+    requires { (ways : Ways) → IsLocated store.old call.now.request ways
+        → IsSettled store.old call.now.session call.now.request ways.path }
     ensures served { (t : Tree) → Keeps store.old t → IsUnused t call.now.number
         → IsRefused store.old store.new t result
         ⊎ IsCarriedOut store.new t
@@ -46,6 +53,8 @@ pub fn from_root(store: &mut Store, call: &Call) -> Reply
 
 /// As `from_root`, with the reply twice, once for the call's record.
 pub fn from_root_twice(store: &mut Store, call: &Call) -> (Reply, Reply)
+    requires { (ways : Ways) → IsLocated store.old call.now.request ways
+        → IsSettled store.old call.now.session call.now.request ways.path }
     ensures served { (t : Tree) → Keeps store.old t → IsUnused t call.now.number
         → IsRefused store.old store.new t result.0
         ⊎ IsCarriedOut store.new t (answer_to t call.now.session call.now.number call.now.moment
@@ -64,11 +73,13 @@ pub fn from_root_twice(store: &mut Store, call: &Call) -> (Reply, Reply)
 }
 
 /// Answers a call where its paths were found to lead, without a look-up: its reply twice, once for
-/// its record. A call without a path asks nothing of what was located.
+/// its record. A call without a path asks nothing of what was located. Nothing is left to be copied
+/// into a file that the call reads, writes, cuts or fills up; a WRITE is copied whole.
 #[tactic(auto, using(crate::proofs::Refused::keeps_alike, crate::proofs::Trimmed::served_trimmed, crate::proofs::Trimmed::stays_trimmed, crate::proofs::Trimmed::looks_same))]
 #[inline(always)]
 pub fn decide(store: &mut Store, call: &Call, ways: Ways) -> (Reply, Reply)
-    requires { IsLocated store.old call.now.request ways }
+    requires located { IsLocated store.old call.now.request ways }
+    requires settled { IsSettled store.old call.now.session call.now.request ways.path }
     ensures served { (t : Tree) → Keeps store.old t → IsUnused t call.now.number
         → IsRefused store.old store.new t result.0
         ⊎ IsCarriedOut store.new t (answer_to t call.now.session call.now.number call.now.moment
@@ -94,7 +105,8 @@ pub fn decide(store: &mut Store, call: &Call, ways: Ways) -> (Reply, Reply)
 #[tactic(auto, using(crate::proofs::Holders::stays_none_new, crate::proofs::Rooted::twice_copies))]
 #[inline(always)]
 fn answer(store: &mut Store, call: &Call, ways: Ways) -> Result<(Reply, Reply), AllocError>
-    requires { IsLocated store.old call.now.request ways }
+    requires located { IsLocated store.old call.now.request ways }
+    requires settled { IsSettled store.old call.now.session call.now.request ways.path }
     ensures served { (t : Tree) → Keeps store.old t → IsUnused t call.now.number
         → IfOk result (λ replies. IsCarriedOut store.new t
         (answer_to t call.now.session call.now.number call.now.moment call.now.request)
@@ -150,7 +162,7 @@ fn answer(store: &mut Store, call: &Call, ways: Ways) -> Result<(Reply, Reply), 
 }
 
 /// A reply of neither bytes nor names, twice.
-fn twice(reply: Reply) -> (Reply, Reply)
+pub(crate) fn twice(reply: Reply) -> (Reply, Reply)
     requires { IsPlain reply }
     ensures { result ≡ (reply, reply) }
 {
@@ -178,6 +190,8 @@ fn read_twice(
     offset: u64,
     len: u32,
 ) -> Result<(Reply, Reply), AllocError>
+    requires { (h : OpenHandle) → handle_at store.now session number ≡ Some h
+        → left_at store.now.nodes h.node ≡ 0 }
     ensures served { (t : Tree) → Keeps store.now t
         → IfOk result (λ replies. replies.0 ≡ (read offset len (opened t session number)).reply) }
     ensures wants { (t : Tree) → Keeps store.now t

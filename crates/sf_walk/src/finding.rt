@@ -112,7 +112,7 @@ pub fn locate(store: &mut Store, path: &Path) -> Located
 }
 
 /// Walks all paths of a route.
-pub(crate) fn locate_all(store: &mut Store, route: Route<'_>) -> Ways
+pub fn locate_all(store: &mut Store, route: Route<'_>) -> Ways
     ensures located { AreWays store.old (route_in route.entry) result }
     ensures looked { LookedUp store.old store.new (names_on (route_in route.entry)) }
 {

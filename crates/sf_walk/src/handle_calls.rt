@@ -1,18 +1,22 @@
 //! Calls by handle.
 
-ghost use Rattle.std.specs.Prelude.{◌≡◌, ◌+◌, ◌<◌, ◌^◌, ℕ, nat_lt, if◌then◌else◌, List, length, true, false, is_some, Some, IsOk, IfOk, OnOk, OnErr};
+ghost use Rattle.std.specs.Prelude.{◌≡◌, ◌≢◌, ◌+◌, ◌<◌, ◌^◌, ℕ, nat_lt, if◌then◌else◌, List, length, true, false, is_some, Some, None, IsOk, IfOk, OnOk, OnErr};
+ghost use Rattle.sf_reply.specs.declared.reply.Reply.TheVariants as reply;
+ghost use Rattle.sf_reply.specs.declared.reply.StatusCode.TheVariants.{Success};
 ghost use Rattle.sf_reply.specs.Replies.{IsPlain};
 ghost use Rattle.sf_call.specs.declared.metadata.Metadata.{Metadata};
 ghost use Rattle.sf_call.specs.Attributes.{modified_at};
 ghost use Rattle.sf_call.specs.Attributes.Object.{File};
-ghost use Rattle.sf_block.specs.Contents.{written};
+ghost use Rattle.sf_block.specs.Contents.{written, blocks_of};
 ghost use Rattle.sf_call.specs.Tree.{Tree, is_nil};
 ghost use Rattle.sf_call.specs.Changes.{changed};
 ghost use Rattle.sf_call.specs.Changes.Change.{SetObject};
 ghost use Rattle.sf_call.specs.Handles.{handle_in, opened};
 ghost use Rattle.sf_call.specs.Calls.{close, stat_opened, set_opened, read, write};
-ghost use Rattle.sf_inode.specs.Stores.{is_file_at, shown_of};
+ghost use Rattle.sf_inode.specs.declared.handle.OpenHandle.{OpenHandle};
+ghost use Rattle.sf_inode.specs.Stores.{is_file_at, shown_of, handle_at, holder_of, node_in, left_at};
 ghost use Rattle.sf_keeps.specs.Keeps.{Keeps};
+ghost use Rattle.sf_walk.specs.Files.{HasAllButOne, HasBlocksLeft, node_label};
 ghost use Rattle.sf_walk.specs.Served.{IsCarriedOut, Gives, HoldersStay, is_success};
 
 use crate::path_calls::set_node;
@@ -61,6 +65,8 @@ pub(crate) fn set_stat_handle(
     number: u64,
     attrs: &Attrs,
 ) -> Reply
+    requires { (h : OpenHandle) → handle_at store.old session number ≡ Some h
+        → left_at store.old.nodes h.node ≡ 0 }
     ensures served { (t : Tree) → Keeps store.old t
         → IsCarriedOut store.new t (set_opened moment attrs.now (opened t session number)) result }
     ensures plain { IsPlain result }
@@ -92,6 +98,8 @@ pub(crate) fn read(
     offset: u64,
     len: u32,
 ) -> Result<Reply, AllocError>
+    requires { (h : OpenHandle) → handle_at store.now session number ≡ Some h
+        → left_at store.now.nodes h.node ≡ 0 }
     ensures told { (t : Tree) → Keeps store.now t
         → IfOk result (λ reply. reply ≡ (read offset len (opened t session number)).reply) }
     ensures wants { (t : Tree) → Keeps store.now t
@@ -122,6 +130,8 @@ pub(crate) fn write(
     offset: u64,
     bytes: &ByteString,
 ) -> Result<Reply, AllocError>
+    requires { (h : OpenHandle) → handle_at store.old session number ≡ Some h
+        → left_at store.old.nodes h.node ≡ 0 }
     ensures served { (t : Tree) → Keeps store.old t
         → Gives store.new t (write moment offset bytes.now (opened t session number)) result }
     ensures sure { is_nil bytes.now ≡ true → IsOk result }
@@ -151,6 +161,59 @@ pub(crate) fn write(
     Ok(Reply::Status(StatusCode::Success))
 }
 
+/// WRITE's own first step: as `write`, but that all blocks that it writes but one are still to be
+/// copied into the file.
+pub(crate) fn start_write(
+    store: &mut Store,
+    session: u64,
+    moment: u32,
+    number: u64,
+    offset: u64,
+    bytes: &ByteString,
+) -> Result<Reply, AllocError>
+    requires { (h : OpenHandle) → handle_at store.old session number ≡ Some h
+        → left_at store.old.nodes h.node ≡ 0 }
+    ensures served { (t : Tree) → Keeps store.old t
+        → Gives store.new t (write moment offset bytes.now (opened t session number)) result }
+    ensures sure { is_nil bytes.now ≡ true → IsOk result }
+    ensures err { OnErr result (store.new ≡ store.old) }
+    ensures plain { IfOk result IsPlain }
+    ensures look_ups { store.new.look_ups ≡ store.old.look_ups }
+    ensures others { (h : OpenHandle) → handle_at store.old session number ≡ Some h → (i : ℕ)
+        → i ≢ h.node → node_in store.new.nodes i ≡ node_in store.old.nodes i }
+    ensures holder { (h : OpenHandle) → handle_at store.old session number ≡ Some h
+        → holder_of store.new.nodes h.node ≡ holder_of store.old.nodes h.node }
+    ensures label { (h : OpenHandle) → handle_at store.old session number ≡ Some h
+        → node_label store.new.nodes h.node ≡ node_label store.old.nodes h.node }
+    ensures none { handle_at store.old session number ≡ None → store.new ≡ store.old }
+    ensures sessions { store.new.sessions ≡ store.old.sessions }
+    ensures left { (h : OpenHandle) → handle_at store.old session number ≡ Some h
+        → HasBlocksLeft store.old store.new h offset bytes.now }
+    ensures copied { (h : OpenHandle) → handle_at store.old session number ≡ Some h
+        → is_nil bytes.now ≡ false → IfOk result (λ given. given ≡ reply.Status Success
+        → HasAllButOne store.old store.new h offset bytes.now) }
+{
+    let Some(handle) = store.handle(session, number) else {
+        return Ok(Reply::Status(StatusCode::Failure));
+    };
+    let node = handle.node;
+    let Some(size) = store.file_len(node) else {
+        return Ok(Reply::Status(StatusCode::Failure));
+    };
+    if !handle.marks.write {
+        return Ok(Reply::Status(StatusCode::PermissionDenied));
+    }
+    if bytes.is_empty() {
+        return Ok(Reply::Status(StatusCode::Success));
+    }
+    let start = start_of(&handle.marks, size, offset);
+    if ends_past_limit(start, bytes.len()) {
+        return Ok(Reply::Status(StatusCode::Failure));
+    }
+    start_bytes(store, moment, node, start, bytes)?;
+    Ok(Reply::Status(StatusCode::Success))
+}
+
 /// With the mark APPEND writing starts at the file's end.
 fn start_of(marks: &Marks, size: u64, offset: u64) -> u64
     ensures { result ≡ (if marks.now.append then size else offset) }
@@ -167,7 +230,9 @@ fn put_bytes(
     bytes: &ByteString,
 ) -> Result<(), AllocError>
     requires fits { start + length bytes.now < 2 ^ 64 }
+    requires some { 0 < length bytes.now }
     requires file { is_file_at store.old.nodes node ≡ true }
+    requires settled { left_at store.old.nodes node ≡ 0 }
     ensures tree { (t : Tree) (label : ℕ) (m : Metadata) (contents : List ℕ) → Keeps store.old t
         → shown_of store.old.nodes node ≡ Some (label, File m contents)
         → OnOk result (Keeps store.new (changed t
@@ -177,6 +242,37 @@ fn put_bytes(
     ensures holders { HoldersStay store.old store.new }
 {
     store.write(node, start, bytes)?;
+    store.touch(node, moment);
+    Ok(())
+}
+
+/// Begins to put bytes into a file, which is modified at the moment: all of their blocks but one
+/// are still to be copied.
+fn start_bytes(
+    store: &mut Store,
+    moment: u32,
+    node: NodeId,
+    start: u64,
+    bytes: &ByteString,
+) -> Result<(), AllocError>
+    requires fits { start + length bytes.now < 2 ^ 64 }
+    requires some { 0 < length bytes.now }
+    requires file { is_file_at store.old.nodes node ≡ true }
+    requires settled { left_at store.old.nodes node ≡ 0 }
+    ensures tree { (t : Tree) (label : ℕ) (m : Metadata) (contents : List ℕ) → Keeps store.old t
+        → shown_of store.old.nodes node ≡ Some (label, File m contents)
+        → OnOk result (Keeps store.new (changed t
+        (SetObject label (File (modified_at moment m) (written contents start bytes.now))))) }
+    ensures left { OnOk result (left_at store.new.nodes node + 1 ≡ blocks_of start bytes.now) }
+    ensures others { (i : ℕ) → i ≢ node → node_in store.new.nodes i ≡ node_in store.old.nodes i }
+    ensures holder { holder_of store.new.nodes node ≡ holder_of store.old.nodes node }
+    ensures label { node_label store.new.nodes node ≡ node_label store.old.nodes node }
+    ensures sessions { store.new.sessions ≡ store.old.sessions }
+    ensures err { OnErr result (store.new ≡ store.old) }
+    ensures look_ups { store.new.look_ups ≡ store.old.look_ups }
+{
+    store.start_write(node, start, bytes)?;
+    store.copy_block(node);
     store.touch(node, moment);
     Ok(())
 }

@@ -10,6 +10,7 @@
 
 mod calls;
 mod ends;
+mod files;
 mod finding;
 mod handle_calls;
 mod links;
@@ -19,10 +20,13 @@ mod opening;
 mod path_calls;
 mod renames;
 mod routes;
+mod sparing;
 mod walking;
 
 pub use calls::{decide, from_root, from_root_twice};
-pub use finding::{Located, Ways, locate};
+pub use files::{Copying, Writer, file_holder, holder_by, left_to_copy, start, writer_to_finish};
+pub use finding::{Located, Ways, locate, locate_all};
 pub use renames::is_move;
 pub use routes::{Route, route_of};
+pub use sparing::spared_file;
 pub use walking::{Walk, advance, let_go};

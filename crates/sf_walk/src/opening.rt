@@ -1,6 +1,6 @@
 //! Calls that open.
 
-ghost use Rattle.std.specs.Prelude.{◌≡◌, ℕ, ◌<◌, List, [], ◌∷◌, ◌++◌, length, Some, None, true, IfOk, OnOk, OnErr};
+ghost use Rattle.std.specs.Prelude.{◌≡◌, ℕ, ◌<◌, List, [], ◌∷◌, ◌++◌, length, ◌&&◌, Some, None, true, IfOk, OnOk, OnErr};
 ghost use Rattle.sf_path.specs.Names.{Path};
 ghost use Rattle.sf_reply.specs.Replies.{IsPlain};
 ghost use Rattle.sf_call.specs.declared.metadata.FileType.TheVariants as file_type;
@@ -13,10 +13,11 @@ ghost use Rattle.sf_call.specs.Changes.Change.{SetObject};
 ghost use Rattle.sf_call.specs.Tree.{Tree, found_at, place_at};
 ghost use Rattle.sf_call.specs.Calls.{has_all_handles, open_directory, open_present, open_file, unless_root, opening, stamp};
 ghost use Rattle.sf_inode.specs.declared.node.Node.{Node};
-ghost use Rattle.sf_inode.specs.Stores.{StoreState, node_in, entry_of, shown_of, is_directory_at, bytes_set};
+ghost use Rattle.sf_inode.specs.Stores.{StoreState, node_in, entry_of, shown_of, is_directory_at, left_at, bytes_set};
 ghost use Rattle.sf_keeps.specs.Steps.{walk};
 ghost use Rattle.sf_keeps.specs.Keeps.{Keeps};
 ghost use Rattle.sf_walk.specs.Ways.{last_of, found_node, way_from};
+ghost use Rattle.sf_walk.specs.declared.finding.Located.TheVariants.{At};
 ghost use Rattle.sf_walk.specs.Opening.{marks_of, OpenedNew, to_open};
 ghost use Rattle.sf_walk.specs.Served.{Gives, IsAlike, HoldersStay, NodesStay, IsUnused};
 
@@ -110,7 +111,9 @@ pub(crate) fn open(
     attrs: &Attrs,
     located: Located,
 ) -> Result<Reply, AllocError>
-    requires { located ≡ way_from store.old.nodes store.old.root store.old.root path.now }
+    requires way { located ≡ way_from store.old.nodes store.old.root store.old.root path.now }
+    requires settled { (parent node : ℕ) → located ≡ At parent node
+        → (flags.truncate && flags.write) ≡ true → left_at store.old.nodes node ≡ 0 }
     ensures served { (t : Tree) → Keeps store.old t → IsUnused t number
         → Gives store.new t (unless_root path.now (open_file t session (stamp number moment)
         (opening path.now flags attrs.now) (place_at t path.now))) result }
@@ -145,6 +148,7 @@ fn open_present(
     node: NodeId,
     flags: OpenFlags,
 ) -> Result<Reply, AllocError>
+    requires { (flags.truncate && flags.write) ≡ true → left_at store.old.nodes node ≡ 0 }
     ensures served { (t : Tree) (it : Node) → Keeps store.old t → IsUnused t number
         → node_in store.old.nodes node ≡ Some it
         → Gives store.new t (open_present t session (stamp number moment) flags (found_node it))
@@ -169,6 +173,7 @@ fn open_present(
 
 /// Cuts a file at its start; it is modified at the moment.
 fn truncate(store: &mut Store, moment: u32, node: NodeId)
+    requires { left_at store.old.nodes node ≡ 0 }
     ensures tree { (t : Tree) (label : ℕ) (m : Metadata) (bytes : List ℕ) → Keeps store.old t
         → shown_of store.old.nodes node ≡ Some (label, File m bytes)
         → Keeps store.new (changed t (SetObject label (File (modified_at moment m) []))) }
@@ -182,6 +187,7 @@ fn truncate(store: &mut Store, moment: u32, node: NodeId)
 
 /// Takes out a file's bytes, which takes no memory.
 fn cut(store: &mut Store, node: NodeId)
+    requires { left_at store.old.nodes node ≡ 0 }
     ensures { store.new ≡ bytes_set store.old node [] }
 {
     store.set_len(node, 0);

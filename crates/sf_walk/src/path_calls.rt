@@ -10,7 +10,7 @@ ghost use Rattle.sf_reply.specs.declared.reply.Reply.TheVariants.{Status};
 ghost use Rattle.sf_reply.specs.declared.reply.StatusCode.TheVariants.{Success};
 ghost use Rattle.sf_inode.specs.declared.node.Node.{Node};
 ghost use Rattle.sf_inode.specs.Nodes.{new_node, object_in, with_metadata};
-ghost use Rattle.sf_inode.specs.Stores.{Inserted, node_in, is_bare_at, is_directory_at, edited, unlinked, new_entry};
+ghost use Rattle.sf_inode.specs.Stores.{Inserted, node_in, is_bare_at, is_directory_at, left_at, edited, unlinked, new_entry};
 ghost use Rattle.sf_keeps.specs.Keeps.{Keeps};
 ghost use Rattle.sf_walk.specs.declared.finding.Located.TheVariants.{At};
 ghost use Rattle.sf_walk.specs.Ways.{last_of, way_from};
@@ -48,7 +48,9 @@ pub(crate) fn set_stat(
     attrs: &Attrs,
     located: Located,
 ) -> Reply
-    requires { located ≡ way_from store.old.nodes store.old.root store.old.root path.now }
+    requires way { located ≡ way_from store.old.nodes store.old.root store.old.root path.now }
+    requires settled { (parent node : ℕ) → located ≡ At parent node
+        → is_some attrs.now.size ≡ true → left_at store.old.nodes node ≡ 0 }
     ensures served { (t : Tree) → Keeps store.old t
         → IsCarriedOut store.new t (unless_root path.now
         (set_stat moment attrs.now (found_at t path.now))) result }
@@ -68,6 +70,7 @@ pub(crate) fn set_stat(
 /// Sets a node's attributes. A file's size is set first, and the file is modified at the moment; a
 /// directory's size can't be set, nor a file's above the limit. It takes no memory.
 pub(crate) fn set_node(store: &mut Store, moment: u32, node: NodeId, attrs: &Attrs) -> Reply
+    requires { is_some attrs.now.size ≡ true → left_at store.old.nodes node ≡ 0 }
     ensures served { (t : Tree) (it : Node) → Keeps store.old t
         → node_in store.old.nodes node ≡ Some it
         → IsCarriedOut store.new t (sets moment it.label attrs.now

@@ -49,7 +49,7 @@ pub fn advance(store: &mut Store, number: u64, route: Route<'_>, at: Stage) -> W
         Route::Along(path) => match at {
             Stage::Fresh => first(store, number, path),
             Stage::At { walked, node } => onward(store, number, path, Reached { walked, node }),
-            Stage::Ends { .. } => unreachable!(),
+            Stage::Ends { .. } | Stage::Copies { .. } => unreachable!(),
         },
         Route::Between(old, new) => match at {
             Stage::Fresh => first_of_two(store, number, old, new),
@@ -71,6 +71,7 @@ pub fn advance(store: &mut Store, number: u64, route: Route<'_>, at: Stage) -> W
                     new: to,
                 },
             ),
+            Stage::Copies { .. } => unreachable!(),
         },
     }
 }
@@ -204,6 +205,7 @@ pub fn let_go(store: &mut Store, before: Stage, after: Stage)
             free_unless(store, old.node, after);
             free_unless(store, new.node, after);
         }
+        Stage::Copies { node, left: _ } => free_unless(store, node, after),
     }
 }
 
@@ -227,6 +229,10 @@ fn holds(at: Stage, node: NodeId) -> bool
         Stage::At {
             walked: _,
             node: held,
+        }
+        | Stage::Copies {
+            node: held,
+            left: _,
         } => node == held,
         Stage::Ends { common, old, new } => {
             node == common.node || node == old.node || node == new.node

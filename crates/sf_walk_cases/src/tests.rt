@@ -1,5 +1,8 @@
 //! The same calls on the slow tree and on the store: each reply of one is that of the other.
 
+ghost use Rattle.std.specs.Prelude.{IsTrue};
+ghost use Rattle.sf_walk.specs.Files.{IsSettled};
+
 use sf_call::{Call, Request, Stage};
 use sf_cases::requests::{
     close, link, mkdir, open, open_dir, path, posix_rename, read, read_dir, remove, rename, rmdir,
@@ -10,7 +13,7 @@ use sf_field::{Attrs, NO_ATTRS, Owner, Times};
 use sf_inode::Store;
 use sf_plain::PlainTree;
 use sf_reply::{Entry, Listing, Reply, StatusCode};
-use sf_walk::{Walk, decide, from_root, let_go};
+use sf_walk::{Located, Walk, Ways, decide, from_root, left_to_copy, let_go, locate_all, route_of};
 use std::alloc::Global;
 use std::process::Abort;
 use std::test::*;
@@ -89,7 +92,7 @@ impl Pair {
         };
         let store = self.store.as_mut()?;
         Some(match self.manner {
-            Manner::FromRoot => from_root(store, &call),
+            Manner::FromRoot => at_root(rt, store, &call),
             Manner::BySteps => by_steps(rt, store, &mut call),
         })
     }
@@ -174,6 +177,26 @@ impl Pair {
     }
 }
 
+/// Whether nothing is left to be copied into a file that a call uses.
+fn is_settled(store: &Store, call: &Call, ways: Ways) -> bool
+    ensures { IsTrue result → IsSettled store.now call.now.session call.now.request ways.path }
+{
+    if left_to_copy(store, call).is_some() {
+        return false;
+    }
+    match ways.path {
+        Located::At { parent: _, node } => store.left(node) == 0,
+        _ => true,
+    }
+}
+
+/// Answers a call from the root.
+fn at_root(rt: &impl Abort, store: &mut Store, call: &Call) -> Reply {
+    let ways = locate_all(store, route_of(&call.request));
+    assert!(rt; is_settled(store, call, ways));
+    from_root(store, call)
+}
+
 /// Answers a call by its steps. No other call holds a node.
 fn by_steps(rt: &impl Abort, store: &mut Store, call: &mut Call) -> Reply {
     call.stage = Stage::Fresh;
@@ -183,6 +206,7 @@ fn by_steps(rt: &impl Abort, store: &mut Store, call: &mut Call) -> Reply {
             Walk::Moved(_) => {}
             Walk::Blocked(holder) => panic!(rt; "call {holder} still holds a node"),
             Walk::Ready(ways) => {
+                assert!(rt; is_settled(store, call, ways));
                 let (reply, _) = decide(store, call, ways);
                 let_go(store, call.stage, Stage::Fresh);
                 return reply;

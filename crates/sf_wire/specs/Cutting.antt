@@ -1,3 +1,4 @@
+-- No public clause cites this module.
 -- Cutting from left to right.
 use Rattle.std.specs.Prelude.{ℕ, ◌+◌, List, length, Option, Some, None, nat_lt, ◌==◌, if◌then◌else◌}
 use Rattle.std.specs.Int.{w32}

@@ -1,3 +1,4 @@
+-- No public clause cites this module.
 -- What is carried from a reader to a writer, where their bytes are known.
 use Rattle.std.specs.Prelude.{ℕ, List, take, Option}
 use Rattle.std.specs.Io.KnownBytes.{Appends}

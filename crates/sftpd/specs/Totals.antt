@@ -1,3 +1,4 @@
+-- No public clause cites this module.
 -- What a server that ends tells of its sessions.
 use Rattle.std.specs.Prelude.{◌≡◌, ℕ, nat_eq, if◌then◌else◌, List, [], ◌∷◌, ◌++◌, map, sum, codes}
 use Rattle.std.specs.List.{flat_map}

@@ -257,8 +257,8 @@ fn removal(alloc: Global, draws: &mut Draws) -> Result<Request, Fail> {
 }
 
 /// A session's place, if it has joined.
-struct Seat {
-    lane: Option<Lane>,
+pub(super) struct Seat {
+    pub(super) lane: Option<Lane>,
 }
 
 impl Drop for Seat {
@@ -272,7 +272,7 @@ impl Drop for Seat {
 }
 
 impl Seat {
-    fn of(lane: Lane) -> Seat {
+    pub(super) fn of(lane: Lane) -> Seat {
         Seat { lane: Some(lane) }
     }
 }
@@ -318,7 +318,7 @@ fn step_all(rt: &impl Abort, core: &mut Core, seats: &mut Vec<Seat>) {
 }
 
 /// The tree that the records lead to; each of their replies is its own.
-fn replayed(rt: &impl Abort, alloc: Global, core: &Core) -> Result<PlainTree, Fail> {
+pub(super) fn replayed(rt: &impl Abort, alloc: Global, core: &Core) -> Result<PlainTree, Fail> {
     let mut plain = PlainTree::new(alloc)?;
     for record in core.history() {
         match record {
@@ -350,7 +350,7 @@ fn answer(rt: &impl Abort, core: &mut Core, lane: &mut Lane) -> Answer {
 }
 
 /// Both trees tell the same of a path.
-fn tell_alike(
+pub(super) fn tell_alike(
     rt: &impl Abort,
     alloc: Global,
     core: &mut Core,
@@ -407,7 +407,7 @@ fn is_rename(record: &Record) -> bool {
 }
 
 /// No two records are of one call, and none is of a session that has left.
-fn is_legal(rt: &impl Abort, alloc: Global, core: &Core) -> Result<(), Fail> {
+pub(super) fn is_legal(rt: &impl Abort, alloc: Global, core: &Core) -> Result<(), Fail> {
     let mut numbers = BTreeSet::new(alloc);
     let mut gone = BTreeSet::new(alloc);
     for record in core.history() {

@@ -14,6 +14,7 @@ use sf_wire::{Cut, cut};
 use std::collections::BTreeSet;
 
 mod client;
+mod writes;
 
 use client::{Client, Draws};
 

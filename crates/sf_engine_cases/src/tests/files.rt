@@ -56,6 +56,53 @@ fn write_read_and_list(rt: HostRuntime) {
     );
 }
 
+/// Four blocks have a byte of 10000 from 4000 on: the WRITE makes a move for each but the last.
+#[test]
+fn one_block_a_turn(rt: HostRuntime) {
+    let alloc = rt.alloc();
+    let mut engine = made(&rt, alloc);
+    opens(&rt, &mut engine, 1);
+    feeds(&rt, alloc, &mut engine, 1, &[INIT, OPEN]);
+    is_answered(&rt, &mut engine, 1, Steps::AtOnce);
+    is_answered(&rt, &mut engine, 1, Steps::Call(1));
+    let head = "0000272d 06 00000002 00000008 0000000000000001 0000000000000fa0 00002710";
+    let mut packet = given(&rt, behind(alloc, head, &[]));
+    packet = given(&rt, with_bytes(packet, 10_000));
+    is_fed(&rt, &mut engine, 1, packet);
+    is_answered(&rt, &mut engine, 1, Steps::Call(3));
+    let read = "0000001d 05 00000003 00000008 0000000000000001 0000000000000000 0003fc00";
+    feeds(&rt, alloc, &mut engine, 1, &[read]);
+    is_answered(&rt, &mut engine, 1, Steps::Call(0));
+    records_are(&rt, &engine, &[1, 2, 3]);
+    let mut want = given(&rt, behind(alloc, VERSION, &[OPENED, OK_2]));
+    let reply = given(&rt, behind(alloc, "000036b9 67 00000003 000036b0", &[]));
+    want = given(&rt, joined(want, &reply));
+    want = given(&rt, with_zeros(want, 4000));
+    want = given(&rt, with_bytes(want, 10_000));
+    is_sent(&rt, &engine, 1, &want);
+}
+
+/// Bytes, and others behind them.
+fn joined(mut front: Vec<u8>, back: &[u8]) -> Result<Vec<u8>, Fail> {
+    front.extend_from_slice(back)?;
+    Ok(front)
+}
+
+fn with_zeros(mut front: Vec<u8>, count: usize) -> Result<Vec<u8>, Fail> {
+    for _ in 0..count {
+        front.push(0)?;
+    }
+    Ok(front)
+}
+
+/// So many bytes behind others, each told by its place.
+fn with_bytes(mut front: Vec<u8>, count: usize) -> Result<Vec<u8>, Fail> {
+    for place in 0..count {
+        front.push(u8::try_from(place % 251).unwrap_or(0))?;
+    }
+    Ok(front)
+}
+
 #[test]
 fn size_limit(rt: HostRuntime) {
     let alloc = rt.alloc();

@@ -12,7 +12,7 @@ use super::*;
 use StatusCode::Success;
 use sf_call::Reached;
 use sf_inode::NodeId;
-use sf_walk::{Located, Route, Ways, advance, is_move, route_of};
+use sf_walk::{Route, advance, is_move};
 
 /// The number of the call that takes its steps, and that of one that holds a node in its way.
 const NUMBER: u64 = 20;
@@ -255,6 +255,7 @@ fn moves(rt: &impl Abort, ground: &mut Ground, request: Request, stages: &[Stage
     ground.are_held(rt, &[ground.d, ground.b, ground.e], Some(NUMBER));
     ground.are_held(rt, &[ground.a, ground.c, ground.x], None);
     assert!(rt; is_move(&ground.store, &call, ways));
+    assert!(rt; is_settled(&ground.store, &call, ways));
     match decide(&mut ground.store, &call, ways) {
         (Reply::Status(Success), Reply::Status(Success)) => {}
         replies => panic!(rt; "{replies:?}"),

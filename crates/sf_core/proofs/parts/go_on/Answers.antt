@@ -1,4 +1,4 @@
-use Rattle.std.proofs.Common.{◌≡◌, ◌<◌, ◌^◌, ℕ, suc, Some, refl, sym, subst, arith}
+use Rattle.std.proofs.Common.{◌≡◌, ◌<◌, ◌^◌, ◌∙◌, ℕ, suc, Some, refl, sym, subst, arith}
 use Rattle.sf_call.specs.declared.call.Stage.{Stage}
 use Rattle.sf_call.specs.Unanswered.{at_stage}
 use Rattle.sf_walk.specs.declared.walking.Walk.{Walk}
@@ -11,8 +11,9 @@ use Rattle.sf_core.specs.Parts.{PartsView}
 use Rattle.sf_core.specs.Sound.{IsCore}
 use Rattle.sf_core.specs.Stepping.{Stepped, Moved, come_to}
 use Rattle.sf_core.proofs.Making.{stands}
-use Rattle.sf_core.proofs.Walks.{moved_core, moved_more, none_moved, rooted}
-use Rattle.sf_core.proofs.UnderWay.{step_more, under_way, come_same, stage_stays}
+use Rattle.sf_core.proofs.Maps.{reply_is}
+use Rattle.sf_core.proofs.Walks.{moved_core, moved_more, moved_free, none_moved, rooted}
+use Rattle.sf_core.proofs.UnderWay.{staged_there, step_more, under_way, come_same, stage_stays}
 use Rattle.sf_core.proofs.parts.go_on.Goals as goal
 
 walked_is : {w v : Walk} → outcome.Walked w ≡ outcome.Walked v → w ≡ v
@@ -24,7 +25,7 @@ loop-init c =
     record {
       walks = λ p number on.
           let same : p ≡ come_to p number c.args.store.now c.args.stage.now = sym (come_same number call p c.args.store.now c.args.stage.now on) in
-          (0, refl, subst (λ (q : PartsView). Moved 0 p call.session number q) same (none_moved p call.session number), subst IsCore same on.core);
+          (0, refl, subst (λ (q : PartsView). Moved 0 p call.session number q) same (none_moved p call.session number), subst IsCore same on.core, on.free);
     }
 
 pub advance-requires-clause-root : goal.advance-requires-clause-root
@@ -40,7 +41,8 @@ advance-requires-clause-stands c =
     let it = c.loop.invariant.walks p number c.requires.core.2 in
     subst (λ (r : Route). Stands c.loop.store r c.loop.stage) (sym c.requires.route)
     (stands (come_to p number c.loop.store c.loop.stage) it.3.history it.3.sound number (at_stage c.loop.stage call)
-    (under_way number call p c.args.store.now c.loop.store c.args.stage.now c.loop.stage c.requires.core.2 it.3).call)
+    (under_way number call p c.args.store.now c.loop.store c.args.stage.now c.loop.stage c.requires.core.2 it.3 it.4).call
+    (reply_is (at_stage c.loop.stage call) ∙ c.requires.core.2.undecided))
 
 pub loop-preserved : goal.loop-preserved
 loop-preserved c =
@@ -54,7 +56,7 @@ loop-preserved c =
           let q = come_to p number c.loop.store c.loop.stage in
           let q' = come_to p number to after in
           let stepped : Stepped q call.session number (outcome.Walked (walk.Moved after)) q' =
-          step_more number call p c.args.store.now c.loop.store to c.args.stage.now c.loop.stage (walk.Moved after) on it.3
+          step_more number call p c.args.store.now c.loop.store to c.args.stage.now c.loop.stage (walk.Moved after) on it.3 it.4
           (subst (λ (k : ℕ). k < 2 ^ 64) c.look_ups-count.ensures c.look_ups-count.type_inv)
           (subst (λ (r : Route). Advances c.loop.store to (walker call.number r c.loop.stage) (walk.Moved after)) c.requires.route
           (subst (λ (w : Walk). Advances c.loop.store to (walker call.number (route_in c.args.route) c.loop.stage) w) c.in-Moved.is c.advance.ensures)) in (
@@ -62,6 +64,10 @@ loop-preserved c =
             omega (arith, it.1),
             moved_more lane number refl it.0 p q q' (outcome.Walked (walk.Moved after)) it.2 stepped refl,
             moved_core lane number refl q q' (outcome.Walked (walk.Moved after)) stepped refl,
+            record {
+              free = (moved_free lane number refl q q' (outcome.Walked (walk.Moved after)) stepped refl (at_stage after call)
+                  (staged_there p.calls number after (at_stage c.args.stage.now call) on.call)).free;
+            },
           );
     }
 
@@ -79,7 +85,7 @@ returns-in_default c = λ p number on.
       few = omega (arith, it.1, less);
       moved = it.2;
       last = subst (λ (g : Stage). Stepped q call.session number (outcome.Walked result) (come_to p number to g)) (stage_stays result c.loop.stage c.in_default.not-Moved)
-          (step_more number call p c.args.store.now c.loop.store to c.args.stage.now c.loop.stage result on it.3
+          (step_more number call p c.args.store.now c.loop.store to c.args.stage.now c.loop.stage result on it.3 it.4
           (subst (λ (k : ℕ). k < 2 ^ 64) c.look_ups-count.ensures c.look_ups-count.type_inv)
           (subst (λ (r : Route). Advances c.loop.store to (walker call.number r c.loop.stage) result) c.requires.route c.advance.ensures));
       full = λ after e. absurd (c.in_default.not-Moved after (walked_is e));
@@ -98,7 +104,8 @@ step-requires-clause-stands c =
     let it = c.loop.invariant.walks p number c.requires.core.2 in
     subst (λ (r : Route). Stands c.loop.store r c.loop.stage) (sym c.requires.route)
     (stands (come_to p number c.loop.store c.loop.stage) it.3.history it.3.sound number (at_stage c.loop.stage call)
-    (under_way number call p c.args.store.now c.loop.store c.args.stage.now c.loop.stage c.requires.core.2 it.3).call)
+    (under_way number call p c.args.store.now c.loop.store c.args.stage.now c.loop.stage c.requires.core.2 it.3 it.4).call
+    (reply_is (at_stage c.loop.stage call) ∙ c.requires.core.2.undecided))
 
 pub returns : goal.returns
 returns c = λ p number on.
@@ -115,6 +122,6 @@ returns c = λ p number on.
       few = let fits = all some in omega (arith, it.1, fits);
       moved = it.2;
       last = subst (λ (g : Stage). Stepped q call.session number (outcome.Walked step.result) (come_to p number step.new.store g)) (sym step.ensures.stage)
-          (step_more number call p c.args.store.now c.loop.store step.new.store c.args.stage.now c.loop.stage step.result on it.3 step.ensures.fits (subst (λ (r : Route). Advances c.loop.store step.new.store (walker call.number r c.loop.stage) step.result) c.requires.route step.ensures.advances));
+          (step_more number call p c.args.store.now c.loop.store step.new.store c.args.stage.now c.loop.stage step.result on it.3 it.4 step.ensures.fits (subst (λ (r : Route). Advances c.loop.store step.new.store (walker call.number r c.loop.stage) step.result) c.requires.route step.ensures.advances));
       full = λ after e. let fits = all some in omega (arith, it.1, fits, done);
     }

@@ -373,6 +373,70 @@ impl Client {
         }
     }
 
+    /// Asks what makes a file longer or shorter, by its path.
+    pub(super) fn ask_cut(&mut self, alloc: Global, draws: &mut Draws) -> Result<(), Fail> {
+        let path = vec![in alloc; b'/', draws.home, b'/', b'f']?;
+        let fields = Fields::new(alloc).string(&path)?;
+        if draws.below(3) == 0 {
+            let fields = fields.number(0x1b)?.number(0)?;
+            return self.send(open(alloc, &path, b"rwct")?, 3, &fields);
+        }
+        let size = draws.below(40_000);
+        let fields = fields.number(1)?.long_number(size)?;
+        self.send(set_stat(alloc, &path, sized(size))?, 9, &fields)
+    }
+
+    /// Opens the file of the home, to read and write.
+    pub(super) fn ask_open(&mut self, alloc: Global, draws: &mut Draws) -> Result<(), Fail> {
+        let path = vec![in alloc; b'/', draws.home, b'/', b'f']?;
+        let fields = Fields::new(alloc).string(&path)?.number(0xb)?.number(0)?;
+        self.send(open(alloc, &path, b"rwc")?, 3, &fields)
+    }
+
+    pub(super) fn ask_home(&mut self, alloc: Global, draws: &mut Draws) -> Result<(), Fail> {
+        let home = vec![in alloc; b'/', draws.home]?;
+        let fields = Fields::new(alloc).string(&home)?.number(0)?;
+        self.send(mkdir(alloc, &home)?, 14, &fields)
+    }
+
+    /// Asks for the other of two names of the home.
+    pub(super) fn ask_other_home(&mut self, alloc: Global, draws: &mut Draws) -> Result<(), Fail> {
+        let old = vec![in alloc; b'/', draws.home]?;
+        draws.home = if draws.home == b'a' { b'b' } else { b'a' };
+        let new = vec![in alloc; b'/', draws.home]?;
+        let fields = Fields::new(alloc).string(&old)?.string(&new)?;
+        self.send(rename(alloc, &old, &new)?, 18, &fields)
+    }
+
+    /// A READ of all bytes.
+    pub(super) fn ask_bytes(&mut self, alloc: Global, handle: u64) -> Result<(), Fail> {
+        let fields = Fields::new(alloc).string(&handle.to_be_bytes())?;
+        let fields = fields.long_number(0)?.number(100_000)?;
+        self.send(read(handle, 0, 100_000)?, 5, &fields)
+    }
+
+    /// A WRITE of 10,000 bytes to 40,000. How many blocks have one of them is told.
+    pub(super) fn ask_long_write(
+        &mut self,
+        alloc: Global,
+        draws: &mut Draws,
+        handle: u64,
+    ) -> Result<u64, Fail> {
+        let offset = draws.below(10_000);
+        let count = draws.below(30_000).saturating_add(10_000);
+        let byte = u8::try_from(draws.below(256)).unwrap_or(1);
+        let bytes = vec![in alloc; byte; usize::try_from(count)?]?;
+        let fields = Fields::new(alloc).string(&handle.to_be_bytes())?;
+        let fields = fields.long_number(offset)?.string(&bytes)?;
+        self.send(write(alloc, handle, offset, &bytes)?, 6, &fields)?;
+        let last = offset.saturating_add(count).saturating_sub(1);
+        Ok(
+            (last / 4096)
+                .saturating_sub(offset / 4096)
+                .saturating_add(1),
+        )
+    }
+
     fn ask_link(&mut self, alloc: Global, old: &[u8], new: &[u8]) -> Result<(), Fail> {
         let name = Fields::new(alloc).string(b"hardlink@openssh.com")?;
         let fields = name.string(old)?.string(new)?;

@@ -4,10 +4,17 @@ use Rattle.sf_walk.specs.Ways.{AreWays, names_on}
 use Rattle.sf_walk.specs.Routes.{route_in}
 use Rattle.sf_walk.proofs.Looked.{keeps_counted, stays_after}
 use Rattle.sf_walk.proofs.Rooted.{located_after, served_after}
+use Rattle.sf_walk.proofs.Settled.{settled_after}
 use Rattle.sf_walk.proofs.calls.from_root_twice.Goals as goal
 
-pub decide-requires : goal.decide-requires
-decide-requires c =
+pub decide-requires-clause-settled : goal.decide-requires-clause-settled
+decide-requires-clause-settled c =
+    settled_after c.args.store.now c.locate_all-ways.new.store (names_on (route_in c.route_of.result)) c.args.call.now.session c.args.call.now.request c.locate_all-ways.result.path c.locate_all-ways.ensures.looked
+    (c.requires c.locate_all-ways.result
+    (subst (λ (r : Route). AreWays c.args.store.now r c.locate_all-ways.result) c.route_of.ensures c.locate_all-ways.ensures.located))
+
+pub decide-requires-clause-located : goal.decide-requires-clause-located
+decide-requires-clause-located c =
     subst (λ (r : Route). AreWays c.locate_all-ways.new.store r c.locate_all-ways.result) c.route_of.ensures
     (located_after c.args.store.now c.locate_all-ways.new.store (names_on (route_in c.route_of.result)) (route_in c.route_of.result) c.locate_all-ways.result c.locate_all-ways.ensures.looked c.locate_all-ways.ensures.located)
 

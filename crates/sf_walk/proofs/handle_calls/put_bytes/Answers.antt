@@ -16,5 +16,5 @@ returns-clause-tree c = λ t label m contents h shows.
 pub returns-clause-holders : goal.returns-clause-holders
 returns-clause-holders c =
     let stays = HoldersStay c.args.store.now in
-    subst stays (sym c.touch.ensures) (stays_edited (with_metadata (modified_at c.args.moment)) (λ node. (refl, refl)) c.args.store.now c.write.new.self c.args.node
-    (subst stays (sym c.in_ok-write.ensures.ok) (stays_stored c.args.store.now c.args.store.now c.args.node _ (stays_same c.args.store.now c.args.store.now refl))))
+    subst stays (sym c.touch.ensures) (stays_edited (with_metadata (modified_at c.args.moment)) (λ node. (refl, refl, refl)) c.args.store.now c.write.new.self c.args.node
+    (subst stays (sym c.in_ok-write.ensures.ok) (stays_stored c.args.store.now c.args.store.now c.args.node _ c.requires.settled (stays_same c.args.store.now c.args.store.now refl))))

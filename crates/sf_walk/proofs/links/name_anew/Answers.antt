@@ -6,7 +6,7 @@ use Rattle.sf_walk.specs.declared.links.LinkCourse.{LinkCourse}
 use Rattle.sf_walk.specs.Ways.{last_of}
 use Rattle.sf_walk.specs.Served.{HoldersStay}
 use Rattle.sf_walk.specs.Links.{IsLinking}
-use Rattle.sf_walk.proofs.Holders.{stays_same, stays_edited}
+use Rattle.sf_walk.proofs.Holders.{more_left, stays_same, stays_edited}
 use Rattle.sf_walk.proofs.Linking.{names_served}
 use Rattle.sf_walk.proofs.links.name_anew.Goals as goal
 
@@ -20,6 +20,6 @@ pub returns-in_ok-link_last-in-Names-clause-holders : goal.returns-in_ok-link_la
 returns-in_ok-link_last-in-Names-clause-holders c =
     subst (λ (x : StoreState). HoldersStay c.args.store.now x)
     (sym (c.touch.ensures ∙ ap (λ (x : StoreState). edited (with_metadata (modified_at c.args.moment)) x c.in-Names.into) c.in_ok-link_last-in-Names.ensures.ok))
-    (stays_edited (with_metadata (modified_at c.args.moment)) (λ node. (refl, refl)) c.args.store.now _ c.in-Names.into
-    (stays_edited with_name (λ node. (refl, refl)) c.args.store.now _ c.in-Names.node
-    (stays_edited (with_content (more_content (last_of c.args.new.now) c.in-Names.node)) (λ node. (refl, refl)) c.args.store.now c.args.store.now c.in-Names.into (stays_same c.args.store.now c.args.store.now refl))))
+    (stays_edited (with_metadata (modified_at c.args.moment)) (λ node. (refl, refl, refl)) c.args.store.now _ c.in-Names.into
+    (stays_edited with_name (λ node. (refl, refl, refl)) c.args.store.now _ c.in-Names.node
+    (stays_edited (with_content (more_content (last_of c.args.new.now) c.in-Names.node)) (λ node. (refl, refl, more_left (last_of c.args.new.now) c.in-Names.node node.content)) c.args.store.now c.args.store.now c.in-Names.into (stays_same c.args.store.now c.args.store.now refl))))

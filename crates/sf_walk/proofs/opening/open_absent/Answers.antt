@@ -15,5 +15,5 @@ returns-clause-served c = λ t front k fresh is at.
 pub returns-clause-holders : goal.returns-clause-holders
 returns-clause-holders c = λ before same.
     subst (NodesStay c.args.number before) (sym c.touch.ensures)
-    (stays_edited (with_metadata (modified_at c.args.moment)) (λ node. (refl, refl)) before c.open_new.new.store c.args.parent
+    (stays_edited (with_metadata (modified_at c.args.moment)) (λ node. (refl, refl, refl)) before c.open_new.new.store c.args.parent
     (stays_opened_new before c.args.store.now c.open_new.new.store c.args.session c.args.number c.args.parent _ _ _ same c.in_ok-open_new.ensures.ok (refl, refl)))

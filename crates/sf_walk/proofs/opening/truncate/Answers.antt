@@ -1,8 +1,8 @@
 use Rattle.std.proofs.Common.{refl, sym, subst, []}
 use Rattle.sf_call.specs.Attributes.{modified_at}
-use Rattle.sf_inode.specs.Nodes.{with_metadata, with_content, with_bytes}
+use Rattle.sf_inode.specs.Nodes.{with_metadata}
 use Rattle.sf_walk.specs.Served.{HoldersStay}
-use Rattle.sf_walk.proofs.Holders.{stays_edited}
+use Rattle.sf_walk.proofs.Holders.{stays_edited, stays_stored}
 use Rattle.sf_walk.proofs.Opened.{cut_served}
 use Rattle.sf_walk.proofs.opening.truncate.Goals as goal
 
@@ -12,7 +12,6 @@ returns-clause-tree c = λ t label m bytes k at.
 
 pub returns-clause-holders : goal.returns-clause-holders
 returns-clause-holders c = λ before h.
-    let f = with_content (with_bytes []) in
     subst (HoldersStay before) (sym c.touch.ensures)
-    (stays_edited (with_metadata (modified_at c.args.moment)) (λ node. (refl, refl)) before c.cut.new.store c.args.node
-    (subst (HoldersStay before) (sym c.cut.ensures) (stays_edited f (λ node. (refl, refl)) before c.args.store.now c.args.node h)))
+    (stays_edited (with_metadata (modified_at c.args.moment)) (λ node. (refl, refl, refl)) before c.cut.new.store c.args.node
+    (subst (HoldersStay before) (sym c.cut.ensures) (stays_stored before c.args.store.now c.args.node [] c.requires h)))

@@ -41,6 +41,6 @@ returns-in_ok-insert_last-in-Ok-Missing-clause-served c = λ t h fresh.
 pub returns-in_ok-insert_last-in-Ok-Missing-clause-holders : goal.returns-in_ok-insert_last-in-Ok-Missing-clause-holders
 returns-in_ok-insert_last-in-Ok-Missing-clause-holders c =
     subst (λ (x : StoreState). NodesStay c.args.number c.args.store.now x) (sym c.touch.ensures)
-    (stays_edited (with_metadata (modified_at c.args.moment)) (λ node. (refl, refl)) c.args.store.now c.insert_last.new.store c.in-Ok-Missing.parent
+    (stays_edited (with_metadata (modified_at c.args.moment)) (λ node. (refl, refl, refl)) c.args.store.now c.insert_last.new.store c.in-Ok-Missing.parent
     (stays_inserted c.args.store.now c.args.store.now c.insert_last.new.store c.in-Ok-Missing.parent (last_of c.args.path.now) c.in_ok-insert_last-in-Ok-Missing.field-0
-    (new_node (record { label = c.args.number; file_type = file_type.Directory; metadata = c.new_object.result })) (looked_nodes _ _ _ (looked_none c.args.store.now)) c.in_ok-insert_last-in-Ok-Missing.ensures.ok (refl, refl)))
+    (new_node (record { label = c.args.number; file_type = file_type.Directory; metadata = c.new_object.result })) (looked_nodes _ _ _ (looked_none c.args.store.now)) c.in_ok-insert_last-in-Ok-Missing.ensures.ok (refl, refl) refl))

@@ -1,4 +1,5 @@
-use Rattle.std.proofs.Common.{refl, sym, subst}
+use Rattle.std.proofs.Common.{refl, sym, ap, subst}
+use Rattle.std.specs.Prelude.{is_some}
 use Rattle.sf_call.specs.Attributes.{modified_at, with_parts}
 use Rattle.sf_inode.specs.Nodes.{with_metadata}
 use Rattle.sf_walk.specs.Served.{HoldersStay}
@@ -12,7 +13,7 @@ returns-in-None-clause-served c = λ t it h at. set_plain c.args.store.now c.set
 pub returns-in-None-clause-holders : goal.returns-in-None-clause-holders
 returns-in-None-clause-holders c =
     subst (HoldersStay c.args.store.now) (sym c.set.ensures)
-    (stays_edited (with_metadata (λ m. with_parts m c.args.attrs.now)) (λ node. (refl, refl)) c.args.store.now c.args.store.now c.args.node
+    (stays_edited (with_metadata (λ m. with_parts m c.args.attrs.now)) (λ node. (refl, refl, refl)) c.args.store.now c.args.store.now c.args.node
     (stays_same c.args.store.now c.args.store.now refl))
 
 pub returns-else-size-gt-MAX_FILE_SIZE-clause-served : goal.returns-else-size-gt-MAX_FILE_SIZE-clause-served
@@ -23,6 +24,6 @@ returns-else-size-gt-MAX_FILE_SIZE-clause-served c = λ t it h at.
 pub returns-else-size-gt-MAX_FILE_SIZE-clause-holders : goal.returns-else-size-gt-MAX_FILE_SIZE-clause-holders
 returns-else-size-gt-MAX_FILE_SIZE-clause-holders c =
     let stays = HoldersStay c.args.store.now in
-    subst stays (sym c.set-in-Some.ensures) (stays_edited (with_metadata (λ m. with_parts m c.args.attrs.now)) (λ node. (refl, refl)) c.args.store.now c.touch.new.self c.args.node
-    (subst stays (sym c.touch.ensures) (stays_edited (with_metadata (modified_at c.args.moment)) (λ node. (refl, refl)) c.args.store.now c.set_len.new.self c.args.node
-    (subst stays (sym c.set_len.ensures) (stays_stored c.args.store.now c.args.store.now c.args.node _ (stays_same c.args.store.now c.args.store.now refl))))))
+    subst stays (sym c.set-in-Some.ensures) (stays_edited (with_metadata (λ m. with_parts m c.args.attrs.now)) (λ node. (refl, refl, refl)) c.args.store.now c.touch.new.self c.args.node
+    (subst stays (sym c.touch.ensures) (stays_edited (with_metadata (modified_at c.args.moment)) (λ node. (refl, refl, refl)) c.args.store.now c.set_len.new.self c.args.node
+    (subst stays (sym c.set_len.ensures) (stays_stored c.args.store.now c.args.store.now c.args.node _ (c.requires (ap is_some c.in-Some.is)) (stays_same c.args.store.now c.args.store.now refl))))))

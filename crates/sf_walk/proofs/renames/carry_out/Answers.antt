@@ -26,6 +26,6 @@ returns-in_ok-relink_last-in-Moves-clause-holders c =
     subst (λ (x : StoreState). HoldersStay c.args.store.now x)
     (sym (c.touch-in-Moves.ensures ∙ ap (λ (x : StoreState). edited (with_metadata (modified_at c.args.moment)) x c.in-Moves.into)
     (c.touch.ensures ∙ ap (λ (x : StoreState). edited (with_metadata (modified_at c.args.moment)) x c.in-Moves.from) c.in_ok-relink_last-in-Moves.ensures.ok)))
-    (stays_edited (with_metadata (modified_at c.args.moment)) (λ node. (refl, refl)) c.args.store.now _ c.in-Moves.into
-    (stays_edited (with_metadata (modified_at c.args.moment)) (λ node. (refl, refl)) c.args.store.now _ c.in-Moves.from
+    (stays_edited (with_metadata (modified_at c.args.moment)) (λ node. (refl, refl, refl)) c.args.store.now _ c.in-Moves.into
+    (stays_edited (with_metadata (modified_at c.args.moment)) (λ node. (refl, refl, refl)) c.args.store.now _ c.in-Moves.from
     (stays_relinked c.args.store.now c.args.store.now c.in-Moves.from (last_of c.args.old.now) c.in-Moves.into (last_of c.args.new.now) (stays_same c.args.store.now c.args.store.now refl))))

@@ -1,7 +1,5 @@
 use Rattle.std.proofs.Common.{◌≡◌, ◌+◌, ◌∙◌, refl, ap, sym, subst, arith}
 use Rattle.sf_call.specs.Histories.{IsGiven}
-use Rattle.sf_walk.specs.Routes.{route_of, route_in}
-use Rattle.sf_walk.specs.Routes.Route.{NoPath}
 use Rattle.sf_core.specs.Cores.{CoreView}
 use Rattle.sf_core.specs.Events.{AnswersAtOnce, begun, came}
 use Rattle.sf_core.specs.Lanes.{LaneView, at_rest}
@@ -16,10 +14,13 @@ use Rattle.sf_core.proofs.cores.Core.call.Goals as goal
 pub answer_at_once-requires-clause-new : goal.answer_at_once-requires-clause-new
 answer_at_once-requires-clause-new c = no_call c.self.inside.parts c.self.invariant.0.sound.ledger
 
+pub answer_at_once-requires-clause-settled : goal.answer_at_once-requires-clause-settled
+answer_at_once-requires-clause-settled c = c.self.invariant.0.sound.copied.copies.settled
+
 pub invariant_of-self : goal.invariant_of-self
 invariant_of-self c =
     let core = c.self.invariant.0 in
-    let err = c.in_default-answer_at_once.ensures.err in
+    let err = c.in_default.ensures.err in
     let places = c.self.invariant.1 in
     let calls = ap undecided_in err.calls in
     (record { history = core.history; sound = roomy c.self.inside.parts c.answer_at_once.new.self core.history core.sound err }, omega (arith, places, calls))
@@ -29,19 +30,19 @@ new-answer-requires c =
     let p = c.self.inside.parts in
     let at = c.in-Ok.ensures.ok in
     let lane : LaneView = record { session = c.lane.inside.session; call = c.lane.inside.call; begun = c.lane.inside.begun } in
-    let route : route_of c.args.request ≡ NoPath = sym c.route_of.ensures ∙ ap route_in c.in-NoPath.is in
+    let once = sym c.is_at_once.ensures ∙ c.if-not-is_at_once.false in
     subst (λ k. IsGiven k lane.session c.in-Ok.reply) (sym (c.drawn-2.ensures ∙ at.finished.records.drawn ∙ at.begun.drawn))
-    (given_at_once lane p c.answer_at_once.new.self c.self.invariant.0 c.args.request c.args.moment c.in-Ok.reply route (c.if-not-is_idle.ensures.0 refl) (omega (arith, c.drawn.ensures, c.if-drawn-ge-LAST_NUMBER.false)) c.look_ups-count.ensures.fits at)
+    (given_at_once lane p c.answer_at_once.new.self c.self.invariant.0 c.args.request c.args.moment c.in-Ok.reply once (c.if-not-is_idle.ensures.0 refl) (omega (arith, c.drawn.ensures, c.if-drawn-ge-LAST_NUMBER.false)) c.look_ups-count.ensures.fits at)
 
 pub invariant_of-self-2 : goal.invariant_of-self-2
 invariant_of-self-2 c =
     let p = c.self.inside.parts in
     let at = c.in-Ok.ensures.ok in
     let lane : LaneView = record { session = c.lane.inside.session; call = c.lane.inside.call; begun = c.lane.inside.begun } in
-    let route : route_of c.args.request ≡ NoPath = sym c.route_of.ensures ∙ ap route_in c.in-NoPath.is in
+    let once = sym c.is_at_once.ensures ∙ c.if-not-is_at_once.false in
     let places = c.self.invariant.1 in
     let calls = ap undecided_in at.calls in (
-      core_at_once lane p c.answer_at_once.new.self c.self.invariant.0 c.args.request c.args.moment c.in-Ok.reply route (c.if-not-is_idle.ensures.0 refl) (omega (arith, c.drawn.ensures, c.if-drawn-ge-LAST_NUMBER.false)) c.look_ups-count.ensures.fits at,
+      core_at_once lane p c.answer_at_once.new.self c.self.invariant.0 c.args.request c.args.moment c.in-Ok.reply once (c.if-not-is_idle.ensures.0 refl) (omega (arith, c.drawn.ensures, c.if-drawn-ge-LAST_NUMBER.false)) c.look_ups-count.ensures.fits at,
       omega (arith, places, calls),
     )
 
@@ -52,7 +53,7 @@ returns-clause-answered c =
     let at = c.in-Ok.ensures.ok in
     let lane : LaneView = record { session = c.lane.inside.session; call = c.lane.inside.call; begun = c.lane.inside.begun } in
     let new : LaneView = record { session = c.lane.inside.session; call = c.lane.inside.call; begun = c.saturating_add-lane-inside.result } in
-    let route : route_of c.args.request ≡ NoPath = sym c.route_of.ensures ∙ ap route_in c.in-NoPath.is in
+    let once = sym c.is_at_once.ensures ∙ c.if-not-is_at_once.false in
     let number = c.drawn-2.ensures ∙ at.finished.records.drawn ∙ at.begun.drawn in
     let a = c.new-answer.result in
     let rests : at_rest (begun lane (p.drawn + 1)) ≡ new =
@@ -60,5 +61,5 @@ returns-clause-answered c =
     subst (λ (v : CoreView). AnswersAtOnce v c.args.lane.now c.args.request c.args.moment (came (Answered a) (seen q) new)) c.self.view_is
     (subst (λ (l : LaneView). AnswersAtOnce (seen p) l c.args.request c.args.moment (came (Answered a) (seen q) new)) c.lane.view_is
     (subst (λ (l : LaneView). AnswersAtOnce (seen p) lane c.args.request c.args.moment (came (Answered a) (seen q) l)) rests
-    (answered_at_once lane p q c.self.invariant.0 c.args.request c.args.moment c.in-Ok.reply route (c.if-not-is_idle.ensures.0 refl) (omega (arith, c.drawn.ensures, c.if-drawn-ge-LAST_NUMBER.false)) c.look_ups-count.ensures.fits at
+    (answered_at_once lane p q c.self.invariant.0 c.args.request c.args.moment c.in-Ok.reply once (c.if-not-is_idle.ensures.0 refl) (omega (arith, c.drawn.ensures, c.if-drawn-ge-LAST_NUMBER.false)) c.look_ups-count.ensures.fits at
     a (c.new-answer.ensures ∙ ap (λ k. record { number = k; session = lane.session; reply = c.in-Ok.reply }) number))))

@@ -9,19 +9,39 @@ use Rattle.sf_core.specs.Cores.{call_at}
 use Rattle.sf_book.specs.Books.{BookView}
 use Rattle.sf_core.specs.Parts.{PartsView}
 use Rattle.sf_core.specs.Progress.{overtaken, undecided_in}
+use Rattle.sf_core.specs.Finishing.{AreOnPaths, IsSettledWhereFree}
 use Rattle.sf_core.specs.Stepping.{all_set_back, HelpsAll}
+use Rattle.sf_core.proofs.Helped.{overtaken_settled, overtaken_paths}
 use Rattle.sf_core.proofs.Maps.{some_eq}
 use Rattle.sf_core.proofs.Backing.{book_back}
 use Rattle.sf_core.proofs.Preparing.{moved_is, few_overtaken}
 use Rattle.sf_core.proofs.parts.Parts.overtake.Goals as goal
 
-pub help_all-requires : goal.help_all-requires
-help_all-requires c =
+pub help_all-requires-clause-room : goal.help_all-requires-clause-room
+help_all-requires-clause-room c =
     let few = few_overtaken c.self.inside.calls c.args.number c.in-Some-old_path.old.now in
     let many = ap (λ (xs : List ℕ). length xs) (c.deref-2.ensures.value ∙ c.overtaken.ensures.numbers) in
     let room = ap (λ (b : BookView). b.room) (ap (λ (q : PartsView). q.book) c.set_back_all.ensures ∙ book_back c.deref.result.now c.args.self.now) in
     let enough : undecided_in c.self.inside.calls ≤ c.args.self.now.book.room = subst (λ (v : PartsView). undecided_in v.calls ≤ c.args.self.now.book.room) (sym c.self.view_is) c.requires.room in
     omega (arith, few, many, room, enough)
+
+pub help_all-requires-clause-settled : goal.help_all-requires-clause-settled
+help_all-requires-clause-settled c =
+    let p = c.args.self.now in
+    let core = c.requires.core in
+    let calls : c.args.self.now.calls ≡ c.self.inside.calls = ap (λ (v : PartsView). v.calls) (sym c.self.view_is) in
+    let numbers : c.deref.result.now ≡ overtaken p.calls c.args.number (Some c.in-Some-old_path.old.now) = c.deref.ensures.value ∙ c.overtaken.ensures.numbers ∙ (λ i. overtaken (sym calls i) c.args.number (Some c.in-Some-old_path.old.now)) in
+    subst (λ (q : PartsView). IsSettledWhereFree q.store) (sym (c.set_back_all.ensures ∙ ap (all_set_back p) numbers)) (overtaken_settled p core.history core.sound c.args.number c.in-Some-old_path.old.now)
+
+pub help_all-requires-clause-paths : goal.help_all-requires-clause-paths
+help_all-requires-clause-paths c =
+    let p = c.args.self.now in
+    let core = c.requires.core in
+    let calls : c.args.self.now.calls ≡ c.self.inside.calls = ap (λ (v : PartsView). v.calls) (sym c.self.view_is) in
+    let here : c.overtaken.new.numbers.items ≡ overtaken p.calls c.args.number (Some c.in-Some-old_path.old.now) = c.overtaken.ensures.numbers ∙ (λ i. overtaken (sym calls i) c.args.number (Some c.in-Some-old_path.old.now)) in
+    subst (λ (q : PartsView). AreOnPaths q c.deref-2.result.now) (sym (c.set_back_all.ensures ∙ ap (all_set_back p) (c.deref.ensures.value ∙ here)))
+    (subst (λ (ns : List ℕ). AreOnPaths (all_set_back p (overtaken p.calls c.args.number (Some c.in-Some-old_path.old.now))) ns) (sym (c.deref-2.ensures.value ∙ here))
+    (overtaken_paths p core.history core.sound c.args.number c.in-Some-old_path.old.now))
 
 pub returns-clause-helped : goal.returns-clause-helped
 returns-clause-helped c = λ d at same t keeps.

@@ -1,6 +1,6 @@
 use Rattle.std.proofs.Common.{◌∙◌, sym}
-use Rattle.sf_core.specs.declared.step.Step.TheVariants.{Answered}
-use Rattle.sf_pool.proofs.Noted.{noted, lane_at, now_last}
+use Rattle.sf_core.specs.declared.step.Step.TheVariants.{Answered, Moved}
+use Rattle.sf_pool.proofs.Noted.{noted, lane_at, lane_under_way, now_last}
 use Rattle.sf_pool.proofs.stay.Stay.step.Goals as goal
 
 pub returns-in-Some-take-clause-told : goal.returns-in-Some-take-clause-told
@@ -33,4 +33,19 @@ returns-in-Some-take-clause-steps c h is =
         now_last c.in-Some.lane c.step.new.lane c.note.new.transcript.session given.number c.take.new.self c.in-Some-take.request given.reply inside.keeps
             inside.transcript.calls.items c.note.new.transcript.calls.items answers.lane c.note.ensures.calls,
       );
+    }
+
+pub returns-in-Moved-clause-steps : goal.returns-in-Moved-clause-steps
+returns-in-Moved-clause-steps c h is =
+    let came = c.in-Moved.ensures h is in
+    let inside = c.self.inside in
+    record {
+      lane = c.in-Some.lane;
+      after = c.step.new.lane;
+      added = came.0;
+      came = Moved;
+      own = lane_under_way c.args.self.now inside.lane inside.transcript inside.asked inside.keeps c.in-Some.lane (sym c.self.view_is) c.self.invariant c.in-Some.is c.requires;
+      history = came.1;
+      steps = came.2;
+      tells = (c.going.ensures.told, c.going.ensures.blocked);
     }

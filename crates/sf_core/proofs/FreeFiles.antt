@@ -1,0 +1,148 @@
+-- Of a file that no other call holds nothing is left to be copied.
+use Rattle.std.specs.Prelude.{◌≡◌, ℕ, zero, suc, true, false, List, [], ◌∷◌, option_map, option_and_then, is_some, Option, Some, None, refl}
+use Rattle.std.specs.Option.{option_map_or}
+use Rattle.std.proofs.Common.{sym, ap, subst, ◌∙◌}
+use Rattle.sf_path.specs.Names.{Path}
+use Rattle.sf_call.specs.declared.call.Call.{Call}
+use Rattle.sf_call.specs.declared.call.Stage.{Stage}
+use Rattle.sf_call.specs.declared.call.Stage.TheVariants as stage
+use Rattle.sf_call.specs.declared.record.Record.{Record}
+use Rattle.sf_call.specs.declared.request.Request.{Request}
+use Rattle.sf_call.specs.declared.request.Request.TheVariants as request
+use Rattle.sf_call.specs.declared.metadata.Metadata.{Metadata}
+use Rattle.sf_call.specs.Attributes.{Object}
+use Rattle.sf_call.specs.Tree.{Tree, directory_metadata}
+use Rattle.sf_inode.specs.declared.node.Node.{Node}
+use Rattle.sf_inode.specs.declared.node.Content.{Content}
+use Rattle.sf_inode.specs.declared.node.Content.TheVariants as content
+use Rattle.sf_inode.specs.Nodes.{object_in, is_directory_content}
+use Rattle.sf_inode.specs.Stores.{StoreState, node_in, holder_of, shown_node, is_directory_at, is_file_at, left_at}
+use Rattle.sf_keeps.specs.Keeps.{Keeps}
+use Rattle.sf_coupling.specs.Walks.{IsFree}
+use Rattle.sf_walk.specs.declared.finding.Ways.{Ways}
+use Rattle.sf_walk.specs.declared.finding.Located.{Located}
+use Rattle.sf_walk.specs.declared.finding.Located.TheVariants as located
+use Rattle.sf_walk.specs.Routes.{Route, IsPosition, route_of}
+use Rattle.sf_walk.specs.Routes.Route.{NoPath, Along}
+use Rattle.sf_walk.specs.Routes.IsPosition.{Starts, IsOn, IsBefore, IsApart}
+use Rattle.sf_walk.specs.Ways.{AreWays}
+use Rattle.sf_walk.specs.Files.{IsFileFree, IsSettled, file_handle, cuts_file}
+use Rattle.sf_walk.specs.Served.{LookedUp, after_look_ups}
+use Rattle.sf_walk.specs.Steps.WalksOn.{TakesRoot, PartsAtRoot, GoesOn, Parts, OldGoesOn, NewGoesOn}
+use Rattle.sf_walk.specs.Steps.{walker, WalksOn, Moves, IsFreeThere, AreFree}
+use Rattle.sf_core.specs.Cores.{call_at}
+use Rattle.sf_core.specs.Progress.{reply_of, IsCopying}
+use Rattle.sf_core.specs.Parts.{PartsView}
+use Rattle.sf_core.specs.Sound.{writer_of, Sound}
+use Rattle.sf_core.proofs.Maps.{some_eq, none_some}
+use Rattle.sf_core.proofs.Writers.{no_directory, writer_holds}
+use Rattle.sf_core.proofs.SparedFiles.{file_writer, no_file}
+use Rattle.sf_core.proofs.Finished.{not_copying}
+
+-- the root is a directory
+pub root_kept : (s : StoreState) (t : Tree) → Keeps s t → is_directory_at s.nodes s.root ≡ true
+root_kept s t keeps = by_node (node_in s.nodes s.root) keeps.shows.by.sound.rooted
+  where
+    by_node : (o : Option Node) → is_some (option_and_then (λ (w : ℕ × Object). directory_metadata w.1) (option_map shown_node o)) ≡ true → option_map_or (λ (it : Node). is_directory_content it.content) o false ≡ true
+    by_node None is = is
+    by_node (Some it) is = by_content it.metadata it.content is
+      where
+        by_content : (m : Metadata) (z : Content) → is_some (directory_metadata (object_in m z)) ≡ true → is_directory_content z ≡ true
+        by_content m (content.Directory entries) is = refl
+        by_content m (content.File contents) is = is
+
+-- where it is asked of a file alone
+pub left_where : (s : StoreState) (node : ℕ) → (is_file_at s.nodes node ≡ true → left_at s.nodes node ≡ 0) → left_at s.nodes node ≡ 0
+left_where s node each = elim (is_file_at s.nodes node) as (λ b. is_file_at s.nodes node ≡ b → left_at s.nodes node ≡ 0) [
+  | true ↦ λ e. each e
+  | false ↦ λ e. no_file (node_in s.nodes node) e
+] refl
+
+file_free_counted : (k : ℕ) (s : StoreState) (c : Call) → IsFileFree s c → IsFileFree (after_look_ups k s) c
+file_free_counted zero s c h = h
+file_free_counted (suc k) s c h = let w = file_free_counted k s c h in record { free = w.free }
+
+pub file_free_looked : (s t : StoreState) (most : ℕ) (c : Call) → LookedUp s t most → IsFileFree s c → IsFileFree t c
+file_free_looked s t most c looked h = subst (λ (x : StoreState). IsFileFree x c) (sym looked.state) (file_free_counted looked.count s c h)
+
+-- ---- a call that walks uses no file by a handle
+pub only_fresh : (r : Route) (g : Stage) → r ≡ NoPath → IsPosition r g → g ≡ stage.Fresh
+only_fresh r g e (Starts o is) = refl
+only_fresh r g e (IsOn path walked node less) = absurd (let z : ⊥ = cc in z)
+only_fresh r g e (IsBefore old new walked node count part less) = absurd (let z : ⊥ = cc in z)
+only_fresh r g e (IsApart old new common from to is) = absurd (let z : ⊥ = cc in z)
+
+walked_on : (g after : Stage) → WalksOn g after → after ≡ stage.Fresh → ⊥
+walked_on g after (TakesRoot node) e = let z : ⊥ = cc in z
+walked_on g after (PartsAtRoot to at_root) e = let z : ⊥ = cc in z
+walked_on g after (GoesOn walked node to more) e = let z : ⊥ = cc in z
+walked_on g after (Parts walked node to more) e = let z : ⊥ = cc in z
+walked_on g after (OldGoesOn common old new to more) e = let z : ⊥ = cc in z
+walked_on g after (NewGoesOn common old new to more) e = let z : ⊥ = cc in z
+
+no_path_moved : (g after : Stage) → IsPosition NoPath after → WalksOn g after → ⊥
+no_path_moved g after is on = walked_on g after on (only_fresh NoPath after refl is)
+
+pub no_handle_moved : (r : Request) (g after : Stage) → IsPosition (route_of r) after → WalksOn g after → (number : ℕ) → file_handle r ≡ Some number → ⊥
+no_handle_moved (request.Read handle offset len) g after is on number e = no_path_moved g after is on
+no_handle_moved (request.Write handle offset bytes) g after is on number e = no_path_moved g after is on
+no_handle_moved (request.FSetStat handle attrs) g after is on number e = no_path_moved g after is on
+no_handle_moved (request.Stat path) g after is on number e = none_some number e
+no_handle_moved (request.SetStat path attrs) g after is on number e = none_some number e
+no_handle_moved (request.Mkdir path attrs) g after is on number e = none_some number e
+no_handle_moved (request.Rmdir path) g after is on number e = none_some number e
+no_handle_moved (request.Remove path) g after is on number e = none_some number e
+no_handle_moved (request.OpenDir path) g after is on number e = none_some number e
+no_handle_moved (request.Open path flags attrs) g after is on number e = none_some number e
+no_handle_moved (request.Close handle) g after is on number e = none_some number e
+no_handle_moved (request.FStat handle) g after is on number e = none_some number e
+no_handle_moved (request.ReadDir handle) g after is on number e = none_some number e
+no_handle_moved (request.Rename old new) g after is on number e = none_some number e
+no_handle_moved (request.PosixRename old new) g after is on number e = none_some number e
+no_handle_moved (request.Link old new) g after is on number e = none_some number e
+
+pub file_free_moved : (s t : StoreState) (c : Call) (after : Stage) → Moves s t (walker c.number (route_of c.request) c.stage) after → IsFileFree t c
+file_free_moved s t c after moves = record { free = λ number x own opens is. absurd (no_handle_moved c.request c.stage after moves.position moves.walks number own) }
+
+module _ (p : PartsView) (h : List Record) (sound : Sound p h) (c : Call) (at : call_at p.calls c.number ≡ Some c) (undecided : reply_of c ≡ None) where
+  left_free : (node : ℕ) → IsFree (holder_of p.store.nodes) c.number node → left_at p.store.nodes node ≡ 0
+  left_free node free = elim (writer_of p.store.nodes node) as (λ o. writer_of p.store.nodes node ≡ o → left_at p.store.nodes node ≡ 0) [
+    | None ↦ λ e. sound.copied.copies.settled node e
+    | Some m ↦ λ e.
+        let f = file_writer p.store p.calls sound.copied.copies node m e in
+        let same : c.number ≡ m = free m (writer_holds p.store.nodes node m e).1 in
+        let own : f.0 ≡ c = some_eq f.0 c (sym f.2 ∙ ap (call_at p.calls) (sym same) ∙ at) in
+        absurd (not_copying p h sound c.number c at undecided (subst (λ (x : Call). IsCopying x.stage) own (subst IsCopying (sym f.3) tt)))
+  ] refl
+
+  left_root : (node : ℕ) → node ≡ p.store.root → left_at p.store.nodes node ≡ 0
+  left_root node e = left_where p.store node (λ file. absurd (no_directory p.store.nodes node file (ap (is_directory_at p.store.nodes) e ∙ root_kept p.store _ sound.history.tree)))
+
+  by_path : (ways : Ways) (path : Path) → AreWays p.store (Along path) ways → AreFree (holder_of p.store.nodes) c.number (Along path) ways → (parent node : ℕ) → ways.path ≡ located.At parent node → left_at p.store.nodes node ≡ 0
+  by_path ways [] w free parent node there = left_root node (let e : located.At parent node ≡ located.At p.store.root p.store.root = sym there ∙ w in cc)
+  by_path ways (x ∷ path) w free parent node there = left_free node (subst (λ (f : Located). IsFreeThere (holder_of p.store.nodes) c.number f) there free)
+
+  on_path_by : (r : Request) (ways : Ways) → AreWays p.store (route_of r) ways → AreFree (holder_of p.store.nodes) c.number (route_of r) ways → (parent node : ℕ) → cuts_file r ≡ true → ways.path ≡ located.At parent node → left_at p.store.nodes node ≡ 0
+  on_path_by (request.SetStat path attrs) ways w free parent node cuts there = by_path ways path w free parent node there
+  on_path_by (request.Open path flags attrs) ways w free parent node cuts there = by_path ways path w free parent node there
+  on_path_by (request.Stat path) ways w free parent node cuts there = absurd (let z : ⊥ = cc in z)
+  on_path_by (request.Mkdir path attrs) ways w free parent node cuts there = absurd (let z : ⊥ = cc in z)
+  on_path_by (request.Rmdir path) ways w free parent node cuts there = absurd (let z : ⊥ = cc in z)
+  on_path_by (request.Remove path) ways w free parent node cuts there = absurd (let z : ⊥ = cc in z)
+  on_path_by (request.OpenDir path) ways w free parent node cuts there = absurd (let z : ⊥ = cc in z)
+  on_path_by (request.Close handle) ways w free parent node cuts there = absurd (let z : ⊥ = cc in z)
+  on_path_by (request.FStat handle) ways w free parent node cuts there = absurd (let z : ⊥ = cc in z)
+  on_path_by (request.FSetStat handle attrs) ways w free parent node cuts there = absurd (let z : ⊥ = cc in z)
+  on_path_by (request.Read handle offset len) ways w free parent node cuts there = absurd (let z : ⊥ = cc in z)
+  on_path_by (request.Write handle offset bytes) ways w free parent node cuts there = absurd (let z : ⊥ = cc in z)
+  on_path_by (request.ReadDir handle) ways w free parent node cuts there = absurd (let z : ⊥ = cc in z)
+  on_path_by (request.Rename old new) ways w free parent node cuts there = absurd (let z : ⊥ = cc in z)
+  on_path_by (request.PosixRename old new) ways w free parent node cuts there = absurd (let z : ⊥ = cc in z)
+  on_path_by (request.Link old new) ways w free parent node cuts there = absurd (let z : ⊥ = cc in z)
+
+  -- so a call that decides finds its files whole
+  pub settled_free : IsFileFree p.store c → (ways : Ways) → AreWays p.store (route_of c.request) ways → AreFree (holder_of p.store.nodes) c.number (route_of c.request) ways → IsSettled p.store c.session c.request ways.path
+  settled_free file ways w free = record {
+    by_handle = λ number x own opens. left_where p.store x.node (λ is. left_free x.node (file.free number x own opens is));
+    on_path = λ parent node cuts there. on_path_by c.request ways w free parent node cuts there;
+  }

@@ -1,0 +1,66 @@
+-- A WRITE that is carried out by its first step writes one block at most.
+use Rattle.std.specs.Prelude.{if◌then◌else◌, ◌≡◌, ◌≤◌, ℕ, true, false, List, [], ◌∷◌, length, option_map, Option, Some, None, refl}
+use Rattle.std.specs.Option.{option_map_or}
+use Rattle.std.proofs.Common.{sym, ap, ◌∙◌, arith}
+use Rattle.sf_reply.specs.declared.reply.Reply.{Reply}
+use Rattle.sf_block.specs.Contents.{blocks_of}
+use Rattle.sf_call.specs.declared.call.Call.{Call}
+use Rattle.sf_call.specs.declared.metadata.Metadata.{Metadata}
+use Rattle.sf_call.specs.declared.handle.Handle.{Handle}
+use Rattle.sf_call.specs.Tree.{Tree, object_of}
+use Rattle.sf_call.specs.Handles.{handle_in, opened, opened_by, opened_object}
+use Rattle.sf_call.specs.Handles.Opened.{OpenFile}
+use Rattle.sf_call.specs.Calls.{start_of}
+use Rattle.sf_inode.specs.declared.node.Node.{Node}
+use Rattle.sf_inode.specs.declared.node.Content.{Content}
+use Rattle.sf_inode.specs.declared.node.Content.TheVariants as content
+use Rattle.sf_inode.specs.declared.handle.OpenHandle.{OpenHandle}
+use Rattle.sf_inode.specs.Nodes.{object_in, bytes_in}
+use Rattle.sf_inode.specs.Stores.{StoreState, handle_at, bytes_of, shown_handle}
+use Rattle.sf_keeps.specs.Keeps.{Keeps}
+use Rattle.sf_keeps.proofs.Laws.{object_there}
+use Rattle.sf_walk.specs.Files.{start_by}
+use Rattle.sf_core.specs.Progress.{is_write}
+use Rattle.sf_core.specs.Events.{IsOfOneBlock}
+use Rattle.sf_core.specs.Writing.{CopiesOne}
+
+-- what a handle opens in the tree
+opens_file : (t : Tree) (session number : ℕ) (x : Handle) (meta : Metadata) (z : Content) → handle_in t session number ≡ Some x → object_of t.objects x.label ≡ Some (object_in meta z)
+    → (handle : Handle) (m : Metadata) (contents : List ℕ) → opened t session number ≡ OpenFile handle m contents → (handle ≡ x) × (contents ≡ bytes_in z)
+opens_file t session number x meta z here object handle m contents e =
+    elim z as (λ y. opened_object x (Some (object_in meta y)) ≡ OpenFile handle m contents → (handle ≡ x) × (contents ≡ bytes_in y)) [
+      | content.Directory es ↦ λ f. absurd (let k : ⊥ = cc in k)
+      | content.File f ↦ λ f. (cc, cc)
+    ] (sym (ap (opened_by t) here ∙ ap (opened_object x) object) ∙ e)
+
+module _ (s : StoreState) (t : Tree) (keeps : Keeps s t) (session number : ℕ) where
+  -- a write by a handle starts in the tree where it starts in the store
+  pub start_told : (x : OpenHandle) → handle_at s session number ≡ Some x → (handle : Handle) (m : Metadata) (contents : List ℕ) → opened t session number ≡ OpenFile handle m contents → (offset : ℕ)
+      → start_of handle contents offset ≡ start_by s x offset
+  start_told x at handle m contents opens offset =
+      let node = keeps.led session number x at in
+      let here : handle_in t session number ≡ Some (shown_handle session x) = keeps.shows.by.handles session number ∙ ap (option_map (shown_handle session)) at in
+      let object : object_of t.objects x.label ≡ Some (object_in node.0.metadata node.0.content) = ap (object_of t.objects) (sym node.1.1) ∙ object_there s t keeps x.node node.0 node.1.0 in
+      let f = opens_file t session number (shown_handle session x) node.0.metadata node.0.content here object handle m contents opens in
+      let stored : contents ≡ bytes_of s.nodes x.node = f.1 ∙ sym (ap (λ (o : Option Node). option_map_or (λ (y : Node). bytes_in y.content) o []) node.1.0) in
+      ap (λ (y : Handle). start_of y contents offset) f.0 ∙ ap (λ (b : List ℕ). if x.marks.append then length b else offset) stored
+
+  -- what is open in the tree is so in the store
+  open_there : handle_at s session number ≡ None → (handle : Handle) (m : Metadata) (contents : List ℕ) → opened t session number ≡ OpenFile handle m contents → ⊥
+  open_there none handle m contents opens =
+      let here : handle_in t session number ≡ None = keeps.shows.by.handles session number ∙ ap (option_map (shown_handle session)) none in
+      let e = sym (ap (opened_by t) here) ∙ opens in
+      let k : ⊥ = cc in k
+
+pub one_block : (s : StoreState) (t : Tree) → Keeps s t → (c : Call) (given : Reply) → CopiesOne s c given → IsOfOneBlock t c given
+one_block s t keeps c given one number offset [] is ok handle m contents opens = omega arith
+one_block s t keeps c given one number offset (b ∷ bytes) is ok handle m contents opens = elim (handle_at s c.session number) as (λ o. handle_at s c.session number ≡ o → blocks_of (start_of handle contents offset) (b ∷ bytes) ≤ 1) [
+  | None ↦ λ none. absurd (open_there s t keeps c.session number none handle m contents opens)
+  | Some x ↦ λ at.
+      let e = ap (λ k. blocks_of k (b ∷ bytes)) (start_told s t keeps c.session number x at handle m contents opens offset) ∙ one number offset (b ∷ bytes) x is at refl ok in
+      omega (arith, e)
+] refl
+
+-- a call that is no WRITE
+pub no_block : (s : StoreState) (c : Call) (given : Reply) → is_write c.request ≡ false → CopiesOne s c given
+no_block s c given none number offset bytes h is at some ok = absurd (let e : true ≡ false = sym (ap is_write is) ∙ none in let k : ⊥ = cc in k)

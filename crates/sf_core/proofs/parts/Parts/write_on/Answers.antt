@@ -1,0 +1,17 @@
+use Rattle.sf_core.specs.Cores.{call_at}
+use Rattle.sf_core.specs.Writing.WritesOn.{AtOnce}
+use Rattle.sf_core.proofs.CopySteps.{begun_copies, call_there, written_on}
+use Rattle.sf_core.proofs.parts.Parts.write_on.Goals as goal
+
+pub copy_on-requires : goal.copy_on-requires
+copy_on-requires c =
+    let w = call_there (call_at c.args.self.now.calls c.args.number) c.requires.there in
+    begun_copies c.args.self.now c.write.new.self w.0 c.args.number w.1 (c.in-None.ensures.begun w.0 w.1)
+
+pub returns-in-Some : goal.returns-in-Some
+returns-in-Some c = λ d at. let e = c.in-Some.ensures.decided d at in AtOnce c.in-Some.reply e.0 e.1
+
+pub returns-in-None : goal.returns-in-None
+returns-in-None c = λ d at.
+    written_on c.args.self.now c.write.new.self c.copy_on.new.self d c.args.session c.args.number c.args.most c.copy_on.result
+    (c.in-None.ensures.begun d at) c.copy_on.ensures.some c.copy_on.ensures.none

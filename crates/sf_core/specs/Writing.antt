@@ -1,0 +1,150 @@
+-- No public clause cites this module.
+-- What the steps of a WRITE do to the parts of a core.
+use Rattle.std.specs.Prelude.{◌≡◌, ◌⊎◌, ◌<◌, ◌+◌, ◌-◌, ℕ, zero, suc, false, List, Option, Some, None}
+use Rattle.sf_reply.specs.declared.reply.Reply.{Reply}
+use Rattle.sf_reply.specs.declared.reply.Reply.TheVariants as reply
+use Rattle.sf_reply.specs.declared.reply.StatusCode.TheVariants.{Success}
+use Rattle.sf_block.specs.Contents.{blocks_of}
+use Rattle.sf_call.specs.declared.call.Call.{Call}
+use Rattle.sf_call.specs.declared.call.Stage.TheVariants as stage
+use Rattle.sf_call.specs.declared.record.Record.TheVariants.{Did}
+use Rattle.sf_call.specs.declared.request.Request.TheVariants as request
+use Rattle.sf_call.specs.Calls.{answer_to}
+use Rattle.sf_call.specs.Tree.{Tree, is_nil}
+use Rattle.sf_call.specs.Unanswered.{staged, answered}
+use Rattle.sf_book.specs.Books.{put}
+use Rattle.sf_inode.specs.Nodes.{with_holder}
+use Rattle.sf_inode.specs.declared.handle.OpenHandle.{OpenHandle}
+use Rattle.sf_inode.specs.Stores.{StoreState, handle_at, left_at, edited, left_set}
+use Rattle.sf_keeps.specs.Keeps.{Keeps}
+use Rattle.sf_walk.specs.declared.files.Copying.{Copying}
+use Rattle.sf_walk.specs.declared.finding.Located.TheVariants as located
+use Rattle.sf_walk.specs.Files.{IsCopied, IsSettled, IsWrite, Starts, start_by}
+use Rattle.sf_walk.specs.Served.{IsCarriedOut, IsRefused}
+use Rattle.sf_core.specs.Progress.{did}
+use Rattle.sf_core.specs.declared.step.Step.{Step}
+use Rattle.sf_core.specs.declared.step.Step.TheVariants.{Moved, Answered}
+use Rattle.sf_core.specs.Lanes.{LaneView, at_rest}
+use Rattle.sf_core.specs.Parts.{PartsView}
+use Rattle.sf_core.specs.Cores.{call_at}
+use Rattle.sf_core.specs.Finishing.{write_finished}
+use Rattle.sf_core.specs.Stepping.{FinishState, FetchState}
+
+-- a WRITE that may make its first step: it is the call of the number, and no other one has left
+-- anything to be copied into its file
+pub record IsReadyToWrite (p : PartsView) (c : Call) (number : ℕ) : Type 0 where
+  pub write : IsWrite c.request
+  pub settled : IsSettled p.store c.session c.request located.NoWay
+  pub copied : c.copy ≡ Some c.request
+  pub is_number : c.number ≡ number
+  pub fresh : c.stage ≡ stage.Fresh
+
+-- the first step of a WRITE: what it leaves of the store
+pub record StartsWrite (old new : StoreState) (c : Call) (given : Reply) : Type 0 where
+  pub served : (t : Tree) → Keeps old t → IsRefused old new t given
+      ⊎ IsCarriedOut new t (answer_to t c.session c.number c.moment c.request) given
+  pub starts : (number offset : ℕ) (bytes : List ℕ) (h : OpenHandle)
+      → c.request ≡ request.Write number offset bytes
+      → handle_at old c.session number ≡ Some h → Starts old new h offset bytes
+  pub sessions : new.sessions ≡ old.sessions
+  pub look_ups : new.look_ups ≡ old.look_ups
+
+-- A WRITE has begun, and blocks are left: its record is the next one, its reply waits, and it holds
+-- its file.
+pub record WriteState (p q : PartsView) (c : Call) (number : ℕ) (given : Reply)
+    (into : Copying) : Type 0 where
+  pub mid : StoreState
+  pub begins : StartsWrite p.store mid c given
+  pub copied : IsCopied mid c into
+  pub store : q.store ≡ edited (with_holder (Some number)) mid into.node
+  pub book : q.book ≡ put p.book (did c given)
+  pub sessions : q.sessions ≡ p.sessions
+  pub calls : q.calls
+      ≡ staged (answered p.calls number given) number (stage.Copies into.node into.left)
+  pub drawn : q.drawn ≡ p.drawn
+  pub joins : q.joins ≡ p.joins
+
+-- a call copied one block into a file, and so many are left
+abbrev pub part_copied : PartsView → ℕ → ℕ → ℕ → PartsView
+part_copied p number node left = record p {
+  store = left_set p.store node left;
+  calls = staged p.calls number (stage.Copies node left);
+}
+
+abbrev pub HasBegun : PartsView → PartsView → Call → ℕ → Type 0
+HasBegun p q c number = (given : Reply) × (into : Copying) × WriteState p q c number given into
+
+-- the WRITE of the number holds its file: its record is the next one, and its reply waits
+abbrev pub file_held : PartsView → Call → ℕ → Reply → Reply → Copying → PartsView
+file_held p c number given copy into = record p {
+  store = edited (with_holder (Some number)) p.store into.node;
+  book = put p.book (Did number c.session c.moment c.request given);
+  calls = staged (answered p.calls number copy) number (stage.Copies into.node into.left);
+}
+
+-- one block was copied, and so many are left: with none the file is nobody's any more
+abbrev pub block_copied : PartsView → ℕ → ℕ → ℕ → PartsView
+block_copied p number node zero = write_finished p number node
+block_copied p number node (suc k) = part_copied p number node (suc k)
+
+-- the call of the number copies: as much is left of its file as its stage tells, and its reply waits
+pub record CopiesNow (p : PartsView) (number node left : ℕ) : Type 0 where
+  pub call : Call
+  pub there : call_at p.calls number ≡ Some call
+  pub is : call.stage ≡ stage.Copies node left
+  pub left_is : left_at p.store.nodes node ≡ left
+  pub some : 0 < left
+  pub given : Reply
+  pub waits : call.reply ≡ Some given
+
+abbrev pub IsCopyingOn : PartsView → ℕ → Type 0
+IsCopyingOn p number = (node : ℕ) × (left : ℕ) × CopiesNow p number node left
+
+-- it copied one block, and so many are left
+pub record CopiesBlock (p q : PartsView) (number left : ℕ) : Type 0 where
+  pub node : ℕ
+  pub was : CopiesNow p number node (left + 1)
+  pub now : q ≡ block_copied p number node left
+
+-- so many blocks were copied, one after the other, and more are left
+unfoldable pub CopiedOn : ℕ → PartsView → ℕ → PartsView → Type 0
+CopiedOn zero p number q = q ≡ p
+CopiedOn (suc n) p number q = (mid : PartsView) × CopiedOn n p number mid
+    × ((left : ℕ) × CopiesBlock mid q number (suc left))
+
+-- all blocks were copied, in so many steps at most, and this reply was fetched
+pub record EndsCopying (p q : PartsView) (session number most : ℕ) (given : Reply) : Type 0 where
+  pub count : ℕ
+  pub few : count < most
+  pub mid : PartsView
+  pub copied : CopiedOn count p number mid
+  pub last : PartsView
+  pub ends : CopiesBlock mid last number 0
+  pub told : ends.was.given ≡ given
+  pub fetched : FetchState last q session number
+
+-- a WRITE of some bytes that succeeds writes one block
+abbrev pub CopiesOne : StoreState → Call → Reply → Type 0
+CopiesOne s c given = (number offset : ℕ) (bytes : List ℕ) (h : OpenHandle)
+    → c.request ≡ request.Write number offset bytes → handle_at s c.session number ≡ Some h
+    → is_nil bytes ≡ false → given ≡ reply.Status Success → blocks_of (start_by s h offset) bytes ≡ 1
+
+-- A WRITE made its first step, and as many more as it might: it was decided with the first one; or
+-- it copied on, and ended, or has more to copy.
+pub data WritesOn (p q : PartsView) (c : Call) (session number most : ℕ) : Option Reply → Type 0 where
+  AtOnce : (given : Reply) → FinishState p q c number given → CopiesOne p.store c given
+      → WritesOn p q c session number most (Some given)
+  ToTheEnd : (given : Reply) (mid : PartsView) → HasBegun p mid c number
+      → EndsCopying mid q session number (most - 1) given
+      → WritesOn p q c session number most (Some given)
+  UpToThere : (mid : PartsView) → HasBegun p mid c number → CopiedOn (most - 1) mid number q
+      → WritesOn p q c session number most None
+
+-- a step moved the lane's call, or answered it and left the lane at rest
+abbrev pub Tells : ℕ → LaneView → Option Reply → Step → LaneView → Type 0
+Tells number lane None step after = (step ≡ Moved) × (after ≡ lane)
+Tells number lane (Some given) step after = (step ≡ Answered (record {
+  number = number;
+  session = lane.session;
+  reply = given;
+})) × (after ≡ at_rest lane)

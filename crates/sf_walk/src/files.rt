@@ -1,0 +1,157 @@
+//! A WRITE that copies block by block, and who waits for it.
+
+ghost use Rattle.std.specs.Prelude.{◌≡◌, ◌⊎◌, ℕ, List, false, None, Some, IfSome, IfNone};
+ghost use Rattle.sf_call.specs.declared.request.Request.TheVariants as request;
+ghost use Rattle.sf_reply.specs.declared.reply.Reply.TheVariants as reply;
+ghost use Rattle.sf_reply.specs.declared.reply.StatusCode.TheVariants.{Success};
+ghost use Rattle.sf_call.specs.Calls.{answer_to};
+ghost use Rattle.sf_call.specs.Tree.{Tree, is_nil};
+ghost use Rattle.sf_inode.specs.declared.handle.OpenHandle.{OpenHandle};
+ghost use Rattle.sf_inode.specs.Stores.{handle_at, left_at};
+ghost use Rattle.sf_keeps.specs.Keeps.{Keeps};
+ghost use Rattle.sf_walk.specs.declared.finding.Located.TheVariants.{NoWay};
+ghost use Rattle.sf_walk.specs.Served.{IsCarriedOut, IsRefused, may_want_memory};
+ghost use Rattle.sf_walk.specs.Files.{HasAllButOne, HasNoWriter, IsCopied, IsFileFree, IsSettled, IsWrite, IsWriter, Starts, WaitsForFile, cuts_file, file_handle, holder_by};
+
+use crate::calls::twice;
+use crate::finding::Located;
+use crate::handle_calls::start_write;
+use crate::looking::other_holder;
+use sf_call::{Call, Request};
+use sf_inode::{NodeId, Store};
+use sf_reply::Reply;
+
+/// What a WRITE copies into: a file, and how many blocks are left.
+#[derive(Clone, Copy, Debug, PartialEq, Eq)]
+pub struct Copying {
+    pub node: NodeId,
+    pub left: usize,
+}
+
+/// A file, and the number of the call that holds it.
+#[derive(Clone, Copy, Debug, PartialEq, Eq)]
+pub struct Writer {
+    pub node: NodeId,
+    pub number: u64,
+}
+
+/// The other call that holds the file which the call's handle opens, where the call reads, writes
+/// or sets that file.
+pub fn file_holder(store: &Store, call: &Call) -> Option<u64>
+    ensures held { IfSome result (λ holder. WaitsForFile store.now call.now holder) }
+    ensures free { IfNone result (IsFileFree store.now call.now) }
+{
+    let handle = store.handle(call.session, file_handle(&call.request)?)?;
+    store.file(handle.node)?;
+    other_holder(store, call.number, handle.node)
+}
+
+/// The call that holds the file which a session's handle opens, where the request reads, writes or
+/// sets that file.
+pub fn holder_by(store: &Store, session: u64, request: &Request) -> Option<u64>
+    ensures { result ≡ holder_by store.now session request.now }
+{
+    let handle = store.handle(session, file_handle(request)?)?;
+    store.file(handle.node)?;
+    store.holder(handle.node)
+}
+
+/// The handle by which a request reads, writes or sets its file.
+fn file_handle(request: &Request) -> Option<u64>
+    ensures { result ≡ file_handle request.now }
+{
+    match request {
+        Request::Read { handle, .. } | Request::Write { handle, .. } => Some(*handle),
+        Request::FSetStat(handle, _) => Some(*handle),
+        _ => None,
+    }
+}
+
+/// The first step of a WRITE: its reply twice, once for its record. All blocks that it writes but
+/// one are still to be copied into its file. No look-up is made.
+#[tactic(auto, using(crate::proofs::Refused::keeps_alike))]
+pub fn start(store: &mut Store, call: &Call) -> (Reply, Reply)
+    requires write { IsWrite call.now.request }
+    requires settled { IsSettled store.old call.now.session call.now.request NoWay }
+    ensures served { (t : Tree) → Keeps store.old t
+        → IsRefused store.old store.new t result.0
+        ⊎ IsCarriedOut store.new t (answer_to t call.now.session call.now.number call.now.moment
+        call.now.request) result.0 }
+    ensures copy { result.1 ≡ result.0 }
+    ensures sure { (t : Tree) → Keeps store.old t
+        → may_want_memory call.now.request (answer_to t call.now.session call.now.number
+        call.now.moment call.now.request).reply ≡ false
+        → IsCarriedOut store.new t (answer_to t call.now.session call.now.number call.now.moment
+        call.now.request) result.0 }
+    ensures look_ups { store.new.look_ups ≡ store.old.look_ups }
+    ensures starts { (number : ℕ) (offset : ℕ) (bytes : List ℕ) (h : OpenHandle)
+        → call.now.request ≡ request.Write number offset bytes
+        → handle_at store.old call.now.session number ≡ Some h
+        → Starts store.old store.new h offset bytes }
+    ensures copied { (number : ℕ) (offset : ℕ) (bytes : List ℕ) (h : OpenHandle)
+        → call.now.request ≡ request.Write number offset bytes
+        → handle_at store.old call.now.session number ≡ Some h → is_nil bytes ≡ false
+        → result.0 ≡ reply.Status Success → HasAllButOne store.old store.new h offset bytes }
+    ensures none { (number : ℕ) (offset : ℕ) (bytes : List ℕ)
+        → call.now.request ≡ request.Write number offset bytes
+        → handle_at store.old call.now.session number ≡ None → store.new ≡ store.old }
+    ensures sessions { store.new.sessions ≡ store.old.sessions }
+{
+    let Request::Write {
+        handle,
+        offset,
+        data,
+    } = &call.request
+    else {
+        unreachable!();
+    };
+    match start_write(store, call.session, call.moment, *handle, *offset, data) {
+        Ok(reply) => twice(reply),
+        Err(_) => (Reply::NoMemory, Reply::NoMemory),
+    }
+}
+
+/// What a call copies into after its first step, where blocks are left.
+pub fn left_to_copy(store: &Store, call: &Call) -> Option<Copying>
+    ensures some { IfSome result (λ c. IsCopied store.now call.now c) }
+    ensures none { IfNone result ((number : ℕ) (h : OpenHandle)
+        → file_handle call.now.request ≡ Some number
+        → handle_at store.now call.now.session number ≡ Some h
+        → left_at store.now.nodes h.node ≡ 0) }
+{
+    let node = store
+        .handle(call.session, file_handle(&call.request)?)?
+        .node;
+    let left = store.left(node);
+    if left == 0 {
+        return None;
+    }
+    Some(Copying { node, left })
+}
+
+/// Who holds the file that a request cuts or fills up by its path, which was found to lead there.
+pub fn writer_to_finish(store: &Store, request: &Request, found: Located) -> Option<Writer>
+    ensures some { IfSome result (λ w. IsWriter store.now request.now found w) }
+    ensures none { IfNone result (HasNoWriter store.now request.now found) }
+{
+    if !cuts_file(request) {
+        return None;
+    }
+    let Located::At { parent: _, node } = found else {
+        return None;
+    };
+    store.file(node)?;
+    let number = store.holder(node)?;
+    Some(Writer { node, number })
+}
+
+/// Whether a request cuts the file that its path leads to, or fills it up.
+fn cuts_file(request: &Request) -> bool
+    ensures { result ≡ cuts_file request.now }
+{
+    match request {
+        Request::SetStat(_, attrs) => attrs.size.is_some(),
+        Request::Open(_, flags, _) => flags.truncate && flags.write,
+        _ => false,
+    }
+}
