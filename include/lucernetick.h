@@ -119,8 +119,9 @@ int64_t lt_settle(lt_engine *engine, uint64_t session, uint32_t moment, uint64_t
 
 /* Rounds, until no call is under way: in each, every session whose call is under way has one turn, at the moment
  * 0, by rising session numbers. Answers how many there were: 0 where no call is under way, and at most the sum,
- * over the calls that are, of 3 and the names of their paths. What these calls are answered waits for later
- * turns, which write it. Want of memory doesn't stop it: a call that finds none is answered so. */
+ * over the calls that are, of 3, the names of their paths and, of a WRITE, one more than the blocks of 4096 bytes
+ * that its bytes fill. What these calls are answered waits for later turns, which write it. Want of memory
+ * doesn't stop it: a call that finds none is answered so. */
 int64_t lt_run_all(lt_engine *engine);
 
 /* The session's input ends; answers 0. A call that is under way goes on to its reply by further turns, and

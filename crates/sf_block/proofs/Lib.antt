@@ -3,6 +3,6 @@ pub mod Waiting
 pub mod Laying
 pub mod Counts
 pub mod Running
-pub mod Pieces
 pub mod EqualMaps
 pub mod InRows
+pub mod Holding

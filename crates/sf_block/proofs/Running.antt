@@ -2,7 +2,7 @@
 use Rattle.std.proofs.Common.{◌≡◌, ◌<◌, ◌≤◌, ◌+◌, ◌*◌, ◌-◌, ◌/◌, ◌%◌, ◌∙◌, ℕ, min, max, List, length, get_or, take, drop, Some, inl, inr, sym, ap, subst, arith}
 use Rattle.std.specs.Prelude.{◌⊎◌}
 use Rattle.std.proofs.lemmas.List.{length-take, length-drop, get_or-take, get_or-drop}
-use Rattle.sf_block.specs.Blocks.{entry_in, byte_in, bytes_from, IsRun, AreRuns, IsNoted, IsFilled}
+use Rattle.sf_block.specs.Blocks.{entry_in, byte_in, bytes_from, IsRun, AreRuns, IsNoted, IsHeld, IsRunOf, block_in}
 use Rattle.sf_block.proofs.Places.{are_bytes}
 
 -- the same blocks
@@ -49,28 +49,31 @@ runs_noted old new f g len start bytes some are kept laid noted = λ k run at. e
       }
 ]
 
--- runs that are filled were put in
-pub runs_filled : (old filled new : List (ℕ × List ℕ)) (g : ℕ → List ℕ) (len start : ℕ) (bytes : List ℕ) → start + length bytes ≤ len → AreRuns old g len
-    → ((i : ℕ) → start ≤ i → i < start + length bytes → byte_in g i ≡ get_or bytes (i - start) 0)
-    → ((k : ℕ) (run : List ℕ) → entry_in filled k ≡ Some run → IsFilled start bytes k run)
-    → ((k : ℕ) (run : List ℕ) → entry_in new k ≡ Some run → (entry_in filled k ≡ Some run) ⊎ (entry_in old k ≡ Some run)) → AreRuns new g len
-runs_filled old filled new g len start bytes within are laid filling put = λ k run at. elim (put k run at) [
-  | inr was ↦ are k run was
-  | inl is ↦
-      let f = filling k run is in
-      let n = min (start + length bytes) (k * 32768 + 32768) - max start (k * 32768) in
-      let d = max start (k * 32768) - start in
-      let a : length (drop d bytes) ≡ length bytes - d = length-drop d bytes in
-      let b : length (take n (drop d bytes)) ≡ min n (length (drop d bytes)) = length-take n (drop d bytes) in
+-- a run was put in whose blocks are in their places
+pub runs_held : (old new : List (ℕ × List ℕ)) (blocks : List (ℕ × List (List ℕ))) (g : ℕ → List ℕ) (first : ℕ) (bytes : List ℕ) (len end : ℕ)
+    → AreRuns old g len → IsHeld blocks first bytes → (0 < length bytes → first + length bytes / 4096 ≤ end) → ((k : ℕ) → k < end → g k ≡ block_in blocks k)
+    → ((k : ℕ) (run : List ℕ) → entry_in new k ≡ Some run → (entry_in old k ≡ Some run) ⊎ IsRunOf first bytes len k run) → AreRuns new g len
+runs_held old new blocks g first bytes len end are held ends same put = λ k run at. elim (put k run at) [
+  | inl was ↦ are k run was
+  | inr is ↦
       record {
-        whole = ap (λ (x : List ℕ). length x) f.is ∙ omega (arith, a, b, f.from, f.to);
-        within = omega (arith, within, f.to);
+        whole = ap (λ (x : List ℕ). length x) is.is ∙ is.whole;
+        within = is.within;
         bytes = λ i lt.
-            ap (λ (x : List ℕ). get_or x i 0) f.is
-            ∙ get_or-take n (drop d bytes) i 0 (omega (arith, lt, f.from, f.to))
-            ∙ get_or-drop d bytes i 0
-            ∙ ap (λ j. get_or bytes j 0) (omega (arith, f.from))
-            ∙ sym (laid (k * 32768 + i) (omega (arith, f.from)) (omega (arith, lt, f.to)));
+            let j = i / 4096 in
+            let few : j < length bytes / 4096 = omega (arith, lt, is.whole) in
+            let last : first + length bytes / 4096 ≤ end = ends (omega (arith, is.whole)) in
+            let cut : i ≡ j * 4096 + i % 4096 = omega arith in
+            let block : first + j ≡ (k * 32768 + i) / 4096 = omega (arith, is.at) in
+            let place : i % 4096 ≡ (k * 32768 + i) % 4096 = omega arith in
+            ap (λ (x : List ℕ). get_or x i 0) is.is
+            ∙ ap (λ n. get_or bytes n 0) cut
+            ∙ sym (get_or-drop (j * 4096) bytes (i % 4096) 0)
+            ∙ sym (get_or-take 4096 (drop (j * 4096) bytes) (i % 4096) 0 (omega arith))
+            ∙ sym (ap (λ (b : List ℕ). get_or b (i % 4096) 0) (held.are j few))
+            ∙ sym (ap (λ (b : List ℕ). get_or b (i % 4096) 0) (same (first + j) (omega (arith, few, last))))
+            ∙ ap (λ n. get_or (g n) (i % 4096) 0) block
+            ∙ ap (λ n. get_or (g ((k * 32768 + i) / 4096)) n 0) place;
       }
 ]
 

@@ -87,14 +87,26 @@ IsNoted old offset bytes k run =
     × ((k < offset / 32768) ⊎ ((offset + length bytes - 1) / 32768 < k)))
     ⊎ ((run ≡ bytes) × (length bytes ≡ 32768) × (offset ≡ k * 32768))
 
--- the part of some bytes from a start on that lies in a run
-abbrev pub piece_in : ℕ → List ℕ → ℕ → List ℕ
-piece_in start bytes r =
-    take (min (start + length bytes) (r * 32768 + 32768) - max start (r * 32768))
-    (drop (max start (r * 32768) - start) bytes)
+-- copies of blocks that were put in place: the number of the first, and all their bytes
+pub record Filled : Type 0 where
+  pub from : ℕ
+  pub bytes : List ℕ
 
--- a run is filled by bytes from a start on: it is the part of them that lies in it
-pub record IsFilled (start : ℕ) (bytes : List ℕ) (k : ℕ) (run : List ℕ) : Type 0 where
-  pub from : start ≤ k * 32768
-  pub to : k * 32768 + 32768 ≤ start + length bytes
-  pub is : run ≡ piece_in start bytes k
+-- whole blocks from a number on have these bytes, one behind another, each in its place
+pub record IsHeld (blocks : List (ℕ × List (List ℕ))) (first : ℕ) (bytes : List ℕ) : Type 0 where
+  pub whole : length bytes % 4096 ≡ 0
+  pub places : (j : ℕ) → j < length bytes / 4096 → HasPlace blocks (first + j)
+  pub are : (j : ℕ) → j < length bytes / 4096
+      → block_in blocks (first + j) ≡ take 4096 (drop (j * 4096) bytes)
+
+-- the block behind the copies, if there are any, is the one of this number
+abbrev pub EndsBefore : Filled → ℕ → Type 0
+EndsBefore filled next =
+    0 < length filled.bytes → filled.from + length filled.bytes / 4096 ≡ next
+
+-- a run is these bytes, which are whole blocks from a number on, in a file that is long enough
+pub record IsRunOf (first : ℕ) (bytes : List ℕ) (len k : ℕ) (run : List ℕ) : Type 0 where
+  pub at : first ≡ k * 8
+  pub whole : length bytes ≡ 32768
+  pub within : k * 32768 + 32768 ≤ len
+  pub is : run ≡ bytes

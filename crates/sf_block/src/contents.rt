@@ -2,18 +2,16 @@
 
 ghost use Rattle.std.specs.Prelude.{◌≡◌, ◌⊎◌, ◌+◌, ◌++◌, ◌-◌, ◌*◌, ◌/◌, ◌%◌, ◌<◌, ◌≤◌, ◌^◌, ℕ, List, [], length, take, drop, slice_index_or, Some, IsSome, IfOk, OnOk, OnErr};
 ghost use Rattle.sf_block.specs.Contents.{whole, resized, written, writing, blocks_of};
-ghost use Rattle.sf_block.specs.Blocks.{entry_in, block_in, block_written, bytes_from, piece_in, HasBytes, IsFilled};
+ghost use Rattle.sf_block.specs.Blocks.{entry_in, block_in, block_written, bytes_from, HasPlace, HasBytes, IsHeld, IsRunOf};
 
 use crate::blocks::Blocks;
+use crate::filling::Filling;
 use crate::runs::Runs;
-use crate::{BLOCK, LEAST_SHARED, RUN};
+use crate::{BLOCK, LEAST_SHARED, MOST_SHARED, ROW, RUN};
 use sf_field::ByteString;
 use std::alloc::{AllocError, Global};
+use std::collections::VecDeque;
 use std::marker::Model;
-
-/// A write's bytes are shared with its blocks up to so many of them: else a block could keep more
-/// alive.
-const MOST_SHARED: usize = 32768;
 
 /// The bytes of a file.
 #[derive(Debug)]
@@ -22,8 +20,10 @@ pub struct Contents {
     blocks: Blocks,
     /// The number of the first block that waits to take its place.
     first: u64,
-    /// The blocks that wait, of which the last one goes first. Each has a place.
-    fresh: Vec<ByteString>,
+    /// The blocks that wait, of which the first one goes first. Each has a place.
+    fresh: VecDeque<ByteString>,
+    /// Copies of the last ones that took their places.
+    filling: Filling,
     runs: Runs,
 }
 
@@ -35,6 +35,7 @@ impl Drop for Contents {
             blocks: _blocks,
             first: _,
             fresh: _fresh,
+            filling: _filling,
             runs: _runs,
         } = self;
     }
@@ -43,7 +44,7 @@ impl Drop for Contents {
 impl Model for Contents {
     ghost use Rattle.std.specs.Prelude.{ℕ, ◌≡◌, ◌+◌, ◌^◌, ◌<◌, ◌≤◌, length};
     ghost use Rattle.sf_block.specs.Contents.{FileBytes};
-    ghost use Rattle.sf_block.specs.Blocks.{HasPlace, block_now, byte_in, bytes_from, AreRuns};
+    ghost use Rattle.sf_block.specs.Blocks.{HasPlace, block_now, byte_in, bytes_from, AreRuns, IsHeld, EndsBefore};
 
     ghost Value = { FileBytes };
 
@@ -58,7 +59,10 @@ impl Model for Contents {
         × ((k : ℕ) → c.first ≤ k → k < c.first + length c.fresh.items
         → HasPlace c.blocks k)
         × (c.first + length c.fresh.items < 2 ^ 64)
-        × AreRuns c.runs (block_now c.blocks c.first c.fresh.items) c.len };
+        × AreRuns c.runs (block_now c.blocks c.first c.fresh.items) c.len
+        × IsHeld c.blocks c.filling.from c.filling.bytes
+        × EndsBefore c.filling c.first
+        × (length c.fresh.items ≡ 0 → length c.filling.bytes ≡ 0) };
 }
 
 impl Contents {
@@ -70,7 +74,8 @@ impl Contents {
             len: 0,
             blocks: Blocks::new(alloc),
             first: 0,
-            fresh: Vec::new(alloc),
+            fresh: VecDeque::new(alloc),
+            filling: Filling::new(alloc),
             runs: Runs::new(alloc),
         }
     }
@@ -84,7 +89,8 @@ impl Contents {
             len: self.len,
             blocks: self.blocks.try_copy(alloc)?,
             first: self.first,
-            fresh: Vec::new(alloc),
+            fresh: VecDeque::new(alloc),
+            filling: Filling::new(alloc),
             runs: self.runs.try_copy(alloc)?,
         })
     }
@@ -117,30 +123,41 @@ impl Contents {
         ensures ok { OnOk result (self.new ≡ writing self.old.bytes offset bytes.now) }
         ensures err { OnErr result (self.new ≡ self.old) }
     {
-        let mut filled = Runs::new(alloc);
-        let fresh = renewed(alloc, &self.blocks, offset, bytes, &mut filled)?;
+        let fresh = renewed(alloc, &self.blocks, offset, bytes)?;
+        let filling = Filling::reserve(alloc, offset, bytes.len())?;
         let first = offset / BLOCK;
         self.blocks.make_places(alloc, first, fresh.len())?;
         self.first = first;
-        self.fresh = fresh;
+        self.fresh = VecDeque::from_vec(fresh);
+        self.filling = filling;
         self.len = self.len.max(offset + bytes.len() as u64);
         self.runs.note(offset, bytes);
-        self.runs.take_in(filled);
         Ok(())
     }
 
-    /// Copies one block of a write: puts it in place. It takes no memory.
+    /// Copies one block of a write, and puts it in place. It needs no memory: where the owners of a
+    /// run's copy can't be counted for want of it, its blocks go on sharing the write's bytes.
     pub fn copy_block(&mut self)
         requires { 0 < self.old.left }
         ensures { self.new ≡ record { bytes = self.old.bytes; left = self.old.left - 1 } }
     {
-        if let Some(block) = self.fresh.pop() {
-            let number = self.first + self.fresh.len() as u64;
+        if let Some(block) = self.fresh.pop_front() {
+            let number = self.first;
+            let copied = self.filling.push(number, block.as_slice());
             self.blocks.put(number, block);
+            self.first = number + 1;
+            if !copied || self.first % ROW == 0 || self.fresh.is_empty() {
+                settle(
+                    &mut self.blocks,
+                    &mut self.runs,
+                    &mut self.filling,
+                    self.len,
+                );
+            }
         }
     }
 
-    /// Copies all blocks that are left of a write. It takes no memory.
+    /// Copies all blocks that are left of a write. It needs no memory.
     pub fn copy_rest(&mut self)
         ensures { self.new ≡ whole self.old.bytes }
     {
@@ -201,62 +218,9 @@ impl Contents {
     }
 }
 
-/// The blocks that a write changes, as it leaves them. More bytes than are shared are copied run by
-/// run, and the runs that they fill are put in.
-fn renewed(
-    alloc: Global,
-    blocks: &Blocks,
-    offset: u64,
-    bytes: &ByteString,
-    filled: &mut Runs,
-) -> Result<Vec<ByteString>, AllocError>
-    requires some { 0 < length bytes.now }
-    requires fits { offset + length bytes.now < 2 ^ 64 }
-    requires small { (k : ℕ) → length (block_in blocks.now k) ≤ 4096 }
-    ensures count { IfOk result (λ fresh. length fresh.items ≡ blocks_of offset bytes.now) }
-    ensures blocks { IfOk result (λ fresh. (j : ℕ) → j < length fresh.items
-        → slice_index_or fresh.items j []
-        ≡ block_written (block_in blocks.now) offset bytes.now (offset / 4096 + j)) }
-    ensures filled { (k : ℕ) (run : List ℕ) → entry_in filled.new k ≡ Some run
-        → (entry_in filled.old k ≡ Some run) ⊎ IsFilled offset bytes.now k run }
-{
-    if bytes.len() <= MOST_SHARED {
-        return sharing(alloc, blocks, offset, bytes);
-    }
-    let end = offset + bytes.len() as u64;
-    let mut fresh = Vec::new(alloc);
-    for run in offset / RUN..(end - 1) / RUN + 1 {
-        let start = offset.max(run * RUN);
-        let piece = piece_of(alloc, run, offset, bytes)?;
-        let mut more = sharing(alloc, blocks, start, &piece)?;
-        fresh.append(&mut more)?;
-        filled.note(start, &piece);
-    }
-    Ok(fresh)
-}
-
-/// A copy of the bytes of a write that lie in a run.
-fn piece_of(
-    alloc: Global,
-    run: u64,
-    offset: u64,
-    bytes: &ByteString,
-) -> Result<ByteString, AllocError>
-    requires fits { offset + length bytes.now < 2 ^ 64 }
-    requires from { offset < run * 32768 + 32768 }
-    requires to { run * 32768 < offset + length bytes.now }
-    ensures { IfOk result (λ piece. piece ≡ piece_in offset bytes.now run) }
-{
-    let start = offset.max(run * RUN);
-    let end = (offset + bytes.len() as u64).min((run * RUN).saturating_add(RUN));
-    let from = (start - offset) as usize;
-    let to = (end - offset) as usize;
-    ByteString::from_slice(alloc, &bytes.as_slice()[from..to])
-}
-
 /// The blocks that a write changes, as it leaves them: parts of its bytes, where these are all that
 /// a block has.
-fn sharing(
+fn renewed(
     alloc: Global,
     blocks: &Blocks,
     offset: u64,
@@ -306,7 +270,7 @@ fn block_with(
 }
 
 /// A block's bytes, with a part of others written over them from a place on: where that is all of
-/// them, it is shared.
+/// them, and these aren't too many, it is shared.
 fn with_part(
     alloc: Global,
     old: &[u8],
@@ -321,7 +285,7 @@ fn with_part(
         ≡ written old.now place (take (to - from) (drop from bytes.now))) }
 {
     let n = to - from;
-    if place == 0 && n >= old.len() && n >= LEAST_SHARED {
+    if place == 0 && n >= old.len() && n >= LEAST_SHARED && bytes.len() <= MOST_SHARED {
         return bytes.part(from, to);
     }
     spliced(alloc, old, place, &bytes.as_slice()[from..to])
@@ -339,6 +303,44 @@ fn spliced(alloc: Global, old: &[u8], place: usize, bytes: &[u8]) -> Result<Byte
     block.extend_from_slice(bytes)?;
     block.extend_from_slice(&old[end.min(old.len())..])?;
     ByteString::from_vec(block)
+}
+
+/// Puts blocks that were copied in the places of the same ones, which share a write's bytes, so that
+/// those go. A run is put in. Where there is no memory for the owners, all stays.
+fn settle(blocks: &mut Blocks, runs: &mut Runs, filling: &mut Filling, len: u64)
+    requires held { IsHeld blocks.old filling.old.from filling.old.bytes }
+    requires fits { filling.old.from + length filling.old.bytes / 4096 < 2 ^ 64 }
+    ensures same { (k : ℕ) → block_in blocks.new k ≡ block_in blocks.old k }
+    ensures kept { (k : ℕ) → HasPlace blocks.old k → HasPlace blocks.new k }
+    ensures empty { filling.new.bytes ≡ [] }
+    ensures runs { (k : ℕ) (run : List ℕ) → entry_in runs.new k ≡ Some run
+        → (entry_in runs.old k ≡ Some run)
+        ⊎ IsRunOf filling.old.from filling.old.bytes len k run }
+{
+    if let Some((first, bytes)) = filling.take() {
+        if let Ok(run) = ByteString::from_vec(bytes) {
+            share(blocks, first, &run);
+            let number = first / ROW;
+            if first % ROW == 0 && run.len() as u64 == RUN && number < len / RUN {
+                runs.put(number, run);
+            }
+        }
+    }
+}
+
+/// Puts parts of a buffer in the places of blocks that have the same bytes.
+fn share(blocks: &mut Blocks, first: u64, buffer: &ByteString)
+    requires held { IsHeld blocks.old first buffer.now }
+    requires fits { first + length buffer.now / 4096 < 2 ^ 64 }
+    ensures same { (k : ℕ) → block_in blocks.new k ≡ block_in blocks.old k }
+    ensures kept { (k : ℕ) → HasPlace blocks.old k → HasPlace blocks.new k }
+{
+    for i in 0..buffer.len() as u64 / BLOCK {
+        let from = (i * BLOCK) as usize;
+        if let Ok(part) = buffer.part(from, from + BLOCK as usize) {
+            blocks.put(first + i, part);
+        }
+    }
 }
 
 /// A copy of the bytes from a place on.

@@ -4,13 +4,15 @@
 //! what a new size makes of them (`resized`), and a write (`written`), as POSIX's `ftruncate` and
 //! `pwrite` do. Inside, `Contents` has blocks of 4096 bytes, eight in a row, under their numbers
 //! (`specs/Blocks.antt`); one that is missing is zeros, so that a gap takes no memory. A write
-//! makes all its blocks first, and is refused whole; to put one in place takes no memory. So
-//! contracts see of `Contents` a count of blocks that are still to be copied, too.
+//! first takes all room that it needs, or is refused whole; then its blocks are copied one by one,
+//! which needs no memory. So contracts see of `Contents` a count of blocks that are still to be
+//! copied, too.
 #![tactic(auto)]
 
 mod blocks;
 mod contents;
 mod copies;
+mod filling;
 mod laws;
 mod row;
 mod runs;
@@ -31,3 +33,7 @@ const RUN: u64 = 32768;
 
 /// Bytes of a block that are fewer than so many have a buffer of their own.
 const LEAST_SHARED: usize = 2048;
+
+/// A write's bytes are shared with its blocks up to so many of them: else a block could keep more
+/// alive.
+const MOST_SHARED: usize = 32768;

@@ -73,7 +73,7 @@ impl Runs {
     }
 
     /// Puts a run in, if there is memory for its place.
-    fn put(&mut self, number: u64, run: ByteString)
+    pub(crate) fn put(&mut self, number: u64, run: ByteString)
         ensures { (k : ℕ) (other : List ℕ) → entry_in self.new k ≡ Some other
             → ((k ≡ number) × (other ≡ run)) ⊎ (entry_in self.old k ≡ Some other) }
     {
@@ -93,16 +93,6 @@ impl Runs {
             if let Ok(run) = bytes.share() {
                 self.put(offset / RUN, run);
             }
-        }
-    }
-
-    /// Puts other runs in, as far as there is memory for their places.
-    pub(crate) fn take_in(&mut self, mut others: Runs)
-        ensures { (k : ℕ) (run : List ℕ) → entry_in self.new k ≡ Some run
-            → (entry_in others k ≡ Some run) ⊎ (entry_in self.old k ≡ Some run) }
-    {
-        while let Some((number, run)) = others.map.pop_last() {
-            self.put(number, run);
         }
     }
 

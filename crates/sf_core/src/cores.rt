@@ -198,7 +198,7 @@ impl Core {
         Ok(Some(answer))
     }
 
-    /// One step of the lane's call. It takes no memory where it moves or blocks, but for a WRITE's
+    /// One step of the lane's call. It needs no memory where it moves or blocks, but for a WRITE's
     /// first step.
     pub fn step(&mut self, lane: &mut Lane) -> Step
         requires { IsSome lane.old.call }

@@ -376,7 +376,7 @@ impl Parts {
     }
 
     /// Copies one block of a WRITE, and tells how many are left: with none left it holds its file
-    /// no more. It takes no memory.
+    /// no more. It needs no memory.
     pub(crate) fn copy(&mut self, number: u64) -> usize
         requires { IsCopyingOn self.old number }
         ensures { (node : ℕ) (left : ℕ) → CopiesNow self.old number node left
@@ -431,7 +431,7 @@ impl Parts {
         }
     }
 
-    /// Copies what is left of a WRITE: it holds its file no more. It takes no memory.
+    /// Copies what is left of a WRITE: it holds its file no more. It needs no memory.
     fn finish_write(&mut self, writer: Writer)
         ensures { self.new ≡ write_finished self.old writer.number writer.node }
     {

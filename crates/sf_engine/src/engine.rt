@@ -220,7 +220,7 @@ impl Engine {
 
     /// Rounds, up to where no call is under way: in each, every session whose call is under way makes
     /// one step, by rising number, which is a turn at the moment 0. How many there were is told.
-    /// Answers wait for later turns. Takes no memory, and isn't refused.
+    /// Answers wait for later turns. Needs no memory, and isn't refused.
     pub fn run_all(&mut self) -> u64
         ensures rounds { HasRounds result self.old self.new }
         ensures few { IsWithinBounds result self.old }

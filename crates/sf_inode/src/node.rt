@@ -201,7 +201,7 @@ impl Node {
         }
     }
 
-    /// Copies one block of a file that is being written. It takes no memory.
+    /// Copies one block of a file that is being written. It needs no memory.
     pub(crate) fn copy_block(&mut self)
         requires { 0 < left_in self.old.content }
         ensures { self.new ≡ with_content (with_left (left_in self.old.content - 1)) self.old }
@@ -211,7 +211,7 @@ impl Node {
         }
     }
 
-    /// Copies all blocks of a file that are left. It takes no memory.
+    /// Copies all blocks of a file that are left. It needs no memory.
     pub(crate) fn copy_rest(&mut self)
         ensures { self.new ≡ with_content (with_left 0) self.old }
     {

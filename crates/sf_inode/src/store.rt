@@ -390,7 +390,7 @@ impl Store {
         }
     }
 
-    /// Copies one block of a file that is being written. It takes no memory.
+    /// Copies one block of a file that is being written. It needs no memory.
     pub fn copy_block(&mut self, node: NodeId)
         requires { 0 < left_at self.old.nodes node }
         ensures { self.new ≡ left_set self.old node (left_at self.old.nodes node - 1) }
@@ -400,7 +400,7 @@ impl Store {
         }
     }
 
-    /// Copies all blocks of a file that are left. It takes no memory.
+    /// Copies all blocks of a file that are left. It needs no memory.
     pub fn copy_rest(&mut self, node: NodeId)
         ensures { self.new ≡ left_set self.old node 0 }
     {

@@ -3,6 +3,7 @@ use Rattle.sf_block.specs.Contents.{FileBytes, resized}
 use Rattle.sf_block.specs.Blocks.{block_in, block_now, byte_in, bytes_from}
 use Rattle.sf_block.proofs.Places.{sized, if_below, if_above, same_file}
 use Rattle.sf_block.proofs.Waiting.{now_none}
+use Rattle.sf_block.proofs.Holding.{held_none}
 use Rattle.sf_block.proofs.Running.{runs_longer, runs_cut}
 use Rattle.sf_block.proofs.contents.Contents.set_len.Goals as goal
 
@@ -39,6 +40,9 @@ invariant_of-self c =
       c.self.invariant.2,
       c.self.invariant.3,
       runs_longer inside.runs (block_now inside.blocks inside.first inside.fresh.items) inside.len c.args.n longer c.self.invariant.4,
+      c.self.invariant.5,
+      c.self.invariant.6,
+      c.self.invariant.7,
     )
 
 pub invariant_of-self-2 : goal.invariant_of-self-2
@@ -51,6 +55,7 @@ invariant_of-self-2 c =
     let none : length fresh ≡ 0 = ap (λ (v : FileBytes). v.left) c.self.view_is ∙ c.requires in
     let here : (i : ℕ) → byte_in now i ≡ byte_in (block_in cut) i = λ i. ap (λ (b : List ℕ). get_or b (i % 4096) 0) (now_none cut inside.first fresh none (i / 4096)) in
     let was : (i : ℕ) → byte_in block i ≡ byte_in (block_in inside.blocks) i = λ i. ap (λ (b : List ℕ). get_or b (i % 4096) 0) (now_none inside.blocks inside.first fresh none (i / 4096)) in
+    let empty : length inside.filling.bytes ≡ 0 = c.self.invariant.7 none in
     let small : (k : ℕ) → length (now k) ≤ 4096 = λ k.
     omega (arith, ap (λ (b : List ℕ). length b) (now_none cut inside.first fresh none k), c.cut.ensures.less k, ap (λ (b : List ℕ). length b) (now_none inside.blocks inside.first fresh none k), c.self.invariant.0 k) in (
       small,
@@ -60,4 +65,7 @@ invariant_of-self-2 c =
       runs_cut inside.runs c.cut-2.new.self block now inside.len c.args.n c.self.invariant.4
           (λ i lt. here i ∙ c.cut.ensures.bytes i ∙ if_below i c.args.n (byte_in (block_in inside.blocks) i) 0 lt ∙ sym (was i))
           c.cut-2.ensures,
+      held_none cut inside.filling.from inside.filling.bytes empty,
+      c.self.invariant.6,
+      c.self.invariant.7,
     )

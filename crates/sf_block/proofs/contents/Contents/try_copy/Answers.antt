@@ -2,6 +2,7 @@ use Rattle.std.proofs.Common.{◌%◌, get_or, subst, ◌≡◌, ◌/◌, ◌∙
 use Rattle.sf_block.specs.Contents.{FileBytes}
 use Rattle.sf_block.specs.Blocks.{block_in, block_now, AreRuns}
 use Rattle.sf_block.proofs.Waiting.{now_none}
+use Rattle.sf_block.proofs.Holding.{held_none}
 use Rattle.sf_block.proofs.Running.{runs_same}
 use Rattle.sf_block.proofs.contents.Contents.try_copy.Goals as goal
 
@@ -13,6 +14,7 @@ invariant_of-result c =
     let fresh : List (List ℕ) = c.new.result.items in
     let none : length inside.fresh.items ≡ 0 = ap (λ (v : FileBytes). v.left) c.self.view_is ∙ c.requires in
     let empty : length fresh ≡ 0 = ap (λ (x : List (List ℕ)). length x) c.new.ensures.items in
+    let nothing : length c.new-2.result.bytes ≡ 0 = ap (λ (x : List ℕ). length x) c.new-2.ensures in
     let same : (k : ℕ) → block_now new inside.first fresh k ≡ block_now old inside.first inside.fresh.items k = λ k.
     now_none new inside.first fresh empty k ∙ ap (λ (b : List (ℕ × List (List ℕ))). block_in b k) c.in_ok-try_copy.ensures ∙ sym (now_none old inside.first inside.fresh.items none k) in (
       λ k. omega (arith, ap (λ (b : List ℕ). length b) (same k), c.self.invariant.0 k),
@@ -21,4 +23,7 @@ invariant_of-result c =
       omega (arith, empty, c.self.invariant.3),
       subst (λ (r : List (ℕ × List ℕ)). AreRuns r (block_now new inside.first fresh) inside.len) (sym c.in_ok-try_copy-2.ensures)
           (runs_same inside.runs (block_now old inside.first inside.fresh.items) (block_now new inside.first fresh) inside.len same c.self.invariant.4),
+      held_none new c.new-2.result.from c.new-2.result.bytes nothing,
+      λ some. absurd (omega (arith, some, nothing)),
+      λ none. nothing,
     )
