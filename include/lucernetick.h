@@ -45,7 +45,8 @@ extern "C" {
 
 typedef struct lt_engine lt_engine;
 
-/* Refusals. A refused call has changed nothing, and may be made again. */
+/* Refusals. A refused call has changed nothing, and may be made again; but what lt_make_directory, lt_write_file and
+ * lt_link did before they were refused stays. */
 enum {
     LT_OUT_OF_MEMORY = -1,
     LT_NO_SUCH_SESSION = -2, /* no session of this number was ever opened */
@@ -53,8 +54,14 @@ enum {
     LT_HAS_ENDED = -4,       /* the session has ended or was closed, and takes no more bytes */
     LT_NUMBERS_SPENT = -5,   /* 2^63 - 1 sessions were opened */
     LT_NOT_SENT = -6,        /* fewer bytes wait to be sent */
-    LT_BAD_POINTER = -7      /* NULL for an engine, NULL for bytes where the length isn't 0, or a length
+    LT_BAD_POINTER = -7,     /* NULL for an engine, NULL for bytes where the length isn't 0, or a length
                                 above PTRDIFF_MAX */
+    /* By the functions for trees alone: */
+    LT_IS_BLOCKED = -8,     /* the call of another session, which has yet to take its turns, is in the way */
+    LT_TOO_LARGE = -9,      /* a file has more than 2^30 bytes, as many as a walk takes */
+    LT_LONG_PATH = -10,     /* a path, or both of a link, have more bytes than a packet has room for: 262080 */
+    LT_NO_REPLY = -11,      /* not the reply that was due */
+    LT_STATUS_BASE = -100   /* a request was answered by a status: LT_STATUS_BASE - its code */
 };
 
 /* What a turn did. */
@@ -179,7 +186,7 @@ typedef struct lt_attributes {
     uint32_t mtime;
 } lt_attributes;
 
-/* So many bytes, without an end of their own. */
+/* So many bytes, without an end of their own. Where the length is 0, `at` may be NULL. */
 typedef struct lt_bytes {
     const uint8_t *at;
     size_t length;
@@ -211,6 +218,59 @@ typedef struct lt_call {
  * many there are. Where `at` is less, `*call` is set to the record there; its bytes are the engine's, until the next call
  * of any function on it. */
 int64_t lt_calls(lt_engine *engine, uint64_t at, lt_call *call);
+
+/* The request that a function for trees stopped at. */
+typedef struct lt_place {
+    uint64_t length; /* how many bytes of the path it was on: the front of the one that was given, or all of it */
+    uint32_t kind;   /* as an lt_call's, or LT_INIT; 0 where nothing was refused, or no request */
+} lt_place;
+
+/* An lt_place's `kind` where no session began. */
+enum { LT_INIT = 1 };
+
+/* The functions for trees make requests, one after another, by sessions of their own, which begin at the next number
+ * and end; they are recorded as others are (lt_calls). No other session takes a turn meanwhile. They answer 0, or why
+ * they were refused; `*place` is set to where, and may be NULL. Where they answer LT_IS_BLOCKED, the request stays under
+ * way in its session, which gets no further turn but by lt_run_all: it may hold a directory until then, and the session
+ * is one of the 256 from then on. The calls begin at `moment`. */
+
+/* Makes the directory of this path, and those on its way, where they are missing. */
+int64_t lt_make_directory(lt_engine *engine, lt_bytes path, uint32_t moment, lt_place *place);
+
+/* Makes a file with these contents, or replaces its contents. Directories on its way are made where they are
+ * missing. */
+int64_t lt_write_file(lt_engine *engine, lt_bytes path, lt_bytes contents, uint32_t moment, lt_place *place);
+
+/* Gives the file at the path the new one too. Directories on the new path's way are made where they are missing. It
+ * is refused where the new path is there already. The place's length is of the new path. */
+int64_t lt_link(lt_engine *engine, lt_bytes path, lt_bytes new_path, uint32_t moment, lt_place *place);
+
+/* What a walk found. */
+typedef struct lt_tree lt_tree;
+
+/* A file or directory, by one of its paths. */
+typedef struct lt_entry {
+    lt_bytes path;            /* from / on */
+    lt_bytes contents;        /* of a file */
+    lt_attributes attributes; /* as a listing tells them: all are given */
+    uint64_t links;           /* how many names a file has; 1 for a directory */
+    uint64_t file;            /* a file's number, from 1 on, which all of its names share; 0 for a directory */
+} lt_entry;
+
+/* Walks the whole tree from / on, and sets `*tree` to what it found, which lt_tree_free frees: also where it is refused,
+ * then with the entry that it stopped at, or none. A tree may be NULL, which has none.
+ *
+ * No reply tells which names are of one file: where files have several names, their atimes are set for a moment, by one
+ * session more, and set back, also where that is refused. Only if setting back is refused, as for want of memory, does
+ * one of them stay, and the refusal is answered. */
+int64_t lt_walk(lt_engine *engine, uint32_t moment, lt_tree **tree, lt_place *place);
+
+/* The entries, by their places in the order of the bytes of their paths, / at 0. Answers how many there are. Where `at` is
+ * less, `*entry` is set to the one there; its bytes are the tree's, until the next call of any function on it. */
+int64_t lt_tree_entry(lt_tree *tree, uint64_t at, lt_entry *entry);
+
+/* Frees what a walk found. NULL: does nothing. */
+void lt_tree_free(lt_tree *tree);
 
 #ifdef __cplusplus
 }

@@ -15,6 +15,22 @@ struct lt_engine {
     size_t capacity;
 };
 
+/* What the crate has of a walk, its box or NULL, and room for the bytes of an entry. */
+struct lt_tree {
+    void *at;
+    uint8_t *room;
+    size_t capacity;
+};
+
+/* An entry as the crate tells it, in `src/trees.rt`. */
+struct leaf {
+    lt_attributes attributes;
+    uint64_t links;
+    uint64_t file;
+    uint64_t path;
+    uint64_t contents;
+};
+
 /* A record as the crate tells it, in `src/told.rt`. */
 struct asked {
     lt_attributes attributes;
@@ -56,6 +72,15 @@ int64_t lucernetick_close(lt_engine *engine, uint64_t session);
 int64_t lucernetick_output(lt_engine *engine, uint64_t session, uint8_t *room, size_t length);
 int64_t lucernetick_sent(lt_engine *engine, uint64_t session, size_t count);
 int64_t lucernetick_call(lt_engine *engine, uint64_t at, struct told *told, uint8_t *room, size_t length);
+int64_t lucernetick_make_directory(lt_engine *engine, const uint8_t *path, size_t length, uint32_t moment,
+                                   lt_place *at);
+int64_t lucernetick_write_file(lt_engine *engine, const uint8_t *path, size_t path_length,
+                               const uint8_t *contents, size_t length, uint32_t moment, lt_place *at);
+int64_t lucernetick_link(lt_engine *engine, const uint8_t *old_path, size_t old_length,
+                         const uint8_t *new_path, size_t new_length, uint32_t moment, lt_place *at);
+int64_t lucernetick_walk(lt_engine *engine, lt_tree *tree, uint32_t moment, lt_place *at);
+int64_t lucernetick_tree_entry(lt_tree *tree, uint64_t at, struct leaf *leaf, uint8_t *room, size_t length);
+void lucernetick_tree_free(lt_tree *tree);
 
 /* Whether so many bytes may be there. */
 static int are_bytes(const uint8_t *bytes, size_t length)
@@ -68,8 +93,33 @@ const char *lt_version(void)
     return LT_VERSION;
 }
 
+/* The text of a status, by its code. */
+static const char *status_text(int64_t code)
+{
+    switch (code) {
+    case 0:
+        return "Success";
+    case 1:
+        return "End of file";
+    case 2:
+        return "No such file";
+    case 3:
+        return "Permission denied";
+    case 4:
+        return "Failure";
+    case 5:
+        return "Bad message";
+    case 8:
+        return "Operation unsupported";
+    default:
+        return "an unknown refusal";
+    }
+}
+
 static const char *refusal_text(int64_t answer)
 {
+    if (answer <= LT_STATUS_BASE)
+        return status_text(LT_STATUS_BASE - answer);
     switch (answer) {
     case LT_OUT_OF_MEMORY:
         return "out of memory";
@@ -85,6 +135,14 @@ static const char *refusal_text(int64_t answer)
         return "fewer bytes wait to be sent";
     case LT_BAD_POINTER:
         return "the engine was closed, or a pointer is NULL, or a length too large";
+    case LT_IS_BLOCKED:
+        return "the call of another session is in the way";
+    case LT_TOO_LARGE:
+        return "a file is too large for a walk";
+    case LT_LONG_PATH:
+        return "a path is too long for a packet";
+    case LT_NO_REPLY:
+        return "not the reply that was due";
     default:
         return "an unknown refusal";
     }
@@ -252,15 +310,15 @@ static lt_call call_of(const struct told *told, const uint8_t *bytes)
 }
 
 /* Makes room for so many bytes. Answers whether there is memory for it. */
-static bool make_room(lt_engine *engine, size_t length)
+static bool make_room(uint8_t **room, size_t *capacity, size_t length)
 {
-    if (length <= engine->capacity)
+    if (length <= *capacity)
         return true;
-    uint8_t *room = realloc(engine->room, length);
-    if (room == NULL)
+    uint8_t *more = realloc(*room, length);
+    if (more == NULL)
         return false;
-    engine->room = room;
-    engine->capacity = length;
+    *room = more;
+    *capacity = length;
     return true;
 }
 
@@ -269,14 +327,14 @@ int64_t lt_calls(lt_engine *engine, uint64_t at, lt_call *call)
     struct told told;
     if (engine == NULL || call == NULL)
         return LT_BAD_POINTER;
-    if (!make_room(engine, 1))
+    if (!make_room(&engine->room, &engine->capacity, 1))
         return LT_OUT_OF_MEMORY;
     int64_t count = lucernetick_call(engine, at, &told, engine->room, engine->capacity);
     if (count < 0 || at >= (uint64_t)count)
         return count;
     uint64_t length = told.path + told.new_path + told.written + told.answer;
     if (length > engine->capacity) {
-        if (!make_room(engine, (size_t)length))
+        if (!make_room(&engine->room, &engine->capacity, (size_t)length))
             return LT_OUT_OF_MEMORY;
         count = lucernetick_call(engine, at, &told, engine->room, engine->capacity);
         if (count < 0)
@@ -284,4 +342,109 @@ int64_t lt_calls(lt_engine *engine, uint64_t at, lt_call *call)
     }
     *call = call_of(&told, engine->room);
     return count;
+}
+
+/* Whether these bytes may be there. */
+static int are_there(lt_bytes bytes)
+{
+    return are_bytes(bytes.at, bytes.length);
+}
+
+/* Where bytes are; none have a place of their own, since the crate wants one. */
+static const uint8_t *place_of(lt_bytes bytes)
+{
+    static const uint8_t none[1];
+    return bytes.length == 0 ? none : bytes.at;
+}
+
+/* Tells where a function stopped, and answers its number. */
+static int64_t stopped_at(int64_t answer, lt_place at, lt_place *place)
+{
+    if (place != NULL)
+        *place = at;
+    return answer;
+}
+
+int64_t lt_make_directory(lt_engine *engine, lt_bytes path, uint32_t moment, lt_place *place)
+{
+    lt_place at = {0};
+    int64_t answer = LT_BAD_POINTER;
+    if (engine != NULL && are_there(path))
+        answer = lucernetick_make_directory(engine, place_of(path), path.length, moment, &at);
+    return stopped_at(answer, at, place);
+}
+
+int64_t lt_write_file(lt_engine *engine, lt_bytes path, lt_bytes contents, uint32_t moment, lt_place *place)
+{
+    lt_place at = {0};
+    int64_t answer = LT_BAD_POINTER;
+    if (engine != NULL && are_there(path) && are_there(contents))
+        answer = lucernetick_write_file(engine, place_of(path), path.length, place_of(contents),
+                                        contents.length, moment, &at);
+    return stopped_at(answer, at, place);
+}
+
+int64_t lt_link(lt_engine *engine, lt_bytes path, lt_bytes new_path, uint32_t moment, lt_place *place)
+{
+    lt_place at = {0};
+    int64_t answer = LT_BAD_POINTER;
+    if (engine != NULL && are_there(path) && are_there(new_path))
+        answer = lucernetick_link(engine, place_of(path), path.length, place_of(new_path), new_path.length,
+                                  moment, &at);
+    return stopped_at(answer, at, place);
+}
+
+int64_t lt_walk(lt_engine *engine, uint32_t moment, lt_tree **tree, lt_place *place)
+{
+    lt_place at = {0};
+    if (tree != NULL)
+        *tree = NULL;
+    if (engine == NULL || tree == NULL)
+        return stopped_at(LT_BAD_POINTER, at, place);
+    lt_tree *found = malloc(sizeof *found);
+    if (found == NULL)
+        return stopped_at(LT_OUT_OF_MEMORY, at, place);
+    *found = (lt_tree){.at = NULL};
+    int64_t answer = lucernetick_walk(engine, found, moment, &at);
+    *tree = found;
+    return stopped_at(answer, at, place);
+}
+
+static lt_entry entry_of(const struct leaf *leaf, const uint8_t *bytes)
+{
+    lt_entry entry = {.attributes = leaf->attributes, .links = leaf->links, .file = leaf->file};
+    entry.path = next_bytes(&bytes, leaf->path);
+    entry.contents = next_bytes(&bytes, leaf->contents);
+    return entry;
+}
+
+int64_t lt_tree_entry(lt_tree *tree, uint64_t at, lt_entry *entry)
+{
+    struct leaf leaf;
+    if (entry == NULL)
+        return LT_BAD_POINTER;
+    if (tree == NULL || tree->at == NULL)
+        return 0;
+    if (!make_room(&tree->room, &tree->capacity, 1))
+        return LT_OUT_OF_MEMORY;
+    int64_t count = lucernetick_tree_entry(tree, at, &leaf, tree->room, tree->capacity);
+    if (count < 0 || at >= (uint64_t)count)
+        return count;
+    if (leaf.path + leaf.contents > tree->capacity) {
+        if (!make_room(&tree->room, &tree->capacity, (size_t)(leaf.path + leaf.contents)))
+            return LT_OUT_OF_MEMORY;
+        count = lucernetick_tree_entry(tree, at, &leaf, tree->room, tree->capacity);
+    }
+    *entry = entry_of(&leaf, tree->room);
+    return count;
+}
+
+void lt_tree_free(lt_tree *tree)
+{
+    if (tree == NULL)
+        return;
+    if (tree->at != NULL)
+        lucernetick_tree_free(tree);
+    free(tree->room);
+    free(tree);
 }

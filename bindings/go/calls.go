@@ -88,7 +88,8 @@ func (answer Answer) IsOK() bool {
 	return answer.Kind > AnswerStatus || answer.Kind == AnswerStatus && answer.Status == 0
 }
 
-// Calls has the records of calls that are kept, in the order in which they took effect, the oldest first.
+// Calls has the records of calls that are kept, in the order in which they took effect, the oldest first. Those
+// of WriteFiles and of snapshots are among them, by sessions of their own.
 func (engine *Engine) Calls() ([]Call, error) {
 	engine.lock.Lock()
 	defer engine.lock.Unlock()

@@ -30,6 +30,8 @@ const (
 	ErrNumbersSpent    Refusal = C.LT_NUMBERS_SPENT
 	ErrNotSent         Refusal = C.LT_NOT_SENT    // fewer bytes wait to be sent
 	ErrBadPointer      Refusal = C.LT_BAD_POINTER // the engine was closed
+	ErrLongPath        Refusal = C.LT_LONG_PATH   // a path has more bytes than a packet has room for: 262080
+	ErrNoReply         Refusal = C.LT_NO_REPLY    // not the reply that was due
 )
 
 // Error is the library's text.

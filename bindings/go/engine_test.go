@@ -171,10 +171,7 @@ func TestRefusals(t *testing.T) {
 // setSize sets a file's size by a SETSTAT.
 func setSize(t *testing.T, engine *Engine, path string, size uint64) {
 	t.Helper()
-	must(t, engine.request(0, func(client *requests) error {
-		attributes := append(number(1), binary.BigEndian.AppendUint64(nil, size)...)
-		return client.succeed("SETSTAT "+path, packetSetstat, text([]byte(path)), attributes)
-	}))
+	set(t, engine, path, append(number(1), binary.BigEndian.AppendUint64(nil, size)...))
 }
 
 func TestAFileTooLargeForASnapshot(t *testing.T) {

@@ -17,9 +17,9 @@ func alike(t *testing.T) *Engine {
 	t.Cleanup(engine.Close)
 	must(t, engine.Link("/b", "/c", 77))
 	must(t, engine.Link("/a", "/d/a", 77))
-	must(t, engine.request(900, func(client *requests) error {
-		return client.setBack([]string{"/a", "/b", "/d/e"}, attributes{atime: 5, mtime: 9})
-	}))
+	for _, path := range []string{"/a", "/b", "/d/e"} {
+		set(t, engine, path, append(number(8), append(number(5), number(9)...)...))
+	}
 	return engine
 }
 
@@ -134,33 +134,6 @@ func TestASnapshotThatIsRefusedLeavesAllAttributes(t *testing.T) {
 	same(t, numbersOf(snapshot(t, engine)), alikeNumbers)
 }
 
-func TestARequestThatFailsHalfWayLeavesAllAttributes(t *testing.T) {
-	engine := alike(t)
-	session := asker(t, engine)
-	before := lookedAt(t, session)
-	err := engine.request(0, func(client *requests) error {
-		seen, err := client.stat("/a")
-		must(t, err)
-		_, err = client.marks([]string{"/a", "/b", "/none", "/c"}, seen)
-		return err
-	})
-	var status *Status
-	same(t, errors.As(err, &status), true)
-	same(t, status.Request+": "+status.Message, "SETSTAT /none: No such file")
-	same(t, lookedAt(t, session), before)
-}
-
-func TestTimesAreSetBackPastWhatFails(t *testing.T) {
-	engine := alike(t)
-	err := engine.request(0, func(client *requests) error {
-		return client.setBack([]string{"/none", "/a"}, attributes{atime: 1, mtime: 2})
-	})
-	var status *Status
-	same(t, errors.As(err, &status), true)
-	found := snapshot(t, engine)["/d/a"]
-	same(t, []uint32{found.Atime, found.Mtime}, []uint32{1, 2})
-}
-
 func TestNoOtherSessionIsToldOfMarks(t *testing.T) {
 	engine := alike(t)
 	session := asker(t, engine)
@@ -212,6 +185,19 @@ func TestLinksThatAreRefused(t *testing.T) {
 		var status *Status
 		same(t, errors.As(engine.Link(names[0], names[1], 0), &status), true)
 		same(t, status.Code, code)
+		same(t, status.Request, "hardlink@openssh.com "+names[0]+" "+names[1])
 	}
 	same(t, numbersOf(snapshot(t, engine)), alikeNumbers)
+}
+
+// The request that was refused is told with its path, and what was done before stays.
+func TestTheRequestThatIsRefused(t *testing.T) {
+	engine := alike(t)
+	var status *Status
+	same(t, errors.As(engine.WriteFiles(map[string][]byte{"/e/f": nil, "/e/x\x00y": nil}, 0), &status), true)
+	same(t, status.Error(), "lucernetick: STAT /e/x\x00y: Failure")
+	same(t, errors.As(engine.WriteFiles(map[string][]byte{"/a/b/c": {}}, 0), &status), true)
+	same(t, status.Error(), "lucernetick: MKDIR /a: Failure")
+	_, there := snapshot(t, engine)["/e/f"]
+	same(t, there, true)
 }

@@ -5,7 +5,10 @@
 #include <stdio.h>
 #include <string.h>
 
-enum { MOMENT = 100, MANY_ENGINES = 1000 };
+enum { MOMENT = 100, MANY_ENGINES = 1000, MANY_FILES = 1500, LARGE = 3 << 20 };
+
+/* The most bytes of a path, or of both of a link, in a packet. */
+enum { LONGEST = 262080 };
 
 static const size_t TOO_MANY = (size_t)PTRDIFF_MAX + 1;
 
@@ -39,7 +42,11 @@ static void texts(void)
         {LT_OUT_OF_MEMORY, "out of memory"},
         {LT_TOO_MANY_SESSIONS, "256 sessions are open"},
         {LT_BAD_POINTER, "the engine was closed, or a pointer is NULL, or a length too large"},
-        {LT_BAD_POINTER - 1, "an unknown refusal"},
+        {LT_IS_BLOCKED, "the call of another session is in the way"},
+        {LT_STATUS_BASE - 2, "No such file"},
+        {LT_STATUS_BASE - 4, "Failure"},
+        {LT_NO_REPLY - 1, "an unknown refusal"},
+        {LT_STATUS_BASE - 99, "an unknown refusal"},
         {INT64_MIN, "an unknown refusal"},
         {LT_ENDED, "an unknown answer"},
         {INT64_MAX, "an unknown answer"},
@@ -411,12 +418,159 @@ static void records(void)
     lt_free(engine);
 }
 
+static lt_bytes text(const char *bytes)
+{
+    return (lt_bytes){(const uint8_t *)bytes, strlen(bytes)};
+}
+
+/* What a function for trees answered, at which request, and at how many bytes of the path. */
+static void stops(const char *name, int64_t answer, lt_place place, int64_t wanted, uint32_t kind, size_t length)
+{
+    same(name, answer, wanted);
+    same("by this request", place.kind, kind);
+    same("at so many bytes", (int64_t)place.length, (int64_t)length);
+}
+
+/* Trees that are made, and refused, each by a session of its own. */
+static void made(lt_engine *engine)
+{
+    lt_place place = {9, 9};
+    int64_t answer = lt_make_directory(engine, text("/d//e"), MOMENT, &place);
+    stops("a directory", answer, place, 0, 0, 0);
+    same("a file", lt_write_file(engine, text("/d/f"), text("contents"), MOMENT, NULL), 0);
+    same("an empty one", lt_write_file(engine, text("g"), (lt_bytes){NULL, 0}, MOMENT, NULL), 0);
+    same("one more name", lt_link(engine, text("/d/f"), text("/e/h"), MOMENT, NULL), 0);
+    answer = lt_make_directory(engine, text("/d/f/x"), MOMENT, &place);
+    stops("a directory in a file", answer, place, LT_STATUS_BASE - 4, LT_MKDIR, 4);
+    answer = lt_write_file(engine, text("/"), text("x"), MOMENT, &place);
+    stops("the root", answer, place, LT_STATUS_BASE - 4, LT_OPEN, 1);
+    answer = lt_link(engine, text("/none"), text("/x"), MOMENT, &place);
+    stops("no file", answer, place, LT_STATUS_BASE - 2, LT_HARDLINK, 2);
+    same("a path without bytes", lt_make_directory(engine, (lt_bytes){NULL, 1}, MOMENT, NULL), LT_BAD_POINTER);
+    same("too large a length", lt_make_directory(engine, (lt_bytes){INIT, TOO_MANY}, MOMENT, NULL), LT_BAD_POINTER);
+    same("contents without bytes", lt_write_file(engine, text("/x"), (lt_bytes){NULL, 1}, MOMENT, NULL),
+         LT_BAD_POINTER);
+    same("no engine", lt_link(NULL, text("/g"), text("/x"), MOMENT, NULL), LT_BAD_POINTER);
+}
+
+/* An entry of a tree at a place, of seven. */
+static void entry_is(lt_tree *tree, uint64_t at, const char *path, const char *contents, uint64_t links, uint64_t file)
+{
+    lt_entry entry;
+    same(path, lt_tree_entry(tree, at, &entry), 7);
+    same("its path", are(entry.path, path, strlen(path)), 1);
+    same("its contents", are(entry.contents, contents, strlen(contents)), 1);
+    same("its names", (int64_t)entry.links, (int64_t)links);
+    same("its number", (int64_t)entry.file, (int64_t)file);
+    same("its time", entry.attributes.mtime, MOMENT);
+    same("its attributes", entry.attributes.given, 15);
+}
+
+static void walked(lt_engine *engine)
+{
+    lt_tree *tree;
+    lt_entry entry;
+    same("a walk", lt_walk(engine, MOMENT, &tree, NULL), 0);
+    entry_is(tree, 0, "/", "", 1, 0);
+    entry_is(tree, 1, "/d", "", 1, 0);
+    entry_is(tree, 2, "/d/e", "", 1, 0);
+    entry_is(tree, 3, "/d/f", "contents", 2, 1);
+    entry_is(tree, 4, "/e", "", 1, 0);
+    entry_is(tree, 5, "/e/h", "contents", 2, 1);
+    entry_is(tree, 6, "/g", "", 1, 2);
+    same("no further one", lt_tree_entry(tree, 7, &entry), 7);
+    same("an entry without room", lt_tree_entry(tree, 0, NULL), LT_BAD_POINTER);
+    lt_tree_free(tree);
+    lt_tree_free(NULL);
+    same("an entry of no tree", lt_tree_entry(NULL, 0, &entry), 0);
+    same("a walk without an engine", lt_walk(NULL, MOMENT, &tree, NULL), LT_BAD_POINTER);
+    same("it has no tree", tree == NULL, 1);
+    same("a walk without room", lt_walk(engine, MOMENT, NULL, NULL), LT_BAD_POINTER);
+}
+
+/* Paths that a packet has room for, which the server refuses, and longer ones. */
+static void long_paths(void)
+{
+    static uint8_t bytes[LONGEST + 1];
+    lt_engine *engine = lt_new();
+    lt_place place;
+    memset(bytes, 'x', sizeof bytes);
+    int64_t answer = lt_make_directory(engine, (lt_bytes){bytes, LONGEST}, MOMENT, &place);
+    stops("a long path", answer, place, LT_STATUS_BASE - 4, LT_STAT, LONGEST);
+    answer = lt_make_directory(engine, (lt_bytes){bytes, LONGEST + 1}, MOMENT, &place);
+    stops("a longer one", answer, place, LT_LONG_PATH, LT_STAT, LONGEST + 1);
+    answer = lt_write_file(engine, (lt_bytes){bytes, LONGEST + 1}, text("x"), MOMENT, &place);
+    stops("a longer one of a file", answer, place, LT_LONG_PATH, LT_OPEN, LONGEST + 1);
+    answer = lt_link(engine, (lt_bytes){bytes, LONGEST - 1}, text("x"), MOMENT, &place);
+    stops("two long ones", answer, place, LT_STATUS_BASE - 4, LT_HARDLINK, 1);
+    answer = lt_link(engine, (lt_bytes){bytes, LONGEST}, text("x"), MOMENT, &place);
+    stops("two longer ones", answer, place, LT_LONG_PATH, LT_HARDLINK, 1);
+    lt_free(engine);
+}
+
+/* The path of one of many files, and its contents. */
+static lt_bytes one_of_many(int number)
+{
+    static char path[16];
+    snprintf(path, sizeof path, "/d/%04d", number);
+    return text(path);
+}
+
+/* More files than a listing's piece has names, and more bytes than many packets have. */
+static void large_trees(void)
+{
+    static uint8_t contents[LARGE];
+    lt_engine *engine = lt_new();
+    lt_tree *tree;
+    lt_entry entry;
+    memset(contents, 'c', sizeof contents);
+    for (int i = 0; i < MANY_FILES; i++)
+        same("a file", lt_write_file(engine, one_of_many(i), one_of_many(i), MOMENT, NULL), 0);
+    same("a large file", lt_write_file(engine, text("/large"), (lt_bytes){contents, LARGE}, MOMENT, NULL), 0);
+    same("a walk", lt_walk(engine, MOMENT, &tree, NULL), 0);
+    for (int i = 0; i < MANY_FILES; i++) {
+        lt_bytes path = one_of_many(i);
+        same("all entries", lt_tree_entry(tree, (uint64_t)i + 2, &entry), MANY_FILES + 3);
+        same("a path", are(entry.path, (const char *)path.at, path.length), 1);
+        same("contents", are(entry.contents, (const char *)path.at, path.length), 1);
+    }
+    lt_tree_entry(tree, MANY_FILES + 2, &entry);
+    same("large contents", are(entry.contents, (const char *)contents, LARGE), 1);
+    lt_tree_free(tree);
+    lt_free(engine);
+}
+
+/* Trees; and a session whose call holds the root, so that a walk, which lists the root, gets no further. */
+static void trees(void)
+{
+    lt_engine *engine = lt_new();
+    lt_tree *tree;
+    lt_entry entry;
+    lt_place place;
+    made(engine);
+    walked(engine);
+    uint64_t session = (uint64_t)lt_open(engine);
+    lt_feed(engine, session, INIT, sizeof INIT);
+    lt_feed(engine, session, MAKE_X, sizeof MAKE_X);
+    for (int i = 0; i < 3; i++)
+        lt_turn(engine, session, MOMENT);
+    int64_t answer = lt_walk(engine, MOMENT, &tree, &place);
+    stops("a walk that is blocked", answer, place, LT_IS_BLOCKED, LT_OPENDIR, 2);
+    same("where it stopped", lt_tree_entry(tree, 0, &entry), 1);
+    same("is a directory", are(entry.path, "/d", 2), 1);
+    lt_tree_free(tree);
+    lt_free(engine);
+}
+
 static void many_sessions(void)
 {
     lt_engine *engine = lt_new();
+    lt_place place;
     for (int64_t i = 1; i <= 256; i++)
         same("one of 256", lt_open(engine), i);
     same("one more than 256", lt_open(engine), LT_TOO_MANY_SESSIONS);
+    int64_t answer = lt_make_directory(engine, text("/a"), MOMENT, &place);
+    stops("and one for a tree", answer, place, LT_TOO_MANY_SESSIONS, LT_INIT, 0);
     lt_free(engine);
 }
 
@@ -432,6 +586,9 @@ int main(void)
     rounds();
     replayed();
     records();
+    trees();
+    long_paths();
+    large_trees();
     many_sessions();
     for (int i = 0; i < MANY_ENGINES; i++)
         one_session();

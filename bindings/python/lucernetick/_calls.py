@@ -104,7 +104,9 @@ class Call:
     reply: Reply
 
 
-class _Attributes(ctypes.Structure):
+class LtAttributes(ctypes.Structure):
+    """As lt_attributes in include/lucernetick.h."""
+
     _fields_ = [
         ("size", ctypes.c_uint64),
         ("given", ctypes.c_uint32),
@@ -127,8 +129,15 @@ class _Attributes(ctypes.Structure):
         )
 
 
-class _Bytes(ctypes.Structure):
+class LtBytes(ctypes.Structure):
+    """As lt_bytes in include/lucernetick.h."""
+
     _fields_ = [("at", ctypes.c_void_p), ("length", ctypes.c_size_t)]
+
+    @classmethod
+    def of(cls, data: bytes) -> LtBytes:
+        """These bytes, which must stay until the call."""
+        return cls(ctypes.cast(ctypes.c_char_p(data), ctypes.c_void_p), len(data))
 
     def read(self) -> bytes:
         return ctypes.string_at(self.at, self.length)
@@ -142,20 +151,20 @@ class _Call(ctypes.Structure):
         ("session", ctypes.c_uint64),
         ("moment", ctypes.c_uint32),
         ("kind", ctypes.c_uint32),
-        ("path", _Bytes),
-        ("new_path", _Bytes),
+        ("path", LtBytes),
+        ("new_path", LtBytes),
         ("handle", ctypes.c_uint64),
         ("offset", ctypes.c_uint64),
         ("length", ctypes.c_uint64),
         ("flags", ctypes.c_uint32),
         ("answer", ctypes.c_uint32),
-        ("attributes", _Attributes),
-        ("written", _Bytes),
+        ("attributes", LtAttributes),
+        ("written", LtBytes),
         ("status", ctypes.c_uint32),
         ("names", ctypes.c_uint32),
         ("answer_handle", ctypes.c_uint64),
-        ("answer_attributes", _Attributes),
-        ("answer_bytes", _Bytes),
+        ("answer_attributes", LtAttributes),
+        ("answer_bytes", LtBytes),
     ]
 
     def read(self) -> Call:

@@ -90,7 +90,7 @@ class Engine:
         return engine
 
     def write_files(self, files: Files, *, moment: int = 0) -> None:
-        """Makes or replaces these files, by requests of a session of its own at this moment.
+        """Makes or replaces these files, by requests of sessions of their own at this moment.
 
         Keys are paths, values contents, or None for a directory, or `Link(path)` for a further name of the
         file at that path. Directories on the way are made where they are missing. Links are made after all
@@ -104,10 +104,10 @@ class Engine:
         its own. Names that aren't UTF-8 are decoded as `os.fsdecode` does. Raises `BlockedError` where a call of
         another session is under way and holds a directory, and `TooLargeError` at a file of more than 2^30 bytes.
 
-        The engine's lock is held: no other session takes a turn meanwhile. Where several files that have
-        several names look alike in all but these, their atimes are set for a moment, to tell which names are
-        of one file. They are set back, also where a request fails; only if that is refused, as for want of
-        memory, does one of them stay, and the refusal is raised.
+        The engine's lock is held: no other session takes a turn meanwhile. Where files have several names,
+        their atimes are set for a moment, to tell which names are of one file. They are set back, also where
+        a request fails; only if that is refused, as for want of memory, does one of them stay, and the
+        refusal is raised.
         """
         return read_tree(self)
 
@@ -122,7 +122,10 @@ class Engine:
             return rounds
 
     def calls(self) -> list[Call]:
-        """The records of calls that are kept, in the order in which they took effect, the oldest first."""
+        """The records of calls that are kept, in the order in which they took effect, the oldest first.
+
+        Those of `write_files` and of snapshots are among them, by sessions of their own.
+        """
         with self.lock:
             told = [(checked(answer), call) for answer, call in read_calls(self._engine)]
             return [call for _, call in told if call is not None]

@@ -19,6 +19,14 @@ class Refusal(enum.IntEnum):
     NUMBERS_SPENT = -5
     NOT_SENT = -6
     BAD_POINTER = -7
+    IS_BLOCKED = -8
+    """Of trees, as those below: it is raised as `BlockedError`."""
+    TOO_LARGE = -9
+    """It is raised as `TooLargeError`."""
+    LONG_PATH = -10
+    """A path, or both of a link, have more bytes than a packet has room for: 262080."""
+    NO_REPLY = -11
+    """It is raised as `EndedError`."""
 
 
 class RefusedError(Error):

@@ -6,8 +6,6 @@ from typing import Optional
 import pytest
 
 from lucernetick import Contents, Engine, Link, Refusal, RefusedError, Session, StatusError
-from lucernetick._links import marks, set_back
-from lucernetick._tree import Requests
 from packets import ATTRS, INIT, OK, REMOVE, SETSTAT, STAT, packet, replies, status, string, u32
 
 # Two files of two names each and one of one, which differ in their names alone.
@@ -104,26 +102,6 @@ def test_a_snapshot_that_is_refused_leaves_all_attributes() -> None:
         assert numbers(engine) == ALIKE_NUMBERS
 
 
-def test_a_request_that_fails_half_way_leaves_all_attributes() -> None:
-    with alike() as engine:
-        session = client(engine)
-        before = look(session)
-        with Requests(engine, 0) as requests:
-            one = dict(requests.walk(b"/", 1, requests.attributes(b"/")))[b"/a"]
-            with pytest.raises(StatusError) as refused:
-                marks(requests, one, [b"/a", b"/b", b"/none", b"/c"])
-        assert str(refused.value) == "SETSTAT /none: No such file"
-        assert look(session) == before
-
-
-def test_times_are_set_back_past_what_fails() -> None:
-    with alike() as engine, Requests(engine, 0) as requests:
-        with pytest.raises(StatusError):
-            set_back(requests, [b"/none", b"/a"], 1, 2)
-        found = engine.snapshot()
-    assert (found["/d/a"].atime, found["/d/a"].mtime) == (1, 2)
-
-
 def take_snapshots(engine: Engine, count: int) -> bool:
     """Whether each of so many snapshots has the numbers that are due."""
     return all(numbers(engine) == ALIKE_NUMBERS for _ in range(count))
@@ -177,3 +155,15 @@ def test_links_that_are_refused(files: dict[str, Contents], code: int) -> None:
         with pytest.raises(StatusError) as refused:
             engine.write_files(files)
         assert refused.value.code == code
+
+
+def test_the_request_that_is_refused() -> None:
+    """It is told with its path, and what was done before stays."""
+    with Engine.from_files({"/a": b""}) as engine:
+        with pytest.raises(StatusError) as refused:
+            engine.write_files({"/e/f": None, "/a/b/c": b""})
+        assert str(refused.value) == "MKDIR /a: Failure"
+        with pytest.raises(StatusError) as refused:
+            engine.write_files({"/b": Link("/none")})
+        assert str(refused.value) == "hardlink@openssh.com /none /b: No such file"
+        assert list(engine.snapshot()) == ["/", "/a", "/e", "/e/f"]

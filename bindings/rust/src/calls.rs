@@ -175,7 +175,7 @@ fn names_of(bytes: &[u8]) -> Vec<Vec<u8>> {
 }
 
 /// SAFETY: so many bytes must be there.
-unsafe fn bytes_of(bytes: &sys::Bytes) -> Vec<u8> {
+pub(crate) unsafe fn bytes_of(bytes: &sys::Bytes) -> Vec<u8> {
     slice::from_raw_parts(bytes.at, bytes.length).to_vec()
 }
 
@@ -187,7 +187,7 @@ pub struct Calls<'a> {
 }
 
 impl Engine {
-    /// The records of calls that are kept.
+    /// The records of calls that are kept, those of `write_files` and of snapshots among them.
     pub fn calls(&mut self) -> Calls<'_> {
         Calls { engine: self, at: 0 }
     }

@@ -19,6 +19,8 @@ pub enum Refusal {
     NumbersSpent,
     /// Fewer bytes wait to be sent.
     NotSent,
+    /// A path, or both of a link, have more bytes than a packet has room for: 262080.
+    LongPath,
     /// By a number of the library that this crate doesn't know.
     Other(i64),
 }
@@ -32,6 +34,7 @@ impl Refusal {
             -4 => Refusal::HasEnded,
             -5 => Refusal::NumbersSpent,
             -6 => Refusal::NotSent,
+            -10 => Refusal::LongPath,
             other => Refusal::Other(other),
         }
     }
@@ -44,6 +47,7 @@ impl Refusal {
             Refusal::HasEnded => -4,
             Refusal::NumbersSpent => -5,
             Refusal::NotSent => -6,
+            Refusal::LongPath => -10,
             Refusal::Other(other) => other,
         }
     }

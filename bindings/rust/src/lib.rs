@@ -22,8 +22,6 @@ mod calls;
 mod clock;
 mod fault;
 mod line;
-mod links;
-mod packets;
 mod server;
 mod sys;
 mod tree;

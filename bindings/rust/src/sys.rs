@@ -57,6 +57,35 @@ pub struct Call {
     pub answer_bytes: Bytes,
 }
 
+/// A walk's entries, of which the library alone knows what they are.
+#[repr(C)]
+pub struct Tree {
+    _private: [u8; 0],
+}
+
+/// A name of a tree.
+#[repr(C)]
+#[derive(Default)]
+pub struct Entry {
+    pub path: Bytes,
+    pub contents: Bytes,
+    pub attributes: Attributes,
+    pub links: u64,
+    pub file: u64,
+}
+
+/// The request that a function for trees stopped at.
+#[repr(C)]
+pub struct Place {
+    pub length: u64,
+    pub kind: u32,
+}
+
+pub const LT_IS_BLOCKED: i64 = -8;
+pub const LT_TOO_LARGE: i64 = -9;
+pub const LT_NO_REPLY: i64 = -11;
+pub const LT_STATUS_BASE: i64 = -100;
+
 extern "C" {
     pub fn lt_version() -> *const c_char;
     pub fn lt_message(answer: i64) -> *const c_char;
@@ -78,6 +107,34 @@ extern "C" {
     pub fn lt_output(engine: *mut Engine, session: u64, room: *mut u8, length: usize) -> i64;
     pub fn lt_sent(engine: *mut Engine, session: u64, count: usize) -> i64;
     pub fn lt_calls(engine: *mut Engine, at: u64, call: *mut Call) -> i64;
+    pub fn lt_make_directory(
+        engine: *mut Engine,
+        path: Bytes,
+        moment: u32,
+        place: *mut Place,
+    ) -> i64;
+    pub fn lt_write_file(
+        engine: *mut Engine,
+        path: Bytes,
+        contents: Bytes,
+        moment: u32,
+        place: *mut Place,
+    ) -> i64;
+    pub fn lt_link(
+        engine: *mut Engine,
+        path: Bytes,
+        new_path: Bytes,
+        moment: u32,
+        place: *mut Place,
+    ) -> i64;
+    pub fn lt_walk(
+        engine: *mut Engine,
+        moment: u32,
+        tree: *mut *mut Tree,
+        place: *mut Place,
+    ) -> i64;
+    pub fn lt_tree_entry(tree: *mut Tree, at: u64, entry: *mut Entry) -> i64;
+    pub fn lt_tree_free(tree: *mut Tree);
 }
 
 /// What is asked of a descriptor, and what it shows.

@@ -1,2 +1,3 @@
 mod Values
 mod Settling
+mod TreeValues

@@ -1,3 +1,4 @@
 pub mod Numbers
 pub mod Owned
 pub mod Records
+pub mod Trees

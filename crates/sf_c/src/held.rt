@@ -12,9 +12,9 @@ use std::marker::Model;
 use std::{mem, ptr};
 
 /// A box as its pointer.
-struct Loose<T, A: Allocator> {
-    at: *mut T,
-    alloc: A,
+pub(crate) struct Loose<T, A: Allocator> {
+    pub(crate) at: *mut T,
+    pub(crate) alloc: A,
     ghost value: { T },
 }
 
@@ -23,14 +23,14 @@ impl<T, A: Allocator> Model for Loose<T, A> {
 }
 
 impl<T: Drop, A: Allocator> Loose<T, A> {
-    fn of(value: Box<T, A>) -> Loose<T, A>
+    pub(crate) fn of(value: Box<T, A>) -> Loose<T, A>
         ensures { result.value ≡ value.value }
     {
         let (at, alloc) = Box::into_raw_with_allocator(value);
         Loose { at, alloc }
     }
 
-    fn into_box(self) -> Box<T, A>
+    pub(crate) fn into_box(self) -> Box<T, A>
         ensures { result.value ≡ self.value }
     {
         let Loose { at, alloc } = self;

@@ -2,24 +2,32 @@
 //!
 //! Start with `lucernetick_turn`. Each function takes an engine as a `Held` (`held.rt`), makes one event
 //! of what it is given, and answers the engine again and a number: `specs/Numbers.antt` says which, for
-//! what the engine answered. `bindings/c/lucernetick.c` has the functions of `include/lucernetick.h`,
+//! what the engine answered. Those for trees make many (`specs/Trees.antt`), and what a walk finds is a
+//! `Kept` (`kept.rt`). `bindings/c/lucernetick.c` has the functions of `include/lucernetick.h`,
 //! which call these.
 #![tactic(auto)]
 
 ghost use Rattle.std.specs.Prelude.{◌≡◌, ◌++◌, length, take, drop, None, IsSome, IfOk, IfSome};
 ghost use Rattle.sf_engine.specs.declared.event.Event.TheVariants as event;
+ghost use Rattle.sf_trees.specs.Makings.{MakesDirectory, WritesFile, Links};
 ghost use Rattle.sf_c.specs.Records.{TellsOf};
+ghost use Rattle.sf_c.specs.Trees.{AnswersMade, AnswersWalk, LeafOf};
 ghost use Rattle.sf_c.specs.Numbers.{Answers, AnswersSettled, RunsAll, IsFresh, IsMade, Feeds, Outputs};
 
 mod held;
+mod kept;
 mod number;
 mod told;
+mod trees;
 mod turns;
 
 use held::Held;
+use kept::Kept;
 use sf_engine::{Engine, Event};
+use sf_trees::Tree;
 use std::alloc::{AllocError, Global};
 use told::{Told, recount};
+use trees::{At, Leaf, copy_leaf, link_in, make_directory_in, tell_made, walk_in, write_file_in};
 use turns::{apply, feed, settle_at};
 
 /// Makes an engine that keeps the last `keep` records, or all of them.
@@ -230,4 +238,113 @@ pub extern "C" fn lucernetick_call(
     let number = copy_record(alloc, &engine, at, told, room);
     held.put(engine);
     number
+}
+
+/// Makes the directory of a path, and those on its way, where they are missing.
+#[unsafe(no_mangle)]
+pub extern "C" fn lucernetick_make_directory(
+    alloc: Global,
+    held: &mut Held,
+    path: &[u8],
+    moment: u32,
+    at: &mut At,
+) -> i64
+    requires { IsSome held.old.engine }
+    ensures { AnswersMade held.old.engine moment (MakesDirectory path.now) result at.new
+        held.new.engine }
+{
+    let (engine, made) = make_directory_in(held.take(alloc), alloc, moment, path);
+    held.put(engine);
+    tell_made(made, at)
+}
+
+/// Makes a file, or replaces its contents. Directories on its way are made where they are missing.
+#[unsafe(no_mangle)]
+pub extern "C" fn lucernetick_write_file(
+    alloc: Global,
+    held: &mut Held,
+    path: &[u8],
+    contents: &[u8],
+    moment: u32,
+    at: &mut At,
+) -> i64
+    requires { IsSome held.old.engine }
+    ensures { AnswersMade held.old.engine moment (WritesFile path.now contents.now) result at.new
+        held.new.engine }
+{
+    let (engine, made) = write_file_in(held.take(alloc), alloc, moment, path, contents);
+    held.put(engine);
+    tell_made(made, at)
+}
+
+/// Gives the file at the old path the new one too. Directories on its way are made where they are missing.
+#[unsafe(no_mangle)]
+pub extern "C" fn lucernetick_link(
+    alloc: Global,
+    held: &mut Held,
+    old: &[u8],
+    new: &[u8],
+    moment: u32,
+    at: &mut At,
+) -> i64
+    requires { IsSome held.old.engine }
+    ensures { AnswersMade held.old.engine moment (Links old.now new.now) result at.new
+        held.new.engine }
+{
+    let (engine, made) = link_in(held.take(alloc), alloc, moment, old, new);
+    held.put(engine);
+    tell_made(made, at)
+}
+
+/// Walks the whole tree, and puts what it finds in place of nothing. Where it stops, that is the entry at which
+/// that was, or none.
+#[unsafe(no_mangle)]
+pub extern "C" fn lucernetick_walk(
+    alloc: Global,
+    held: &mut Held,
+    kept: &mut Kept,
+    moment: u32,
+    at: &mut At,
+) -> i64
+    requires engine { IsSome held.old.engine }
+    requires none { kept.old.tree ≡ None }
+    ensures { AnswersWalk held.old.engine moment result at.old at.new held.new.engine kept.new.tree }
+{
+    let Ok(mut tree) = Box::new(alloc, Tree::new(alloc)) else {
+        return -1;
+    };
+    let (engine, walked) = walk_in(held.take(alloc), alloc, moment, &mut tree);
+    held.put(engine);
+    kept.put(tree);
+    tell_made(walked, at)
+}
+
+/// Tells one of the entries that a walk found, by their places, and how many these are. The bytes are copied into
+/// the room, if there is room for all.
+#[unsafe(no_mangle)]
+pub extern "C" fn lucernetick_tree_entry(
+    alloc: Global,
+    kept: &mut Kept,
+    at: u64,
+    leaf: &mut Leaf,
+    room: &mut [u8],
+) -> i64
+    requires { IsSome kept.old.tree }
+    ensures same { kept.new.tree ≡ kept.old.tree }
+    ensures told { IfSome kept.old.tree
+        (λ t. LeafOf t at leaf.old room.old result leaf.new room.new) }
+{
+    let tree = kept.take(alloc);
+    let number = copy_leaf(&tree, at, leaf, room);
+    kept.put(tree);
+    number
+}
+
+/// Drops what a walk found.
+#[unsafe(no_mangle)]
+pub extern "C" fn lucernetick_tree_free(alloc: Global, kept: &mut Kept)
+    requires { IsSome kept.old.tree }
+    ensures { kept.new.tree ≡ None }
+{
+    let _tree = kept.take(alloc);
 }

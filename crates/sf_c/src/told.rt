@@ -99,7 +99,7 @@ fn times_told(times: Option<Times>) -> (u32, u32, u32)
     }
 }
 
-fn attributes_told(attrs: &Attrs) -> Attributes
+pub fn attributes_told(attrs: &Attrs) -> Attributes
     ensures { result ≡ attributes_told attrs.now }
 {
     let (has_size, size) = size_told(attrs.size);

@@ -15,7 +15,7 @@ use Rattle.sf_client.specs.declared.ahead.Ahead.{Ahead}
 use Rattle.sf_client.specs.declared.due.Due.TheVariants as due
 use Rattle.sf_client.specs.declared.fault.ClientFault.{ClientFault}
 use Rattle.sf_client.specs.declared.fault.ClientFault.TheVariants as fault
-use Rattle.sf_client.specs.Dues.{Refuses, due_of, is_answer, is_due}
+use Rattle.sf_client.specs.Dues.{Refuses, due_of, is_answer, is_due, TakesMemory}
 use Rattle.sf_client.specs.Exchanges.{ClientView, Exchange, Exchanged, Sent, Took, id_after}
 use Rattle.sf_client.specs.Outcomes.{asked}
 use Rattle.sf_client.specs.Ahead.{EndsBy, GathersPiece, SendsOn, TakesOn, sender}
@@ -358,9 +358,9 @@ sized n v u w size (Err fault.OutOfMemory) h small used = (_, inr (inr (h.0, use
 sized n v u w size (Err (fault.TooLarge more)) h small used = (_, inr (inr (h.0, used.0, subst (λ (k : ℕ). k ≤ most_gathered) h.1 small, used.1, refl)), exchanged_then v u w (asked (request.FStat (be64 n)) h.0 ∷ []) used.0 h.2 used.2)
 sized n v u w size (Err fault.Failed) h small used = let going = h.2.going in let failed = used.0 in absurd cc
 
-no_room_for_size : (n : ℕ) (v w : ClientView) → v.failed ≡ false → (w ≡ v) ⊎ ((r : Reply) × Exchanged v (asked (request.FStat (be64 n)) r ∷ []) w) → Does (ReadsAll n) v (Err fault.OutOfMemory) w
+no_room_for_size : (n : ℕ) (v w : ClientView) → v.failed ≡ false → (w ≡ v) ⊎ ((r : Reply) × TakesMemory r × Exchanged v (asked (request.FStat (be64 n)) r ∷ []) w) → Does (ReadsAll n) v (Err fault.OutOfMemory) w
 no_room_for_size n v w began (inl same) = ([], inl (inl (refl, refl), refl), subst (Exchanged v []) (sym same) (exchanged_none v began))
-no_room_for_size n v w began (inr taken) = (asked (request.FStat (be64 n)) taken.0 ∷ [], inl (inr (taken.0, refl, tt), refl), taken.1)
+no_room_for_size n v w began (inr taken) = (asked (request.FStat (be64 n)) taken.0 ∷ [], inl (inr (taken.0, refl, taken.1), refl), taken.2)
 
 pub unsized : (n : ℕ) (v w : ClientView) (f : ClientFault) → AsksSize n v (Err f) w → Does (ReadsAll n) v (Err f) w
 unsized n v w fault.Stream h = h.1

@@ -11,7 +11,7 @@ use Rattle.sf_client.specs.declared.fault.ClientFault.{ClientFault}
 use Rattle.sf_client.specs.declared.fault.ClientFault.TheVariants as fault
 use Rattle.sf_client.specs.Exchanges.{ClientView, Exchange, Exchanged, Unanswered}
 use Rattle.sf_client.specs.Outcomes.{asked, Broke, Comes, Settles}
-use Rattle.sf_client.specs.Dues.{Refuses}
+use Rattle.sf_client.specs.Dues.{Refuses, TakesMemory}
 use Rattle.sf_client.specs.Ahead.{EndsBy}
 use Rattle.sf_client.specs.Calls.{Does, ended_by, IsLast, EndsAfter, ByHandle, ClosesAfter, told_of}
 use Rattle.sf_client.proofs.Exchanging.{exchanged_none, exchanged_then, unanswered_then}
@@ -22,7 +22,7 @@ told_ends n first v w (Ok x) h = inl (refl, (reply.Status Success, h))
 told_ends n first v w (Err fault.Stream) h = inr (inl (refl, h))
 told_ends n first v w (Err fault.Protocol) h = inr (inr (refl, h))
 told_ends n first v w (Err (fault.Status code)) h = inl (refl, (h.0, h.2))
-told_ends n first v w (Err fault.OutOfMemory) h = inl (refl, h)
+told_ends n first v w (Err fault.OutOfMemory) h = inl (refl, (h.0, h.2))
 told_ends n first v w (Err (fault.TooLarge size)) h = absurd h
 told_ends n first v w (Err fault.Failed) h = absurd h
 
@@ -34,10 +34,10 @@ appended (Err x) now more kept ok e = absurd cc
 
 -- ---- a call by a handle
 
-unopened : {X : Type 0} (S : ℕ → List Exchange → Result X ClientFault → Type 0) (opening : WireRequest) (v w : ClientView) → v.failed ≡ false → (w ≡ v) ⊎ ((r : Reply) × Exchanged v (asked opening r ∷ []) w)
+unopened : {X : Type 0} (S : ℕ → List Exchange → Result X ClientFault → Type 0) (opening : WireRequest) (v w : ClientView) → v.failed ≡ false → (w ≡ v) ⊎ ((r : Reply) × TakesMemory r × Exchanged v (asked opening r ∷ []) w)
     → Does (ByHandle opening S) v (Err fault.OutOfMemory) w
 unopened S opening v w began (inl same) = ([], inl (inl (refl, refl)), subst (Exchanged v []) (sym same) (exchanged_none v began))
-unopened S opening v w began (inr taken) = (asked opening taken.0 ∷ [], inl (inr (taken.0, refl, tt)), taken.1)
+unopened S opening v w began (inr taken) = (asked opening taken.0 ∷ [], inl (inr (taken.0, refl, taken.1)), taken.2)
 
 pub by_handle_unopened : {X : Type 0} (S : ℕ → List Exchange → Result X ClientFault → Type 0) (opening : WireRequest) (v w : ClientView) (f : ClientFault) → Comes reply.Handle v opening (Err f) w → Does (ByHandle opening S) v (Err f) w
 by_handle_unopened S opening v w fault.Stream h = h
@@ -60,7 +60,7 @@ closed_badly S opening n v u m w x fault.Protocol opened used h = (_, request.Cl
 closed_badly S opening n v u m w x (fault.Status code) opened used h =
     (_, inr (n, used.0 ++ asked (request.Close (be64 n)) h.0 ∷ [], (used.0, h.0, inr (x, used.1, h.1), refl), refl), whole_call opening n h.0 v u m w used.0 opened used.2 h.2)
 closed_badly S opening n v u m w x fault.OutOfMemory opened used h =
-    (_, inr (n, used.0 ++ asked (request.Close (be64 n)) h.0 ∷ [], (used.0, h.0, inr (x, used.1, tt), refl), refl), whole_call opening n h.0 v u m w used.0 opened used.2 h.1)
+    (_, inr (n, used.0 ++ asked (request.Close (be64 n)) h.0 ∷ [], (used.0, h.0, inr (x, used.1, h.1), refl), refl), whole_call opening n h.0 v u m w used.0 opened used.2 h.2)
 closed_badly S opening n v u m w x (fault.TooLarge size) opened used h = absurd h
 closed_badly S opening n v u m w x fault.Failed opened used h = absurd h
 

@@ -74,7 +74,7 @@ pub settled_err : (v u w : ClientView) (bytes : List ℕ) (d : Due) (f : ClientF
 settled_err v u w bytes d fault.Stream began sent takes q is due = broke_since v u w sent.failures takes
 settled_err v u w bytes d fault.Protocol began sent takes q is due = (u, sent_alone v u bytes q began sent is, record { failed = takes.0; outgoing = takes.1; none = rw (← due) takes.2 })
 settled_err v u w bytes d (fault.Status code) began sent takes q is due = absurd takes
-settled_err v u w bytes d fault.OutOfMemory began sent takes q is due = (takes.0, one_exchanged v u w bytes q takes.0 began sent is (rw (← due) takes.1) takes.2)
+settled_err v u w bytes d fault.OutOfMemory began sent takes q is due = (takes.0, takes.2, one_exchanged v u w bytes q takes.0 began sent is (rw (← due) takes.1) takes.3)
 settled_err v u w bytes d (fault.TooLarge size) began sent takes q is due = absurd takes
 settled_err v u w bytes d fault.Failed began sent takes q is due = absurd takes
 

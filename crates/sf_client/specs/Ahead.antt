@@ -9,7 +9,7 @@ use Rattle.sf_client.specs.declared.ahead.Ahead.{Ahead}
 use Rattle.sf_client.specs.declared.due.Due.{Due}
 use Rattle.sf_client.specs.declared.fault.ClientFault.{ClientFault}
 use Rattle.sf_client.specs.declared.fault.ClientFault.TheVariants as fault
-use Rattle.sf_client.specs.Dues.{is_answer, is_refusal, is_due, Refuses}
+use Rattle.sf_client.specs.Dues.{is_answer, is_refusal, is_due, Refuses, TakesMemory}
 use Rattle.sf_client.specs.Exchanges.{ClientView, Sent, Took, HasNoReply, id_after}
 use Rattle.sf_client.specs.Outcomes.{Broke}
 
@@ -22,7 +22,7 @@ abbrev pub EndsBy : Reply → ClientFault → Type 0
 EndsBy r fault.Stream = ⊥
 EndsBy r fault.Protocol = ⊥
 EndsBy r (fault.Status code) = Refuses r code
-EndsBy r fault.OutOfMemory = Unit {0}
+EndsBy r fault.OutOfMemory = TakesMemory r
 EndsBy r (fault.TooLarge size) = ⊥
 EndsBy r fault.Failed = ⊥
 

@@ -61,3 +61,12 @@ Refuses (reply.Handle number) told = ⊥
 Refuses (reply.Data bytes) told = ⊥
 Refuses (reply.Names entries) told = ⊥
 Refuses (reply.Attrs attrs) told = ⊥
+
+-- memory is taken for a file's bytes and for names alone
+abbrev pub TakesMemory : Reply → Type 0
+TakesMemory (reply.Data bytes) = Unit {0}
+TakesMemory (reply.Names entries) = Unit {0}
+TakesMemory (reply.Status code) = ⊥
+TakesMemory reply.NoMemory = ⊥
+TakesMemory (reply.Handle number) = ⊥
+TakesMemory (reply.Attrs attrs) = ⊥

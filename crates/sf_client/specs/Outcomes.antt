@@ -10,7 +10,7 @@ use Rattle.sf_reply.specs.declared.reply.Reply.{Reply}
 use Rattle.sf_client.specs.declared.fault.ClientFault.{ClientFault}
 use Rattle.sf_client.specs.declared.fault.ClientFault.TheVariants as fault
 use Rattle.sf_client.specs.declared.due.Due.{Due}
-use Rattle.sf_client.specs.Dues.{Refuses, is_due}
+use Rattle.sf_client.specs.Dues.{Refuses, TakesMemory, is_due}
 use Rattle.sf_client.specs.Exchanges.{ClientView, Exchange, Exchanged, Unanswered, Sent, Took, HasNoReply}
 
 abbrev pub asked : WireRequest → Reply → Exchange
@@ -22,8 +22,9 @@ pub record Broke (v w : ClientView) : Type 0 where
   pub grew : v.failures ≤ w.failures
   pub rose : Rose v.failures w.failures
 
--- What came of one request: its one reply was taken, which told this, or refused it; the line failed; no due reply came;
--- or memory was wanting, before anything was sent or once the reply was taken. A client that failed before does nothing.
+-- What came of one request: its one reply was taken, which told this, or refused it; the line
+-- failed; no due reply came; or memory was wanting, before anything was sent, or for the bytes or
+-- the names of the reply that was taken. A client that failed before does nothing.
 abbrev pub Comes : {X : Type 0} → (X → Reply) → ClientView → WireRequest → Result X ClientFault
     → ClientView → Type 0
 Comes told v q (Ok x) w = Exchanged v (asked q (told x) ∷ []) w
@@ -31,8 +32,8 @@ Comes told v q (Err fault.Stream) w = Broke v w
 Comes told v q (Err fault.Protocol) w = Unanswered v [] q [] w
 Comes told v q (Err (fault.Status code)) w =
     (r : Reply) × Refuses r code × Exchanged v (asked q r ∷ []) w
-Comes told v q (Err fault.OutOfMemory) w =
-    (v.failed ≡ false) × ((w ≡ v) ⊎ ((r : Reply) × Exchanged v (asked q r ∷ []) w))
+Comes told v q (Err fault.OutOfMemory) w = (v.failed ≡ false)
+    × ((w ≡ v) ⊎ ((r : Reply) × TakesMemory r × Exchanged v (asked q r ∷ []) w))
 Comes told v q (Err (fault.TooLarge size)) w = ⊥
 Comes told v q (Err fault.Failed) w = (v.failed ≡ true) × (w ≡ v)
 
@@ -44,7 +45,8 @@ Settles told v q (Err fault.Stream) w = Broke v w
 Settles told v q (Err fault.Protocol) w = Unanswered v [] q [] w
 Settles told v q (Err (fault.Status code)) w =
     (r : Reply) × Refuses r code × Exchanged v (asked q r ∷ []) w
-Settles told v q (Err fault.OutOfMemory) w = (r : Reply) × Exchanged v (asked q r ∷ []) w
+Settles told v q (Err fault.OutOfMemory) w =
+    (r : Reply) × TakesMemory r × Exchanged v (asked q r ∷ []) w
 Settles told v q (Err (fault.TooLarge size)) w = ⊥
 Settles told v q (Err fault.Failed) w = ⊥
 
@@ -55,7 +57,8 @@ Takes v d (Err fault.Stream) w = Broke v w
 Takes v d (Err fault.Protocol) w =
     (w.failed ≡ true) × (w.outgoing ≡ v.outgoing) × HasNoReply v.incoming v.next d
 Takes v d (Err (fault.Status code)) w = ⊥
-Takes v d (Err fault.OutOfMemory) w = (r : Reply) × (is_due d r ≡ true) × Took v r w
+Takes v d (Err fault.OutOfMemory) w =
+    (r : Reply) × (is_due d r ≡ true) × TakesMemory r × Took v r w
 Takes v d (Err (fault.TooLarge size)) w = ⊥
 Takes v d (Err fault.Failed) w = ⊥
 
@@ -79,6 +82,16 @@ ReadsDue incoming incoming' id d (Err fault.Stream) = Unit {0}
 ReadsDue incoming incoming' id d (Err fault.Protocol) = HasNoReply incoming id d
 ReadsDue incoming incoming' id d (Err (fault.Status code)) = ⊥
 ReadsDue incoming incoming' id d (Err fault.OutOfMemory) =
-    (r : Reply) × (is_due d r ≡ true) × Consumes incoming incoming' (packet (reply_body id r))
+    (r : Reply) × (is_due d r ≡ true) × TakesMemory r
+    × Consumes incoming incoming' (packet (reply_body id r))
 ReadsDue incoming incoming' id d (Err (fault.TooLarge size)) = ⊥
 ReadsDue incoming incoming' id d (Err fault.Failed) = ⊥
+
+-- Why no session was opened: the line's failures rose; VERSION didn't come; or memory was wanting.
+abbrev pub MayNotStart : ClientFault → ℕ → ℕ → Type 0
+MayNotStart fault.Stream failed failed' = Rose failed failed'
+MayNotStart fault.Protocol failed failed' = Unit {0}
+MayNotStart fault.OutOfMemory failed failed' = Unit {0}
+MayNotStart (fault.Status code) failed failed' = ⊥
+MayNotStart (fault.TooLarge size) failed failed' = ⊥
+MayNotStart fault.Failed failed failed' = ⊥

@@ -11,10 +11,10 @@ ghost use Rattle.sf_reply.specs.declared.reply.Reply.TheVariants.{Status};
 ghost use Rattle.sf_reply.specs.declared.reply.StatusCode.TheVariants.{Success};
 ghost use Rattle.sf_client.specs.Dues.{due_of, is_answer};
 ghost use Rattle.sf_client.specs.Exchanges.{id_after, IsGreeted, IsStarted, HasNoVersion};
-ghost use Rattle.sf_client.specs.Outcomes.{Broke, Comes, ReadsDue, Sends, Settles, Takes};
+ghost use Rattle.sf_client.specs.Outcomes.{Broke, Comes, MayNotStart, ReadsDue, Sends, Settles, Takes};
 
 use crate::ahead::Ahead;
-use crate::due::{Due, find_due, refusal};
+use crate::due::{Due, find_due, made, refusal};
 use crate::fault::ClientFault;
 use crate::lines::read_packet;
 use bytes::BytesMut;
@@ -64,7 +64,7 @@ fn read_due<L: Line>(
     let Some(found) = find_due(&buffer[..len], id, due) else {
         return Err(ClientFault::Protocol);
     };
-    match found.to_reply(alloc) {
+    match made(alloc, found) {
         Ok(reply) => Ok(reply),
         Err(_) => Err(ClientFault::OutOfMemory),
     }
@@ -82,8 +82,9 @@ fn greet<L: Line>(line: &mut L, buffer: &mut [u8]) -> Result<(), ClientFault>
     ensures ok { OnOk result (IsGreeted (L.incoming line.old) (L.outgoing line.old)
         (L.incoming line.new) (L.outgoing line.new)) }
     ensures refused { result ≡ Err ClientFault.Protocol → HasNoVersion (L.incoming line.old) }
-    ensures fault { IfErr result (λ fault. (fault ≡ ClientFault.Stream)
-        ⊎ (fault ≡ ClientFault.Protocol)) }
+    ensures failures { L.failed line.old ≤ L.failed line.new }
+    ensures fault { IfErr result (λ fault. ((fault ≡ ClientFault.Stream)
+        × Rose (L.failed line.old) (L.failed line.new)) ⊎ (fault ≡ ClientFault.Protocol)) }
 {
     if write_all(line, &init_packet()).is_err() {
         return Err(ClientFault::Stream);
@@ -98,6 +99,13 @@ fn greet<L: Line>(line: &mut L, buffer: &mut [u8]) -> Result<(), ClientFault>
     } else {
         Err(ClientFault::Protocol)
     }
+}
+
+/// Why no session was opened, and the line, at whatever it was left.
+#[derive(Drop)]
+pub struct NotStarted<L> {
+    pub fault: ClientFault,
+    pub line: L,
 }
 
 /// A client of one session. The calls of one request send it and take its reply; those by a handle
@@ -133,25 +141,30 @@ impl<L: Line + Drop> Model for Client<L> {
 }
 
 impl<L: Line + Drop> Client<L> {
-    /// Opens the session: sends INIT with version 3, and takes VERSION.
-    pub fn start(alloc: Global, line: L) -> Result<Client<L>, ClientFault>
+    /// Opens the session: sends INIT with version 3, and takes VERSION. Where that fails, the line
+    /// comes back.
+    pub fn start(alloc: Global, line: L) -> Result<Client<L>, NotStarted<L>>
         ensures ok { IfOk result (λ client. IsStarted (L.incoming line) (L.outgoing line) client) }
-        ensures refused { result ≡ Err ClientFault.Protocol → HasNoVersion (L.incoming line) }
-        ensures fault { IfErr result (λ fault. (fault ≡ ClientFault.Stream)
-            ⊎ ((fault ≡ ClientFault.Protocol) ⊎ (fault ≡ ClientFault.OutOfMemory))) }
+        ensures refused { IfErr result (λ no. no.fault ≡ ClientFault.Protocol
+            → HasNoVersion (L.incoming line)) }
+        ensures fault { IfErr result (λ no. MayNotStart no.fault (L.failed line)
+            (L.failed no.line)) }
     {
         let mut line = line;
         let Ok(mut body) = zeros(alloc, MAX_BODY) else {
-            return Err(ClientFault::OutOfMemory);
+            let fault = ClientFault::OutOfMemory;
+            return Err(NotStarted { fault, line });
         };
-        greet(&mut line, &mut body)?;
-        Ok(Client {
-            alloc,
-            line,
-            next: 1,
-            failed: false,
-            body,
-        })
+        match greet(&mut line, &mut body) {
+            Ok(()) => Ok(Client {
+                alloc,
+                line,
+                next: 1,
+                failed: false,
+                body,
+            }),
+            Err(fault) => Err(NotStarted { fault, line }),
+        }
     }
 
     /// The line, at whatever the client left it.

@@ -1,12 +1,13 @@
 //! What a request's reply has to be.
 
-ghost use Rattle.std.specs.Prelude.{◌≡◌, IfSome, IfNone, MatchOption, true, false};
+ghost use Rattle.std.specs.Prelude.{◌≡◌, IfSome, IfNone, IfOk, OnErr, MatchOption, true, false};
 ghost use Rattle.sf_reply.specs.declared.reply.Reply.{Reply};
 ghost use Rattle.sf_reply.specs.Reading.{reply_of, IsCounted, IsReply};
-ghost use Rattle.sf_client.specs.Dues.{due_of, is_answer, is_refusal, is_due, Refuses};
+ghost use Rattle.sf_client.specs.Dues.{due_of, is_answer, is_refusal, is_due, Refuses, TakesMemory};
 
 use sf_reply::{FoundReply, Reply, StatusCode, find_reply};
 use sf_request::WireRequest;
+use std::alloc::{AllocError, Global};
 
 /// What answers a request that succeeds.
 #[derive(Clone, Copy, Debug, PartialEq, Eq)]
@@ -82,6 +83,21 @@ pub(crate) fn refusal(reply: &Reply) -> Option<StatusCode>
         Reply::Status(code) => Some(*code),
         Reply::NoMemory => Some(StatusCode::Failure),
         _ => None,
+    }
+}
+
+/// The reply that was found, with bytes of its own. Memory is taken for a file's bytes and for
+/// names alone.
+pub(crate) fn made(alloc: Global, found: FoundReply<'_>) -> Result<Reply, AllocError>
+    ensures reply { IfOk result (λ reply. reply ≡ reply_of found.entry) }
+    ensures err { OnErr result (TakesMemory (reply_of found.entry)) }
+{
+    match found {
+        FoundReply::Status(code) => Ok(Reply::Status(code)),
+        FoundReply::NoMemory => Ok(Reply::NoMemory),
+        FoundReply::Handle(number) => Ok(Reply::Handle(number)),
+        FoundReply::Attrs(attrs) => Ok(Reply::Attrs(attrs)),
+        FoundReply::Data(_) | FoundReply::Names(_, _) => found.to_reply(alloc),
     }
 }
 

@@ -17,5 +17,5 @@ mod files;
 mod gathered;
 mod lines;
 
-pub use client::Client;
+pub use client::{Client, NotStarted};
 pub use fault::ClientFault;

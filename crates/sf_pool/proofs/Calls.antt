@@ -14,38 +14,38 @@ use Rattle.sf_engine.specs.Worlds.{Answered, ByCall, Refused, asked_by, packet_f
 use Rattle.sf_pool.specs.declared.calling.Stop.{Stop}
 use Rattle.sf_pool.specs.declared.calling.Stop.TheVariants as stop
 use Rattle.sf_pool.specs.declared.desk.Begin.{Begin}
-use Rattle.sf_pool.specs.Audits.{Deed}
-use Rattle.sf_pool.specs.Desks.{Place, Resting, UnderWay, IsResting, IsUnderWay, IsAnswered, IsLast, Answers, DeskView, Notes}
+use Rattle.sf_audit.specs.Audits.{Deed}
+use Rattle.sf_pool.specs.Desks.{Place, Resting, UnderWay, IsResting, IsUnderWay, IsAnswered, IsLast, Answers, DeskView, Notes, counted}
 use Rattle.sf_pool.specs.Scenes.{answer_deeds, Attempt, attempt, answer_attempts, Begins}
-use Rattle.sf_pool.specs.Serving.{MakesCall, talk, FailsSteps, LacksReply}
+use Rattle.sf_pool.specs.AtDesks.{MakesCall, talk, begun_by, FailsSteps, LacksReply}
 use Rattle.sf_pool.proofs.Talking.{notes_none}
 
 abbrev deed : ℕ → Request → Reply → Deed
 deed number request reply = record { number = number; request = request; reply = reply }
 
 -- what the steps of a call came to
-pub answers_at : (request : Request) (number : ℕ) (d1 d2 : DeskView) → d1.place ≡ UnderWay number request → Answers d1.place d1.calls d2
+pub answers_at : (request : Request) (number : ℕ) (moment : ℕ) (d1 d2 : DeskView) → d1.place ≡ UnderWay number request moment → Answers d1.place d1.calls d2
     → (reply : Reply) × (d2.place ≡ Resting (Some (deed number request reply))) × Notes d1.calls d2.calls (deed number request reply ∷ [])
-answers_at request number d1 d2 at answers = subst (λ (p : Place). Answers p d1.calls d2) at answers
+answers_at request number moment d1 d2 at answers = subst (λ (p : Place). Answers p d1.calls d2) at answers
 
-pub is_answered : (request : Request) (number : ℕ) (d1 d2 : DeskView) → d1.place ≡ UnderWay number request → Answers d1.place d1.calls d2 → IsAnswered d2.place
-is_answered request number d1 d2 at answers =
-    let h = answers_at request number d1 d2 at answers in
+pub is_answered : (request : Request) (number : ℕ) (moment : ℕ) (d1 d2 : DeskView) → d1.place ≡ UnderWay number request moment → Answers d1.place d1.calls d2 → IsAnswered d2.place
+is_answered request number moment d1 d2 at answers =
+    let h = answers_at request number moment d1 d2 at answers in
     subst (λ (p : Place). IsAnswered p) (sym h.1) tt
 
 last_at : (request : Request) (number n : ℕ) (reply given : Reply) (d2 : DeskView) → d2.place ≡ Resting (Some (deed number request given)) → IsLast d2.place n reply → reply ≡ given
 last_at request number n reply given d2 placed last =
     let h : (n ≡ number) × (reply ≡ given) = subst (λ (p : Place). IsLast p n reply) placed last in h.1
 
-made_at : (request : Request) (Asked : List Attempt → Type 0) (d d1 d2 : DeskView) (number n : ℕ) (reply : Reply) (v w : SessionView) (waiting : Option ℕ) → d1.place ≡ UnderWay number request → d1.calls ≡ d.calls
+made_at : (request : Request) (Asked : List Attempt → Type 0) (d d1 d2 : DeskView) (number moment n : ℕ) (reply : Reply) (v w : SessionView) (waiting : Option ℕ) → d1.place ≡ UnderWay number request moment → d1.calls ≡ d.calls
     → Answers d1.place d1.calls d2 → IsLast d2.place n reply
-    → IfSome waiting (λ id. w ≡ record v { output = v.output ++ packet (reply_body id reply); waiting = None }) → Asked (attempt request (Ok number) ∷ [])
+    → IfSome waiting (λ id. w ≡ record v { output = v.output ++ packet (reply_body id reply); waiting = None }) → Asked (attempt request (Ok number) ∷ []) → d2.begun ≡ counted d.begun
     → IfSome waiting (λ id. (a : Answered) × (asked_by a ≡ ask.Call id request)
     × (w ≡ record v { output = v.output ++ packet_for a; waiting = None })
-    × IsResting d2.place × Notes d.calls d2.calls (answer_deeds a) × Asked (answer_attempts a))
-made_at request Asked d d1 d2 number n reply v w None at calls answers last written asked = tt
-made_at request Asked d d1 d2 number n reply v w (Some id) at calls answers last written asked =
-    let h = answers_at request number d1 d2 at answers in
+    × IsResting d2.place × Notes d.calls d2.calls (answer_deeds a) × Asked (answer_attempts a) × (d2.begun ≡ begun_by a d.begun))
+made_at request Asked d d1 d2 number moment n reply v w None at calls answers last written asked begun = tt
+made_at request Asked d d1 d2 number moment n reply v w (Some id) at calls answers last written asked begun =
+    let h = answers_at request number moment d1 d2 at answers in
     let same : reply ≡ h.0 = last_at request number n reply h.0 d2 h.1 last in (
       ByCall id number request h.0,
       refl,
@@ -53,18 +53,19 @@ made_at request Asked d d1 d2 number n reply v w (Some id) at calls answers last
       subst (λ (p : Place). IsResting p) (sym h.1) tt,
       subst (λ (c : Option (List Deed)). Notes c d2.calls (deed number request h.0 ∷ [])) calls h.2,
       asked,
+      begun,
     )
 
-pub call_made : (request : Request) (Asked : List Attempt → Type 0) (d d1 d2 : DeskView) (number n : ℕ) (reply : Reply) (v w : SessionView) → d1.place ≡ UnderWay number request → d1.calls ≡ d.calls
+pub call_made : (request : Request) (Asked : List Attempt → Type 0) (d d1 d2 : DeskView) (number moment n : ℕ) (reply : Reply) (v w : SessionView) → d1.place ≡ UnderWay number request moment → d1.calls ≡ d.calls
     → Answers d1.place d1.calls d2 → IsLast d2.place n reply
-    → IfSome v.waiting (λ id. w ≡ record v { output = v.output ++ packet (reply_body id reply); waiting = None }) → Asked (attempt request (Ok number) ∷ []) → MakesCall request Asked (talk d v) (talk d2 w)
-call_made request Asked d d1 d2 number n reply v w at calls answers last written asked = made_at request Asked d d1 d2 number n reply v w v.waiting at calls answers last written asked
+    → IfSome v.waiting (λ id. w ≡ record v { output = v.output ++ packet (reply_body id reply); waiting = None }) → Asked (attempt request (Ok number) ∷ []) → d2.begun ≡ counted d.begun → MakesCall request Asked (talk d v) (talk d2 w)
+call_made request Asked d d1 d2 number moment n reply v w at calls answers last written asked begun = made_at request Asked d d1 d2 number moment n reply v w v.waiting at calls answers last written asked begun
 
 refused_at : (request : Request) (Asked : List Attempt → Type 0) (d d1 : DeskView) (fault : CoreFault) (v w : SessionView) (waiting : Option ℕ) → IsResting d.place → d1 ≡ d
     → IfSome waiting (λ id. w ≡ record v { output = v.output ++ packet (reply_body id (refusal_of fault)); waiting = None }) → Asked (attempt request (Err fault) ∷ [])
     → IfSome waiting (λ id. (a : Answered) × (asked_by a ≡ ask.Call id request)
     × (w ≡ record v { output = v.output ++ packet_for a; waiting = None })
-    × IsResting d1.place × Notes d.calls d1.calls (answer_deeds a) × Asked (answer_attempts a))
+    × IsResting d1.place × Notes d.calls d1.calls (answer_deeds a) × Asked (answer_attempts a) × (d1.begun ≡ begun_by a d.begun))
 refused_at request Asked d d1 fault v w None rests same written asked = tt
 refused_at request Asked d d1 fault v w (Some id) rests same written asked = (
   Refused id request fault,
@@ -73,26 +74,29 @@ refused_at request Asked d d1 fault v w (Some id) rests same written asked = (
   subst (λ (x : DeskView). IsResting x.place) (sym same) rests,
   subst (λ (x : DeskView). Notes d.calls x.calls []) (sym same) (notes_none d.calls),
   asked,
+  ap (λ (x : DeskView). x.begun) same,
 )
 
 pub call_refused : (request : Request) (Asked : List Attempt → Type 0) (d d1 : DeskView) (fault : CoreFault) (v w : SessionView) → IsResting d.place → d1 ≡ d
     → IfSome v.waiting (λ id. w ≡ record v { output = v.output ++ packet (reply_body id (refusal_of fault)); waiting = None }) → Asked (attempt request (Err fault) ∷ []) → MakesCall request Asked (talk d v) (talk d1 w)
 call_refused request Asked d d1 fault v w rests same written asked = refused_at request Asked d d1 fault v w v.waiting rests same written asked
 
-pub steps_failed : (request : Request) (number : ℕ) (why : Stop) (d d1 d2 : DeskView) → d1.place ≡ UnderWay number request → d1.calls ≡ d.calls → FailsSteps why d1 d2 → LacksReply request number why d d2
-steps_failed request number stop.Stranger d d1 d2 at calls h = (h.0, h.1 ∙ calls)
-steps_failed request number stop.UnderWay d d1 d2 at calls h =
-    (subst (λ (x : DeskView). IsUnderWay x.place) (sym h) (subst (λ (p : Place). IsUnderWay p) (sym at) tt), ap (λ (x : DeskView). x.calls) h ∙ calls)
-steps_failed request number stop.Line d d1 d2 at calls h = absurd h
-steps_failed request number stop.OutOfMemory d d1 d2 at calls h = absurd h
-steps_failed request number stop.NumbersSpent d d1 d2 at calls h = absurd h
+pub steps_failed : (request : Request) (number moment : ℕ) (why : Stop) (d d1 d2 : DeskView) → d1.place ≡ UnderWay number request moment → d1.calls ≡ d.calls → FailsSteps why d1 d2 → LacksReply request number why d d2
+steps_failed request number moment stop.Stranger d d1 d2 at calls h = (h.0, h.1 ∙ calls)
+steps_failed request number moment stop.UnderWay d d1 d2 at calls h = (
+  subst (λ (x : DeskView). IsUnderWay x.place) (sym h.0) (subst (λ (p : Place). IsUnderWay p) (sym at) tt),
+  ap (λ (x : DeskView). x.calls) h.0 ∙ calls,
+  h.1,
+)
+steps_failed request number moment stop.OutOfMemory d d1 d2 at calls h = absurd h
 
-pub answer_failed : (request : Request) (number : ℕ) (d d1 d2 : DeskView) → d1.place ≡ UnderWay number request → d1.calls ≡ d.calls → Answers d1.place d1.calls d2 → LacksReply request number stop.OutOfMemory d d2
-answer_failed request number d d1 d2 at calls answers =
-    let h = answers_at request number d1 d2 at answers in (
+pub answer_failed : (request : Request) (number moment : ℕ) (d d1 d2 : DeskView) → d1.place ≡ UnderWay number request moment → d1.calls ≡ d.calls → Answers d1.place d1.calls d2 → d2.begun ≡ counted d.begun → LacksReply request number stop.OutOfMemory d d2
+answer_failed request number moment d d1 d2 at calls answers begun =
+    let h = answers_at request number moment d1 d2 at answers in (
       h.0,
       subst (λ (p : Place). IsResting p) (sym h.1) tt,
       subst (λ (c : Option (List Deed)). Notes c d2.calls (deed number request h.0 ∷ [])) calls h.2,
+      begun,
     )
 
 -- a desk was asked to begin a call at the moment that was told for it, and no other since

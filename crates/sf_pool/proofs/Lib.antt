@@ -1,11 +1,5 @@
-pub mod Exact
-pub mod Deeds
-pub mod Faults
-pub mod Counted
+pub mod Calls
+pub mod Going
+pub mod Leaving
 pub mod Noted
 pub mod Talking
-pub mod Calls
-pub mod Rounds
-pub mod Stops
-pub mod Talks
-pub mod Turns

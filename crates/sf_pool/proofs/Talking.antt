@@ -1,34 +1,38 @@
--- What happens to a session that is served: it reads, is answered, writes, and ends.
-use Rattle.std.proofs.Common.{◌≡◌, ℕ, ◌+◌, List, [], ◌∷◌, ◌++◌, Bool, true, false, Option, Some, None, map, length, refl, ap, sym, ◌∙◌, subst, inl, inr, append-nil, append_assoc, length-append, arith}
+-- What happens to a session at a desk: it joins, is fed, is answered, and ends.
+use Rattle.std.proofs.Common.{◌≡◌, ◌<◌, ℕ, ◌+◌, List, [], ◌∷◌, ◌++◌, Bool, true, false, Option, Some, None, Result, Ok, Err, map, length, drop, refl, ap, sym, ◌∙◌, subst, inl, inr, append-nil, append_assoc, length-append, arith}
 use Rattle.std.specs.List.{flat_map}
-use Rattle.std.specs.Io.KnownBytes.{Appends, Consumes, Keeps}
-use Rattle.std.proofs.KnownBytes.{Appends-nil, Appends-trans, Consumes-nil, Consumes-trans, Consumes-kept}
-use Rattle.std.proofs.lemmas.List.{length-map, map-append}
+use Rattle.std.specs.Io.KnownBytes.{Appends}
+use Rattle.std.proofs.KnownBytes.{Appends-nil, Appends-trans}
+use Rattle.std.proofs.lemmas.List.{map-append}
 use Rattle.std.proofs.lemmas.List.Concat.{flat_map-append}
 use Rattle.sf_field.specs.Fields.{packet}
 use Rattle.sf_wire.specs.declared.cutting.Cut.TheVariants as cut
-use Rattle.sf_wire.specs.Packets.{IsBody, IsCut, More, Cuts}
-use Rattle.sf_wire.proofs.Laws.{cut_after}
-use Rattle.sf_line.specs.declared.line_call.LineCall.{LineCall}
-use Rattle.sf_line.specs.declared.line_call.LineCall.TheVariants.{Read}
-use Rattle.sf_line.specs.Lines.{Logs, given, taken}
-use Rattle.sf_line.proofs.Laws.{logs_none, logs_more}
+use Rattle.sf_wire.specs.Packets.{IsBody, IsCut}
+use Rattle.sf_call.specs.declared.request.Request.{Request}
 use Rattle.sf_session.specs.declared.asking.Ask.{Ask}
+use Rattle.sf_session.specs.declared.asking.Ask.TheVariants as ask
 use Rattle.sf_session.specs.declared.cause.Cause.{Cause}
+use Rattle.sf_session.specs.declared.fault.ServeFault.{ServeFault}
+use Rattle.sf_session.specs.declared.session.Next.TheVariants as next
 use Rattle.sf_session.specs.Asking.{AsksFor}
-use Rattle.sf_session.specs.Sessions.{SessionView}
-use Rattle.sf_engine.specs.Worlds.{Answered, asked_by, packet_for, transcript, Phase, Resting as AtRest, Gone as Left, Told, new_told}
-use Rattle.sf_engine.specs.Traces.{has_begun}
+use Rattle.sf_session.specs.Sessions.{SessionView, NextGives, LocalPacket, EndsBy, new_session}
+use Rattle.sf_engine.specs.Worlds.{Answered, Version, Locally, ByCall, Refused, asked_by, packet_for, transcript, Phase, Resting as AtRest, UnderWay as InCall, Decided, Gone as Left, Told, new_told}
+use Rattle.sf_engine.specs.Traces.{has_begun, fed, closed_now}
 use Rattle.sf_engine.specs.Laws.{pending, asks_of, AreAsked, IsRest, IsRead}
-use Rattle.sf_engine.proofs.Laws.{all_push, begun_is, begun_push, asked_push, asked_each, map_push}
-use Rattle.sf_serving.specs.Ends.{IsEnd, IsWhole}
-use Rattle.sf_serving.specs.Serving.{progress, IsPromptAt}
-use Rattle.sf_serving.proofs.Laws.{transcript_append, front_more, front_all, prompt_further, nothing_after, prompt_push, prompt_writes, given_more, taken_more, writes_give_none}
+use Rattle.sf_engine.proofs.Laws.{all_push, begun_is, begun_push, asked_push, map_push}
+use Rattle.sf_serving.specs.declared.host.Went.{Went}
+use Rattle.sf_serving.specs.declared.host.Went.TheVariants as went
+use Rattle.sf_serving.specs.Hosts.{IsOpen, IsFurther, WentTo, with_sent, ended}
+use Rattle.sf_serving.proofs.Laws.{transcript_append, none_written, front_all, rest_asked, rest_stream, ended_same, not_closed}
+use Rattle.sf_audit.specs.Audits.{Deed}
+use Rattle.sf_pool.specs.declared.calling.Stop.{Stop}
+use Rattle.sf_pool.specs.declared.calling.Stop.TheVariants as stop
 use Rattle.sf_pool.specs.declared.desk.Begin.{Begin}
-use Rattle.sf_pool.specs.Audits.{Deed}
-use Rattle.sf_pool.specs.Desks.{DeskView, Notes}
-use Rattle.sf_pool.specs.Scenes.{Scene, scene, answer_deeds, phase_deeds, deeds_told, Attempt, attempt_of, answer_attempts, phase_attempts, attempts_told, Begins, Served, HasSentAll, line_at}
-use Rattle.sf_pool.specs.Serving.{Goes, SendsPart, writing}
+use Rattle.sf_pool.specs.declared.at_desk.Standing.{Standing}
+use Rattle.sf_pool.specs.declared.at_desk.Standing.TheVariants as standing
+use Rattle.sf_pool.specs.Desks.{IsResting, DeskView, Notes, counted}
+use Rattle.sf_pool.specs.Scenes.{DeskScene, desk_scene, answer_deeds, phase_deeds, deeds_told, Attempt, attempt_of, answer_attempts, phase_attempts, attempts_told, Begins}
+use Rattle.sf_pool.specs.AtDesks.{MakesCall, talk, begun_by, FailsCall, IsCounted, share_of, IsToldAt, IsInCall, standing_after, fault_of}
 
 -- ---- lists
 
@@ -36,16 +40,16 @@ pub notes_none : {T : Type 0} (a : Option (List T)) → Notes a a []
 notes_none None = tt
 notes_none (Some x) = sym (append-nil x)
 
-pub notes_more : {T : Type 0} (a b c : Option (List T)) (xs ys : List T) → Notes a b xs → Notes b c ys → Notes a c (xs ++ ys)
+notes_more : {T : Type 0} (a b c : Option (List T)) (xs ys : List T) → Notes a b xs → Notes b c ys → Notes a c (xs ++ ys)
 notes_more None b c xs ys p q = tt
 notes_more (Some x) None c xs ys p q = absurd p
 notes_more (Some x) (Some y) None xs ys p q = absurd q
 notes_more (Some x) (Some y) (Some z) xs ys p q = q ∙ ap (λ l. l ++ ys) p ∙ append_assoc x xs ys
 
-pub begins_none : (tl : Option (List ℕ)) (b : Option (List Begin)) → Begins tl tl b b []
+begins_none : (tl : Option (List ℕ)) (b : Option (List Begin)) → Begins tl tl b b []
 begins_none tl b = ([], notes_none b, Appends-nil tl, refl)
 
-pub begins_more : (tl tl1 tl2 : Option (List ℕ)) (b b1 b2 : Option (List Begin)) (xs ys : List Attempt) → Begins tl tl1 b b1 xs → Begins tl1 tl2 b1 b2 ys → Begins tl tl2 b b2 (xs ++ ys)
+begins_more : (tl tl1 tl2 : Option (List ℕ)) (b b1 b2 : Option (List Begin)) (xs ys : List Attempt) → Begins tl tl1 b b1 xs → Begins tl1 tl2 b1 b2 ys → Begins tl tl2 b b2 (xs ++ ys)
 begins_more tl tl1 tl2 b b1 b2 xs ys p q =
     let moment_of : Begin → ℕ = λ x. x.moment in
     let moments = map-append moment_of p.0 q.0 in (
@@ -55,135 +59,194 @@ begins_more tl tl1 tl2 b b1 b2 xs ys p q =
       map-append attempt_of p.0 q.0 ∙ ap (λ (l : List Attempt). l ++ map attempt_of q.0) p.3 ∙ ap (λ (l : List Attempt). xs ++ l) q.3,
     )
 
-none_asked : AreAsked false [] []
-unfolding AreAsked
-none_asked = tt
-
-none_written : transcript [] ≡ []
-unfolding transcript
-none_written = refl
-
 one_packet : (a : Answered) → transcript (a ∷ []) ≡ packet_for a
 unfolding transcript
 one_packet a = append-nil (packet_for a)
 
 -- ---- a session at rest
 
--- nothing is pending
-at_rest_asks : (t : Told) → t.phase ≡ AtRest → asks_of t.answers t.phase ≡ map asked_by t.answers
-at_rest_asks t at = ap (λ (f : Phase). map asked_by t.answers ++ pending f) at ∙ append-nil (map asked_by t.answers)
+rest_deeds : (t : Told) → t.phase ≡ AtRest → deeds_told t ≡ flat_map answer_deeds t.answers
+rest_deeds t at = ap (λ (f : Phase). flat_map answer_deeds t.answers ++ phase_deeds f) at ∙ append-nil (flat_map answer_deeds t.answers)
 
-at_rest_deeds : (t : Told) → t.phase ≡ AtRest → deeds_told t ≡ flat_map answer_deeds t.answers
-at_rest_deeds t at = ap (λ (f : Phase). flat_map answer_deeds t.answers ++ phase_deeds f) at ∙ append-nil (flat_map answer_deeds t.answers)
-
-at_rest_attempts : (t : Told) → t.phase ≡ AtRest → attempts_told t ≡ flat_map answer_attempts t.answers
-at_rest_attempts t at = ap (λ (f : Phase). flat_map answer_attempts t.answers ++ phase_attempts f) at ∙ append-nil (flat_map answer_attempts t.answers)
-
-at_rest_asked : (t : Told) → t.phase ≡ AtRest → IsRead t → AreAsked false t.bodies (map asked_by t.answers)
-at_rest_asked t at read = subst (λ (asks : List Ask). AreAsked false t.bodies asks) (at_rest_asks t at) read.asked
-
-at_rest_left : (t : Told) → t.phase ≡ AtRest → (read : IsRead t) → t.unread ≡ read.rest
-at_rest_left t at read = subst (λ (f : Phase). IsRest (has_begun t.bodies) f t.unread read.rest) at read.left
-
-at_rest_stream : (t : Told) → t.phase ≡ AtRest → (read : IsRead t) → t.stream ≡ flat_map packet t.bodies ++ t.unread
-at_rest_stream t at read = read.stream ∙ ap (λ (b : List ℕ). flat_map packet t.bodies ++ b) (sym (at_rest_left t at read))
+rest_attempts : (t : Told) → t.phase ≡ AtRest → attempts_told t ≡ flat_map answer_attempts t.answers
+rest_attempts t at = ap (λ (f : Phase). flat_map answer_attempts t.answers ++ phase_attempts f) at ∙ append-nil (flat_map answer_attempts t.answers)
 
 -- ---- it joins
 
-pub joined_serves : (start : Scene) (begins' : Option (List Begin)) (desk : DeskView) → begins' ≡ start.begins → desk.calls ≡ start.desk.calls
-    → Served start (scene (line_at start.incoming start.outgoing start.calls) start.told begins' desk) new_told
-joined_serves start begins' desk told_none same = record {
-  bodies = record { rest = []; are_bodies = tt; stream = refl; left = refl; asked = none_asked };
-  read = Consumes-nil start.incoming;
-  wrote = Appends-nil start.outgoing;
-  begun = ([], none_written);
-  noted = subst (λ (c : Option (List Deed)). Notes start.desk.calls c []) (sym same) (notes_none start.desk.calls);
-  asked = subst (λ (b : Option (List Begin)). Begins start.told start.told start.begins b []) (sym told_none) (begins_none start.told start.begins);
-  log = [];
-  logged = logs_none start.calls;
-  gave = refl;
-  took = refl;
-  prompt = λ before later n e. absurd (nothing_after before (Read n) later e);
+pub told_new : (start : DeskScene) (d : DeskView) (b : Option (List Begin)) (v : SessionView) → b ≡ start.begins → d.calls ≡ start.desk.calls → d.begun ≡ 0 → v ≡ new_session → IsToldAt start standing.Joined v (desk_scene d b start.told) new_told
+told_new start d b v none same zero new = record {
+  notes = record {
+    noted = subst (λ (c : Option (List Deed)). Notes start.desk.calls c []) (sym same) (notes_none start.desk.calls);
+    asked = subst (λ (x : Option (List Begin)). Begins start.told start.told start.begins x []) (sym none) (begins_none start.told start.begins);
+  };
+  stands = λ at. record { unread = ap (λ (x : SessionView). x.unread) new; begun = ap (λ (x : SessionView). x.begun) new; ended = ap (λ (x : SessionView). x.ended) new };
+  waits = none_written ∙ sym (ap (λ (x : SessionView). x.output) new);
+  counts = zero;
 }
 
--- ---- it reads
+-- ---- it is fed, and told what was sent
 
--- before a read all is prompt
-prompt_now : (start now : Scene) (t : Told) → (S : Served start now t) → t.phase ≡ AtRest → IsCut t.unread cut.More → HasSentAll t → IsPromptAt (progress 0 t [] t.sent) S.log
-prompt_now start now t S at no_more sent =
-    let asked : AreAsked false t.bodies (map asked_by t.answers) = at_rest_asked t at S.bodies in
-    let cuts : Cuts (flat_map packet t.bodies ++ t.unread) (t.bodies ++ []) (More t.unread) = cut_after t.bodies t.unread S.bodies.are_bodies [] (More t.unread) (refl, no_more) in
-    let same : Cuts (flat_map packet t.bodies ++ t.unread) t.bodies (More t.unread) =
-    subst (λ (bs : List (List ℕ)). Cuts (flat_map packet t.bodies ++ t.unread) bs (More t.unread)) (append-nil t.bodies) cuts in
+-- what a desk counts of a session is the same where the same calls were told
+counts_same : (at : Standing) (d : DeskView) (t t' : Told) → deeds_told t' ≡ deeds_told t → (IsInCall t.phase → IsInCall t'.phase) → IsCounted at d t → IsCounted at d t'
+counts_same standing.Joined d t t' same to h = h ∙ ap (λ (l : List Deed). share_of (length l)) (sym same)
+counts_same standing.Unanswered d t t' same to h = h ∙ ap (λ (l : List Deed). share_of (length l)) (sym same)
+counts_same standing.UnderWay d t t' same to h = to h
+counts_same standing.Strange d t t' same to h = tt
+counts_same (standing.Left share) d t t' same to h = h ∙ ap (λ (l : List Deed). share_of (length l)) (sym same)
+
+pub told_fed : (start now : DeskScene) (at : Standing) (v w : SessionView) (t : Told) (bytes : List ℕ) → IsToldAt start at v now t → IsOpen t → w ≡ record v { unread = v.unread ++ bytes } → IsToldAt start at w now (fed t bytes)
+told_fed start now at v w t bytes h is_open is =
+    let s = h.stands is_open.rests in
     record {
-      read = t.stream;
-      rest = t.unread;
-      bodies = t.bodies;
-      answers = t.answers;
-      was_read = front_all t.stream;
-      count = sym S.gave;
-      cut = subst (λ (b : List ℕ). Cuts b t.bodies (More t.unread)) (sym (at_rest_stream t at S.bodies)) same;
-      were_asked = front_all t.bodies;
-      were_answered = front_all t.answers;
-      each = sym (length-map t.answers asked_by) ∙ asked_each false t.bodies (map asked_by t.answers) asked;
-      were_written = ([], sent ∙ sym (append-nil (transcript t.answers)));
-      wrote = ap (λ (b : List ℕ). length b) (sym sent) ∙ sym S.took;
-    }
-
-abbrev pub fed : Told → List ℕ → Told
-fed t bytes = record t { stream = t.stream ++ bytes; unread = t.unread ++ bytes }
-
-pub read_serves : (start now : Scene) (incoming' outgoing' : Option (List ℕ)) (calls' : Option (List LineCall)) (t : Told) (n : ℕ) (bytes : List ℕ)
-    → Served start now t → t.phase ≡ AtRest → IsCut t.unread cut.More → HasSentAll t → Consumes now.incoming incoming' bytes → length bytes ≡ n → outgoing' ≡ now.outgoing → Logs now.calls calls' (Read n ∷ [])
-    → Served start (scene (line_at incoming' outgoing' calls') now.told now.begins now.desk) (fed t bytes)
-read_serves start now incoming' outgoing' calls' t n bytes S at no_more sent consumes count same logs =
-    let read = S.bodies in
-    let left : t.unread ≡ read.rest = at_rest_left t at read in
-    let more : given (S.log ++ Read n ∷ []) ≡ given S.log + given (Read n ∷ []) = given_more S.log (Read n ∷ []) in
-    let one : given (Read n ∷ []) ≡ n = omega arith in
-    let longer : length (t.stream ++ bytes) ≡ length t.stream + length bytes = length-append t.stream bytes in
-    let none : taken (Read n ∷ []) ≡ 0 = omega arith in
-    let P : Phase → Type 0 = λ f. IsRest (has_begun t.bodies) f (t.unread ++ bytes) (read.rest ++ bytes) in
-    record {
-      bodies = record {
-        rest = read.rest ++ bytes;
-        are_bodies = read.are_bodies;
-        stream = ap (λ (b : List ℕ). b ++ bytes) read.stream ∙ append_assoc (flat_map packet t.bodies) read.rest bytes;
-        left = subst P (sym at) (ap (λ (b : List ℕ). b ++ bytes) left);
-        asked = read.asked;
+      notes = record { noted = h.notes.noted; asked = h.notes.asked };
+      stands = λ rests. record {
+        unread = ap (λ (x : SessionView). x.unread) is ∙ ap (λ (b : List ℕ). b ++ bytes) s.unread;
+        begun = ap (λ (x : SessionView). x.begun) is ∙ s.begun;
+        ended = ap (λ (x : SessionView). x.ended) is ∙ s.ended;
       };
-      read = Consumes-trans start.incoming now.incoming incoming' t.stream bytes S.read consumes;
-      wrote = subst (λ (o : Option (List ℕ)). Appends start.outgoing o t.sent) (sym same) S.wrote;
-      begun = S.begun;
-      noted = S.noted;
-      asked = S.asked;
-      log = S.log ++ Read n ∷ [];
-      logged = logs_more start.calls now.calls calls' S.log (Read n ∷ []) S.logged logs;
-      gave = omega (arith, more, one, longer, S.gave, count);
-      took = omega (arith, taken_more S.log (Read n ∷ []), none, S.took);
-      prompt = prompt_further (progress 0 t [] t.sent) (progress 0 (fed t bytes) [] t.sent) (S.log ++ Read n ∷ [])
-          (record { stream = (bytes, refl); bodies = front_all t.bodies; answers = front_all t.answers; written = front_all t.sent })
-          (prompt_push (progress 0 t [] t.sent) S.log (Read n) S.prompt (prompt_now start now t S at no_more sent));
+      waits = h.waits ∙ ap (λ (x : SessionView). t.sent ++ x.output) (sym is);
+      counts = counts_same at now.desk t (fed t bytes) refl (λ i. i) h.counts;
     }
 
--- a line that moved no byte and told no call
-pub still_serves : (start now : Scene) (incoming' outgoing' : Option (List ℕ)) (calls' : Option (List LineCall)) (t : Told)
-    → Served start now t → Keeps now.incoming incoming' → outgoing' ≡ now.outgoing → Logs now.calls calls' [] → Served start (scene (line_at incoming' outgoing' calls') now.told now.begins now.desk) t
-still_serves start now incoming' outgoing' calls' t S kept same logs = record {
-  bodies = S.bodies;
-  read = Consumes-kept start.incoming now.incoming incoming' t.stream S.read kept;
-  wrote = subst (λ (o : Option (List ℕ)). Appends start.outgoing o t.sent) (sym same) S.wrote;
-  begun = S.begun;
-  noted = S.noted;
-  asked = S.asked;
-  log = S.log;
-  logged = subst (λ (l : List LineCall). Logs start.calls calls' l) (append-nil S.log) (logs_more start.calls now.calls calls' S.log [] S.logged logs);
-  gave = S.gave;
-  took = S.took;
-  prompt = S.prompt;
-}
+drop_whole : (xs : List ℕ) → drop (length xs) xs ≡ []
+drop_whole [] = refl
+drop_whole (x ∷ xs) = drop_whole xs
 
--- ---- it is answered
+pub told_sent : (start now : DeskScene) (at : Standing) (v w : SessionView) (t : Told) (n : ℕ) → IsToldAt start at v now t → n ≡ length v.output → w ≡ record v { output = drop n v.output } → IsToldAt start at w now (with_sent t)
+told_sent start now at v w t n h count is =
+    let none : w.output ≡ [] = ap (λ (x : SessionView). x.output) is ∙ ap (λ (k : ℕ). drop k v.output) count ∙ drop_whole v.output in
+    record {
+      notes = record { noted = h.notes.noted; asked = h.notes.asked };
+      stands = λ rests.
+          let s = h.stands rests in
+          record { unread = ap (λ (x : SessionView). x.unread) is ∙ s.unread; begun = ap (λ (x : SessionView). x.begun) is ∙ s.begun; ended = ap (λ (x : SessionView). x.ended) is ∙ s.ended };
+      waits = sym (append-nil (transcript t.answers)) ∙ ap (λ (b : List ℕ). transcript t.answers ++ b) (sym none);
+      counts = counts_same at now.desk t (with_sent t) refl (λ i. i) h.counts;
+    }
+
+-- a desk that rests is where it was
+pub told_still : (start : DeskScene) (at : Standing) (v : SessionView) (d d' : DeskView) (b b' : Option (List Begin)) (tl : Option (List ℕ)) (t : Told) → d' ≡ d → b' ≡ b → IsToldAt start at v (desk_scene d b tl) t → IsToldAt start at v (desk_scene d' b' tl) t
+told_still start at v d d' b b' tl t p q h =
+    subst (λ (x : Option (List Begin)). IsToldAt start at v (desk_scene d' x tl) t) (sym q) (subst (λ (x : DeskView). IsToldAt start at v (desk_scene x b tl) t) (sym p) h)
+
+-- ---- it ends
+
+closed_deeds : (t : Told) (f : Phase) → t.phase ≡ f → deeds_told (closed_now t f) ≡ deeds_told t
+closed_deeds t AtRest at = ap (λ (f : Phase). flat_map answer_deeds t.answers ++ phase_deeds f) (sym at)
+closed_deeds t (InCall id n m q moves) at = refl
+closed_deeds t (Decided id n q given) at = refl
+closed_deeds t (Left cause) at = refl
+
+closed_attempts : (t : Told) (f : Phase) → t.phase ≡ f → attempts_told (closed_now t f) ≡ attempts_told t
+closed_attempts t AtRest at = ap (λ (f : Phase). flat_map answer_attempts t.answers ++ phase_attempts f) (sym at)
+closed_attempts t (InCall id n m q moves) at = refl
+closed_attempts t (Decided id n q given) at = refl
+closed_attempts t (Left cause) at = refl
+
+closed_in_call : (t : Told) (f : Phase) → t.phase ≡ f → IsInCall t.phase → IsInCall (closed_now t f).phase
+closed_in_call t AtRest at h = absurd (let no : IsInCall AtRest = subst (λ (f : Phase). IsInCall f) at h in no)
+closed_in_call t (InCall id n m q moves) at h = h
+closed_in_call t (Decided id n q given) at h = h
+closed_in_call t (Left cause) at h = h
+
+never_rests : (t : Told) (f : Phase) → t.phase ≡ f → (closed_now t f).phase ≡ AtRest → ⊥
+never_rests t AtRest at e = cc
+never_rests t (InCall id n m q moves) at e = let no : InCall id n m q moves ≡ AtRest = sym at ∙ e in cc
+never_rests t (Decided id n q given) at e = let no : Decided id n q given ≡ AtRest = sym at ∙ e in cc
+never_rests t (Left cause) at e = let no : Left cause ≡ AtRest = sym at ∙ e in cc
+
+-- it stands otherwise, or as it did
+pub told_ended : (start : DeskScene) (at at' : Standing) (v : SessionView) (d d' : DeskView) (b b' : Option (List Begin)) (tl : Option (List ℕ)) (t : Told) → IsToldAt start at v (desk_scene d b tl) t → d'.calls ≡ d.calls → b' ≡ b
+    → (IsCounted at d t → IsCounted at' d' t) → IsToldAt start at' v (desk_scene d' b' tl) (ended t)
+told_ended start at at' v d d' b b' tl t h calls begins count =
+    let same = ended_same t in
+    let noted : Notes start.desk.calls d'.calls (deeds_told t) = subst (λ (c : Option (List Deed)). Notes start.desk.calls c (deeds_told t)) (sym calls) h.notes.noted in
+    let asked : Begins start.told tl start.begins b' (attempts_told t) = subst (λ (x : Option (List Begin)). Begins start.told tl start.begins x (attempts_told t)) (sym begins) h.notes.asked in
+    record {
+      notes = record {
+        noted = subst (λ (l : List Deed). Notes start.desk.calls d'.calls l) (sym (closed_deeds t t.phase refl)) noted;
+        asked = subst (λ (l : List Attempt). Begins start.told tl start.begins b' l) (sym (closed_attempts t t.phase refl)) asked;
+      };
+      stands = λ rests. absurd (never_rests t t.phase refl rests);
+      waits = ap transcript same.answers ∙ h.waits ∙ ap (λ (b : List ℕ). b ++ v.output) (sym same.sent);
+      counts = counts_same at' d' t (ended t) (closed_deeds t t.phase refl) (closed_in_call t t.phase refl) (count h.counts);
+    }
+
+-- ---- it goes on
+
+-- what its host's contract asks of going on
+abbrev pub Goes : DeskScene → Standing → SessionView → DeskScene → Result Went ServeFault → Told → Type 0
+Goes start at v now r t = (t' : Told) × IsToldAt start at v now t' × IsFurther t t' × WentTo r t t'
+
+further_none : (t : Told) → IsRead t → IsFurther t t
+further_none t read = record { stream = refl; sent = refl; bodies = front_all t.bodies; answers = front_all t.answers; read = read }
+
+-- a host that stops at once
+pub goes_not : (start now : DeskScene) (at : Standing) (v w : SessionView) (f : ServeFault) (t : Told) → IsToldAt start at v now t → IsRead t → w ≡ v → Goes start at w now (Err f) t
+goes_not start now at v w f t h read same = (t, subst (λ (x : SessionView). IsToldAt start at x now t) (sym same) h, further_none t read, tt)
+
+-- no whole packet is unread
+pub goes_more : (start now : DeskScene) (at : Standing) (v w : SessionView) (t : Told) → IsToldAt start at v now t → IsOpen t → IsRead t → NextGives v next.More w → Goes start at w now (Ok went.Waits) t
+goes_more start now at v w t h is_open read gives = (
+  t,
+  subst (λ (x : SessionView). IsToldAt start at x now t) (sym gives.2) h,
+  further_none t read,
+  (is_open, subst (λ (b : List ℕ). IsCut b cut.More) (h.stands is_open.rests).unread gives.1),
+)
+
+-- ---- a packet ends it
+
+abbrev ended_by : Told → Cause → Told
+ended_by t cause = record t { unread = []; phase = Left cause }
+
+ends_by : (v w : SessionView) (cause : Cause) → v.ended ≡ None → NextGives v (next.Ended cause) w → EndsBy v.begun v.unread cause
+ends_by v w cause none (inl h) = let e : None ≡ Some cause = sym none ∙ h.0 in absurd (cc)
+ends_by v w cause none (inr h) = h.1
+
+ends_output : (v w : SessionView) (cause : Cause) → NextGives v (next.Ended cause) w → w.output ≡ v.output
+ends_output v w cause (inl h) = ap (λ (x : SessionView). x.output) h.1
+ends_output v w cause (inr h) = ap (λ (x : SessionView). x.output) h.2
+
+pub goes_ended : (start now : DeskScene) (v w : SessionView) (cause : Cause) (t : Told) → IsToldAt start standing.Joined v now t → IsOpen t → IsRead t → NextGives v (next.Ended cause) w → Goes start standing.Joined w now (Ok (went.Ended cause)) t
+goes_ended start now v w cause t h is_open read gives =
+    let at = is_open.rests in
+    let s = h.stands at in
+    let ends : EndsBy (has_begun t.bodies) t.unread cause =
+    subst (λ (g : Bool). EndsBy g t.unread cause) s.begun (subst (λ (b : List ℕ). EndsBy v.begun b cause) s.unread (ends_by v w cause s.ended gives)) in
+    let asked : AreAsked false t.bodies (map asked_by t.answers) = rest_asked t at read in
+    let none : map asked_by t.answers ++ [] ≡ map asked_by t.answers = append-nil (map asked_by t.answers) in
+    let deeds : deeds_told (ended_by t cause) ≡ deeds_told t = ap (λ (f : Phase). flat_map answer_deeds t.answers ++ phase_deeds f) (sym at) in
+    let attempts : attempts_told (ended_by t cause) ≡ attempts_told t = ap (λ (f : Phase). flat_map answer_attempts t.answers ++ phase_attempts f) (sym at) in (
+      ended_by t cause,
+      record {
+        notes = record {
+          noted = subst (λ (l : List Deed). Notes start.desk.calls now.desk.calls l) (sym deeds) h.notes.noted;
+          asked = subst (λ (l : List Attempt). Begins start.told now.told start.begins now.begins l) (sym attempts) h.notes.asked;
+        };
+        stands = λ rests. absurd (let no : Left cause ≡ AtRest = rests in cc);
+        waits = h.waits ∙ ap (λ (b : List ℕ). t.sent ++ b) (sym (ends_output v w cause gives));
+        counts = h.counts ∙ ap (λ (l : List Deed). share_of (length l)) (sym deeds);
+      },
+      record {
+        stream = refl;
+        sent = refl;
+        bodies = front_all t.bodies;
+        answers = front_all t.answers;
+        read = record {
+          rest = t.unread;
+          are_bodies = read.are_bodies;
+          stream = rest_stream t at read;
+          left = (refl, inr ends);
+          asked = subst (λ (l : List Ask). AreAsked false t.bodies l) (sym none) asked;
+        };
+      },
+      (
+        record { left = refl; rest = t.unread; are_bodies = read.are_bodies; stream = rest_stream t at read; end = inr ends; asked = asked },
+        λ closed. not_closed (has_begun t.bodies) t.unread cause closed ends,
+      ),
+    )
+
+-- ---- a packet is answered
 
 -- a body more was read
 bodies_pushed : (bodies : List (List ℕ)) (body rest : List ℕ) → flat_map packet (bodies ++ body ∷ []) ++ rest ≡ flat_map packet bodies ++ (packet body ++ rest)
@@ -191,175 +254,186 @@ bodies_pushed bodies body rest =
     ap (λ (b : List ℕ). b ++ rest) (flat_map-append packet bodies (body ∷ []) ∙ ap (λ (b : List ℕ). flat_map packet bodies ++ b) (append-nil (packet body)))
     ∙ append_assoc (flat_map packet bodies) (packet body) rest
 
-abbrev pub answered : Told → List ℕ → List ℕ → Answered → Told
+abbrev answered : Told → List ℕ → List ℕ → Answered → Told
 answered t body rest a = record t { unread = rest; bodies = t.bodies ++ body ∷ []; answers = t.answers ++ a ∷ [] }
 
--- a body asked for this, and was answered so
-pub answer_serves : (start now : Scene) (told' : Option (List ℕ)) (begins' : Option (List Begin)) (desk' : DeskView) (t : Told) (body rest : List ℕ) (a : Answered)
-    → Served start now t → t.phase ≡ AtRest → t.unread ≡ packet body ++ rest → IsBody body → AsksFor (has_begun t.bodies) body (asked_by a)
-    → Begins now.told told' now.begins begins' (answer_attempts a) → Notes now.desk.calls desk'.calls (answer_deeds a)
-    → Served start (scene (line_at now.incoming now.outgoing now.calls) told' begins' desk') (answered t body rest a)
-answer_serves start now told' begins' desk' t body rest a S at whole is_body asks begins notes =
-    let read = S.bodies in
-    let t' = answered t body rest a in
-    let P : Phase → Type 0 = λ f. IsRest (has_begun t'.bodies) f rest rest in
+-- a body of the session, and what is behind it
+record Body (t : Told) (asked : Ask) : Type 0 where
+  body : List ℕ
+  rest : List ℕ
+  whole : t.unread ≡ packet body ++ rest
+  is_body : IsBody body
+  asks : AsksFor (has_begun t.bodies) body asked
+
+answered_read : (t : Told) (a : Answered) (b : Body t (asked_by a)) → t.phase ≡ AtRest → IsRead t → IsRead (answered t b.body b.rest a)
+answered_read t a b at read =
+    let t' = answered t b.body b.rest a in
+    let P : Phase → Type 0 = λ f. IsRest (has_begun t'.bodies) f b.rest b.rest in
     let asked : AreAsked false t'.bodies (map asked_by t.answers ++ asked_by a ∷ []) =
-    asked_push false t.bodies (map asked_by t.answers) body (asked_by a) (at_rest_asked t at read) (subst (λ (g : Bool). AsksFor g body (asked_by a)) (begun_is t.bodies) asks) in
-    let same_asks : map asked_by t.answers ++ asked_by a ∷ [] ≡ asks_of t'.answers t'.phase = sym (map_push t.answers a) ∙ sym (at_rest_asks t' at) in
-    let calls : flat_map answer_deeds t.answers ++ answer_deeds a ≡ deeds_told t' =
-    ap (λ (l : List Deed). flat_map answer_deeds t.answers ++ l) (sym (append-nil (answer_deeds a))) ∙ sym (flat_map-append answer_deeds t.answers (a ∷ [])) ∙ sym (at_rest_deeds t' at) in
-    let attempts : flat_map answer_attempts t.answers ++ answer_attempts a ≡ attempts_told t' =
-    ap (λ (l : List Attempt). flat_map answer_attempts t.answers ++ l) (sym (append-nil (answer_attempts a))) ∙ sym (flat_map-append answer_attempts t.answers (a ∷ [])) ∙ sym (at_rest_attempts t' at) in
-    let noted : Notes start.desk.calls now.desk.calls (flat_map answer_deeds t.answers) = subst (λ (l : List Deed). Notes start.desk.calls now.desk.calls l) (at_rest_deeds t at) S.noted in
-    let begun : Begins start.told now.told start.begins now.begins (flat_map answer_attempts t.answers) =
-    subst (λ (l : List Attempt). Begins start.told now.told start.begins now.begins l) (at_rest_attempts t at) S.asked in
+    asked_push false t.bodies (map asked_by t.answers) b.body (asked_by a) (rest_asked t at read) (subst (λ (g : Bool). AsksFor g b.body (asked_by a)) (begun_is t.bodies) b.asks) in
+    let none : asks_of t'.answers t'.phase ≡ map asked_by t'.answers = ap (λ (f : Phase). map asked_by t'.answers ++ pending f) at ∙ append-nil (map asked_by t'.answers) in
+    let same_asks : map asked_by t.answers ++ asked_by a ∷ [] ≡ asks_of t'.answers t'.phase = sym (map_push t.answers a) ∙ sym none in
     record {
-      bodies = record {
-        rest = rest;
-        are_bodies = all_push IsBody t.bodies body read.are_bodies is_body;
-        stream = at_rest_stream t at read ∙ ap (λ (b : List ℕ). flat_map packet t.bodies ++ b) whole ∙ sym (bodies_pushed t.bodies body rest);
-        left = subst P (sym at) refl;
-        asked = subst (λ (l : List Ask). AreAsked false t'.bodies l) same_asks asked;
-      };
-      read = S.read;
-      wrote = S.wrote;
-      begun = front_more t.sent (transcript t.answers) (transcript (a ∷ [])) (transcript t'.answers) S.begun (transcript_append t.answers (a ∷ []));
-      noted = subst (λ (l : List Deed). Notes start.desk.calls desk'.calls l) calls (notes_more start.desk.calls now.desk.calls desk'.calls (flat_map answer_deeds t.answers) (answer_deeds a) noted notes);
-      asked = subst (λ (l : List Attempt). Begins start.told told' start.begins begins' l) attempts
-          (begins_more start.told now.told told' start.begins now.begins begins' (flat_map answer_attempts t.answers) (answer_attempts a) begun begins);
-      log = S.log;
-      logged = S.logged;
-      gave = S.gave;
-      took = S.took;
-      prompt = prompt_further (progress 0 t [] t.sent) (progress 0 t' [] t.sent) S.log
-          (record { stream = front_all t.stream; bodies = (body ∷ [], refl); answers = (a ∷ [], refl); written = front_all t.sent }) S.prompt;
+      rest = b.rest;
+      are_bodies = all_push IsBody t.bodies b.body read.are_bodies b.is_body;
+      stream = rest_stream t at read ∙ ap (λ (x : List ℕ). flat_map packet t.bodies ++ x) b.whole ∙ sym (bodies_pushed t.bodies b.body b.rest);
+      left = subst P (sym at) refl;
+      asked = subst (λ (l : List Ask). AreAsked false t'.bodies l) same_asks asked;
     }
 
--- its output follows
-pub answer_goes : (v w : SessionView) (t : Told) (body rest : List ℕ) (a : Answered) → Goes v t → w.unread ≡ rest → w.begun ≡ true → w.ended ≡ None → w.output ≡ v.output ++ packet_for a
-    → Goes w (answered t body rest a)
-answer_goes v w t body rest a goes unread begun ended output =
-    let now : transcript (t.answers ++ a ∷ []) ≡ (t.sent ++ v.output) ++ packet_for a =
-    transcript_append t.answers (a ∷ []) ∙ ap (λ (b : List ℕ). transcript t.answers ++ b) (one_packet a) ∙ ap (λ (b : List ℕ). b ++ packet_for a) goes.waits in
-    record {
-      resting = goes.resting;
-      unread = unread;
-      begun = begun ∙ sym (begun_push t.bodies body);
-      ended = ended;
-      waits = now ∙ append_assoc t.sent v.output (packet_for a) ∙ ap (λ (b : List ℕ). t.sent ++ b) (sym output);
-    }
+deeds_more : (t : Told) (a : Answered) (b : Body t (asked_by a)) → t.phase ≡ AtRest → deeds_told (answered t b.body b.rest a) ≡ flat_map answer_deeds t.answers ++ answer_deeds a
+deeds_more t a b at =
+    rest_deeds (answered t b.body b.rest a) at ∙ flat_map-append answer_deeds t.answers (a ∷ []) ∙ ap (λ (l : List Deed). flat_map answer_deeds t.answers ++ l) (append-nil (answer_deeds a))
 
-abbrev pub pended : Told → List ℕ → List ℕ → Phase → Told
+attempts_more : (t : Told) (a : Answered) (b : Body t (asked_by a)) → t.phase ≡ AtRest → attempts_told (answered t b.body b.rest a) ≡ flat_map answer_attempts t.answers ++ answer_attempts a
+attempts_more t a b at =
+    rest_attempts (answered t b.body b.rest a) at ∙ flat_map-append answer_attempts t.answers (a ∷ []) ∙ ap (λ (l : List Attempt). flat_map answer_attempts t.answers ++ l) (append-nil (answer_attempts a))
+
+counted_more : (k n : ℕ) → n ≡ share_of k → counted n ≡ share_of (k + 1)
+counted_more k n e = omega (arith, e)
+
+-- one call more was counted where one was answered
+begun_more : (a : Answered) (n k : ℕ) → n ≡ share_of k → begun_by a n ≡ share_of (k + length (answer_deeds a))
+begun_more Version n k e = omega (arith, e)
+begun_more (Locally id reply) n k e = omega (arith, e)
+begun_more (ByCall id number request reply) n k e = counted_more k n e
+begun_more (Refused id request refusal) n k e = omega (arith, e)
+
+one_longer : {A : Type 0} (xs : List A) (x : A) → length xs < length (xs ++ x ∷ [])
+one_longer xs x = omega (arith, length-append xs (x ∷ []))
+
+-- a body asked for this, and was answered so: its output follows
+goes_answered : (start now : DeskScene) (d' : DeskView) (b' : Option (List Begin)) (tl' : Option (List ℕ)) (v w : SessionView) (t : Told) (a : Answered) → IsToldAt start standing.Joined v now t → IsOpen t → IsRead t → (b : Body t (asked_by a))
+    → w.unread ≡ b.rest → w.begun ≡ true → w.ended ≡ None → w.output ≡ v.output ++ packet_for a → Notes now.desk.calls d'.calls (answer_deeds a) → Begins now.told tl' now.begins b' (answer_attempts a) → d'.begun ≡ begun_by a now.desk.begun
+    → Goes start standing.Joined w (desk_scene d' b' tl') (Ok went.Answered) t
+goes_answered start now d' b' tl' v w t a h is_open read b unread begun ends output notes begins count =
+    let at = is_open.rests in
+    let t' = answered t b.body b.rest a in
+    let deeds = deeds_more t a b at in
+    let attempts = attempts_more t a b at in
+    let noted : Notes start.desk.calls now.desk.calls (flat_map answer_deeds t.answers) = subst (λ (l : List Deed). Notes start.desk.calls now.desk.calls l) (rest_deeds t at) h.notes.noted in
+    let asked : Begins start.told now.told start.begins now.begins (flat_map answer_attempts t.answers) =
+    subst (λ (l : List Attempt). Begins start.told now.told start.begins now.begins l) (rest_attempts t at) h.notes.asked in
+    let before : now.desk.begun ≡ share_of (length (flat_map answer_deeds t.answers)) = h.counts ∙ ap (λ (l : List Deed). share_of (length l)) (rest_deeds t at) in
+    let longer : length (flat_map answer_deeds t.answers ++ answer_deeds a) ≡ length (flat_map answer_deeds t.answers) + length (answer_deeds a) = length-append (flat_map answer_deeds t.answers) (answer_deeds a) in
+    let sum : d'.begun ≡ share_of (length (deeds_told t')) =
+    count ∙ begun_more a now.desk.begun (length (flat_map answer_deeds t.answers)) before ∙ ap share_of (sym longer) ∙ ap (λ (l : List Deed). share_of (length l)) (sym deeds) in
+    let now_out : transcript (t.answers ++ a ∷ []) ≡ (t.sent ++ v.output) ++ packet_for a =
+    transcript_append t.answers (a ∷ []) ∙ ap (λ (x : List ℕ). transcript t.answers ++ x) (one_packet a) ∙ ap (λ (x : List ℕ). x ++ packet_for a) h.waits in (
+      t',
+      record {
+        notes = record {
+          noted = subst (λ (l : List Deed). Notes start.desk.calls d'.calls l) (sym deeds) (notes_more start.desk.calls now.desk.calls d'.calls (flat_map answer_deeds t.answers) (answer_deeds a) noted notes);
+          asked = subst (λ (l : List Attempt). Begins start.told tl' start.begins b' l) (sym attempts)
+              (begins_more start.told now.told tl' start.begins now.begins b' (flat_map answer_attempts t.answers) (answer_attempts a) asked begins);
+        };
+        stands = λ rests. record { unread = unread; begun = begun ∙ sym (begun_push t.bodies b.body); ended = ends };
+        waits = now_out ∙ append_assoc t.sent v.output (packet_for a) ∙ ap (λ (x : List ℕ). t.sent ++ x) (sym output);
+        counts = sum;
+      },
+      record { stream = refl; sent = refl; bodies = (b.body ∷ [], refl); answers = (a ∷ [], refl); read = answered_read t a b at read },
+      (record { rests = at; closed = is_open.closed }, one_longer t.answers a),
+    )
+
+-- what answers a body with no call
+local_at : (asked : Ask) (text : List ℕ) → LocalPacket asked text
+    → (a : Answered) × (asked_by a ≡ asked) × (packet_for a ≡ text) × (answer_attempts a ≡ []) × (answer_deeds a ≡ []) × ((n : ℕ) → begun_by a n ≡ n)
+local_at ask.Version text h = (Version, refl, sym h, refl, refl, λ n. refl)
+local_at (ask.Local id reply) text h = (Locally id reply, refl, sym h, refl, refl, λ n. refl)
+local_at (ask.Call id request) text h = absurd h
+local_at (ask.End cause) text h = absurd h
+
+pub goes_local : (start now : DeskScene) (v w : SessionView) (t : Told) → IsToldAt start standing.Joined v now t → IsOpen t → IsRead t → NextGives v next.Local w → Goes start standing.Joined w now (Ok went.Answered) t
+goes_local start now v w t h is_open read gives =
+    let s = h.stands is_open.rests in
+    let g = gives.1 in
+    let a = local_at g.asked g.text g.local_packet in
+    let asks : AsksFor (has_begun t.bodies) g.body (asked_by a.0) =
+    subst (λ (x : Bool). AsksFor x g.body (asked_by a.0)) s.begun (subst (λ (x : Ask). AsksFor v.begun g.body x) (sym a.1) g.asks) in
+    let b : Body t (asked_by a.0) = record { body = g.body; rest = g.rest; whole = sym s.unread ∙ g.begins.whole; is_body = g.begins.is_body; asks = asks } in
+    goes_answered start now now.desk now.begins now.told v w t a.0 h is_open read b (ap (λ (x : SessionView). x.unread) g.now) (ap (λ (x : SessionView). x.begun) g.now) (ap (λ (x : SessionView). x.ended) g.now)
+    (ap (λ (x : SessionView). x.output) g.now ∙ ap (λ (x : List ℕ). v.output ++ x) (sym a.2))
+    (subst (λ (l : List Deed). Notes now.desk.calls now.desk.calls l) (sym a.4) (notes_none now.desk.calls))
+    (subst (λ (l : List Attempt). Begins now.told now.told now.begins now.begins l) (sym a.3) (begins_none now.told now.begins))
+    (sym (a.5 now.desk.begun))
+
+-- a packet's call was made, or refused
+pub goes_called : (start : DeskScene) (d d' : DeskView) (b b' : Option (List Begin)) (tl tl' : Option (List ℕ)) (v m w : SessionView) (request : Request) (t : Told) → IsToldAt start standing.Joined v (desk_scene d b tl) t → IsOpen t → IsRead t
+    → NextGives v (next.Call request) m → MakesCall request (Begins tl tl' b b') (talk d m) (talk d' w) → Goes start standing.Joined w (desk_scene d' b' tl') (Ok went.Answered) t
+goes_called start d d' b b' tl tl' v m w request t h is_open read gives made =
+    let s = h.stands is_open.rests in
+    let g = gives.1 in
+    let a = subst (λ (x : SessionView). MakesCall request (Begins tl tl' b b') (talk d x) (talk d' w)) g.now made in
+    let asks : AsksFor (has_begun t.bodies) g.body (asked_by a.0) =
+    subst (λ (x : Bool). AsksFor x g.body (asked_by a.0)) s.begun (subst (λ (x : Ask). AsksFor v.begun g.body x) (sym a.1) g.asks) in
+    let y : Body t (asked_by a.0) = record { body = g.body; rest = g.rest; whole = sym s.unread ∙ g.begins.whole; is_body = g.begins.is_body; asks = asks } in
+    goes_answered start (desk_scene d b tl) d' b' tl' v w t a.0 h is_open read y (ap (λ (x : SessionView). x.unread) a.2) (ap (λ (x : SessionView). x.begun) a.2) (ap (λ (x : SessionView). x.ended) a.2) (ap (λ (x : SessionView). x.output) a.2) a.4 a.5 a.6
+
+pub called_ready : (Asked : List Attempt → Type 0) (d d' : DeskView) (v m w : SessionView) (request : Request) → NextGives v (next.Call request) m → MakesCall request Asked (talk d m) (talk d' w) → IsResting d'.place × (w.waiting ≡ None)
+called_ready Asked d d' v m w request gives made =
+    let a = subst (λ (x : SessionView). MakesCall request Asked (talk d x) (talk d' w)) gives.1.now made in
+    (a.3, ap (λ (x : SessionView). x.waiting) a.2)
+
+-- ---- a packet's call has no reply
+
+abbrev pended : Told → List ℕ → List ℕ → Phase → Told
 pended t body rest f = record t { unread = rest; bodies = t.bodies ++ body ∷ []; phase = f }
 
--- a body asked for a call that has no reply yet
-pub pend_serves : (start now : Scene) (told' : Option (List ℕ)) (begins' : Option (List Begin)) (desk' : DeskView) (t : Told) (body rest : List ℕ) (f : Phase) (a : Ask)
-    → Served start now t → t.phase ≡ AtRest → t.unread ≡ packet body ++ rest → IsBody body → AsksFor (has_begun t.bodies) body a → pending f ≡ a ∷ [] → IsRest (has_begun (t.bodies ++ body ∷ [])) f rest rest
-    → Begins now.told told' now.begins begins' (phase_attempts f) → Notes now.desk.calls desk'.calls (phase_deeds f)
-    → Served start (scene (line_at now.incoming now.outgoing now.calls) told' begins' desk') (pended t body rest f)
-pend_serves start now told' begins' desk' t body rest f a S at whole is_body asks pend left begins notes =
-    let read = S.bodies in
-    let t' = pended t body rest f in
+-- what its phase tells of its moment and its moves is of no account
+goes_pended : (start now : DeskScene) (at : Standing) (d' : DeskView) (b' : Option (List Begin)) (tl' : Option (List ℕ)) (v m w : SessionView) (request : Request) (t : Told) (f : Phase) (g : ServeFault) → IsToldAt start standing.Joined v now t → IsOpen t → IsRead t
+    → (gives : NextGives v (next.Call request) m) → w ≡ m → pending f ≡ ask.Call gives.1.id request ∷ [] → ((begun : Bool) (bytes : List ℕ) → IsRest begun f bytes bytes) → (f ≡ AtRest → ⊥)
+    → Notes now.desk.calls d'.calls (phase_deeds f) → Begins now.told tl' now.begins b' (phase_attempts f)
+    → ((k : ℕ) → now.desk.begun ≡ share_of k → (t' : Told) → t'.phase ≡ f → length (deeds_told t') ≡ k + length (phase_deeds f) → IsCounted at d' t')
+    → Goes start at w (desk_scene d' b' tl') (Err g) t
+goes_pended start now at d' b' tl' v m w request t f g h is_open read gives same pend left busy notes begins count =
+    let rests = is_open.rests in
+    let s = h.stands rests in
+    let x = gives.1 in
+    let t' = pended t x.body x.rest f in
+    let a : Ask = ask.Call x.id request in
+    let whole : t.unread ≡ packet x.body ++ x.rest = sym s.unread ∙ x.begins.whole in
+    let asks : AsksFor (has_begun t.bodies) x.body a = subst (λ (y : Bool). AsksFor y x.body a) s.begun x.asks in
     let asked : AreAsked false t'.bodies (map asked_by t.answers ++ a ∷ []) =
-    asked_push false t.bodies (map asked_by t.answers) body a (at_rest_asked t at read) (subst (λ (g : Bool). AsksFor g body a) (begun_is t.bodies) asks) in
+    asked_push false t.bodies (map asked_by t.answers) x.body a (rest_asked t rests read) (subst (λ (y : Bool). AsksFor y x.body a) (begun_is t.bodies) asks) in
     let same_asks : map asked_by t.answers ++ a ∷ [] ≡ asks_of t'.answers t'.phase = ap (λ (l : List Ask). map asked_by t.answers ++ l) (sym pend) in
-    let noted : Notes start.desk.calls now.desk.calls (flat_map answer_deeds t.answers) = subst (λ (l : List Deed). Notes start.desk.calls now.desk.calls l) (at_rest_deeds t at) S.noted in
+    let noted : Notes start.desk.calls now.desk.calls (flat_map answer_deeds t.answers) = subst (λ (l : List Deed). Notes start.desk.calls now.desk.calls l) (rest_deeds t rests) h.notes.noted in
     let begun : Begins start.told now.told start.begins now.begins (flat_map answer_attempts t.answers) =
-    subst (λ (l : List Attempt). Begins start.told now.told start.begins now.begins l) (at_rest_attempts t at) S.asked in
-    record {
-      bodies = record {
-        rest = rest;
-        are_bodies = all_push IsBody t.bodies body read.are_bodies is_body;
-        stream = at_rest_stream t at read ∙ ap (λ (b : List ℕ). flat_map packet t.bodies ++ b) whole ∙ sym (bodies_pushed t.bodies body rest);
-        left = left;
-        asked = subst (λ (l : List Ask). AreAsked false t'.bodies l) same_asks asked;
-      };
-      read = S.read;
-      wrote = S.wrote;
-      begun = S.begun;
-      noted = notes_more start.desk.calls now.desk.calls desk'.calls (flat_map answer_deeds t.answers) (phase_deeds f) noted notes;
-      asked = begins_more start.told now.told told' start.begins now.begins begins' (flat_map answer_attempts t.answers) (phase_attempts f) begun begins;
-      log = S.log;
-      logged = S.logged;
-      gave = S.gave;
-      took = S.took;
-      prompt = prompt_further (progress 0 t [] t.sent) (progress 0 t' [] t.sent) S.log
-          (record { stream = front_all t.stream; bodies = (body ∷ [], refl); answers = front_all t.answers; written = front_all t.sent }) S.prompt;
-    }
-
--- ---- it writes
-
-abbrev pub sent_more : Told → List ℕ → Told
-sent_more t bytes = record t { sent = t.sent ++ bytes }
-
-pub write_serves : (start now : Scene) (incoming' outgoing' : Option (List ℕ)) (calls' : Option (List LineCall)) (v w : SessionView) (t : Told)
-    → Served start now t → Goes v t → incoming' ≡ now.incoming → (part : SendsPart (writing now.outgoing now.calls) (writing outgoing' calls') v w)
-    → Served start (scene (line_at incoming' outgoing' calls') now.told now.begins now.desk) (sent_more t part.sent) × Goes w (sent_more t part.sent)
-write_serves start now incoming' outgoing' calls' v w t S goes same part =
-    let writes = part.logged in
-    let t' = sent_more t part.sent in
-    let none : given writes.0 ≡ 0 = writes_give_none writes.0 writes.2 in
-    let longer : length (t.sent ++ part.sent) ≡ length t.sent + length part.sent = length-append t.sent part.sent in
-    let waits : transcript t.answers ≡ (t.sent ++ part.sent) ++ w.output = goes.waits ∙ ap (λ (b : List ℕ). t.sent ++ b) part.whole ∙ sym (append_assoc t.sent part.sent w.output) in (
+    subst (λ (l : List Attempt). Begins start.told now.told start.begins now.begins l) (rest_attempts t rests) h.notes.asked in
+    let output : w.output ≡ v.output = ap (λ (y : SessionView). y.output) same ∙ ap (λ (y : SessionView). y.output) x.now in (
+      t',
       record {
-        bodies = record { rest = S.bodies.rest; are_bodies = S.bodies.are_bodies; stream = S.bodies.stream; left = S.bodies.left; asked = S.bodies.asked };
-        read = subst (λ (o : Option (List ℕ)). Consumes start.incoming o t.stream) (sym same) S.read;
-        wrote = Appends-trans start.outgoing now.outgoing outgoing' t.sent part.sent S.wrote part.appended;
-        begun = (w.output, waits);
-        noted = S.noted;
-        asked = S.asked;
-        log = S.log ++ writes.0;
-        logged = logs_more start.calls now.calls calls' S.log writes.0 S.logged writes.1;
-        gave = omega (arith, given_more S.log writes.0, none, S.gave);
-        took = omega (arith, taken_more S.log writes.0, writes.3, S.took, longer);
-        prompt = prompt_further (progress 0 t [] t.sent) (progress 0 t' [] t'.sent) (S.log ++ writes.0)
-            (record { stream = front_all t.stream; bodies = front_all t.bodies; answers = front_all t.answers; written = (part.sent, refl) })
-            (prompt_writes (progress 0 t [] t.sent) S.log writes.0 S.prompt writes.2);
-      },
-      record {
-        resting = goes.resting;
-        unread = ap (λ (x : SessionView). x.unread) part.now ∙ goes.unread;
-        begun = ap (λ (x : SessionView). x.begun) part.now ∙ goes.begun;
-        ended = ap (λ (x : SessionView). x.ended) part.now ∙ goes.ended;
-        waits = waits;
-      },
-    )
-
--- where nothing waits, all was written
-pub all_sent : (v : SessionView) (t : Told) → Goes v t → v.output ≡ [] → HasSentAll t
-all_sent v t goes none = sym (goes.waits ∙ ap (λ (b : List ℕ). t.sent ++ b) none ∙ append-nil t.sent)
-
--- ---- it ends
-
-abbrev pub ended_by : Told → Cause → Told
-ended_by t cause = record t { unread = []; phase = Left cause }
-
-pub end_serves : (start now : Scene) (t : Told) (cause : Cause) → Served start now t → t.phase ≡ AtRest → IsEnd (has_begun t.bodies) t.unread cause
-    → Served start now (ended_by t cause) × IsWhole (ended_by t cause) cause
-end_serves start now t cause S at end =
-    let read = S.bodies in
-    let asked : AreAsked false t.bodies (map asked_by t.answers) = at_rest_asked t at read in
-    let none : map asked_by t.answers ++ [] ≡ map asked_by t.answers = append-nil (map asked_by t.answers) in
-    let stream : t.stream ≡ flat_map packet t.bodies ++ t.unread = at_rest_stream t at read in (
-      record {
-        bodies = record {
-          rest = t.unread;
-          are_bodies = read.are_bodies;
-          stream = stream;
-          left = (refl, elim end [ inl h ↦ inl h.0 | inr h ↦ inr h ]);
-          asked = subst (λ (l : List Ask). AreAsked false t.bodies l) (sym none) asked;
+        notes = record {
+          noted = notes_more start.desk.calls now.desk.calls d'.calls (flat_map answer_deeds t.answers) (phase_deeds f) noted notes;
+          asked = begins_more start.told now.told tl' start.begins now.begins b' (flat_map answer_attempts t.answers) (phase_attempts f) begun begins;
         };
-        read = S.read;
-        wrote = S.wrote;
-        begun = S.begun;
-        noted = subst (λ (f : Phase). Notes start.desk.calls now.desk.calls (flat_map answer_deeds t.answers ++ phase_deeds f)) at S.noted;
-        asked = subst (λ (f : Phase). Begins start.told now.told start.begins now.begins (flat_map answer_attempts t.answers ++ phase_attempts f)) at S.asked;
-        log = S.log;
-        logged = S.logged;
-        gave = S.gave;
-        took = S.took;
-        prompt = prompt_further (progress 0 t [] t.sent) (progress 0 (ended_by t cause) [] t.sent) S.log
-            (record { stream = front_all t.stream; bodies = front_all t.bodies; answers = front_all t.answers; written = front_all t.sent }) S.prompt;
+        stands = λ e. absurd (busy e);
+        waits = h.waits ∙ ap (λ (y : List ℕ). t.sent ++ y) (sym output);
+        counts = count (length (flat_map answer_deeds t.answers)) (h.counts ∙ ap (λ (l : List Deed). share_of (length l)) (rest_deeds t rests)) t' refl (length-append (flat_map answer_deeds t.answers) (phase_deeds f));
       },
-      record { left = refl; rest = t.unread; are_bodies = read.are_bodies; stream = stream; end = end; asked = asked },
+      record {
+        stream = refl;
+        sent = refl;
+        bodies = (x.body ∷ [], refl);
+        answers = front_all t.answers;
+        read = record {
+          rest = x.rest;
+          are_bodies = all_push IsBody t.bodies x.body read.are_bodies x.begins.is_body;
+          stream = rest_stream t rests read ∙ ap (λ (y : List ℕ). flat_map packet t.bodies ++ y) whole ∙ sym (bodies_pushed t.bodies x.body x.rest);
+          left = left (has_begun t'.bodies) x.rest;
+          asked = subst (λ (l : List Ask). AreAsked false t'.bodies l) same_asks asked;
+        };
+      },
+      tt,
     )
+
+pub goes_stopped : (start : DeskScene) (d d' : DeskView) (b b' : Option (List Begin)) (tl tl' : Option (List ℕ)) (v m w : SessionView) (request : Request) (t : Told) (why : Stop) → IsToldAt start standing.Joined v (desk_scene d b tl) t → IsOpen t → IsRead t
+    → NextGives v (next.Call request) m → w ≡ m → FailsCall request why (Begins tl tl' b b') d d' → Goes start (standing_after why) w (desk_scene d' b' tl') (Err (fault_of why)) t
+goes_stopped start d d' b b' tl tl' v m w request t stop.OutOfMemory h is_open read gives same fails =
+    goes_pended start (desk_scene d b tl) standing.Unanswered d' b' tl' v m w request t (Decided gives.1.id fails.0 request fails.1.0) (fault_of stop.OutOfMemory) h is_open read gives same refl (λ begun bytes. refl) (λ e. cc) fails.1.2 fails.2
+    (λ k n t' phase e. fails.1.3 ∙ counted_more k d.begun n ∙ ap share_of (sym e))
+goes_stopped start d d' b b' tl tl' v m w request t stop.Stranger h is_open read gives same fails =
+    goes_pended start (desk_scene d b tl) standing.Strange d' b' tl' v m w request t (InCall gives.1.id fails.0 0 request 0) (fault_of stop.Stranger) h is_open read gives same refl (λ begun bytes. refl) (λ e. cc)
+    (subst (λ (x : Option (List Deed)). Notes d.calls x []) (sym fails.1.1) (notes_none d.calls)) fails.2 (λ k n t' phase e. tt)
+goes_stopped start d d' b b' tl tl' v m w request t stop.UnderWay h is_open read gives same fails =
+    goes_pended start (desk_scene d b tl) standing.UnderWay d' b' tl' v m w request t (InCall gives.1.id fails.0 0 request 0) (fault_of stop.UnderWay) h is_open read gives same refl (λ begun bytes. refl) (λ e. cc)
+    (subst (λ (x : Option (List Deed)). Notes d.calls x []) (sym fails.1.1) (notes_none d.calls)) fails.2 (λ k n t' phase e. subst (λ (f : Phase). IsInCall f) (sym phase) tt)

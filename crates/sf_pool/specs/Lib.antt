@@ -1,6 +1,5 @@
-pub mod Audits
 pub mod Desks
 pub mod Scenes
-pub mod Serving
+pub mod AtDesks
 pub mod Stays
 pub mod OnCores

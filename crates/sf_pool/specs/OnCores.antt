@@ -16,7 +16,7 @@ use Rattle.sf_pool.specs.Desks.{Place, UnderWay, IsLast, DeskView}
 
 -- the number of the call under way
 abbrev pub call_in : Place → Option ℕ
-call_in (UnderWay number request) = Some number
+call_in (UnderWay number request moment) = Some number
 call_in _ = None
 
 -- the lane is the session's, with the session's call

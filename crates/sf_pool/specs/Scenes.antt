@@ -1,52 +1,30 @@
 -- How far a session was served at a desk.
-use Rattle.std.specs.Prelude.{◌≡◌, ◌≢◌, ◌+◌, ◌-◌, ◌^◌, ◌⊎◌, ℕ, min, List, [], ◌∷◌, ◌++◌, length, map, Option, Result, Ok, Err}
+use Rattle.std.specs.Prelude.{◌≡◌, ◌+◌, ◌-◌, ◌^◌, ◌≤◌, ◌⊎◌, ℕ, min, List, [], ◌∷◌, ◌++◌, length, map, Option, Result, Ok, Err}
 use Rattle.std.specs.List.{flat_map}
-use Rattle.std.specs.Io.KnownBytes.{Appends, Consumes, IsAtEnd}
-use Rattle.sf_line.specs.declared.line_call.LineCall.{LineCall}
-use Rattle.sf_line.specs.Lines.{Rose, Logs, given, taken}
+use Rattle.std.specs.Io.KnownBytes.{Appends}
+use Rattle.sf_line.specs.Lines.{Rose}
 use Rattle.sf_call.specs.declared.request.Request.{Request}
 use Rattle.sf_call.specs.declared.fault.CoreFault.{CoreFault}
+use Rattle.sf_call.specs.declared.fault.CoreFault.TheVariants as refused
 use Rattle.sf_session.specs.declared.cause.Cause.{Cause}
-use Rattle.sf_session.specs.declared.cause.Cause.TheVariants.{Closed}
 use Rattle.sf_session.specs.declared.fault.ServeFault.{ServeFault}
 use Rattle.sf_session.specs.declared.fault.ServeFault.TheVariants as fault
-use Rattle.sf_engine.specs.Worlds.{Answered, Version, Locally, ByCall, Refused, transcript, Phase, Resting as AtRest, UnderWay as InCall, Decided, Gone as Left, Told}
-use Rattle.sf_engine.specs.Laws.{IsRead}
-use Rattle.sf_serving.specs.Ends.{IsWhole}
-use Rattle.sf_serving.specs.Serving.{IsFront, progress, IsPrompt}
+use Rattle.sf_engine.specs.Worlds.{Answered, Version, Locally, ByCall, Refused as NotBegun, Phase, Resting as AtRest, UnderWay as InCall, Decided, Gone as Left, Told}
+use Rattle.sf_serving.specs.Hosts.{most_counted}
+use Rattle.sf_serving.specs.Serving.{LineView, Progress, Serves, IsServed, HasWrittenFor}
+use Rattle.sf_audit.specs.Audits.{Deed}
 use Rattle.sf_pool.specs.declared.desk.Begin.{Begin}
-use Rattle.sf_pool.specs.Audits.{Deed}
-use Rattle.sf_pool.specs.Desks.{Gone, IsUnderWay, DeskView, Notes, Counts}
+use Rattle.sf_pool.specs.Desks.{Refused, Gone, IsUnderWay, DeskView, Notes}
 
--- What a line still has to give, what it has taken, its calls, the moments that a clock told, and the calls that began at a desk
--- or were refused there, where they tell it; and a session at the desk.
-pub record Scene : Type 0 where
-  pub incoming : Option (List ℕ)
-  pub outgoing : Option (List ℕ)
-  pub calls : Option (List LineCall)
-  pub told : Option (List ℕ)
-  pub begins : Option (List Begin)
+-- A desk, the calls that it was asked to begin, where it tells them, and the moments that a clock
+-- told.
+pub record DeskScene : Type 0 where
   pub desk : DeskView
+  pub begins : Option (List Begin)
+  pub told : Option (List ℕ)
 
--- what a line tells: what is to come, what it was given to send, and the calls that it was asked for
-pub record LineAt : Type 0 where
-  pub incoming : Option (List ℕ)
-  pub outgoing : Option (List ℕ)
-  pub calls : Option (List LineCall)
-
-abbrev pub line_at : Option (List ℕ) → Option (List ℕ) → Option (List LineCall) → LineAt
-line_at incoming outgoing calls =
-    record { incoming = incoming; outgoing = outgoing; calls = calls }
-
-abbrev pub scene : LineAt → Option (List ℕ) → Option (List Begin) → DeskView → Scene
-scene line told begins desk = record {
-  incoming = line.incoming;
-  outgoing = line.outgoing;
-  calls = line.calls;
-  told = told;
-  begins = begins;
-  desk = desk;
-}
+abbrev pub desk_scene : DeskView → Option (List Begin) → Option (List ℕ) → DeskScene
+desk_scene desk begins told = record { desk = desk; begins = begins; told = told }
 
 -- the call that was answered so, unless it was refused
 abbrev pub answer_deeds : Answered → List Deed
@@ -54,7 +32,7 @@ answer_deeds Version = []
 answer_deeds (Locally id reply) = []
 answer_deeds (ByCall id number request reply) =
     record { number = number; request = request; reply = reply } ∷ []
-answer_deeds (Refused id request refusal) = []
+answer_deeds (NotBegun id request refusal) = []
 
 -- the call whose answer waits
 abbrev pub phase_deeds : Phase → List Deed
@@ -84,7 +62,7 @@ abbrev pub answer_attempts : Answered → List Attempt
 answer_attempts Version = []
 answer_attempts (Locally id reply) = []
 answer_attempts (ByCall id number request reply) = attempt request (Ok number) ∷ []
-answer_attempts (Refused id request refusal) = attempt request (Err refusal) ∷ []
+answer_attempts (NotBegun id request refusal) = attempt request (Err refusal) ∷ []
 
 -- the call that goes on, or whose answer waits, began
 abbrev pub phase_attempts : Phase → List Attempt
@@ -97,64 +75,75 @@ phase_attempts (Left cause) = []
 abbrev pub attempts_told : Told → List Attempt
 attempts_told t = flat_map answer_attempts t.answers ++ phase_attempts t.phase
 
--- The desk was asked to begin these calls, and no others, each at the moment that the clock told for it.
+-- The desk was asked to begin these calls, and no others, each at the moment that the clock told
+-- for it.
 abbrev pub Begins : Option (List ℕ) → Option (List ℕ) → Option (List Begin) → Option (List Begin)
     → List Attempt → Type 0
 Begins told told' begins begins' attempts =
     (more : List Begin) × Notes begins begins' more × Appends told told' (map (λ b. b.moment) more)
     × (map attempt_of more ≡ attempts)
 
--- Since the start a session was served so: its stream is what was read, and each body that was read asks for its answer. What was
--- written is the beginning of its transcript, and was written promptly. The desk noted the calls that it was answered, and no
--- others; and it was asked to begin those that the session asked for, and no others, each at the moment that was told for it.
-pub record Served (start now : Scene) (t : Told) : Type 0 where
-  pub bodies : IsRead t
-  pub read : Consumes start.incoming now.incoming t.stream
-  pub wrote : Appends start.outgoing now.outgoing t.sent
-  pub begun : IsFront t.sent (transcript t.answers)
+-- Since the start a session was told this at the desk, which noted the calls that it was answered,
+-- and no others; and it was asked to begin those that the session asked for, and no others, each at
+-- the moment that was told for it.
+pub record IsNoted (start now : DeskScene) (t : Told) : Type 0 where
   pub noted : Notes start.desk.calls now.desk.calls (deeds_told t)
   pub asked : Begins start.told now.told start.begins now.begins (attempts_told t)
-  pub log : List LineCall
-  pub logged : Logs start.calls now.calls log
-  pub gave : given log ≡ length t.stream
-  pub took : taken log ≡ length t.sent
-  pub prompt : IsPrompt (progress 0 t [] t.sent) log
 
--- a session was served, and is so far
-abbrev pub Serves : Scene → Scene → (Told → Type 0) → Type 0
-Serves start now P = (t : Told) × Served start now t × P t
+-- so many calls were added to a share, up to 2^64 - 1
+abbrev pub IsShared : ℕ → ℕ → ℕ → Type 0
+IsShared n old new = new ≡ min (old + n) (2 ^ 64 - 1)
 
--- all that the session was answered was written
-abbrev pub HasSentAll : Told → Type 0
-HasSentAll t = t.sent ≡ transcript t.answers
+-- A session was served to its end. It has left the desk, and the calls that it was answered were
+-- added to a share.
+abbrev pub ServesDesk : (start now : DeskScene) → (from line : LineView) → (old new : ℕ) → Type 0
+ServesDesk start now from line old new = Serves (IsNoted start now) from line
+    (λ p. ((cause : Cause) × IsServed line.incoming cause p) × (now.desk.place ≡ Gone)
+    × IsShared (length (deeds_told p.told)) old new)
 
--- it was served to the end of the input, or to where what was read ends by a cause
-abbrev pub IsServed : Option (List ℕ) → Told → Type 0
-IsServed incoming t =
-    (cause : Cause) × IsWhole t cause × HasSentAll t × (cause ≡ Closed → IsAtEnd incoming)
+-- why a session doesn't join
+abbrev pub join_refusal : CoreFault → ServeFault
+join_refusal refused.OutOfMemory = fault.OutOfMemory
+join_refusal refused.Sessions = fault.Sessions
+join_refusal refused.NumbersSpent = fault.NumbersSpent
+join_refusal refused.Stranger = fault.Stranger
 
--- the desk's calls were added to a share, up to 2^64 - 1
-abbrev pub IsShared : DeskView → ℕ → ℕ → Type 0
-IsShared desk old new = (n : ℕ) × Counts desk.calls n × (new ≡ min (old + n) (2 ^ 64 - 1))
+-- the session never joined: there was no memory to read, or it was refused so
+abbrev pub NeverJoins : DeskView → DeskView → ServeFault → Type 0
+NeverJoins start now f = ((f ≡ fault.OutOfMemory) × (now ≡ start))
+    ⊎ ((refusal : CoreFault) × (f ≡ join_refusal refusal)
+    × (now ≡ record start { place = Refused refusal }))
 
--- What serving did when it stopped so: nothing, since the session hasn't joined; or the session was served so far, and unless the
--- line failed, all that it was answered was written.
-abbrev pub StopsEarly : Scene → Scene → ServeFault → ℕ → ℕ → Type 0
-StopsEarly start now f failed failed' =
-    (now ≡ start) ⊎ ((f ≢ fault.Sessions) × Serves start now (λ t. Rose failed failed'
-    ⊎ HasSentAll t))
+-- How a desk is left whose session joined: it has left, and the calls that it was answered were
+-- added to a share; or its call has no answer after 2^64 - 1 steps.
+abbrev pub HasLeft : DeskView → Told → (old new : ℕ) → Type 0
+HasLeft desk t old new = ((desk.place ≡ Gone) × IsShared (length (deeds_told t)) old new)
+    ⊎ (IsUnderWay desk.place × (most_counted ≤ desk.steps) × (new ≡ old))
 
--- How the desk is left: the session never joined; or the core doesn't know it; or it has left, and its calls are shared; or its
--- call is under way still.
-abbrev pub LeavesDesk : DeskView → DeskView → ServeFault → ℕ → ℕ → Type 0
-LeavesDesk start now fault.Stranger old new = ((now ≡ start) ⊎ (now.place ≡ Gone)) × (new ≡ old)
-LeavesDesk start now fault.NumbersSpent old new =
-    (((now ≡ start) ⊎ IsUnderWay now.place) × (new ≡ old))
-    ⊎ ((now.place ≡ Gone) × IsShared now old new)
-LeavesDesk start now f old new =
-    ((now ≡ start) × (new ≡ old)) ⊎ ((now.place ≡ Gone) × IsShared now old new)
+-- a session that the core doesn't know has no share; numbers are spent only by so many bytes or
+-- steps
+abbrev pub LeavesFor : ServeFault → DeskView → Progress → (old new : ℕ) → Type 0
+LeavesFor fault.Line desk p old new = HasLeft desk p.told old new
+LeavesFor fault.OutOfMemory desk p old new = HasLeft desk p.told old new
+LeavesFor fault.Sessions desk p old new = ⊥
+LeavesFor fault.Stranger desk p old new = (desk.place ≡ Gone) × (new ≡ old)
+LeavesFor fault.NumbersSpent desk p old new = HasLeft desk p.told old new
+    × ((most_counted ≤ length p.told.stream) ⊎ (most_counted ≤ desk.steps))
+
+-- What serving did when it stopped so: nothing, since the session never joined; or the session was
+-- served so far, and what it was answered was written, unless the line failed.
+abbrev pub StopsDesk : ServeFault → (start now : DeskScene) → (from line : LineView)
+    → (failed failed' old new : ℕ) → Type 0
+StopsDesk f start now from line failed failed' old new =
+    (NeverJoins start.desk now.desk f × (now.begins ≡ start.begins) × (now.told ≡ start.told)
+    × (line ≡ from) × (new ≡ old))
+    ⊎ Serves (IsNoted start now) from line (λ p. HasWrittenFor f failed failed' p
+    × LeavesFor f now.desk p old new)
 
 -- the line is told to have failed only where it did
-abbrev pub IsFault : ServeFault → ℕ → ℕ → Type 0
-IsFault fault.Line failed failed' = Rose failed failed'
-IsFault f failed failed' = Unit {0}
+abbrev pub IsDeskFault : ServeFault → ℕ → ℕ → Type 0
+IsDeskFault fault.Line failed failed' = Rose failed failed'
+IsDeskFault fault.OutOfMemory failed failed' = Unit {0}
+IsDeskFault fault.Sessions failed failed' = Unit {0}
+IsDeskFault fault.Stranger failed failed' = Unit {0}
+IsDeskFault fault.NumbersSpent failed failed' = Unit {0}

@@ -1,25 +1,23 @@
 //! One call of a session, made at its desk.
 
-ghost use Rattle.std.specs.Prelude.{◌≡◌, IsSome, OnOk, OnErr, IfOk, IfErr};
-ghost use Rattle.sf_pool.specs.Desks.{IsResting, IsUnderWay, Answers};
+ghost use Rattle.std.specs.Prelude.{◌≡◌, IsSome, OnOk, IfErr};
+ghost use Rattle.sf_pool.specs.Desks.{IsResting, IsUnderWay, DeskView, Answers};
 ghost use Rattle.sf_pool.specs.Scenes.{Begins};
-ghost use Rattle.sf_pool.specs.Serving.{MakesCall, talk, FailsSteps, FailsCall};
+ghost use Rattle.sf_pool.specs.AtDesks.{MakesCall, talk, FailsSteps, FailsCall};
 
 use crate::desk::{Desk, Told};
 use crate::gate::Gate;
 use sf_call::Request;
 use sf_session::{Clock, Session};
 
-/// Why serving stops.
+/// Why a call has no reply.
 #[derive(Clone, Copy, Debug, PartialEq, Eq)]
 pub(crate) enum Stop {
-    Line,
     OutOfMemory,
-    /// So much was read that no number is left to count it.
-    NumbersSpent,
     /// The core doesn't know the session.
     Stranger,
-    /// So many steps were made that no number is left to count them, and the call has no answer yet.
+    /// So many steps were made that no number is left to count them, and the call has no answer
+    /// yet.
     UnderWay,
 }
 
@@ -39,6 +37,7 @@ fn finish<D: Desk, G: Gate>(desk: &mut D, gate: &G, session: u64, number: u64) -
     requires { IsUnderWay (D.at desk.old).place }
     ensures answered { OnOk result (Answers (D.at desk.old).place (D.at desk.old).calls
         (D.at desk.new)) }
+    ensures begun { OnOk result ((D.at desk.new).begun ≡ (D.at desk.old).begun) }
     ensures fails { IfErr result (λ stop. FailsSteps stop (D.at desk.old) (D.at desk.new)) }
     ensures begins { D.begins desk.new ≡ D.begins desk.old }
 {
@@ -53,8 +52,8 @@ fn finish<D: Desk, G: Gate>(desk: &mut D, gate: &G, session: u64, number: u64) -
     Err(Stop::UnderWay)
 }
 
-/// Makes the call that a packet asked for, at the clock's next moment. Its reply, or that of its refusal,
-/// is appended to the session's output.
+/// Makes the call that a packet asked for, at the clock's next moment. Its reply, or that of its
+/// refusal, is appended to the session's output.
 pub(crate) fn make_call<D: Desk, C: Clock, G: Gate>(
     desk: &mut D,
     clock: &mut C,
@@ -71,6 +70,7 @@ pub(crate) fn make_call<D: Desk, C: Clock, G: Gate>(
     ensures fails { IfErr result (λ stop. FailsCall request stop
         (Begins (C.told clock.old) (C.told clock.new) (D.begins desk.old) (D.begins desk.new))
         (D.at desk.old) (D.at desk.new)) }
+    ensures session { IfErr result (λ _. session.new ≡ session.old) }
 {
     let moment = clock.now();
     let call = match desk.begin(request, moment) {

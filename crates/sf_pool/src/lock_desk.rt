@@ -1,13 +1,13 @@
 //! The desk of a session on a core under a lock.
 
 ghost use Rattle.std.specs.Prelude.{◌≡◌, [], map, IfSome};
-ghost use Rattle.sf_pool.specs.Audits.{told};
+ghost use Rattle.sf_audit.specs.Audits.{told};
 ghost use Rattle.sf_pool.specs.Desks.{New, kept_calls};
 
 use crate::desk::{Desk, Told};
 use crate::hall::{Hall, LOOKS};
 use crate::stay::Stay;
-use crate::transcript::Transcript;
+use sf_audit::Transcript;
 use sf_call::{Answer, CoreFault, Request};
 use sf_core::{Core, Share};
 use std::alloc::Global;

@@ -8,23 +8,33 @@ ghost use Rattle.sf_core.specs.Cores.{slot_of};
 ghost use Rattle.sf_core.specs.Cores.Slot.{Idle};
 ghost use Rattle.sf_core.specs.Histories.{IsHistory};
 ghost use Rattle.sf_core.specs.Events.{Joins, RefusesJoin, Leaves};
-ghost use Rattle.sf_pool.specs.Audits.{told};
+ghost use Rattle.sf_audit.specs.Audits.{told};
 ghost use Rattle.sf_pool.specs.OnCores.{BeginsAt, RefusesAt, StepsAt, stepped_to};
-ghost use Rattle.sf_pool.specs.Desks.{Place, New, Resting, UnderWay, Gone, IsResting, IsUnderWay, IsAnswered, IsLast, Counts, Steps, kept_calls};
+ghost use Rattle.sf_pool.specs.Desks.{Place, New, Refused, UnderWay, Gone, IsResting, IsUnderWay, IsAnswered, IsLast, counted, Steps, kept_calls};
 
 use crate::desk::Told;
-use crate::transcript::{Exchange, Transcript};
+use sf_audit::{Exchange, Transcript};
 use sf_call::{Answer, CoreFault, Request};
 use sf_core::{Core, Lane, Share, Step};
 use std::alloc::Global;
 use std::marker::Model;
 
+/// What the call under way asks for, and when it began.
+#[derive(Debug, Drop)]
+struct Asked {
+    request: Request,
+    moment: u32,
+}
+
 /// A session's place in a core, the call that it has under way, and what it was told.
 #[derive(Debug)]
 pub struct Stay {
     lane: Option<Lane>,
-    // The request of the call under way.
-    asked: Option<Request>,
+    // Why it couldn't join.
+    refused: Option<CoreFault>,
+    asked: Option<Asked>,
+    // How many steps were made of its calls.
+    steps: u64,
     // All calls that were answered, or the last one.
     transcript: Transcript,
     keeps: bool,
@@ -33,21 +43,24 @@ pub struct Stay {
 impl Model for Stay {
     ghost use Rattle.std.specs.Prelude.{◌<◌, ◌≡◌, vec_len};
     ghost use Rattle.std.specs.Vec.{vec_capacity};
-    ghost use Rattle.sf_pool.specs.Desks.{DeskView, lane_place, kept_calls};
-    ghost use Rattle.sf_pool.specs.Audits.{told};
+    ghost use Rattle.sf_pool.specs.Desks.{DeskView, lane_place, lane_begun, kept_calls};
+    ghost use Rattle.sf_audit.specs.Audits.{told};
     ghost use Rattle.std.specs.Prelude.{map};
 
     ghost Value = { DeskView };
 
     ghost view = { λ s. record {
       session = s.transcript.session;
-      place = lane_place s.lane s.transcript.session s.asked (map told s.transcript.calls.items);
+      place = lane_place s.lane s.transcript.session s.refused s.asked
+          (map told s.transcript.calls.items);
       calls = kept_calls s.keeps s.transcript.calls.items;
+      begun = lane_begun s.lane;
+      steps = s.steps;
     } };
 
     ghost use Rattle.sf_pool.specs.Stays.{IsStay};
 
-    ghost invariant = { λ s. IsStay s.lane s.transcript s.keeps };
+    ghost invariant = { λ s. IsStay s.lane s.transcript };
 }
 
 /// What a step of a stay came to.
@@ -84,7 +97,9 @@ impl Drop for Stay {
     fn drop(self) {
         let Stay {
             lane,
+            refused: _,
             asked: _asked,
+            steps: _,
             transcript: _transcript,
             keeps: _,
         } = self;
@@ -103,7 +118,9 @@ impl Stay {
     {
         Stay {
             lane: None,
+            refused: None,
             asked: None,
+            steps: 0,
             transcript: Transcript {
                 session: 0,
                 calls: Vec::new(alloc),
@@ -118,15 +135,23 @@ impl Stay {
         ensures number { IfOk result (λ session. 0 < session) }
         ensures session { IfOk result (λ session. self.new.session ≡ session) }
         ensures ok { OnOk result (IsResting self.new.place) }
-        ensures err { OnErr result (self.new ≡ self.old) }
+        ensures err { IfErr result (λ fault. self.new ≡ record self.old { place = Refused fault }) }
         ensures calls { self.new.calls ≡ self.old.calls }
+        ensures begun { OnOk result (self.new.begun ≡ 0) }
+        ensures steps { self.new.steps ≡ self.old.steps }
         ensures joins { IfOk result (λ session. (session ≡ core.old.joins + 1)
             × Joins core.old core.new) }
         ensures history { (h : List Record) → IsHistory core.old h → IsHistory core.new h }
         ensures refused { OnErr result (core.new ≡ core.old) }
         ensures fault { IfErr result (λ fault. RefusesJoin core.old fault) }
     {
-        let lane = core.join()?;
+        let lane = match core.join() {
+            Ok(lane) => lane,
+            Err(fault) => {
+                self.refused = Some(fault);
+                return Err(fault);
+            }
+        };
         let session = lane.session();
         self.transcript.session = session;
         if let Some(old) = self.lane.replace(lane) {
@@ -143,10 +168,12 @@ impl Stay {
         moment: u32,
     ) -> Result<u64, CoreFault>
         requires { IsResting self.old.place }
-        ensures ok { IfOk result (λ number. self.new.place ≡ UnderWay number request) }
+        ensures ok { IfOk result (λ number. self.new.place ≡ UnderWay number request moment) }
         ensures err { OnErr result (self.new ≡ self.old) }
         ensures session { self.new.session ≡ self.old.session }
         ensures calls { self.new.calls ≡ self.old.calls }
+        ensures begun { OnOk result (self.new.begun ≡ counted self.old.begun) }
+        ensures count { self.new.steps ≡ self.old.steps }
         ensures begins { IfOk result (λ number. (number ≡ core.new.drawn)
             × BeginsAt self.old core.old core.new request moment) }
         ensures history { (h : List Record) → IsHistory core.old h → IsHistory core.new h }
@@ -154,7 +181,10 @@ impl Stay {
         ensures fault { IfErr result (λ fault. RefusesAt self.old core.old fault) }
     {
         self.transcript.calls.reserve(1)?;
-        let asked = request.share()?;
+        let asked = Asked {
+            request: request.share()?,
+            moment,
+        };
         let Some(lane) = &mut self.lane else {
             return Err(CoreFault::Stranger);
         };
@@ -168,10 +198,12 @@ impl Stay {
         requires { IsUnderWay self.old.place }
         ensures told { Steps self.old result.told self.new }
         ensures session { self.new.session ≡ self.old.session }
+        ensures count { self.new.steps ≡ counted self.old.steps }
         ensures steps { (h : List Record) → IsHistory core.old h
             → StepsAt self.old core.old h (stepped_to result self.new core.new) }
     {
         let _history = core.history();
+        self.steps = self.steps.saturating_add(1);
         let Some(lane) = &mut self.lane else {
             unreachable!();
         };
@@ -179,10 +211,10 @@ impl Stay {
             Step::Moved => Stepped::going(false),
             Step::Blocked(_) => Stepped::going(true),
             Step::Answered(answer) => {
-                let Some(request) = self.asked.take() else {
+                let Some(asked) = self.asked.take() else {
                     unreachable!();
                 };
-                note(&mut self.transcript, self.keeps, request, answer);
+                note(&mut self.transcript, self.keeps, asked.request, answer);
                 Stepped::ended(Told::Answered)
             }
             Step::Stranger => {
@@ -211,7 +243,8 @@ impl Stay {
         ensures place { self.new.place ≡ Gone }
         ensures session { self.new.session ≡ self.old.session }
         ensures calls { self.new.calls ≡ self.old.calls }
-        ensures share { IfSome result (λ share. Counts self.old.calls share) }
+        ensures share { IfSome result (λ share. share ≡ self.old.begun) }
+        ensures steps { self.new.steps ≡ self.old.steps }
         ensures leaves { OnSome result (Leaves core.old core.new self.old.session) }
         ensures history { OnSome result ((h : List Record) → IsHistory core.old h
             → IsHistory core.new (h ++ Left self.old.session ∷ [])) }
@@ -243,7 +276,9 @@ impl Stay {
     {
         let Stay {
             lane,
+            refused: _,
             asked: _asked,
+            steps: _,
             transcript,
             keeps: _,
         } = self;

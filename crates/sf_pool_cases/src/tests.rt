@@ -1,11 +1,10 @@
 //! Transcripts of sessions that made directories, right and wrong ones, beside the history of a core.
 
+use sf_audit::{AuditFault, Exchange, GatherFault, Transcript, audit, gather};
 use sf_call::{Answer, Request};
 use sf_cases::requests::mkdir;
 use sf_core::{Core, Lane, Share, Step};
-use sf_pool::{
-    AuditFault, Desk, Exchange, GatherFault, Hall, LockDesk, Told, Transcript, audit, gather,
-};
+use sf_pool::{Desk, Hall, LockDesk, Told};
 use sf_reply::{Reply, StatusCode};
 use std::alloc::Global;
 use std::process::Abort;

@@ -15,7 +15,9 @@ use Rattle.sf_engine.specs.Views.{EngineView}
 use Rattle.sf_engine.specs.Fits.{Fits, IsSentBy}
 use Rattle.sf_engine.proofs.Laws.{begun_is}
 use Rattle.sf_serving.specs.Ends.{IsEnd, IsWhole}
-use Rattle.sf_serving.specs.Serving.{Scene, IsEntryOf, IsFront, Progress, Served, ServesLine}
+use Rattle.sf_serving.specs.Hosts.{IsFront}
+use Rattle.sf_serving.specs.Serving.{Progress}
+use Rattle.sf_serving.specs.OnEngine.{Scene, IsEntryOf, IsTold, since_at, ServesLine}
 use Rattle.sf_serving.specs.Alone.{answers_alone, moments_begun, HadMemory, EndsAlone, ServesAlone, supply}
 use Rattle.sf_serving.proofs.OneStream.{Reads, one_reading}
 use Rattle.sf_serving.proofs.Reaching.{one_session, answered_alone}
@@ -106,11 +108,11 @@ read_all now input stream left e is at =
     let none : left ≡ [] = subst (λ (o : Option (List ℕ)). IsAtEnd o) e at in sym (is ∙ ap (λ (b : List ℕ). stream ++ b) none ∙ append-nil stream)
 
 -- a serving is a trace of one session alone
-ends_of : (start now : Scene) (input moments : List ℕ) (cause : Cause) (p : Progress) (a : ServesAlone start now (supply input moments) cause p) → EndsAlone a.served.entries a.served.fit.world p.told (supply input moments) cause
+ends_of : (start now : Scene) (input moments : List ℕ) (cause : Cause) (p : Progress) (a : ServesAlone start now (supply input moments) cause p) → EndsAlone a.tells.entries a.tells.fit.world p.told (supply input moments) cause
 ends_of start now input moments cause p a =
-    let s = a.served in
-    let first : p.session ≡ 1 = (one_session s.entries s.fit.world p.session p.told s.fit.tells s.fit.legal s.own s.is_session a.memory).0 in
-    let fed = was_fed start.incoming now.incoming input p.told.stream p.unfed a.incoming a.fed s.read in
+    let s = a.tells in
+    let first : a.session ≡ 1 = (one_session s.entries s.fit.world a.session p.told s.fit.tells s.fit.legal s.own s.is_session a.memory).0 in
+    let fed = was_fed start.line.incoming now.line.incoming input p.told.stream p.unfed a.incoming a.ends.fed a.served.read in
     record {
       tells = record {
         tells = s.fit.tells;
@@ -120,9 +122,9 @@ ends_of start now input moments cause p a =
         memory = a.memory;
       };
       begun = a.begun;
-      whole = a.whole;
+      whole = a.ends.whole;
       fed = (fed.0, fed.2);
-      all = λ closed. read_all now.incoming input p.told.stream fed.0 fed.1 fed.2 (a.at_end closed);
+      all = λ closed. read_all now.line.incoming input p.told.stream fed.0 fed.1 fed.2 (a.ends.at_end closed);
     }
 
 appended : (out now : Option (List ℕ)) (before written : List ℕ) → out ≡ Some before → Appends out now written → now ≡ Some (before ++ written)
@@ -134,25 +136,28 @@ appended out now before written e h = given now (subst (λ (o : Option (List ℕ
 
 pub two_servings : (input moments : List ℕ) → AreBytes input → (start now start' now' : Scene) (p p' : Progress) (cause cause' : Cause)
     → ServesAlone start now (supply input moments) cause p → ServesAlone start' now' (supply input moments) cause' p' → (p.written ≡ p'.written) × (cause ≡ cause')
-    × ((before : List ℕ) → start.outgoing ≡ Some before → start'.outgoing ≡ Some before → now.outgoing ≡ now'.outgoing)
+    × ((before : List ℕ) → start.line.outgoing ≡ Some before → start'.line.outgoing ≡ Some before → now.line.outgoing ≡ now'.line.outgoing)
 two_servings input moments are start now start' now' p p' cause cause' a b =
-    let same = two_whole input moments are a.served.entries b.served.entries a.served.fit.world b.served.fit.world p.told p'.told cause cause'
+    let same = two_whole input moments are a.tells.entries b.tells.entries a.tells.fit.world b.tells.fit.world p.told p'.told cause cause'
     (ends_of start now input moments cause p a) (ends_of start' now' input moments cause' p' b) in
-    let written : p.written ≡ p'.written = a.all_sent ∙ ap transcript same.1 ∙ sym b.all_sent in (
+    let written : p.written ≡ p'.written = a.ends.in_step ∙ a.ends.sent ∙ ap transcript same.1 ∙ sym b.ends.sent ∙ sym b.ends.in_step in (
       written,
       same.2,
       λ before e e'.
-          appended start.outgoing now.outgoing before p.written e a.served.wrote
+          appended start.line.outgoing now.line.outgoing before p.written e a.served.wrote
           ∙ ap (λ (x : List ℕ). Some (before ++ x)) written
-          ∙ sym (appended start'.outgoing now'.outgoing before p'.written e' b.served.wrote),
+          ∙ sym (appended start'.line.outgoing now'.line.outgoing before p'.written e' b.served.wrote),
     )
 
 -- what a new engine serves is a session alone
-pub line_alone : (start now : Scene) (input : List ℕ) (cause : Cause) (fits : Fits start.engine []) → start.incoming ≡ Some input → ServesLine start now cause
-    → (p : Progress) × (served : Served start now [] fits p) × (HadMemory served.entries p.told → ServesAlone start now (supply input (moments_begun served.entries)) cause p)
+pub line_alone : (start now : Scene) (input : List ℕ) (cause : Cause) (fits : Fits start.engine []) → start.line.incoming ≡ Some input → ServesLine start now cause
+    → (session : ℕ) × (p : Progress) × (tells : IsTold (since_at start [] fits) session now.engine now.told p.told)
+    × (HadMemory tells.entries p.told → ServesAlone start now (supply input (moments_begun tells.entries)) cause p)
 line_alone start now input cause fits e serves =
-    let s = serves [] fits in (
+    let s = serves [] fits in
+    let h = s.1 in (
       s.0,
-      s.1,
-      λ had. record { fits = fits; served = s.1; incoming = e; fed = s.2.0; whole = s.2.1; all_sent = s.2.2; at_end = s.2.4; begun = refl; memory = had },
+      h.0,
+      h.1,
+      λ had. record { fits = fits; session = s.0; tells = h.1; served = h.2; incoming = e; ends = h.3; begun = refl; memory = had },
     )

@@ -1,14 +1,13 @@
-pub mod Acting
 pub mod Alone
 pub mod Causes
-pub mod Ending
 pub mod Following
+pub mod Fronts
+pub mod Hosting
 pub mod Laws
 pub mod OneStream
-pub mod Opening
 pub mod Outcomes
 pub mod Reaching
 pub mod Rounds
-pub mod Sending
+pub mod Sessions
 pub mod Standing
 pub mod Turning

@@ -1,6 +1,6 @@
 -- What holds of an answer or of a fault, from what holds of others.
 use Rattle.std.proofs.Common.{Result, Ok, Err}
-use Rattle.std.specs.Prelude.{◌≡◌, OnOk, OnErr, IfErr}
+use Rattle.std.specs.Prelude.{◌≡◌, OnOk, OnErr, IfOk, IfErr}
 use Rattle.std.specs.Result.{is_err, IsErrAnd}
 use Rattle.std.proofs.Common.{false, refl, sym, subst}
 
@@ -30,3 +30,17 @@ if_err_any (Err e) P p = p e
 pub some_ok : {T E : Type 0} (r : Result T E) → is_err r ≡ false → (x : T) × (r ≡ Ok x)
 some_ok (Ok x) e = (x, refl)
 some_ok (Err f) e = absurd (cc)
+
+-- what holds of an answer, from what else holds of it
+pub if_ok_more : {T E : Type 0} (r : Result T E) (P Q : T → Type 0) → IfOk r P → ((x : T) → P x → Q x) → IfOk r Q
+if_ok_more (Ok x) P Q p f = f x p
+if_ok_more (Err e) P Q p f = tt
+
+pub if_err_more : {T E : Type 0} (r : Result T E) (P Q : E → Type 0) → IfErr r P → ((e : E) → P e → Q e) → IfErr r Q
+if_err_more (Ok x) P Q p f = tt
+if_err_more (Err e) P Q p f = f e p
+
+-- what holds of the fault, from two things that hold of it
+pub if_err_both : {T E : Type 0} (r : Result T E) (P Q R : E → Type 0) → IfErr r P → IfErr r Q → ((e : E) → P e → Q e → R e) → IfErr r R
+if_err_both (Ok x) P Q R p q f = tt
+if_err_both (Err e) P Q R p q f = f e p q

@@ -10,7 +10,7 @@ use Rattle.sf_engine.specs.declared.event.Happened.TheVariants as happened
 use Rattle.sf_engine.specs.declared.event.EngineFault.{EngineFault}
 use Rattle.sf_engine.specs.Worlds.{Entry, Answered, asked_by, Phase, Resting, UnderWay, Decided, Gone, Told, new_told, World, start}
 use Rattle.sf_engine.specs.Traces.{IsSession, Happens, LeadsBy, Runs, Tells, order}
-use Rattle.sf_serving.specs.Serving.{IsOf, IsEntryOf}
+use Rattle.sf_serving.specs.OnEngine.{IsOf, IsEntryOf}
 use Rattle.sf_serving.specs.Alone.{answers_alone, moment_begun, moments_begun, HadMemoryFor, HadMemoryAt, HadMemory, TellsAlone}
 use Rattle.sf_serving.proofs.Standing.{lone, Stands, Owes, Reaches, from_nothing, leads_on}
 

@@ -1,124 +1,381 @@
--- From one turn to a round, and from a round to the whole.
-use Rattle.std.proofs.Common.{◌≡◌, ◌≤◌, ℕ, List, [], ◌++◌, Bool, true, Option, Some, None, Ok, Err, take, refl, subst, inl, inr, arith}
+-- From one step to a round, and from a round to the whole.
+use Rattle.std.proofs.Common.{◌≡◌, ◌≢◌, ◌<◌, ◌≤◌, ◌⊎◌, ℕ, ◌+◌, ◌-◌, List, [], ◌∷◌, ◌++◌, Option, Result, Ok, Err, length, take, drop, refl, ap, sym, ◌∙◌, subst, inl, inr, append-nil, append_assoc, length-append, length-take, length-drop, take-take, take-append-drop, arith}
+use Rattle.std.specs.Io.KnownBytes.{Appends, Consumes, Keeps, IsAtEnd}
+use Rattle.std.proofs.KnownBytes.{Appends-nil, Appends-trans, Appends-kept}
 use Rattle.std.proofs.lemmas.Bool.{cases_lt}
-use Rattle.std.specs.Io.KnownBytes.{IsAtEnd}
-use Rattle.sf_line.specs.Lines.{Rose}
+use Rattle.std.proofs.lemmas.List.{take_all, take_at}
+use Rattle.sf_line.specs.declared.line_call.LineCall.{LineCall}
+use Rattle.sf_line.specs.declared.line_call.LineCall.TheVariants.{Read, Write}
+use Rattle.sf_line.specs.Lines.{Rose, Logs, taken}
+use Rattle.sf_line.proofs.Laws.{logs_none, logs_more}
 use Rattle.sf_session.specs.declared.cause.Cause.{Cause}
 use Rattle.sf_session.specs.declared.cause.Cause.TheVariants.{Closed}
 use Rattle.sf_session.specs.declared.fault.ServeFault.{ServeFault}
 use Rattle.sf_session.specs.declared.fault.ServeFault.TheVariants as serve
-use Rattle.sf_engine.specs.declared.event.Happened.{Happened}
-use Rattle.sf_engine.specs.declared.event.Happened.TheVariants as happened
-use Rattle.sf_engine.specs.declared.event.EngineFault.{EngineFault}
-use Rattle.sf_engine.specs.Worlds.{Told, transcript}
-use Rattle.sf_engine.specs.Traces.{IsSession}
-use Rattle.sf_engine.specs.Fits.{WantsBytes, WantsBytesBy}
-use Rattle.sf_serving.specs.Serving.{Scene, Progress, progress, may_begin_after, Serves, IsInStep, GoesOn, HasTurn, HasTurnBy, HasTurned, HasLeft, IsDrained, IsRounded, HasSentAll, Rests, Stops, IsRoundFault, all_sent, SendsAll, SendsSome}
+use Rattle.sf_engine.specs.Worlds.{transcript, Told, new_told}
+use Rattle.sf_engine.specs.Traces.{fed}
+use Rattle.sf_engine.specs.Laws.{IsRead}
+use Rattle.sf_serving.specs.declared.host.Went.{Went}
+use Rattle.sf_serving.specs.declared.host.Went.TheVariants as went
 use Rattle.sf_serving.specs.Ends.{IsWhole}
-use Rattle.sf_serving.proofs.Following.{same_told}
-use Rattle.sf_serving.proofs.Acting.{HasRead}
-use Rattle.sf_serving.proofs.Ending.{Law, read_of, whole_left}
+use Rattle.sf_serving.specs.Hosts.{most_counted, IsOpen, HasSent, Waits, IsFurther, WentTo, with_sent, ended, IsHostFault}
+use Rattle.sf_serving.specs.Serving.{LineView, line_view, Progress, progress, Served, Serves, IsInStep, GoesOn, Rests, IsServed, HasWritten, HasWrittenFor, IsSpentFor, IsStopped, IsStop}
+use Rattle.sf_serving.specs.Rounds.{IsPieceWritten, Writes, all_sent, SendsAll, SendsSome, Ends, Stops, HasStopped}
+use Rattle.sf_serving.proofs.Fronts.{none_written, taken_more, all_more}
+use Rattle.sf_serving.proofs.Sessions.{newly, further_serves, fed_serves, read_serves, still_serves, ended_serves, ended_same, ended_none, closed_whole, gone_whole, sent_whole, long_answers}
 
-pub serves_more : (start now : Scene) (P Q : Progress → Type 0) → ((p : Progress) → P p → Q p) → Serves start now P → Serves start now Q
-serves_more start now P Q f serves trace fits = let h = serves trace fits in (h.0, h.1, f h.0 h.2)
+-- ---- writes
 
-pub idle_drained : (start now : Scene) (s : ℕ) → Serves start now (HasTurned s (Ok happened.Idle)) → Serves start now (IsDrained s None)
-idle_drained start now s serves = serves_more start now (HasTurned s (Ok happened.Idle)) (IsDrained s None) (λ p h. h) serves
+pub writes_none : (l : LineView) → Writes l l []
+writes_none l = record { incoming = refl; appended = Appends-nil l.outgoing; writes = []; logged = logs_none l.calls; pieces = tt; took = refl }
 
--- after a reply nothing is unread but the beginning of a packet
-pub waits_drained : (start now : Scene) (s : ℕ) → WantsBytesBy now.engine s true → Serves start now (GoesOn s) → Serves start now (IsDrained s None)
-waits_drained start now s wants serves trace fits =
-    let h = serves trace fits in
-    let p = h.0 in
-    let S = h.1 in
-    let seen = (wants (trace ++ S.entries) S.fit).0 refl in
-    let session : IsSession S.fit.world s p.told = subst (λ (k : ℕ). IsSession S.fit.world k p.told) h.2.in_step.0 S.is_session in
-    let same : seen.0 ≡ p.told = same_told S.fit.world s seen.0 p.told seen.1 session in
-    let now : WantsBytes p.told = subst WantsBytes same seen.2 in
-    (p, S, (h.2, now.0, now.1))
+-- a piece more
+pub writes_some : (a b : LineView) (i' o' : Option (List ℕ)) (c' : Option (List LineCall)) (n : ℕ) (sent rest : List ℕ) → Writes a b sent → i' ≡ b.incoming → Appends b.outgoing o' (take n rest) → Logs b.calls c' (Write n ∷ []) → n ≤ 65536 → n ≤ length rest
+    → Writes a (line_view i' o' c') (sent ++ take n rest)
+writes_some a b i' o' c' n sent rest w same appends logs short within =
+    let one : taken (Write n ∷ []) ≡ n = omega arith in
+    record {
+      incoming = same ∙ w.incoming;
+      appended = Appends-trans a.outgoing b.outgoing o' sent (take n rest) w.appended appends;
+      writes = w.writes ++ Write n ∷ [];
+      logged = logs_more a.calls b.calls c' w.writes (Write n ∷ []) w.logged logs;
+      pieces = all_more IsPieceWritten w.writes (Write n ∷ []) w.pieces (short, tt);
+      took = omega (arith, taken_more w.writes (Write n ∷ []), one, w.took, length-append sent (take n rest), length-take n rest, within);
+    }
 
-pub ended_drained : Law → (start now : Scene) (s : ℕ) (cause : Cause) → Serves start now (HasTurned s (Ok (happened.Ended cause))) → Serves start now (IsDrained s (Some cause))
-ended_drained law start now s cause serves trace fits =
-    let h = serves trace fits in
-    let read = read_of law start now trace fits h.0 h.1 in
-    (h.0, h.1, ((h.2.0, h.2.1, whole_left h.0.told cause read h.2.2 h.2.3), h.2.3))
+-- a write that failed
+pub writes_still : (a b : LineView) (i' o' : Option (List ℕ)) (c' : Option (List LineCall)) (sent : List ℕ) → Writes a b sent → i' ≡ b.incoming → Keeps b.outgoing o' → Logs b.calls c' [] → Writes a (line_view i' o' c') sent
+writes_still a b i' o' c' sent w same kept logs = record {
+  incoming = same ∙ w.incoming;
+  appended = Appends-kept a.outgoing b.outgoing o' sent w.appended kept;
+  writes = w.writes;
+  logged = subst (λ (l : List LineCall). Logs a.calls c' l) (append-nil w.writes) (logs_more a.calls b.calls c' w.writes [] w.logged logs);
+  pieces = w.pieces;
+  took = w.took;
+}
 
--- a session that neither waits for bytes nor has left, and that no reply was written of, may have its next turn
-pub still_goes : (s : ℕ) (r : Happened) (p : Progress) → (r ≡ happened.Idle → ⊥) → ((cause : Cause) → r ≡ happened.Ended cause → ⊥) → (r ≡ happened.Wrote → ⊥) → HasTurned s (Ok r) p → HasTurnBy s (may_begin_after r) p
-still_goes s happened.Idle p idle ended wrote h = absurd (idle refl)
-still_goes s (happened.Ended cause) p idle ended wrote h = absurd (ended cause refl)
-still_goes s happened.Wrote p idle ended wrote h = absurd (wrote refl)
-still_goes s (happened.Opened n) p idle ended wrote h = h
-still_goes s happened.Fed p idle ended wrote h = h
-still_goes s happened.Moved p idle ended wrote h = h
-still_goes s (happened.Blocked n) p idle ended wrote h = h
-still_goes s happened.Decided p idle ended wrote h = h
-still_goes s happened.Begun p idle ended wrote h = h
-still_goes s happened.Closed p idle ended wrote h = h
-still_goes s happened.Sent p idle ended wrote h = h
+-- what is left behind a piece
+pub whole_more : (bytes sent rest : List ℕ) (n : ℕ) → bytes ≡ sent ++ rest → bytes ≡ (sent ++ take n rest) ++ take (length rest - n) (drop n rest)
+whole_more bytes sent rest n whole =
+    let left : take (length rest - n) (drop n rest) ≡ drop n rest = take_all _ (drop n rest) (omega (arith, length-drop n rest)) in
+    whole ∙ ap (λ (b : List ℕ). sent ++ b) (sym (take-append-drop n rest)) ∙ sym (append_assoc sent (take n rest) (drop n rest)) ∙ ap (λ (b : List ℕ). (sent ++ take n rest) ++ b) (sym left)
 
--- a session that goes on may stop for any fault
-pub goes_stops : (start now : Scene) (s : ℕ) (f : ServeFault) → Serves start now (GoesOn s) → Serves start now (Stops s f)
-goes_stops start now s f serves = serves_more start now (GoesOn s) (Stops s f) (λ p h. (h.in_step.0, λ no. h.in_step.1)) serves
+-- a piece of the front
+pub front_piece : (F : List ℕ → Type 0) (n k : ℕ) (rest : List ℕ) → n ≤ k → F (take n (take k rest)) → F (take n rest)
+front_piece F n k rest short h = subst F (take-take n k rest short) h
 
--- where the clock is asked
-pub may_turn : (start now : Scene) (s : ℕ) → Serves start now (HasTurn s) → Serves start now (HasTurnBy s true)
-may_turn start now s serves = serves_more start now (HasTurn s) (HasTurnBy s true) (λ p h. (h, tt)) serves
+-- the front of a piece that a read has filled is what was read
+pub front_read : (F : List ℕ → Type 0) (n len : ℕ) (buffer old : List ℕ) → length buffer ≡ len → F (take n (take len (buffer ++ drop (length buffer) old))) → F (take n buffer)
+front_read F n len buffer old count h = subst (λ (b : List ℕ). F (take n b)) (take_at buffer (drop (length buffer) old) len count) h
 
-pub turn_stops : (start now : Scene) (s : ℕ) (begin : Bool) (f : ServeFault) → Serves start now (HasTurnBy s begin) → Serves start now (Stops s f)
-turn_stops start now s begin f serves = serves_more start now (HasTurnBy s begin) (Stops s f) (λ p h. (h.0.0.in_step.0, λ no. h.0.0.in_step.1)) serves
+empty_of : (xs : List ℕ) → length xs ≡ 0 → xs ≡ []
+empty_of [] e = refl
+empty_of (x ∷ xs) e = absurd (omega (arith, e))
 
-pub rests_stops : (start now : Scene) (s : ℕ) (f : ServeFault) → Serves start now (Rests s) → Serves start now (Stops s f)
-rests_stops start now s f serves = serves_more start now (Rests s) (Stops s f) (λ p h. (h.0.0.in_step.0, λ no. h.0.0.in_step.1)) serves
+pub writes_all : (a b : LineView) (bytes sent rest : List ℕ) → bytes ≡ sent ++ rest → length rest ≡ 0 → Writes a b sent → Writes a b bytes
+writes_all a b bytes sent rest whole none w =
+    let same : sent ≡ bytes = sym (whole ∙ ap (λ (xs : List ℕ). sent ++ xs) (empty_of rest none) ∙ append-nil sent) in
+    subst (λ (xs : List ℕ). Writes a b xs) same w
 
-pub refused_goes : (start now : Scene) (s : ℕ) (e : EngineFault) → Serves start now (HasTurned s (Err e)) → Serves start now (GoesOn s)
-refused_goes start now s e serves = serves_more start now (HasTurned s (Err e)) (GoesOn s) (λ p h. h) serves
+-- ---- faults
 
 pub rose_since : (start old new : ℕ) → start ≤ old → old ≤ new → Rose old new → Rose start new
 rose_since start old new before more (inl rose) = inl (omega arith)
 rose_since start old new before more (inr most) = elim (cases_lt start new) [ inl lt ↦ inl lt | inr ge ↦ inr (omega arith) ]
 
+rose_until : (start old new : ℕ) → old ≤ new → Rose start old → Rose start new
+rose_until start old new more (inl rose) = inl (omega arith)
+rose_until start old new more (inr most) = inr most
+
+pub host_stop : (f : ServeFault) (work failed failed' : ℕ) (s : Type 0) → IsHostFault f work s → IsStop f failed failed' s
+host_stop serve.Line work failed failed' s h = absurd h
+host_stop serve.OutOfMemory work failed failed' s h = tt
+host_stop serve.Sessions work failed failed' s h = absurd h
+host_stop serve.Stranger work failed failed' s h = h
+host_stop serve.NumbersSpent work failed failed' s h = tt
+
 -- a fault since a later time is one since an earlier time
-pub fault_since : (f : ServeFault) (start old new : ℕ) → start ≤ old → old ≤ new → IsRoundFault f old new → IsRoundFault f start new
-fault_since serve.Line start old new before more h = rose_since start old new before more h
-fault_since serve.OutOfMemory start old new before more h = tt
-fault_since serve.Sessions start old new before more h = absurd h
-fault_since serve.Stranger start old new before more h = absurd h
-fault_since serve.NumbersSpent start old new before more h = tt
+pub stop_since : (f : ServeFault) (start old new : ℕ) (s : Type 0) → start ≤ old → old ≤ new → IsStop f old new s → IsStop f start new s
+stop_since serve.Line start old new s before more h = rose_since start old new before more h
+stop_since serve.OutOfMemory start old new s before more h = tt
+stop_since serve.Sessions start old new s before more h = absurd h
+stop_since serve.Stranger start old new s before more h = h
+stop_since serve.NumbersSpent start old new s before more h = tt
 
-drained_step : (s : ℕ) (ended : Option Cause) (p : Progress) → IsDrained s ended p → IsInStep s p
-drained_step s None p h = h.0.in_step
-drained_step s (Some cause) p h = h.0.0
+-- and one up to a later time
+pub stop_until : (f : ServeFault) (start old new : ℕ) (s s' : Type 0) → old ≤ new → (s → s') → IsStop f start old s → IsStop f start new s'
+stop_until serve.Line start old new s s' more to h = rose_until start old new more h
+stop_until serve.OutOfMemory start old new s s' more to h = tt
+stop_until serve.Sessions start old new s s' more to h = absurd h
+stop_until serve.Stranger start old new s s' more to h = to h
+stop_until serve.NumbersSpent start old new s s' more to h = tt
 
--- what was told as sent is of no matter to the end
-whole_sent : (t : Told) (sent : List ℕ) (cause : Cause) → IsWhole t cause → IsWhole (record t { sent = sent }) cause
-whole_sent t sent cause h = record { left = h.left; rest = h.rest; are_bodies = h.are_bodies; stream = h.stream; end = h.end; asked = h.asked }
+pub stranger_stop : (f : ServeFault) (failed failed' : ℕ) (s : Type 0) → f ≡ serve.Stranger → s → IsStop f failed failed' s
+stranger_stop f failed failed' s is h = subst (λ (x : ServeFault). IsStop x failed failed' s) (sym is) h
 
-sent_rounded : (s : ℕ) (incoming : Option (List ℕ)) (ended : Option Cause) (p : Progress) → IsDrained s ended p → IsRounded s incoming ended (all_sent p)
-sent_rounded s incoming None p h = ((record { in_step = (h.0.in_step.0, refl); fed = h.0.fed; takes = h.0.takes }, h.1, h.2), refl)
-sent_rounded s incoming (Some cause) p h =
-    (((h.0.0.0, refl), h.0.1, whole_sent p.told (transcript p.told.answers) cause h.0.2), refl, λ e. absurd (h.1 e))
+-- ---- what is spent
 
--- after the turns what waits is sent
-pub round_sent : (start old new : Scene) (s : ℕ) (incoming : Option (List ℕ)) (ended : Option Cause) → SendsAll s old new → Serves start old (IsDrained s ended) → Serves start new (IsRounded s incoming ended)
-round_sent start old new s incoming ended sends serves trace fits =
-    let h = serves trace fits in
-    (all_sent h.0, sends start trace fits h.0 (drained_step s ended h.0 h.2) h.1, sent_rounded s incoming ended h.0 h.2)
+spent_for : (f : ServeFault) (w w' : ℕ) (p p' : Progress) → w' ≡ w → p'.told.stream ≡ p.told.stream → IsSpentFor f w p → IsSpentFor f w' p'
+spent_for serve.Line w w' p p' same stream h = tt
+spent_for serve.OutOfMemory w w' p p' same stream h = tt
+spent_for serve.Sessions w w' p p' same stream h = tt
+spent_for serve.Stranger w w' p p' same stream h = tt
+spent_for serve.NumbersSpent w w' p p' same stream (inl h) = inl (subst (λ (b : List ℕ). most_counted ≤ length b) (sym stream) h)
+spent_for serve.NumbersSpent w w' p p' same stream (inr h) = inr (subst (λ (k : ℕ). most_counted ≤ k) (sym same) h)
 
-pub round_fails : (start old new : Scene) (s : ℕ) (ended : Option Cause) → SendsSome s old new → Serves start old (IsDrained s ended) → Serves start new (Stops s serve.Line)
-round_fails start old new s ended sends serves trace fits =
-    let h = serves trace fits in
-    let step = drained_step s ended h.0 h.2 in
-    let n = sends start trace fits h.0 step h.1 in
-    (progress h.0.session h.0.told h.0.unfed n.0, n.1, (step.0, λ no. absurd (no refl)))
+host_spent : (f : ServeFault) (w : ℕ) (s : Type 0) (p : Progress) → IsHostFault f w s → IsSpentFor f w p
+host_spent serve.Line w s p h = tt
+host_spent serve.OutOfMemory w s p h = tt
+host_spent serve.Sessions w s p h = tt
+host_spent serve.Stranger w s p h = tt
+host_spent serve.NumbersSpent w s p h = inr h
 
--- at the end of the input
-pub round_ends : (start now : Scene) (s : ℕ) (incoming : Option (List ℕ)) → IsAtEnd incoming → Serves start now (λ p. HasLeft s Closed p × HasSentAll p) → Serves start now (IsRounded s incoming (Some Closed))
-round_ends start now s incoming end serves =
-    serves_more start now (λ p. HasLeft s Closed p × HasSentAll p) (IsRounded s incoming (Some Closed)) (λ p h. (h.0, h.1, λ e. end)) serves
+-- ---- the session goes on
 
-pub read_stops : (start now : Scene) (s : ℕ) (bytes : List ℕ) (f : ServeFault) → Serves start now (HasRead s bytes) → Serves start now (Stops s f)
-read_stops start now s bytes f serves = serves_more start now (HasRead s bytes) (Stops s f) (λ p h. (h.in_step.0, λ no. h.in_step.1)) serves
+-- what its host makes of what it was told, having gone on
+abbrev pub Goes : (T T' : Told → Type 0) → Result Went ServeFault → Type 0
+Goes T T' r = (t : Told) → T t → IsOpen t → IsRead t → HasSent t → (t' : Told) × T' t' × IsFurther t t' × WentTo r t t'
 
-pub none_read : (start now : Scene) (s n : ℕ) (bytes : List ℕ) → n ≡ 0 → Serves start now (HasRead s (take n bytes)) → Serves start now (HasRead s [])
-none_read start now s n bytes none serves = subst (λ (k : ℕ). Serves start now (HasRead s (take k bytes))) none serves
+-- so many answers were there before
+abbrev pub GoneTo : ℕ → Result Went ServeFault → Told → Type 0
+GoneTo k (Ok went.Waits) t = Waits t
+GoneTo k (Ok went.Answered) t = IsOpen t × (k < length t.answers)
+GoneTo k (Ok (went.Ended cause)) t = IsWhole t cause × (cause ≢ Closed)
+GoneTo k (Err f) t = Unit {0}
+
+pub record HasGone (n k : ℕ) (r : Result Went ServeFault) (p : Progress) : Type 0 where
+  pub fed : p.unfed ≡ []
+  pub in_step : IsInStep p
+  pub long : n ≤ length p.told.stream
+  pub to : GoneTo k r p.told
+
+-- it goes on, and has so many answers
+abbrev pub GoesOnBy : ℕ → ℕ → Progress → Type 0
+GoesOnBy n k p = GoesOn n p × (k ≤ length p.told.answers)
+
+gone_to : (k : ℕ) (r : Result Went ServeFault) (t t' : Told) → k ≤ length t.answers → WentTo r t t' → GoneTo k r t'
+gone_to k (Ok went.Waits) t t' few to = to
+gone_to k (Ok went.Answered) t t' few to = (to.0, omega (arith, few, to.1))
+gone_to k (Ok (went.Ended cause)) t t' few to = to
+gone_to k (Err f) t t' few to = tt
+
+pub gone : (T T' : Told → Type 0) (from now : LineView) (n k : ℕ) (r : Result Went ServeFault) → Goes T T' r → Serves T from now (GoesOnBy n k) → Serves T' from now (HasGone n k r)
+gone T T' from now n k r goes serves =
+    let p = serves.0 in
+    let on = serves.3.0 in
+    let g = goes p.told serves.1 on.is_open serves.2.bodies on.sent in
+    let further = g.2 in (
+      progress g.0 p.unfed p.written,
+      g.1,
+      further_serves from now p.told g.0 p.unfed p.written serves.2 further,
+      record {
+        fed = on.fed;
+        in_step = on.in_step ∙ sym further.sent;
+        long = subst (λ (b : List ℕ). n ≤ length b) (sym further.stream) on.long;
+        to = gone_to k r p.told g.0 serves.3.1 g.3;
+      },
+    )
+
+pub gone_stops : (T : Told → Type 0) (from now : LineView) (n k w : ℕ) (s : Type 0) (f : ServeFault) → IsHostFault f w s → Serves T from now (HasGone n k (Err f)) → Serves T from now (Stops f w)
+gone_stops T from now n k w s f why serves = (serves.0, serves.1, serves.2, ((λ no. serves.3.in_step), host_spent f w s serves.0 why))
+
+-- what waited was sent
+abbrev pub SentGone : ℕ → ℕ → Option (List ℕ) → Went → Progress → Type 0
+SentGone n k incoming went.Waits p = Rests n p
+SentGone n k incoming went.Answered p = GoesOnBy n (k + 1) p
+SentGone n k incoming (went.Ended cause) p = Ends incoming cause p
+
+open_sent : (t : Told) → IsOpen t → IsOpen (with_sent t)
+open_sent t h = record { rests = h.rests; closed = h.closed }
+
+goes_sent : (n : ℕ) (p : Progress) → p.unfed ≡ [] → n ≤ length p.told.stream → IsOpen p.told → GoesOn n (all_sent p)
+goes_sent n p fed long is_open = record { is_open = open_sent p.told is_open; fed = fed; sent = refl; in_step = refl; long = long }
+
+sent_gone : (n k : ℕ) (incoming : Option (List ℕ)) (r : Went) (p : Progress) → HasGone n k (Ok r) p → SentGone n k incoming r (all_sent p)
+sent_gone n k incoming went.Waits p h = (goes_sent n p h.fed h.long h.to.0, (open_sent p.told h.to.0, h.to.1))
+sent_gone n k incoming went.Answered p h = (goes_sent n p h.fed h.long h.to.0, omega (arith, h.to.1))
+sent_gone n k incoming (went.Ended cause) p h = record {
+  fed = h.fed;
+  whole = gone_whole (with_sent p.told) cause (sent_whole p.told cause h.to.0);
+  sent = refl;
+  in_step = refl;
+  at_end = λ e. absurd (h.to.1 e);
+}
+
+pub gone_sent : (T T' : Told → Type 0) (from old new : LineView) (n k : ℕ) (incoming : Option (List ℕ)) (r : Went) → SendsAll T T' old new → Serves T from old (HasGone n k (Ok r)) → Serves T' from new (SentGone n k incoming r)
+gone_sent T T' from old new n k incoming r sends serves =
+    let p = serves.0 in
+    let s = sends from p serves.1 serves.2 serves.3.in_step in
+    (all_sent p, s.0, s.1, sent_gone n k incoming r p serves.3)
+
+-- the line failed
+pub gone_fails : (T T' : Told → Type 0) (from old new : LineView) (n k w : ℕ) (r : Result Went ServeFault) → ((t : Told) → T t → T' t) → SendsSome T old new → Serves T from old (HasGone n k r) → Serves T' from new (Stops serve.Line w)
+gone_fails T T' from old new n k w r to sends serves =
+    let p = serves.0 in
+    let s = sends from p serves.1 serves.2 serves.3.in_step in
+    (progress p.told p.unfed s.0, to p.told serves.1, s.1, ((λ no. absurd (no refl)), tt))
+
+-- so many answers that as many bytes were read
+pub goes_spent : (T : Told → Type 0) (from now : LineView) (n k w : ℕ) → most_counted ≤ k → Serves T from now (GoesOnBy n k) → Serves T from now (Stops serve.NumbersSpent w)
+goes_spent T from now n k w most serves =
+    let p = serves.0 in
+    let long : length p.told.answers ≤ length p.told.stream = long_answers p.told serves.3.0.is_open.rests serves.2.bodies in
+    (p, serves.1, serves.2, ((λ no. serves.3.0.in_step), inl (omega (arith, most, serves.3.1, long))))
+
+-- ---- a round
+
+-- bytes were read, and are not fed yet
+pub record HasRead (n : ℕ) (bytes : List ℕ) (p : Progress) : Type 0 where
+  pub is_open : IsOpen p.told
+  pub unfed : p.unfed ≡ bytes
+  pub sent : HasSent p.told
+  pub in_step : IsInStep p
+  pub long : n ≤ length p.told.stream
+
+pub has_read : (T : Told → Type 0) (from now : LineView) (i' o' : Option (List ℕ)) (c' : Option (List LineCall)) (n k : ℕ) (bytes : List ℕ) → Serves T from now (Rests n) → Consumes now.incoming i' bytes → length bytes ≡ k → k ≤ 65536 → o' ≡ now.outgoing
+    → Logs now.calls c' (Read k ∷ []) → Serves T from (line_view i' o' c') (HasRead n bytes)
+has_read T from now i' o' c' n k bytes serves consumes count short same logs =
+    let p = serves.0 in
+    let on = serves.3.0 in (
+      progress p.told bytes p.written,
+      serves.1,
+      read_serves from now i' o' c' n k p.told p.unfed p.written bytes serves.2 serves.3 consumes count short same logs,
+      record { is_open = on.is_open; unfed = refl; sent = on.sent; in_step = on.in_step; long = on.long },
+    )
+
+pub has_fed : (T T' : Told → Type 0) (from now : LineView) (n : ℕ) (bytes : List ℕ) → 0 < length bytes → ((t : Told) → T t → IsOpen t → T' (fed t bytes)) → Serves T from now (HasRead n bytes) → Serves T' from now (GoesOn (n + 1))
+has_fed T T' from now n bytes some feeds serves =
+    let p = serves.0 in
+    let read = serves.3 in
+    let S : Served from now (progress p.told bytes p.written) = subst (λ (b : List ℕ). Served from now (progress p.told b p.written)) read.unfed serves.2 in (
+      progress (fed p.told bytes) [] p.written,
+      feeds p.told serves.1 read.is_open,
+      fed_serves from now p.told bytes p.written S read.is_open,
+      record {
+        is_open = record { rests = read.is_open.rests; closed = read.is_open.closed };
+        fed = refl;
+        sent = read.sent;
+        in_step = read.in_step;
+        long = omega (arith, read.long, some, length-append p.told.stream bytes);
+      },
+    )
+
+pub read_stops : (T T' : Told → Type 0) (from now : LineView) (n w : ℕ) (bytes : List ℕ) → ((t : Told) → T t → T' t) → Serves T from now (HasRead n bytes) → Serves T' from now (Stops serve.OutOfMemory w)
+read_stops T T' from now n w bytes to serves = (serves.0, to serves.0.told serves.1, serves.2, ((λ no. serves.3.in_step), tt))
+
+pub rest_stops : (T : Told → Type 0) (from now : LineView) (n w : ℕ) (i' o' : Option (List ℕ)) (c' : Option (List LineCall)) → Serves T from now (Rests n) → Keeps now.incoming i' → o' ≡ now.outgoing → Logs now.calls c' [] → Serves T from (line_view i' o' c') (Stops serve.Line w)
+rest_stops T from now n w i' o' c' serves kept same logs =
+    (serves.0, serves.1, still_serves from now i' o' c' serves.0 serves.2 kept same logs, ((λ no. absurd (no refl)), tt))
+
+-- the end of the input
+pub read_none : (T : Told → Type 0) (from now : LineView) (i' o' : Option (List ℕ)) (c' : Option (List LineCall)) (n k : ℕ) (buffer : List ℕ) → Serves T from now (Rests n) → k ≡ 0 → Consumes now.incoming i' (take k buffer) → o' ≡ now.outgoing
+    → Logs now.calls c' (Read k ∷ []) → IsAtEnd i' → Serves T from (line_view i' o' c') (Ends i' Closed)
+read_none T from now i' o' c' n k buffer serves none consumes same logs at_end =
+    let empty : take k buffer ≡ [] = ap (λ (x : ℕ). take x buffer) none in
+    let nothing : Consumes now.incoming i' [] = subst (λ (b : List ℕ). Consumes now.incoming i' b) empty consumes in
+    let p = serves.0 in
+    let S = read_serves from now i' o' c' n k p.told p.unfed p.written [] serves.2 serves.3 nothing (sym none) (omega (arith, none)) same logs in (
+      progress p.told [] p.written,
+      serves.1,
+      S,
+      record { fed = refl; whole = closed_whole p.told serves.2.bodies serves.3.1; sent = serves.3.0.sent; in_step = serves.3.0.in_step; at_end = λ e. at_end },
+    )
+
+pub rounds_spent : (T : Told → Type 0) (from now : LineView) (n w : ℕ) → most_counted ≤ n → Serves T from now (Rests n) → Serves T from now (Stops serve.NumbersSpent w)
+rounds_spent T from now n w most serves =
+    (serves.0, serves.1, serves.2, ((λ no. serves.3.0.in_step), inl (omega (arith, most, serves.3.0.long))))
+
+-- ---- serving stops
+
+pub last_line : (T : Told → Type 0) (from now : LineView) (w : ℕ) → Serves T from now (Stops serve.Line w) → Serves T from now (HasStopped serve.Line w)
+last_line T from now w serves = (serves.0, serves.1, serves.2, ((λ no. absurd (no refl)), tt))
+
+pub last_sent : (T T' : Told → Type 0) (from old new : LineView) (f : ServeFault) (w w' : ℕ) → f ≢ serve.Line → SendsAll T T' old new → w' ≡ w → Serves T from old (Stops f w) → Serves T' from new (HasStopped f w')
+last_sent T T' from old new f w w' other sends same serves =
+    let p = serves.0 in
+    let s = sends from p serves.1 serves.2 (serves.3.0 other) in
+    (all_sent p, s.0, s.1, ((λ no. (refl, refl)), spent_for f w w' p (all_sent p) same refl serves.3.1))
+
+pub last_fails : (T T' : Told → Type 0) (from old new : LineView) (f : ServeFault) (w w' : ℕ) → f ≢ serve.Line → ((t : Told) → T t → T' t) → SendsSome T old new → Serves T from old (Stops f w) → Serves T' from new (HasStopped serve.Line w')
+last_fails T T' from old new f w w' other to sends serves =
+    let p = serves.0 in
+    let s = sends from p serves.1 serves.2 (serves.3.0 other) in
+    (progress p.told p.unfed s.0, to p.told serves.1, s.1, ((λ no. absurd (no refl)), tt))
+
+-- ---- it ends
+
+-- that it is ended is of no matter to what was sent
+written_ended : (p : Progress) → HasWritten p → HasWritten (progress (ended p.told) p.unfed p.written)
+written_ended p h =
+    let same = ended_same p.told in
+    (same.sent ∙ h.0 ∙ ap transcript (sym same.answers), h.1 ∙ sym same.sent)
+
+written_for : (f : ServeFault) (failed failed' : ℕ) (s : Type 0) (p : Progress) → IsStop f failed failed' s → (f ≢ serve.Line → HasWritten p) → HasWrittenFor f failed failed' p
+written_for serve.Line failed failed' s p why h = tt
+written_for serve.OutOfMemory failed failed' s p why h = h (λ e. let no : serve.OutOfMemory ≡ serve.Line = e in cc)
+written_for serve.Sessions failed failed' s p why h = absurd why
+written_for serve.Stranger failed failed' s p why h = inr (h (λ e. let no : serve.Stranger ≡ serve.Line = e in cc))
+written_for serve.NumbersSpent failed failed' s p why h = h (λ e. let no : serve.NumbersSpent ≡ serve.Line = e in cc)
+
+strange_for : (f : ServeFault) (failed failed' : ℕ) (s : Type 0) (p : Progress) → IsStop f failed failed' s → (f ≢ serve.Line → HasWritten p) → Rose failed failed' ⊎ HasWritten p
+strange_for serve.Line failed failed' s p why h = inl why
+strange_for serve.OutOfMemory failed failed' s p why h = inr (h (λ e. let no : serve.OutOfMemory ≡ serve.Line = e in cc))
+strange_for serve.Sessions failed failed' s p why h = absurd why
+strange_for serve.Stranger failed failed' s p why h = inr (h (λ e. let no : serve.Stranger ≡ serve.Line = e in cc))
+strange_for serve.NumbersSpent failed failed' s p why h = inr (h (λ e. let no : serve.NumbersSpent ≡ serve.Line = e in cc))
+
+pub stops_ended : (T T' : Told → Type 0) (from now : LineView) (f : ServeFault) (failed failed' w w' : ℕ) (s : Type 0) → ((t : Told) → T t → T' (ended t)) → w' ≡ w → IsStop f failed failed' s → Serves T from now (HasStopped f w)
+    → Serves T' from now (IsStopped f failed failed' w')
+stops_ended T T' from now f failed failed' w w' s ends same why serves =
+    let p = serves.0 in
+    let p' = progress (ended p.told) p.unfed p.written in (
+      p',
+      ends p.told serves.1,
+      ended_serves from now p.told p.unfed p.written serves.2,
+      record { written = written_for f failed failed' s p' why (λ no. written_ended p (serves.3.0 no)); spent = spent_for f w w' p p' same (ended_same p.told).stream serves.3.1; closed = ended_none p.told },
+    )
+
+-- the core doesn't know the session
+pub stops_strange : (T T' : Told → Type 0) (from now : LineView) (f g : ServeFault) (failed failed' w w' : ℕ) (s : Type 0) → g ≡ serve.Stranger → ((t : Told) → T t → T' (ended t)) → IsStop f failed failed' s → Serves T from now (HasStopped f w)
+    → Serves T' from now (IsStopped g failed failed' w')
+stops_strange T T' from now f g failed failed' w w' s is ends why serves =
+    let p = serves.0 in
+    let p' = progress (ended p.told) p.unfed p.written in
+    let stopped : IsStopped serve.Stranger failed failed' w' p' = record { written = strange_for f failed failed' s p' why (λ no. written_ended p (serves.3.0 no)); spent = tt; closed = ended_none p.told } in (
+      p',
+      ends p.told serves.1,
+      ended_serves from now p.told p.unfed p.written serves.2,
+      subst (λ (x : ServeFault). IsStopped x failed failed' w' p') (sym is) stopped,
+    )
+
+pub ends_served : (T T' : Told → Type 0) (from now : LineView) (incoming : Option (List ℕ)) (cause : Cause) → ((t : Told) → T t → T' (ended t)) → Serves T from now (Ends incoming cause) → Serves T' from now (IsServed incoming cause)
+ends_served T T' from now incoming cause ends serves =
+    let p = serves.0 in
+    let h = serves.3 in
+    let w = written_ended p (h.sent, h.in_step) in (
+      progress (ended p.told) p.unfed p.written,
+      ends p.told serves.1,
+      ended_serves from now p.told p.unfed p.written serves.2,
+      record { fed = h.fed; whole = h.whole; sent = w.0; in_step = w.1; at_end = h.at_end },
+    )
+
+pub ends_strange : (T T' : Told → Type 0) (from now : LineView) (incoming : Option (List ℕ)) (cause : Cause) (g : ServeFault) (failed failed' w : ℕ) → g ≡ serve.Stranger → ((t : Told) → T t → T' (ended t)) → Serves T from now (Ends incoming cause)
+    → Serves T' from now (IsStopped g failed failed' w)
+ends_strange T T' from now incoming cause g failed failed' w is ends serves =
+    let p = serves.0 in
+    let p' = progress (ended p.told) p.unfed p.written in
+    let stopped : IsStopped serve.Stranger failed failed' w p' = record { written = inr (written_ended p (serves.3.sent, serves.3.in_step)); spent = tt; closed = ended_none p.told } in (
+      p',
+      ends p.told serves.1,
+      ended_serves from now p.told p.unfed p.written serves.2,
+      subst (λ (x : ServeFault). IsStopped x failed failed' w p') (sym is) stopped,
+    )
+
+-- ---- it begins
+
+waits_new : Waits new_told
+waits_new = let few : 0 < 4 = omega arith in (record { rests = refl; closed = refl }, inl few)
+
+pub rests_new : (T : Told → Type 0) (l : LineView) → T new_told → Serves T l l (Rests 0)
+rests_new T l tells =
+    (progress new_told [] [], tells, newly l, (record { is_open = waits_new.0; fed = refl; sent = sym none_written; in_step = refl; long = omega arith }, waits_new))

@@ -25,7 +25,7 @@ use Rattle.sf_engine.specs.declared.event.Happened.TheVariants as happened
 use Rattle.sf_engine.specs.declared.event.EngineFault.{EngineFault}
 use Rattle.sf_engine.specs.Worlds.{Answered, Version, Locally, ByCall, Refused, asked_by, Phase, Resting, UnderWay, Decided, Gone, Told, World, with_phase}
 use Rattle.sf_engine.specs.Traces.{IsSession, IsHelped, IsAtOnce, Decides, StepLeads, RestLeads, CarriesOut, MoveAdds, walking, TurnLeads, Happens, LeadsBy, with_answer, left_if_closed, leaving, left_by_close, closed_now, fed, sent_more, calls_begun}
-use Rattle.sf_serving.specs.Serving.{IsOf}
+use Rattle.sf_serving.specs.OnEngine.{IsOf}
 use Rattle.sf_serving.specs.Alone.{answers_from, moment_begun, HadMemoryFor, HadMemoryAt}
 
 -- ---- what one tree answers

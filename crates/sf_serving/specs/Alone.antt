@@ -1,6 +1,6 @@
--- One session alone, for which memory was never wanting: it is answered by one tree, call after call.
+-- One session alone, for which memory was never wanting: it is answered by one tree, call after
+-- call.
 use Rattle.std.specs.Prelude.{◌≡◌, ◌≢◌, ◌+◌, ℕ, nat_eq, List, [], ◌∷◌, if◌then◌else◌, Some, Result, Ok}
-use Rattle.std.specs.Io.KnownBytes.{IsAtEnd}
 use Rattle.std.specs.List.{AllByRecursion, flat_map}
 use Rattle.sf_reply.specs.declared.reply.Reply.TheVariants as reply
 use Rattle.sf_call.specs.declared.fault.CoreFault.TheVariants as core
@@ -22,11 +22,13 @@ use Rattle.sf_engine.specs.Worlds.{Entry, Answered, Version, Locally, ByCall, Re
 use Rattle.sf_engine.specs.Traces.{IsSession, Tells, order}
 use Rattle.sf_engine.specs.Fits.{Fits}
 use Rattle.sf_serving.specs.Ends.{IsWhole}
-use Rattle.sf_serving.specs.Serving.{Scene, moment_of, IsEntryOf, IsFront, Progress, HasSentAll, Served}
+use Rattle.sf_serving.specs.Hosts.{IsFront}
+use Rattle.sf_serving.specs.Serving.{Progress, Served, IsServed}
+use Rattle.sf_serving.specs.OnEngine.{Scene, moment_of, IsEntryOf, IsTold, since_at}
 
--- What one tree answers to what session 1 asks for, when so many calls have begun. Each call takes the next number and the next
--- moment, and the tree that it leaves answers what comes after it. Where no number is left, a call is refused; where no moment is
--- left, there are no more answers.
+-- What one tree answers to what session 1 asks for, when so many calls have begun. Each call takes
+-- the next number and the next moment, and the tree that it leaves answers what comes after it.
+-- Where no number is left, a call is refused; where no moment is left, there are no more answers.
 unfoldable pub answers_from : Tree → (begun : ℕ) → (moments : List ℕ) → List Ask → List Answered
 answers_from tree begun moments [] = []
 answers_from tree begun moments (ask.Version ∷ asks) =
@@ -68,7 +70,8 @@ HadMemoryAt (Locally id reply) = Unit {0}
 HadMemoryAt (ByCall id number request reply) = Unit {0}
 HadMemoryAt (Refused id request fault) = fault ≢ core.OutOfMemory
 
--- Memory was never wanting: no record tells it, and no call was refused for it. An event that was refused for it changed nothing.
+-- Memory was never wanting: no record tells it, and no call was refused for it. An event that was
+-- refused for it changed nothing.
 abbrev pub HadMemory : List Entry → Told → Type 0
 HadMemory trace t = AllByRecursion HadMemoryFor (order trace) × AllByRecursion HadMemoryAt t.answers
 
@@ -92,8 +95,8 @@ pub record Supply : Type 0 where
 abbrev pub supply : List ℕ → List ℕ → Supply
 supply input moments = record { input = input; moments = moments }
 
--- Of the input so much was fed that the session has left for this cause: all of it where the session was closed. Its calls began at
--- these moments.
+-- Of the input so much was fed that the session has left for this cause: all of it where the
+-- session was closed. Its calls began at these moments.
 pub record EndsAlone (trace : List Entry) (w : World) (t : Told) (s : Supply) (cause : Cause) : Type 0 where
   pub tells : TellsAlone trace w t
   pub begun : moments_begun trace ≡ s.moments
@@ -101,15 +104,14 @@ pub record EndsAlone (trace : List Entry) (w : World) (t : Told) (s : Supply) (c
   pub fed : IsFront t.stream s.input
   pub all : cause ≡ Closed → t.stream ≡ s.input
 
--- A new engine served a line whose bytes are this input, and nothing else, until the session left for this cause. Its calls began at
--- these moments, and memory was never wanting for them.
+-- A new engine served a line whose bytes are this input, and nothing else, until the session left
+-- for this cause. Its calls began at these moments, and memory was never wanting for them.
 pub record ServesAlone (start now : Scene) (s : Supply) (cause : Cause) (p : Progress) : Type 0 where
   pub fits : Fits start.engine []
-  pub served : Served start now [] fits p
-  pub incoming : start.incoming ≡ Some s.input
-  pub fed : p.unfed ≡ []
-  pub whole : IsWhole p.told cause
-  pub all_sent : HasSentAll p
-  pub at_end : cause ≡ Closed → IsAtEnd now.incoming
-  pub begun : moments_begun served.entries ≡ s.moments
-  pub memory : HadMemory served.entries p.told
+  pub session : ℕ
+  pub tells : IsTold (since_at start [] fits) session now.engine now.told p.told
+  pub served : Served start.line now.line p
+  pub incoming : start.line.incoming ≡ Some s.input
+  pub ends : IsServed now.line.incoming cause p
+  pub begun : moments_begun tells.entries ≡ s.moments
+  pub memory : HadMemory tells.entries p.told

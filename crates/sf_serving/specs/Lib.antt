@@ -1,3 +1,6 @@
-pub mod Alone
 pub mod Ends
+pub mod Hosts
 pub mod Serving
+pub mod Rounds
+pub mod OnEngine
+pub mod Alone

@@ -6,7 +6,8 @@ ghost use Rattle.sf_session.specs.declared.cause.Cause.{Cause};
 ghost use Rattle.sf_engine.specs.Worlds.{Entry, Told, World, asked_by};
 ghost use Rattle.sf_engine.specs.Views.{EngineView};
 ghost use Rattle.sf_engine.specs.Fits.{Fits, IsSentBy};
-ghost use Rattle.sf_serving.specs.Serving.{Scene, Progress, Served, ServesLine};
+ghost use Rattle.sf_serving.specs.Serving.{Progress};
+ghost use Rattle.sf_serving.specs.OnEngine.{Scene, IsTold, since_at, ServesLine};
 ghost use Rattle.sf_serving.specs.Alone.{answers_alone, moments_begun, HadMemory, TellsAlone, EndsAlone, ServesAlone, supply};
 
 /// For one session alone, without want of memory, two served sessions of the same input and moments have
@@ -32,12 +33,13 @@ pub fn one_session_alone()
         → ServesAlone start now (supply input moments) cause p
         → ServesAlone start' now' (supply input moments) cause' p'
         → (p.written ≡ p'.written) × (cause ≡ cause')
-        × ((before : List ℕ) → start.outgoing ≡ Some before → start'.outgoing ≡ Some before
-        → now.outgoing ≡ now'.outgoing) }
+        × ((before : List ℕ) → start.line.outgoing ≡ Some before
+        → start'.line.outgoing ≡ Some before → now.line.outgoing ≡ now'.line.outgoing) }
     ensures line { (start now : Scene) (input : List ℕ) (cause : Cause)
         → (fits : Fits start.engine [])
-        → start.incoming ≡ Some input → ServesLine start now cause
-        → (p : Progress) × (served : Served start now [] fits p)
-        × (HadMemory served.entries p.told
-        → ServesAlone start now (supply input (moments_begun served.entries)) cause p) }
+        → start.line.incoming ≡ Some input → ServesLine start now cause
+        → (session : ℕ) × (p : Progress)
+        × (tells : IsTold (since_at start [] fits) session now.engine now.told p.told)
+        × (HadMemory tells.entries p.told
+        → ServesAlone start now (supply input (moments_begun tells.entries)) cause p) }
 {}

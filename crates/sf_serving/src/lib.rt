@@ -1,13 +1,20 @@
-//! One session served on a line, by an engine that may have others: from its bytes to its replies.
+//! One session served over a line: from its bytes to its replies.
 //!
-//! Start with the contract of `serve_one` in `serving.rt`. Its clause `served` is the main promise: the session was
-//! fed what was read, and what was written is exactly its transcript. `specs/Serving.antt` says what a call of
-//! `serve_one` did to its line, its clock and its engine, and `specs/Ends.antt` in what a session ends.
-//! `alone_law.rt` is the law of one session alone, and `specs/Alone.antt` says what one tree answers to it.
+//! Start with `serve_session` in `serving.rt`, the one loop, for whatever serves a session (`Host`
+//! in `host.rt`): it reads, feeds, lets the session go on, and writes. What it promises is in
+//! `specs/Serving.antt`: what was written is the session's transcript, written promptly and in
+//! pieces. `serve_one` in `on_engine.rt` serves a session by an engine that may have others, and
+//! `specs/OnEngine.antt` says what it did to its line, its clock and its engine. `specs/Ends.antt`
+//! says in what a session ends. `alone_law.rt` is the law of one session alone, and
+//! `specs/Alone.antt` says what one tree answers to it.
 #![tactic(auto)]
 
 mod alone_law;
+mod host;
+mod on_engine;
 mod serving;
 
 pub use alone_law::one_session_alone;
-pub use serving::serve_one;
+pub use host::{Host, Went};
+pub use on_engine::serve_one;
+pub use serving::{new_piece, serve_session};

@@ -3,7 +3,7 @@
 //! Start with `serve_all`: a worker for each clock takes lines from a channel, and serves each to its end at a
 //! `LockDesk`. What a worker's sessions came to is a `Served`: the worker's share of the calls, whose size
 //! `specs/Shares.antt` says, and what its sessions were told, where that is kept. `audit` and `gather` of
-//! `sf_pool` compare both with the core.
+//! `sf_audit` compare both with the core.
 #![tactic(auto)]
 
 mod workers;

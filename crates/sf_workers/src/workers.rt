@@ -6,9 +6,10 @@ ghost use Rattle.sf_pool.specs.Desks.{New};
 ghost use Rattle.sf_workers.specs.Shares.{IsShareOf};
 
 use crossbeam_channel::Receiver;
+use sf_audit::Transcript;
 use sf_core::{Core, Share};
 use sf_line::Line;
-use sf_pool::{Gate, Hall, LockDesk, Transcript, serve};
+use sf_pool::{Gate, Hall, LockDesk, serve};
 use sf_session::{Clock, ServeFault};
 use std::alloc::{AllocError, Global};
 use std::sync::{Mutex, Wait};

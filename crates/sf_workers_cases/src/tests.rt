@@ -1,10 +1,11 @@
 //! Lines are sent by a channel, and what the workers' sessions were told is compared with the history.
 
 use crossbeam_channel::{Receiver, Sender, unbounded};
+use sf_audit::{Transcript, audit, gather};
 use sf_cases::{FailingLine, StillClock, hex_packets};
 use sf_core::{Core, Share};
 use sf_line::{MemoryLine, Pieces};
-use sf_pool::{Gate, Hall, NoGate, Transcript, audit, gather};
+use sf_pool::{Gate, Hall, NoGate};
 use sf_workers::{Served, serve_all};
 use std::alloc::Global;
 use std::process::Abort;
@@ -14,6 +15,7 @@ use std::test::*;
 use std::thread;
 use std::thread::Threads;
 
+mod asleep;
 mod together;
 
 const INIT: &str = "00000005 01 00000003";
@@ -67,6 +69,24 @@ fn parted(alloc: Global, all: Vec<Served>) -> Result<(Vec<Transcript>, Vec<Share
         shares.push(share)?;
     }
     Ok((transcripts, shares))
+}
+
+/// Yields until there are so many, for so many turns at most. Tells whether they came.
+fn wait_for(count: &AtomicU64, least: u64) -> bool {
+    for _ in 0..TURNS {
+        if count.load(Ordering::SeqCst) >= least {
+            return true;
+        }
+        thread::yield_now();
+    }
+    false
+}
+
+/// Lets other threads run for so many turns.
+fn let_run(turns: u64) {
+    for _ in 0..turns {
+        thread::yield_now();
+    }
 }
 
 /// Sees call 2 begin, and holds it after its second step until call 3 is answered.
@@ -316,6 +336,27 @@ fn nothing_kept(rt: HostRuntime) -> Result<(), Fail> {
     assert_eq!(rt; transcripts.len(), 0);
     let totals = gather(core, shares)?;
     assert_eq!(rt; (totals.recorded, totals.under_way), (80, 0));
+    Ok(())
+}
+
+/// One worker serves each line that it is sent, more than a thousand of them, kept or not.
+#[test]
+fn a_thousand_sessions(rt: HostRuntime) -> Result<(), Fail> {
+    let alloc = rt.alloc();
+    let mut inputs = Vec::new(alloc);
+    for _ in 0..1_100usize {
+        inputs.push(hex_packets(alloc, &[INIT, STAT_A])?)?;
+    }
+    for keep in [true, false] {
+        let core = Core::new(alloc)?;
+        let (core, transcripts, shares) = serve_inputs(&rt, alloc, core, &inputs, 1, keep)?;
+        assert_eq!(rt; transcripts.len(), if keep { 1_100 } else { 0 });
+        if keep {
+            assert_eq!(rt; audit(&core, &transcripts), Ok(()));
+        }
+        let totals = gather(core, shares)?;
+        assert_eq!(rt; (totals.recorded, totals.under_way), (1_100, 0));
+    }
     Ok(())
 }
 

@@ -1,5 +1,5 @@
 -- Exit statuses, the lines of standard error, and how the session of `stdio` ends.
-use Rattle.std.specs.Prelude.{◌≡◌, ◌⊎◌, ℕ, List, [], ◌∷◌, ◌++◌, Result, Ok, Err, codes}
+use Rattle.std.specs.Prelude.{◌≡◌, ◌⊎◌, ℕ, List, [], ◌∷◌, ◌++◌, Some, Result, Ok, Err, codes}
 use Rattle.sf_session.specs.declared.cause.Cause.{Cause}
 use Rattle.sf_session.specs.declared.cause.Cause.TheVariants.{NotInit, OldVersion, SecondInit, ZeroLength, TooLong, NoId, Closed}
 use Rattle.sf_session.specs.Causes.{words_of}
@@ -7,7 +7,7 @@ use Rattle.sf_session.specs.declared.fault.ServeFault.{ServeFault}
 use Rattle.sf_session.specs.declared.fault.ServeFault.TheVariants as fault
 use Rattle.sf_engine.specs.Views.{EngineView}
 use Rattle.sf_engine.specs.Fits.{Fits}
-use Rattle.sf_serving.specs.Serving.{Scene, ServesLine, StopsEarly, IsServeFault}
+use Rattle.sf_serving.specs.OnEngine.{Scene, ServesLine, StopsEarly, IsServeFault}
 
 -- the end of the input is no fault
 abbrev pub status_of_cause : Cause → ℕ
@@ -49,12 +49,13 @@ line_of (Err fault.NumbersSpent) = codes "sftpd: stream" ++ 10 ∷ []
 abbrev pub ComesTo : (start now : Scene) → (failed failed' : ℕ) → Result Cause ServeFault → Type 0
 ComesTo start now failed failed' (Ok cause) = ServesLine start now cause
 ComesTo start now failed failed' (Err fault) =
-    StopsEarly start now fault × IsServeFault start.engine fault failed failed'
+    StopsEarly start now fault × IsServeFault fault failed failed'
 
--- No engine could be made, and nothing was read or written; or a line was served on a new one, and that came to this.
-abbrev pub SessionEnds : (start now : EngineView → Scene) → (failed failed' : ℕ)
+-- No engine could be made, and nothing was read or written; or a line was served on a new one, which keeps so many records, and
+-- that came to this.
+abbrev pub SessionEnds : (keep : ℕ) → (start now : EngineView → Scene) → (failed failed' : ℕ)
     → Result Cause ServeFault → Type 0
-SessionEnds start now failed failed' outcome =
+SessionEnds keep start now failed failed' outcome =
     ((outcome ≡ Err fault.OutOfMemory) × ((e : EngineView) → now e ≡ start e))
-    ⊎ ((first last : EngineView) × Fits first []
+    ⊎ ((first last : EngineView) × Fits first [] × (first.core.keep ≡ Some keep)
     × ComesTo (start first) (now last) failed failed' outcome)

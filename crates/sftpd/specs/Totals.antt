@@ -4,8 +4,8 @@ use Rattle.std.specs.Prelude.{◌≡◌, ℕ, nat_eq, if◌then◌else◌, List,
 use Rattle.std.specs.List.{flat_map}
 use Rattle.std.specs.Fmt.{decimal}
 use Rattle.sf_core.specs.Cores.{CoreView}
-use Rattle.sf_pool.specs.declared.transcript.Transcript.{Transcript}
-use Rattle.sf_pool.specs.Audits.{Agrees}
+use Rattle.sf_audit.specs.declared.transcript.Transcript.{Transcript}
+use Rattle.sf_audit.specs.Audits.{Agrees}
 use Rattle.sf_workers.specs.declared.workers.Served.{Served}
 use Rattle.sftpd.specs.declared.server.ServerFault.{ServerFault}
 use Rattle.sftpd.specs.declared.server.ServerFault.TheVariants as fault

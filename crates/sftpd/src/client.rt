@@ -53,7 +53,10 @@ fn do_over<L: Line + Drop, O: Write>(
         × IsDoneOver command.entry bytes.now printed (L.incoming line) (L.outgoing line)
         × Appends (O.contents output.old) (O.contents output.new) printed) }
 {
-    let mut client = Client::start(alloc, line)?;
+    let mut client = match Client::start(alloc, line) {
+        Ok(client) => client,
+        Err(no) => return Err(no.fault),
+    };
     let printed = printed(alloc, &mut client, command, bytes)?;
     if output.write_all(printed.as_slice()).is_err() {
         return Err(ClientFault::Stream);

@@ -6,7 +6,8 @@ ghost use Rattle.sf_line.specs.Lines.{Rose};
 ghost use Rattle.sf_session.specs.declared.cause.Cause.{Cause};
 ghost use Rattle.sf_session.specs.declared.fault.ServeFault.{ServeFault};
 ghost use Rattle.sf_engine.specs.Views.{EngineView};
-ghost use Rattle.sf_serving.specs.Serving.{scene};
+ghost use Rattle.sf_serving.specs.Serving.{line_view};
+ghost use Rattle.sf_serving.specs.OnEngine.{scene};
 ghost use Rattle.sftpd.specs.Statuses.{status_of, line_of_cause, line_of, ComesTo, SessionEnds};
 
 use sf_engine::Engine;
@@ -27,9 +28,11 @@ pub fn run_stdio<L: Line, C: Clock, E: Line>(
 ) -> u8
     requires { 0 < keep }
     ensures { (outcome : Result Cause ServeFault)
-        × SessionEnds (scene (L.incoming line.old) (L.outgoing line.old) (L.calls line.old)
+        × SessionEnds keep
+        (scene (line_view (L.incoming line.old) (L.outgoing line.old) (L.calls line.old))
         (C.told clock.old))
-        (scene (L.incoming line.new) (L.outgoing line.new) (L.calls line.new) (C.told clock.new))
+        (scene (line_view (L.incoming line.new) (L.outgoing line.new) (L.calls line.new))
+        (C.told clock.new))
         (L.failed line.old) (L.failed line.new) outcome
         × (result ≡ status_of outcome)
         × (Appends (E.outgoing errors.old) (E.outgoing errors.new) (line_of outcome)
@@ -49,9 +52,11 @@ fn serve<L: Line, C: Clock>(
     clock: &mut C,
 ) -> Result<Cause, ServeFault>
     requires { 0 < keep }
-    ensures { SessionEnds (scene (L.incoming line.old) (L.outgoing line.old) (L.calls line.old)
+    ensures { SessionEnds keep
+        (scene (line_view (L.incoming line.old) (L.outgoing line.old) (L.calls line.old))
         (C.told clock.old))
-        (scene (L.incoming line.new) (L.outgoing line.new) (L.calls line.new) (C.told clock.new))
+        (scene (line_view (L.incoming line.new) (L.outgoing line.new) (L.calls line.new))
+        (C.told clock.new))
         (L.failed line.old) (L.failed line.new) result }
 {
     match Engine::with_keep(alloc, keep) {
@@ -70,9 +75,10 @@ fn serve_on<L: Line, C: Clock>(
     line: &mut L,
     clock: &mut C,
 ) -> Result<Cause, ServeFault>
-    ensures { ComesTo (scene (L.incoming line.old) (L.outgoing line.old) (L.calls line.old)
+    ensures { ComesTo
+        (scene (line_view (L.incoming line.old) (L.outgoing line.old) (L.calls line.old))
         (C.told clock.old) engine.old)
-        (scene (L.incoming line.new) (L.outgoing line.new) (L.calls line.new)
+        (scene (line_view (L.incoming line.new) (L.outgoing line.new) (L.calls line.new))
         (C.told clock.new) engine.new) (L.failed line.old) (L.failed line.new) result }
 {
     match serve_one(alloc, engine, line, clock) {

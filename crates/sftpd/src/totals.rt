@@ -9,8 +9,8 @@ ghost use Rattle.sf_core.specs.Histories.{IsHistory};
 ghost use Rattle.sftpd.specs.Totals.{transcripts_of, shares_of, audit_line, totals_text, AreAll, IsTellFault, IsStream};
 
 use crate::server::ServerFault;
+use sf_audit::{Transcript, audit, gather};
 use sf_core::{Core, Share};
-use sf_pool::{Transcript, audit, gather};
 use sf_workers::Served;
 use std::alloc::{AllocError, Global};
 use std::io::{self, Write};

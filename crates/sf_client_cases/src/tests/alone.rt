@@ -19,7 +19,10 @@ mod files;
 /// A client over these bytes of a server, all of which can be read at once.
 fn try_client(alloc: Global, input: &[u8]) -> Result<Client<MemoryLine<'_>>, ClientFault> {
     let all = Pieces::new(usize::MAX, usize::MAX);
-    Client::start(alloc, MemoryLine::new(alloc, input, all, all))
+    match Client::start(alloc, MemoryLine::new(alloc, input, all, all)) {
+        Ok(client) => Ok(client),
+        Err(no) => Err(no.fault),
+    }
 }
 
 fn client<'a>(rt: &impl Abort, alloc: Global, input: &'a [u8]) -> Client<MemoryLine<'a>> {

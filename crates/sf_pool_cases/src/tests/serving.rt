@@ -1,7 +1,7 @@
 //! Sessions served over lines in memory, at a desk on a core that is lent to it.
 
 ghost use Rattle.std.specs.Prelude.{◌≡◌, ◌++◌, ◌∷◌, [], Some, true, map, IfSome};
-ghost use Rattle.sf_pool.specs.Audits.{told};
+ghost use Rattle.sf_audit.specs.Audits.{told};
 ghost use Rattle.sf_pool.specs.Desks.{New, kept_calls};
 
 use super::*;

@@ -61,27 +61,9 @@ fn deep(alloc: Global, count: usize) -> Result<Vec<u8>, Fail> {
     Ok(input)
 }
 
-/// Yields until there are so many, for so many turns at most. Tells whether they came.
-fn wait_for(count: &AtomicU64, least: u64) -> bool {
-    for _ in 0..TURNS {
-        if count.load(Ordering::SeqCst) >= least {
-            return true;
-        }
-        thread::yield_now();
-    }
-    false
-}
-
 /// How many turns the second session's thread has for each call of the first one, so that it runs
 /// in time on a machine with other work, too.
 const A_WHILE: u64 = 2_000;
-
-/// Lets other threads run for so many turns.
-fn let_run(turns: u64) {
-    for _ in 0..turns {
-        thread::yield_now();
-    }
-}
 
 /// How far the two sessions are. The first one asks for many calls, the second one for one.
 #[derive(Drop)]

@@ -87,10 +87,27 @@ fn served<T: Threads + Wait + Abort + Sync>(
     Ok((replies?, told))
 }
 
-/// The second session finds what the first one made.
+/// What the system's clock tells, in whole seconds since 1970.
+fn seconds<R: std::rt::Clock>(rt: &R) -> u64 {
+    match rt.since_1970() {
+        Ok(time) => time.as_secs(),
+        Err(_) => 0,
+    }
+}
+
+/// The number of four bytes.
+fn number(bytes: &[u8]) -> u32 {
+    match bytes {
+        [a, b, c, d] => u32::from_be_bytes([*a, *b, *c, *d]),
+        _ => 0,
+    }
+}
+
+/// The second session finds what the first one made, with the time at which it was made.
 #[test]
 fn socket_two_sessions(rt: HostRuntime) -> Result<(), Fail> {
     let alloc = rt.alloc();
+    let before = seconds(&rt);
     let mut inputs = Vec::new(alloc);
     inputs.push(hex_packets(alloc, &[INIT, MKDIR_A])?)?;
     inputs.push(hex_packets(alloc, &[INIT, STAT_A])?)?;
@@ -108,6 +125,11 @@ fn socket_two_sessions(rt: HostRuntime) -> Result<(), Fail> {
     assert!(rt; reply.starts_with(&found));
     // behind it are the two times
     assert_eq!(rt; reply.len(), found.len() + 8);
+    let after = seconds(&rt);
+    for time in reply[found.len()..].chunks(4) {
+        let time = u64::from(number(time));
+        assert!(rt; before <= time && time <= after);
+    }
     Ok(())
 }
 

@@ -20,4 +20,4 @@ pub returns-in-Ok-clause-reads : goal.returns-in-Ok-clause-reads
 returns-in-Ok-clause-reads g c =
     let read = rw c.in-Ok-Some.field-0-is at c.in-Ok-Some.ensures.read in
     let found = c.in-Some.ensures.found in
-    rw c.in-Ok.ensures (found.1, a_reply _ _ c.args.id _ (reply_of c.in-Some.found) read found.0)
+    rw c.in-Ok.ensures.reply (found.1, a_reply _ _ c.args.id _ (reply_of c.in-Some.found) read found.0)

@@ -12,23 +12,24 @@ returns-in-Err-clause-made g c = call_refused c.args.request
 pub returns-in_err-finish-clause-fails : goal.returns-in_err-finish-clause-fails
 returns-in_err-finish-clause-fails g c = if_err_at c.from_residual.result c.in_err-finish.field-0.0 _ c.from_residual.ensures.1 (
   c.in-Ok.call,
-  steps_failed c.args.request c.in-Ok.call c.in_err-finish.field-0.0 _ _ _ c.in-Ok.ensures.ok c.in-Ok.ensures.calls c.in_err-finish.ensures.fails,
+  steps_failed c.args.request c.in-Ok.call c.now-moment.result c.in_err-finish.field-0.0 _ _ _ c.in-Ok.ensures.ok c.in-Ok.ensures.calls c.in_err-finish.ensures.fails,
   one_begin _ _ _ _ _ c.args.request c.now-moment.result (Ok c.in-Ok.call) c.now-moment.ensures c.in-Ok.ensures.asked c.in_err-finish.ensures.begins,
 )
 
 pub answer-requires : goal.answer-requires
-answer-requires g c = is_answered c.args.request c.in-Ok.call (g.D.Desk.at c.begin.new.self) (g.D.Desk.at c.finish.new.desk) c.in-Ok.ensures.ok c.in_ok-finish.ensures.answered
+answer-requires g c = is_answered c.args.request c.in-Ok.call c.now-moment.result (g.D.Desk.at c.begin.new.self) (g.D.Desk.at c.finish.new.desk) c.in-Ok.ensures.ok c.in_ok-finish.ensures.answered
 
 pub returns-then-is_err-clause-fails : goal.returns-then-is_err-clause-fails
 returns-then-is_err-clause-fails g c = (
   c.in-Ok.call,
-  answer_failed c.args.request c.in-Ok.call (g.D.Desk.at c.args.desk.now) (g.D.Desk.at c.begin.new.self) (g.D.Desk.at c.finish.new.desk) c.in-Ok.ensures.ok c.in-Ok.ensures.calls c.in_ok-finish.ensures.answered,
+  answer_failed c.args.request c.in-Ok.call c.now-moment.result (g.D.Desk.at c.args.desk.now) (g.D.Desk.at c.begin.new.self) (g.D.Desk.at c.finish.new.desk) c.in-Ok.ensures.ok c.in-Ok.ensures.calls c.in_ok-finish.ensures.answered
+      (c.in_ok-finish.ensures.begun ∙ c.in-Ok.ensures.begun),
   one_begin _ _ _ _ _ c.args.request c.now-moment.result (Ok c.in-Ok.call) c.now-moment.ensures c.in-Ok.ensures.asked c.in_ok-finish.ensures.begins,
 )
 
 pub returns-clause-made : goal.returns-clause-made
 returns-clause-made g c = call_made c.args.request
     (Begins (g.C.Clock.told c.args.clock.now) (g.C.Clock.told c.now-moment.new.self) (g.D.Desk.begins c.args.desk.now) (g.D.Desk.begins c.finish.new.desk))
-    (g.D.Desk.at c.args.desk.now) (g.D.Desk.at c.begin.new.self) (g.D.Desk.at c.finish.new.desk) c.in-Ok.call _ _ _ _ c.in-Ok.ensures.ok c.in-Ok.ensures.calls c.in_ok-finish.ensures.answered c.answer.ensures
+    (g.D.Desk.at c.args.desk.now) (g.D.Desk.at c.begin.new.self) (g.D.Desk.at c.finish.new.desk) c.in-Ok.call c.now-moment.result _ _ _ _ c.in-Ok.ensures.ok c.in-Ok.ensures.calls c.in_ok-finish.ensures.answered c.answer.ensures
     (on_ok_at c.answer-2.result _ (sym c.is_err.ensures.value ∙ c.if-is_err.false) c.answer-2.ensures.ok)
-    (one_begin _ _ _ _ _ c.args.request c.now-moment.result (Ok c.in-Ok.call) c.now-moment.ensures c.in-Ok.ensures.asked c.in_ok-finish.ensures.begins)
+    (one_begin _ _ _ _ _ c.args.request c.now-moment.result (Ok c.in-Ok.call) c.now-moment.ensures c.in-Ok.ensures.asked c.in_ok-finish.ensures.begins) (c.in_ok-finish.ensures.begun ∙ c.in-Ok.ensures.begun)

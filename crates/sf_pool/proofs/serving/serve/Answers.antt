@@ -1,39 +1,53 @@
-use Rattle.sf_pool.specs.Scenes.{scene, IsServed, line_at}
-use Rattle.sf_pool.specs.Serving.{HasSentFor}
-use Rattle.sf_pool.proofs.Stops.{joined_rests, left_serves, stops_early, strange_early, on_ok_any, if_err_more}
+use Rattle.std.proofs.Common.{refl, sym, subst, inl, inr}
+use Rattle.sf_session.specs.declared.fault.ServeFault.{ServeFault}
+use Rattle.sf_session.specs.declared.fault.ServeFault.TheVariants.{OutOfMemory}
+use Rattle.sf_engine.specs.Worlds.{new_told}
+use Rattle.sf_serving.specs.Serving.{line_view}
+use Rattle.sf_serving.proofs.Laws.{if_err_at, rests_new}
+use Rattle.sf_pool.specs.declared.at_desk.Standing.{Standing}
+use Rattle.sf_pool.specs.Scenes.{desk_scene, IsDeskFault}
+use Rattle.sf_pool.specs.AtDesks.{IsToldAt}
+use Rattle.sf_pool.proofs.Talking.{told_new}
+use Rattle.sf_pool.proofs.Leaving.{leaves_served, leaves_stopped, desk_fault, join_fault}
 use Rattle.sf_pool.proofs.serving.serve.Goals as goal
 
-pub returns-in-Ok-rounds-clause-served : goal.returns-in-Ok-rounds-clause-served
-returns-in-Ok-rounds-clause-served g c =
-    let start = scene (line_at (g.L.Line.incoming c.args.line.now) (g.L.Line.outgoing c.args.line.now) (g.L.Line.calls c.args.line.now)) (g.C.Clock.told c.args.clock.now) (g.D.Desk.begins c.args.desk.now) (g.D.Desk.at c.args.desk.now) in
-    on_ok_any c.leave.result _
-    (left_serves start (g.L.Line.incoming c.rounds.new.line) (g.L.Line.outgoing c.rounds.new.line) (g.L.Line.calls c.rounds.new.line) (g.C.Clock.told c.rounds.new.clock) (g.D.Desk.begins c.rounds.new.desk) (g.D.Desk.begins c.leave.new.desk) (g.D.Desk.at c.rounds.new.desk) (g.D.Desk.at c.leave.new.desk)
-    (IsServed (g.L.Line.incoming c.rounds.new.line)) c.leave.ensures.begins c.leave.ensures.calls
-    (c.in-Ok-rounds.ensures.served start
-    (joined_rests (g.L.Line.incoming c.args.line.now) (g.L.Line.outgoing c.args.line.now) (g.L.Line.calls c.args.line.now) (g.C.Clock.told c.args.clock.now) (g.D.Desk.begins c.args.desk.now) (g.D.Desk.begins c.join.new.self) (g.D.Desk.at c.args.desk.now) (g.D.Desk.at c.join.new.self)
-    c.new-session.result c.join.ensures.begins c.join.ensures.calls c.new-session.ensures)))
+pub returns-in_err-piece-clause-stopped : goal.returns-in_err-piece-clause-stopped
+returns-in_err-piece-clause-stopped g c = if_err_at c.from_residual.result OutOfMemory _ c.from_residual.ensures.1 (inl (inl (refl, refl), refl, refl, refl, refl))
 
-pub returns-in-Ok-rounds-clause-stopped : goal.returns-in-Ok-rounds-clause-stopped
-returns-in-Ok-rounds-clause-stopped g c =
-    let start = scene (line_at (g.L.Line.incoming c.args.line.now) (g.L.Line.outgoing c.args.line.now) (g.L.Line.calls c.args.line.now)) (g.C.Clock.told c.args.clock.now) (g.D.Desk.begins c.args.desk.now) (g.D.Desk.at c.args.desk.now) in
-    let i = g.L.Line.incoming c.rounds.new.line in
-    let now = scene (line_at i (g.L.Line.outgoing c.rounds.new.line) (g.L.Line.calls c.rounds.new.line)) (g.C.Clock.told c.rounds.new.clock) (g.D.Desk.begins c.leave.new.desk) (g.D.Desk.at c.leave.new.desk) in
-    if_err_more c.leave.result _ _ c.leave.ensures.stranger
-    (λ fault strange.
-    strange_early start now i fault (g.L.Line.failed c.args.line.now) (g.L.Line.failed c.rounds.new.line) strange.0
-    (left_serves start i (g.L.Line.outgoing c.rounds.new.line) (g.L.Line.calls c.rounds.new.line) (g.C.Clock.told c.rounds.new.clock) (g.D.Desk.begins c.rounds.new.desk) (g.D.Desk.begins c.leave.new.desk) (g.D.Desk.at c.rounds.new.desk) (g.D.Desk.at c.leave.new.desk)
-    (IsServed i) c.leave.ensures.begins c.leave.ensures.calls
-    (c.in-Ok-rounds.ensures.served start
-    (joined_rests (g.L.Line.incoming c.args.line.now) (g.L.Line.outgoing c.args.line.now) (g.L.Line.calls c.args.line.now) (g.C.Clock.told c.args.clock.now) (g.D.Desk.begins c.args.desk.now) (g.D.Desk.begins c.join.new.self) (g.D.Desk.at c.args.desk.now) (g.D.Desk.at c.join.new.self)
-    c.new-session.result c.join.ensures.begins c.join.ensures.calls c.new-session.ensures))))
+pub returns-in_err-piece-clause-fault : goal.returns-in_err-piece-clause-fault
+returns-in_err-piece-clause-fault g c = if_err_at c.from_residual.result OutOfMemory _ c.from_residual.ensures.1 tt
+
+pub returns-in-Err-clause-stopped : goal.returns-in-Err-clause-stopped
+returns-in-Err-clause-stopped g c = inl (inr (c.in-Err.fault, c.join_refusal.ensures, c.in-Err.ensures.err), c.join.ensures.begins, refl, refl, refl)
+
+pub returns-in-Err-clause-fault : goal.returns-in-Err-clause-fault
+returns-in-Err-clause-fault g c = subst (λ (f : ServeFault). IsDeskFault f (g.L.Line.failed c.args.line.now) (g.L.Line.failed c.args.line.now)) (sym c.join_refusal.ensures) (join_fault c.in-Err.fault (g.L.Line.failed c.args.line.now) (g.L.Line.failed c.args.line.now))
+
+pub returns-in-Ok-served-clause-served : goal.returns-in-Ok-served-clause-served
+returns-in-Ok-served-clause-served g c =
+    let from = line_view (g.L.Line.incoming c.args.line.now) (g.L.Line.outgoing c.args.line.now) (g.L.Line.calls c.args.line.now) in
+    let start = desk_scene (g.D.Desk.at c.args.desk.now) (g.D.Desk.begins c.args.desk.now) (g.C.Clock.told c.args.clock.now) in
+    let joined = desk_scene (g.D.Desk.at c.join.new.self) (g.D.Desk.begins c.join.new.self) (g.C.Clock.told c.args.clock.now) in
+    let host = c.new-host.result in
+    let begun : IsToldAt start host.standing host.session joined new_told = subst (λ (s : Standing). IsToldAt start s host.session joined new_told) (sym c.new-host.ensures.standing)
+    (told_new start (g.D.Desk.at c.join.new.self) (g.D.Desk.begins c.join.new.self) host.session c.join.ensures.begins c.join.ensures.calls c.in-Ok.ensures.begun c.new-host.ensures.session) in
+    let after = c.serve_session-served.new.host in
+    let now = desk_scene (g.D.Desk.at c.serve_session-served.new.place) (g.D.Desk.begins c.serve_session-served.new.place) (g.C.Clock.told c.serve_session-served.new.clock) in
+    leaves_served start now from _ after.standing after.session c.in-Ok-served.field-0 _ _ c.in-Ok-served.ensures.left c.add_share.ensures
+    (c.in-Ok-served.ensures.served start from (rests_new (IsToldAt start host.standing host.session joined) from begun))
 
 pub returns-clause-stopped : goal.returns-clause-stopped
 returns-clause-stopped g c =
-    let start = scene (line_at (g.L.Line.incoming c.args.line.now) (g.L.Line.outgoing c.args.line.now) (g.L.Line.calls c.args.line.now)) (g.C.Clock.told c.args.clock.now) (g.D.Desk.begins c.args.desk.now) (g.D.Desk.at c.args.desk.now) in
-    let now = scene (line_at (g.L.Line.incoming c.rounds.new.line) (g.L.Line.outgoing c.rounds.new.line) (g.L.Line.calls c.rounds.new.line)) (g.C.Clock.told c.rounds.new.clock) (g.D.Desk.begins c.stop.new.desk) (g.D.Desk.at c.stop.new.desk) in
-    stops_early start now c.in-Err-rounds.why c.stop.result (g.L.Line.failed c.args.line.now) (g.L.Line.failed c.rounds.new.line) c.stop.ensures.fault c.in-Err-rounds.ensures.fault
-    (left_serves start (g.L.Line.incoming c.rounds.new.line) (g.L.Line.outgoing c.rounds.new.line) (g.L.Line.calls c.rounds.new.line) (g.C.Clock.told c.rounds.new.clock) (g.D.Desk.begins c.rounds.new.desk) (g.D.Desk.begins c.stop.new.desk) (g.D.Desk.at c.rounds.new.desk) (g.D.Desk.at c.stop.new.desk)
-    (HasSentFor c.in-Err-rounds.why) c.stop.ensures.begins c.stop.ensures.calls
-    (c.in-Err-rounds.ensures.stops start
-    (joined_rests (g.L.Line.incoming c.args.line.now) (g.L.Line.outgoing c.args.line.now) (g.L.Line.calls c.args.line.now) (g.C.Clock.told c.args.clock.now) (g.D.Desk.begins c.args.desk.now) (g.D.Desk.begins c.join.new.self) (g.D.Desk.at c.args.desk.now) (g.D.Desk.at c.join.new.self)
-    c.new-session.result c.join.ensures.begins c.join.ensures.calls c.new-session.ensures)))
+    let from = line_view (g.L.Line.incoming c.args.line.now) (g.L.Line.outgoing c.args.line.now) (g.L.Line.calls c.args.line.now) in
+    let start = desk_scene (g.D.Desk.at c.args.desk.now) (g.D.Desk.begins c.args.desk.now) (g.C.Clock.told c.args.clock.now) in
+    let joined = desk_scene (g.D.Desk.at c.join.new.self) (g.D.Desk.begins c.join.new.self) (g.C.Clock.told c.args.clock.now) in
+    let host = c.new-host.result in
+    let begun : IsToldAt start host.standing host.session joined new_told = subst (λ (s : Standing). IsToldAt start s host.session joined new_told) (sym c.new-host.ensures.standing)
+    (told_new start (g.D.Desk.at c.join.new.self) (g.D.Desk.begins c.join.new.self) host.session c.join.ensures.begins c.join.ensures.calls c.in-Ok.ensures.begun c.new-host.ensures.session) in
+    let after = c.serve_session-served.new.host in
+    let now = desk_scene (g.D.Desk.at c.serve_session-served.new.place) (g.D.Desk.begins c.serve_session-served.new.place) (g.C.Clock.told c.serve_session-served.new.clock) in
+    inr (leaves_stopped start now from _ after.standing after.session c.in-Err-served.fault _ _ _ _ c.in-Err-served.ensures.left_by c.in-Err-served.ensures.fault c.add_share.ensures
+    (c.in-Err-served.ensures.stopped start from (rests_new (IsToldAt start host.standing host.session joined) from begun)))
+
+pub returns-clause-fault : goal.returns-clause-fault
+returns-clause-fault g c = desk_fault c.in-Err-served.fault _ _ _ c.in-Err-served.ensures.fault

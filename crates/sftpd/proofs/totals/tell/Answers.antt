@@ -1,7 +1,7 @@
 use Rattle.std.proofs.Common.{ℕ, List, refl, sym, ap, subst, ◌∙◌}
 use Rattle.std.specs.Prelude.{sum}
 use Rattle.std.specs.Io.KnownBytes.{Appends}
-use Rattle.sf_pool.specs.Audits.{Agrees}
+use Rattle.sf_audit.specs.Audits.{Agrees}
 use Rattle.sftpd.specs.Totals.{totals_text}
 use Rattle.sftpd.proofs.totals.tell.Goals as goal
 

@@ -1,0 +1,207 @@
+-- What is done on an engine: by events alone, one after the other.
+use Rattle.std.specs.Prelude.{◌≡◌, ◌<◌, ◌+◌, ◌⊎◌, ◌^◌, ℕ, List, [], ◌∷◌, length, Option, Some, None, Result, Ok, Err, OnErr}
+use Rattle.std.specs.Global.{Vec}
+use Rattle.sf_field.specs.Fields.{packet}
+use Rattle.sf_request.specs.declared.request.WireRequest.{WireRequest}
+use Rattle.sf_request.specs.declared.request.WireRequest.TheVariants as request
+use Rattle.sf_request.specs.Requests.{request_body, init_body}
+use Rattle.sf_reply.specs.declared.reply.Reply.{Reply}
+use Rattle.sf_reply.specs.Replies.{reply_body, ReplyFits}
+use Rattle.sf_engine.specs.declared.event.Event.{Event}
+use Rattle.sf_engine.specs.declared.event.Event.TheVariants as event
+use Rattle.sf_engine.specs.declared.event.Happened.{Happened}
+use Rattle.sf_engine.specs.declared.event.Happened.TheVariants as happened
+use Rattle.sf_engine.specs.declared.event.EngineFault.{EngineFault}
+use Rattle.sf_engine.specs.declared.event.EngineFault.TheVariants as engine
+use Rattle.sf_engine.specs.Fits.{GoesOnTrace, HasTurns, IsSentBy, IsUnknown}
+use Rattle.sf_engine.specs.Views.{EngineView}
+use Rattle.sf_trees.specs.declared.fault.TreeFault.{TreeFault}
+use Rattle.sf_trees.specs.declared.fault.TreeFault.TheVariants as fault
+use Rattle.sf_trees.specs.Deeds.{Deed, Begins, Asks, Ends}
+use Rattle.sf_asking.specs.Askers.{AskerView}
+
+-- the id of each request
+abbrev pub id : ℕ
+id = 1
+
+-- how many bytes the strings of a request have
+abbrev pub strings_of : WireRequest → ℕ
+strings_of (request.Open filename flags attrs) = length filename
+strings_of (request.Close handle) = length handle
+strings_of (request.Read handle offset len) = length handle
+strings_of (request.Write handle offset bytes) = length handle + length bytes
+strings_of (request.LStat path) = length path
+strings_of (request.FStat handle) = length handle
+strings_of (request.SetStat path attrs) = length path
+strings_of (request.FSetStat handle attrs) = length handle
+strings_of (request.OpenDir path) = length path
+strings_of (request.ReadDir handle) = length handle
+strings_of (request.Remove path) = length path
+strings_of (request.Mkdir path attrs) = length path
+strings_of (request.Rmdir path) = length path
+strings_of (request.RealPath path) = length path
+strings_of (request.Stat path) = length path
+strings_of (request.Rename old new) = length old + length new
+strings_of (request.PosixRename old new) = length old + length new
+strings_of (request.Link old new) = length old + length new
+
+-- the most bytes of a request's strings: a packet has up to 262144, and what else stands in one takes less than 64
+abbrev pub most_strings : ℕ
+most_strings = 262080
+
+-- an event led from an engine to another, and this came of it
+abbrev pub LeadsBy : EngineView → Event → Result Happened EngineFault → EngineView → Type 0
+LeadsBy old event r new = GoesOnTrace old event r new × OnErr r (new ≡ old)
+
+-- so, by the event `Feed` of any vector of these bytes
+abbrev pub FeedsBy : EngineView → ℕ → List ℕ → Result Happened EngineFault → EngineView → Type 0
+FeedsBy old session bytes r new =
+    ((fed : Vec ℕ) → fed.items ≡ bytes → GoesOnTrace old (event.Feed session fed) r new)
+    × OnErr r (new ≡ old)
+
+-- the fault that is told of an engine's refusal
+abbrev pub fault_for : EngineFault → TreeFault
+fault_for engine.OutOfMemory = fault.OutOfMemory
+fault_for engine.NoSuchSession = fault.Reply
+fault_for engine.Sessions = fault.Sessions
+fault_for engine.Ended = fault.Reply
+fault_for engine.NumbersSpent = fault.NumbersSpent
+fault_for engine.NotSent = fault.Reply
+
+-- why turns that came to this led to no reply
+abbrev pub stuck_by : Result Happened EngineFault → Option TreeFault
+stuck_by (Ok (happened.Opened session)) = Some fault.Reply
+stuck_by (Ok happened.Fed) = Some fault.Reply
+stuck_by (Ok happened.Moved) = Some fault.Reply
+stuck_by (Ok (happened.Blocked call)) = Some fault.Blocked
+stuck_by (Ok happened.Decided) = Some fault.Reply
+stuck_by (Ok happened.Wrote) = None
+stuck_by (Ok happened.Begun) = Some fault.Reply
+stuck_by (Ok happened.Idle) = Some fault.Reply
+stuck_by (Ok (happened.Ended cause)) = Some fault.Reply
+stuck_by (Ok happened.Closed) = Some fault.Reply
+stuck_by (Ok happened.Sent) = Some fault.Reply
+stuck_by (Err f) = Some (fault_for f)
+
+-- bytes were fed, and then turns of the session, at the moment, came to this
+pub record Turned (session moment : ℕ) (bytes : List ℕ) (old : EngineView) (r : Result Happened EngineFault)
+    (new : EngineView) : Type 0 where
+  pub fed : EngineView
+  pub happened : Happened
+  pub turns : ℕ
+  pub feeds : FeedsBy old session bytes (Ok happened) fed
+  pub has_turns : HasTurns turns fed (event.Turn session moment) r new
+
+-- There was no memory for the bytes, or they were refused.
+abbrev pub IsUnfed : ℕ → List ℕ → EngineView → TreeFault → EngineView → Type 0
+IsUnfed session bytes old why new = (new ≡ old) × ((why ≡ fault.OutOfMemory)
+    ⊎ ((f : EngineFault) × FeedsBy old session bytes (Err f) new × (why ≡ fault_for f)))
+
+-- Bytes were fed, and turns led to a reply; or why not.
+abbrev pub Converses : ℕ → ℕ → List ℕ → EngineView → Result (Unit {0}) TreeFault → EngineView → Type 0
+Converses session moment bytes old (Ok done) new =
+    Turned session moment bytes old (Ok happened.Wrote) new
+Converses session moment bytes old (Err why) new = IsUnfed session bytes old why new
+    ⊎ ((r : Result Happened EngineFault) × Turned session moment bytes old r new × (stuck_by r ≡ Some why))
+
+-- all that a session is sent was taken
+abbrev pub IsTaken : ℕ → List ℕ → EngineView → EngineView → Type 0
+IsTaken session output old new = IsSentBy old session output
+    × ((h : Happened) × LeadsBy old (event.Sent session (length output)) (Ok h) new)
+
+-- no memory to read bytes as a reply, or they are none
+abbrev pub MayMissReply : List ℕ → TreeFault → Type 0
+MayMissReply output why = (why ≡ fault.OutOfMemory) ⊎ ((why ≡ fault.Reply)
+    × ((r : Reply) → ReplyFits r → length (reply_body id r) < 2 ^ 32
+    → output ≡ packet (reply_body id r) → ⊥))
+
+-- There is no such session, or the engine refused that bytes were sent.
+abbrev pub IsUntaken : ℕ → EngineView → TreeFault → EngineView → Type 0
+IsUntaken session old why new = (IsUnknown old session × (why ≡ fault.Reply))
+    ⊎ ((n : ℕ) × (f : EngineFault) × LeadsBy old (event.Sent session n) (Err f) new × (why ≡ fault_for f))
+
+-- One reply, which is all that the session is sent, was taken; or nothing changed, and why.
+abbrev pub Gets : ℕ → EngineView → Result Reply TreeFault → EngineView → Type 0
+Gets session old (Ok r) new = IsTaken session (packet (reply_body id r)) old new
+Gets session old (Err why) new = (new ≡ old)
+    × (((output : List ℕ) × IsSentBy old session output × MayMissReply output why)
+    ⊎ IsUntaken session old why new)
+
+-- A request's packet was fed, turns led to its reply, and that was taken, and was all that the session was sent.
+abbrev pub IsAnswered : ℕ → ℕ → WireRequest → EngineView → Reply → EngineView → Type 0
+IsAnswered session moment q old r new = (wrote : EngineView)
+    × Converses session moment (packet (request_body id q)) old (Ok tt) wrote × Gets session wrote (Ok r) new
+
+-- Strings are too long, and nothing was done.
+abbrev pub IsTooLong : WireRequest → EngineView → TreeFault → EngineView → Type 0
+IsTooLong q old why new = (most_strings < strings_of q) × (why ≡ fault.Path) × (new ≡ old)
+
+abbrev pub IsUnanswered : ℕ → ℕ → WireRequest → EngineView → TreeFault → EngineView → Type 0
+IsUnanswered session moment q old why new = IsTooLong q old why new
+    ⊎ (Converses session moment (packet (request_body id q)) old (Err why) new
+    ⊎ ((wrote : EngineView) × Converses session moment (packet (request_body id q)) old (Ok tt) wrote
+    × Gets session wrote (Err why) new))
+
+abbrev pub TakesAll : ℕ → EngineView → Result (Unit {0}) TreeFault → EngineView → Type 0
+TakesAll session old (Ok done) new = (output : List ℕ) × IsTaken session output old new
+TakesAll session old (Err why) new = (new ≡ old) × IsUntaken session old why new
+
+-- INIT was fed, turns led to its answer, and all that the session was sent was taken.
+abbrev pub IsGreeted : ℕ → ℕ → EngineView → EngineView → Type 0
+IsGreeted session moment old new = (wrote : EngineView)
+    × Converses session moment (packet init_body) old (Ok tt) wrote × TakesAll session wrote (Ok tt) new
+
+abbrev pub IsUngreeted : ℕ → ℕ → EngineView → TreeFault → EngineView → Type 0
+IsUngreeted session moment old why new = Converses session moment (packet init_body) old (Err why) new
+    ⊎ ((wrote : EngineView) × Converses session moment (packet init_body) old (Ok tt) wrote
+    × TakesAll session wrote (Err why) new)
+
+abbrev pub Greets : ℕ → ℕ → EngineView → Result (Unit {0}) TreeFault → EngineView → Type 0
+Greets session moment old (Ok done) new = IsGreeted session moment old new
+Greets session moment old (Err why) new = IsUngreeted session moment old why new
+
+-- A session was closed, if it was there, and then turns were made of it, which write an answer that waits.
+abbrev pub IsClosed : ℕ → ℕ → EngineView → EngineView → Type 0
+IsClosed session moment old new = (closed : EngineView) × (turns : ℕ)
+    × (came left : Result Happened EngineFault) × LeadsBy old (event.Close session) came closed
+    × HasTurns turns closed (event.Turn session moment) left new
+
+-- A session was greeted; or it was closed, since it wasn't.
+abbrev pub Welcomes : ℕ → ℕ → EngineView → Result (Unit {0}) TreeFault → EngineView → Type 0
+Welcomes session moment old (Ok done) new = IsGreeted session moment old new
+Welcomes session moment old (Err why) new = (left : EngineView)
+    × IsUngreeted session moment old why left × IsClosed session moment left new
+
+-- the number of a session that opened
+abbrev pub opened_by : Result Happened EngineFault → Result ℕ TreeFault
+opened_by (Ok (happened.Opened session)) = Ok session
+opened_by (Ok other) = Err fault.Reply
+opened_by (Err f) = Err (fault_for f)
+
+abbrev pub Opens : EngineView → Result ℕ TreeFault → EngineView → Type 0
+Opens old result new = (r : Result Happened EngineFault)
+    × LeadsBy old event.Open r new × (result ≡ opened_by r)
+
+-- A session opened and was greeted; or it didn't open, or wasn't greeted.
+abbrev pub HasBegun : ℕ → EngineView → Result ℕ TreeFault → EngineView → Type 0
+HasBegun moment old (Ok session) new = (opened : EngineView) × Opens old (Ok session) opened
+    × Welcomes session moment opened (Ok tt) new
+HasBegun moment old (Err why) new = Opens old (Err why) new
+    ⊎ ((session : ℕ) × (opened : EngineView) × Opens old (Ok session) opened
+    × Welcomes session moment opened (Err why) new)
+
+-- what each deed is on an engine
+abbrev pub IsDone : ℕ → Deed → EngineView → EngineView → Type 0
+IsDone moment (Begins came) old new = HasBegun moment old came new
+IsDone moment (Asks session q (Ok r)) old new = IsAnswered session moment q old r new
+IsDone moment (Asks session q (Err why)) old new = IsUnanswered session moment q old why new
+IsDone moment (Ends session) old new = IsClosed session moment old new
+
+-- all deeds, one after the other
+unfoldable pub AreDone : ℕ → List Deed → EngineView → EngineView → Type 0
+AreDone moment [] old new = new ≡ old
+AreDone moment (deed ∷ deeds) old new = (mid : EngineView) × IsDone moment deed old mid
+    × AreDone moment deeds mid new
+
+abbrev pub Reaches : AskerView → List Deed → AskerView → Type 0
+Reaches old deeds new = (new.moment ≡ old.moment) × AreDone old.moment deeds old.engine new.engine

@@ -1,0 +1,165 @@
+//! Bytes to a session, its turns, and what it is sent.
+
+ghost use Rattle.std.specs.Prelude.{◌≡◌, ◌<◌, ◌^◌, length, IfOk};
+ghost use Rattle.sf_field.specs.Fields.{packet};
+ghost use Rattle.sf_request.specs.Requests.{request_body, init_body};
+ghost use Rattle.sf_asking.specs.Asking.{id, fault_for, stuck_by, Converses, Gets, TakesAll, Greets, IsClosed, Welcomes, opened_by, Opens};
+
+use crate::packet::{ID, read_packet};
+use bytes::BytesMut;
+use sf_engine::{Engine, EngineFault, Event, Happened};
+use sf_reply::Reply;
+use sf_request::{WireRequest, init_packet, write_request};
+use sf_trees::TreeFault;
+use std::alloc::{AllocError, Global};
+
+/// The fault that is told of an engine's refusal.
+fn fault_for(fault: EngineFault) -> TreeFault
+    ensures { result ≡ fault_for fault }
+{
+    match fault {
+        EngineFault::OutOfMemory => TreeFault::OutOfMemory,
+        EngineFault::Sessions => TreeFault::Sessions,
+        EngineFault::NumbersSpent => TreeFault::NumbersSpent,
+        EngineFault::NoSuchSession | EngineFault::Ended | EngineFault::NotSent => TreeFault::Reply,
+    }
+}
+
+/// Why turns that came to this led to no reply.
+fn stuck_by(came: Result<Happened, EngineFault>) -> Option<TreeFault>
+    ensures { result ≡ stuck_by came }
+{
+    match came {
+        Ok(Happened::Wrote) => None,
+        Ok(Happened::Blocked(_)) => Some(TreeFault::Blocked),
+        Ok(_) => Some(TreeFault::Reply),
+        Err(fault) => Some(fault_for(fault)),
+    }
+}
+
+/// Feeds bytes, and makes turns up to a reply.
+fn converse(engine: &mut Engine, session: u64, moment: u32, bytes: &[u8]) -> Result<(), TreeFault>
+    requires { length bytes.now < 2 ^ 63 }
+    ensures { Converses session moment bytes.now engine.old result engine.new }
+{
+    if let Err(fault) = engine.feed(session, bytes) {
+        return Err(fault_for(fault));
+    }
+    match stuck_by(engine.turns(session, moment)) {
+        Some(fault) => Err(fault),
+        None => Ok(()),
+    }
+}
+
+/// Takes one reply, which is all that the session is sent.
+pub(crate) fn take(engine: &mut Engine, alloc: Global, session: u64) -> Result<Reply, TreeFault>
+    ensures { Gets session engine.old result engine.new }
+{
+    let Some(output) = engine.output(session) else {
+        return Err(TreeFault::Reply);
+    };
+    let count = output.len();
+    let reply = read_packet(alloc, output)?;
+    match engine.apply(&Event::Sent(session, count)) {
+        Ok(_) => Ok(reply),
+        Err(fault) => Err(fault_for(fault)),
+    }
+}
+
+/// The packet of a request.
+fn packet_of(alloc: Global, request: &WireRequest) -> Result<BytesMut, AllocError>
+    requires { length (request_body id request.now) < 2 ^ 32 }
+    ensures { IfOk result (λ bytes. bytes.items ≡ packet (request_body id request.now)) }
+{
+    let mut out = BytesMut::new(alloc);
+    write_request(ID, request, &mut out)?;
+    Ok(out)
+}
+
+/// Feeds a request's packet, and makes turns up to a reply.
+pub(crate) fn say(
+    engine: &mut Engine,
+    alloc: Global,
+    session: u64,
+    moment: u32,
+    request: &WireRequest,
+) -> Result<(), TreeFault>
+    requires { length (request_body id request.now) < 2 ^ 32 }
+    ensures { Converses session moment (packet (request_body id request.now)) engine.old result
+        engine.new }
+{
+    let Ok(packet) = packet_of(alloc, request) else {
+        return Err(TreeFault::OutOfMemory);
+    };
+    converse(engine, session, moment, packet.as_slice())
+}
+
+/// Takes all that the session is sent, which is VERSION.
+fn take_all(engine: &mut Engine, session: u64) -> Result<(), TreeFault>
+    ensures { TakesAll session engine.old result engine.new }
+{
+    let Some(output) = engine.output(session) else {
+        return Err(TreeFault::Reply);
+    };
+    let count = output.len();
+    match engine.apply(&Event::Sent(session, count)) {
+        Ok(_) => Ok(()),
+        Err(fault) => Err(fault_for(fault)),
+    }
+}
+
+/// Feeds INIT, and makes turns up to its answer.
+fn say_init(engine: &mut Engine, session: u64, moment: u32) -> Result<(), TreeFault>
+    ensures { Converses session moment (packet init_body) engine.old result engine.new }
+{
+    converse(engine, session, moment, &init_packet())
+}
+
+/// Sends INIT, and takes VERSION.
+fn greet(engine: &mut Engine, session: u64, moment: u32) -> Result<(), TreeFault>
+    ensures { Greets session moment engine.old result engine.new }
+{
+    say_init(engine, session, moment)?;
+    take_all(engine, session)?;
+    Ok(())
+}
+
+/// Closes a session. Where an answer waits, as after a turn that found no memory for it, further turns write it, so
+/// that the session leaves. Only one whose call is blocked, or for which there is no memory still, stays.
+pub(crate) fn close(engine: &mut Engine, session: u64, moment: u32)
+    ensures { IsClosed session moment engine.old engine.new }
+{
+    let _closed = engine.apply(&Event::Close(session));
+    let _left = engine.turns(session, moment);
+}
+
+/// As `greet`, and closes a session that isn't greeted.
+pub(crate) fn welcome(engine: &mut Engine, session: u64, moment: u32) -> Result<(), TreeFault>
+    ensures { Welcomes session moment engine.old result engine.new }
+{
+    match greet(engine, session, moment) {
+        Ok(()) => Ok(()),
+        Err(fault) => {
+            close(engine, session, moment);
+            Err(fault)
+        }
+    }
+}
+
+/// The number of a session that opened.
+fn opened_by(came: Result<Happened, EngineFault>) -> Result<u64, TreeFault>
+    ensures { result ≡ opened_by came }
+{
+    match came {
+        Ok(Happened::Opened(session)) => Ok(session),
+        Ok(_) => Err(TreeFault::Reply),
+        Err(fault) => Err(fault_for(fault)),
+    }
+}
+
+/// Opens a session.
+pub(crate) fn open(engine: &mut Engine) -> Result<u64, TreeFault>
+    ensures { Opens engine.old result engine.new }
+{
+    opened_by(engine.apply(&Event::Open))
+}

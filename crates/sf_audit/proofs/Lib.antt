@@ -1,0 +1,4 @@
+pub mod Exact
+pub mod Deeds
+pub mod Faults
+pub mod Counted

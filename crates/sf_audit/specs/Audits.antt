@@ -1,0 +1,101 @@
+-- What sessions were told, beside the records of a history.
+use Rattle.std.specs.Prelude.{◌≡◌, ◌≢◌, ◌<◌, ◌≤◌, ◌⊎◌, ℕ, Bool, not, nat_eq, List, [], ◌∷◌, ◌++◌, map, drop, Option, Some, None, if◌then◌else◌}
+use Rattle.std.specs.List.{filter_map, list_any, prefix_len, sum_by, AllByRecursion}
+use Rattle.sf_reply.specs.declared.reply.Reply.{Reply}
+use Rattle.sf_call.specs.declared.request.Request.{Request}
+use Rattle.sf_call.specs.declared.record.Record.{Record}
+use Rattle.sf_call.specs.declared.record.Record.TheVariants.{Did, Left}
+use Rattle.sf_call.specs.Histories.{is_of}
+use Rattle.sf_audit.specs.declared.transcript.Exchange.{Exchange}
+use Rattle.sf_audit.specs.declared.transcript.Transcript.{Transcript}
+use Rattle.sf_audit.specs.declared.audits.AuditFault.{AuditFault}
+use Rattle.sf_audit.specs.declared.audits.AuditFault.TheVariants.{NotInHistory, OutOfOrder, Missing, FoldedCount}
+
+-- a call's number, request and reply
+pub record Deed : Type 0 where
+  pub number : ℕ
+  pub request : Request
+  pub reply : Reply
+
+-- what a session was told
+abbrev pub told : Exchange → Deed
+told e = record { number = e.answer.number; request = e.request; reply = e.answer.reply }
+
+-- the record's call, if it is the session's
+abbrev pub deed_of : ℕ → Record → Option Deed
+deed_of session (Did number s moment request given) =
+    if nat_eq s session then Some (record { number = number; request = request; reply = given })
+    else None
+deed_of session (Left s) = None
+
+-- the session's calls among the records, in their order
+abbrev pub deeds : ℕ → List Record → List Deed
+deeds session records = filter_map (deed_of session) records
+
+-- whether the call's number is in the records
+abbrev pub is_kept : List Record → Exchange → Bool
+is_kept records e = list_any (is_of e.answer.number) records
+
+-- how many calls come before the first whose number is in the records, and the calls from there on
+abbrev pub front_len : List Record → Transcript → ℕ
+front_len records t = prefix_len (λ e. not (is_kept records e)) t.calls.items
+
+abbrev pub rest : List Record → Transcript → List Deed
+rest records t = map told (drop (front_len records t) t.calls.items)
+
+-- what follows the front are the session's calls among the records
+abbrev pub Follows : List Record → Transcript → Type 0
+Follows records t = rest records t ≡ deeds t.session records
+
+-- the calls of all fronts
+abbrev pub fronts : List Record → List Transcript → ℕ
+fronts records ts = sum_by (front_len records) ts
+
+-- each transcript follows the records, and no more calls come before them than were folded
+pub record Agrees (records : List Record) (folded : ℕ) (ts : List Transcript) : Type 0 where
+  pub each : AllByRecursion (Follows records) ts
+  pub few : fronts records ts ≤ folded
+
+-- the call is one of these
+abbrev pub IsIn : List Deed → Deed → Type 0
+IsIn [] d = ⊥
+IsIn (x ∷ xs) d = (x ≡ d) ⊎ IsIn xs d
+
+-- the first calls are among the second, in the same order
+abbrev pub IsWithin : List Deed → List Deed → Type 0
+IsWithin [] ys = Unit {0}
+IsWithin (x ∷ xs) [] = ⊥
+IsWithin (x ∷ xs) (y ∷ ys) = ((x ≡ y) × IsWithin xs ys) ⊎ IsWithin (x ∷ xs) ys
+
+-- all calls after the front are in the records as they were told
+abbrev pub AreKept : List Record → Transcript → Type 0
+AreKept records t = AllByRecursion (IsIn (deeds t.session records)) (rest records t)
+
+-- What is wrong with a transcript: a call after the front is not in the records as it was told; or
+-- all are, in another order; or the records have further calls of its session.
+abbrev pub IsFaultOf : List Record → Transcript → AuditFault → Type 0
+IsFaultOf records t NotInHistory = ¬ AreKept records t
+IsFaultOf records t OutOfOrder =
+    AreKept records t × ¬ IsWithin (rest records t) (deeds t.session records)
+IsFaultOf records t Missing =
+    IsWithin (rest records t) (deeds t.session records) × (rest records t ≢ deeds t.session records)
+IsFaultOf records t FoldedCount = ⊥
+
+-- the first transcript that doesn't follow the records has this fault
+pub record IsFirstFault (records : List Record) (ts : List Transcript)
+    (fault : AuditFault) : Type 0 where
+  pub before : List Transcript
+  pub faulty : Transcript
+  pub later : List Transcript
+  pub whole : ts ≡ before ++ faulty ∷ later
+  pub follow : AllByRecursion (Follows records) before
+  pub wrong : IsFaultOf records faulty fault
+
+-- all follow the records, and their fronts are too long
+pub record AreTooMany (records : List Record) (folded : ℕ) (ts : List Transcript) : Type 0 where
+  pub follow : AllByRecursion (Follows records) ts
+  pub many : folded < fronts records ts
+
+abbrev pub IsAuditFault : List Record → ℕ → List Transcript → AuditFault → Type 0
+IsAuditFault records folded ts FoldedCount = AreTooMany records folded ts
+IsAuditFault records folded ts fault = IsFirstFault records ts fault

@@ -1,0 +1,32 @@
+-- A `Held` may go to another thread: what it has is a box that may, or nothing.
+use Rattle.std.proofs.Common.{Option, Some, None}
+use mir.Raw.{raw}
+use base.Shift.{Keyless}
+use denote.Builtin.{RawPtr}
+use denote.Memory.{lone}
+use denote.RawPtr.{Ptr}
+use denote.Struct.Owning.{shape, fields, to}
+use denote.Struct.Struct.{exits_of}
+use denote.Param.Send.{IsSend, AllSend, owning_send, struct_send, sendable}
+use Rattle.std.specs.Global.{Global}
+use Rattle.std.proofs.alloc.Global.TheSendSync as handle
+use Rattle.std.proofs.Crossing.{frees}
+use Rattle.std_alloc.proofs.SendSync.{lies, quiet}
+use Rattle.sf_trees.specs.declared.found.Tree.{Tree}
+use Rattle.sf_trees.specs.contracts.found.Tree as engine
+use Rattle.sf_trees.proofs.found.Tree.TheSendSync as crosses
+use Rattle.sf_c.specs.Owned.{tree_owned}
+use Rattle.sf_c.specs.contracts.kept.Kept as kept
+
+pointer : IsSend RawPtr
+pointer = search sendable
+
+owned : (alloc : Global) (at : Ptr) (tree : Option Tree) → Keyless (tree_owned alloc at tree)
+owned alloc at None = tt
+owned alloc at (Some x) = (lies engine.the_row crosses.the_send at x, frees.frees alloc (raw (lone engine.the_row.mir)) at)
+
+pub send : IsSend kept.the_row
+send =
+    let O = kept.the_type in
+    let all : AllSend (fields O) = (pointer, (handle.the_field_send, tt)) in
+    owning_send O all (λ d. owned d.alloc d.at d.tree) (λ k. quiet (to O) (exits_of k (fields O)) ((struct_send (shape O) all).leaving k))

@@ -1,0 +1,78 @@
+//! A walk's tree in a box, as the box's pointer: what C has of it.
+
+ghost use Rattle.std.specs.Prelude.{◌≡◌, Option, Some, None, IsSome};
+ghost use Rattle.std.specs.Coded.{coded_option};
+ghost use Rattle.sf_trees.specs.contracts.found.Tree.{the_row};
+ghost use Rattle.sf_trees.specs.declared.found.Tree.{Tree};
+
+use crate::held::Loose;
+use sf_trees::Tree;
+use std::alloc::Global;
+use std::marker::Model;
+use std::{mem, ptr};
+
+/// What C has of a walk: the box of its tree, or nothing.
+#[repr(C)]
+#[derive(Drop)]
+pub struct Kept {
+    at: *mut u8,
+    alloc: Global,
+    pub ghost tree: { Option Tree } by { coded_option the_row.coded },
+}
+
+impl Model for Kept {
+    ghost use Rattle.sf_c.specs.Owned.{tree_owned};
+
+    ghost also_owns = { λ h. tree_owned h.alloc h.at h.tree };
+}
+
+// C may hand a tree to another thread. The proof is in `proofs/kept/Kept/TheSendSync`.
+unsafe impl Send for Kept {}
+
+impl Kept {
+    fn of(loose: Loose<Tree, Global>) -> Kept
+        ensures { result.tree ≡ Some loose.value }
+    {
+        let Loose { at, alloc } = loose;
+        Kept {
+            at: at as *mut u8,
+            alloc,
+        }
+    }
+
+    fn none(alloc: Global) -> Kept
+        ensures { result.tree ≡ None }
+    {
+        Kept {
+            at: ptr::null_mut(),
+            alloc,
+        }
+    }
+
+    fn loose(self) -> Loose<Tree, Global>
+        requires { IsSome self.tree }
+        ensures { self.tree ≡ Some result.value }
+    {
+        let Kept { at, alloc } = self;
+        Loose {
+            at: at as *mut Tree,
+            alloc,
+        }
+    }
+
+    /// Takes the tree. It has to be put back, or freed.
+    pub fn take(&mut self, alloc: Global) -> Box<Tree, Global>
+        requires { IsSome self.old.tree }
+        ensures tree { self.old.tree ≡ Some result.value }
+        ensures taken { self.new.tree ≡ None }
+    {
+        mem::replace(self, Kept::none(alloc)).loose().into_box()
+    }
+
+    /// Puts a tree in place of nothing.
+    pub fn put(&mut self, tree: Box<Tree, Global>)
+        ensures { self.new.tree ≡ Some tree.value }
+    {
+        *self = Kept::of(Loose::of(tree));
+    }
+}

@@ -1,8 +1,0 @@
-use Rattle.std.proofs.Common.{◌≡◌, ◌↔◌, map, drop}
-use Rattle.sf_pool.specs.Audits.{told, deeds}
-use Rattle.sf_pool.proofs.audits.are_deeds.Given as goal
-
--- the records so far told of the calls that are not left
-abbrev pub invariant-loop-entry : goal.invariant-loop-entry
-invariant-loop-entry l =
-    (map told l.calls ≡ deeds l.session l.records) ↔ (map told l.left ≡ deeds l.session (drop l.entry-index l.records))

@@ -1,8 +1,0 @@
-use Rattle.std.proofs.Common.{◌≡◌, ◌+◌}
-use Rattle.sf_pool.specs.Audits.{fronts}
-use Rattle.std.proofs.Common.{take}
-use Rattle.sf_pool.proofs.audits.are_few.Given as goal
-
--- what is left is what the fronts so far left
-abbrev pub invariant-loop-transcript : goal.invariant-loop-transcript
-invariant-loop-transcript l = l.left + fronts l.records (take l.transcript-index l.transcripts) ≡ l.most

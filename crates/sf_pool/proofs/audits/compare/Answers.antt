@@ -1,5 +1,0 @@
-use Rattle.sf_pool.proofs.Faults.{faulty_disagrees}
-use Rattle.sf_pool.proofs.audits.compare.Goals as goal
-
-pub returns-in-Some-clause-ok : goal.returns-in-Some-clause-ok
-returns-in-Some-clause-ok c = ((λ e. absurd cc), (λ a. absurd (faulty_disagrees _ _ _ c.in-Some.ensures.some a.each)))

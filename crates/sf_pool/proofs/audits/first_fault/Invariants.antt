@@ -1,8 +1,0 @@
-use Rattle.std.specs.List.{AllByRecursion}
-use Rattle.sf_pool.specs.Audits.{Follows}
-use Rattle.std.proofs.Common.{take}
-use Rattle.sf_pool.proofs.audits.first_fault.Given as goal
-
--- the transcripts so far follow the records
-abbrev pub invariant-loop-transcript : goal.invariant-loop-transcript
-invariant-loop-transcript l = AllByRecursion (Follows l.records) (take l.transcript-index l.transcripts)

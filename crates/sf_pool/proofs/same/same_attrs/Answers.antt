@@ -1,6 +1,0 @@
-use Rattle.std.proofs.Common.{sym, ◌∙◌}
-use Rattle.sf_pool.proofs.Exact as exact
-use Rattle.sf_pool.proofs.same.same_attrs.Goals as goal
-
-pub returns : goal.returns
-returns c = let d = exact.attrs c.args.a c.args.b in ((λ h. d.0 (sym c.eq.ensures ∙ h)), (λ e. c.eq.ensures ∙ d.1 e))

@@ -1,0 +1,212 @@
+//! A session that is served at a desk.
+
+ghost use Rattle.std.specs.Prelude.{◌≡◌, ◌≤◌, ℕ, List, length, take, Option, Some, None, vec_len, OnOk, OnErr, IfOk, IfErr};
+ghost use Rattle.sf_session.specs.declared.fault.ServeFault.{ServeFault};
+ghost use Rattle.sf_session.specs.declared.fault.ServeFault.TheVariants.{Stranger};
+ghost use Rattle.sf_session.specs.Sessions.{new_session};
+ghost use Rattle.sf_engine.specs.Worlds.{Told, transcript};
+ghost use Rattle.sf_engine.specs.Traces.{fed};
+ghost use Rattle.sf_engine.specs.Laws.{IsRead};
+ghost use Rattle.sf_serving.specs.Hosts.{IsOpen, HasSent, IsFurther, WentTo, with_sent, ended, IsHostFault};
+ghost use Rattle.sf_pool.specs.AtDesks.{standing_fault, standing_after, fault_of, IsAdded};
+
+use crate::calling::{Stop, make_call};
+use crate::desk::Desk;
+use crate::gate::Gate;
+use sf_core::Share;
+use sf_serving::{Host, Went};
+use sf_session::{Clock, Next, ServeFault, Session};
+use std::alloc::{AllocError, Global};
+use std::mem;
+
+/// How many bytes of replies a line gathers before a write may wait. A worker's line gathers as
+/// many.
+const GATHERED: usize = 16384;
+
+/// How a session stands at its desk.
+#[derive(Debug, Drop)]
+pub(crate) enum Standing {
+    Joined,
+    /// The reply to its last call found no room.
+    Unanswered,
+    /// Its call has no answer, and no number is left to count its steps.
+    UnderWay,
+    /// The core doesn't know it.
+    Strange,
+    /// With its share of the calls.
+    Left(Share),
+}
+
+/// A session at a desk, which it has joined.
+pub(crate) struct DeskHost<'a, G> {
+    number: u64,
+    session: Session,
+    gate: &'a G,
+    // How many bytes the line gathers before it writes.
+    room: usize,
+    standing: Standing,
+}
+
+/// Lets go of the core where a write of so many bytes may wait, and tells how much room the line
+/// has after it: by then it has written what it had gathered.
+fn let_go_for<D: Desk>(desk: &mut D, len: usize, room: usize) -> usize
+    ensures at { D.at desk.new ≡ D.at desk.old }
+    ensures begins { D.begins desk.new ≡ D.begins desk.old }
+{
+    if len < room {
+        return room - len;
+    }
+    desk.rest();
+    GATHERED.saturating_sub(len)
+}
+
+impl<'a, G> DeskHost<'a, G> {
+    /// A session that has joined, and has read nothing.
+    pub(crate) fn new(alloc: Global, number: u64, gate: &'a G) -> DeskHost<'a, G>
+        ensures session { result.session ≡ new_session }
+        ensures standing { result.standing ≡ Standing.Joined }
+    {
+        DeskHost {
+            number,
+            session: Session::new(alloc),
+            gate,
+            room: GATHERED,
+            standing: Standing::Joined,
+        }
+    }
+
+    /// Why it goes on no more, if so.
+    fn fault(&self) -> Option<ServeFault>
+        ensures { result ≡ standing_fault self.now.standing }
+    {
+        match &self.standing {
+            Standing::Joined => None,
+            Standing::Unanswered | Standing::Left(_) => Some(ServeFault::OutOfMemory),
+            Standing::UnderWay => Some(ServeFault::NumbersSpent),
+            Standing::Strange => Some(ServeFault::Stranger),
+        }
+    }
+
+    /// A reply waits. The core is let go of where writing it may wait.
+    fn answered<D: Desk>(&mut self, desk: &mut D) -> Went
+        ensures went { result ≡ Went.Answered }
+        ensures session { self.new.session ≡ self.old.session }
+        ensures standing { self.new.standing ≡ self.old.standing }
+        ensures at { D.at desk.new ≡ D.at desk.old }
+        ensures begins { D.begins desk.new ≡ D.begins desk.old }
+    {
+        self.room = let_go_for(desk, self.session.output().len(), self.room);
+        Went::Answered
+    }
+
+    /// A call has no reply: how it stands then, and why it goes on no more.
+    fn stand_after(&mut self, stop: Stop) -> ServeFault
+        ensures fault { result ≡ fault_of stop }
+        ensures session { self.new.session ≡ self.old.session }
+        ensures standing { self.new.standing ≡ standing_after stop }
+    {
+        let (standing, fault) = match stop {
+            Stop::OutOfMemory => (Standing::Unanswered, ServeFault::OutOfMemory),
+            Stop::Stranger => (Standing::Strange, ServeFault::Stranger),
+            Stop::UnderWay => (Standing::UnderWay, ServeFault::NumbersSpent),
+        };
+        self.standing = standing;
+        fault
+    }
+
+    /// Adds the share of a session that has left.
+    pub(crate) fn add_share(self, share: &mut Share)
+        ensures { IsAdded self.entry.standing share.old share.new }
+    {
+        let DeskHost {
+            number: _,
+            session: _session,
+            gate: _,
+            room: _,
+            standing,
+        } = self;
+        if let Standing::Left(own) = standing {
+            let others = mem::replace(share, Share::zero());
+            *share = others.merge(own);
+        }
+    }
+}
+
+impl<D: Desk, G: Gate> Host<D> for DeskHost<'_, G> {
+    ghost use Rattle.sf_pool.specs.Scenes.{DeskScene, desk_scene};
+    ghost use Rattle.sf_pool.specs.AtDesks.{IsToldAt, IsPlaced, IsStrange, IsOver};
+
+    ghost Start = { DeskScene };
+
+    ghost serves = { λ start h d told t. IsToldAt start h.standing h.session
+        (desk_scene (D.at d) (D.begins d) told) t };
+
+    ghost sound = { λ h d. IsPlaced h.standing h.session (D.at d) };
+
+    ghost work = { λ h d. (D.at d).steps };
+
+    ghost strange = { λ h d. IsStrange h.standing };
+
+    ghost left = { λ h d fault. IsOver h.standing (D.at d) fault };
+
+    fn feed(&mut self, _desk: &mut D, piece: &Vec<u8>, n: usize) -> Result<(), AllocError> {
+        self.room = GATHERED;
+        if self.session.feed(&piece[..n]).is_err() {
+            return Err(AllocError);
+        }
+        Ok(())
+    }
+
+    fn go_on<C: Clock>(&mut self, desk: &mut D, clock: &mut C) -> Result<Went, ServeFault> {
+        if let Some(fault) = self.fault() {
+            return Err(fault);
+        }
+        let Ok(next) = self.session.next() else {
+            return Err(ServeFault::OutOfMemory);
+        };
+        match next {
+            Next::More => {
+                desk.rest();
+                Ok(Went::Waits)
+            }
+            Next::Ended(cause) => Ok(Went::Ended(cause)),
+            Next::Local => Ok(self.answered(desk)),
+            Next::Call(request) => {
+                match make_call(
+                    desk,
+                    clock,
+                    self.gate,
+                    self.number,
+                    &mut self.session,
+                    request,
+                ) {
+                    Ok(()) => Ok(self.answered(desk)),
+                    Err(why) => Err(self.stand_after(why)),
+                }
+            }
+        }
+    }
+
+    fn output<'b>(&'b self, _desk: &'b D) -> &'b [u8] {
+        self.session.output()
+    }
+
+    fn sent(&mut self, _desk: &mut D) {
+        let n = self.session.output().len();
+        self.session.take_front(n);
+    }
+
+    fn end(&mut self, desk: &mut D) -> Result<(), ServeFault> {
+        match &self.standing {
+            Standing::UnderWay | Standing::Left(_) => return Ok(()),
+            Standing::Strange => return Err(ServeFault::Stranger),
+            Standing::Joined | Standing::Unanswered => {}
+        }
+        let Some(share) = desk.leave() else {
+            self.standing = Standing::Strange;
+            return Err(ServeFault::Stranger);
+        };
+        self.standing = Standing::Left(share);
+        Ok(())
+    }
+}

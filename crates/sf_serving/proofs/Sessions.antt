@@ -1,0 +1,303 @@
+-- A session that is served over a line: it reads, goes on, is written to, and ends.
+use Rattle.std.proofs.Common.{◌≡◌, ◌≢◌, ◌≤◌, ℕ, ◌+◌, List, [], ◌∷◌, ◌++◌, Bool, false, Option, map, length, refl, ap, sym, ◌∙◌, subst, inl, inr, append-nil, append_assoc, length-append, arith}
+use Rattle.std.specs.List.{AllByRecursion, flat_map}
+use Rattle.std.specs.Io.KnownBytes.{Appends, Consumes, Keeps}
+use Rattle.std.proofs.KnownBytes.{Appends-nil, Appends-trans, Consumes-nil, Consumes-trans, Consumes-kept}
+use Rattle.std.proofs.lemmas.List.{length-map}
+use Rattle.sf_field.specs.Fields.{be32, packet}
+use Rattle.sf_wire.specs.declared.cutting.Cut.TheVariants as cut
+use Rattle.sf_wire.specs.Packets.{IsBody, IsCut, More, Cuts}
+use Rattle.sf_line.specs.declared.line_call.LineCall.{LineCall}
+use Rattle.sf_line.specs.declared.line_call.LineCall.TheVariants.{Read}
+use Rattle.sf_line.specs.Lines.{Logs, given, taken}
+use Rattle.sf_line.proofs.Laws.{logs_none, logs_more}
+use Rattle.sf_session.specs.declared.asking.Ask.{Ask}
+use Rattle.sf_session.specs.declared.cause.Cause.{Cause}
+use Rattle.sf_session.specs.declared.cause.Cause.TheVariants.{Closed}
+use Rattle.sf_engine.specs.Worlds.{Answered, asked_by, transcript, Phase, Resting, UnderWay, Decided, Gone, Told, new_told, is_here}
+use Rattle.sf_engine.specs.Traces.{TakesNone, has_begun, fed, closed_now, left_for}
+use Rattle.sf_engine.specs.Laws.{pending, asks_of, AreAsked, IsRest, IsRead}
+use Rattle.sf_engine.proofs.Laws.{asked_each}
+use Rattle.sf_serving.specs.Ends.{IsEnd, IsWhole}
+use Rattle.sf_serving.specs.Hosts.{IsFront, IsOpen, Waits, IsFurther, with_sent, ended}
+use Rattle.sf_serving.specs.Serving.{LineView, line_view, Progress, progress, IsPromptAt, Served, IsInStep, Rests}
+use Rattle.sf_serving.specs.Rounds.{Writes}
+use Rattle.sf_serving.proofs.Fronts.{none_written, front_all, front_same, begun_more, prompt_further, nothing_prompt, prompt_push, prompt_writes, given_more, taken_more, writes_give_none, written_pieces, all_more}
+
+-- ---- a session at rest
+
+-- nothing is pending
+settled : (bodies : List (List ℕ)) (answers : List Answered) (phase : Phase) → pending phase ≡ [] → AreAsked false bodies (asks_of answers phase) → AreAsked false bodies (map asked_by answers)
+settled bodies answers phase none asked =
+    subst (λ (asks : List Ask). AreAsked false bodies asks) (ap (λ (more : List Ask). map asked_by answers ++ more) none ∙ append-nil (map asked_by answers)) asked
+
+pub rest_asked : (t : Told) → t.phase ≡ Resting → IsRead t → AreAsked false t.bodies (map asked_by t.answers)
+rest_asked t at read = settled t.bodies t.answers t.phase (ap pending at) read.asked
+
+-- its stream is the packets of its bodies and what is unread
+pub rest_left : (t : Told) → t.phase ≡ Resting → (read : IsRead t) → t.unread ≡ read.rest
+rest_left t at read = subst (λ (f : Phase). IsRest (has_begun t.bodies) f t.unread read.rest) at read.left
+
+pub rest_stream : (t : Told) → t.phase ≡ Resting → (read : IsRead t) → t.stream ≡ flat_map packet t.bodies ++ t.unread
+rest_stream t at read = read.stream ∙ ap (λ (b : List ℕ). flat_map packet t.bodies ++ b) (sym (rest_left t at read))
+
+cuts_of : (bodies : List (List ℕ)) (rest : List ℕ) → AllByRecursion IsBody bodies → IsCut rest cut.More → Cuts (flat_map packet bodies ++ rest) bodies (More rest)
+cuts_of [] rest bs c = (refl, c)
+cuts_of (body ∷ bodies) rest bs c = (flat_map packet bodies ++ rest, bs.0, append_assoc (packet body) (flat_map packet bodies) rest, cuts_of bodies rest bs.1 c)
+
+-- before a read all is prompt
+prompt_now : (from now : LineView) (n : ℕ) (p : Progress) → (S : Served from now p) → Rests n p → IsPromptAt p S.log
+prompt_now from now n p S rests =
+    let t = p.told in
+    let at : t.phase ≡ Resting = rests.1.0.rests in
+    let asked : AreAsked false t.bodies (map asked_by t.answers) = rest_asked t at S.bodies in
+    let all : p.written ≡ transcript t.answers = rests.0.in_step ∙ rests.0.sent in
+    let none : t.stream ++ p.unfed ≡ t.stream = ap (λ (b : List ℕ). t.stream ++ b) rests.0.fed ∙ append-nil t.stream in
+    record {
+      read = t.stream;
+      rest = t.unread;
+      bodies = t.bodies;
+      answers = t.answers;
+      was_read = front_all t.stream;
+      count = sym (S.gave ∙ ap (λ (b : List ℕ). length b) none);
+      cut = subst (λ (b : List ℕ). Cuts b t.bodies (More t.unread)) (sym (rest_stream t at S.bodies)) (cuts_of t.bodies t.unread S.bodies.are_bodies rests.1.1);
+      were_asked = front_all t.bodies;
+      were_answered = front_all t.answers;
+      each = sym (length-map t.answers asked_by) ∙ asked_each false t.bodies (map asked_by t.answers) asked;
+      were_written = front_same (transcript t.answers) p.written all;
+      wrote = ap (λ (b : List ℕ). length b) (sym all) ∙ sym S.took;
+    }
+
+-- ---- what was read of it, as it goes on
+
+pub read_new : IsRead new_told
+unfolding AreAsked
+read_new = record { rest = []; are_bodies = tt; stream = refl; left = refl; asked = tt }
+
+read_fed : (t : Told) (bytes : List ℕ) → t.phase ≡ Resting → IsRead t → IsRead (fed t bytes)
+read_fed t bytes at read =
+    let P : Phase → Type 0 = λ f. IsRest (has_begun t.bodies) f (t.unread ++ bytes) (read.rest ++ bytes) in
+    record {
+      rest = read.rest ++ bytes;
+      are_bodies = read.are_bodies;
+      stream = ap (λ (b : List ℕ). b ++ bytes) read.stream ∙ append_assoc (flat_map packet t.bodies) read.rest bytes;
+      left = subst P (sym at) (ap (λ (b : List ℕ). b ++ bytes) (rest_left t at read));
+      asked = read.asked;
+    }
+
+read_sent : (t : Told) → IsRead t → IsRead (with_sent t)
+read_sent t read = record { rest = read.rest; are_bodies = read.are_bodies; stream = read.stream; left = read.left; asked = read.asked }
+
+read_closed : (t : Told) (f : Phase) → t.phase ≡ f → IsRead t → IsRead (closed_now t f)
+read_closed t Resting at read = record {
+  rest = read.rest;
+  are_bodies = read.are_bodies;
+  stream = read.stream;
+  left = (refl, inl refl);
+  asked = subst (λ (asks : List Ask). AreAsked false t.bodies asks) (sym (append-nil (map asked_by t.answers))) (rest_asked t at read);
+}
+read_closed t (UnderWay id n m q moves) at read = record { rest = read.rest; are_bodies = read.are_bodies; stream = read.stream; left = read.left; asked = read.asked }
+read_closed t (Decided id n q given) at read = record { rest = read.rest; are_bodies = read.are_bodies; stream = read.stream; left = read.left; asked = read.asked }
+read_closed t (Gone cause) at read = read
+
+-- ending changes nothing of what was fed, read, answered and sent
+pub record IsSame (t t' : Told) : Type 0 where
+  pub stream : t'.stream ≡ t.stream
+  pub bodies : t'.bodies ≡ t.bodies
+  pub answers : t'.answers ≡ t.answers
+  pub sent : t'.sent ≡ t.sent
+
+closed_same : (t : Told) (f : Phase) → IsSame t (closed_now t f)
+closed_same t Resting = record { stream = refl; bodies = refl; answers = refl; sent = refl }
+closed_same t (UnderWay id n m q moves) = record { stream = refl; bodies = refl; answers = refl; sent = refl }
+closed_same t (Decided id n q given) = record { stream = refl; bodies = refl; answers = refl; sent = refl }
+closed_same t (Gone cause) = record { stream = refl; bodies = refl; answers = refl; sent = refl }
+
+pub ended_same : (t : Told) → IsSame t (ended t)
+ended_same t = closed_same t t.phase
+
+-- a session that has ended takes no more bytes
+takes_none : (t : Told) (f : Phase) → t.phase ≡ f → TakesNone (closed_now t f)
+takes_none t Resting at = inr refl
+takes_none t (UnderWay id n m q moves) at = inl refl
+takes_none t (Decided id n q given) at = inl refl
+takes_none t (Gone cause) at = inr (ap (λ (f : Phase). is_here (record t { phase = f })) at)
+
+pub ended_none : (t : Told) → TakesNone (ended t)
+ended_none t = takes_none t t.phase refl
+
+-- ---- how it ends
+
+-- a session that a packet or a wrong length ended
+ends_by : (begun : Bool) (phase : Phase) (unread rest : List ℕ) (cause : Cause) → phase ≡ Gone cause → cause ≢ Closed → IsRest begun phase unread rest → IsEnd begun rest cause
+ends_by begun phase unread rest cause at other left =
+    let gone : IsRest begun (Gone cause) unread rest = subst (λ (f : Phase). IsRest begun f unread rest) at left in
+    elim gone.1 [ inl e ↦ absurd (other e) | inr h ↦ inr h ]
+
+pub whole_left : (t : Told) (cause : Cause) → IsRead t → t.phase ≡ Gone cause → cause ≢ Closed → IsWhole t cause
+whole_left t cause read at other = record {
+  left = at;
+  rest = read.rest;
+  are_bodies = read.are_bodies;
+  stream = read.stream;
+  end = ends_by (has_begun t.bodies) t.phase t.unread read.rest cause at other read.left;
+  asked = settled t.bodies t.answers t.phase (ap pending at) read.asked;
+}
+
+-- a session that was closed at rest
+whole_closed : (t : Told) → IsRead t → t.phase ≡ Resting → IsCut t.unread cut.More → IsWhole (left_for t Closed) Closed
+whole_closed t read at no_more = record {
+  left = refl;
+  rest = read.rest;
+  are_bodies = read.are_bodies;
+  stream = read.stream;
+  end = inl (refl, subst (λ (b : List ℕ). IsCut b cut.More) (rest_left t at read) no_more);
+  asked = rest_asked t at read;
+}
+
+pub closed_whole : (t : Told) → IsRead t → Waits t → IsWhole (ended t) Closed
+closed_whole t read waits = subst (λ (f : Phase). IsWhole (closed_now t f) Closed) (sym waits.0.rests) (whole_closed t read waits.0.rests waits.1)
+
+-- one that has left is left as it is
+pub gone_whole : (t : Told) (cause : Cause) → IsWhole t cause → IsWhole (ended t) cause
+gone_whole t cause whole = subst (λ (f : Phase). IsWhole (closed_now t f) cause) (sym whole.left) whole
+
+pub sent_whole : (t : Told) (cause : Cause) → IsWhole t cause → IsWhole (with_sent t) cause
+sent_whole t cause h = record { left = h.left; rest = h.rest; are_bodies = h.are_bodies; stream = h.stream; end = h.end; asked = h.asked }
+
+-- ---- each body has bytes, so no more were answered than were fed
+
+long_bodies : (bodies : List (List ℕ)) → length bodies ≤ length (flat_map packet bodies)
+long_bodies [] = omega arith
+long_bodies (body ∷ bodies) =
+    let more : length (flat_map packet bodies) ≤ length (packet body ++ flat_map packet bodies) =
+    omega (arith, length-append (packet body) (flat_map packet bodies)) in
+    let parts : length (packet body) ≡ length (be32 (length body)) + length body = length-append (be32 (length body)) body in
+    let four : length (be32 (length body)) ≡ 4 = refl in
+    omega (arith, long_bodies bodies, length-append (packet body) (flat_map packet bodies), parts, four)
+
+pub long_answers : (t : Told) → t.phase ≡ Resting → IsRead t → length t.answers ≤ length t.stream
+long_answers t at read =
+    let each : length (map asked_by t.answers) ≡ length t.bodies = asked_each false t.bodies (map asked_by t.answers) (rest_asked t at read) in
+    let count : length (map asked_by t.answers) ≡ length t.answers = length-map t.answers asked_by in
+    let whole : length t.stream ≡ length (flat_map packet t.bodies ++ read.rest) = ap (λ (b : List ℕ). length b) read.stream in
+    omega (arith, each, count, whole, length-append (flat_map packet t.bodies) read.rest, long_bodies t.bodies)
+
+-- ---- one thing more that happens to it
+
+-- a new session
+pub newly : (l : LineView) → Served l l (progress new_told [] [])
+newly l = record {
+  bodies = read_new;
+  read = Consumes-nil l.incoming;
+  wrote = Appends-nil l.outgoing;
+  begun = ([], none_written);
+  log = [];
+  logged = logs_none l.calls;
+  gave = refl;
+  took = refl;
+  pieces = tt;
+  prompt = nothing_prompt (progress new_told [] []);
+}
+
+-- more was fed, read or answered, and nothing moved on the line
+retold : (from now : LineView) (t t' : Told) (unfed unfed' written : List ℕ) → Served from now (progress t unfed written) → IsRead t' → t'.stream ++ unfed' ≡ t.stream ++ unfed → IsFront t.stream t'.stream → IsFront t.bodies t'.bodies
+    → IsFront t.answers t'.answers → Served from now (progress t' unfed' written)
+retold from now t t' unfed unfed' written S read same stream bodies answers = record {
+  bodies = read;
+  read = subst (λ (b : List ℕ). Consumes from.incoming now.incoming b) (sym same) S.read;
+  wrote = S.wrote;
+  begun = begun_more written t.answers t'.answers S.begun answers;
+  log = S.log;
+  logged = S.logged;
+  gave = S.gave ∙ ap (λ (b : List ℕ). length b) (sym same);
+  took = S.took;
+  pieces = S.pieces;
+  prompt = prompt_further (progress t unfed written) (progress t' unfed' written) S.log (record { stream = stream; bodies = bodies; answers = answers; written = front_all written }) S.prompt;
+}
+
+pub fed_serves : (from now : LineView) (t : Told) (bytes written : List ℕ) → Served from now (progress t bytes written) → IsOpen t → Served from now (progress (fed t bytes) [] written)
+fed_serves from now t bytes written S is_open =
+    retold from now t (fed t bytes) bytes [] written S (read_fed t bytes is_open.rests S.bodies) (append-nil (t.stream ++ bytes)) (bytes, refl) (front_all t.bodies) (front_all t.answers)
+
+pub further_serves : (from now : LineView) (t t' : Told) (unfed written : List ℕ) → Served from now (progress t unfed written) → IsFurther t t' → Served from now (progress t' unfed written)
+further_serves from now t t' unfed written S further =
+    retold from now t t' unfed unfed written S further.read (ap (λ (b : List ℕ). b ++ unfed) further.stream) (front_same t.stream t'.stream further.stream) further.bodies further.answers
+
+sent_serves : (from now : LineView) (t : Told) (unfed written : List ℕ) → Served from now (progress t unfed written) → Served from now (progress (with_sent t) unfed written)
+sent_serves from now t unfed written S = retold from now t (with_sent t) unfed unfed written S (read_sent t S.bodies) refl (front_all t.stream) (front_all t.bodies) (front_all t.answers)
+
+pub ended_serves : (from now : LineView) (t : Told) (unfed written : List ℕ) → Served from now (progress t unfed written) → Served from now (progress (ended t) unfed written)
+ended_serves from now t unfed written S =
+    let same = ended_same t in
+    retold from now t (ended t) unfed unfed written S (read_closed t t.phase refl S.bodies) (ap (λ (b : List ℕ). b ++ unfed) same.stream) (front_same t.stream (ended t).stream same.stream) (front_same t.bodies (ended t).bodies same.bodies) (front_same t.answers (ended t).answers same.answers)
+
+-- bytes were read, and are not fed yet
+pub read_serves : (from now : LineView) (i' o' : Option (List ℕ)) (c' : Option (List LineCall)) (k n : ℕ) (t : Told) (unfed written bytes : List ℕ) → Served from now (progress t unfed written) → Rests k (progress t unfed written)
+    → Consumes now.incoming i' bytes → length bytes ≡ n → n ≤ 65536 → o' ≡ now.outgoing → Logs now.calls c' (Read n ∷ []) → Served from (line_view i' o' c') (progress t bytes written)
+read_serves from now i' o' c' k n t unfed written bytes S rests consumes count short same logs =
+    let p = progress t unfed written in
+    let p' = progress t bytes written in
+    let none : t.stream ++ unfed ≡ t.stream = ap (λ (b : List ℕ). t.stream ++ b) rests.0.fed ∙ append-nil t.stream in
+    let before : Consumes from.incoming now.incoming t.stream = subst (λ (b : List ℕ). Consumes from.incoming now.incoming b) none S.read in
+    let gave : given S.log ≡ length t.stream = S.gave ∙ ap (λ (b : List ℕ). length b) none in
+    let one : given (Read n ∷ []) ≡ n = omega arith in
+    let zero : taken (Read n ∷ []) ≡ 0 = omega arith in
+    record {
+      bodies = S.bodies;
+      read = Consumes-trans from.incoming now.incoming i' t.stream bytes before consumes;
+      wrote = subst (λ (o : Option (List ℕ)). Appends from.outgoing o written) (sym same) S.wrote;
+      begun = S.begun;
+      log = S.log ++ Read n ∷ [];
+      logged = logs_more from.calls now.calls c' S.log (Read n ∷ []) S.logged logs;
+      gave = omega (arith, given_more S.log (Read n ∷ []), one, length-append t.stream bytes, gave, count);
+      took = omega (arith, taken_more S.log (Read n ∷ []), zero, S.took);
+      pieces = all_more _ S.log (Read n ∷ []) S.pieces (short, tt);
+      prompt = prompt_further p p' (S.log ++ Read n ∷ []) (record { stream = front_all t.stream; bodies = front_all t.bodies; answers = front_all t.answers; written = front_all written })
+          (prompt_push p S.log (Read n) S.prompt (prompt_now from now k p S rests));
+    }
+
+-- a line that moved no byte and told no call
+pub still_serves : (from now : LineView) (i' o' : Option (List ℕ)) (c' : Option (List LineCall)) (p : Progress) → Served from now p → Keeps now.incoming i' → o' ≡ now.outgoing → Logs now.calls c' [] → Served from (line_view i' o' c') p
+still_serves from now i' o' c' p S kept same logs = record {
+  bodies = S.bodies;
+  read = Consumes-kept from.incoming now.incoming i' (p.told.stream ++ p.unfed) S.read kept;
+  wrote = subst (λ (o : Option (List ℕ)). Appends from.outgoing o p.written) (sym same) S.wrote;
+  begun = S.begun;
+  log = S.log;
+  logged = subst (λ (l : List LineCall). Logs from.calls c' l) (append-nil S.log) (logs_more from.calls now.calls c' S.log [] S.logged logs);
+  gave = S.gave;
+  took = S.took;
+  pieces = S.pieces;
+  prompt = S.prompt;
+}
+
+-- the line took a front of what waits
+pub wrote_serves : (from now now' : LineView) (p : Progress) (output sent rest : List ℕ) → Served from now p → IsInStep p → transcript p.told.answers ≡ p.told.sent ++ output → output ≡ sent ++ rest → Writes now now' sent
+    → Served from now' (progress p.told p.unfed (p.written ++ sent))
+wrote_serves from now now' p output sent rest S step waits whole w =
+    let p' = progress p.told p.unfed (p.written ++ sent) in
+    let none : given w.writes ≡ 0 = writes_give_none w.writes w.pieces in
+    let all : transcript p.told.answers ≡ (p.written ++ sent) ++ rest =
+    waits ∙ ap (λ (b : List ℕ). b ++ output) (sym step) ∙ ap (λ (b : List ℕ). p.written ++ b) whole ∙ sym (append_assoc p.written sent rest) in
+    record {
+      bodies = S.bodies;
+      read = subst (λ (o : Option (List ℕ)). Consumes from.incoming o (p.told.stream ++ p.unfed)) (sym w.incoming) S.read;
+      wrote = Appends-trans from.outgoing now.outgoing now'.outgoing p.written sent S.wrote w.appended;
+      begun = (rest, all);
+      log = S.log ++ w.writes;
+      logged = logs_more from.calls now.calls now'.calls S.log w.writes S.logged w.logged;
+      gave = omega (arith, given_more S.log w.writes, none, S.gave);
+      took = omega (arith, taken_more S.log w.writes, w.took, S.took, length-append p.written sent);
+      pieces = all_more _ S.log w.writes S.pieces (written_pieces w.writes w.pieces);
+      prompt = prompt_further p p' (S.log ++ w.writes) (record { stream = front_all p.told.stream; bodies = front_all p.told.bodies; answers = front_all p.told.answers; written = (sent, refl) })
+          (prompt_writes p S.log w.writes S.prompt w.pieces);
+    }
+
+-- all that waited was written, and told as sent
+pub sent_all_serves : (from now now' : LineView) (p : Progress) (output : List ℕ) → Served from now p → IsInStep p → transcript p.told.answers ≡ p.told.sent ++ output → Writes now now' output
+    → Served from now' (progress (with_sent p.told) p.unfed (transcript p.told.answers))
+sent_all_serves from now now' p output S step waits w =
+    let all : p.written ++ output ≡ transcript p.told.answers = ap (λ (b : List ℕ). b ++ output) step ∙ sym waits in
+    let wrote = wrote_serves from now now' p output output [] S step waits (sym (append-nil output)) w in
+    sent_serves from now' p.told p.unfed (transcript p.told.answers) (subst (λ (b : List ℕ). Served from now' (progress p.told p.unfed b)) all wrote)

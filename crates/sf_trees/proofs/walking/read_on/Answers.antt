@@ -1,0 +1,22 @@
+use Rattle.std.proofs.lemmas.Result.{err_from_is_err_and}
+use Rattle.sf_trees.proofs.Looks.{looks_append, halts_behind}
+use Rattle.sf_trees.proofs.Gathering.{reads_further}
+use Rattle.sf_trees.proofs.walking.read_on.Goals as goal
+
+pub pieces-preserved : goal.pieces-preserved
+pieces-preserved g c =
+    let d = c.pieces.invariant in
+    let e = c.in_ok-read_more.ensures in (
+      _,
+      g.met.S.Server.on _ _ _ _ _ d.1 e.1,
+      (
+        looks_append c.args.session _ _ d.2.0 e.2.0,
+        reads_further c.args.session c.args.handle _ _ _ _ d.2.1 e.2.1,
+      ),
+    )
+
+pub returns-in_err-read_more : goal.returns-in_err-read_more
+returns-in_err-read_more g c =
+    let p = err_from_is_err_and c.from_residual.result c.from_residual.ensures.1 in
+    let d = c.pieces.invariant in
+    rw (p.1, p.2) (halts_behind g.S.Server.reaches g.met.S.Server.on _ _ _ c.args.session _ _ d.1 d.2.0 c.in_err-read_more.ensures)

@@ -1,0 +1,162 @@
+-- Directories, files and links that are made.
+use Rattle.std.specs.Prelude.{◌+◌, ◌*◌, ◌/◌, ℕ, zero, suc, List, length, take, drop, slice_get, Bool, true, false, not, ◌&&◌, ◌==◌, Option, Some, None, Result, Ok, Err}
+use Rattle.sf_field.specs.Fields.{be64}
+use Rattle.sf_field.specs.Attributes.{no_attrs}
+use Rattle.sf_field.specs.declared.attrs.Attrs.{Attrs}
+use Rattle.sf_field.specs.declared.open_flags.OpenFlags.{OpenFlags}
+use Rattle.sf_request.specs.declared.request.WireRequest.TheVariants as request
+use Rattle.sf_reply.specs.declared.reply.Reply.{Reply}
+use Rattle.sf_reply.specs.declared.reply.Reply.TheVariants as reply
+use Rattle.sf_reply.specs.declared.reply.StatusCode.TheVariants as status
+use Rattle.sf_trees.specs.declared.fault.TreeFault.{TreeFault}
+use Rattle.sf_trees.specs.declared.fault.Place.{Place}
+use Rattle.sf_trees.specs.declared.fault.Refused.{Refused}
+use Rattle.sf_trees.specs.Deeds.{Deed, IsAsked, refusal_of, refused, done_by, handle_by, at_place, IsNothing, Then, BySession}
+
+-- a byte of a name, and no slash
+abbrev pub is_of_name : Option ℕ → Bool
+is_of_name (Some byte) = not (byte == 47)
+is_of_name None = false
+
+-- whether the text goes on, or may end here
+abbrev pub goes_on_by : Bool → Option ℕ → Bool
+goes_on_by whole (Some byte) = byte == 47
+goes_on_by whole None = whole
+
+-- Whether the byte at this place is the last one of a name, before a slash or, if the last name counts, at the end.
+abbrev pub ends_name : Bool → List ℕ → ℕ → Bool
+ends_name whole path at = is_of_name (slice_get path at) && goes_on_by whole (slice_get path (at + 1))
+
+-- the kind of an object is the permissions' upper bits
+abbrev pub is_directory_mode : Option ℕ → Bool
+is_directory_mode (Some mode) = mode / 4096 == 4
+is_directory_mode None = false
+
+abbrev pub is_directory : Attrs → Bool
+is_directory attrs = is_directory_mode attrs.permissions
+
+-- whether a directory was told
+abbrev pub finds_by : Place → Result Reply TreeFault → Result Bool Refused
+finds_by place (Ok (reply.Attrs attrs)) = Ok (is_directory attrs)
+finds_by place (Ok (reply.Status status.NoSuchFile)) = Ok false
+finds_by place (Ok other) = Err (refused place (refusal_of other))
+finds_by place (Err why) = Err (refused place why)
+
+abbrev pub Mkdirs : ℕ → List ℕ → List Deed → Result (Unit {0}) Refused → Type 0
+Mkdirs session path deeds result =
+    IsAsked session (request.Mkdir path no_attrs) (done_by (at_place 14 (length path))) deeds result
+
+-- a directory is made, unless it was found
+abbrev pub MakesUnless : ℕ → List ℕ → Bool → List Deed → Result (Unit {0}) Refused → Type 0
+MakesUnless session path true deeds result = IsNothing deeds result
+MakesUnless session path false deeds result = Mkdirs session path deeds result
+
+-- One directory is looked for, and made where it isn't found.
+abbrev pub MakesOne : ℕ → List ℕ → List Deed → Result (Unit {0}) Refused → Type 0
+MakesOne session path deeds result =
+    Then (IsAsked session (request.Stat path) (finds_by (at_place 17 (length path))))
+    (MakesUnless session path) deeds result
+
+abbrev pub MakesIf : ℕ → List ℕ → Bool → List Deed → Result (Unit {0}) Refused → Type 0
+MakesIf session path true deeds result = MakesOne session path deeds result
+MakesIf session path false deeds result = IsNothing deeds result
+
+-- so of the path up to a place, if a name ends there
+abbrev pub MakesAt : ℕ → Bool → List ℕ → ℕ → List Deed → Result (Unit {0}) Refused → Type 0
+MakesAt session whole path at deeds result =
+    MakesIf session (take (at + 1) path) (ends_name whole path at) deeds result
+
+-- So at each of so many places, in order.
+unfoldable pub MakesTo : ℕ → Bool → List ℕ → ℕ → List Deed → Result (Unit {0}) Refused → Type 0
+MakesTo session whole path zero deeds result = IsNothing deeds result
+MakesTo session whole path (suc n) deeds result = Then (MakesTo session whole path n)
+    (λ done. MakesAt session whole path n) deeds result
+
+-- The directories on the way to a path are made where they are missing, and its own if the last name counts.
+abbrev pub MakesWay : ℕ → Bool → List ℕ → List Deed → Result (Unit {0}) Refused → Type 0
+MakesWay session whole path deeds result = MakesTo session whole path (length path) deeds result
+
+-- the most bytes of a WRITE
+abbrev pub piece : ℕ
+piece = 131072
+
+-- how many pieces contents of so many bytes have
+abbrev pub pieces_in : ℕ → ℕ
+pieces_in len = (len + 131071) / 131072
+
+-- these contents from a place on, and no more than a WRITE has
+abbrev pub piece_at : List ℕ → ℕ → List ℕ
+piece_at contents offset = take piece (drop offset contents)
+
+abbrev pub WritesPiece : ℕ → ℕ → Place → List ℕ → ℕ → List Deed → Result (Unit {0}) Refused → Type 0
+WritesPiece session handle place contents n deeds result =
+    IsAsked session (request.Write (be64 handle) (n * piece) (piece_at contents (n * piece)))
+    (done_by place) deeds result
+
+-- So many pieces of these contents are written, in order.
+unfoldable pub WritesTo : ℕ → ℕ → Place → List ℕ → ℕ → List Deed → Result (Unit {0}) Refused → Type 0
+WritesTo session handle place contents zero deeds result = IsNothing deeds result
+WritesTo session handle place contents (suc n) deeds result =
+    Then (WritesTo session handle place contents n)
+    (λ done. WritesPiece session handle place contents n) deeds result
+
+abbrev pub WritesPieces : ℕ → ℕ → ℕ → List ℕ → List Deed → Result (Unit {0}) Refused → Type 0
+WritesPieces session handle len contents deeds result =
+    WritesTo session handle (at_place 6 len) contents (pieces_in (length contents)) deeds result
+
+abbrev pub Closes : ℕ → ℕ → ℕ → List Deed → Result (Unit {0}) Refused → Type 0
+Closes session handle len deeds result =
+    IsAsked session (request.Close (be64 handle)) (done_by (at_place 4 len)) deeds result
+
+-- All of these contents are written, and the handle is closed.
+abbrev pub WritesAll : ℕ → ℕ → List ℕ → ℕ → List Deed → Result (Unit {0}) Refused → Type 0
+WritesAll session len contents handle deeds result =
+    Then (WritesPieces session handle len contents) (λ done. Closes session handle len) deeds result
+
+-- WRITE, CREAT and TRUNC
+abbrev pub to_write : OpenFlags
+to_write = record {
+  read = false;
+  write = true;
+  append = false;
+  create = true;
+  truncate = true;
+  exclusive = false;
+}
+
+abbrev pub OpensFile : ℕ → List ℕ → OpenFlags → ℕ → List Deed → Result ℕ Refused → Type 0
+OpensFile session path flags len deeds result =
+    IsAsked session (request.Open path flags no_attrs) (handle_by (at_place 3 len)) deeds result
+
+-- A file is opened to be written anew, written and closed.
+abbrev pub Fills : ℕ → List ℕ → List ℕ → List Deed → Result (Unit {0}) Refused → Type 0
+Fills session path contents deeds result =
+    Then (OpensFile session path to_write (length path))
+    (WritesAll session (length path) contents) deeds result
+
+-- the directory of a path, and those on its way
+abbrev pub MakesDirectory : List ℕ → List Deed → Result (Unit {0}) Refused → Type 0
+MakesDirectory path deeds result =
+    BySession (λ session. MakesWay session true path) deeds result
+
+abbrev pub WritesOn : List ℕ → List ℕ → ℕ → List Deed → Result (Unit {0}) Refused → Type 0
+WritesOn path contents session deeds result =
+    Then (MakesWay session false path) (λ done. Fills session path contents) deeds result
+
+-- a file, and the directories on its way
+abbrev pub WritesFile : List ℕ → List ℕ → List Deed → Result (Unit {0}) Refused → Type 0
+WritesFile path contents deeds result =
+    BySession (WritesOn path contents) deeds result
+
+abbrev pub LinksAlone : ℕ → List ℕ → List ℕ → List Deed → Result (Unit {0}) Refused → Type 0
+LinksAlone session old new deeds result =
+    IsAsked session (request.Link old new) (done_by (at_place 202 (length new))) deeds result
+
+abbrev pub LinksOn : List ℕ → List ℕ → ℕ → List Deed → Result (Unit {0}) Refused → Type 0
+LinksOn old new session deeds result = Then (MakesWay session false new)
+    (λ done. LinksAlone session old new) deeds result
+
+-- one more name of a file, and the directories on its way
+abbrev pub Links : List ℕ → List ℕ → List Deed → Result (Unit {0}) Refused → Type 0
+Links old new deeds result =
+    BySession (LinksOn old new) deeds result

@@ -1,0 +1,370 @@
+//! Directories, files and links.
+
+ghost use Rattle.std.specs.Prelude.{◌≡◌, ◌≤◌, ◌<◌, ◌+◌, ◌*◌, ◌^◌, length};
+ghost use Rattle.sf_request.specs.declared.request.WireRequest.TheVariants as request;
+ghost use Rattle.sf_trees.specs.Deeds.{Does, IsAsked, at_place};
+ghost use Rattle.sf_trees.specs.Makings.{is_of_name, goes_on_by, ends_name, is_directory, finds_by, Mkdirs, MakesOne, MakesAt, MakesWay, piece, pieces_in, piece_at, WritesPiece, WritesPieces, Closes, WritesAll, OpensFile, Fills, MakesDirectory, WritesOn, WritesFile, LinksAlone, LinksOn, Links};
+
+use crate::fault::{Place, Refused, TreeFault};
+use crate::server::{Server, begin, open, refusal_of, succeed};
+use sf_field::{Attrs, NO_ATTRS, OpenFlags};
+use sf_reply::{Reply, StatusCode};
+use sf_request::{ByteStr, WireRequest};
+
+/// How many bytes a WRITE sends at most.
+const PIECE: usize = 131072;
+
+/// WRITE, CREAT and TRUNC.
+const TO_WRITE: OpenFlags = OpenFlags {
+    read: false,
+    write: true,
+    append: false,
+    create: true,
+    truncate: true,
+    exclusive: false,
+};
+
+/// Whether this is a byte of a name, and no slash.
+fn is_of_name(byte: Option<u8>) -> bool
+    ensures { result ≡ is_of_name byte }
+{
+    match byte {
+        Some(byte) => byte != b'/',
+        None => false,
+    }
+}
+
+/// Whether this is a slash, or the end, if that counts.
+fn goes_on_by(whole: bool, byte: Option<u8>) -> bool
+    ensures { result ≡ goes_on_by whole byte }
+{
+    match byte {
+        Some(byte) => byte == b'/',
+        None => whole,
+    }
+}
+
+/// Whether the byte at this place is the last one of a name, before a slash or, if the last name counts, at
+/// the end.
+fn ends_name(whole: bool, path: &[u8], at: usize) -> bool
+    requires { at + 1 ≤ length path.now }
+    ensures { result ≡ ends_name whole path.now at }
+{
+    is_of_name(path.get(at).copied()) && goes_on_by(whole, path.get(at + 1).copied())
+}
+
+/// Whether these are the permissions of a directory.
+pub(crate) fn is_directory(attrs: &Attrs) -> bool
+    ensures { result ≡ is_directory attrs.now }
+{
+    match attrs.permissions {
+        Some(mode) => mode / 0o10000 == 4,
+        None => false,
+    }
+}
+
+/// Whether a directory was told.
+fn finds_by(place: Place, came: &Result<Reply, TreeFault>) -> Result<bool, Refused>
+    ensures { result ≡ finds_by place came.now }
+{
+    match came {
+        Ok(Reply::Attrs(attrs)) => Ok(is_directory(attrs)),
+        Ok(Reply::Status(StatusCode::NoSuchFile)) => Ok(false),
+        Ok(reply) => Err(Refused {
+            fault: refusal_of(reply),
+            place,
+        }),
+        Err(fault) => Err(Refused {
+            fault: *fault,
+            place,
+        }),
+    }
+}
+
+/// Looks for a directory at a path.
+fn finds<S: Server>(server: &mut S, session: u64, path: &[u8]) -> Result<bool, Refused>
+    ensures { Does S.reaches server.old server.new
+        (IsAsked session (request.Stat path.now) (finds_by (at_place 17 (length path.now)))) result }
+{
+    let length = path.len();
+    let came = server.ask(
+        session,
+        &WireRequest::Stat {
+            path: ByteStr::new(path),
+        },
+    );
+    finds_by(Place { kind: 17, length }, &came)
+}
+
+/// Makes a directory.
+fn mkdir<S: Server>(server: &mut S, session: u64, path: &[u8]) -> Result<(), Refused>
+    ensures { Does S.reaches server.old server.new (Mkdirs session path.now) result }
+{
+    let length = path.len();
+    let request = WireRequest::Mkdir {
+        path: ByteStr::new(path),
+        attrs: NO_ATTRS,
+    };
+    succeed(server, session, &request, Place { kind: 14, length })
+}
+
+/// Makes one directory where it isn't found.
+fn make_one<S: Server>(server: &mut S, session: u64, path: &[u8]) -> Result<(), Refused>
+    ensures { Does S.reaches server.old server.new (MakesOne session path.now) result }
+{
+    if finds(server, session, path)? {
+        return Ok(());
+    }
+    mkdir(server, session, path)
+}
+
+/// As `make_one`, if a name ends at this place.
+fn make_if<S: Server>(
+    server: &mut S,
+    session: u64,
+    whole: bool,
+    path: &[u8],
+    at: usize,
+) -> Result<(), Refused>
+    requires { at < length path.now }
+    ensures { Does S.reaches server.old server.new (MakesAt session whole path.now at) result }
+{
+    if ends_name(whole, path, at) {
+        return make_one(server, session, &path[..at + 1]);
+    }
+    Ok(())
+}
+
+/// Makes the directories on the way to a path where they are missing, and its own if the last name counts.
+fn make_way<S: Server>(
+    server: &mut S,
+    session: u64,
+    whole: bool,
+    path: &[u8],
+) -> Result<(), Refused>
+    ensures { Does S.reaches server.old server.new (MakesWay session whole path.now) result }
+{
+    for at in 0..path.len() {
+        make_if(server, session, whole, path, at)?;
+    }
+    Ok(())
+}
+
+/// The bytes of contents from a place on, and no more than a WRITE has.
+fn piece_at(contents: &[u8], at: usize) -> &[u8]
+    requires { at ≤ length contents.now }
+    ensures is { result.now ≡ piece_at contents.now at }
+    ensures few { length result.now ≤ piece }
+{
+    let rest = &contents[at..];
+    let count = rest.len().min(PIECE);
+    &rest[..count]
+}
+
+/// Writes one piece of contents.
+fn write_piece<S: Server>(
+    server: &mut S,
+    session: u64,
+    named: usize,
+    contents: &[u8],
+    handle: u64,
+    at: usize,
+) -> Result<(), Refused>
+    requires { at * piece ≤ length contents.now }
+    ensures { Does S.reaches server.old server.new
+        (WritesPiece session handle (at_place 6 named) contents.now at) result }
+{
+    let text = handle.to_be_bytes();
+    let request = WireRequest::Write {
+        handle: ByteStr::new(&text),
+        offset: (at * PIECE) as u64,
+        data: ByteStr::new(piece_at(contents, at * PIECE)),
+    };
+    succeed(
+        server,
+        session,
+        &request,
+        Place {
+            kind: 6,
+            length: named,
+        },
+    )
+}
+
+/// How many pieces such contents have.
+fn pieces_in(count: usize) -> usize
+    requires { count < 2 ^ 63 }
+    ensures { result ≡ pieces_in count }
+{
+    (count + (PIECE - 1)) / PIECE
+}
+
+/// Writes contents, piece by piece.
+fn write_pieces<S: Server>(
+    server: &mut S,
+    session: u64,
+    named: usize,
+    contents: &[u8],
+    handle: u64,
+) -> Result<(), Refused>
+    requires { length contents.now < 2 ^ 63 }
+    ensures { Does S.reaches server.old server.new
+        (WritesPieces session handle named contents.now) result }
+{
+    for at in 0..pieces_in(contents.len()) {
+        write_piece(server, session, named, contents, handle, at)?;
+    }
+    Ok(())
+}
+
+/// Closes a handle.
+pub(crate) fn close<S: Server>(
+    server: &mut S,
+    session: u64,
+    named: usize,
+    handle: u64,
+) -> Result<(), Refused>
+    ensures { Does S.reaches server.old server.new (Closes session handle named) result }
+{
+    let text = handle.to_be_bytes();
+    let request = WireRequest::Close {
+        handle: ByteStr::new(&text),
+    };
+    succeed(
+        server,
+        session,
+        &request,
+        Place {
+            kind: 4,
+            length: named,
+        },
+    )
+}
+
+/// Writes contents, and closes their handle.
+fn write_all<S: Server>(
+    server: &mut S,
+    session: u64,
+    named: usize,
+    contents: &[u8],
+    handle: u64,
+) -> Result<(), Refused>
+    requires { length contents.now < 2 ^ 63 }
+    ensures { Does S.reaches server.old server.new
+        (WritesAll session named contents.now handle) result }
+{
+    write_pieces(server, session, named, contents, handle)?;
+    close(server, session, named, handle)
+}
+
+/// Opens a file.
+pub(crate) fn open_file<S: Server>(
+    server: &mut S,
+    session: u64,
+    path: &[u8],
+    flags: OpenFlags,
+    named: usize,
+) -> Result<u64, Refused>
+    ensures { Does S.reaches server.old server.new
+        (OpensFile session path.now flags named) result }
+{
+    let request = WireRequest::Open {
+        filename: ByteStr::new(path),
+        flags,
+        attrs: NO_ATTRS,
+    };
+    open(
+        server,
+        session,
+        &request,
+        Place {
+            kind: 3,
+            length: named,
+        },
+    )
+}
+
+/// Opens a file to be written anew, writes it and closes it.
+fn fill<S: Server>(
+    server: &mut S,
+    session: u64,
+    path: &[u8],
+    contents: &[u8],
+) -> Result<(), Refused>
+    requires { length contents.now < 2 ^ 63 }
+    ensures { Does S.reaches server.old server.new (Fills session path.now contents.now) result }
+{
+    let named = path.len();
+    let handle = open_file(server, session, path, TO_WRITE, named)?;
+    write_all(server, session, named, contents, handle)
+}
+
+/// Makes a file with the directories on its way.
+fn write_on<S: Server>(
+    server: &mut S,
+    session: u64,
+    path: &[u8],
+    contents: &[u8],
+) -> Result<(), Refused>
+    requires { length contents.now < 2 ^ 63 }
+    ensures { Does S.reaches server.old server.new (WritesOn path.now contents.now session) result }
+{
+    make_way(server, session, false, path)?;
+    fill(server, session, path, contents)
+}
+
+/// Gives a file one more name.
+fn link_alone<S: Server>(
+    server: &mut S,
+    session: u64,
+    old: &[u8],
+    new: &[u8],
+) -> Result<(), Refused>
+    ensures { Does S.reaches server.old server.new (LinksAlone session old.now new.now) result }
+{
+    let request = WireRequest::Link {
+        old: ByteStr::new(old),
+        new: ByteStr::new(new),
+    };
+    let length = new.len();
+    succeed(server, session, &request, Place { kind: 202, length })
+}
+
+/// Gives a file one more name, and makes the directories on its way.
+fn link_on<S: Server>(server: &mut S, session: u64, old: &[u8], new: &[u8]) -> Result<(), Refused>
+    ensures { Does S.reaches server.old server.new (LinksOn old.now new.now session) result }
+{
+    make_way(server, session, false, new)?;
+    link_alone(server, session, old, new)
+}
+
+/// Makes the directory of a path, and those on its way, where they are missing.
+pub fn make_directory<S: Server>(server: &mut S, path: &[u8]) -> Result<(), Refused>
+    ensures { Does S.reaches server.old server.new (MakesDirectory path.now) result }
+{
+    let session = begin(server)?;
+    let made = make_way(server, session, true, path);
+    server.finish(session);
+    made
+}
+
+/// Makes a file, or replaces its contents. Directories on its way are made where they are missing.
+pub fn write_file<S: Server>(server: &mut S, path: &[u8], contents: &[u8]) -> Result<(), Refused>
+    requires { length contents.now < 2 ^ 63 }
+    ensures { Does S.reaches server.old server.new (WritesFile path.now contents.now) result }
+{
+    let session = begin(server)?;
+    let made = write_on(server, session, path, contents);
+    server.finish(session);
+    made
+}
+
+/// Gives the file at the old path the new one too. Directories on its way are made where they are missing.
+pub fn link<S: Server>(server: &mut S, old: &[u8], new: &[u8]) -> Result<(), Refused>
+    ensures { Does S.reaches server.old server.new (Links old.now new.now) result }
+{
+    let session = begin(server)?;
+    let made = link_on(server, session, old, new);
+    server.finish(session);
+    made
+}
