@@ -1,6 +1,5 @@
 /* Replays a schedule from standard input by the functions of lucernetick.h, and prints what came of
- * each event, as the program `replay` of crates/ does, but for the records, which the library
- * doesn't show. */
+ * each event, as the program `replay` of crates/ does, but for the records. */
 #include "lucernetick.h"
 
 #include <inttypes.h>

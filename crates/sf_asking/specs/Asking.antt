@@ -13,7 +13,7 @@ use Rattle.sf_engine.specs.declared.event.Happened.{Happened}
 use Rattle.sf_engine.specs.declared.event.Happened.TheVariants as happened
 use Rattle.sf_engine.specs.declared.event.EngineFault.{EngineFault}
 use Rattle.sf_engine.specs.declared.event.EngineFault.TheVariants as engine
-use Rattle.sf_engine.specs.Fits.{GoesOnTrace, HasTurns, IsSentBy, IsUnknown}
+use Rattle.sf_engine.specs.Fits.{GoesOnTrace, HasTurns, IsSentBy, IsUnknownSession}
 use Rattle.sf_engine.specs.Views.{EngineView}
 use Rattle.sf_trees.specs.declared.fault.TreeFault.{TreeFault}
 use Rattle.sf_trees.specs.declared.fault.TreeFault.TheVariants as fault
@@ -50,8 +50,8 @@ abbrev pub most_strings : ℕ
 most_strings = 262080
 
 -- an event led from an engine to another, and this came of it
-abbrev pub LeadsBy : EngineView → Event → Result Happened EngineFault → EngineView → Type 0
-LeadsBy old event r new = GoesOnTrace old event r new × OnErr r (new ≡ old)
+abbrev pub EventLeads : EngineView → Event → Result Happened EngineFault → EngineView → Type 0
+EventLeads old event r new = GoesOnTrace old event r new × OnErr r (new ≡ old)
 
 -- so, by the event `Feed` of any vector of these bytes
 abbrev pub FeedsBy : EngineView → ℕ → List ℕ → Result Happened EngineFault → EngineView → Type 0
@@ -107,7 +107,7 @@ Converses session moment bytes old (Err why) new = IsUnfed session bytes old why
 -- all that a session is sent was taken
 abbrev pub IsTaken : ℕ → List ℕ → EngineView → EngineView → Type 0
 IsTaken session output old new = IsSentBy old session output
-    × ((h : Happened) × LeadsBy old (event.Sent session (length output)) (Ok h) new)
+    × ((h : Happened) × EventLeads old (event.Sent session (length output)) (Ok h) new)
 
 -- no memory to read bytes as a reply, or they are none
 abbrev pub MayMissReply : List ℕ → TreeFault → Type 0
@@ -117,8 +117,8 @@ MayMissReply output why = (why ≡ fault.OutOfMemory) ⊎ ((why ≡ fault.Reply)
 
 -- There is no such session, or the engine refused that bytes were sent.
 abbrev pub IsUntaken : ℕ → EngineView → TreeFault → EngineView → Type 0
-IsUntaken session old why new = (IsUnknown old session × (why ≡ fault.Reply))
-    ⊎ ((n : ℕ) × (f : EngineFault) × LeadsBy old (event.Sent session n) (Err f) new × (why ≡ fault_for f))
+IsUntaken session old why new = (IsUnknownSession old session × (why ≡ fault.Reply))
+    ⊎ ((n : ℕ) × (f : EngineFault) × EventLeads old (event.Sent session n) (Err f) new × (why ≡ fault_for f))
 
 -- One reply, which is all that the session is sent, was taken; or nothing changed, and why.
 abbrev pub Gets : ℕ → EngineView → Result Reply TreeFault → EngineView → Type 0
@@ -147,8 +147,8 @@ TakesAll session old (Ok done) new = (output : List ℕ) × IsTaken session outp
 TakesAll session old (Err why) new = (new ≡ old) × IsUntaken session old why new
 
 -- INIT was fed, turns led to its answer, and all that the session was sent was taken.
-abbrev pub IsGreeted : ℕ → ℕ → EngineView → EngineView → Type 0
-IsGreeted session moment old new = (wrote : EngineView)
+abbrev pub GreetsSession : ℕ → ℕ → EngineView → EngineView → Type 0
+GreetsSession session moment old new = (wrote : EngineView)
     × Converses session moment (packet init_body) old (Ok tt) wrote × TakesAll session wrote (Ok tt) new
 
 abbrev pub IsUngreeted : ℕ → ℕ → EngineView → TreeFault → EngineView → Type 0
@@ -157,30 +157,30 @@ IsUngreeted session moment old why new = Converses session moment (packet init_b
     × TakesAll session wrote (Err why) new)
 
 abbrev pub Greets : ℕ → ℕ → EngineView → Result (Unit {0}) TreeFault → EngineView → Type 0
-Greets session moment old (Ok done) new = IsGreeted session moment old new
+Greets session moment old (Ok done) new = GreetsSession session moment old new
 Greets session moment old (Err why) new = IsUngreeted session moment old why new
 
 -- A session was closed, if it was there, and then turns were made of it, which write an answer that waits.
 abbrev pub IsClosed : ℕ → ℕ → EngineView → EngineView → Type 0
 IsClosed session moment old new = (closed : EngineView) × (turns : ℕ)
-    × (came left : Result Happened EngineFault) × LeadsBy old (event.Close session) came closed
+    × (came left : Result Happened EngineFault) × EventLeads old (event.Close session) came closed
     × HasTurns turns closed (event.Turn session moment) left new
 
 -- A session was greeted; or it was closed, since it wasn't.
 abbrev pub Welcomes : ℕ → ℕ → EngineView → Result (Unit {0}) TreeFault → EngineView → Type 0
-Welcomes session moment old (Ok done) new = IsGreeted session moment old new
+Welcomes session moment old (Ok done) new = GreetsSession session moment old new
 Welcomes session moment old (Err why) new = (left : EngineView)
     × IsUngreeted session moment old why left × IsClosed session moment left new
 
 -- the number of a session that opened
-abbrev pub opened_by : Result Happened EngineFault → Result ℕ TreeFault
-opened_by (Ok (happened.Opened session)) = Ok session
-opened_by (Ok other) = Err fault.Reply
-opened_by (Err f) = Err (fault_for f)
+abbrev pub session_opened : Result Happened EngineFault → Result ℕ TreeFault
+session_opened (Ok (happened.Opened session)) = Ok session
+session_opened (Ok other) = Err fault.Reply
+session_opened (Err f) = Err (fault_for f)
 
 abbrev pub Opens : EngineView → Result ℕ TreeFault → EngineView → Type 0
 Opens old result new = (r : Result Happened EngineFault)
-    × LeadsBy old event.Open r new × (result ≡ opened_by r)
+    × EventLeads old event.Open r new × (result ≡ session_opened r)
 
 -- A session opened and was greeted; or it didn't open, or wasn't greeted.
 abbrev pub HasBegun : ℕ → EngineView → Result ℕ TreeFault → EngineView → Type 0

@@ -3,7 +3,7 @@
 ghost use Rattle.std.specs.Prelude.{◌≡◌, ◌<◌, ◌^◌, length, IfOk};
 ghost use Rattle.sf_field.specs.Fields.{packet};
 ghost use Rattle.sf_request.specs.Requests.{request_body, init_body};
-ghost use Rattle.sf_asking.specs.Asking.{id, fault_for, stuck_by, Converses, Gets, TakesAll, Greets, IsClosed, Welcomes, opened_by, Opens};
+ghost use Rattle.sf_asking.specs.Asking.{id, fault_for, stuck_by, Converses, Gets, TakesAll, Greets, IsClosed, Welcomes, session_opened, Opens};
 
 use crate::packet::{ID, read_packet};
 use bytes::BytesMut;
@@ -148,7 +148,7 @@ pub(crate) fn welcome(engine: &mut Engine, session: u64, moment: u32) -> Result<
 
 /// The number of a session that opened.
 fn opened_by(came: Result<Happened, EngineFault>) -> Result<u64, TreeFault>
-    ensures { result ≡ opened_by came }
+    ensures { result ≡ session_opened came }
 {
     match came {
         Ok(Happened::Opened(session)) => Ok(session),

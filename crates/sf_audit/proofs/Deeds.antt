@@ -1,34 +1,34 @@
 -- Calls that were told, beside those of the records.
 use Rattle.std.proofs.Common.{◌≡◌, ◌≢◌, ◌↔◌, inl, inr, ℕ, ◌<◌, ◌≤◌, ◌+◌, List, [], ◌∷◌, length, drop, get_or, Option, Some, None, refl, sym, ◌∙◌, ap, subst, map, Bool, false, IsTrue, ◌==◌, arith}
 use Rattle.std.proofs.lemmas.List.{drop_more, at_drop_all}
-use Rattle.sf_audit.specs.declared.transcript.Exchange.{Exchange}
+use Rattle.sf_audit.specs.declared.transcript.AnsweredCall.{AnsweredCall}
 use Rattle.std.specs.List.{cons_option, AllByRecursion}
-use Rattle.sf_audit.specs.Audits.{Deed, told, IsIn, IsWithin}
+use Rattle.sf_audit.specs.Audits.{CallRecord, call_record, IsIn, IsWithin}
 
-within_fewer : (x : Deed) (xs ys : List Deed) → IsWithin (x ∷ xs) ys → IsWithin xs ys
+within_fewer : (x : CallRecord) (xs ys : List CallRecord) → IsWithin (x ∷ xs) ys → IsWithin xs ys
 within_fewer x [] ys h = tt
 within_fewer x (z ∷ zs) [] h = absurd h
 within_fewer x (z ∷ zs) (y ∷ ys) h = elim h [ inl p ↦ inr p.1 | inr t ↦ inr (within_fewer x (z ∷ zs) ys t) ]
 
-pub within_takes : (o : Option Deed) (x : Deed) (xs ys : List Deed) → o ≡ Some x → IsWithin (x ∷ xs) (cons_option o ys) ↔ IsWithin xs ys
+pub within_takes : (o : Option CallRecord) (x : CallRecord) (xs ys : List CallRecord) → o ≡ Some x → IsWithin (x ∷ xs) (cons_option o ys) ↔ IsWithin xs ys
 within_takes None x xs ys e = absurd cc
 within_takes (Some y) x xs ys e =
     let same : x ≡ y = cc in
     ((λ h. elim h [ inl p ↦ p.1 | inr t ↦ within_fewer x xs ys t ]), (λ h. inl (same, h)))
 
-pub within_passes : (o : Option Deed) (x : Deed) (xs ys : List Deed) → (o ≢ Some x) → IsWithin (x ∷ xs) (cons_option o ys) ↔ IsWithin (x ∷ xs) ys
+pub within_passes : (o : Option CallRecord) (x : CallRecord) (xs ys : List CallRecord) → (o ≢ Some x) → IsWithin (x ∷ xs) (cons_option o ys) ↔ IsWithin (x ∷ xs) ys
 within_passes None x xs ys ne = ((λ h. h), (λ h. h))
 within_passes (Some y) x xs ys ne = ((λ h. elim h [ inl p ↦ absurd (ne (ap Some (sym p.0))) | inr t ↦ t ]), (λ h. inr h))
 
 -- calls that are in other calls themselves
-pub in_itself : (xs : List Deed) → AllByRecursion (IsIn xs) xs
+pub in_itself : (xs : List CallRecord) → AllByRecursion (IsIn xs) xs
 in_itself xs = all_in xs xs (λ d h. h)
   where
-    all_in : (xs ys : List Deed) → ((d : Deed) → IsIn xs d → IsIn ys d) → AllByRecursion (IsIn ys) xs
+    all_in : (xs ys : List CallRecord) → ((d : CallRecord) → IsIn xs d → IsIn ys d) → AllByRecursion (IsIn ys) xs
     all_in [] ys f = tt
     all_in (x ∷ xs) ys f = (f x (inl refl), all_in xs ys (λ d h. f d (inr h)))
 
-pub within_itself : (xs : List Deed) → IsWithin xs xs
+pub within_itself : (xs : List CallRecord) → IsWithin xs xs
 within_itself [] = tt
 within_itself (x ∷ xs) = inl (refl, within_itself xs)
 
@@ -45,7 +45,7 @@ ends_here F xs i x lt is now never a =
     never (subst F at (now.0 a))
 
 -- nothing but no call is within none
-pub none_left : (b : Bool) (es : List Exchange) → b ≡ (length es == 0) → IsTrue b ↔ IsWithin (map told es) []
+pub none_left : (b : Bool) (es : List AnsweredCall) → b ≡ (length es == 0) → IsTrue b ↔ IsWithin (map call_record es) []
 none_left b [] e = ((λ h. tt), (λ h. e))
 none_left b (x ∷ xs) e = ((λ h. absurd (let some : (length (x ∷ xs) == 0) ≡ false = grind arith in cc)), (λ h. absurd h))
 

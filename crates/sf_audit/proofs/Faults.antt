@@ -6,7 +6,7 @@ use Rattle.sf_call.specs.declared.record.Record.{Record}
 use Rattle.sf_audit.specs.declared.transcript.Transcript.{Transcript}
 use Rattle.sf_audit.specs.declared.audits.AuditFault.{AuditFault}
 use Rattle.sf_audit.specs.declared.audits.AuditFault.TheVariants.{NotInHistory, OutOfOrder, Missing, FoldedCount}
-use Rattle.sf_audit.specs.Audits.{Deed, IsIn, IsWithin, Follows, IsFaultOf, IsFirstFault, deeds}
+use Rattle.sf_audit.specs.Audits.{CallRecord, IsIn, IsWithin, Follows, IsFaultOf, IsFirstFault, call_records}
 use Rattle.sf_audit.proofs.Deeds.{in_itself, within_itself}
 
 all_with : {X : Type 0} (P : X → Type 0) (xs : List X) (x : X) → AllByRecursion P xs → P x → AllByRecursion P (xs ++ x ∷ [])
@@ -32,11 +32,11 @@ first_wrong records ts i t fault lt is all wrong = record {
 -- a transcript that follows the records has no fault
 not_both : (records : List Record) (t : Transcript) (fault : AuditFault) → Follows records t → IsFaultOf records t fault → ⊥
 not_both records t NotInHistory follows wrong =
-    let P : List Deed → Type 0 = λ xs. AllByRecursion (IsIn (deeds t.session records)) xs in
-    wrong (subst P (sym follows) (in_itself (deeds t.session records)))
+    let P : List CallRecord → Type 0 = λ xs. AllByRecursion (IsIn (call_records t.session records)) xs in
+    wrong (subst P (sym follows) (in_itself (call_records t.session records)))
 not_both records t OutOfOrder follows wrong =
-    let P : List Deed → Type 0 = λ xs. IsWithin xs (deeds t.session records) in
-    wrong.1 (subst P (sym follows) (within_itself (deeds t.session records)))
+    let P : List CallRecord → Type 0 = λ xs. IsWithin xs (call_records t.session records) in
+    wrong.1 (subst P (sym follows) (within_itself (call_records t.session records)))
 not_both records t Missing follows wrong = wrong.1 follows
 not_both records t FoldedCount follows wrong = wrong
 

@@ -6,79 +6,79 @@ use Rattle.sf_call.specs.declared.request.Request.{Request}
 use Rattle.sf_call.specs.declared.record.Record.{Record}
 use Rattle.sf_call.specs.declared.record.Record.TheVariants.{Did, Left}
 use Rattle.sf_call.specs.Histories.{is_of}
-use Rattle.sf_audit.specs.declared.transcript.Exchange.{Exchange}
+use Rattle.sf_audit.specs.declared.transcript.AnsweredCall.{AnsweredCall}
 use Rattle.sf_audit.specs.declared.transcript.Transcript.{Transcript}
 use Rattle.sf_audit.specs.declared.audits.AuditFault.{AuditFault}
 use Rattle.sf_audit.specs.declared.audits.AuditFault.TheVariants.{NotInHistory, OutOfOrder, Missing, FoldedCount}
 
 -- a call's number, request and reply
-pub record Deed : Type 0 where
+pub record CallRecord : Type 0 where
   pub number : ℕ
   pub request : Request
   pub reply : Reply
 
--- what a session was told
-abbrev pub told : Exchange → Deed
-told e = record { number = e.answer.number; request = e.request; reply = e.answer.reply }
+-- a call that a session was told, as a record
+abbrev pub call_record : AnsweredCall → CallRecord
+call_record e = record { number = e.answer.number; request = e.request; reply = e.answer.reply }
 
 -- the record's call, if it is the session's
-abbrev pub deed_of : ℕ → Record → Option Deed
-deed_of session (Did number s moment request given) =
+abbrev pub call_record_of : ℕ → Record → Option CallRecord
+call_record_of session (Did number s moment request given) =
     if nat_eq s session then Some (record { number = number; request = request; reply = given })
     else None
-deed_of session (Left s) = None
+call_record_of session (Left s) = None
 
 -- the session's calls among the records, in their order
-abbrev pub deeds : ℕ → List Record → List Deed
-deeds session records = filter_map (deed_of session) records
+abbrev pub call_records : ℕ → List Record → List CallRecord
+call_records session records = filter_map (call_record_of session) records
 
 -- whether the call's number is in the records
-abbrev pub is_kept : List Record → Exchange → Bool
+abbrev pub is_kept : List Record → AnsweredCall → Bool
 is_kept records e = list_any (is_of e.answer.number) records
 
 -- how many calls come before the first whose number is in the records, and the calls from there on
 abbrev pub front_len : List Record → Transcript → ℕ
 front_len records t = prefix_len (λ e. not (is_kept records e)) t.calls.items
 
-abbrev pub rest : List Record → Transcript → List Deed
-rest records t = map told (drop (front_len records t) t.calls.items)
+abbrev pub rest : List Record → Transcript → List CallRecord
+rest records t = map call_record (drop (front_len records t) t.calls.items)
 
 -- what follows the front are the session's calls among the records
 abbrev pub Follows : List Record → Transcript → Type 0
-Follows records t = rest records t ≡ deeds t.session records
+Follows records t = rest records t ≡ call_records t.session records
 
 -- the calls of all fronts
 abbrev pub fronts : List Record → List Transcript → ℕ
 fronts records ts = sum_by (front_len records) ts
 
 -- each transcript follows the records, and no more calls come before them than were folded
-pub record Agrees (records : List Record) (folded : ℕ) (ts : List Transcript) : Type 0 where
+pub record AgreesWith (records : List Record) (folded : ℕ) (ts : List Transcript) : Type 0 where
   pub each : AllByRecursion (Follows records) ts
   pub few : fronts records ts ≤ folded
 
 -- the call is one of these
-abbrev pub IsIn : List Deed → Deed → Type 0
+abbrev pub IsIn : List CallRecord → CallRecord → Type 0
 IsIn [] d = ⊥
 IsIn (x ∷ xs) d = (x ≡ d) ⊎ IsIn xs d
 
 -- the first calls are among the second, in the same order
-abbrev pub IsWithin : List Deed → List Deed → Type 0
+abbrev pub IsWithin : List CallRecord → List CallRecord → Type 0
 IsWithin [] ys = Unit {0}
 IsWithin (x ∷ xs) [] = ⊥
 IsWithin (x ∷ xs) (y ∷ ys) = ((x ≡ y) × IsWithin xs ys) ⊎ IsWithin (x ∷ xs) ys
 
 -- all calls after the front are in the records as they were told
 abbrev pub AreKept : List Record → Transcript → Type 0
-AreKept records t = AllByRecursion (IsIn (deeds t.session records)) (rest records t)
+AreKept records t = AllByRecursion (IsIn (call_records t.session records)) (rest records t)
 
 -- What is wrong with a transcript: a call after the front is not in the records as it was told; or
 -- all are, in another order; or the records have further calls of its session.
 abbrev pub IsFaultOf : List Record → Transcript → AuditFault → Type 0
 IsFaultOf records t NotInHistory = ¬ AreKept records t
 IsFaultOf records t OutOfOrder =
-    AreKept records t × ¬ IsWithin (rest records t) (deeds t.session records)
+    AreKept records t × ¬ IsWithin (rest records t) (call_records t.session records)
 IsFaultOf records t Missing =
-    IsWithin (rest records t) (deeds t.session records) × (rest records t ≢ deeds t.session records)
+    IsWithin (rest records t) (call_records t.session records) × (rest records t ≢ call_records t.session records)
 IsFaultOf records t FoldedCount = ⊥
 
 -- the first transcript that doesn't follow the records has this fault

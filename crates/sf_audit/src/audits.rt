@@ -5,10 +5,10 @@ ghost use Rattle.std.specs.List.{list_any, prefix_len, sum_by, AllByRecursion};
 ghost use Rattle.std.specs.Option.{MatchOption};
 ghost use Rattle.sf_call.specs.declared.record.Record.{Record};
 ghost use Rattle.sf_call.specs.Histories.{is_of};
-ghost use Rattle.sf_audit.specs.Audits.{told, deed_of, deeds, is_kept, front_len, fronts, Follows, IsIn, IsWithin, Agrees, IsFaultOf, IsFirstFault, IsAuditFault};
+ghost use Rattle.sf_audit.specs.Audits.{call_record, call_record_of, call_records, is_kept, front_len, fronts, Follows, IsIn, IsWithin, AgreesWith, IsFaultOf, IsFirstFault, IsAuditFault};
 
 use crate::same::{same_reply, same_request};
-use crate::transcript::{Exchange, Transcript};
+use crate::transcript::{AnsweredCall, Transcript};
 use sf_call::Record;
 use sf_core::Core;
 use thiserror::Error;
@@ -41,7 +41,7 @@ fn has_number(entry: &Record, number: u64) -> bool
 }
 
 /// Whether the call's number is in the records.
-fn is_kept(records: &[Record], call: &Exchange) -> bool
+fn is_kept(records: &[Record], call: &AnsweredCall) -> bool
     ensures { result ≡ is_kept records.now call.now }
 {
     let number = call.answer.number();
@@ -49,7 +49,7 @@ fn is_kept(records: &[Record], call: &Exchange) -> bool
 }
 
 /// How many calls come before the first whose number is in the records.
-fn front_len(records: &[Record], calls: &[Exchange]) -> usize
+fn front_len(records: &[Record], calls: &[AnsweredCall]) -> usize
     ensures count { result ≡ prefix_len (λ e. not (is_kept records.now e)) calls.now }
     ensures within { result ≤ length calls.now }
 {
@@ -61,7 +61,7 @@ fn front_len(records: &[Record], calls: &[Exchange]) -> usize
 
 /// Whether the record is of a call of the session.
 fn is_deed(entry: &Record, session: u64) -> bool
-    ensures { result ≡ is_some (deed_of session entry.now) }
+    ensures { result ≡ is_some (call_record_of session entry.now) }
 {
     match entry {
         Record::Did { session: s, .. } => *s == session,
@@ -70,8 +70,8 @@ fn is_deed(entry: &Record, session: u64) -> bool
 }
 
 /// Whether the record tells of the session's call what the session was told.
-fn tells(entry: &Record, session: u64, call: &Exchange) -> bool
-    ensures { IsTrue result ↔ (deed_of session entry.now ≡ Some (told call.now)) }
+fn tells(entry: &Record, session: u64, call: &AnsweredCall) -> bool
+    ensures { IsTrue result ↔ (call_record_of session entry.now ≡ Some (call_record call.now)) }
 {
     match entry {
         Record::Did {
@@ -91,8 +91,8 @@ fn tells(entry: &Record, session: u64, call: &Exchange) -> bool
 }
 
 /// Whether a record tells of the session's call what the session was told.
-fn is_told(records: &[Record], session: u64, call: &Exchange) -> bool
-    ensures { IsTrue result ↔ IsIn (deeds session records.now) (told call.now) }
+fn is_told(records: &[Record], session: u64, call: &AnsweredCall) -> bool
+    ensures { IsTrue result ↔ IsIn (call_records session records.now) (call_record call.now) }
 {
     for entry in records {
         if tells(entry, session, call) {
@@ -103,9 +103,9 @@ fn is_told(records: &[Record], session: u64, call: &Exchange) -> bool
 }
 
 /// Whether records tell of all of these calls.
-fn are_told(records: &[Record], session: u64, calls: &[Exchange]) -> bool
+fn are_told(records: &[Record], session: u64, calls: &[AnsweredCall]) -> bool
     ensures { IsTrue result
-        ↔ AllByRecursion (IsIn (deeds session records.now)) (map told calls.now) }
+        ↔ AllByRecursion (IsIn (call_records session records.now)) (map call_record calls.now) }
 {
     for call in calls {
         if !is_told(records, session, call) {
@@ -116,11 +116,15 @@ fn are_told(records: &[Record], session: u64, calls: &[Exchange]) -> bool
 }
 
 /// The calls that are left where the record comes, if it is another session's or tells of the first.
-fn after_record<'a>(entry: &Record, session: u64, calls: &'a [Exchange]) -> Option<&'a [Exchange]>
+fn after_record<'a>(
+    entry: &Record,
+    session: u64,
+    calls: &'a [AnsweredCall],
+) -> Option<&'a [AnsweredCall]>
     ensures { (later : List Record)
-        → MatchOption result (map told calls.now ≢ deeds session (entry.now ∷ later))
-        (λ left. (map told calls.now ≡ deeds session (entry.now ∷ later))
-        ↔ (map told left.now ≡ deeds session later)) }
+        → MatchOption result (map call_record calls.now ≢ call_records session (entry.now ∷ later))
+        (λ left. (map call_record calls.now ≡ call_records session (entry.now ∷ later))
+        ↔ (map call_record left.now ≡ call_records session later)) }
 {
     if !is_deed(entry, session) {
         return Some(calls);
@@ -133,8 +137,8 @@ fn after_record<'a>(entry: &Record, session: u64, calls: &'a [Exchange]) -> Opti
 }
 
 /// Whether the calls are those of the session's records, in their order.
-fn are_deeds(records: &[Record], session: u64, calls: &[Exchange]) -> bool
-    ensures { IsTrue result ↔ (map told calls.now ≡ deeds session records.now) }
+fn are_deeds(records: &[Record], session: u64, calls: &[AnsweredCall]) -> bool
+    ensures { IsTrue result ↔ (map call_record calls.now ≡ call_records session records.now) }
 {
     let mut left = calls;
     for entry in records {
@@ -147,10 +151,10 @@ fn are_deeds(records: &[Record], session: u64, calls: &[Exchange]) -> bool
 }
 
 /// The calls that are left where the record comes, which tells of the first or is passed over.
-fn past_record<'a>(entry: &Record, session: u64, calls: &'a [Exchange]) -> &'a [Exchange]
+fn past_record<'a>(entry: &Record, session: u64, calls: &'a [AnsweredCall]) -> &'a [AnsweredCall]
     ensures { (later : List Record)
-        → IsWithin (map told calls.now) (deeds session (entry.now ∷ later))
-        ↔ IsWithin (map told result.now) (deeds session later) }
+        → IsWithin (map call_record calls.now) (call_records session (entry.now ∷ later))
+        ↔ IsWithin (map call_record result.now) (call_records session later) }
 {
     let Some((call, left)) = calls.split_first() else {
         return calls;
@@ -162,8 +166,8 @@ fn past_record<'a>(entry: &Record, session: u64, calls: &'a [Exchange]) -> &'a [
 }
 
 /// Whether the calls are among those of the session's records, in their order.
-fn are_in_order(records: &[Record], session: u64, calls: &[Exchange]) -> bool
-    ensures { IsTrue result ↔ IsWithin (map told calls.now) (deeds session records.now) }
+fn are_in_order(records: &[Record], session: u64, calls: &[AnsweredCall]) -> bool
+    ensures { IsTrue result ↔ IsWithin (map call_record calls.now) (call_records session records.now) }
 {
     let mut left = calls;
     for entry in records {
@@ -222,7 +226,7 @@ fn are_few(records: &[Record], most: u64, transcripts: &[Transcript]) -> bool
 
 /// The records, of which `folded` calls' went, compared with what sessions were told.
 fn compare(records: &[Record], folded: u64, transcripts: &[Transcript]) -> Result<(), AuditFault>
-    ensures ok { IsOk result ↔ Agrees records.now folded transcripts.now }
+    ensures ok { IsOk result ↔ AgreesWith records.now folded transcripts.now }
     ensures fault { IfErr result
         (λ fault. IsAuditFault records.now folded transcripts.now fault) }
 {
@@ -240,7 +244,7 @@ fn compare(records: &[Record], folded: u64, transcripts: &[Transcript]) -> Resul
 /// A transcript begins with calls whose records went, if any did. These are counted alone; what they say isn't
 /// compared.
 pub fn audit(core: &Core, transcripts: &[Transcript]) -> Result<(), AuditFault>
-    ensures ok { IsOk result ↔ Agrees core.now.records core.now.folded transcripts.now }
+    ensures ok { IsOk result ↔ AgreesWith core.now.records core.now.folded transcripts.now }
     ensures fault { IfErr result
         (λ fault. IsAuditFault core.now.records core.now.folded transcripts.now fault) }
 {

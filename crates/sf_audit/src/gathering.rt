@@ -3,7 +3,7 @@
 ghost use Rattle.std.specs.Prelude.{◌≡◌, ◌≢◌, ◌+◌, ◌↔◌, ◌≤◌, ℕ, sum, List, IsTrue, IsOk, IfOk};
 ghost use Rattle.std.specs.List.{count_by, sum_by};
 ghost use Rattle.sf_call.specs.declared.record.Record.{Record};
-ghost use Rattle.sf_book.specs.Books.{is_deed};
+ghost use Rattle.sf_book.specs.Books.{is_call};
 ghost use Rattle.sf_core.specs.Histories.{IsHistory};
 
 use sf_call::Record;
@@ -43,14 +43,14 @@ fn are_all(calls: u64, shares: &[Share]) -> bool
 
 /// Whether the record is of a call.
 fn is_deed(entry: &Record) -> bool
-    ensures { result ≡ is_deed entry.now }
+    ensures { result ≡ is_call entry.now }
 {
     matches!(entry, Record::Did { .. })
 }
 
 /// How many of the records are of calls.
 fn deeds(records: &[Record]) -> usize
-    ensures { result ≡ count_by is_deed records.now }
+    ensures { result ≡ count_by is_call records.now }
 {
     let mut count = 0;
     for entry in records {
@@ -64,7 +64,7 @@ fn deeds(records: &[Record]) -> usize
 /// How many calls of a core have records, whether or not these are kept.
 fn recorded(core: &Core, calls: u64) -> u64
     requires { calls ≡ core.now.drawn }
-    ensures all { (h : List Record) → IsHistory core.now h → result ≡ count_by is_deed h }
+    ensures all { (h : List Record) → IsHistory core.now h → result ≡ count_by is_call h }
     ensures most { result ≤ calls }
 {
     let kept = deeds(core.history());
@@ -75,7 +75,7 @@ fn recorded(core: &Core, calls: u64) -> u64
 pub fn gather(core: Core, shares: Vec<Share>) -> Result<Totals, GatherFault>
     ensures ok { IsOk result ↔ (sum shares.items ≡ core.drawn) }
     ensures recorded { IfOk result (λ totals. (h : List Record) → IsHistory core h
-        → totals.recorded ≡ count_by is_deed h) }
+        → totals.recorded ≡ count_by is_call h) }
     ensures total { IfOk result (λ totals. totals.recorded + totals.under_way ≡ core.drawn) }
 {
     let calls = core.calls();

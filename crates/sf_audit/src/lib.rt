@@ -12,4 +12,4 @@ mod transcript;
 
 pub use audits::{AuditFault, audit};
 pub use gathering::{GatherFault, Totals, gather};
-pub use transcript::{Exchange, Transcript};
+pub use transcript::{AnsweredCall, Transcript};

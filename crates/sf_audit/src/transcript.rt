@@ -4,7 +4,7 @@ use sf_call::{Answer, Request};
 
 /// A call's request, and its answer.
 #[derive(Debug, Drop)]
-pub struct Exchange {
+pub struct AnsweredCall {
     pub request: Request,
     pub answer: Answer,
 }
@@ -15,5 +15,5 @@ pub struct Transcript {
     /// 0 where it never joined.
     pub session: u64,
     /// In the order in which they were made.
-    pub calls: Vec<Exchange>,
+    pub calls: Vec<AnsweredCall>,
 }

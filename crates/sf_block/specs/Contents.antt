@@ -7,8 +7,8 @@ pub record FileBytes : Type 0 where
   pub left : ℕ
 
 -- nothing is left to be copied
-abbrev pub whole : List ℕ → FileBytes
-whole bytes = record { bytes = bytes; left = 0 }
+abbrev pub complete : List ℕ → FileBytes
+complete bytes = record { bytes = bytes; left = 0 }
 
 -- cut at a size, or filled up to it with zeros (POSIX, ftruncate)
 abbrev pub resized : List ℕ → ℕ → List ℕ

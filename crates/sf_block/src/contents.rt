@@ -1,7 +1,7 @@
 //! A file's bytes in blocks.
 
 ghost use Rattle.std.specs.Prelude.{◌≡◌, ◌⊎◌, ◌+◌, ◌++◌, ◌-◌, ◌*◌, ◌/◌, ◌%◌, ◌<◌, ◌≤◌, ◌^◌, ℕ, List, [], length, take, drop, slice_index_or, Some, IsSome, IfOk, OnOk, OnErr};
-ghost use Rattle.sf_block.specs.Contents.{whole, resized, written, writing, blocks_of};
+ghost use Rattle.sf_block.specs.Contents.{complete, resized, written, writing, blocks_of};
 ghost use Rattle.sf_block.specs.Blocks.{entry_in, block_in, block_written, bytes_from, HasPlace, HasBytes, IsHeld, IsRunOf};
 
 use crate::blocks::Blocks;
@@ -68,7 +68,7 @@ impl Model for Contents {
 impl Contents {
     /// No bytes, and memory for none.
     pub fn new(alloc: Global) -> Contents
-        ensures { result ≡ whole [] }
+        ensures { result ≡ complete [] }
     {
         Contents {
             len: 0,
@@ -159,7 +159,7 @@ impl Contents {
 
     /// Copies all blocks that are left of a write. It needs no memory.
     pub fn copy_rest(&mut self)
-        ensures { self.new ≡ whole self.old.bytes }
+        ensures { self.new ≡ complete self.old.bytes }
     {
         while self.left() > 0 {
             self.copy_block();
@@ -176,7 +176,7 @@ impl Contents {
         requires whole { self.old.left ≡ 0 }
         requires some { 0 < length bytes.now }
         requires fits { offset + length bytes.now < 2 ^ 64 }
-        ensures ok { OnOk result (self.new ≡ whole (written self.old.bytes offset bytes.now)) }
+        ensures ok { OnOk result (self.new ≡ complete (written self.old.bytes offset bytes.now)) }
         ensures err { OnErr result (self.new ≡ self.old) }
     {
         self.start_write(alloc, offset, bytes)?;
@@ -188,7 +188,7 @@ impl Contents {
     /// takes no memory: zeros at the end stand in no block.
     pub fn set_len(&mut self, n: u64)
         requires { self.old.left ≡ 0 }
-        ensures { self.new ≡ whole (resized self.old.bytes n) }
+        ensures { self.new ≡ complete (resized self.old.bytes n) }
     {
         if n >= self.len {
             self.len = n;

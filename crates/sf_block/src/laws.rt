@@ -1,7 +1,7 @@
 //! What is true of writing by blocks.
 
 ghost use Rattle.std.specs.Prelude.{◌≡◌, ◌<◌, ◌≤◌, ◌+◌, ℕ, List, length};
-ghost use Rattle.sf_block.specs.Contents.{FileBytes, whole, blocks_of, most_blocks, copied};
+ghost use Rattle.sf_block.specs.Contents.{FileBytes, complete, blocks_of, most_blocks, copied};
 
 /// The blocks of a write are at most as many as its bytes fill, rounded up, and one more, wherever
 /// it starts. A write of 10000 bytes at 4000 has four.
@@ -15,6 +15,6 @@ pub fn few_blocks()
 /// at once does, also after some were copied.
 #[tactic(auto, using(crate::proofs::Counts::copied_all, crate::proofs::Counts::copied_rest))]
 pub fn copied_whole()
-    ensures all { (file : FileBytes) → copied file.left file ≡ whole file.bytes }
-    ensures rest { (n : ℕ) (file : FileBytes) → whole (copied n file).bytes ≡ whole file.bytes }
+    ensures all { (file : FileBytes) → copied file.left file ≡ complete file.bytes }
+    ensures rest { (n : ℕ) (file : FileBytes) → complete (copied n file).bytes ≡ complete file.bytes }
 {}

@@ -6,17 +6,17 @@ use Rattle.std.proofs.Common.{sym, ap, ◌∙◌, arith, length-append, length-d
 use Rattle.std.proofs.lemmas.List.{take-append-le, drop-append-le, drop-drop}
 use Rattle.std.proofs.lemmas.List.Sums.{sum_by-take-drop, sum_by-append}
 use Rattle.sf_call.specs.declared.record.Record.{Record}
-use Rattle.sf_book.specs.Books.{is_deed, excess, kept_of, gone_of}
+use Rattle.sf_book.specs.Books.{is_call, excess, kept_of, gone_of}
 
 abbrev deeds : List Record → ℕ
-deeds records = count_by is_deed records
+deeds records = count_by is_call records
 
 -- the calls among the records of two lists, of a beginning and of the rest
-pub deeds-append : (xs ys : List Record) → count_by is_deed (xs ++ ys) ≡ count_by is_deed xs + count_by is_deed ys
-deeds-append xs ys = sum_by-append (λ (r : Record). cond (is_deed r) 1 0) xs ys
+pub deeds-append : (xs ys : List Record) → count_by is_call (xs ++ ys) ≡ count_by is_call xs + count_by is_call ys
+deeds-append xs ys = sum_by-append (λ (r : Record). cond (is_call r) 1 0) xs ys
 
-pub deeds-split : (xs : List Record) (n : ℕ) → count_by is_deed (take n xs) + count_by is_deed (drop n xs) ≡ count_by is_deed xs
-deeds-split xs n = sum_by-take-drop (λ (r : Record). cond (is_deed r) 1 0) xs n
+pub deeds-split : (xs : List Record) (n : ℕ) → count_by is_call (take n xs) + count_by is_call (drop n xs) ≡ count_by is_call xs
+deeds-split xs n = sum_by-take-drop (λ (r : Record). cond (is_call r) 1 0) xs n
 
 within : (keep : Option ℕ) (h : List Record) → excess keep h ≤ length h
 within None h = omega arith
@@ -33,17 +33,17 @@ kept-put keep h r =
     ∙ ap (λ n. drop n (h ++ r ∷ [])) (excess-put keep h r)
 
 pub gone-put : (keep : Option ℕ) (h : List Record) (r : Record)
-    → count_by is_deed (gone_of keep h) + count_by is_deed (gone_of keep (kept_of keep h ++ r ∷ [])) ≡ count_by is_deed (gone_of keep (h ++ r ∷ []))
+    → count_by is_call (gone_of keep h) + count_by is_call (gone_of keep (kept_of keep h ++ r ∷ [])) ≡ count_by is_call (gone_of keep (h ++ r ∷ []))
 gone-put keep h r = by_split (h ++ r ∷ []) (excess keep h) (excess keep (kept_of keep h ++ r ∷ [])) (excess keep (h ++ r ∷ [])) (excess-put keep h r)
     (gone_of keep h) (kept_of keep h ++ r ∷ []) (sym (take-append-le (excess keep h) h (r ∷ []) (within keep h))) (sym (drop-append-le (excess keep h) h (r ∷ []) (within keep h)))
   where
     by_split : (xs : List Record) (a b n : ℕ) → a + b ≡ n → (front rest : List Record) → front ≡ take a xs → rest ≡ drop a xs
-        → count_by is_deed front + count_by is_deed (take b rest) ≡ count_by is_deed (take n xs)
+        → count_by is_call front + count_by is_call (take b rest) ≡ count_by is_call (take n xs)
     by_split xs a b n e front rest f g =
         let whole = deeds-split xs a in
         let later = deeds-split (drop a xs) b in
         let all = deeds-split xs n in
-        let same : count_by is_deed (drop b (drop a xs)) ≡ count_by is_deed (drop n xs) = ap deeds (drop-drop b a xs ∙ ap (λ k. drop k xs) e) in
-        let x : count_by is_deed front ≡ count_by is_deed (take a xs) = ap deeds f in
-        let y : count_by is_deed (take b rest) ≡ count_by is_deed (take b (drop a xs)) = ap (λ (l : List Record). deeds (take b l)) g in
+        let same : count_by is_call (drop b (drop a xs)) ≡ count_by is_call (drop n xs) = ap deeds (drop-drop b a xs ∙ ap (λ k. drop k xs) e) in
+        let x : count_by is_call front ≡ count_by is_call (take a xs) = ap deeds f in
+        let y : count_by is_call (take b rest) ≡ count_by is_call (take b (drop a xs)) = ap (λ (l : List Record). deeds (take b l)) g in
         omega (arith, whole, later, all, same, x, y)

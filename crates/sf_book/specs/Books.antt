@@ -13,9 +13,9 @@ pub record BookView : Type 0 where
   pub folded : ℕ
 
 -- a call's record, and no leaving
-abbrev pub is_deed : Record → Bool
-is_deed (Did number session moment request reply) = true
-is_deed (Left session) = false
+abbrev pub is_call : Record → Bool
+is_call (Did number session moment request reply) = true
+is_call (Left session) = false
 
 -- how many records are more than are kept
 abbrev pub excess : Option ℕ → List Record → ℕ
@@ -35,5 +35,5 @@ put b entry = record {
   room = b.room - 1;
   keep = b.keep;
   folded =
-      min (b.folded + count_by is_deed (gone_of b.keep (b.records ++ entry ∷ []))) (2 ^ 64 - 1);
+      min (b.folded + count_by is_call (gone_of b.keep (b.records ++ entry ∷ []))) (2 ^ 64 - 1);
 }

@@ -2,7 +2,7 @@
 
 ghost use Rattle.std.specs.Prelude.{◌≡◌, ◌∷◌, ◌+◌, ◌-◌, ◌^◌, ◌<◌, ◌≤◌, min, [], Some, None, length, take, drop, IsOk, OnOk};
 ghost use Rattle.std.specs.List.{count_by};
-ghost use Rattle.sf_book.specs.Books.{is_deed, put};
+ghost use Rattle.sf_book.specs.Books.{is_call, put};
 
 use sf_call::Record;
 use std::alloc::{AllocError, Global};
@@ -124,7 +124,7 @@ impl Book {
         requires { 0 < length self.old.records }
         ensures records { self.new.records ≡ drop 1 self.old.records }
         ensures folded { self.new.folded
-            ≡ min (self.old.folded + count_by is_deed (take 1 self.old.records)) (2 ^ 64 - 1) }
+            ≡ min (self.old.folded + count_by is_call (take 1 self.old.records)) (2 ^ 64 - 1) }
         ensures room { self.new.room ≡ self.old.room }
         ensures keep { self.new.keep ≡ self.old.keep }
     {
@@ -162,7 +162,7 @@ fn move_to_front(entries: &mut [Record], gone: usize)
 
 /// How many calls a record that goes told of: a leaving of none.
 fn deeds(gone: &Record) -> u64
-    ensures { result ≡ count_by is_deed (gone.now ∷ []) }
+    ensures { result ≡ count_by is_call (gone.now ∷ []) }
 {
     match gone {
         Record::Did { .. } => 1,

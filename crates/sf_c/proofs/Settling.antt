@@ -7,7 +7,7 @@ use Rattle.sf_engine.specs.declared.event.EngineFault.{EngineFault}
 use Rattle.sf_engine.specs.Traces.{goes_on, goes_on_at}
 use Rattle.sf_engine.specs.Fits.{HasTurns}
 use Rattle.sf_engine.specs.Views.{EngineView}
-use Rattle.sf_c.specs.Numbers.{LeadsBy, leads_on, replies_of, HasTurned, HasEnded, TurnsTo}
+use Rattle.sf_c.specs.Numbers.{EventLeads, leads_on, replies_of, HasTurned, HasEnded, TurnsTo}
 
 -- a turn after which the call goes on leads to another one, and writes nothing
 goes_lead : (h : Happened) → goes_on h ≡ true → (leads_on (Ok h) ≡ true) × (replies_of (Ok h) ≡ 0)
@@ -55,7 +55,7 @@ wrote_leads (Err f) some = absurd (some refl)
 
 -- the turns of `Engine::turns`: all but the last lead to another one, and write nothing
 pub turns_lead : (n : ℕ) (e : EngineView) (turn : Event) (r : Result Happened EngineFault) (e' : EngineView)
-    → HasTurns n e turn r e' → (last : EngineView) × HasTurned n 0 e turn last × LeadsBy last turn r e'
+    → HasTurns n e turn r e' → (last : EngineView) × HasTurned n 0 e turn last × EventLeads last turn r e'
 unfolding HasTurns
 turns_lead zero e turn r e' turns = (e, (refl, refl), turns)
 turns_lead (suc n) e turn r e' turns =
@@ -83,7 +83,7 @@ turned_on (suc made) replies more others a b c turn front back =
     let whole : HasTurned (suc (made + more)) (replies + others) a turn c = (front.0, front.1, front.2, front.3, (front.4.0 + others, both, rest)) in
     subst (λ (n : ℕ). HasTurned n (replies + others) a turn c) count whole
 
-turned_once : (e e' : EngineView) (turn : Event) (r : Result Happened EngineFault) → LeadsBy e turn r e' → leads_on r ≡ true → HasTurned 1 (replies_of r) e turn e'
+turned_once : (e e' : EngineView) (turn : Event) (r : Result Happened EngineFault) → EventLeads e turn r e' → leads_on r ≡ true → HasTurned 1 (replies_of r) e turn e'
 turned_once e e' turn r leads on =
     let all : replies_of r ≡ replies_of r + 0 = omega arith in
     (e', r, leads, on, (0, all, (refl, refl)))
@@ -114,7 +114,7 @@ ended_after made replies n a b c turn r before turns far none =
 
 -- a first turn that leads to others, and these
 pub first_apart : (made most : ℕ) (old mid new : EngineView) (turn : Event) (first : Result Happened EngineFault) (end : Option (Result Happened EngineFault))
-    → LeadsBy old turn first mid → leads_on first ≡ true → replies_of first ≤ most
+    → EventLeads old turn first mid → leads_on first ≡ true → replies_of first ≤ most
     → TurnsTo made turn (most - replies_of first) mid end new → TurnsTo (suc made) turn most old end new
 first_apart made most old mid new turn first None leads on few turns =
     let all : most ≡ replies_of first + (most - replies_of first) = omega arith in

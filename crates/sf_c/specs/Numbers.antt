@@ -9,7 +9,7 @@ use Rattle.sf_engine.specs.declared.event.Happened.{Happened}
 use Rattle.sf_engine.specs.declared.event.Happened.TheVariants as happened
 use Rattle.sf_engine.specs.declared.event.EngineFault.{EngineFault}
 use Rattle.sf_engine.specs.declared.event.EngineFault.TheVariants as fault
-use Rattle.sf_engine.specs.Fits.{Fits, GoesOnTrace, IsSentBy, IsUnknown}
+use Rattle.sf_engine.specs.Fits.{Fits, GoesOnTrace, IsSentBy, IsUnknownSession}
 use Rattle.sf_engine.specs.Rounds.{AreUnderWay, HasRounds, IsWithinBounds}
 use Rattle.sf_engine.specs.Views.{EngineView}
 use Rattle.sf_c.specs.declared.turns.Settled.{Settled}
@@ -51,18 +51,18 @@ IsNumber (Ok happened) n = IsHappened happened n
 IsNumber (Err fault) n = n ≡ negsuc (fault_number fault)
 
 -- an event led from an engine to another, and this came of it
-abbrev pub LeadsBy : EngineView → Event → Result Happened EngineFault → EngineView → Type 0
-LeadsBy old event result new = GoesOnTrace old event result new × OnErr result (new ≡ old)
+abbrev pub EventLeads : EngineView → Event → Result Happened EngineFault → EngineView → Type 0
+EventLeads old event result new = GoesOnTrace old event result new × OnErr result (new ≡ old)
 
 -- so, and what came of it has this number
-abbrev pub Leads : EngineView → Event → ℤ → EngineView → Type 0
-Leads old event n new =
-    (result : Result Happened EngineFault) × LeadsBy old event result new × IsNumber result n
+abbrev pub LeadsToNumber : EngineView → Event → ℤ → EngineView → Type 0
+LeadsToNumber old event n new =
+    (result : Result Happened EngineFault) × EventLeads old event result new × IsNumber result n
 
 -- so of the engines that C has
-abbrev pub Answers : Option EngineView → Event → ℤ → Option EngineView → Type 0
-Answers before event n after = (old : EngineView) × (new : EngineView) × (before ≡ Some old)
-    × (after ≡ Some new) × Leads old event n new
+abbrev pub AnswersNumber : Option EngineView → Event → ℤ → Option EngineView → Type 0
+AnswersNumber before event n after = (old : EngineView) × (new : EngineView) × (before ≡ Some old)
+    × (after ≡ Some new) × LeadsToNumber old event n new
 
 -- whether a turn of which this came leads to another one
 abbrev pub leads_on : Result Happened EngineFault → Bool
@@ -98,13 +98,13 @@ replies_of (Err fault) = 0
 abbrev pub HasTurned : ℕ → ℕ → EngineView → Event → EngineView → Type 0
 HasTurned zero replies old turn new = (new ≡ old) × (replies ≡ 0)
 HasTurned (suc made) replies old turn new = (mid : EngineView) × (r : Result Happened EngineFault)
-    × LeadsBy old turn r mid × (leads_on r ≡ true)
+    × EventLeads old turn r mid × (leads_on r ≡ true)
     × ((others : ℕ) × (replies ≡ replies_of r + others) × HasTurned made others mid turn new)
 
 -- so many turns of a session, and one more that leads to no other; no call has steps for 2^64
 abbrev pub HasEnded : ℕ → ℕ → EngineView → Event → Result Happened EngineFault → EngineView → Type 0
 HasEnded made replies old turn r new = (last : EngineView) × HasTurned made replies old turn last
-    × LeadsBy last turn r new × (leads_on r ≡ true → 2 ^ 64 - 2 ≤ made)
+    × EventLeads last turn r new × (leads_on r ≡ true → 2 ^ 64 - 2 ≤ made)
 
 -- Such turns were made, and ended before as many replies were written as may be; or as many were.
 abbrev pub TurnsTo : ℕ → Event → ℕ → EngineView → Option (Result Happened EngineFault) → EngineView
@@ -113,27 +113,27 @@ TurnsTo made turn most old None new = HasTurned made most old turn new
 TurnsTo made turn most old (Some r) new =
     (replies : ℕ) × (replies < most) × HasEnded made replies old turn r new
 
-abbrev pub Follows : Event → ℕ → EngineView → Option (Result Happened EngineFault) → EngineView
+abbrev pub TurnsFollow : Event → ℕ → EngineView → Option (Result Happened EngineFault) → EngineView
     → Type 0
-Follows turn most old end new = (made : ℕ) × TurnsTo made turn most old end new
+TurnsFollow turn most old end new = (made : ℕ) × TurnsTo made turn most old end new
 
 -- so, and whether there was a turn before the one that ended them
-abbrev pub Moves : Event → ℕ → EngineView → Option (Result Happened EngineFault) → Bool → EngineView
+abbrev pub MovesAll : Event → ℕ → EngineView → Option (Result Happened EngineFault) → Bool → EngineView
     → Type 0
-Moves turn most old end moved new = (made : ℕ) × TurnsTo made turn most old end new
+MovesAll turn most old end moved new = (made : ℕ) × TurnsTo made turn most old end new
     × (moved ≡ true → 0 < made) × (moved ≡ false → made ≡ 0)
 
 abbrev pub Settles : Event → ℕ → EngineView → Settled → EngineView → Type 0
-Settles turn most old settled new = Moves turn most old settled.last settled.moved new
+Settles turn most old settled new = MovesAll turn most old settled.last settled.moved new
 
 -- the number of the turn that ended them, or 6
-abbrev pub IsLast : Option (Result Happened EngineFault) → ℤ → Type 0
-IsLast None n = n ≡ pos 6
-IsLast (Some result) n = IsNumber result n
+abbrev pub IsLastNumber : Option (Result Happened EngineFault) → ℤ → Type 0
+IsLastNumber None n = n ≡ pos 6
+IsLastNumber (Some result) n = IsNumber result n
 
 abbrev pub SettlesAt : Event → ℕ → EngineView → ℤ → Bool → EngineView → Type 0
 SettlesAt turn most old n moved new = (end : Option (Result Happened EngineFault))
-    × Moves turn most old end moved new × IsLast end n
+    × MovesAll turn most old end moved new × IsLastNumber end n
 
 -- so of the engines that C has
 abbrev pub AnswersSettled : Option EngineView → Event → ℕ → ℤ → Bool → Option EngineView → Type 0
@@ -153,23 +153,23 @@ IsFresh keep engine = Fits engine [] × (keep ≡ 0 → engine.core.keep ≡ Non
     × (0 < keep → engine.core.keep ≡ Some keep)
 
 -- a new engine was made, or there is none
-abbrev pub IsMade : ℕ → ℤ → Option EngineView → Type 0
-IsMade keep n made = ((n ≡ negsuc 0) × (made ≡ None))
+abbrev pub IsNewEngine : ℕ → ℤ → Option EngineView → Type 0
+IsNewEngine keep n made = ((n ≡ negsuc 0) × (made ≡ None))
     ⊎ ((engine : EngineView) × (n ≡ pos 0) × (made ≡ Some engine) × IsFresh keep engine)
 
 -- Bytes came, as by the event of any vector of them.
-abbrev pub Feeds : Option EngineView → ℕ → List ℕ → ℤ → Option EngineView → Type 0
-Feeds before session bytes n after =
+abbrev pub FeedsBytes : Option EngineView → ℕ → List ℕ → ℤ → Option EngineView → Type 0
+FeedsBytes before session bytes n after =
     (old : EngineView) × (new : EngineView) × (before ≡ Some old) × (after ≡ Some new)
-    × ((fed : Vec ℕ Global) → fed.items ≡ bytes → Leads old (event.Feed session fed) n new)
+    × ((fed : Vec ℕ Global) → fed.items ≡ bytes → LeadsToNumber old (event.Feed session fed) n new)
 
 -- the output as far as there is room, and how long it is
-abbrev pub IsCopied : EngineView → ℕ → List ℕ → ℤ → List ℕ → Type 0
-IsCopied engine session old n new =
+abbrev pub CopiesOutput : EngineView → ℕ → List ℕ → ℤ → List ℕ → Type 0
+CopiesOutput engine session old n new =
     (output : List ℕ) × IsSentBy engine session output × (n ≡ pos (length output))
     × (new ≡ take (length old) output ++ drop (length output) old)
 
 -- a session's output was copied, or there is no such session
 abbrev pub Outputs : EngineView → ℕ → List ℕ → ℤ → List ℕ → Type 0
-Outputs engine session old n new = IsCopied engine session old n new
-    ⊎ (IsUnknown engine session × (n ≡ negsuc 1) × (new ≡ old))
+Outputs engine session old n new = CopiesOutput engine session old n new
+    ⊎ (IsUnknownSession engine session × (n ≡ negsuc 1) × (new ≡ old))

@@ -16,9 +16,9 @@ use Rattle.sf_call.specs.declared.record.Record.{Record}
 use Rattle.sf_call.specs.declared.record.Record.TheVariants as record_of
 use Rattle.sf_engine.specs.Views.{EngineView}
 use Rattle.sf_c.specs.declared.told.Attributes.{Attributes}
-use Rattle.sf_c.specs.declared.told.Asked.{Asked}
+use Rattle.sf_c.specs.declared.told.AskedParts.{AskedParts}
 use Rattle.sf_c.specs.declared.told.Answered.{Answered}
-use Rattle.sf_c.specs.declared.told.Told.{Told}
+use Rattle.sf_c.specs.declared.told.RecordParts.{RecordParts}
 use Rattle.sf_c.specs.declared.told.Recounted.{Recounted}
 
 -- the flag of each part that is given, and its numbers
@@ -62,7 +62,7 @@ no_attributes = record {
 }
 
 -- the numbers of a request, and of a reply: a packet's type, and what it has in numbers
-abbrev pub plainly : ℕ → Asked
+abbrev pub plainly : ℕ → AskedParts
 plainly kind = record {
   attributes = no_attributes;
   handle = 0;
@@ -72,17 +72,17 @@ plainly kind = record {
   flags = 0;
 }
 
-abbrev pub by_handle : ℕ → ℕ → Asked
+abbrev pub by_handle : ℕ → ℕ → AskedParts
 by_handle kind handle = record (plainly kind) { handle = handle }
 
-abbrev pub at_place : ℕ → ℕ → ℕ → ℕ → Asked
+abbrev pub at_place : ℕ → ℕ → ℕ → ℕ → AskedParts
 at_place kind handle offset length =
     record (by_handle kind handle) { offset = offset; length = length }
 
-abbrev pub with_attributes : ℕ → Attrs → Asked
+abbrev pub with_attributes : ℕ → Attrs → AskedParts
 with_attributes kind attrs = record (plainly kind) { attributes = attributes_told attrs }
 
-abbrev pub asked_told : Request → Asked
+abbrev pub asked_told : Request → AskedParts
 asked_told (request.Open path flags attrs) =
     record (with_attributes 3 attrs) { flags = bits_of flags }
 asked_told (request.Close handle) = by_handle 4 handle
@@ -168,7 +168,7 @@ IsRecounted number session moment q a r =
     × (r.bytes.items ≡ ((first_text q ++ second_text q) ++ data_told q) ++ answer_bytes a)
 
 -- of a session that left
-abbrev pub left_told : ℕ → Told
+abbrev pub left_told : ℕ → RecordParts
 left_told session = record {
   number = 0;
   session = session;
@@ -186,13 +186,13 @@ Recounts (record_of.Did number session moment q a) r = IsRecounted number sessio
 Recounts (record_of.Left session) r = (r.told ≡ left_told session) × (r.bytes.items ≡ [])
 
 -- The record at a place was told, and its bytes copied as far as there is room.
-abbrev pub IsTold : EngineView → ℕ → List ℕ → Told → List ℕ → Type 0
-IsTold engine at old told new = (kept : Record) × (r : Recounted)
+abbrev pub TellsParts : EngineView → ℕ → List ℕ → RecordParts → List ℕ → Type 0
+TellsParts engine at old told new = (kept : Record) × (r : Recounted)
     × (slice_get engine.core.records at ≡ Some kept) × Recounts kept r × (told ≡ r.told)
     × (new ≡ take (length old) r.bytes.items ++ drop (length r.bytes.items) old)
 
 -- how many records are kept; the one at a place was told, or there is none there, or no memory to tell it
-abbrev pub TellsOf : EngineView → ℕ → Told → List ℕ → ℤ → Told → List ℕ → Type 0
-TellsOf engine at before old n told new = ((n ≡ pos (length engine.core.records)) × IsTold engine at old told new)
+abbrev pub TellsRecord : EngineView → ℕ → RecordParts → List ℕ → ℤ → RecordParts → List ℕ → Type 0
+TellsRecord engine at before old n told new = ((n ≡ pos (length engine.core.records)) × TellsParts engine at old told new)
     ⊎ (((n ≡ negsuc 0) ⊎ ((n ≡ pos (length engine.core.records)) × (slice_get engine.core.records at ≡ None)))
     × (told ≡ before) × (new ≡ old))

@@ -6,7 +6,7 @@ use Rattle.sf_trees.specs.declared.fault.TreeFault.{TreeFault}
 use Rattle.sf_trees.specs.declared.fault.TreeFault.TheVariants as fault
 use Rattle.sf_trees.specs.declared.fault.Refused.{Refused}
 use Rattle.sf_trees.specs.declared.found.Found.{Found}
-use Rattle.sf_trees.specs.declared.found.Tree.{Tree}
+use Rattle.sf_trees.specs.declared.found.FoundTree.{FoundTree}
 use Rattle.sf_trees.specs.Deeds.{Deed, BySession}
 use Rattle.sf_trees.specs.Whole.{FindsTree}
 use Rattle.sf_asking.specs.Asking.{AreDone}
@@ -43,19 +43,19 @@ AnswersMade before moment P n at after = (old : EngineView) × (new : EngineView
     × DoesIn moment P old r new × TellsMade r n at
 
 -- So of a walk, by a session of its own, which finds this tree.
-abbrev pub WalksTree : Tree → List Deed → Result (Unit {0}) Refused → Type 0
+abbrev pub WalksTree : FoundTree → List Deed → Result (Unit {0}) Refused → Type 0
 WalksTree tree deeds r =
     BySession (λ session. FindsTree session tree) deeds r
 
 -- There was no memory for a tree, and nothing was done; or a walk was made, and its tree is kept.
-abbrev pub AnswersWalk : Option EngineView → ℕ → ℤ → At → At → Option EngineView → Option Tree → Type 0
+abbrev pub AnswersWalk : Option EngineView → ℕ → ℤ → At → At → Option EngineView → Option FoundTree → Type 0
 AnswersWalk before moment n at' at after kept =
     ((n ≡ negsuc 0) × (at ≡ at') × (after ≡ before) × (kept ≡ None))
-    ⊎ ((tree : Tree) × (kept ≡ Some tree) × AnswersMade before moment (WalksTree tree) n at after)
+    ⊎ ((tree : FoundTree) × (kept ≡ Some tree) × AnswersMade before moment (WalksTree tree) n at after)
 
-abbrev pub number_at : Option ℕ → ℕ
-number_at (Some n) = n
-number_at None = 0
+abbrev pub mark_number : Option ℕ → ℕ
+mark_number (Some n) = n
+mark_number None = 0
 
 abbrev pub leaf_of : Found → ℕ → Leaf
 leaf_of found file = record {
@@ -74,9 +74,9 @@ HasBoth path contents old new =
     × (length old < length path + length contents → new ≡ old)
 
 -- how many entries there are; the one at a place was told, or there is none
-abbrev pub LeafOf : Tree → ℕ → Leaf → List ℕ → ℤ → Leaf → List ℕ → Type 0
+abbrev pub LeafOf : FoundTree → ℕ → Leaf → List ℕ → ℤ → Leaf → List ℕ → Type 0
 LeafOf tree at before old n leaf new = (n ≡ pos (length tree.found.items))
     × (((found : Found) × (slice_get tree.found.items at ≡ Some found)
-    × (leaf ≡ leaf_of found (number_at (slice_get tree.numbers.items at)))
+    × (leaf ≡ leaf_of found (mark_number (slice_get tree.numbers.items at)))
     × HasBoth found.name.path.items found.contents.items old new)
     ⊎ ((slice_get tree.found.items at ≡ None) × (leaf ≡ before) × (new ≡ old)))

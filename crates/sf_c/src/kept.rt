@@ -2,11 +2,11 @@
 
 ghost use Rattle.std.specs.Prelude.{◌≡◌, Option, Some, None, IsSome};
 ghost use Rattle.std.specs.Coded.{coded_option};
-ghost use Rattle.sf_trees.specs.contracts.found.Tree.{the_row};
-ghost use Rattle.sf_trees.specs.declared.found.Tree.{Tree};
+ghost use Rattle.sf_trees.specs.contracts.found.FoundTree.{the_row};
+ghost use Rattle.sf_trees.specs.declared.found.FoundTree.{FoundTree};
 
 use crate::held::Loose;
-use sf_trees::Tree;
+use sf_trees::FoundTree;
 use std::alloc::Global;
 use std::marker::Model;
 use std::{mem, ptr};
@@ -17,7 +17,7 @@ use std::{mem, ptr};
 pub struct Kept {
     at: *mut u8,
     alloc: Global,
-    pub ghost tree: { Option Tree } by { coded_option the_row.coded },
+    pub ghost tree: { Option FoundTree } by { coded_option the_row.coded },
 }
 
 impl Model for Kept {
@@ -30,7 +30,7 @@ impl Model for Kept {
 unsafe impl Send for Kept {}
 
 impl Kept {
-    fn of(loose: Loose<Tree, Global>) -> Kept
+    fn of(loose: Loose<FoundTree, Global>) -> Kept
         ensures { result.tree ≡ Some loose.value }
     {
         let Loose { at, alloc } = loose;
@@ -49,19 +49,19 @@ impl Kept {
         }
     }
 
-    fn loose(self) -> Loose<Tree, Global>
+    fn loose(self) -> Loose<FoundTree, Global>
         requires { IsSome self.tree }
         ensures { self.tree ≡ Some result.value }
     {
         let Kept { at, alloc } = self;
         Loose {
-            at: at as *mut Tree,
+            at: at as *mut FoundTree,
             alloc,
         }
     }
 
     /// Takes the tree. It has to be put back, or freed.
-    pub fn take(&mut self, alloc: Global) -> Box<Tree, Global>
+    pub fn take(&mut self, alloc: Global) -> Box<FoundTree, Global>
         requires { IsSome self.old.tree }
         ensures tree { self.old.tree ≡ Some result.value }
         ensures taken { self.new.tree ≡ None }
@@ -70,7 +70,7 @@ impl Kept {
     }
 
     /// Puts a tree in place of nothing.
-    pub fn put(&mut self, tree: Box<Tree, Global>)
+    pub fn put(&mut self, tree: Box<FoundTree, Global>)
         ensures { self.new.tree ≡ Some tree.value }
     {
         *self = Kept::of(Loose::of(tree));

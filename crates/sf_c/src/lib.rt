@@ -10,9 +10,9 @@
 ghost use Rattle.std.specs.Prelude.{◌≡◌, ◌++◌, length, take, drop, None, IsSome, IfOk, IfSome};
 ghost use Rattle.sf_engine.specs.declared.event.Event.TheVariants as event;
 ghost use Rattle.sf_trees.specs.Makings.{MakesDirectory, WritesFile, Links};
-ghost use Rattle.sf_c.specs.Records.{TellsOf};
+ghost use Rattle.sf_c.specs.Records.{TellsRecord};
 ghost use Rattle.sf_c.specs.Trees.{AnswersMade, AnswersWalk, LeafOf};
-ghost use Rattle.sf_c.specs.Numbers.{Answers, AnswersSettled, RunsAll, IsFresh, IsMade, Feeds, Outputs};
+ghost use Rattle.sf_c.specs.Numbers.{AnswersNumber, AnswersSettled, RunsAll, IsFresh, IsNewEngine, FeedsBytes, Outputs};
 
 mod held;
 mod kept;
@@ -24,9 +24,9 @@ mod turns;
 use held::Held;
 use kept::Kept;
 use sf_engine::{Engine, Event};
-use sf_trees::Tree;
+use sf_trees::FoundTree;
 use std::alloc::{AllocError, Global};
-use told::{Told, recount};
+use told::{RecordParts, recount};
 use trees::{At, Leaf, copy_leaf, link_in, make_directory_in, tell_made, walk_in, write_file_in};
 use turns::{apply, feed, settle_at};
 
@@ -44,7 +44,7 @@ fn new_engine(alloc: Global, keep: u64) -> Result<Engine, AllocError>
 #[unsafe(no_mangle)]
 pub extern "C" fn lucernetick_new(alloc: Global, held: &mut Held, keep: u64) -> i64
     requires { held.old.engine ≡ None }
-    ensures { IsMade keep result held.new.engine }
+    ensures { IsNewEngine keep result held.new.engine }
 {
     let Ok(engine) = new_engine(alloc, keep) else {
         return -1;
@@ -68,7 +68,7 @@ pub extern "C" fn lucernetick_free(alloc: Global, held: &mut Held)
 /// Applies an event, and answers its number.
 fn answer(alloc: Global, held: &mut Held, event: &Event) -> i64
     requires { IsSome held.old.engine }
-    ensures { Answers held.old.engine event.now result held.new.engine }
+    ensures { AnswersNumber held.old.engine event.now result held.new.engine }
 {
     let mut engine = held.take(alloc);
     let number = apply(&mut engine, event);
@@ -80,7 +80,7 @@ fn answer(alloc: Global, held: &mut Held, event: &Event) -> i64
 #[unsafe(no_mangle)]
 pub extern "C" fn lucernetick_open(alloc: Global, held: &mut Held) -> i64
     requires { IsSome held.old.engine }
-    ensures { Answers held.old.engine event.Open result held.new.engine }
+    ensures { AnswersNumber held.old.engine event.Open result held.new.engine }
 {
     answer(alloc, held, &Event::Open)
 }
@@ -94,7 +94,7 @@ pub extern "C" fn lucernetick_feed(
     bytes: &[u8],
 ) -> i64
     requires { IsSome held.old.engine }
-    ensures { Feeds held.old.engine session bytes.now result held.new.engine }
+    ensures { FeedsBytes held.old.engine session bytes.now result held.new.engine }
 {
     let mut engine = held.take(alloc);
     let number = feed(&mut engine, session, bytes);
@@ -106,7 +106,7 @@ pub extern "C" fn lucernetick_feed(
 #[unsafe(no_mangle)]
 pub extern "C" fn lucernetick_turn(alloc: Global, held: &mut Held, session: u64, moment: u32) -> i64
     requires { IsSome held.old.engine }
-    ensures { Answers held.old.engine (event.Turn session moment) result held.new.engine }
+    ensures { AnswersNumber held.old.engine (event.Turn session moment) result held.new.engine }
 {
     answer(alloc, held, &Event::Turn(session, moment))
 }
@@ -148,7 +148,7 @@ pub extern "C" fn lucernetick_run_all(alloc: Global, held: &mut Held) -> u64
 #[unsafe(no_mangle)]
 pub extern "C" fn lucernetick_close(alloc: Global, held: &mut Held, session: u64) -> i64
     requires { IsSome held.old.engine }
-    ensures { Answers held.old.engine (event.Close session) result held.new.engine }
+    ensures { AnswersNumber held.old.engine (event.Close session) result held.new.engine }
 {
     answer(alloc, held, &Event::Close(session))
 }
@@ -162,7 +162,7 @@ pub extern "C" fn lucernetick_sent(
     count: usize,
 ) -> i64
     requires { IsSome held.old.engine }
-    ensures { Answers held.old.engine (event.Sent session count) result held.new.engine }
+    ensures { AnswersNumber held.old.engine (event.Sent session count) result held.new.engine }
 {
     answer(alloc, held, &Event::Sent(session, count))
 }
@@ -205,8 +205,14 @@ pub extern "C" fn lucernetick_output(
 }
 
 /// Tells the record at a place, and copies its bytes into the room, as far as there is room.
-fn copy_record(alloc: Global, engine: &Engine, at: u64, told: &mut Told, room: &mut [u8]) -> i64
-    ensures { TellsOf engine.now at told.old room.old result told.new room.new }
+fn copy_record(
+    alloc: Global,
+    engine: &Engine,
+    at: u64,
+    told: &mut RecordParts,
+    room: &mut [u8],
+) -> i64
+    ensures { TellsRecord engine.now at told.old room.old result told.new room.new }
 {
     let records = engine.core().history();
     let Some(record) = records.get(at as usize) else {
@@ -226,13 +232,13 @@ pub extern "C" fn lucernetick_call(
     alloc: Global,
     held: &mut Held,
     at: u64,
-    told: &mut Told,
+    told: &mut RecordParts,
     room: &mut [u8],
 ) -> i64
     requires { IsSome held.old.engine }
     ensures same { held.new.engine ≡ held.old.engine }
     ensures told { IfSome held.old.engine
-        (λ e. TellsOf e at told.old room.old result told.new room.new) }
+        (λ e. TellsRecord e at told.old room.old result told.new room.new) }
 {
     let engine = held.take(alloc);
     let number = copy_record(alloc, &engine, at, told, room);
@@ -310,7 +316,7 @@ pub extern "C" fn lucernetick_walk(
     requires none { kept.old.tree ≡ None }
     ensures { AnswersWalk held.old.engine moment result at.old at.new held.new.engine kept.new.tree }
 {
-    let Ok(mut tree) = Box::new(alloc, Tree::new(alloc)) else {
+    let Ok(mut tree) = Box::new(alloc, FoundTree::new(alloc)) else {
         return -1;
     };
     let (engine, walked) = walk_in(held.take(alloc), alloc, moment, &mut tree);

@@ -24,7 +24,7 @@ pub struct Attributes {
 /// What a call asked, by the type of its packet, without its paths and the bytes of a WRITE.
 #[repr(C)]
 #[derive(Clone, Copy, Debug)]
-pub struct Asked {
+pub struct AskedParts {
     pub attributes: Attributes,
     pub handle: u64,
     pub offset: u64,
@@ -47,10 +47,10 @@ pub struct Answered {
 /// A record, and how many bytes its parts have: these stand one behind another.
 #[repr(C)]
 #[derive(Clone, Copy, Debug)]
-pub struct Told {
+pub struct RecordParts {
     pub number: u64,
     pub session: u64,
-    pub asked: Asked,
+    pub asked: AskedParts,
     pub answered: Answered,
     pub path: u64,
     pub new_path: u64,
@@ -99,6 +99,7 @@ fn times_told(times: Option<Times>) -> (u32, u32, u32)
     }
 }
 
+/// Attributes as C has them: a bit of `given` for each that is there, and 0 for one that isn't.
 pub fn attributes_told(attrs: &Attrs) -> Attributes
     ensures { result ≡ attributes_told attrs.now }
 {
@@ -129,10 +130,10 @@ const NONE: Attributes = Attributes {
 };
 
 /// A packet of this type, of which nothing else is told in numbers.
-fn plainly(kind: u32) -> Asked
+fn plainly(kind: u32) -> AskedParts
     ensures { result ≡ plainly kind }
 {
-    Asked {
+    AskedParts {
         attributes: NONE,
         handle: 0,
         offset: 0,
@@ -143,20 +144,20 @@ fn plainly(kind: u32) -> Asked
 }
 
 /// A packet of this type by a handle, of which nothing else is told in numbers.
-fn by_handle(kind: u32, handle: u64) -> Asked
+fn by_handle(kind: u32, handle: u64) -> AskedParts
     ensures { result ≡ by_handle kind handle }
 {
-    Asked {
+    AskedParts {
         handle,
         ..plainly(kind)
     }
 }
 
 /// A packet of this type by a handle, of so many bytes from a place in its file.
-fn at_place(kind: u32, handle: u64, offset: u64, length: u64) -> Asked
+fn at_place(kind: u32, handle: u64, offset: u64, length: u64) -> AskedParts
     ensures { result ≡ at_place kind handle offset length }
 {
-    Asked {
+    AskedParts {
         offset,
         length,
         ..by_handle(kind, handle)
@@ -164,21 +165,21 @@ fn at_place(kind: u32, handle: u64, offset: u64, length: u64) -> Asked
 }
 
 /// A packet of this type with attributes.
-fn with_attributes(kind: u32, attrs: &Attrs) -> Asked
+fn with_attributes(kind: u32, attrs: &Attrs) -> AskedParts
     ensures { result ≡ with_attributes kind attrs.now }
 {
-    Asked {
+    AskedParts {
         attributes: attributes_told(attrs),
         ..plainly(kind)
     }
 }
 
 /// The numbers of a request. Both renames and links by extensions have types of their own.
-fn asked_told(request: &Request) -> Asked
+fn asked_told(request: &Request) -> AskedParts
     ensures { result ≡ asked_told request.now }
 {
     match request {
-        Request::Open(_, flags, attrs) => Asked {
+        Request::Open(_, flags, attrs) => AskedParts {
             flags: flags.bits(),
             ..with_attributes(3, attrs)
         },
@@ -195,7 +196,7 @@ fn asked_told(request: &Request) -> Asked
         } => at_place(6, *handle, *offset, data.as_slice().len() as u64),
         Request::FStat(handle) => by_handle(8, *handle),
         Request::SetStat(_, attrs) => with_attributes(9, attrs),
-        Request::FSetStat(handle, attrs) => Asked {
+        Request::FSetStat(handle, attrs) => AskedParts {
             handle: *handle,
             ..with_attributes(10, attrs)
         },
@@ -320,7 +321,7 @@ fn answer_bytes(alloc: Global, reply: &Reply) -> Result<Vec<u8>, AllocError>
 /// A record's parts, one behind another, and its numbers with how long each part is.
 #[derive(Drop)]
 pub struct Recounted {
-    pub told: Told,
+    pub told: RecordParts,
     pub bytes: Vec<u8>,
 }
 
@@ -343,7 +344,7 @@ fn call_told(
     bytes.extend_from_slice(&new)?;
     bytes.extend_from_slice(data)?;
     bytes.extend_from_slice(&read)?;
-    let told = Told {
+    let told = RecordParts {
         number,
         session,
         asked: asked_told(request),
@@ -377,10 +378,10 @@ pub fn recount(alloc: Global, record: &Record) -> Result<Recounted, AllocError>
 }
 
 /// A session that left: the number of its record is 0, as no call's is.
-fn left_told(session: u64) -> Told
+fn left_told(session: u64) -> RecordParts
     ensures { result ≡ left_told session }
 {
-    Told {
+    RecordParts {
         number: 0,
         session,
         asked: plainly(0),

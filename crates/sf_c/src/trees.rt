@@ -2,13 +2,13 @@
 
 ghost use Rattle.std.specs.Prelude.{◌≡◌, ◌<◌, ◌^◌, [], pos, length, slice_get, Some, None, IfSome, IfNone};
 ghost use Rattle.sf_trees.specs.Makings.{MakesDirectory, WritesFile, Links};
-ghost use Rattle.sf_c.specs.Trees.{tree_fault_number, DoesIn, TellsMade, WalksTree, leaf_of, number_at, HasBoth, LeafOf};
+ghost use Rattle.sf_c.specs.Trees.{tree_fault_number, DoesIn, TellsMade, WalksTree, leaf_of, mark_number, HasBoth, LeafOf};
 
 use crate::copy_front;
 use crate::told::{Attributes, attributes_told};
 use sf_asking::Asker;
 use sf_engine::Engine;
-use sf_trees::{Found, Refused, Tree, TreeFault, link, make_directory, walk, write_file};
+use sf_trees::{Found, FoundTree, Refused, TreeFault, link, make_directory, walk, write_file};
 use std::alloc::Global;
 
 /// Which request wasn't done, and how many bytes of the path that was given it was on.
@@ -116,7 +116,7 @@ pub fn walk_in(
     engine: Box<Engine, Global>,
     alloc: Global,
     moment: u32,
-    tree: &mut Tree,
+    tree: &mut FoundTree,
 ) -> (Box<Engine, Global>, Result<(), Refused>)
     requires { (tree.old.found.items ≡ []) × (tree.old.numbers.items ≡ []) }
     ensures { DoesIn moment (WalksTree tree.new) engine.value result.1 result.0.value }
@@ -140,8 +140,8 @@ fn leaf_of(found: &Found, file: u64) -> Leaf
 }
 
 /// The number of the entry at a place; a walk that stopped has none.
-fn file_at(tree: &Tree, at: u64) -> u64
-    ensures { result ≡ number_at (slice_get tree.now.numbers.items at) }
+fn file_at(tree: &FoundTree, at: u64) -> u64
+    ensures { result ≡ mark_number (slice_get tree.now.numbers.items at) }
 {
     match tree.numbers.get(at as usize) {
         Some(number) => *number,
@@ -150,7 +150,7 @@ fn file_at(tree: &Tree, at: u64) -> u64
 }
 
 /// The entry at a place.
-fn entry_at(tree: &Tree, at: u64) -> Option<&Found>
+fn entry_at(tree: &FoundTree, at: u64) -> Option<&Found>
     ensures some { IfSome result (λ one. slice_get tree.now.found.items at ≡ Some one.now) }
     ensures none { IfNone result (slice_get tree.now.found.items at ≡ None) }
 {
@@ -158,7 +158,7 @@ fn entry_at(tree: &Tree, at: u64) -> Option<&Found>
 }
 
 /// How many entries there are.
-fn count_of(tree: &Tree) -> i64
+fn count_of(tree: &FoundTree) -> i64
     ensures { result ≡ pos (length tree.now.found.items) }
 {
     tree.found.len() as i64
@@ -182,7 +182,7 @@ fn copy_entry(room: &mut [u8], one: &Found)
 }
 
 /// Tells the entry at a place, and copies its bytes, if there is room.
-pub fn copy_leaf(tree: &Tree, at: u64, leaf: &mut Leaf, room: &mut [u8]) -> i64
+pub fn copy_leaf(tree: &FoundTree, at: u64, leaf: &mut Leaf, room: &mut [u8]) -> i64
     ensures { LeafOf tree.now at leaf.old room.old result leaf.new room.new }
 {
     let Some(one) = entry_at(tree, at) else {

@@ -2,14 +2,14 @@
 
 ghost use Rattle.std.specs.Prelude.{◌≡◌, ◌≤◌, ◌<◌, ◌^◌, ℕ, length};
 ghost use Rattle.std.specs.Global.{Vec};
-ghost use Rattle.sf_c.specs.Numbers.{leads_on, replies_of, Leads, Follows, Settles, SettlesAt};
+ghost use Rattle.sf_c.specs.Numbers.{leads_on, replies_of, LeadsToNumber, TurnsFollow, Settles, SettlesAt};
 
 use crate::number::number_of;
 use sf_engine::{Engine, EngineFault, Event, Happened};
 
 /// Applies an event, and answers its number.
 pub fn apply(engine: &mut Engine, event: &Event) -> i64
-    ensures { Leads engine.old event.now result engine.new }
+    ensures { LeadsToNumber engine.old event.now result engine.new }
 {
     number_of(engine.apply(event))
 }
@@ -18,7 +18,7 @@ pub fn apply(engine: &mut Engine, event: &Event) -> i64
 pub fn feed(engine: &mut Engine, session: u64, bytes: &[u8]) -> i64
     requires { length bytes.now < 2 ^ 63 }
     ensures { (fed : Vec ℕ) → fed.items ≡ bytes.now
-        → Leads engine.old (Event.Feed session fed) result engine.new }
+        → LeadsToNumber engine.old (Event.Feed session fed) result engine.new }
 {
     number_of(engine.feed(session, bytes))
 }
@@ -52,7 +52,7 @@ fn follow(
     moment: u32,
     most: u64,
 ) -> Option<Result<Happened, EngineFault>>
-    ensures { Follows (Event.Turn session moment) most engine.old result engine.new }
+    ensures { TurnsFollow (Event.Turn session moment) most engine.old result engine.new }
 {
     for _ in 0..most {
         let outcome = engine.turns(session, moment);

@@ -20,21 +20,21 @@ use Rattle.sf_reply.specs.Longname.{longname_text}
 use Rattle.sf_reply.proofs.Laws.{longname_short}
 use Rattle.sf_call.specs.declared.limits.TheConstants.{MAX_FILE_SIZE, MAX_READ, MAX_ENTRIES, MAX_LINKS}
 use Rattle.sf_call.specs.declared.metadata.Metadata.{Metadata}
-use Rattle.sf_call.specs.declared.place.Place.{Place}
-use Rattle.sf_call.specs.declared.place.Place.TheVariants.{NoWay, Absent, At}
+use Rattle.sf_call.specs.declared.lookup.Lookup.{Lookup}
+use Rattle.sf_call.specs.declared.lookup.Lookup.TheVariants.{NoWay, Absent, At}
 use Rattle.sf_call.specs.declared.request.Request.{Request}
 use Rattle.sf_call.specs.declared.request.Request.TheVariants.{Stat, SetStat, Mkdir, Rmdir, Remove, OpenDir, Open, Close, FStat, FSetStat, Read, Write, ReadDir, Rename, PosixRename, Link}
 use Rattle.sf_call.specs.Attributes.{Object, made_at, modified_at, with_parts, attrs_of}
 use Rattle.sf_call.specs.Attributes.Object.{Directory, File}
 use Rattle.sf_block.specs.Contents.{resized, written}
-use Rattle.sf_call.specs.Tree.{Tree, Handle, Found, label_at, object_of, links, directory_metadata, directory_at, place_at, found_object, found_place, found_at, after_front, only_name, is_nil, is_empty}
-use Rattle.sf_call.specs.Tree.Found.{Nowhere, Nothing, DirectoryAt, FileAt}
+use Rattle.sf_call.specs.Tree.{Tree, Handle, FoundObject, label_at, object_of, links, directory_metadata, directory_at, look_up, found_object, found_place, found_at, after_front, only_name, is_nil, is_empty}
+use Rattle.sf_call.specs.Tree.FoundObject.{Nowhere, Nothing, DirectoryAt, FileAt}
 use Rattle.sf_call.specs.Handles.{Opened, handle_in, opened_object, opened_by, opened}
 use Rattle.sf_call.specs.Handles.Opened.{NotOpen, OpenDirectory, OpenFile}
 use Rattle.sf_call.specs.Listings.{path_of, is_past, name_past, entry_of, listed_entry, listing_of}
 use Rattle.sf_call.specs.Changes.{touch, touched}
 use Rattle.sf_call.specs.Values.{IsRequest, IsCall}
-use Rattle.sf_call.specs.Calls.{Answer, answer_to, stat, refuses_size, with_size, sets, set_stat, make_directory, remove_directory, remove_file, has_all_handles, open_directory, open_present, open_file, close, stat_opened, set_opened, read, start_of, write, lists, read_directory, unless_root, moves, opening, stamp}
+use Rattle.sf_call.specs.Calls.{Outcome, answer_to, stat, refuses_size, with_size, sets, set_stat, make_directory, remove_directory, remove_file, has_all_handles, open_directory, open_present, open_file, close, stat_opened, set_opened, read, start_of, write, lists, read_directory, unless_root, moves, opening, stamp}
 use Rattle.sf_call.proofs.RenameCases.{rename_cases, posix_rename_cases, link_cases, link_to_cases}
 use Rattle.sf_call.proofs.FittingTrees.{MetadataFits, ObjectFits, TreeFits, ChangeFits, all_made, found_value, rest_names}
 
@@ -56,10 +56,10 @@ IsShort (reply.Data bytes) = length bytes ≤ MAX_READ
 IsShort (reply.Names entries) = (length entries ≤ MAX_ENTRIES) × AllByRecursion EntryIsShort entries
 IsShort (reply.Attrs attrs) = AttrsFit attrs
 
-abbrev pub AnswerFits : Answer → Type 0
+abbrev pub AnswerFits : Outcome → Type 0
 AnswerFits answer = IsShort answer.reply × AllByRecursion ChangeFits answer.changes
 
-abbrev FoundFits : Found → Type 0
+abbrev FoundFits : FoundObject → Type 0
 FoundFits Nowhere = Unit {0}
 FoundFits Nothing = Unit {0}
 FoundFits (DirectoryAt label m) = ObjectFits (Directory m)
@@ -153,13 +153,13 @@ module _ (tree : Tree) (fits : TreeFits tree) (few : (label : ℕ) → links tre
   object_found label (Some (Directory m)) f = f
   object_found label (Some (File m contents)) f = f
 
-  place_found : (place : Place) → FoundFits (found_place tree.objects place)
+  place_found : (place : Lookup) → FoundFits (found_place tree.objects place)
   place_found NoWay = tt
   place_found Absent = tt
   place_found (At label) = object_found label (object_of tree.objects label) (there label)
 
   path_found : (path : Path) → FoundFits (found_at tree path)
-  path_found path = place_found (place_at tree path)
+  path_found path = place_found (look_up tree path)
 
   object_opened : (h : Handle) (o : Option Object) → IfSome o ObjectFits → OpenedFits (opened_object h o)
   object_opened h None f = tt
@@ -189,11 +189,11 @@ module _ (tree : Tree) (fits : TreeFits tree) (few : (label : ℕ) → links tre
   -- ---- answers
 
   module _ (session number moment : ℕ) (number_fits : number < 2 ^ 64) (moment_fits : moment < 2 ^ 32) where
-    either : (b : Bool) (this that : Answer) → AnswerFits this → AnswerFits that → AnswerFits (cond b this that)
+    either : (b : Bool) (this that : Outcome) → AnswerFits this → AnswerFits that → AnswerFits (cond b this that)
     either true this that p q = p
     either false this that p q = q
 
-    if_not : (b : Bool) (this that : Answer) → AnswerFits this → (b ≡ false → AnswerFits that) → AnswerFits (cond b this that)
+    if_not : (b : Bool) (this that : Outcome) → AnswerFits this → (b ≡ false → AnswerFits that) → AnswerFits (cond b this that)
     if_not true this that p q = p
     if_not false this that p q = q refl
 
@@ -213,7 +213,7 @@ module _ (tree : Tree) (fits : TreeFits tree) (few : (label : ℕ) → links tre
     touched_fits : (path : Path) → AllByRecursion ChangeFits (touched tree moment path)
     touched_fits path = touch_fits (directory_at tree path) (directory_fits path)
 
-    told : (found : Found) → FoundFits found → AnswerFits (stat found)
+    told : (found : FoundObject) → FoundFits found → AnswerFits (stat found)
     told Nowhere f = (tt, tt)
     told Nothing f = (tt, tt)
     told (DirectoryAt label m) f = (attrs_fit (Directory m) f, tt)
@@ -230,36 +230,36 @@ module _ (tree : Tree) (fits : TreeFits tree) (few : (label : ℕ) → links tre
     parts_set label attrs (File m contents) a f =
         if_not (refuses_size (File m contents) attrs.size) _ _ (tt, tt) (λ small. (tt, (size_set attrs attrs.size m contents a f small, tt)))
 
-    set_found : (attrs : Attrs) (found : Found) → AttrsFit attrs → FoundFits found → AnswerFits (set_stat moment attrs found)
+    set_found : (attrs : Attrs) (found : FoundObject) → AttrsFit attrs → FoundFits found → AnswerFits (set_stat moment attrs found)
     set_found attrs Nowhere a f = (tt, tt)
     set_found attrs Nothing a f = (tt, tt)
     set_found attrs (DirectoryAt label m) a f = parts_set label attrs (Directory m) a f
     set_found attrs (FileAt label m contents) a f = parts_set label attrs (File m contents) a f
 
-    made : (path : Path) (attrs : Attrs) (place : Place) → IsPath path → AttrsFit attrs → AnswerFits (make_directory tree (stamp number moment) path attrs place)
+    made : (path : Path) (attrs : Attrs) (place : Lookup) → IsPath path → AttrsFit attrs → AnswerFits (make_directory tree (stamp number moment) path attrs place)
     made path attrs NoWay p a = (tt, tt)
     made path attrs (At label) p a = (tt, tt)
     made path attrs Absent p a = (tt, ((p, made_fits 0o755 attrs a), touched_fits (parent path)))
 
-    directory_removed : (path : Path) (found : Found) → AnswerFits (remove_directory tree moment path found)
+    directory_removed : (path : Path) (found : FoundObject) → AnswerFits (remove_directory tree moment path found)
     directory_removed path Nowhere = (tt, tt)
     directory_removed path Nothing = (tt, tt)
     directory_removed path (FileAt label m contents) = (tt, tt)
     directory_removed path (DirectoryAt label m) = either (is_empty tree.names path) _ _ (tt, (tt, touched_fits (parent path))) (tt, tt)
 
-    file_removed : (path : Path) (found : Found) → AnswerFits (remove_file tree moment path found)
+    file_removed : (path : Path) (found : FoundObject) → AnswerFits (remove_file tree moment path found)
     file_removed path Nowhere = (tt, tt)
     file_removed path Nothing = (tt, tt)
     file_removed path (DirectoryAt label m) = (tt, tt)
     file_removed path (FileAt label m contents) = (tt, (tt, touched_fits (parent path)))
 
-    directory_opened : (found : Found) → AnswerFits (open_directory tree session number found)
+    directory_opened : (found : FoundObject) → AnswerFits (open_directory tree session number found)
     directory_opened Nowhere = (tt, tt)
     directory_opened Nothing = (tt, tt)
     directory_opened (FileAt label m contents) = (tt, tt)
     directory_opened (DirectoryAt label m) = either (has_all_handles tree session) _ _ (tt, tt) (number_fits, (tt, tt))
 
-    present_opened : (flags : OpenFlags) (found : Found) → FoundFits found → AnswerFits (open_present tree session (stamp number moment) flags found)
+    present_opened : (flags : OpenFlags) (found : FoundObject) → FoundFits found → AnswerFits (open_present tree session (stamp number moment) flags found)
     present_opened flags Nowhere f = (tt, tt)
     present_opened flags Nothing f = (tt, tt)
     present_opened flags (DirectoryAt label m) f = (tt, tt)
@@ -267,7 +267,7 @@ module _ (tree : Tree) (fits : TreeFits tree) (few : (label : ℕ) → links tre
         either (has_all_handles tree session) _ _ (tt, tt)
         (either (flags.truncate && flags.write) _ _ (number_fits, (tt, ((modified_fits m f.0, omega arith), tt))) (number_fits, (tt, tt)))
 
-    file_opened : (path : Path) (flags : OpenFlags) (attrs : Attrs) (place : Place) → IsPath path → AttrsFit attrs → AnswerFits (open_file tree session (stamp number moment) (opening path flags attrs) place)
+    file_opened : (path : Path) (flags : OpenFlags) (attrs : Attrs) (place : Lookup) → IsPath path → AttrsFit attrs → AnswerFits (open_file tree session (stamp number moment) (opening path flags attrs) place)
     file_opened path flags attrs NoWay p a = (tt, tt)
     file_opened path flags attrs (At label) p a =
         either (flags.create && flags.exclusive) _ _ (tt, tt)
@@ -316,18 +316,18 @@ module _ (tree : Tree) (fits : TreeFits tree) (few : (label : ℕ) → links tre
     moved_fits : (old new : Path) → IsPath new → AnswerFits (moves tree moment old new)
     moved_fits old new p = (tt, (p, all_both ChangeFits (touched tree moment (parent old)) (touched tree moment (parent new)) (touched_fits (parent old)) (touched_fits (parent new))))
 
-    rooted : (path : Path) (answer : Answer) → AnswerFits answer → AnswerFits (unless_root path answer)
+    rooted : (path : Path) (answer : Outcome) → AnswerFits answer → AnswerFits (unless_root path answer)
     rooted [] answer f = (tt, tt)
     rooted (n ∷ path) answer f = f
 
     answered : (request : Request) → IsRequest request → AnswerFits (answer_to tree session number moment request)
     answered (Stat path) r = told (found_at tree path) (path_found path)
     answered (SetStat path attrs) r = rooted path _ (set_found attrs (found_at tree path) r.1 (path_found path))
-    answered (Mkdir path attrs) r = rooted path _ (made path attrs (place_at tree path) r.0 r.1)
+    answered (Mkdir path attrs) r = rooted path _ (made path attrs (look_up tree path) r.0 r.1)
     answered (Rmdir path) r = rooted path _ (directory_removed path (found_at tree path))
     answered (Remove path) r = rooted path _ (file_removed path (found_at tree path))
     answered (OpenDir path) r = directory_opened (found_at tree path)
-    answered (Open path flags attrs) r = rooted path _ (file_opened path flags attrs (place_at tree path) r.0 r.1)
+    answered (Open path flags attrs) r = rooted path _ (file_opened path flags attrs (look_up tree path) r.0 r.1)
     answered (Close handle) r = closed handle (handle_in tree session handle)
     answered (FStat handle) r = told_opened (opened tree session handle) (handle_opened (handle_in tree session handle))
     answered (FSetStat handle attrs) r = set_by_handle attrs (opened tree session handle) r.1 (handle_opened (handle_in tree session handle))
@@ -338,7 +338,7 @@ module _ (tree : Tree) (fits : TreeFits tree) (few : (label : ℕ) → links tre
     answered (PosixRename old new) r = posix_rename_cases AnswerFits (λ code. (tt, tt)) (tt, tt) tree moment old new (λ _ _. moved_fits old new r.1) session number
     answered (Link old new) r =
         link_cases AnswerFits (λ code. (tt, tt)) tree moment old new
-        (λ label _ _ _. link_to_cases AnswerFits (λ code. (tt, tt)) tree moment new label (place_at tree new) refl (λ _ _. (tt, (r.1, touched_fits (parent new))))) session number
+        (λ label _ _ _. link_to_cases AnswerFits (λ code. (tt, tt)) tree moment new label (look_up tree new) refl (λ _ _. (tt, (r.1, touched_fits (parent new))))) session number
 
 -- the answer to a call
 pub answer_fits : (tree : Tree) (session number moment : ℕ) (request : Request) → TreeFits tree → ((label : ℕ) → links tree.names label ≤ MAX_LINKS) → IsCall number session moment request → AnswerFits (answer_to tree session number moment request)

@@ -20,7 +20,7 @@ use Rattle.sf_call.specs.Changes.{Change, changed}
 use Rattle.sf_call.specs.Changes.Change.{SetObject, NewPath, NewName, GonePath, Move, OpenHandle, SetHandle, CloseHandle}
 use Rattle.sf_call.specs.declared.metadata.FileType.TheVariants as file_type
 use Rattle.sf_call.specs.Moves.{moved}
-use Rattle.sf_call.specs.Allowed.{kind_of, IsSetRightly, IsNewName, IsMove, MayChange}
+use Rattle.sf_call.specs.Allowed.{file_type_of, IsSetRightly, IsNewName, IsMove, MayChange}
 use Rattle.sf_call.proofs.Orders.{exact_paths, find_is}
 use Rattle.sf_call.proofs.Ordered.{put_is}
 use Rattle.sf_call.proofs.LookUps.{found_removed, other_removed}
@@ -51,7 +51,7 @@ is_file None = false
 is_file (Some (Directory m)) = false
 is_file (Some (File m contents)) = true
 
-file_of_kind : (o : Option Object) → option_map kind_of o ≡ Some file_type.File → is_file o ≡ true
+file_of_kind : (o : Option Object) → option_map file_type_of o ≡ Some file_type.File → is_file o ≡ true
 file_of_kind None e = cc
 file_of_kind (Some (Directory m)) e = cc
 file_of_kind (Some (File m contents)) e = refl
@@ -174,14 +174,14 @@ module _ (tree : Tree) (path : Path) (number : ℕ) (may : IsNewName tree path n
       (λ e _ k. cc)
       refl (sym (is_directory_is tree q) ∙ h)
 
-  file_there : (o : Option Object) → option_map kind_of o ≡ Some file_type.File → is_some o ≡ true
+  file_there : (o : Option Object) → option_map file_type_of o ≡ Some file_type.File → is_some o ≡ true
   file_there None e = cc
   file_there (Some o) e = refl
 
   name_founded : IsFounded tree → IsFounded named_anew
   name_founded f = record {
     object = λ q label e. elim (same_path q path) as (λ b. cond b (Some number) (label_at tree.names q) ≡ Some label → is_some (object_of tree.objects label) ≡ true) [
-      | true ↦ λ k. let is : number ≡ label = cc in file_there (object_of tree.objects label) (ap (λ (l : ℕ). option_map kind_of (object_of tree.objects l)) (sym is) ∙ may.of_file)
+      | true ↦ λ k. let is : number ≡ label = cc in file_there (object_of tree.objects label) (ap (λ (l : ℕ). option_map file_type_of (object_of tree.objects l)) (sym is) ∙ may.of_file)
       | false ↦ λ k. f.object q label k
     ] (sym (lookup-insert_entry tree.names path number q) ∙ e);
     way = λ q label e. way_stays tree named_anew name_keeps q

@@ -11,29 +11,29 @@ use Rattle.sf_call.specs.Histories.{after_reply}
 use Rattle.sf_call.specs.declared.limits.TheConstants.{MAX_FILE_SIZE}
 use Rattle.sf_call.specs.declared.request.Request.{Request}
 use Rattle.sf_call.specs.declared.request.Request.TheVariants.{Stat, SetStat, Mkdir, Rmdir, Remove, OpenDir, Open, Close, FStat, FSetStat, Read, Write, ReadDir, Rename, PosixRename, Link}
-use Rattle.sf_call.specs.declared.place.Place.{Place}
-use Rattle.sf_call.specs.declared.place.Place.TheVariants.{NoWay, Absent, At}
+use Rattle.sf_call.specs.declared.lookup.Lookup.{Lookup}
+use Rattle.sf_call.specs.declared.lookup.Lookup.TheVariants.{NoWay, Absent, At}
 use Rattle.sf_call.specs.Attributes.{Object}
 use Rattle.sf_call.specs.Attributes.Object.{Directory, File}
-use Rattle.sf_call.specs.Tree.{Tree, Handle, Found, place_at, found_at, found_object, object_of, is_empty, is_nil}
-use Rattle.sf_call.specs.Tree.Found.{Nowhere, Nothing, DirectoryAt, FileAt}
+use Rattle.sf_call.specs.Tree.{Tree, Handle, FoundObject, look_up, found_at, found_object, object_of, is_empty, is_nil}
+use Rattle.sf_call.specs.Tree.FoundObject.{Nowhere, Nothing, DirectoryAt, FileAt}
 use Rattle.sf_call.specs.Handles.{Opened, handle_in, opened}
 use Rattle.sf_call.specs.Handles.Opened.{NotOpen, OpenDirectory, OpenFile}
 use Rattle.sf_call.specs.Listings.{path_of, listing_of}
-use Rattle.sf_call.specs.Calls.{Answer, apply, stat, refuses_size, sets, set_stat, make_directory, remove_directory, remove_file, has_all_handles, open_directory, open_present, open_file, close, stat_opened, set_opened, read, start_of, write, lists, read_directory, unless_root, opening, stamp}
+use Rattle.sf_call.specs.Calls.{Outcome, apply, stat, refuses_size, sets, set_stat, make_directory, remove_directory, remove_file, has_all_handles, open_directory, open_present, open_file, close, stat_opened, set_opened, read, start_of, write, lists, read_directory, unless_root, opening, stamp}
 use Rattle.sf_call.specs.ReplyKinds.{IsStatus, IsStatusOrAttrs, IsStatusOrHandle, IsStatusOrData, IsStatusOrNames, IsReplyTo}
 use Rattle.sf_call.proofs.RenameCases.{rename_cases, posix_rename_cases, link_cases, link_to_cases}
 
 -- a choice of two replies of a kind is of the kind
-choice : (Kind : Reply → Type 0) (b : Bool) (this that : Answer) → Kind this.reply → Kind that.reply → Kind (cond b this that).reply
+choice : (Kind : Reply → Type 0) (b : Bool) (this that : Outcome) → Kind this.reply → Kind that.reply → Kind (cond b this that).reply
 choice Kind true this that p q = p
 choice Kind false this that p q = q
 
-rooted : (Kind : Reply → Type 0) (path : Path) (answer : Answer) → Kind (unless_root [] answer).reply → Kind answer.reply → Kind (unless_root path answer).reply
+rooted : (Kind : Reply → Type 0) (path : Path) (answer : Outcome) → Kind (unless_root [] answer).reply → Kind answer.reply → Kind (unless_root path answer).reply
 rooted Kind [] answer p q = p
 rooted Kind (n ∷ path) answer p q = q
 
-told : (found : Found) → IsStatusOrAttrs (stat found).reply
+told : (found : FoundObject) → IsStatusOrAttrs (stat found).reply
 told Nowhere = tt
 told Nothing = tt
 told (DirectoryAt label m) = record { size = refl; owner = refl; permissions = refl; times = refl }
@@ -47,7 +47,7 @@ told_opened (OpenFile h m contents) = record { size = refl; owner = refl; permis
 parts_set : (moment label : ℕ) (attrs : Attrs) (object : Object) → IsStatus (sets moment label attrs object).reply
 parts_set moment label attrs object = choice IsStatus (refuses_size object attrs.size) _ _ tt tt
 
-set_found : (moment : ℕ) (attrs : Attrs) (found : Found) → IsStatus (set_stat moment attrs found).reply
+set_found : (moment : ℕ) (attrs : Attrs) (found : FoundObject) → IsStatus (set_stat moment attrs found).reply
 set_found moment attrs Nowhere = tt
 set_found moment attrs Nothing = tt
 set_found moment attrs (DirectoryAt label m) = parts_set moment label attrs (Directory m)
@@ -58,37 +58,37 @@ set_by_handle moment attrs NotOpen = tt
 set_by_handle moment attrs (OpenDirectory h m) = choice IsStatus (nat_eq h.label 0) _ _ tt (parts_set moment h.label attrs (Directory m))
 set_by_handle moment attrs (OpenFile h m contents) = choice IsStatus (is_some attrs.size && not h.write) _ _ tt (parts_set moment h.label attrs (File m contents))
 
-made : (tree : Tree) (number moment : ℕ) (path : Path) (attrs : Attrs) (place : Place) → IsStatus (make_directory tree (stamp number moment) path attrs place).reply
+made : (tree : Tree) (number moment : ℕ) (path : Path) (attrs : Attrs) (place : Lookup) → IsStatus (make_directory tree (stamp number moment) path attrs place).reply
 made tree number moment path attrs NoWay = tt
 made tree number moment path attrs (At label) = tt
 made tree number moment path attrs Absent = tt
 
-directory_removed : (tree : Tree) (moment : ℕ) (path : Path) (found : Found) → IsStatus (remove_directory tree moment path found).reply
+directory_removed : (tree : Tree) (moment : ℕ) (path : Path) (found : FoundObject) → IsStatus (remove_directory tree moment path found).reply
 directory_removed tree moment path Nowhere = tt
 directory_removed tree moment path Nothing = tt
 directory_removed tree moment path (FileAt label m contents) = tt
 directory_removed tree moment path (DirectoryAt label m) = choice IsStatus (is_empty tree.names path) _ _ tt tt
 
-file_removed : (tree : Tree) (moment : ℕ) (path : Path) (found : Found) → IsStatus (remove_file tree moment path found).reply
+file_removed : (tree : Tree) (moment : ℕ) (path : Path) (found : FoundObject) → IsStatus (remove_file tree moment path found).reply
 file_removed tree moment path Nowhere = tt
 file_removed tree moment path Nothing = tt
 file_removed tree moment path (DirectoryAt label m) = tt
 file_removed tree moment path (FileAt label m contents) = tt
 
-directory_opened : (tree : Tree) (session number : ℕ) (found : Found) → IsStatusOrHandle number (open_directory tree session number found).reply
+directory_opened : (tree : Tree) (session number : ℕ) (found : FoundObject) → IsStatusOrHandle number (open_directory tree session number found).reply
 directory_opened tree session number Nowhere = tt
 directory_opened tree session number Nothing = tt
 directory_opened tree session number (FileAt label m contents) = tt
 directory_opened tree session number (DirectoryAt label m) = choice (IsStatusOrHandle number) (has_all_handles tree session) _ _ tt refl
 
-present_opened : (tree : Tree) (session number moment : ℕ) (flags : OpenFlags) (found : Found) → IsStatusOrHandle number (open_present tree session (stamp number moment) flags found).reply
+present_opened : (tree : Tree) (session number moment : ℕ) (flags : OpenFlags) (found : FoundObject) → IsStatusOrHandle number (open_present tree session (stamp number moment) flags found).reply
 present_opened tree session number moment flags Nowhere = tt
 present_opened tree session number moment flags Nothing = tt
 present_opened tree session number moment flags (DirectoryAt label m) = tt
 present_opened tree session number moment flags (FileAt label m contents) =
     choice (IsStatusOrHandle number) (has_all_handles tree session) _ _ tt (choice (IsStatusOrHandle number) (flags.truncate && flags.write) _ _ refl refl)
 
-file_opened : (tree : Tree) (session number moment : ℕ) (path : Path) (flags : OpenFlags) (attrs : Attrs) (place : Place) → IsStatusOrHandle number (open_file tree session (stamp number moment) (opening path flags attrs) place).reply
+file_opened : (tree : Tree) (session number moment : ℕ) (path : Path) (flags : OpenFlags) (attrs : Attrs) (place : Lookup) → IsStatusOrHandle number (open_file tree session (stamp number moment) (opening path flags attrs) place).reply
 file_opened tree session number moment path flags attrs NoWay = tt
 file_opened tree session number moment path flags attrs (At label) =
     choice (IsStatusOrHandle number) (flags.create && flags.exclusive) _ _ tt (present_opened tree session number moment flags (found_object label (object_of tree.objects label)))
@@ -123,11 +123,11 @@ directory_read tree number (OpenDirectory h m) = listed number h (listing_of tre
 pub applied : (tree : Tree) (session number moment : ℕ) (request : Request) → IsReplyTo number request (apply tree session number moment request).reply
 applied tree session number moment (Stat path) = told (found_at tree path)
 applied tree session number moment (SetStat path attrs) = rooted IsStatus path _ tt (set_found moment attrs (found_at tree path))
-applied tree session number moment (Mkdir path attrs) = rooted IsStatus path _ tt (made tree number moment path attrs (place_at tree path))
+applied tree session number moment (Mkdir path attrs) = rooted IsStatus path _ tt (made tree number moment path attrs (look_up tree path))
 applied tree session number moment (Rmdir path) = rooted IsStatus path _ tt (directory_removed tree moment path (found_at tree path))
 applied tree session number moment (Remove path) = rooted IsStatus path _ tt (file_removed tree moment path (found_at tree path))
 applied tree session number moment (OpenDir path) = directory_opened tree session number (found_at tree path)
-applied tree session number moment (Open path flags attrs) = rooted (IsStatusOrHandle number) path _ tt (file_opened tree session number moment path flags attrs (place_at tree path))
+applied tree session number moment (Open path flags attrs) = rooted (IsStatusOrHandle number) path _ tt (file_opened tree session number moment path flags attrs (look_up tree path))
 applied tree session number moment (Close handle) = closed handle (handle_in tree session handle)
 applied tree session number moment (FStat handle) = told_opened (opened tree session handle)
 applied tree session number moment (FSetStat handle attrs) = set_by_handle moment attrs (opened tree session handle)
@@ -138,7 +138,7 @@ applied tree session number moment (Rename old new) = rename_cases (λ answer. I
 applied tree session number moment (PosixRename old new) = posix_rename_cases (λ answer. IsStatus answer.reply) (λ code. tt) tt tree moment old new (λ _ _. tt) session number
 applied tree session number moment (Link old new) =
     link_cases (λ answer. IsStatus answer.reply) (λ code. tt) tree moment old new
-    (λ label _ _ _. link_to_cases (λ answer. IsStatus answer.reply) (λ code. tt) tree moment new label (place_at tree new) refl (λ _ _. tt)) session number
+    (λ label _ _ _. link_to_cases (λ answer. IsStatus answer.reply) (λ code. tt) tree moment new label (look_up tree new) refl (λ _ _. tt)) session number
 
 pub never_refused : (number : ℕ) (request : Request) → IsReplyTo number request reply.NoMemory → ⊥
 never_refused number (Stat path) k = k

@@ -20,7 +20,7 @@ use Rattle.sf_call.specs.Changes.Change.{SetObject, NewPath, NewName, GonePath, 
 use Rattle.sf_call.specs.Moves.{moved}
 use Rattle.sf_call.specs.declared.handle.Handle.{Handle}
 use Rattle.sf_call.specs.declared.metadata.FileType.TheVariants as file_type
-use Rattle.sf_call.specs.Allowed.{kind_of, MayChange}
+use Rattle.sf_call.specs.Allowed.{file_type_of, MayChange}
 use Rattle.sf_call.proofs.Orders.{exact_paths}
 use Rattle.sf_call.proofs.LookUps.{lookup-put, other_put, none_set, none_removed, none_filtered, found_removed}
 use Rattle.sf_call.proofs.ObjectKinds.{kinds_set, directory_by_kind, no_directory}
@@ -127,8 +127,8 @@ labelled_changed Free number taken tree (NewPath new_path new_label object) may 
 }
 labelled_changed Free number taken tree (NewName new_path new_label) may o h = record {
   unused = λ n free path e. elim (there tree.names new_path new_label path n e) [
-    | inl z ↦ let some : option_map kind_of (object_of tree.objects n) ≡ Some file_type.File = ap (λ (l : ℕ). option_map kind_of (object_of tree.objects l)) z.1 ∙ may.of_file in
-        let none : option_map kind_of (object_of tree.objects n) ≡ None = ap (option_map kind_of) (h.no_object n free) in cc
+    | inl z ↦ let some : option_map file_type_of (object_of tree.objects n) ≡ Some file_type.File = ap (λ (l : ℕ). option_map file_type_of (object_of tree.objects l)) z.1 ∙ may.of_file in
+        let none : option_map file_type_of (object_of tree.objects n) ≡ None = ap (option_map file_type_of) (h.no_object n free) in cc
     | inr f ↦ h.unused n free path f
   ];
   no_object = h.no_object;

@@ -7,27 +7,27 @@ use Rattle.sf_call.specs.declared.metadata.FileType.TheVariants as file_type
 use Rattle.sf_call.specs.Attributes.{Object}
 use Rattle.sf_call.specs.Attributes.Object.{Directory, File}
 use Rattle.sf_call.specs.Tree.{object_of, is_directory_object}
-use Rattle.sf_call.specs.Allowed.{kind_of}
+use Rattle.sf_call.specs.Allowed.{file_type_of}
 
 -- a set object keeps the kinds of all
-pub kinds_set : (objects : List (ℕ × Object)) (label l : ℕ) (object : Object) → option_map kind_of (object_of objects label) ≡ Some (kind_of object)
-    → option_map kind_of (object_of (set_value (is_at (nat_cmp label)) objects object) l) ≡ option_map kind_of (object_of objects l)
+pub kinds_set : (objects : List (ℕ × Object)) (label l : ℕ) (object : Object) → option_map file_type_of (object_of objects label) ≡ Some (file_type_of object)
+    → option_map file_type_of (object_of (set_value (is_at (nat_cmp label)) objects object) l) ≡ option_map file_type_of (object_of objects l)
 kinds_set [] label l object right = refl
 kinds_set (e ∷ es) label l object right =
-    elim (is_at (nat_cmp label) e.0) as (λ b. option_map kind_of (cond b (Some e.1) (object_of es label)) ≡ Some (kind_of object)
-    → option_map kind_of (object_of (cond b ((e.0, object) ∷ es) (e ∷ set_value (is_at (nat_cmp label)) es object)) l) ≡ option_map kind_of (cond (is_at (nat_cmp l) e.0) (Some e.1) (object_of es l))) [
-      | true ↦ λ here. elim (is_at (nat_cmp l) e.0) as (λ b. option_map kind_of (cond b (Some object) (object_of es l)) ≡ option_map kind_of (cond b (Some e.1) (object_of es l))) [
+    elim (is_at (nat_cmp label) e.0) as (λ b. option_map file_type_of (cond b (Some e.1) (object_of es label)) ≡ Some (file_type_of object)
+    → option_map file_type_of (object_of (cond b ((e.0, object) ∷ es) (e ∷ set_value (is_at (nat_cmp label)) es object)) l) ≡ option_map file_type_of (cond (is_at (nat_cmp l) e.0) (Some e.1) (object_of es l))) [
+      | true ↦ λ here. elim (is_at (nat_cmp l) e.0) as (λ b. option_map file_type_of (cond b (Some object) (object_of es l)) ≡ option_map file_type_of (cond b (Some e.1) (object_of es l))) [
         | true ↦ sym here
         | false ↦ refl
       ]
-      | false ↦ λ later. elim (is_at (nat_cmp l) e.0) as (λ b. option_map kind_of (cond b (Some e.1) (object_of (set_value (is_at (nat_cmp label)) es object) l)) ≡ option_map kind_of (cond b (Some e.1) (object_of es l))) [
+      | false ↦ λ later. elim (is_at (nat_cmp l) e.0) as (λ b. option_map file_type_of (cond b (Some e.1) (object_of (set_value (is_at (nat_cmp label)) es object) l)) ≡ option_map file_type_of (cond b (Some e.1) (object_of es l))) [
         | true ↦ refl
         | false ↦ kinds_set es label l object later
       ]
     ] right
 
 -- objects of one kind are directories or not
-pub directory_by_kind : (o p : Option Object) → option_map kind_of o ≡ option_map kind_of p → is_directory_object o ≡ is_directory_object p
+pub directory_by_kind : (o p : Option Object) → option_map file_type_of o ≡ option_map file_type_of p → is_directory_object o ≡ is_directory_object p
 directory_by_kind None None e = refl
 directory_by_kind None (Some p) e = cc
 directory_by_kind (Some o) None e = cc
@@ -37,7 +37,7 @@ directory_by_kind (Some (File m contents)) (Some (Directory n)) e = cc
 directory_by_kind (Some (File m contents)) (Some (File n bytes)) e = refl
 
 -- a file is none
-pub no_directory : (o : Option Object) → option_map kind_of o ≡ Some file_type.File → is_directory_object o ≡ false
+pub no_directory : (o : Option Object) → option_map file_type_of o ≡ Some file_type.File → is_directory_object o ≡ false
 no_directory None e = cc
 no_directory (Some (Directory m)) e = cc
 no_directory (Some (File m contents)) e = refl

@@ -6,18 +6,18 @@ use Rattle.sf_path.specs.Order.{same_path, parent}
 use Rattle.sf_reply.specs.declared.reply.StatusCode.{StatusCode}
 use Rattle.sf_reply.specs.declared.reply.StatusCode.TheVariants.{NoSuchFile, Failure}
 use Rattle.sf_call.specs.declared.limits.TheConstants.{MAX_LINKS}
-use Rattle.sf_call.specs.declared.place.Place.{Place}
-use Rattle.sf_call.specs.declared.place.Place.TheVariants.{NoWay, Absent, At}
+use Rattle.sf_call.specs.declared.lookup.Lookup.{Lookup}
+use Rattle.sf_call.specs.declared.lookup.Lookup.TheVariants.{NoWay, Absent, At}
 use Rattle.sf_call.specs.declared.request.Request.TheVariants.{Rename, PosixRename, Link}
 use Rattle.sf_call.specs.declared.metadata.Metadata.{Metadata}
-use Rattle.sf_call.specs.Tree.{Tree, Found, after_front, links, place_at, found_at, is_directory, is_empty}
-use Rattle.sf_call.specs.Tree.Found.{Nowhere, Nothing, DirectoryAt, FileAt}
+use Rattle.sf_call.specs.Tree.{Tree, FoundObject, after_front, links, look_up, found_at, is_directory, is_empty}
+use Rattle.sf_call.specs.Tree.FoundObject.{Nowhere, Nothing, DirectoryAt, FileAt}
 use Rattle.sf_call.specs.Changes.{touched}
 use Rattle.sf_call.specs.Changes.Change.{NewName}
-use Rattle.sf_call.specs.Calls.{Answer, answer_to, refuses, succeeds, moves, unless_nested, unless_root, rename_to, rename, replace_by, posix_rename, link_to, link}
+use Rattle.sf_call.specs.Calls.{Outcome, answer_to, refuses, succeeds, moves, unless_nested, unless_root, rename_to, rename, replace_by, posix_rename, link_to, link}
 
 -- what holds of an answer unless one path begins with the other
-pub apart : (P : Answer → Type 0) (old new : Path) (answer : Answer) → P (refuses Failure)
+pub apart : (P : Outcome → Type 0) (old new : Path) (answer : Outcome) → P (refuses Failure)
     → (after_front old new ≡ None → after_front new old ≡ None → P answer) → P (unless_nested old new answer)
 apart P old new answer refused right =
     elim (after_front old new) as (λ o. after_front old new ≡ o → P (cond (is_some o || is_some (after_front new old)) (refuses Failure) answer)) [
@@ -28,33 +28,33 @@ apart P old new answer refused right =
       ] refl
     ] refl
 
-module _ (P : Answer → Type 0) (refused : (code : StatusCode) → P (refuses code)) (idle : P (succeeds [])) (tree : Tree) (moment : ℕ) (old new : Path)
+module _ (P : Outcome → Type 0) (refused : (code : StatusCode) → P (refuses code)) (idle : P (succeeds [])) (tree : Tree) (moment : ℕ) (old new : Path)
     (moved : after_front old new ≡ None → after_front new old ≡ None → P (moves tree moment old new)) where
-  either : (b : Bool) (this that : Answer) → P this → P that → P (cond b this that)
+  either : (b : Bool) (this that : Outcome) → P this → P that → P (cond b this that)
   either true this that p q = p
   either false this that p q = q
 
-  rooted : (path : Path) (answer : Answer) → P answer → P (unless_root path answer)
+  rooted : (path : Path) (answer : Outcome) → P answer → P (unless_root path answer)
   rooted [] answer p = refused Failure
   rooted (n ∷ path) answer p = p
 
-  moved_to : (place : Place) → P (moves tree moment old new) → P (rename_to tree moment old new place)
+  moved_to : (place : Lookup) → P (moves tree moment old new) → P (rename_to tree moment old new place)
   moved_to NoWay p = refused NoSuchFile
   moved_to (At label) p = refused Failure
   moved_to Absent p = p
 
-  renamed : (place : Place) → P (rename tree moment old new place)
+  renamed : (place : Lookup) → P (rename tree moment old new place)
   renamed NoWay = refused NoSuchFile
   renamed Absent = refused NoSuchFile
-  renamed (At label) = apart P old new _ (refused Failure) (λ not_inside not_around. moved_to (place_at tree new) (moved not_inside not_around))
+  renamed (At label) = apart P old new _ (refused Failure) (λ not_inside not_around. moved_to (look_up tree new) (moved not_inside not_around))
 
-  replaced : (label : ℕ) (found : Found) → P (moves tree moment old new) → P (replace_by tree moment old new label found)
+  replaced : (label : ℕ) (found : FoundObject) → P (moves tree moment old new) → P (replace_by tree moment old new label found)
   replaced label Nowhere p = refused NoSuchFile
   replaced label Nothing p = p
   replaced label (DirectoryAt at m) p = either (is_directory tree old && is_empty tree.names new) _ _ p (refused Failure)
   replaced label (FileAt at m contents) p = either (nat_eq label at) _ _ idle (either (is_directory tree old) _ _ (refused Failure) p)
 
-  posix_renamed : (place : Place) → P (posix_rename tree moment old new place)
+  posix_renamed : (place : Lookup) → P (posix_rename tree moment old new place)
   posix_renamed NoWay = refused NoSuchFile
   posix_renamed Absent = refused NoSuchFile
   posix_renamed (At label) =
@@ -62,20 +62,20 @@ module _ (P : Answer → Type 0) (refused : (code : StatusCode) → P (refuses c
       (apart P old new _ (refused Failure) (λ not_inside not_around. replaced label (found_at tree new) (moved not_inside not_around)))
 
   pub rename_cases : (session number : ℕ) → P (answer_to tree session number moment (Rename old new))
-  rename_cases session number = rooted old _ (rooted new _ (renamed (place_at tree old)))
+  rename_cases session number = rooted old _ (rooted new _ (renamed (look_up tree old)))
 
   pub posix_rename_cases : (session number : ℕ) → P (answer_to tree session number moment (PosixRename old new))
-  posix_rename_cases session number = rooted old _ (rooted new _ (posix_renamed (place_at tree old)))
+  posix_rename_cases session number = rooted old _ (rooted new _ (posix_renamed (look_up tree old)))
 
-module _ (P : Answer → Type 0) (refused : (code : StatusCode) → P (refuses code)) (tree : Tree) (moment : ℕ) (old new : Path)
-    (linked : (label : ℕ) (m : Metadata) (contents : List ℕ) → found_at tree old ≡ FileAt label m contents → P (link_to tree moment new label (place_at tree new))) where
-  link_found : (found : Found) → found_at tree old ≡ found → P (link tree moment new found)
+module _ (P : Outcome → Type 0) (refused : (code : StatusCode) → P (refuses code)) (tree : Tree) (moment : ℕ) (old new : Path)
+    (linked : (label : ℕ) (m : Metadata) (contents : List ℕ) → found_at tree old ≡ FileAt label m contents → P (link_to tree moment new label (look_up tree new))) where
+  link_found : (found : FoundObject) → found_at tree old ≡ found → P (link tree moment new found)
   link_found Nowhere e = refused NoSuchFile
   link_found Nothing e = refused NoSuchFile
   link_found (DirectoryAt label m) e = refused Failure
   link_found (FileAt label m contents) e = linked label m contents e
 
-  if_rooted : (path : Path) (answer : Answer) → P answer → P (unless_root path answer)
+  if_rooted : (path : Path) (answer : Outcome) → P answer → P (unless_root path answer)
   if_rooted [] answer p = refused Failure
   if_rooted (n ∷ path) answer p = p
 
@@ -83,8 +83,8 @@ module _ (P : Answer → Type 0) (refused : (code : StatusCode) → P (refuses c
   link_cases session number = if_rooted old _ (if_rooted new _ (link_found (found_at tree old) refl))
 
 -- a link to a path is refused, or may be made
-pub link_to_cases : (P : Answer → Type 0) → ((code : StatusCode) → P (refuses code)) → (tree : Tree) (moment : ℕ) (new : Path) (label : ℕ) (place : Place) → place_at tree new ≡ place
-    → (place_at tree new ≡ Absent → nat_le MAX_LINKS (links tree.names label) ≡ false → P (succeeds (NewName new label ∷ touched tree moment (parent new)))) → P (link_to tree moment new label place)
+pub link_to_cases : (P : Outcome → Type 0) → ((code : StatusCode) → P (refuses code)) → (tree : Tree) (moment : ℕ) (new : Path) (label : ℕ) (place : Lookup) → look_up tree new ≡ place
+    → (look_up tree new ≡ Absent → nat_le MAX_LINKS (links tree.names label) ≡ false → P (succeeds (NewName new label ∷ touched tree moment (parent new)))) → P (link_to tree moment new label place)
 link_to_cases P refused tree moment new label NoWay e made = refused NoSuchFile
 link_to_cases P refused tree moment new label (At other) e made = refused Failure
 link_to_cases P refused tree moment new label Absent e made =

@@ -18,22 +18,22 @@ use Rattle.sf_call.specs.declared.limits.TheConstants.{MAX_FILE_SIZE, MAX_LINKS}
 use Rattle.sf_call.specs.declared.metadata.Metadata.{Metadata}
 use Rattle.sf_call.specs.declared.metadata.FileType.{FileType}
 use Rattle.sf_call.specs.declared.metadata.FileType.TheVariants as file_type
-use Rattle.sf_call.specs.declared.place.Place.{Place}
-use Rattle.sf_call.specs.declared.place.Place.TheVariants.{NoWay, Absent, At}
+use Rattle.sf_call.specs.declared.lookup.Lookup.{Lookup}
+use Rattle.sf_call.specs.declared.lookup.Lookup.TheVariants.{NoWay, Absent, At}
 use Rattle.sf_call.specs.declared.request.Request.{Request}
 use Rattle.sf_call.specs.declared.request.Request.TheVariants.{Stat, SetStat, Mkdir, Rmdir, Remove, OpenDir, Open, Close, FStat, FSetStat, Read, Write, ReadDir, Rename, PosixRename, Link}
 use Rattle.sf_call.specs.Attributes.{Object, modified_at}
 use Rattle.sf_call.specs.Attributes.Object.{Directory, File}
-use Rattle.sf_call.specs.Tree.{Tree, Handle, Found, label_at, object_of, handle_of, with_names, directory_metadata, directory_at, links, is_directory_object, is_directory, is_faulty_way, place_of, place_at, found_object, found_place, found_at, after_front, only_name, children, is_nil, is_empty}
-use Rattle.sf_call.specs.Tree.Found.{Nowhere, Nothing, DirectoryAt, FileAt}
+use Rattle.sf_call.specs.Tree.{Tree, Handle, FoundObject, label_at, object_of, handle_of, with_names, directory_metadata, directory_at, links, is_directory_object, is_directory, is_faulty_way, lookup_of, look_up, found_object, found_place, found_at, after_front, only_name, children, is_nil, is_empty}
+use Rattle.sf_call.specs.Tree.FoundObject.{Nowhere, Nothing, DirectoryAt, FileAt}
 use Rattle.sf_call.specs.Handles.{Opened, if_of, handle_in, opened_object, opened_by, opened}
 use Rattle.sf_call.specs.Handles.Opened.{NotOpen, OpenDirectory, OpenFile}
 use Rattle.sf_call.specs.Listings.{path_of, listing_of}
 use Rattle.sf_call.specs.Moves.{moved}
 use Rattle.sf_call.specs.Changes.{touch, touched, changed}
 use Rattle.sf_call.specs.Changes.Change.{SetObject, Move}
-use Rattle.sf_call.specs.Allowed.{kind_of, IsSetRightly, IsNewHandle, AreAllowed, IsMove}
-use Rattle.sf_call.specs.Calls.{Answer, answer_to, stat, refuses_size, with_size, sets, set_stat, make_directory, goes, remove_directory, remove_file, has_all_handles, open_directory, open_present, open_file, close, stat_opened, set_opened, read, start_of, write, lists, read_directory, unless_root, moves, rename_to, rename, replace_by, posix_rename, link_to, link, opening, stamp}
+use Rattle.sf_call.specs.Allowed.{file_type_of, IsSetRightly, IsNewHandle, AreAllowed, IsMove}
+use Rattle.sf_call.specs.Calls.{Outcome, answer_to, stat, refuses_size, with_size, sets, set_stat, make_directory, goes, remove_directory, remove_file, has_all_handles, open_directory, open_present, open_file, close, stat_opened, set_opened, read, start_of, write, lists, read_directory, unless_root, moves, rename_to, rename, replace_by, posix_rename, link_to, link, opening, stamp}
 use Rattle.sf_call.proofs.Ways.{open_way}
 use Rattle.sf_call.proofs.ObjectKinds.{kinds_set}
 use Rattle.sf_call.proofs.MovedNames.{same_path_is, same_name_itself, after_front-append, no_front, no_proper_front, moved_outside}
@@ -43,19 +43,19 @@ use Rattle.sf_call.proofs.LookUps.{other_put, other_removed}
 use Rattle.sf_call.proofs.Founded.{IsFounded, is_file, kept_object, is_directory_label, is_directory_is, not_both}
 
 -- the place of a path that has a label
-pub place_label : (tree : Tree) (path : Path) (label : ℕ) → place_at tree path ≡ At label → label_at tree.names path ≡ Some label
+pub place_label : (tree : Tree) (path : Path) (label : ℕ) → look_up tree path ≡ At label → label_at tree.names path ≡ Some label
 place_label tree path label e =
-    elim (is_faulty_way tree path) as (λ b. cond b NoWay (place_of (label_at tree.names path)) ≡ At label → label_at tree.names path ≡ Some label) [
+    elim (is_faulty_way tree path) as (λ b. cond b NoWay (lookup_of (label_at tree.names path)) ≡ At label → label_at tree.names path ≡ Some label) [
       | true ↦ λ k. cc
-      | false ↦ elim (label_at tree.names path) as (λ o. place_of o ≡ At label → o ≡ Some label) [ None ↦ λ k. cc | Some l ↦ λ k. let same : l ≡ label = cc in ap Some same ]
+      | false ↦ elim (label_at tree.names path) as (λ o. lookup_of o ≡ At label → o ≡ Some label) [ None ↦ λ k. cc | Some l ↦ λ k. let same : l ≡ label = cc in ap Some same ]
     ] e
 
 -- the place of a path that is free
-pub place_free : (tree : Tree) (path : Path) → place_at tree path ≡ Absent → (is_faulty_way tree path ≡ false) × (label_at tree.names path ≡ None)
+pub place_free : (tree : Tree) (path : Path) → look_up tree path ≡ Absent → (is_faulty_way tree path ≡ false) × (label_at tree.names path ≡ None)
 place_free tree path e =
-    elim (is_faulty_way tree path) as (λ b. cond b NoWay (place_of (label_at tree.names path)) ≡ Absent → (b ≡ false) × (label_at tree.names path ≡ None)) [
+    elim (is_faulty_way tree path) as (λ b. cond b NoWay (lookup_of (label_at tree.names path)) ≡ Absent → (b ≡ false) × (label_at tree.names path ≡ None)) [
       | true ↦ λ k. cc
-      | false ↦ λ k. (refl, elim (label_at tree.names path) as (λ o. place_of o ≡ Absent → o ≡ None) [ None ↦ λ _. refl | Some l ↦ λ j. cc ] k)
+      | false ↦ λ k. (refl, elim (label_at tree.names path) as (λ o. lookup_of o ≡ Absent → o ≡ None) [ None ↦ λ _. refl | Some l ↦ λ j. cc ] k)
     ] e
 
 -- a name that is there is among the children
@@ -132,13 +132,13 @@ other_parent (n ∷ path) not_root same =
 abbrev pub kind_by : Bool → FileType
 kind_by b = cond b file_type.Directory file_type.File
 
-kind_told : (o : Option Object) → is_some o ≡ true → option_map kind_of o ≡ Some (kind_by (is_directory_object o))
+kind_told : (o : Option Object) → is_some o ≡ true → option_map file_type_of o ≡ Some (kind_by (is_directory_object o))
 kind_told None some = cc
 kind_told (Some (Directory m)) some = refl
 kind_told (Some (File m contents)) some = refl
 
 pub kind_at : (tree : Tree) (path : Path) (label : ℕ) → IsSome (object_of tree.objects label) → label_at tree.names path ≡ Some label
-    → option_map kind_of (object_of tree.objects label) ≡ Some (kind_by (is_directory tree path))
+    → option_map file_type_of (object_of tree.objects label) ≡ Some (kind_by (is_directory tree path))
 kind_at tree path label some e =
     kind_told (object_of tree.objects label) some
     ∙ ap (λ b. Some (kind_by b)) (ap (is_directory_label tree.objects) (sym e) ∙ sym (is_directory_is tree path))
@@ -162,43 +162,43 @@ no_parent (n ∷ p) q none = no_proper_front (n ∷ p) (length (n ∷ p) - 1) (o
 
 module _ (tree : Tree) (number moment : ℕ) (unused : (q : Path) → label_at tree.names q ≢ Some number) (no_object : object_of tree.objects number ≡ None) (unopened : handle_of tree.handles number ≡ None) (f : IsFounded tree)
     (one : (path other : Path) (label : ℕ) → is_directory_object (object_of tree.objects label) ≡ true → label_at tree.names path ≡ Some label → label_at tree.names other ≡ Some label → path ≡ other) where
-  abbrev pub IsRight : Answer → Type 0
+  abbrev pub IsRight : Outcome → Type 0
   IsRight answer = AreAllowed number tree answer.changes
 
-  either : (b : Bool) (this that : Answer) → IsRight this → IsRight that → IsRight (cond b this that)
+  either : (b : Bool) (this that : Outcome) → IsRight this → IsRight that → IsRight (cond b this that)
   either true this that p q = p
   either false this that p q = q
 
-  either_if : (b : Bool) (this that : Answer) → (b ≡ true → IsRight this) → (b ≡ false → IsRight that) → IsRight (cond b this that)
+  either_if : (b : Bool) (this that : Outcome) → (b ≡ true → IsRight this) → (b ≡ false → IsRight that) → IsRight (cond b this that)
   either_if true this that p q = p refl
   either_if false this that p q = q refl
 
   -- a directory that stayed of its kind may be set
   touch_kinds : (t : Tree) (path : Path) (at : Option (ℕ × Metadata)) → directory_at tree path ≡ at
-      → ((label : ℕ) → label_at tree.names path ≡ Some label → option_map kind_of (object_of t.objects label) ≡ option_map kind_of (object_of tree.objects label)) → AreAllowed number t (touch moment at)
+      → ((label : ℕ) → label_at tree.names path ≡ Some label → option_map file_type_of (object_of t.objects label) ≡ option_map file_type_of (object_of tree.objects label)) → AreAllowed number t (touch moment at)
   touch_kinds t path None e same = tt
-  touch_kinds t path (Some d) e same = let there = directory_there tree path d e in (same d.0 there.0 ∙ ap (option_map kind_of) there.1, tt)
+  touch_kinds t path (Some d) e same = let there = directory_there tree path d e in (same d.0 there.0 ∙ ap (option_map file_type_of) there.1, tt)
 
   -- a directory that another change left alone may be set
   allowed_touch : (t : Tree) (path : Path) (at : Option (ℕ × Metadata)) → directory_at tree path ≡ at
       → ((label : ℕ) → label_at tree.names path ≡ Some label → object_of t.objects label ≡ object_of tree.objects label) → AreAllowed number t (touch moment at)
-  allowed_touch t path at e same = touch_kinds t path at e (λ label named. ap (option_map kind_of) (same label named))
+  allowed_touch t path at e same = touch_kinds t path at e (λ label named. ap (option_map file_type_of) (same label named))
 
   new_leaves : (path : Path) (object : Object) (label : ℕ) → label_at tree.names path ≡ Some label → object_of (insert_entry nat_cmp tree.objects number object) label ≡ object_of tree.objects label
   new_leaves path object label e = other_put nat_cmp nat_cmp-IsAntisymmetric nat_cmp_total tree.objects number object label (λ same. unused path (e ∙ ap Some same))
 
-  found_stat : (found : Found) → IsRight (stat found)
+  found_stat : (found : FoundObject) → IsRight (stat found)
   found_stat Nowhere = tt
   found_stat Nothing = tt
   found_stat (DirectoryAt label m) = tt
   found_stat (FileAt label m contents) = tt
 
   sized : (label : ℕ) (attrs : Attrs) (size : Option ℕ) (m : Metadata) (contents : List ℕ) → object_of tree.objects label ≡ Some (File m contents) → IsSetRightly tree label (with_size moment attrs size m contents)
-  sized label attrs None m contents e = ap (option_map kind_of) e
-  sized label attrs (Some size) m contents e = ap (option_map kind_of) e
+  sized label attrs None m contents e = ap (option_map file_type_of) e
+  sized label attrs (Some size) m contents e = ap (option_map file_type_of) e
 
   parts_set : (label : ℕ) (attrs : Attrs) (object : Object) → object_of tree.objects label ≡ Some object → IsRight (sets moment label attrs object)
-  parts_set label attrs (Directory m) e = either (refuses_size (Directory m) attrs.size) _ _ tt (ap (option_map kind_of) e, tt)
+  parts_set label attrs (Directory m) e = either (refuses_size (Directory m) attrs.size) _ _ tt (ap (option_map file_type_of) e, tt)
   parts_set label attrs (File m contents) e = either (refuses_size (File m contents) attrs.size) _ _ tt (sized label attrs attrs.size m contents e, tt)
 
   set_object : (attrs : Attrs) (label : ℕ) (o : Option Object) → object_of tree.objects label ≡ o → IsRight (set_stat moment attrs (found_object label o))
@@ -206,12 +206,12 @@ module _ (tree : Tree) (number moment : ℕ) (unused : (q : Path) → label_at t
   set_object attrs label (Some (Directory m)) e = parts_set label attrs (Directory m) e
   set_object attrs label (Some (File m contents)) e = parts_set label attrs (File m contents) e
 
-  set_place : (attrs : Attrs) (place : Place) → IsRight (set_stat moment attrs (found_place tree.objects place))
+  set_place : (attrs : Attrs) (place : Lookup) → IsRight (set_stat moment attrs (found_place tree.objects place))
   set_place attrs NoWay = tt
   set_place attrs Absent = tt
   set_place attrs (At label) = set_object attrs label (object_of tree.objects label) refl
 
-  made : (path : Path) (attrs : Attrs) (place : Place) → place_at tree path ≡ place → IsRight (make_directory tree (stamp number moment) path attrs place)
+  made : (path : Path) (attrs : Attrs) (place : Lookup) → look_up tree path ≡ place → IsRight (make_directory tree (stamp number moment) path attrs place)
   made path attrs NoWay e = tt
   made path attrs (At label) e = tt
   made path attrs Absent e =
@@ -239,7 +239,7 @@ module _ (tree : Tree) (number moment : ℕ) (unused : (q : Path) → label_at t
       let directory : is_directory_label tree.objects (Some at) ≡ true = ap (is_directory_label tree.objects) (sym here) ∙ sym (is_directory_is tree path) ∙ front_directory tree path name rest label f e in
       file_is_none (object_of tree.objects at) file directory
 
-  directory_removed : (path : Path) → path ≢ [] → (place : Place) → place_at tree path ≡ place → IsRight (remove_directory tree moment path (found_place tree.objects place))
+  directory_removed : (path : Path) → path ≢ [] → (place : Lookup) → look_up tree path ≡ place → IsRight (remove_directory tree moment path (found_place tree.objects place))
   directory_removed path not_root NoWay e = tt
   directory_removed path not_root Absent e = tt
   directory_removed path not_root (At label) e = removed_object (object_of tree.objects label) where
@@ -251,7 +251,7 @@ module _ (tree : Tree) (number moment : ℕ) (unused : (q : Path) → label_at t
         (λ none. gone path not_root (λ name rest. label_or_none (label_at tree.names (path ++ name ∷ rest)) (λ l there. below_empty path none name rest l there)))
         (λ some. tt)
 
-  file_removed : (path : Path) → path ≢ [] → (place : Place) → place_at tree path ≡ place → IsRight (remove_file tree moment path (found_place tree.objects place))
+  file_removed : (path : Path) → path ≢ [] → (place : Lookup) → look_up tree path ≡ place → IsRight (remove_file tree moment path (found_place tree.objects place))
   file_removed path not_root NoWay e = tt
   file_removed path not_root Absent e = tt
   file_removed path not_root (At label) e = removed_object (object_of tree.objects label) refl where
@@ -264,7 +264,7 @@ module _ (tree : Tree) (number moment : ℕ) (unused : (q : Path) → label_at t
   new_handle : IsNewHandle number tree number
   new_handle = record { is_number = refl; free = unopened }
 
-  directory_opened : (session : ℕ) (found : Found) → IsRight (open_directory tree session number found)
+  directory_opened : (session : ℕ) (found : FoundObject) → IsRight (open_directory tree session number found)
   directory_opened session Nowhere = tt
   directory_opened session Nothing = tt
   directory_opened session (FileAt label m contents) = tt
@@ -274,9 +274,9 @@ module _ (tree : Tree) (number moment : ℕ) (unused : (q : Path) → label_at t
   present_opened session flags label None e = tt
   present_opened session flags label (Some (Directory m)) e = tt
   present_opened session flags label (Some (File m contents)) e =
-      either (has_all_handles tree session) _ _ tt (either (flags.truncate && flags.write) _ _ (new_handle, (ap (option_map kind_of) e, tt)) (new_handle, tt))
+      either (has_all_handles tree session) _ _ tt (either (flags.truncate && flags.write) _ _ (new_handle, (ap (option_map file_type_of) e, tt)) (new_handle, tt))
 
-  file_opened : (session : ℕ) (path : Path) (flags : OpenFlags) (attrs : Attrs) (place : Place) → place_at tree path ≡ place → IsRight (open_file tree session (stamp number moment) (opening path flags attrs) place)
+  file_opened : (session : ℕ) (path : Path) (flags : OpenFlags) (attrs : Attrs) (place : Lookup) → look_up tree path ≡ place → IsRight (open_file tree session (stamp number moment) (opening path flags attrs) place)
   file_opened session path flags attrs NoWay e = tt
   file_opened session path flags attrs (At label) e =
       either (flags.create && flags.exclusive) _ _ tt (present_opened session flags label (object_of tree.objects label) refl)
@@ -313,7 +313,7 @@ module _ (tree : Tree) (number moment : ℕ) (unused : (q : Path) → label_at t
   written_object offset bytes h (Some (Directory m)) e = tt
   written_object offset bytes h (Some (File m contents)) e =
       either (not h.write) _ _ tt (either (is_nil bytes) _ _ tt
-      (either (nat_lt MAX_FILE_SIZE (start_of h contents offset + length bytes)) _ _ tt (ap (option_map kind_of) e, tt)))
+      (either (nat_lt MAX_FILE_SIZE (start_of h contents offset + length bytes)) _ _ tt (ap (option_map file_type_of) e, tt)))
 
   was_written : (offset : ℕ) (bytes : List ℕ) (o : Option Handle) → IsRight (write moment offset bytes (opened_by tree o))
   was_written offset bytes None = tt
@@ -332,27 +332,27 @@ module _ (tree : Tree) (number moment : ℕ) (unused : (q : Path) → label_at t
   directory_read session handle None e = tt
   directory_read session handle (Some h) e = listed_object handle h (object_of tree.objects h.label) (handle_there tree session handle h e)
 
-  rooted : (path : Path) (answer : Answer) → (path ≢ [] → IsRight answer) → IsRight (unless_root path answer)
+  rooted : (path : Path) (answer : Outcome) → (path ≢ [] → IsRight answer) → IsRight (unless_root path answer)
   rooted [] answer p = tt
   rooted (n ∷ path) answer p = p (λ e. cc)
 
   -- ---- renames
 
   touch_both : (t : Tree) (path other : Path) (at : Option (ℕ × Metadata)) → directory_at tree path ≡ at
-      → ((label : ℕ) → label_at tree.names path ≡ Some label → option_map kind_of (object_of t.objects label) ≡ option_map kind_of (object_of tree.objects label))
-      → ((label : ℕ) → label_at tree.names other ≡ Some label → option_map kind_of (object_of t.objects label) ≡ option_map kind_of (object_of tree.objects label))
+      → ((label : ℕ) → label_at tree.names path ≡ Some label → option_map file_type_of (object_of t.objects label) ≡ option_map file_type_of (object_of tree.objects label))
+      → ((label : ℕ) → label_at tree.names other ≡ Some label → option_map file_type_of (object_of t.objects label) ≡ option_map file_type_of (object_of tree.objects label))
       → AreAllowed number t (touch moment at ++ touched tree moment other)
   touch_both t path other None e same also = touch_kinds t other (directory_at tree other) refl also
   touch_both t path other (Some d) e same also =
       let there = directory_there tree path d e in
       let object : Object = Directory (modified_at moment d.1) in
-      let right : option_map kind_of (object_of t.objects d.0) ≡ Some (kind_of object) = same d.0 there.0 ∙ ap (option_map kind_of) there.1 in
+      let right : option_map file_type_of (object_of t.objects d.0) ≡ Some (file_type_of object) = same d.0 there.0 ∙ ap (option_map file_type_of) there.1 in
       (right, touch_kinds (changed t (SetObject d.0 object)) other (directory_at tree other) refl (λ label at. kinds_set t.objects d.0 label object right ∙ also label at))
 
   moved_leaves : (old new path : Path) (label : ℕ) → after_front old path ≡ None → after_front new path ≡ None → label_at tree.names path ≡ Some label
-      → option_map kind_of (object_of (changed tree (Move old new)).objects label) ≡ option_map kind_of (object_of tree.objects label)
+      → option_map file_type_of (object_of (changed tree (Move old new)).objects label) ≡ option_map file_type_of (object_of tree.objects label)
   moved_leaves old new path label not_old not_new e =
-      ap (option_map kind_of) (kept_object (with_names tree (moved tree.names old new)) path label (moved_outside tree.names old new path not_old not_new ∙ e))
+      ap (option_map file_type_of) (kept_object (with_names tree (moved tree.names old new)) path label (moved_outside tree.names old new path not_old not_new ∙ e))
 
   may_move : (old new : Path) → IsMove tree old new → IsRight (moves tree moment old new)
   may_move old new may = (
@@ -368,7 +368,7 @@ module _ (tree : Tree) (number moment : ℕ) (unused : (q : Path) → label_at t
       let found : Some named.0 ≡ None = sym named.1 ∙ none in cc
 
   module _ (old new : Path) (label : ℕ) (named : label_at tree.names old ≡ Some label) (not_inside : after_front old new ≡ None) (not_around : after_front new old ≡ None) where
-    to_free : place_at tree new ≡ Absent → IsRight (moves tree moment old new)
+    to_free : look_up tree new ≡ Absent → IsRight (moves tree moment old new)
     to_free e =
         let free = place_free tree new e in
         may_move old new (record {
@@ -383,7 +383,7 @@ module _ (tree : Tree) (number moment : ℕ) (unused : (q : Path) → label_at t
         })
 
     over : (at : ℕ) → label_at tree.names new ≡ Some at → ((name : Name) (rest : Path) (l : ℕ) → label_at tree.names (new ++ name ∷ rest) ≡ Some l → ⊥)
-        → option_map kind_of (object_of tree.objects at) ≡ Some (kind_by (is_directory tree old)) → (at ≡ label → ⊥) → IsRight (moves tree moment old new)
+        → option_map file_type_of (object_of tree.objects at) ≡ Some (kind_by (is_directory tree old)) → (at ≡ label → ⊥) → IsRight (moves tree moment old new)
     over at here below kind another =
         may_move old new (record {
           label = label;
@@ -393,16 +393,16 @@ module _ (tree : Tree) (number moment : ℕ) (unused : (q : Path) → label_at t
           way = f.way new at here;
           bare = λ name rest. label_or_none (label_at tree.names (new ++ name ∷ rest)) (λ l there. below name rest l there);
           alike = λ replaced there. let same : Some replaced ≡ Some at = sym there ∙ here in let is : replaced ≡ at = cc in
-              ap (λ (l : ℕ). option_map kind_of (object_of tree.objects l)) is ∙ kind ∙ sym (kind_at tree old label (f.object old label named) named);
+              ap (λ (l : ℕ). option_map file_type_of (object_of tree.objects l)) is ∙ kind ∙ sym (kind_at tree old label (f.object old label named) named);
           other = λ there. let same : Some at ≡ Some label = sym here ∙ there in another cc;
         })
 
-    moved_to : (place : Place) → place_at tree new ≡ place → IsRight (rename_to tree moment old new place)
+    moved_to : (place : Lookup) → look_up tree new ≡ place → IsRight (rename_to tree moment old new place)
     moved_to NoWay e = tt
     moved_to (At at) e = tt
     moved_to Absent e = to_free e
 
-    replaced : (place : Place) → place_at tree new ≡ place → IsRight (replace_by tree moment old new label (found_place tree.objects place))
+    replaced : (place : Lookup) → look_up tree new ≡ place → IsRight (replace_by tree moment old new label (found_place tree.objects place))
     replaced NoWay e = tt
     replaced Absent e = to_free e
     replaced (At at) e = replaced_object (object_of tree.objects at) refl where
@@ -414,40 +414,40 @@ module _ (tree : Tree) (number moment : ℕ) (unused : (q : Path) → label_at t
       replaced_object (Some (Directory m)) is =
           either_if (is_directory tree old && is_empty tree.names new) _ _
           (λ both. let two = both_true (is_directory tree old) (is_empty tree.names new) both in
-          over at here (below_empty new two.1) (ap (option_map kind_of) is ∙ ap (λ b. Some (kind_by b)) (sym two.0))
+          over at here (below_empty new two.1) (ap (option_map file_type_of) is ∙ ap (λ b. Some (kind_by b)) (sym two.0))
           (λ same. not_itself old new (one old new label (ap (λ (l : ℕ). is_directory_object (object_of tree.objects l)) (sym same) ∙ ap is_directory_object is) named (here ∙ ap Some same)) not_inside))
           (λ other. tt)
       replaced_object (Some (File m contents)) is =
           either_if (nat_eq label at) _ _ (λ _. tt)
           (λ apart. either_if (is_directory tree old) _ _ (λ directory. tt)
-          (λ file. over at here (below_file new at here (ap is_file is)) (ap (option_map kind_of) is ∙ ap (λ b. Some (kind_by b)) (sym file))
+          (λ file. over at here (below_file new at here (ap is_file is)) (ap (option_map file_type_of) is ∙ ap (λ b. Some (kind_by b)) (sym file))
           (λ same. let tied : nat_eq label at ≡ true = eq-eqb label at (sym same) in cc)))
 
-  renamed : (old new : Path) (place : Place) → place_at tree old ≡ place → IsRight (rename tree moment old new place)
+  renamed : (old new : Path) (place : Lookup) → look_up tree old ≡ place → IsRight (rename tree moment old new place)
   renamed old new NoWay e = tt
   renamed old new Absent e = tt
   renamed old new (At label) e =
-      apart IsRight old new _ tt (λ not_inside not_around. moved_to old new label (place_label tree old label e) not_inside not_around (place_at tree new) refl)
+      apart IsRight old new _ tt (λ not_inside not_around. moved_to old new label (place_label tree old label e) not_inside not_around (look_up tree new) refl)
 
-  posix_renamed : (old new : Path) (place : Place) → place_at tree old ≡ place → IsRight (posix_rename tree moment old new place)
+  posix_renamed : (old new : Path) (place : Lookup) → look_up tree old ≡ place → IsRight (posix_rename tree moment old new place)
   posix_renamed old new NoWay e = tt
   posix_renamed old new Absent e = tt
   posix_renamed old new (At label) e =
       either (same_path old new) _ _ tt
-      (apart IsRight old new _ tt (λ not_inside not_around. replaced old new label (place_label tree old label e) not_inside not_around (place_at tree new) refl))
+      (apart IsRight old new _ tt (λ not_inside not_around. replaced old new label (place_label tree old label e) not_inside not_around (look_up tree new) refl))
 
   -- ---- links
 
-  linked_to : (new : Path) (label : ℕ) (m : Metadata) (contents : List ℕ) → object_of tree.objects label ≡ Some (File m contents) → IsRight (link_to tree moment new label (place_at tree new))
+  linked_to : (new : Path) (label : ℕ) (m : Metadata) (contents : List ℕ) → object_of tree.objects label ≡ Some (File m contents) → IsRight (link_to tree moment new label (look_up tree new))
   linked_to new label m contents is =
-      link_to_cases IsRight (λ code. tt) tree moment new label (place_at tree new) refl
+      link_to_cases IsRight (λ code. tt) tree moment new label (look_up tree new) refl
       (λ e few.
       let free = place_free tree new e in (
-        record { free = free.1; way = free.0; of_file = ap (option_map kind_of) is; fewer = leb-false MAX_LINKS (links tree.names label) few },
+        record { free = free.1; way = free.0; of_file = ap (option_map file_type_of) is; fewer = leb-false MAX_LINKS (links tree.names label) few },
         allowed_touch _ (parent new) (directory_at tree (parent new)) refl (λ l named. refl),
       ))
 
-  linked : (new : Path) (place : Place) → IsRight (link tree moment new (found_place tree.objects place))
+  linked : (new : Path) (place : Lookup) → IsRight (link tree moment new (found_place tree.objects place))
   linked new NoWay = tt
   linked new Absent = tt
   linked new (At label) = linked_object (object_of tree.objects label) refl where
@@ -458,18 +458,18 @@ module _ (tree : Tree) (number moment : ℕ) (unused : (q : Path) → label_at t
 
   pub allowed : (session : ℕ) (request : Request) → AreAllowed number tree (answer_to tree session number moment request).changes
   allowed session (Stat path) = found_stat (found_at tree path)
-  allowed session (SetStat path attrs) = rooted path _ (λ not_root. set_place attrs (place_at tree path))
-  allowed session (Mkdir path attrs) = rooted path _ (λ not_root. made path attrs (place_at tree path) refl)
-  allowed session (Rmdir path) = rooted path _ (λ not_root. directory_removed path not_root (place_at tree path) refl)
-  allowed session (Remove path) = rooted path _ (λ not_root. file_removed path not_root (place_at tree path) refl)
+  allowed session (SetStat path attrs) = rooted path _ (λ not_root. set_place attrs (look_up tree path))
+  allowed session (Mkdir path attrs) = rooted path _ (λ not_root. made path attrs (look_up tree path) refl)
+  allowed session (Rmdir path) = rooted path _ (λ not_root. directory_removed path not_root (look_up tree path) refl)
+  allowed session (Remove path) = rooted path _ (λ not_root. file_removed path not_root (look_up tree path) refl)
   allowed session (OpenDir path) = directory_opened session (found_at tree path)
-  allowed session (Open path flags attrs) = rooted path _ (λ not_root. file_opened session path flags attrs (place_at tree path) refl)
+  allowed session (Open path flags attrs) = rooted path _ (λ not_root. file_opened session path flags attrs (look_up tree path) refl)
   allowed session (Close handle) = closed handle (handle_in tree session handle)
   allowed session (FStat handle) = opened_stat (opened tree session handle)
   allowed session (FSetStat handle attrs) = set_by_handle attrs (handle_in tree session handle)
   allowed session (Read handle offset len) = was_read offset len (opened tree session handle)
   allowed session (Write handle offset bytes) = was_written offset bytes (handle_in tree session handle)
   allowed session (ReadDir handle) = directory_read session handle (handle_in tree session handle) refl
-  allowed session (Rename old new) = rooted old _ (λ _. rooted new _ (λ _. renamed old new (place_at tree old) refl))
-  allowed session (PosixRename old new) = rooted old _ (λ _. rooted new _ (λ _. posix_renamed old new (place_at tree old) refl))
-  allowed session (Link old new) = rooted old _ (λ _. rooted new _ (λ _. linked new (place_at tree old)))
+  allowed session (Rename old new) = rooted old _ (λ _. rooted new _ (λ _. renamed old new (look_up tree old) refl))
+  allowed session (PosixRename old new) = rooted old _ (λ _. rooted new _ (λ _. posix_renamed old new (look_up tree old) refl))
+  allowed session (Link old new) = rooted old _ (λ _. rooted new _ (λ _. linked new (look_up tree old)))

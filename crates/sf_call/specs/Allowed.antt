@@ -10,14 +10,14 @@ use Rattle.sf_call.specs.Tree.{Tree, Handle, IsOrderedTree, label_at, object_of,
 use Rattle.sf_call.specs.Changes.{Change, changed}
 use Rattle.sf_call.specs.Changes.Change.{SetObject, NewPath, NewName, GonePath, Move, OpenHandle, SetHandle, CloseHandle}
 
-abbrev pub kind_of : Object → FileType
-kind_of (Directory m) = file_type.Directory
-kind_of (File m contents) = file_type.File
+abbrev pub file_type_of : Object → FileType
+file_type_of (Directory m) = file_type.Directory
+file_type_of (File m contents) = file_type.File
 
 -- an object stays of its kind
 abbrev pub IsSetRightly : Tree → ℕ → Object → Type 0
 IsSetRightly tree label object =
-    option_map kind_of (object_of tree.objects label) ≡ Some (kind_of object)
+    option_map file_type_of (object_of tree.objects label) ≡ Some (file_type_of object)
 
 -- a new path was free, its way was open, and its label is the call's number, which no path and no
 -- object had
@@ -32,7 +32,7 @@ pub record IsNewPath (number : ℕ) (tree : Tree) (path : Path) (label : ℕ) : 
 pub record IsNewName (tree : Tree) (path : Path) (label : ℕ) : Type 0 where
   pub free : label_at tree.names path ≡ None
   pub way : is_faulty_way tree path ≡ false
-  pub of_file : option_map kind_of (object_of tree.objects label) ≡ Some file_type.File
+  pub of_file : option_map file_type_of (object_of tree.objects label) ≡ Some file_type.File
   pub fewer : links tree.names label < MAX_LINKS
 
 -- a new handle's number is the call's, which no handle had
@@ -50,8 +50,8 @@ pub record IsMove (tree : Tree) (old new : Path) : Type 0 where
   pub way : is_faulty_way tree new ≡ false
   pub bare : (name : Name) (rest : Path) → label_at tree.names (new ++ name ∷ rest) ≡ None
   pub alike : (replaced : ℕ) → label_at tree.names new ≡ Some replaced
-      → option_map kind_of (object_of tree.objects replaced)
-      ≡ option_map kind_of (object_of tree.objects label)
+      → option_map file_type_of (object_of tree.objects replaced)
+      ≡ option_map file_type_of (object_of tree.objects label)
   pub other : label_at tree.names new ≢ Some label
 
 -- What a change of the call with this number asks of the tree before it. A path that goes has

@@ -2,7 +2,7 @@
 use Rattle.std.specs.Prelude.{ℕ}
 use Rattle.sf_reply.specs.declared.reply.Reply.{Reply}
 
-pub record Answered : Type 0 where
+pub record AnswerView : Type 0 where
   pub number : ℕ
   pub session : ℕ
   pub reply : Reply

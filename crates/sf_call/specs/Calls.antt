@@ -13,12 +13,12 @@ use Rattle.sf_path.specs.Names.{Path}
 use Rattle.sf_call.specs.declared.limits.TheConstants.{MAX_FILE_SIZE, MAX_READ, MAX_HANDLES, MAX_LINKS}
 use Rattle.sf_call.specs.declared.request.Request.{Request}
 use Rattle.sf_call.specs.declared.request.Request.TheVariants.{Stat, SetStat, Mkdir, Rmdir, Remove, OpenDir, Open, Close, FStat, FSetStat, Read, Write, ReadDir, Rename, PosixRename, Link}
-use Rattle.sf_call.specs.declared.place.Place.TheVariants.{NoWay, Absent, At}
+use Rattle.sf_call.specs.declared.lookup.Lookup.TheVariants.{NoWay, Absent, At}
 use Rattle.sf_call.specs.Attributes.{Metadata, Object, new_metadata, with_parts, modified_at, attrs_of}
 use Rattle.sf_call.specs.Attributes.Object.{Directory, File}
 use Rattle.sf_block.specs.Contents.{resized, written}
-use Rattle.sf_call.specs.Tree.{Tree, Handle, Place, Found, place_at, found_object, found_at, object_of, links, is_directory, after_front, is_empty, is_nil, kept, with_handles}
-use Rattle.sf_call.specs.Tree.Found.{Nowhere, Nothing, DirectoryAt, FileAt}
+use Rattle.sf_call.specs.Tree.{Tree, Handle, Lookup, FoundObject, look_up, found_object, found_at, object_of, links, is_directory, after_front, is_empty, is_nil, kept, with_handles}
+use Rattle.sf_call.specs.Tree.FoundObject.{Nowhere, Nothing, DirectoryAt, FileAt}
 use Rattle.sf_call.specs.Handles.{Opened, handle_in, opened, with_listed}
 use Rattle.sf_call.specs.Handles.Opened.{NotOpen, OpenDirectory, OpenFile}
 use Rattle.sf_call.specs.Listings.{path_of, listing_of, last_name}
@@ -26,24 +26,24 @@ use Rattle.sf_call.specs.Changes.{Change, done, touched}
 use Rattle.sf_call.specs.Changes.Change.{SetObject, NewPath, NewName, GonePath, Move, OpenHandle, SetHandle, CloseHandle}
 
 -- what a request is answered, and what it changes
-pub record Answer : Type 0 where
+pub record Outcome : Type 0 where
   pub reply : Reply
   pub changes : List Change
 
 -- a reply that changes nothing
-abbrev pub tells : Reply → Answer
+abbrev pub tells : Reply → Outcome
 tells r = record { reply = r; changes = [] }
 
-abbrev pub refuses : StatusCode → Answer
+abbrev pub refuses : StatusCode → Outcome
 refuses code = tells (reply.Status code)
 
-abbrev pub succeeds : List Change → Answer
+abbrev pub succeeds : List Change → Outcome
 succeeds changes = record { reply = reply.Status Success; changes = changes }
 
 -- ---- calls on paths
 
 -- STAT (draft, section 6.8; POSIX, stat)
-abbrev pub stat : Found → Answer
+abbrev pub stat : FoundObject → Outcome
 stat Nowhere = refuses NoSuchFile
 stat Nothing = refuses NoSuchFile
 stat (DirectoryAt label m) = tells (reply.Attrs (attrs_of (Directory m)))
@@ -66,13 +66,13 @@ abbrev pub with_attrs : ℕ → Attrs → Object → Object
 with_attrs moment attrs (Directory m) = Directory (with_parts m attrs)
 with_attrs moment attrs (File m contents) = with_size moment attrs attrs.size m contents
 
-abbrev pub sets : ℕ → ℕ → Attrs → Object → Answer
+abbrev pub sets : ℕ → ℕ → Attrs → Object → Outcome
 sets moment label attrs object =
     if refuses_size object attrs.size then refuses Failure
     else succeeds (SetObject label (with_attrs moment attrs object) ∷ [])
 
 -- SETSTAT (draft, section 6.9)
-abbrev pub set_stat : ℕ → Attrs → Found → Answer
+abbrev pub set_stat : ℕ → Attrs → FoundObject → Outcome
 set_stat moment attrs Nowhere = refuses NoSuchFile
 set_stat moment attrs Nothing = refuses NoSuchFile
 set_stat moment attrs (DirectoryAt label m) = sets moment label attrs (Directory m)
@@ -88,7 +88,7 @@ abbrev pub stamp : ℕ → ℕ → Stamp
 stamp number moment = record { number = number; moment = moment }
 
 -- MKDIR (draft, section 6.6; POSIX, mkdir): a new directory; its parent is modified
-abbrev pub make_directory : Tree → Stamp → Path → Attrs → Place → Answer
+abbrev pub make_directory : Tree → Stamp → Path → Attrs → Lookup → Outcome
 make_directory tree call path attrs NoWay = refuses NoSuchFile
 make_directory tree call path attrs (At label) = refuses Failure
 make_directory tree call path attrs Absent =
@@ -96,11 +96,11 @@ make_directory tree call path attrs Absent =
     ∷ touched tree call.moment (parent path))
 
 -- a path is gone; its parent is modified
-abbrev pub goes : Tree → ℕ → Path → Answer
+abbrev pub goes : Tree → ℕ → Path → Outcome
 goes tree moment path = succeeds (GonePath path ∷ touched tree moment (parent path))
 
 -- RMDIR (draft, section 6.6; POSIX, rmdir)
-abbrev pub remove_directory : Tree → ℕ → Path → Found → Answer
+abbrev pub remove_directory : Tree → ℕ → Path → FoundObject → Outcome
 remove_directory tree moment path Nowhere = refuses NoSuchFile
 remove_directory tree moment path Nothing = refuses NoSuchFile
 remove_directory tree moment path (FileAt label m contents) = refuses Failure
@@ -108,7 +108,7 @@ remove_directory tree moment path (DirectoryAt label m) =
     if is_empty tree.names path then goes tree moment path else refuses Failure
 
 -- REMOVE (draft, section 6.5; POSIX, unlink)
-abbrev pub remove_file : Tree → ℕ → Path → Found → Answer
+abbrev pub remove_file : Tree → ℕ → Path → FoundObject → Outcome
 remove_file tree moment path Nowhere = refuses NoSuchFile
 remove_file tree moment path Nothing = refuses NoSuchFile
 remove_file tree moment path (DirectoryAt label m) = refuses Failure
@@ -120,7 +120,7 @@ has_all_handles tree session =
     nat_le MAX_HANDLES (count_by (λ e. nat_eq e.1.session session) tree.handles)
 
 -- a handle has the number of the call that opens it
-abbrev pub opens : ℕ → Handle → List Change → Answer
+abbrev pub opens : ℕ → Handle → List Change → Outcome
 opens number handle changes =
     record { reply = reply.Handle number; changes = OpenHandle number handle ∷ changes }
 
@@ -136,8 +136,8 @@ directory_handle session label = record {
 }
 
 -- with neither READ nor WRITE a handle reads
-abbrev pub file_handle : ℕ → ℕ → OpenFlags → Handle
-file_handle session label flags =
+abbrev pub new_file_handle : ℕ → ℕ → OpenFlags → Handle
+new_file_handle session label flags =
     record {
       session = session;
       label = label;
@@ -148,7 +148,7 @@ file_handle session label flags =
     }
 
 -- OPENDIR (draft, section 6.7)
-abbrev pub open_directory : Tree → ℕ → ℕ → Found → Answer
+abbrev pub open_directory : Tree → ℕ → ℕ → FoundObject → Outcome
 open_directory tree session number Nowhere = refuses NoSuchFile
 open_directory tree session number Nothing = refuses NoSuchFile
 open_directory tree session number (FileAt label m contents) = refuses Failure
@@ -157,15 +157,15 @@ open_directory tree session number (DirectoryAt label m) =
     else opens number (directory_handle session label) []
 
 -- OPEN of a file that is there: TRUNC with WRITE cuts it
-abbrev pub open_present : Tree → ℕ → Stamp → OpenFlags → Found → Answer
+abbrev pub open_present : Tree → ℕ → Stamp → OpenFlags → FoundObject → Outcome
 open_present tree session call flags Nowhere = refuses NoSuchFile
 open_present tree session call flags Nothing = refuses NoSuchFile
 open_present tree session call flags (DirectoryAt label m) = refuses Failure
 open_present tree session call flags (FileAt label m contents) =
     if has_all_handles tree session then refuses Failure
-    else if flags.truncate && flags.write then opens call.number (file_handle session label flags)
+    else if flags.truncate && flags.write then opens call.number (new_file_handle session label flags)
     (SetObject label (File (modified_at call.moment m) []) ∷ [])
-    else opens call.number (file_handle session label flags) []
+    else opens call.number (new_file_handle session label flags) []
 
 -- What is to be opened, and how.
 pub record Opening : Type 0 where
@@ -177,7 +177,7 @@ abbrev pub opening : Path → OpenFlags → Attrs → Opening
 opening path flags attrs = record { path = path; flags = flags; attrs = attrs }
 
 -- OPEN (draft, section 6.3; POSIX, open): a new file is empty; its parent is modified
-abbrev pub open_file : Tree → ℕ → Stamp → Opening → Place → Answer
+abbrev pub open_file : Tree → ℕ → Stamp → Opening → Lookup → Outcome
 open_file tree session call asked NoWay = refuses NoSuchFile
 open_file tree session call asked (At label) =
     if asked.flags.create && asked.flags.exclusive then refuses Failure
@@ -186,38 +186,38 @@ open_file tree session call asked (At label) =
 open_file tree session call asked Absent =
     if not asked.flags.create then refuses NoSuchFile
     else if has_all_handles tree session then refuses Failure
-    else opens call.number (file_handle session call.number asked.flags)
+    else opens call.number (new_file_handle session call.number asked.flags)
     (NewPath asked.path call.number (File (new_metadata 0o644 call.moment asked.attrs) [])
     ∷ touched tree call.moment (parent asked.path))
 
 -- ---- renames
 
 -- what began with old begins with new; both parents are modified
-abbrev pub moves : Tree → ℕ → Path → Path → Answer
+abbrev pub moves : Tree → ℕ → Path → Path → Outcome
 moves tree moment old new =
     succeeds (Move old new ∷ (touched tree moment (parent old) ++ touched tree moment (parent new)))
 
 -- no path is moved into itself or over what it stands in
-abbrev pub unless_nested : Path → Path → Answer → Answer
+abbrev pub unless_nested : Path → Path → Outcome → Outcome
 unless_nested old new answer =
     if is_some (after_front old new) || is_some (after_front new old) then refuses Failure
     else answer
 
 -- RENAME (draft, section 6.5): to a path where nothing stands
-abbrev pub rename_to : Tree → ℕ → Path → Path → Place → Answer
+abbrev pub rename_to : Tree → ℕ → Path → Path → Lookup → Outcome
 rename_to tree moment old new NoWay = refuses NoSuchFile
 rename_to tree moment old new (At label) = refuses Failure
 rename_to tree moment old new Absent = moves tree moment old new
 
-abbrev pub rename : Tree → ℕ → Path → Path → Place → Answer
+abbrev pub rename : Tree → ℕ → Path → Path → Lookup → Outcome
 rename tree moment old new NoWay = refuses NoSuchFile
 rename tree moment old new Absent = refuses NoSuchFile
 rename tree moment old new (At label) =
-    unless_nested old new (rename_to tree moment old new (place_at tree new))
+    unless_nested old new (rename_to tree moment old new (look_up tree new))
 
 -- the extension posix-rename (POSIX, rename): a file also takes a file's place, and a directory an
 -- empty directory's; where both paths name one file, nothing is done
-abbrev pub replace_by : Tree → ℕ → Path → Path → ℕ → Found → Answer
+abbrev pub replace_by : Tree → ℕ → Path → Path → ℕ → FoundObject → Outcome
 replace_by tree moment old new label Nowhere = refuses NoSuchFile
 replace_by tree moment old new label Nothing = moves tree moment old new
 replace_by tree moment old new label (DirectoryAt at m) =
@@ -227,7 +227,7 @@ replace_by tree moment old new label (FileAt at m contents) =
     if nat_eq label at then succeeds []
     else if is_directory tree old then refuses Failure else moves tree moment old new
 
-abbrev pub posix_rename : Tree → ℕ → Path → Path → Place → Answer
+abbrev pub posix_rename : Tree → ℕ → Path → Path → Lookup → Outcome
 posix_rename tree moment old new NoWay = refuses NoSuchFile
 posix_rename tree moment old new Absent = refuses NoSuchFile
 posix_rename tree moment old new (At label) =
@@ -238,7 +238,7 @@ posix_rename tree moment old new (At label) =
 
 -- to a path where nothing stands, unless as many paths name the file as may; the new path's parent
 -- is modified
-abbrev pub link_to : Tree → ℕ → Path → ℕ → Place → Answer
+abbrev pub link_to : Tree → ℕ → Path → ℕ → Lookup → Outcome
 link_to tree moment new label NoWay = refuses NoSuchFile
 link_to tree moment new label (At other) = refuses Failure
 link_to tree moment new label Absent =
@@ -246,28 +246,28 @@ link_to tree moment new label Absent =
     else succeeds (NewName new label ∷ touched tree moment (parent new))
 
 -- the extension hardlink (POSIX, link): a further path names the file that the old one names
-abbrev pub link : Tree → ℕ → Path → Found → Answer
+abbrev pub link : Tree → ℕ → Path → FoundObject → Outcome
 link tree moment new Nowhere = refuses NoSuchFile
 link tree moment new Nothing = refuses NoSuchFile
 link tree moment new (DirectoryAt label m) = refuses Failure
 link tree moment new (FileAt label m contents) =
-    link_to tree moment new label (place_at tree new)
+    link_to tree moment new label (look_up tree new)
 
 -- ---- calls by handle
 
 -- CLOSE (draft, section 6.3)
-abbrev pub close : ℕ → Option Handle → Answer
+abbrev pub close : ℕ → Option Handle → Outcome
 close number None = refuses Failure
 close number (Some handle) = succeeds (CloseHandle number ∷ [])
 
 -- FSTAT (draft, section 6.8; POSIX, fstat)
-abbrev pub stat_opened : Opened → Answer
+abbrev pub stat_opened : Opened → Outcome
 stat_opened NotOpen = refuses Failure
 stat_opened (OpenDirectory handle m) = tells (reply.Attrs (attrs_of (Directory m)))
 stat_opened (OpenFile handle m contents) = tells (reply.Attrs (attrs_of (File m contents)))
 
 -- FSETSTAT (draft, section 6.9): not of the root, and a size with the mark WRITE alone
-abbrev pub set_opened : ℕ → Attrs → Opened → Answer
+abbrev pub set_opened : ℕ → Attrs → Opened → Outcome
 set_opened moment attrs NotOpen = refuses Failure
 set_opened moment attrs (OpenDirectory handle m) =
     if nat_eq handle.label 0 then refuses Failure else sets moment handle.label attrs (Directory m)
@@ -276,7 +276,7 @@ set_opened moment attrs (OpenFile handle m contents) =
     else sets moment handle.label attrs (File m contents)
 
 -- READ (draft, section 6.4; POSIX, pread)
-abbrev pub read : ℕ → ℕ → Opened → Answer
+abbrev pub read : ℕ → ℕ → Opened → Outcome
 read offset len NotOpen = refuses Failure
 read offset len (OpenDirectory handle m) = refuses Failure
 read offset len (OpenFile handle m contents) =
@@ -289,7 +289,7 @@ abbrev pub start_of : Handle → List ℕ → ℕ → ℕ
 start_of handle contents offset = if handle.append then length contents else offset
 
 -- WRITE (draft, section 6.4; POSIX, pwrite and O_APPEND)
-abbrev pub write : ℕ → ℕ → List ℕ → Opened → Answer
+abbrev pub write : ℕ → ℕ → List ℕ → Opened → Outcome
 write moment offset bytes NotOpen = refuses Failure
 write moment offset bytes (OpenDirectory handle m) = refuses Failure
 write moment offset bytes (OpenFile handle m contents) =
@@ -301,14 +301,14 @@ write moment offset bytes (OpenFile handle m contents) =
     succeeds (SetObject handle.label (File (modified_at moment m) after) ∷ []))
 
 -- READDIR (draft, section 6.7): the names that come next, of which the last is remembered
-abbrev pub lists : ℕ → Handle → List Entry → Answer
+abbrev pub lists : ℕ → Handle → List Entry → Outcome
 lists number handle [] = refuses EndOfFile
 lists number handle (e ∷ es) = record {
   reply = reply.Names (e ∷ es);
   changes = SetHandle number (with_listed handle (last_name (e ∷ es))) ∷ [];
 }
 
-abbrev pub read_directory : Tree → ℕ → Opened → Answer
+abbrev pub read_directory : Tree → ℕ → Opened → Outcome
 read_directory tree number NotOpen = refuses Failure
 read_directory tree number (OpenFile handle m contents) = refuses Failure
 read_directory tree number (OpenDirectory handle m) =
@@ -317,17 +317,17 @@ read_directory tree number (OpenDirectory handle m) =
 -- ---- all calls
 
 -- the root is neither made, set, removed, moved nor linked
-abbrev pub unless_root : Path → Answer → Answer
+abbrev pub unless_root : Path → Outcome → Outcome
 unless_root [] answer = refuses Failure
 unless_root (name ∷ path) answer = answer
 
 -- the answer to a request: of this session, by this call number, at this moment
-abbrev pub answer_to : Tree → ℕ → ℕ → ℕ → Request → Answer
+abbrev pub answer_to : Tree → ℕ → ℕ → ℕ → Request → Outcome
 answer_to tree session number moment (Stat path) = stat (found_at tree path)
 answer_to tree session number moment (SetStat path attrs) =
     unless_root path (set_stat moment attrs (found_at tree path))
 answer_to tree session number moment (Mkdir path attrs) =
-    unless_root path (make_directory tree (stamp number moment) path attrs (place_at tree path))
+    unless_root path (make_directory tree (stamp number moment) path attrs (look_up tree path))
 answer_to tree session number moment (Rmdir path) =
     unless_root path (remove_directory tree moment path (found_at tree path))
 answer_to tree session number moment (Remove path) =
@@ -336,7 +336,7 @@ answer_to tree session number moment (OpenDir path) =
     open_directory tree session number (found_at tree path)
 answer_to tree session number moment (Open path flags attrs) =
     unless_root path (open_file tree session (stamp number moment) (opening path flags attrs)
-    (place_at tree path))
+    (look_up tree path))
 answer_to tree session number moment (Close handle) = close handle (handle_in tree session handle)
 answer_to tree session number moment (FStat handle) = stat_opened (opened tree session handle)
 answer_to tree session number moment (FSetStat handle attrs) =
@@ -348,9 +348,9 @@ answer_to tree session number moment (Write handle offset bytes) =
 answer_to tree session number moment (ReadDir handle) =
     read_directory tree handle (opened tree session handle)
 answer_to tree session number moment (Rename old new) =
-    unless_root old (unless_root new (rename tree moment old new (place_at tree old)))
+    unless_root old (unless_root new (rename tree moment old new (look_up tree old)))
 answer_to tree session number moment (PosixRename old new) =
-    unless_root old (unless_root new (posix_rename tree moment old new (place_at tree old)))
+    unless_root old (unless_root new (posix_rename tree moment old new (look_up tree old)))
 answer_to tree session number moment (Link old new) =
     unless_root old (unless_root new (link tree moment new (found_at tree old)))
 
@@ -359,7 +359,7 @@ pub record Applied : Type 0 where
   pub reply : Reply
   pub tree : Tree
 
-abbrev pub carry_out : Tree → Answer → Applied
+abbrev pub carry_out : Tree → Outcome → Applied
 carry_out tree answer = record { reply = answer.reply; tree = done tree answer.changes }
 
 abbrev pub apply : Tree → ℕ → ℕ → ℕ → Request → Applied

@@ -9,8 +9,8 @@ use Rattle.std.specs.FinMap.{is_sorted}
 use Rattle.sf_path.specs.Names.{Name, Path}
 use Rattle.sf_path.specs.Order.{same_name, path_cmp}
 pub use Rattle.sf_call.specs.declared.handle.Handle.{Handle}
-pub use Rattle.sf_call.specs.declared.place.Place.{Place}
-use Rattle.sf_call.specs.declared.place.Place.TheVariants.{NoWay, Absent, At}
+pub use Rattle.sf_call.specs.declared.lookup.Lookup.{Lookup}
+use Rattle.sf_call.specs.declared.lookup.Lookup.TheVariants.{NoWay, Absent, At}
 use Rattle.sf_call.specs.Attributes.{Metadata, Object, made_at}
 use Rattle.sf_call.specs.Attributes.Object.{Directory, File}
 
@@ -80,32 +80,32 @@ abbrev pub is_faulty_way : Tree → Path → Bool
 is_faulty_way tree path = list_any (λ front. not (is_directory tree front)) (proper_fronts path)
 
 -- where a path leads: no way, nothing there, or a label
-abbrev pub place_of : Option ℕ → Place
-place_of None = Absent
-place_of (Some label) = At label
+abbrev pub lookup_of : Option ℕ → Lookup
+lookup_of None = Absent
+lookup_of (Some label) = At label
 
-abbrev pub place_at : Tree → Path → Place
-place_at tree path = if is_faulty_way tree path then NoWay else place_of (label_at tree.names path)
+abbrev pub look_up : Tree → Path → Lookup
+look_up tree path = if is_faulty_way tree path then NoWay else lookup_of (label_at tree.names path)
 
 -- what stands there; a label without an object, to which no call leads, counts as nothing
-pub data Found : Type 0 where
-  Nowhere : Found
-  Nothing : Found
-  DirectoryAt : (label : ℕ) → (metadata : Metadata) → Found
-  FileAt : (label : ℕ) → (metadata : Metadata) → (contents : List ℕ) → Found
+pub data FoundObject : Type 0 where
+  Nowhere : FoundObject
+  Nothing : FoundObject
+  DirectoryAt : (label : ℕ) → (metadata : Metadata) → FoundObject
+  FileAt : (label : ℕ) → (metadata : Metadata) → (contents : List ℕ) → FoundObject
 
-abbrev pub found_object : ℕ → Option Object → Found
+abbrev pub found_object : ℕ → Option Object → FoundObject
 found_object label None = Nothing
 found_object label (Some (Directory m)) = DirectoryAt label m
 found_object label (Some (File m contents)) = FileAt label m contents
 
-abbrev pub found_place : List (ℕ × Object) → Place → Found
+abbrev pub found_place : List (ℕ × Object) → Lookup → FoundObject
 found_place objects NoWay = Nowhere
 found_place objects Absent = Nothing
 found_place objects (At label) = found_object label (object_of objects label)
 
-abbrev pub found_at : Tree → Path → Found
-found_at tree path = found_place tree.objects (place_at tree path)
+abbrev pub found_at : Tree → Path → FoundObject
+found_at tree path = found_place tree.objects (look_up tree path)
 
 -- what follows the front of a path, if the path begins with it
 abbrev pub after_front : Path → Path → Option Path

@@ -1,7 +1,7 @@
 //! Answers to calls.
 
 ghost use Rattle.std.specs.Prelude.{◌≡◌};
-ghost use Rattle.sf_call.specs.Answers.{Answered};
+ghost use Rattle.sf_call.specs.Answers.{AnswerView};
 ghost use Rattle.sf_call.specs.Histories.{IsGiven};
 
 use sf_reply::Reply;
@@ -17,10 +17,10 @@ pub struct Answer {
 }
 
 impl Model for Answer {
-    ghost use Rattle.sf_call.specs.Answers.{Answered};
+    ghost use Rattle.sf_call.specs.Answers.{AnswerView};
     ghost use Rattle.sf_call.specs.Histories.{IsGiven};
 
-    ghost Value = { Answered };
+    ghost Value = { AnswerView };
 
     ghost view = { λ a. record { number = a.number; session = a.session; reply = a.reply } };
 

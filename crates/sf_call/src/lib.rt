@@ -16,8 +16,8 @@ mod fault;
 mod handle;
 mod history_laws;
 mod limits;
+mod lookup;
 mod metadata;
-mod place;
 mod record;
 mod request;
 mod tree_laws;
@@ -31,8 +31,8 @@ pub use history_laws::{
     replies_fit, ways_of_paths,
 };
 pub use limits::{MAX_ENTRIES, MAX_FILE_SIZE, MAX_HANDLES, MAX_LINKS, MAX_READ};
+pub use lookup::Lookup;
 pub use metadata::{FileType, Metadata};
-pub use place::Place;
 pub use record::Record;
 pub use request::Request;
 pub use tree_laws::{

@@ -9,7 +9,7 @@ ghost use Rattle.sf_call.specs.Tree.{Tree, IsOrderedTree, MapsAlike, label_at, l
 ghost use Rattle.sf_call.specs.Moves.{moved};
 ghost use Rattle.sf_call.specs.declared.metadata.Metadata.{Metadata};
 ghost use Rattle.sf_call.specs.declared.handle.Handle.{Handle};
-ghost use Rattle.sf_call.specs.declared.place.Place.TheVariants.{Absent};
+ghost use Rattle.sf_call.specs.declared.lookup.Lookup.TheVariants.{Absent};
 ghost use Rattle.sf_reply.specs.declared.reply.Reply.TheVariants.{Status, Data};
 ghost use Rattle.sf_reply.specs.declared.reply.StatusCode.TheVariants.{Success, Failure};
 ghost use Rattle.sf_call.specs.Attributes.Object.{File};

@@ -7,8 +7,8 @@ abbrev pub has_letter : ℕ → List ℕ → Bool
 has_letter letter letters = list_any (λ b. b == letter) letters
 
 -- `r` READ, `w` WRITE, `a` APPEND, `c` CREAT, `t` TRUNC, `x` EXCL
-abbrev pub flags_of : List ℕ → OpenFlags
-flags_of letters = record {
+abbrev pub flags_by_letters : List ℕ → OpenFlags
+flags_by_letters letters = record {
   read = has_letter 114 letters;
   write = has_letter 119 letters;
   append = has_letter 97 letters;

@@ -4,7 +4,7 @@ ghost use Rattle.std.specs.Prelude.{◌≡◌, IfOk};
 ghost use Rattle.sf_path.specs.Normal.{norm};
 ghost use Rattle.sf_field.specs.Attributes.{no_attrs};
 ghost use Rattle.sf_call.specs.declared.request.Request.TheVariants as request;
-ghost use Rattle.sf_cases.specs.Letters.{flags_of};
+ghost use Rattle.sf_cases.specs.Letters.{flags_by_letters};
 
 use sf_call::Request;
 use sf_field::{Attrs, ByteString, NO_ATTRS, OpenFlags};
@@ -22,7 +22,7 @@ pub fn path(alloc: Global, text: &[u8]) -> Result<Path, Fail>
 
 /// The flags of these letters: `r` READ, `w` WRITE, `a` APPEND, `c` CREAT, `t` TRUNC, `x` EXCL.
 pub fn flags(letters: &[u8]) -> OpenFlags
-    ensures { result ≡ flags_of letters.now }
+    ensures { result ≡ flags_by_letters letters.now }
 {
     OpenFlags {
         read: letters.contains(&b'r'),
@@ -85,7 +85,7 @@ pub fn open_dir(alloc: Global, text: &[u8]) -> Result<Request, Fail>
 /// OPEN, with the flags of these letters and no attributes.
 pub fn open(alloc: Global, text: &[u8], letters: &[u8]) -> Result<Request, Fail>
     ensures { IfOk result (λ made. made
-        ≡ request.Open (norm text.now) (flags_of letters.now) no_attrs) }
+        ≡ request.Open (norm text.now) (flags_by_letters letters.now) no_attrs) }
 {
     let path = path(alloc, text)?;
     Ok(Request::Open(path, flags(letters), NO_ATTRS))

@@ -8,10 +8,10 @@ use Rattle.std.proofs.lemmas.Nat.{from_be_bytes-to_be_bytes_4}
 use Rattle.std.proofs.lemmas.List.{length-take-le, length-append, append-nil, take_at, drop_at, take-append-le}
 use borrow.Rule.Slice.PartMut.{put_mid, post_of}
 use Rattle.sf_field.specs.Fields.{be32, packet}
-use Rattle.sf_client.specs.Packets.{Ends, HasNoPacket}
+use Rattle.sf_client.specs.Packets.{RunsOut, HasNoPacket}
 
 -- at its end, fewer bytes were there than the buffer holds
-pub ends : (a b : Option (List ℕ)) (bytes : List ℕ) (n : ℕ) → Consumes a b bytes → IsAtEnd b → length bytes < n → Ends a n
+pub ends : (a b : Option (List ℕ)) (bytes : List ℕ) (n : ℕ) → Consumes a b bytes → IsAtEnd b → length bytes < n → RunsOut a n
 ends None b bytes n read end lt = tt
 ends (Some input) None bytes n read end lt = absurd read
 ends (Some input) (Some left) bytes n read end lt = let all : input ≡ bytes = read ∙ ap (λ (t : List ℕ). bytes ++ t) end ∙ append-nil bytes in omega (arith, ap length all)
@@ -34,7 +34,7 @@ header_is body rest header left len e =
     (sym (take_at header left 4 len) ∙ ap (take 4) (sym whole), sym (drop_at header left 4 len) ∙ ap (drop 4) (sym whole))
 
 -- the input ended in the header
-pub ends_in_header : (a : Option (List ℕ)) (n : ℕ) → n ≡ 4 → Ends a n → HasNoPacket a
+pub ends_in_header : (a : Option (List ℕ)) (n : ℕ) → n ≡ 4 → RunsOut a n → HasNoPacket a
 ends_in_header None n four h = tt
 ends_in_header (Some input) n four h = λ body rest is e. omega (arith, h, ap length e, length-append (packet body) rest, length-append (be32 (length body)) body)
 
@@ -47,7 +47,7 @@ wrong_header (Some input) (Some left) header read len wrong = λ body rest is_bo
     wrong (length body) is_body.some is_body.short parts.0
 
 -- the input ended in the body
-pub ends_in_body : (a b : Option (List ℕ)) (header : List ℕ) (n : ℕ) → Consumes a b header → n ≤ 262144 → header ≡ be32 n → (k : ℕ) → k ≡ n → Ends b k → HasNoPacket a
+pub ends_in_body : (a b : Option (List ℕ)) (header : List ℕ) (n : ℕ) → Consumes a b header → n ≤ 262144 → header ≡ be32 n → (k : ℕ) → k ≡ n → RunsOut b k → HasNoPacket a
 ends_in_body None b header n read short is k same_k ends = tt
 ends_in_body (Some input) None header n read short is k same_k ends = absurd read
 ends_in_body (Some input) (Some left) header n read short is k same_k ends = λ body rest is_body e.

@@ -16,8 +16,8 @@ use Rattle.sf_client.specs.declared.fault.ClientFault.TheVariants as fault
 use Rattle.sf_client.specs.Dues.{due_of, is_due}
 use Rattle.sf_client.specs.Exchanges.{ClientView, Exchange, Exchanged, Sent, Took, id_after}
 use Rattle.sf_client.specs.Outcomes.{asked}
-use Rattle.sf_client.specs.Ahead.{EndsBy, GathersNames, SendsOn, TakesOn, sender}
-use Rattle.sf_client.specs.Calls.{Does, IsLast, IsListing, listings, all_entries, ListsAll, ended_by, told_by}
+use Rattle.sf_client.specs.Ahead.{EndsCallBy, GathersNames, SendsOn, TakesOn, sender}
+use Rattle.sf_client.specs.Calls.{DoesCall, EndsAtLast, IsListing, listings, all_entries, ListsAll, ended_by, told_by}
 use Rattle.sf_client.proofs.Exchanging.{all-append}
 use Rattle.sf_client.proofs.Steps.{broke_since, answer_due}
 use Rattle.sf_client.proofs.Runs.{ended_does, eof_is}
@@ -39,7 +39,7 @@ listings_more n (x ∷ parts) part = ap (λ (t : List Exchange). asked (request.
 -- While nothing stopped it all replies were names. After that every reply that is due is dropped.
 abbrev pub SoFar : ℕ → List Entry → Option ClientFault → ℕ → ℕ → List Exchange → Type 0
 SoFar n entries None dropped waiting xs = (dropped ≡ 0) × ((parts : List (List Entry)) × (entries ≡ all_entries parts) × (xs ≡ listings n parts))
-SoFar n entries (Some f) dropped waiting xs = (dropped ≡ waiting) × ((parts : List (List Entry)) × (last : List Exchange) × (after : List Exchange) × ((f ≡ fault.Status status.EndOfFile) → entries ≡ all_entries parts) × IsLast (request.ReadDir (be64 n)) last f × AllByRecursion (IsListing n) after × (xs ≡ (listings n parts ++ last) ++ after))
+SoFar n entries (Some f) dropped waiting xs = (dropped ≡ waiting) × ((parts : List (List Entry)) × (last : List Exchange) × (after : List Exchange) × ((f ≡ fault.Status status.EndOfFile) → entries ≡ all_entries parts) × EndsAtLast (request.ReadDir (be64 n)) last f × AllByRecursion (IsListing n) after × (xs ≡ (listings n parts ++ last) ++ after))
 
 abbrev pub AsksNames : ℕ → WireRequest → Type 0
 AsksNames n q = q ≡ request.ReadDir (be64 n)
@@ -140,7 +140,7 @@ dropped_more n entries (Some f) dropped waiting xs q r some is h = (
   ),
 )
 
-stopped_here : (n : ℕ) (entries : List Entry) (s : Option ClientFault) (f : ClientFault) (dropped waiting : ℕ) (xs : List Exchange) (q : WireRequest) (r : Reply) → dropped ≡ 0 → 0 < waiting → EndsBy r f → q ≡ request.ReadDir (be64 n)
+stopped_here : (n : ℕ) (entries : List Entry) (s : Option ClientFault) (f : ClientFault) (dropped waiting : ℕ) (xs : List Exchange) (q : WireRequest) (r : Reply) → dropped ≡ 0 → 0 < waiting → EndsCallBy r f → q ≡ request.ReadDir (be64 n)
     → SoFar n entries s dropped waiting xs → SoFar n entries (Some f) (waiting - 1) (waiting - 1) (xs ++ asked q r ∷ [])
 stopped_here n entries None f dropped waiting xs q r empty some ends is h = (
   refl,
@@ -194,7 +194,7 @@ list_missed n v u w entries a b g some h =
 
 -- ---- the end
 
-pub list_failed : (n : ℕ) (v u w : ClientView) (entries : List Entry) (a b : Ahead) (f : ClientFault) → Listing n v entries a u → 0 < a.waiting → TakesOn (sender u a) due.Names (told_by {X = List Entry} reply.Names (Err f)) (sender w b) → Does (ListsAll n) v (Err f) w
+pub list_failed : (n : ℕ) (v u w : ClientView) (entries : List Entry) (a b : Ahead) (f : ClientFault) → Listing n v entries a u → 0 < a.waiting → TakesOn (sender u a) due.Names (told_by {X = List Entry} reply.Names (Err f)) (sender w b) → DoesCall (ListsAll n) v (Err f) w
 list_failed n v u w entries a b fault.Stream g some h = broke_since v u w g.flight.ahead.failures h
 list_failed n v u w entries a b fault.Protocol g some h = flight_spoilt (AsksNames n) due.Names v u w g.xs g.qs a g.flight some (λ q such. ap due_of such) h
 list_failed n v u w entries a b (fault.Status code) g some h = absurd h
@@ -202,7 +202,7 @@ list_failed n v u w entries a b fault.OutOfMemory g some h = absurd h
 list_failed n v u w entries a b (fault.TooLarge size) g some h = absurd h
 list_failed n v u w entries a b fault.Failed g some h = absurd h
 
-listed : (n : ℕ) (v u : ClientView) (entries : List Entry) (s : Option ClientFault) (dropped waiting : ℕ) (xs : List Exchange) → s ≢ None → Exchanged v xs u → SoFar n entries s dropped waiting xs → Does (ListsAll n) v (ended_by s entries) u
+listed : (n : ℕ) (v u : ClientView) (entries : List Entry) (s : Option ClientFault) (dropped waiting : ℕ) (xs : List Exchange) → s ≢ None → Exchanged v xs u → SoFar n entries s dropped waiting xs → DoesCall (ListsAll n) v (ended_by s entries) u
 listed n v u entries None dropped waiting xs some ex h = absurd (some refl)
 listed n v u entries (Some f) dropped waiting xs some ex h =
     let parts = h.1.0 in
@@ -216,7 +216,7 @@ listed n v u entries (Some f) dropped waiting xs some ex h =
       h.1.6,
     ))
 
-pub list_ended : (n : ℕ) (v u : ClientView) (entries : List Entry) (a : Ahead) → Listing n v entries a u → a.waiting ≡ 0 → a.stopped ≢ None → Does (ListsAll n) v (ended_by a.stopped entries) u
+pub list_ended : (n : ℕ) (v u : ClientView) (entries : List Entry) (a : Ahead) → Listing n v entries a u → a.waiting ≡ 0 → a.stopped ≢ None → DoesCall (ListsAll n) v (ended_by a.stopped entries) u
 list_ended n v u entries a g none some =
     let nothing = flight_done (AsksNames n) v u g.xs g.qs a g.flight none in
     let flight = subst (λ (t : List WireRequest). Flight (AsksNames n) v g.xs t a u) nothing g.flight in

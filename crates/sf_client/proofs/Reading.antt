@@ -18,8 +18,8 @@ use Rattle.sf_client.specs.declared.fault.ClientFault.TheVariants as fault
 use Rattle.sf_client.specs.Dues.{Refuses, due_of, is_answer, is_due, TakesMemory}
 use Rattle.sf_client.specs.Exchanges.{ClientView, Exchange, Exchanged, Sent, Took, id_after}
 use Rattle.sf_client.specs.Outcomes.{asked}
-use Rattle.sf_client.specs.Ahead.{EndsBy, GathersPiece, SendsOn, TakesOn, sender}
-use Rattle.sf_client.specs.Calls.{Does, IsLast, IsReadOf, KeepsSome, read_from, reads, Reads, ReadsAll, AsksSize, size_of, most_gathered, ended_by, told_by}
+use Rattle.sf_client.specs.Ahead.{EndsCallBy, GathersPiece, SendsOn, TakesOn, sender}
+use Rattle.sf_client.specs.Calls.{DoesCall, EndsAtLast, IsReadOf, KeepsSome, read_from, reads, Reads, ReadsAll, AsksSize, size_of, most_gathered, ended_by, told_by}
 use Rattle.sf_client.proofs.Exchanging.{exchanged_none, exchanged_then, unanswered_then}
 use Rattle.sf_client.proofs.Steps.{broke_since, answer_due}
 use Rattle.sf_client.proofs.Runs.{ended_does, eof_is}
@@ -85,7 +85,7 @@ Goes n offset dropped waiting qs = ((dropped ≡ 0) × (qs ≡ run n offset wait
 abbrev pub SoFar : ℕ → List ℕ → Option ClientFault → ℕ → ℕ → List WireRequest → List Exchange → Type 0
 SoFar n bytes None dropped waiting qs kept = Goes n (length bytes) dropped waiting qs × ((pieces : List (List ℕ)) × (bytes ≡ concat pieces) × (kept ≡ reads n 0 pieces))
 SoFar n bytes (Some f) dropped waiting qs kept = (dropped ≡ waiting)
-    × ((pieces : List (List ℕ)) × (last : List Exchange) × ((f ≡ fault.Status status.EndOfFile) → bytes ≡ concat pieces) × IsLast (read_from n (length (concat pieces))) last f × (kept ≡ reads n 0 pieces ++ last))
+    × ((pieces : List (List ℕ)) × (last : List Exchange) × ((f ≡ fault.Status status.EndOfFile) → bytes ≡ concat pieces) × EndsAtLast (read_from n (length (concat pieces))) last f × (kept ≡ reads n 0 pieces ++ last))
 
 pub record Reading (n : ℕ) (v : ClientView) (bytes : List ℕ) (a : Ahead) (u : ClientView) : Type 0 where
   pub xs : List Exchange
@@ -222,7 +222,7 @@ took_on n bytes piece None dropped waiting left q qs kept none some most short w
     (goes_after n (length bytes) (length (bytes ++ piece)) dropped (waiting - 1) left piece qs (length-append bytes piece) most short whole old.1, (h.1.0 ++ piece ∷ [], more.0, more.1))
 took_on n bytes piece (Some f) dropped waiting left q qs kept none some most short whole h = absurd (omega (arith, none, some, h.0))
 
-stopped_here : (n : ℕ) (bytes : List ℕ) (s : Option ClientFault) (f : ClientFault) (dropped waiting : ℕ) (q : WireRequest) (qs : List WireRequest) (kept : List Exchange) (r : Reply) → dropped ≡ 0 → 0 < waiting → EndsBy r f
+stopped_here : (n : ℕ) (bytes : List ℕ) (s : Option ClientFault) (f : ClientFault) (dropped waiting : ℕ) (q : WireRequest) (qs : List WireRequest) (kept : List Exchange) (r : Reply) → dropped ≡ 0 → 0 < waiting → EndsCallBy r f
     → SoFar n bytes s dropped waiting (q ∷ qs) kept → SoFar n bytes (Some f) (waiting - 1) (waiting - 1) qs (kept ++ asked q r ∷ [])
 stopped_here n bytes None f dropped waiting q qs kept r none some ends h =
     let old = oldest n (length bytes) dropped waiting q qs none some h.0 in
@@ -300,7 +300,7 @@ read_missed n v u w bytes a b g some h =
 
 -- ---- the end
 
-pub read_failed : (n : ℕ) (v u w : ClientView) (bytes : List ℕ) (a b : Ahead) (f : ClientFault) → Reading n v bytes a u → 0 < a.waiting → TakesOn (sender u a) (due.Data 32768) (told_by {X = List ℕ} reply.Data (Err f)) (sender w b) → Does (Reads n) v (Err f) w
+pub read_failed : (n : ℕ) (v u w : ClientView) (bytes : List ℕ) (a b : Ahead) (f : ClientFault) → Reading n v bytes a u → 0 < a.waiting → TakesOn (sender u a) (due.Data 32768) (told_by {X = List ℕ} reply.Data (Err f)) (sender w b) → DoesCall (Reads n) v (Err f) w
 read_failed n v u w bytes a b fault.Stream g some h = broke_since v u w g.flight.ahead.failures h
 read_failed n v u w bytes a b fault.Protocol g some h = flight_spoilt (IsReadOf n) (due.Data 32768) v u w g.xs g.qs a g.flight some (λ q such. ap due_of such.1) h
 read_failed n v u w bytes a b (fault.Status code) g some h = absurd h
@@ -309,7 +309,7 @@ read_failed n v u w bytes a b (fault.TooLarge size) g some h = absurd h
 read_failed n v u w bytes a b fault.Failed g some h = absurd h
 
 read : (n : ℕ) (v u : ClientView) (bytes : List ℕ) (s : Option ClientFault) (dropped waiting : ℕ) (qs : List WireRequest) (xs kept : List Exchange) → s ≢ None → Exchanged v xs u → KeepsSome n xs kept → SoFar n bytes s dropped waiting qs kept
-    → Does (Reads n) v (ended_by s bytes) u
+    → DoesCall (Reads n) v (ended_by s bytes) u
 read n v u bytes None dropped waiting qs xs kept some ex keeps h = absurd (some refl)
 read n v u bytes (Some f) dropped waiting qs xs kept some ex keeps h =
     let pieces = h.1.0 in
@@ -325,7 +325,7 @@ read n v u bytes (Some f) dropped waiting qs xs kept some ex keeps h =
       ),
     ))
 
-pub read_ended : (n : ℕ) (v u : ClientView) (bytes : List ℕ) (a : Ahead) → Reading n v bytes a u → a.waiting ≡ 0 → a.stopped ≢ None → Does (Reads n) v (ended_by a.stopped bytes) u
+pub read_ended : (n : ℕ) (v u : ClientView) (bytes : List ℕ) (a : Ahead) → Reading n v bytes a u → a.waiting ≡ 0 → a.stopped ≢ None → DoesCall (Reads n) v (ended_by a.stopped bytes) u
 read_ended n v u bytes a g none some =
     let nothing = flight_done (IsReadOf n) v u g.xs g.qs a g.flight none in
     let flight = subst (λ (t : List WireRequest). Flight (IsReadOf n) v g.xs t a u) nothing g.flight in
@@ -349,7 +349,7 @@ measure (Some f) len dropped waiting = waiting
 
 -- ---- with the size before it
 
-pub sized : (n : ℕ) (v u w : ClientView) (size : ℕ) (result : Result (List ℕ) ClientFault) → AsksSize n v (Ok size) u → size ≤ most_gathered → Does (Reads n) u result w → Does (ReadsAll n) v result w
+pub sized : (n : ℕ) (v u w : ClientView) (size : ℕ) (result : Result (List ℕ) ClientFault) → AsksSize n v (Ok size) u → size ≤ most_gathered → DoesCall (Reads n) u result w → DoesCall (ReadsAll n) v result w
 sized n v u w size (Ok bytes) h small used = (_, (h.0, used.0, subst (λ (k : ℕ). k ≤ most_gathered) h.1 small, used.1, refl), exchanged_then v u w (asked (request.FStat (be64 n)) h.0 ∷ []) used.0 h.2 used.2)
 sized n v u w size (Err fault.Stream) h small used = broke_since v u w h.2.failures used
 sized n v u w size (Err fault.Protocol) h small used = (_, used.1, used.2, unanswered_then v u w (asked (request.FStat (be64 n)) h.0 ∷ []) used.0 used.1 used.2 h.2 used.3)
@@ -358,11 +358,11 @@ sized n v u w size (Err fault.OutOfMemory) h small used = (_, inr (inr (h.0, use
 sized n v u w size (Err (fault.TooLarge more)) h small used = (_, inr (inr (h.0, used.0, subst (λ (k : ℕ). k ≤ most_gathered) h.1 small, used.1, refl)), exchanged_then v u w (asked (request.FStat (be64 n)) h.0 ∷ []) used.0 h.2 used.2)
 sized n v u w size (Err fault.Failed) h small used = let going = h.2.going in let failed = used.0 in absurd cc
 
-no_room_for_size : (n : ℕ) (v w : ClientView) → v.failed ≡ false → (w ≡ v) ⊎ ((r : Reply) × TakesMemory r × Exchanged v (asked (request.FStat (be64 n)) r ∷ []) w) → Does (ReadsAll n) v (Err fault.OutOfMemory) w
+no_room_for_size : (n : ℕ) (v w : ClientView) → v.failed ≡ false → (w ≡ v) ⊎ ((r : Reply) × TakesMemory r × Exchanged v (asked (request.FStat (be64 n)) r ∷ []) w) → DoesCall (ReadsAll n) v (Err fault.OutOfMemory) w
 no_room_for_size n v w began (inl same) = ([], inl (inl (refl, refl), refl), subst (Exchanged v []) (sym same) (exchanged_none v began))
 no_room_for_size n v w began (inr taken) = (asked (request.FStat (be64 n)) taken.0 ∷ [], inl (inr (taken.0, refl, taken.1), refl), taken.2)
 
-pub unsized : (n : ℕ) (v w : ClientView) (f : ClientFault) → AsksSize n v (Err f) w → Does (ReadsAll n) v (Err f) w
+pub unsized : (n : ℕ) (v w : ClientView) (f : ClientFault) → AsksSize n v (Err f) w → DoesCall (ReadsAll n) v (Err f) w
 unsized n v w fault.Stream h = h.1
 unsized n v w fault.Protocol h = ([], request.FStat (be64 n), [], h.1)
 unsized n v w (fault.Status code) h = absurd (h.0 code refl)

@@ -19,7 +19,7 @@ use Rattle.sf_client.specs.declared.fault.ClientFault.TheVariants as fault
 use Rattle.sf_client.specs.Packets.{HasNoPacket}
 use Rattle.sf_client.specs.Dues.{due_of, is_answer, is_due}
 use Rattle.sf_client.specs.Exchanges.{ClientView, Exchanged, SentAhead, Sent, Took, HasNoReply, HasNoVersion, last_id}
-use Rattle.sf_client.specs.Outcomes.{asked, Broke, Comes, Settles, Takes}
+use Rattle.sf_client.specs.Outcomes.{asked, Broke, Comes, SettlesRequest, TakesReply}
 use Rattle.sf_client.proofs.Exchanging.{exchanged_none, sent_more, took_one}
 use Rattle.sf_client.proofs.Filling.{header_is, same_number}
 
@@ -69,8 +69,8 @@ pub broke_since : (u v w : ClientView) → u.failures ≤ v.failures → Broke v
 broke_since u v w le broke = record { failed = broke.failed; grew = omega (arith, broke.grew); rose = rose_since u.failures v.failures w.failures le broke.grew broke.rose }
 
 -- the reply didn't come, or found no memory
-pub settled_err : (v u w : ClientView) (bytes : List ℕ) (d : Due) (f : ClientFault) → v.failed ≡ false → Sent v bytes u → Takes u d (Err f) w
-    → (q : WireRequest) → bytes ≡ packet (request_body v.next q) → d ≡ due_of q → Settles {X = Reply} (λ r. r) v q (Err f) w
+pub settled_err : (v u w : ClientView) (bytes : List ℕ) (d : Due) (f : ClientFault) → v.failed ≡ false → Sent v bytes u → TakesReply u d (Err f) w
+    → (q : WireRequest) → bytes ≡ packet (request_body v.next q) → d ≡ due_of q → SettlesRequest {X = Reply} (λ r. r) v q (Err f) w
 settled_err v u w bytes d fault.Stream began sent takes q is due = broke_since v u w sent.failures takes
 settled_err v u w bytes d fault.Protocol began sent takes q is due = (u, sent_alone v u bytes q began sent is, record { failed = takes.0; outgoing = takes.1; none = rw (← due) takes.2 })
 settled_err v u w bytes d (fault.Status code) began sent takes q is due = absurd takes
@@ -78,7 +78,7 @@ settled_err v u w bytes d fault.OutOfMemory began sent takes q is due = (takes.0
 settled_err v u w bytes d (fault.TooLarge size) began sent takes q is due = absurd takes
 settled_err v u w bytes d fault.Failed began sent takes q is due = absurd takes
 
-pub settled_ok : (v u w : ClientView) (bytes : List ℕ) (d : Due) (r : Reply) → v.failed ≡ false → Sent v bytes u → Takes u d (Ok r) w
+pub settled_ok : (v u w : ClientView) (bytes : List ℕ) (d : Due) (r : Reply) → v.failed ≡ false → Sent v bytes u → TakesReply u d (Ok r) w
     → (q : WireRequest) → bytes ≡ packet (request_body v.next q) → d ≡ due_of q → Exchanged v (asked q r ∷ []) w
 settled_ok v u w bytes d r began sent takes q is due = one_exchanged v u w bytes q r began sent is (rw (← due) takes.0) takes.1
 
@@ -100,7 +100,7 @@ success_is (reply.Names entries) e = absurd cc
 success_is (reply.Attrs attrs) e = absurd cc
 
 -- a fault says the same whatever was to be told
-pub same_fault : {X Y : Type 0} (told : X → Reply) (other : Y → Reply) (v w : ClientView) (q : WireRequest) (f : ClientFault) → Settles told v q (Err f) w → Settles other v q (Err f) w
+pub same_fault : {X Y : Type 0} (told : X → Reply) (other : Y → Reply) (v w : ClientView) (q : WireRequest) (f : ClientFault) → SettlesRequest told v q (Err f) w → SettlesRequest other v q (Err f) w
 same_fault told other v w q fault.Stream h = h
 same_fault told other v w q fault.Protocol h = h
 same_fault told other v w q (fault.Status code) h = h
@@ -108,7 +108,7 @@ same_fault told other v w q fault.OutOfMemory h = h
 same_fault told other v w q (fault.TooLarge size) h = h
 same_fault told other v w q fault.Failed h = h
 
-pub settled_comes : {X : Type 0} (told : X → Reply) (v w : ClientView) (q : WireRequest) (f : ClientFault) → v.failed ≡ false → Settles told v q (Err f) w → Comes told v q (Err f) w
+pub settled_comes : {X : Type 0} (told : X → Reply) (v w : ClientView) (q : WireRequest) (f : ClientFault) → v.failed ≡ false → SettlesRequest told v q (Err f) w → Comes told v q (Err f) w
 settled_comes told v w q fault.Stream began h = h
 settled_comes told v w q fault.Protocol began h = h
 settled_comes told v w q (fault.Status code) began h = h

@@ -18,13 +18,13 @@ abbrev pub most_ahead : ℕ
 most_ahead = 64
 
 -- the reply ends its call by this fault: it refuses by the code, or there was no memory for it
-abbrev pub EndsBy : Reply → ClientFault → Type 0
-EndsBy r fault.Stream = ⊥
-EndsBy r fault.Protocol = ⊥
-EndsBy r (fault.Status code) = Refuses r code
-EndsBy r fault.OutOfMemory = TakesMemory r
-EndsBy r (fault.TooLarge size) = ⊥
-EndsBy r fault.Failed = ⊥
+abbrev pub EndsCallBy : Reply → ClientFault → Type 0
+EndsCallBy r fault.Stream = ⊥
+EndsCallBy r fault.Protocol = ⊥
+EndsCallBy r (fault.Status code) = Refuses r code
+EndsCallBy r fault.OutOfMemory = TakesMemory r
+EndsCallBy r (fault.TooLarge size) = ⊥
+EndsCallBy r fault.Failed = ⊥
 
 -- A reply came and was dropped; or nothing was to be dropped, and this fault stops the sending.
 abbrev pub Misses : ClientFault → Ahead → Ahead → Type 0
@@ -37,21 +37,21 @@ Misses f a b =
     }))
 
 -- what is made of a reply that came
-abbrev pub Keeps : Ahead → Reply → Option Reply → Ahead → Type 0
-Keeps a r (Some x) b =
+abbrev pub KeepsReply : Ahead → Reply → Option Reply → Ahead → Type 0
+KeepsReply a r (Some x) b =
     (x ≡ r) × (is_refusal r ≡ false) × (a.dropped ≡ 0) × (b ≡ record a { waiting = a.waiting - 1 })
-Keeps a r None b = (f : ClientFault) × ((a.dropped ≡ 0) → EndsBy r f) × Misses f a b
+KeepsReply a r None b = (f : ClientFault) × ((a.dropped ≡ 0) → EndsCallBy r f) × Misses f a b
 
 -- A client, and what it has sent ahead.
-pub record Sender : Type 0 where
+pub record ClientAhead : Type 0 where
   pub client : ClientView
   pub ahead : Ahead
 
-abbrev pub sender : ClientView → Ahead → Sender
+abbrev pub sender : ClientView → Ahead → ClientAhead
 sender client ahead = record { client = client; ahead = ahead }
 
 -- what came of sending one more request; none was sent where there was no memory
-abbrev pub SendsOn : Sender → WireRequest → Result Bool ClientFault → Sender → Type 0
+abbrev pub SendsOn : ClientAhead → WireRequest → Result Bool ClientFault → ClientAhead → Type 0
 SendsOn x q (Ok true) y = Sent x.client (packet (request_body x.ahead.id q)) y.client
     × (y.ahead ≡ record x.ahead { id = id_after x.ahead.id; waiting = x.ahead.waiting + 1 })
 SendsOn x q (Ok false) y = (y.client ≡ x.client)
@@ -59,13 +59,13 @@ SendsOn x q (Ok false) y = (y.client ≡ x.client)
 SendsOn x q (Err f) y = (f ≡ fault.Stream) × Broke x.client y.client
 
 -- what came of taking the first of the replies that are due
-abbrev pub TakesOn : Sender → Due → Result (Option Reply) ClientFault → Sender → Type 0
+abbrev pub TakesOn : ClientAhead → Due → Result (Option Reply) ClientFault → ClientAhead → Type 0
 TakesOn x d (Ok (Some r)) y =
     (is_answer d r ≡ true) × (x.ahead.dropped ≡ 0) × Took x.client r y.client
     × (y.ahead ≡ record x.ahead { waiting = x.ahead.waiting - 1 })
 TakesOn x d (Ok None) y =
     (r : Reply) × (f : ClientFault) × (is_due d r ≡ true) × Took x.client r y.client
-    × ((x.ahead.dropped ≡ 0) → EndsBy r f) × Misses f x.ahead y.ahead
+    × ((x.ahead.dropped ≡ 0) → EndsCallBy r f) × Misses f x.ahead y.ahead
 TakesOn x d (Err fault.Stream) y = Broke x.client y.client
 TakesOn x d (Err fault.Protocol) y =
     (y.client.failed ≡ true) × (y.client.outgoing ≡ x.client.outgoing)

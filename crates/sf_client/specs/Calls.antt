@@ -15,29 +15,29 @@ use Rattle.sf_client.specs.declared.fault.ClientFault.{ClientFault}
 use Rattle.sf_client.specs.declared.fault.ClientFault.TheVariants as fault
 use Rattle.sf_client.specs.Dues.{Refuses}
 use Rattle.sf_client.specs.Exchanges.{ClientView, Exchange, Exchanged, Unanswered, requests_of}
-use Rattle.sf_client.specs.Outcomes.{asked, Broke, Comes, Settles}
-use Rattle.sf_client.specs.Ahead.{EndsBy}
+use Rattle.sf_client.specs.Outcomes.{asked, Broke, Comes, SettlesRequest}
+use Rattle.sf_client.specs.Ahead.{EndsCallBy}
 
 -- What came of a call whose exchanges are told by a script: it made them, in step; or the line
 -- failed; or after some exchanges no due reply came for the next request.
-abbrev pub Does : {X : Type 0} → (List Exchange → Result X ClientFault → Type 0) → ClientView
+abbrev pub DoesCall : {X : Type 0} → (List Exchange → Result X ClientFault → Type 0) → ClientView
     → Result X ClientFault → ClientView → Type 0
-Does Script v (Ok x) w = (xs : List Exchange) × Script xs (Ok x) × Exchanged v xs w
-Does Script v (Err fault.Stream) w = Broke v w
-Does Script v (Err fault.Protocol) w = (xs : List Exchange) × (q : WireRequest)
+DoesCall Script v (Ok x) w = (xs : List Exchange) × Script xs (Ok x) × Exchanged v xs w
+DoesCall Script v (Err fault.Stream) w = Broke v w
+DoesCall Script v (Err fault.Protocol) w = (xs : List Exchange) × (q : WireRequest)
     × (later : List WireRequest) × Unanswered v xs q later w
-Does Script v (Err (fault.Status code)) w =
+DoesCall Script v (Err (fault.Status code)) w =
     (xs : List Exchange) × Script xs (Err (fault.Status code)) × Exchanged v xs w
-Does Script v (Err fault.OutOfMemory) w =
+DoesCall Script v (Err fault.OutOfMemory) w =
     (xs : List Exchange) × Script xs (Err fault.OutOfMemory) × Exchanged v xs w
-Does Script v (Err (fault.TooLarge size)) w =
+DoesCall Script v (Err (fault.TooLarge size)) w =
     (xs : List Exchange) × Script xs (Err (fault.TooLarge size)) × Exchanged v xs w
-Does Script v (Err fault.Failed) w = (v.failed ≡ true) × (w ≡ v)
+DoesCall Script v (Err fault.Failed) w = (v.failed ≡ true) × (w ≡ v)
 
 -- The last request ended the call by this fault; or it wasn't sent, for want of memory.
-abbrev pub IsLast : WireRequest → List Exchange → ClientFault → Type 0
-IsLast q last f =
-    ((last ≡ []) × (f ≡ fault.OutOfMemory)) ⊎ ((r : Reply) × (last ≡ asked q r ∷ []) × EndsBy r f)
+abbrev pub EndsAtLast : WireRequest → List Exchange → ClientFault → Type 0
+EndsAtLast q last f =
+    ((last ≡ []) × (f ≡ fault.OutOfMemory)) ⊎ ((r : Reply) × (last ≡ asked q r ∷ []) × EndsCallBy r f)
 
 -- What is done by a handle, and then CLOSE. Where that was well, CLOSE may end the call by a fault.
 abbrev pub Closes : {X : Type 0} → (List Exchange → Result X ClientFault → Type 0) → ℕ
@@ -45,7 +45,7 @@ abbrev pub Closes : {X : Type 0} → (List Exchange → Result X ClientFault →
 Closes {X} Script n xs (Ok x) = (ys : List Exchange) × Script ys (Ok x)
     × (xs ≡ ys ++ asked (request.Close (be64 n)) (reply.Status Success) ∷ [])
 Closes {X} Script n xs (Err f) = (ys : List Exchange) × (r : Reply)
-    × (Script ys (Err f) ⊎ ((x : X) × Script ys (Ok x) × EndsBy r f))
+    × (Script ys (Err f) ⊎ ((x : X) × Script ys (Ok x) × EndsCallBy r f))
     × (xs ≡ ys ++ asked (request.Close (be64 n)) r ∷ [])
 
 -- A request that opens a handle, what is done by it, and CLOSE. There is no CLOSE only where no handle was opened.
@@ -53,7 +53,7 @@ abbrev pub ByHandle : {X : Type 0} → WireRequest → (ℕ → List Exchange �
     → Type 0) → List Exchange → Result X ClientFault → Type 0
 ByHandle opening Script xs (Ok x) = (n : ℕ) × (ys : List Exchange) × Closes (Script n) n ys (Ok x)
     × (xs ≡ asked opening (reply.Handle n) ∷ ys)
-ByHandle opening Script xs (Err f) = IsLast opening xs f
+ByHandle opening Script xs (Err f) = EndsAtLast opening xs f
     ⊎ ((n : ℕ) × (ys : List Exchange) × Closes (Script n) n ys (Err f)
     × (xs ≡ asked opening (reply.Handle n) ∷ ys))
 
@@ -93,7 +93,7 @@ abbrev pub ReadsOn : ℕ → List Exchange → Result (List ℕ) ClientFault →
 ReadsOn n xs (Ok bytes) = (pieces : List (List ℕ)) × (bytes ≡ concat pieces)
     × (xs ≡ reads n 0 pieces ++ asked (read_from n (length bytes)) (reply.Status EndOfFile) ∷ [])
 ReadsOn n xs (Err f) = (pieces : List (List ℕ)) × (last : List Exchange)
-    × IsLast (read_from n (length (concat pieces))) last f × (xs ≡ reads n 0 pieces ++ last)
+    × EndsAtLast (read_from n (length (concat pieces))) last f × (xs ≡ reads n 0 pieces ++ last)
 
 abbrev pub IsReadOf : ℕ → WireRequest → Type 0
 IsReadOf n q = (offset : ℕ) × (q ≡ read_from n offset)
@@ -134,7 +134,7 @@ IsTooLarge n xs f = (r : Reply) × (most_gathered < size_of r) × (f ≡ fault.T
 abbrev pub ReadsAll : ℕ → List Exchange → Result (List ℕ) ClientFault → Type 0
 ReadsAll n xs (Ok bytes) = (r : Reply) × (ys : List Exchange) × (size_of r ≤ most_gathered)
     × Reads n ys (Ok bytes) × (xs ≡ asked (request.FStat (be64 n)) r ∷ ys)
-ReadsAll n xs (Err f) = (IsLast (request.FStat (be64 n)) xs f × (f ≡ fault.OutOfMemory))
+ReadsAll n xs (Err f) = (EndsAtLast (request.FStat (be64 n)) xs f × (f ≡ fault.OutOfMemory))
     ⊎ (IsTooLarge n xs f ⊎ ((r : Reply) × (ys : List Exchange) × (size_of r ≤ most_gathered)
     × Reads n ys (Err f) × (xs ≡ asked (request.FStat (be64 n)) r ∷ ys)))
 
@@ -142,33 +142,33 @@ ReadsAll n xs (Err f) = (IsLast (request.FStat (be64 n)) xs f × (f ≡ fault.Ou
 abbrev pub count_of_pieces : List ℕ → ℕ
 count_of_pieces bytes = (length bytes + 32767) / 32768
 
-abbrev pub write_at : ℕ → List ℕ → ℕ → WireRequest
-write_at n bytes k = request.Write (be64 n) (k * 32768) (take 32768 (drop (k * 32768) bytes))
+abbrev pub write_piece : ℕ → List ℕ → ℕ → WireRequest
+write_piece n bytes k = request.Write (be64 n) (k * 32768) (take 32768 (drop (k * 32768) bytes))
 
 -- the WRITEs of the first k pieces, each where it stands
 unfoldable pub writes : ℕ → List ℕ → ℕ → List WireRequest
 writes n bytes zero = []
-writes n bytes (suc k) = writes n bytes k ++ write_at n bytes k ∷ []
+writes n bytes (suc k) = writes n bytes k ++ write_piece n bytes k ∷ []
 
-abbrev pub IsDone : Exchange → Type 0
-IsDone x = x.reply ≡ reply.Status Success
+abbrev pub IsSuccess : Exchange → Type 0
+IsSuccess x = x.reply ≡ reply.Status Success
 
 -- The first refusal refused by this code; or memory was wanting.
-abbrev pub Stops : List Exchange → ClientFault → Type 0
-Stops xs fault.Stream = ⊥
-Stops xs fault.Protocol = ⊥
-Stops xs (fault.Status code) = (before : List Exchange) × (x : Exchange) × (after : List Exchange)
-    × AllByRecursion IsDone before × Refuses x.reply code × (xs ≡ before ++ x ∷ after)
-Stops xs fault.OutOfMemory = Unit {0}
-Stops xs (fault.TooLarge size) = ⊥
-Stops xs fault.Failed = ⊥
+abbrev pub EndsAtRefusal : List Exchange → ClientFault → Type 0
+EndsAtRefusal xs fault.Stream = ⊥
+EndsAtRefusal xs fault.Protocol = ⊥
+EndsAtRefusal xs (fault.Status code) = (before : List Exchange) × (x : Exchange) × (after : List Exchange)
+    × AllByRecursion IsSuccess before × Refuses x.reply code × (xs ≡ before ++ x ∷ after)
+EndsAtRefusal xs fault.OutOfMemory = Unit {0}
+EndsAtRefusal xs (fault.TooLarge size) = ⊥
+EndsAtRefusal xs fault.Failed = ⊥
 
 -- All pieces were written, in order; or only some, where a WRITE was refused or memory was wanting.
 abbrev pub WritesAll : List ℕ → ℕ → List Exchange → Result (Unit {0}) ClientFault → Type 0
 WritesAll bytes n xs (Ok x) =
-    (requests_of xs ≡ writes n bytes (count_of_pieces bytes)) × AllByRecursion IsDone xs
+    (requests_of xs ≡ writes n bytes (count_of_pieces bytes)) × AllByRecursion IsSuccess xs
 WritesAll bytes n xs (Err f) =
-    (k : ℕ) × (k ≤ count_of_pieces bytes) × (requests_of xs ≡ writes n bytes k) × Stops xs f
+    (k : ℕ) × (k ≤ count_of_pieces bytes) × (requests_of xs ≡ writes n bytes k) × EndsAtRefusal xs f
 
 -- a directory's names were listed to the end
 unfoldable pub listings : ℕ → List (List Entry) → List Exchange
@@ -183,7 +183,7 @@ abbrev pub ListsOn : ℕ → List Exchange → Result (List Entry) ClientFault �
 ListsOn n xs (Ok entries) = (parts : List (List Entry)) × (entries ≡ all_entries parts)
     × (xs ≡ listings n parts ++ asked (request.ReadDir (be64 n)) (reply.Status EndOfFile) ∷ [])
 ListsOn n xs (Err f) = (parts : List (List Entry)) × (last : List Exchange)
-    × IsLast (request.ReadDir (be64 n)) last f × (xs ≡ listings n parts ++ last)
+    × EndsAtLast (request.ReadDir (be64 n)) last f × (xs ≡ listings n parts ++ last)
 
 abbrev pub IsListing : ℕ → Exchange → Type 0
 IsListing n x = x.request ≡ request.ReadDir (be64 n)
@@ -211,7 +211,7 @@ abbrev pub ClosesAfter : {X : Type 0} → ℕ → Result X ClientFault → Clien
 ClosesAfter n (Ok x) v (Ok y) w =
     (y ≡ x) × Exchanged v (asked (request.Close (be64 n)) (reply.Status Success) ∷ []) w
 ClosesAfter n (Ok x) v (Err f) w =
-    Settles {X = Unit {0}} (λ _. reply.Status Success) v (request.Close (be64 n)) (Err f) w
+    SettlesRequest {X = Unit {0}} (λ _. reply.Status Success) v (request.Close (be64 n)) (Err f) w
 ClosesAfter n (Err f) v (Ok y) w = ⊥
 ClosesAfter n (Err fault.Stream) v (Err f) w = (f ≡ fault.Stream) × (w ≡ v)
 ClosesAfter n (Err fault.Protocol) v (Err f) w = (f ≡ fault.Protocol) × (w ≡ v)
@@ -231,14 +231,14 @@ IsKept (Err (fault.TooLarge size)) v = v.failed ≡ false
 IsKept (Err fault.Failed) v = Unit {0}
 
 -- the fault that is told after a first one and a CLOSE
-abbrev pub told_of : ClientFault → Result (Unit {0}) ClientFault → ClientFault
-told_of first (Ok x) = first
-told_of first (Err fault.Stream) = fault.Stream
-told_of first (Err fault.Protocol) = fault.Protocol
-told_of first (Err (fault.Status code)) = first
-told_of first (Err fault.OutOfMemory) = first
-told_of first (Err (fault.TooLarge size)) = first
-told_of first (Err fault.Failed) = first
+abbrev pub first_fault : ClientFault → Result (Unit {0}) ClientFault → ClientFault
+first_fault first (Ok x) = first
+first_fault first (Err fault.Stream) = fault.Stream
+first_fault first (Err fault.Protocol) = fault.Protocol
+first_fault first (Err (fault.Status code)) = first
+first_fault first (Err fault.OutOfMemory) = first
+first_fault first (Err (fault.TooLarge size)) = first
+first_fault first (Err fault.Failed) = first
 
 -- EOF is no fault here: it says that there is nothing more
 abbrev pub ended_by : {X : Type 0} → Option ClientFault → X → Result X ClientFault

@@ -38,29 +38,29 @@ Comes told v q (Err (fault.TooLarge size)) w = ⊥
 Comes told v q (Err fault.Failed) w = (v.failed ≡ true) × (w ≡ v)
 
 -- The same of a request that was sent without memory: its one reply was taken in any case.
-abbrev pub Settles : {X : Type 0} → (X → Reply) → ClientView → WireRequest → Result X ClientFault
+abbrev pub SettlesRequest : {X : Type 0} → (X → Reply) → ClientView → WireRequest → Result X ClientFault
     → ClientView → Type 0
-Settles told v q (Ok x) w = Exchanged v (asked q (told x) ∷ []) w
-Settles told v q (Err fault.Stream) w = Broke v w
-Settles told v q (Err fault.Protocol) w = Unanswered v [] q [] w
-Settles told v q (Err (fault.Status code)) w =
+SettlesRequest told v q (Ok x) w = Exchanged v (asked q (told x) ∷ []) w
+SettlesRequest told v q (Err fault.Stream) w = Broke v w
+SettlesRequest told v q (Err fault.Protocol) w = Unanswered v [] q [] w
+SettlesRequest told v q (Err (fault.Status code)) w =
     (r : Reply) × Refuses r code × Exchanged v (asked q r ∷ []) w
-Settles told v q (Err fault.OutOfMemory) w =
+SettlesRequest told v q (Err fault.OutOfMemory) w =
     (r : Reply) × TakesMemory r × Exchanged v (asked q r ∷ []) w
-Settles told v q (Err (fault.TooLarge size)) w = ⊥
-Settles told v q (Err fault.Failed) w = ⊥
+SettlesRequest told v q (Err (fault.TooLarge size)) w = ⊥
+SettlesRequest told v q (Err fault.Failed) w = ⊥
 
 -- what came of taking a reply
-abbrev pub Takes : ClientView → Due → Result Reply ClientFault → ClientView → Type 0
-Takes v d (Ok r) w = (is_due d r ≡ true) × Took v r w
-Takes v d (Err fault.Stream) w = Broke v w
-Takes v d (Err fault.Protocol) w =
+abbrev pub TakesReply : ClientView → Due → Result Reply ClientFault → ClientView → Type 0
+TakesReply v d (Ok r) w = (is_due d r ≡ true) × Took v r w
+TakesReply v d (Err fault.Stream) w = Broke v w
+TakesReply v d (Err fault.Protocol) w =
     (w.failed ≡ true) × (w.outgoing ≡ v.outgoing) × HasNoReply v.incoming v.next d
-Takes v d (Err (fault.Status code)) w = ⊥
-Takes v d (Err fault.OutOfMemory) w =
+TakesReply v d (Err (fault.Status code)) w = ⊥
+TakesReply v d (Err fault.OutOfMemory) w =
     (r : Reply) × (is_due d r ≡ true) × TakesMemory r × Took v r w
-Takes v d (Err (fault.TooLarge size)) w = ⊥
-Takes v d (Err fault.Failed) w = ⊥
+TakesReply v d (Err (fault.TooLarge size)) w = ⊥
+TakesReply v d (Err fault.Failed) w = ⊥
 
 -- what came of sending a request under an id, with no wait for its reply
 abbrev pub Sends : ClientView → ℕ → WireRequest → Result (Unit {0}) ClientFault → ClientView

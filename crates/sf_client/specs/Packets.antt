@@ -5,8 +5,8 @@ use Rattle.sf_field.specs.Fields.{packet}
 use Rattle.sf_wire.specs.Packets.{IsBody}
 
 -- the input has fewer bytes than these
-abbrev pub Ends : Option (List ℕ) → ℕ → Type 0
-Ends incoming n = IfSome incoming (λ input. length input < n)
+abbrev pub RunsOut : Option (List ℕ) → ℕ → Type 0
+RunsOut incoming n = IfSome incoming (λ input. length input < n)
 
 -- no packet stands at the front of the input
 abbrev pub HasNoPacket : Option (List ℕ) → Type 0

@@ -4,7 +4,7 @@ ghost use Rattle.std.specs.Prelude.{◌≡◌, ◌≢◌, ◌+◌, ◌-◌, ◌<
 ghost use Rattle.sf_request.specs.Requests.{request_body};
 ghost use Rattle.sf_client.specs.declared.fault.ClientFault.TheVariants as fault;
 ghost use Rattle.sf_client.specs.Exchanges.{id_after};
-ghost use Rattle.sf_client.specs.Ahead.{Misses, Keeps, SendsOn, TakesOn, most_ahead, sender};
+ghost use Rattle.sf_client.specs.Ahead.{Misses, KeepsReply, SendsOn, TakesOn, most_ahead, sender};
 
 use crate::client::{Client, id_following};
 use crate::due::{Due, refusal};
@@ -92,7 +92,7 @@ impl Ahead {
     /// A reply came: nothing where it is dropped, or refuses.
     fn kept(&mut self, reply: Reply) -> Option<Reply>
         requires { 0 < self.old.waiting }
-        ensures { Keeps self.old reply result self.new }
+        ensures { KeepsReply self.old reply result self.new }
     {
         self.waiting -= 1;
         if self.dropped > 0 {

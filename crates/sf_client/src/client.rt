@@ -11,7 +11,7 @@ ghost use Rattle.sf_reply.specs.declared.reply.Reply.TheVariants.{Status};
 ghost use Rattle.sf_reply.specs.declared.reply.StatusCode.TheVariants.{Success};
 ghost use Rattle.sf_client.specs.Dues.{due_of, is_answer};
 ghost use Rattle.sf_client.specs.Exchanges.{id_after, IsGreeted, IsStarted, HasNoVersion};
-ghost use Rattle.sf_client.specs.Outcomes.{Broke, Comes, MayNotStart, ReadsDue, Sends, Settles, Takes};
+ghost use Rattle.sf_client.specs.Outcomes.{Broke, Comes, MayNotStart, ReadsDue, Sends, SettlesRequest, TakesReply};
 
 use crate::ahead::Ahead;
 use crate::due::{Due, find_due, made, refusal};
@@ -232,7 +232,7 @@ impl<L: Line + Drop> Client<L> {
 
     /// The reply of the first request whose reply is due.
     pub(crate) fn take_reply(&mut self, due: Due) -> Result<Reply, ClientFault>
-        ensures { Takes self.old due result self.new }
+        ensures { TakesReply self.old due result self.new }
     {
         match read_due(self.alloc, &mut self.line, &mut self.body, self.next, due) {
             Ok(reply) => {
@@ -251,7 +251,7 @@ impl<L: Line + Drop> Client<L> {
     fn settle(&mut self, bytes: &[u8], due: Due) -> Result<Reply, ClientFault>
         requires { self.old.failed ≡ false }
         ensures comes { (q : WireRequest) → bytes.now ≡ packet (request_body self.old.next q)
-            → due ≡ due_of q → Settles (λ r. r) self.old q result self.new }
+            → due ≡ due_of q → SettlesRequest (λ r. r) self.old q result self.new }
         ensures loosely { (q : WireRequest) → bytes.now ≡ packet (request_body self.old.next q)
             → due ≡ due_of q → Comes (λ r. r) self.old q result self.new }
         ensures answer { IfOk result (λ r. is_answer due r ≡ true) }
@@ -284,7 +284,7 @@ impl<L: Line + Drop> Client<L> {
     /// Closes a handle. It takes no memory to send CLOSE.
     pub(crate) fn close(&mut self, handle: u64) -> Result<(), ClientFault>
         requires { self.old.failed ≡ false }
-        ensures { Settles (λ _. Status Success) self.old (Close (be64 handle)) result self.new }
+        ensures { SettlesRequest (λ _. Status Success) self.old (Close (be64 handle)) result self.new }
     {
         let packet = close_packet(self.next, handle);
         match self.settle(&packet, Due::Success) {

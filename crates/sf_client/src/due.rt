@@ -2,7 +2,7 @@
 
 ghost use Rattle.std.specs.Prelude.{◌≡◌, IfSome, IfNone, IfOk, OnErr, MatchOption, true, false};
 ghost use Rattle.sf_reply.specs.declared.reply.Reply.{Reply};
-ghost use Rattle.sf_reply.specs.Reading.{reply_of, IsCounted, IsReply};
+ghost use Rattle.sf_reply.specs.Reading.{reply_of, HasCountedNames, IsReply};
 ghost use Rattle.sf_client.specs.Dues.{due_of, is_answer, is_refusal, is_due, Refuses, TakesMemory};
 
 use sf_reply::{FoundReply, Reply, StatusCode, find_reply};
@@ -40,7 +40,7 @@ impl Due {
 
     /// Whether a reply is the due one.
     fn is_answered(self, found: &FoundReply<'_>) -> bool
-        requires { IsCounted found.now }
+        requires { HasCountedNames found.now }
         ensures { result ≡ is_answer self (reply_of found.now) }
     {
         match (self, found) {
@@ -57,7 +57,7 @@ impl Due {
 
     /// Whether a reply is the due one, or refuses.
     pub(crate) fn allows(self, found: &FoundReply<'_>) -> bool
-        requires { IsCounted found.now }
+        requires { HasCountedNames found.now }
         ensures { result ≡ is_due self (reply_of found.now) }
     {
         self.is_answered(found) || is_refused(found)

@@ -10,7 +10,7 @@ ghost use Rattle.sf_reply.specs.declared.reply.Reply.TheVariants as reply;
 ghost use Rattle.sf_client.specs.Dues.{due_of};
 ghost use Rattle.sf_client.specs.Outcomes.{Comes};
 ghost use Rattle.sf_client.specs.Ahead.{SendsOn, TakesOn, GathersPiece, GathersNames, most_ahead, sender};
-ghost use Rattle.sf_client.specs.Calls.{Does, ByHandle, ClosesAfter, EndsAfter, IsKept, AsksSize, told_of, told_by, ended_by, read_from, to_read, to_write, Reads, ReadsAll, WritesAll, ListsAll, items_of};
+ghost use Rattle.sf_client.specs.Calls.{DoesCall, ByHandle, ClosesAfter, EndsAfter, IsKept, AsksSize, first_fault, told_by, ended_by, read_from, to_read, to_write, Reads, ReadsAll, WritesAll, ListsAll, items_of};
 
 use crate::ahead::Ahead;
 use crate::client::Client;
@@ -53,7 +53,7 @@ const TO_WRITE: OpenFlags = OpenFlags {
 
 /// The fault that a call tells after a fault and its CLOSE: the first one, unless the client failed.
 fn told_after(first: ClientFault, closing: Result<(), ClientFault>) -> ClientFault
-    ensures { result ≡ told_of first closing }
+    ensures { result ≡ first_fault first closing }
 {
     match closing {
         Err(ClientFault::Stream) => ClientFault::Stream,
@@ -209,7 +209,7 @@ impl<L: Line + Drop> Client<L> {
     /// short piece those on their way are of no use, and the reading goes on one READ at a time.
     fn read_pieces(&mut self, handle: u64, size: u64) -> Result<Gathered<u8>, ClientFault>
         requires { self.old.failed ≡ false }
-        ensures { Does (Reads handle) self.old result self.new }
+        ensures { DoesCall (Reads handle) self.old result self.new }
     {
         let mut bytes = Vec::new(self.alloc());
         let mut ahead = self.ahead();
@@ -240,7 +240,7 @@ impl<L: Line + Drop> Client<L> {
     /// The bytes of the file.
     fn read_all(&mut self, handle: u64) -> Result<Gathered<u8>, ClientFault>
         requires { self.old.failed ≡ false }
-        ensures { Does (ReadsAll handle) self.old result self.new }
+        ensures { DoesCall (ReadsAll handle) self.old result self.new }
     {
         let size = match self.told_size(handle) {
             Ok(size) => size,
@@ -290,7 +290,7 @@ impl<L: Line + Drop> Client<L> {
     /// Writes the bytes from the file's beginning on, in pieces that are sent ahead.
     fn write_pieces(&mut self, handle: u64, bytes: &[u8]) -> Result<(), ClientFault>
         requires { self.old.failed ≡ false }
-        ensures { Does (WritesAll bytes.now handle) self.old result self.new }
+        ensures { DoesCall (WritesAll bytes.now handle) self.old result self.new }
     {
         let mut rest = bytes;
         let mut offset = 0;
@@ -348,7 +348,7 @@ impl<L: Line + Drop> Client<L> {
     /// The names of the directory, listed to its end, with one READDIR ahead.
     fn list_all(&mut self, handle: u64) -> Result<Gathered<Entry>, ClientFault>
         requires { self.old.failed ≡ false }
-        ensures { Does (ListsAll handle) self.old result self.new }
+        ensures { DoesCall (ListsAll handle) self.old result self.new }
     {
         let mut entries = Vec::new(self.alloc());
         let mut ahead = self.ahead();
@@ -395,7 +395,7 @@ impl<L: Line + Drop> Client<L> {
 
     fn get_all(&mut self, path: &[u8]) -> Result<Gathered<u8>, ClientFault>
         requires { length path.now < 2 ^ 31 }
-        ensures { Does (ByHandle (request.Open path.now to_read no_attrs) ReadsAll) self.old result
+        ensures { DoesCall (ByHandle (request.Open path.now to_read no_attrs) ReadsAll) self.old result
             self.new }
     {
         let handle = match self.open_file(path, TO_READ) {
@@ -408,7 +408,7 @@ impl<L: Line + Drop> Client<L> {
 
     fn list_names(&mut self, path: &[u8]) -> Result<Gathered<Entry>, ClientFault>
         requires { length path.now < 2 ^ 31 }
-        ensures { Does (ByHandle (request.OpenDir path.now) ListsAll) self.old result self.new }
+        ensures { DoesCall (ByHandle (request.OpenDir path.now) ListsAll) self.old result self.new }
     {
         let handle = match self.open_directory(path) {
             Ok(handle) => handle,
@@ -421,7 +421,7 @@ impl<L: Line + Drop> Client<L> {
     /// The bytes of a file: of 2^30 at most, as its size was told.
     pub fn get(&mut self, path: &[u8]) -> Result<Vec<u8>, ClientFault>
         requires { length path.now < 2 ^ 31 }
-        ensures { Does (ByHandle (request.Open path.now to_read no_attrs) ReadsAll) self.old
+        ensures { DoesCall (ByHandle (request.Open path.now to_read no_attrs) ReadsAll) self.old
             (items_of result) self.new }
     {
         match self.get_all(path) {
@@ -433,7 +433,7 @@ impl<L: Line + Drop> Client<L> {
     /// Makes a file of these bytes, or empties the one that is there and writes them.
     pub fn put(&mut self, path: &[u8], bytes: &[u8]) -> Result<(), ClientFault>
         requires { length path.now < 2 ^ 31 }
-        ensures { Does (ByHandle (request.Open path.now to_write no_attrs) (WritesAll bytes.now))
+        ensures { DoesCall (ByHandle (request.Open path.now to_write no_attrs) (WritesAll bytes.now))
             self.old result self.new }
     {
         let handle = match self.open_file(path, TO_WRITE) {
@@ -447,7 +447,7 @@ impl<L: Line + Drop> Client<L> {
     /// The names of a directory.
     pub fn list(&mut self, path: &[u8]) -> Result<Vec<Entry>, ClientFault>
         requires { length path.now < 2 ^ 31 }
-        ensures { Does (ByHandle (request.OpenDir path.now) ListsAll) self.old
+        ensures { DoesCall (ByHandle (request.OpenDir path.now) ListsAll) self.old
             (items_of result) self.new }
     {
         match self.list_names(path) {

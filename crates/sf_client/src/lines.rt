@@ -4,7 +4,7 @@ ghost use Rattle.std.specs.Prelude.{◌≡◌, ◌<◌, ◌≤◌, ℕ, List, �
 ghost use Rattle.std.specs.Io.KnownBytes.{Consumes};
 ghost use Rattle.sf_line.specs.Lines.{Rose};
 ghost use Rattle.sf_field.specs.Fields.{be32, packet};
-ghost use Rattle.sf_client.specs.Packets.{Ends, HasNoPacket};
+ghost use Rattle.sf_client.specs.Packets.{RunsOut, HasNoPacket};
 
 use sf_field::MAX_BODY;
 use sf_line::{Line, LineFault};
@@ -14,7 +14,7 @@ fn fill<L: Line>(line: &mut L, buffer: &mut [u8]) -> Result<bool, LineFault>
     ensures full { IfOk result (λ full. full ≡ true
         → Consumes (L.incoming line.old) (L.incoming line.new) buffer.new) }
     ensures short { IfOk result (λ full. full ≡ false
-        → Ends (L.incoming line.old) (length buffer.new)) }
+        → RunsOut (L.incoming line.old) (length buffer.new)) }
     ensures outgoing { L.outgoing line.new ≡ L.outgoing line.old }
     ensures failures { L.failed line.old ≤ L.failed line.new }
     ensures fault { OnErr result (Rose (L.failed line.old) (L.failed line.new)) }

@@ -2,7 +2,7 @@
 use Rattle.std.specs.Prelude.{◌≡◌, ◌≢◌, ◌<◌, ℕ, Some, None}
 use Rattle.std.proofs.Common.{sym, ap, subst, ◌∙◌, inl, inr}
 use Rattle.std.proofs.lemmas.Bool.{cases_eq}
-use Rattle.sf_copying.specs.Copies.{Copying, copying, Scene, AreCopies, Changes, Starts, GoesOn, Ends, Spares}
+use Rattle.sf_copying.specs.Copies.{Copying, copying, Copiers, AreCopies, Changes, StartsToCopy, CopiesOneBlock, CopiesRest, Spares}
 
 some_is : {A : Type 0} (x y : A) → Some x ≡ Some y → x ≡ y
 some_is x y e = cc
@@ -11,10 +11,10 @@ none_some : {A : Type 0} (x : A) → None ≡ Some x → ⊥
 none_some x e = cc
 
 -- two calls never copy into one file
-pub one_writer : (s : Scene) → AreCopies s → (n m : ℕ) (c d : Copying) → s.copying_of n ≡ Some c → s.copying_of m ≡ Some d → c.file ≡ d.file → n ≡ m
+pub one_writer : (s : Copiers) → AreCopies s → (n m : ℕ) (c d : Copying) → s.copying_of n ≡ Some c → s.copying_of m ≡ Some d → c.file ≡ d.file → n ≡ m
 one_writer s copies n m c d at bt e = some_is n m (sym (copies.holds n c at) ∙ (ap s.writer e ∙ copies.holds m d bt))
 
-module _ (old new : Scene) (n file : ℕ) (copies : AreCopies old) (changes : Changes old new n file) (own : (f : ℕ) → old.writer f ≡ Some n → f ≡ file) (mine : (m : ℕ) → old.writer file ≡ Some m → m ≡ n) where
+module _ (old new : Copiers) (n file : ℕ) (copies : AreCopies old) (changes : Changes old new n file) (own : (f : ℕ) → old.writer f ≡ Some n → f ≡ file) (mine : (m : ℕ) → old.writer file ≡ Some m → m ≡ n) where
   -- another call's file is another one
   apart : (m : ℕ) (c : Copying) → m ≢ n → old.copying_of m ≡ Some c → c.file ≢ file
   apart m c ne at e = ne (mine m (sym (ap old.writer e) ∙ copies.holds m c at))
@@ -42,7 +42,7 @@ module _ (old new : Scene) (n file : ℕ) (copies : AreCopies old) (changes : Ch
   other_settled f ne at = changes.lefts f ne ∙ copies.settled f (sym (changes.writers f ne) ∙ at)
 
 -- the call copies into the file now
-module _ (old new : Scene) (n : ℕ) (c : Copying) (copies : AreCopies old) (changes : Changes old new n c.file) (own : (f : ℕ) → old.writer f ≡ Some n → f ≡ c.file) (mine : (m : ℕ) → old.writer c.file ≡ Some m → m ≡ n)
+module _ (old new : Copiers) (n : ℕ) (c : Copying) (copies : AreCopies old) (changes : Changes old new n c.file) (own : (f : ℕ) → old.writer f ≡ Some n → f ≡ c.file) (mine : (m : ℕ) → old.writer c.file ≡ Some m → m ≡ n)
     (now : new.copying_of n ≡ Some c) (holds : new.writer c.file ≡ Some n) (left : new.left c.file ≡ c.left) (some : 0 < c.left) where
   is_own : (m : ℕ) (d : Copying) → m ≡ n → new.copying_of m ≡ Some d → c ≡ d
   is_own m d e at = some_is c d (sym now ∙ (sym (ap new.copying_of e) ∙ at))
@@ -83,24 +83,24 @@ module _ (old new : Scene) (n : ℕ) (c : Copying) (copies : AreCopies old) (cha
   copies_now = record { some = some'; left = left'; holds = holds'; held = held'; settled = settled' }
 
 -- no file is held by a call that copies nothing
-holds_none : (s : Scene) → AreCopies s → (n f : ℕ) → s.copying_of n ≡ None → s.writer f ≡ Some n → ⊥
+holds_none : (s : Copiers) → AreCopies s → (n f : ℕ) → s.copying_of n ≡ None → s.writer f ≡ Some n → ⊥
 holds_none s copies n f none at = let w = copies.held f n at in none_some w.0 (sym none ∙ w.1)
 
 -- a call that copies holds its own file alone
-holds_one : (s : Scene) → AreCopies s → (n f : ℕ) (c : Copying) → s.copying_of n ≡ Some c → s.writer f ≡ Some n → f ≡ c.file
+holds_one : (s : Copiers) → AreCopies s → (n f : ℕ) (c : Copying) → s.copying_of n ≡ Some c → s.writer f ≡ Some n → f ≡ c.file
 holds_one s copies n f c is at = let w = copies.held f n at in sym w.2 ∙ ap (λ (x : Copying). x.file) (some_is w.0 c (sym w.1 ∙ is))
 
-pub starts_keeps : (old new : Scene) (n : ℕ) (c : Copying) → AreCopies old → Starts old new n c → AreCopies new
+pub starts_keeps : (old new : Copiers) (n : ℕ) (c : Copying) → AreCopies old → StartsToCopy old new n c → AreCopies new
 starts_keeps old new n c copies s = copies_now old new n c copies s.changes
     (λ f at. absurd (holds_none old copies n f s.was at)) (λ m at. absurd (none_some m (sym s.free ∙ at)))
     s.now s.holds s.left s.some
 
-pub goes_keeps : (old new : Scene) (n : ℕ) (c : Copying) (k : ℕ) → AreCopies old → GoesOn old new n c k → AreCopies new
+pub goes_keeps : (old new : Copiers) (n : ℕ) (c : Copying) (k : ℕ) → AreCopies old → CopiesOneBlock old new n c k → AreCopies new
 goes_keeps old new n c k copies g = copies_now old new n (copying c.file k) copies g.changes
     (λ f at. holds_one old copies n f c g.was at) (λ m at. some_is m n (sym at ∙ copies.holds n c g.was))
     g.now g.holds g.left g.some
 
-module _ (old new : Scene) (n : ℕ) (c : Copying) (copies : AreCopies old) (e : Ends old new n c) where
+module _ (old new : Copiers) (n : ℕ) (c : Copying) (copies : AreCopies old) (e : CopiesRest old new n c) where
   own : (f : ℕ) → old.writer f ≡ Some n → f ≡ c.file
   own f at = holds_one old copies n f c e.was at
 
@@ -119,7 +119,7 @@ module _ (old new : Scene) (n : ℕ) (c : Copying) (copies : AreCopies old) (e :
     settled = λ f at. elim (cases_eq f c.file) [ inl is ↦ ap new.left is ∙ e.left | inr ne ↦ other_settled old new n c.file copies e.changes own mine f ne at ];
   }
 
-pub spares_keeps : (old new : Scene) → AreCopies old → Spares old new → AreCopies new
+pub spares_keeps : (old new : Copiers) → AreCopies old → Spares old new → AreCopies new
 spares_keeps old new copies s = record {
   some = λ n c at. copies.some n c (sym (s.calls n) ∙ at);
   left = λ n c at. let was = sym (s.calls n) ∙ at in s.lefts c.file n (copies.holds n c was) ∙ copies.left n c was;

@@ -11,14 +11,14 @@ copying file left = record { file = file; left = left }
 
 -- what each call copies into, by its number; and of each file the call that holds it, and how many
 -- blocks are still to be copied
-pub record Scene : Type 0 where
+pub record Copiers : Type 0 where
   pub copying_of : ℕ → Option Copying
   pub writer : ℕ → Option ℕ
   pub left : ℕ → ℕ
 
 -- A call that copies holds its file, and has as many blocks left as that; no other file is held; and
 -- of a file that no call holds nothing is left.
-pub record AreCopies (s : Scene) : Type 0 where
+pub record AreCopies (s : Copiers) : Type 0 where
   pub some : (n : ℕ) (c : Copying) → s.copying_of n ≡ Some c → 0 < c.left
   pub left : (n : ℕ) (c : Copying) → s.copying_of n ≡ Some c → s.left c.file ≡ c.left
   pub holds : (n : ℕ) (c : Copying) → s.copying_of n ≡ Some c → s.writer c.file ≡ Some n
@@ -26,13 +26,13 @@ pub record AreCopies (s : Scene) : Type 0 where
   pub settled : (f : ℕ) → s.writer f ≡ None → s.left f ≡ 0
 
 -- Of one call something changed, which is about one file: the others copy and hold as before.
-pub record Changes (old new : Scene) (n file : ℕ) : Type 0 where
+pub record Changes (old new : Copiers) (n file : ℕ) : Type 0 where
   pub calls : (m : ℕ) → m ≢ n → new.copying_of m ≡ old.copying_of m
   pub writers : (f : ℕ) → f ≢ file → new.writer f ≡ old.writer f
   pub lefts : (f : ℕ) → f ≢ file → new.left f ≡ old.left f
 
 -- a call begins to copy into a file that no call held
-pub record Starts (old new : Scene) (n : ℕ) (c : Copying) : Type 0 where
+pub record StartsToCopy (old new : Copiers) (n : ℕ) (c : Copying) : Type 0 where
   pub changes : Changes old new n c.file
   pub was : old.copying_of n ≡ None
   pub free : old.writer c.file ≡ None
@@ -42,7 +42,7 @@ pub record Starts (old new : Scene) (n : ℕ) (c : Copying) : Type 0 where
   pub some : 0 < c.left
 
 -- it copies one block, and more are left
-pub record GoesOn (old new : Scene) (n : ℕ) (c : Copying) (k : ℕ) : Type 0 where
+pub record CopiesOneBlock (old new : Copiers) (n : ℕ) (c : Copying) (k : ℕ) : Type 0 where
   pub changes : Changes old new n c.file
   pub was : old.copying_of n ≡ Some c
   pub more : c.left ≡ suc k
@@ -52,7 +52,7 @@ pub record GoesOn (old new : Scene) (n : ℕ) (c : Copying) (k : ℕ) : Type 0 w
   pub left : new.left c.file ≡ k
 
 -- All that is left is copied: by the last step of the call, or by another one that finishes it.
-pub record Ends (old new : Scene) (n : ℕ) (c : Copying) : Type 0 where
+pub record CopiesRest (old new : Copiers) (n : ℕ) (c : Copying) : Type 0 where
   pub changes : Changes old new n c.file
   pub was : old.copying_of n ≡ Some c
   pub now : new.copying_of n ≡ None
@@ -62,7 +62,7 @@ pub record Ends (old new : Scene) (n : ℕ) (c : Copying) : Type 0 where
 -- Another call was decided, or a session left: who copies goes on copying into the same file, of
 -- which as much is left; and nothing is left of a file that no call holds, whether it was there or
 -- not.
-pub record Spares (old new : Scene) : Type 0 where
+pub record Spares (old new : Copiers) : Type 0 where
   pub calls : (n : ℕ) → new.copying_of n ≡ old.copying_of n
   pub writers : (f n : ℕ) → old.writer f ≡ Some n → new.writer f ≡ Some n
   pub no_more : (f n : ℕ) → new.writer f ≡ Some n → old.writer f ≡ Some n

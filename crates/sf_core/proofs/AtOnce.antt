@@ -10,38 +10,38 @@ use Rattle.sf_reply.specs.declared.reply.Reply.{Reply}
 use Rattle.sf_call.specs.declared.call.Call.{Call}
 use Rattle.sf_call.specs.declared.call.Stage.TheVariants as stage
 use Rattle.sf_call.specs.declared.record.Record.{Record}
-use Rattle.sf_call.specs.Answers.{Answered as Answer}
+use Rattle.sf_call.specs.Answers.{AnswerView as Answer}
 use Rattle.sf_call.specs.Histories.{IsGiven}
 use Rattle.sf_call.specs.declared.request.Request.{Request}
 use Rattle.sf_call.specs.Values.{IsCall}
 use Rattle.sf_book.specs.Books.{BookView, put}
 use Rattle.sf_inode.specs.declared.handle.OpenHandle.{OpenHandle}
-use Rattle.sf_inode.specs.Stores.{StoreState, handle_at, holder_of, is_file_at}
+use Rattle.sf_inode.specs.Stores.{StoreState, open_handle_at, holder_of, is_file_at}
 use Rattle.sf_walk.specs.declared.finding.Ways.{Ways}
 use Rattle.sf_walk.specs.declared.finding.Located.TheVariants as located
 use Rattle.sf_walk.specs.declared.walking.Walk.TheVariants as walk
-use Rattle.sf_walk.specs.Routes.{Route, Stands, route_of}
+use Rattle.sf_walk.specs.Routes.{Route, HoldsWay, route_of}
 use Rattle.sf_walk.specs.Routes.Route.{NoPath, Along, Between}
 use Rattle.sf_walk.specs.Files.{IsFileFree, IsSettled, file_handle, file_holder_of, holder_by}
-use Rattle.sf_walk.specs.Steps.{walker, Decides as Ready}
+use Rattle.sf_walk.specs.Steps.{walker, DecidesNow as Ready}
 use Rattle.sf_walk.specs.Ways.{along}
 use Rattle.sf_walk.proofs.Laws.{at_once, nowhere_stays, stands_fresh}
 use Rattle.sf_core.specs.declared.step.Step.TheVariants as step
 use Rattle.sf_core.specs.Lanes.{LaneView, at_rest}
 use Rattle.sf_core.specs.Cores.{call_at, session_at, last_number}
 use Rattle.sf_core.specs.Events.{StepsOn, AnswersAtOnce, begun, came}
-use Rattle.sf_core.specs.Progress.{reply_of, is_at_once, is_write, walks_nothing, overtaken, did, new_call}
-use Rattle.sf_core.specs.Parts.{PartsView, seen}
+use Rattle.sf_core.specs.Progress.{waiting_reply, is_at_once, is_write, walks_nothing, overtaken, did, new_call}
+use Rattle.sf_core.specs.Parts.{PartsView, core_of}
 use Rattle.sf_core.specs.Sound.{Sound, IsCore}
 use Rattle.sf_core.specs.Finishing.{IsSettledWhereFree}
-use Rattle.sf_core.specs.Stepping.{SameButRoom, Serves, Walked, Overtakes, AtOnceState, session_set, session_set_by}
+use Rattle.sf_core.specs.Stepping.{SameButRoom, ServesCall, Walked, Overtakes, AtOnceState, session_set, session_set_by}
 use Rattle.sf_core.proofs.FreeFiles.{left_where}
 use Rattle.sf_core.proofs.OneBlock.{no_block}
 use Rattle.sf_core.proofs.Passing.{both_true}
 use Rattle.sf_core.proofs.Maps.{none_some, reply_is, put_same, set_same, set_twice, put_removed}
 use Rattle.sf_core.proofs.Starting.{begun_sound, begun_told}
 use Rattle.sf_core.proofs.Turns.{IsStep, IsTurn, core_after, sound_of, steps_on, turn_of}
-use Rattle.sf_core.proofs.Making.{decided_step, decided_given}
+use Rattle.sf_core.proofs.Deciding.{decided_step, decided_given}
 
 -- ---- a call that waits for nobody
 is_no_path : (r : Route) → walks_nothing r ≡ true → r ≡ NoPath
@@ -68,14 +68,14 @@ module _ (s : StoreState) (session : ℕ) (request : Request) (once : is_at_once
   nobody = is_nobody (holder_by s session request) (both_true (not (is_write request)) (is_none (holder_by s session request)) (both_true (walks_nothing (route_of request)) (not (is_write request) && is_none (holder_by s session request)) once).1).1
 
   -- nobody holds the file that its handle opens
-  unheld : (number : ℕ) (h : OpenHandle) → file_handle request ≡ Some number → handle_at s session number ≡ Some h → is_file_at s.nodes h.node ≡ true → holder_of s.nodes h.node ≡ None
+  unheld : (number : ℕ) (h : OpenHandle) → file_handle request ≡ Some number → open_handle_at s session number ≡ Some h → is_file_at s.nodes h.node ≡ true → holder_of s.nodes h.node ≡ None
   unheld number h by opens file =
-      sym (ap (option_and_then (λ k. file_holder_of s.nodes (handle_at s session k))) by ∙ ap (file_holder_of s.nodes) opens ∙ ap (λ (b : Bool). if b then holder_of s.nodes h.node else None) file) ∙ nobody
+      sym (ap (option_and_then (λ k. file_holder_of s.nodes (open_handle_at s session k))) by ∙ ap (file_holder_of s.nodes) opens ∙ ap (λ (b : Bool). if b then holder_of s.nodes h.node else None) file) ∙ nobody
 
   pub at_once_free : (c : Call) → c.session ≡ session → c.request ≡ request → IsFileFree s c
   at_once_free c ses req = record {
     free = λ number h by opens file m held.
-        absurd (none_some m (sym (unheld number h (sym (ap file_handle req) ∙ by) (ap (λ k. handle_at s k number) (sym ses) ∙ opens) file) ∙ held));
+        absurd (none_some m (sym (unheld number h (sym (ap file_handle req) ∙ by) (ap (λ k. open_handle_at s k number) (sym ses) ∙ opens) file) ∙ held));
   }
 
   pub at_once_settled : IsSettledWhereFree s → IsSettled s session request located.NoWay
@@ -107,7 +107,7 @@ module _ (p m : PartsView) (same : SameButRoom p m) (room : length p.calls + len
     joins = p.joins;
   }
 
-  pub decided_at_once : (s : StoreState) (book : BookView) (given : Reply) → Serves p.store s c given → s.look_ups ≡ p.store.look_ups → book ≡ put m.book (did c given)
+  pub decided_at_once : (s : StoreState) (book : BookView) (given : Reply) → ServesCall p.store s c given → s.look_ups ≡ p.store.look_ups → book ≡ put m.book (did c given)
       → AtOnceState p (record { store = s; book = book; sessions = p.sessions; calls = p.calls; drawn = p.drawn + 1; joins = p.joins }) session request moment given
   decided_at_once s book given serves looks is = record {
     mid = mid;
@@ -145,7 +145,7 @@ module _ (lane : LaneView) (p q : PartsView) (core : IsCore p) (request : Reques
   turn : IsTurn at.mid its_lane its
   turn = (turn_of at.mid core_mid its_lane (p.drawn + 1) its there refl refl (subst (λ (s : StoreState). s.look_ups < 2 ^ 64) (sym at.begun.store) fits)).0
 
-  undecided : reply_of its ≡ None
+  undecided : waiting_reply its ≡ None
   undecided = reply_is its
 
   abbrev nowhere : Ways
@@ -158,7 +158,7 @@ module _ (lane : LaneView) (p q : PartsView) (core : IsCore p) (request : Reques
   walked = record {
     advances =
         subst (λ (r : Route). Ready at.mid.store at.mid.store (walker its.number r stage.Fresh) nowhere) (sym route)
-        (at_once at.mid.store its.number stage.Fresh (subst (λ (r : Route). Stands at.mid.store r stage.Fresh) route (stands_fresh at.mid.store request)));
+        (at_once at.mid.store its.number stage.Fresh (subst (λ (r : Route). HoldsWay at.mid.store r stage.Fresh) route (stands_fresh at.mid.store request)));
     book = refl;
     sessions = refl;
     calls = refl;
@@ -176,12 +176,12 @@ module _ (lane : LaneView) (p q : PartsView) (core : IsCore p) (request : Reques
     steps : IsStep at.mid its_lane (step.Answered a) q (at_rest its_lane)
     steps = decided_step at.mid its_lane its turn undecided at.mid nowhere walked free at.mid over q given at.finished a is (no_block at.mid.store its given (at_once_silent p.store lane.session request once))
 
-    pub answered_at_once : AnswersAtOnce (seen p) lane request moment (came (step.Answered a) (seen q) (at_rest its_lane))
+    pub answered_at_once : AnswersAtOnce (core_of p) lane request moment (came (step.Answered a) (core_of q) (at_rest its_lane))
     answered_at_once = record {
-      mid = seen at.mid;
+      mid = core_of at.mid;
       begins = begun_told p at.mid core.history core.sound lane.session request moment at.begun idle unspent lane.call lane.begun;
       history = λ h written. (sound_mid h (sound_of p core h written)).history;
-      steps = subst (λ k. StepsOn (seen at.mid) (begun lane k) (step.Answered a) (seen q) (at_rest its_lane)) (sym at.begun.drawn) (steps_on at.mid q its_lane (at_rest its_lane) (step.Answered a) core_mid steps);
+      steps = subst (λ k. StepsOn (core_of at.mid) (begun lane k) (step.Answered a) (core_of q) (at_rest its_lane)) (sym at.begun.drawn) (steps_on at.mid q its_lane (at_rest its_lane) (step.Answered a) core_mid steps);
     }
 
   pub core_at_once : IsCore q

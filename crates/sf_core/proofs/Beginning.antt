@@ -6,10 +6,10 @@ use Rattle.std.proofs.Common.{sym, ap, subst, ◌∙◌, inl, inr, arith}
 use Rattle.sf_call.specs.declared.record.Record.{Record}
 use Rattle.sf_call.specs.Tree.{Tree, empty_tree}
 use Rattle.sf_call.specs.Histories.{replay, IsLegal, IsLegalAfter}
-use Rattle.sf_book.specs.Books.{is_deed, kept_of, gone_of}
+use Rattle.sf_book.specs.Books.{is_call, kept_of, gone_of}
 use Rattle.sf_inode.specs.declared.node.Node.{Node}
-use Rattle.sf_inode.specs.Nodes.{left_in}
-use Rattle.sf_inode.specs.Stores.{StoreState, holder_of, left_at, IsFirst}
+use Rattle.sf_inode.specs.Nodes.{blocks_left_in}
+use Rattle.sf_inode.specs.Stores.{StoreState, holder_of, blocks_left_at, IsFirst}
 use Rattle.sf_keeps.specs.Keeps.{Keeps}
 use Rattle.sf_keeps.proofs.Laws.{keeps_first}
 use Rattle.sf_coupling.proofs.Laws.{same_or_not}
@@ -27,9 +27,9 @@ nothing_kept : (keep : Option ℕ) → [] ≡ kept_of keep []
 nothing_kept None = refl
 nothing_kept (Some n) = ap (λ k. drop {A = Record} k []) (zero_less n)
 
-nothing_gone : (keep : Option ℕ) → 0 ≡ count_by is_deed (gone_of keep [])
+nothing_gone : (keep : Option ℕ) → 0 ≡ count_by is_call (gone_of keep [])
 nothing_gone None = refl
-nothing_gone (Some n) = ap (λ k. count_by is_deed (take {A = Record} k [])) (zero_less n)
+nothing_gone (Some n) = ap (λ k. count_by is_call (take {A = Record} k [])) (zero_less n)
 
 nothing_legal : IsLegal []
 unfolding IsLegal IsLegalAfter
@@ -45,10 +45,10 @@ first_free s first l n h = elim (same_or_not l s.root) [
   | inr ne ↦ none_some n (sym (ap (option_and_then (λ (x : Node). x.holder)) (first.others l ne)) ∙ h)
 ]
 
-first_settled : (s : StoreState) → IsFirst s → (l : ℕ) → left_at s.nodes l ≡ 0
+first_settled : (s : StoreState) → IsFirst s → (l : ℕ) → blocks_left_at s.nodes l ≡ 0
 first_settled s first l = elim (same_or_not l s.root) [
-  | inl e ↦ ap (left_at s.nodes) e ∙ ap (λ (o : Option Node). option_map_or (λ (x : Node). left_in x.content) o 0) first.root
-  | inr ne ↦ ap (λ (o : Option Node). option_map_or (λ (x : Node). left_in x.content) o 0) (first.others l ne)
+  | inl e ↦ ap (blocks_left_at s.nodes) e ∙ ap (λ (o : Option Node). option_map_or (λ (x : Node). blocks_left_in x.content) o 0) first.root
+  | inr ne ↦ ap (λ (o : Option Node). option_map_or (λ (x : Node). blocks_left_in x.content) o 0) (first.others l ne)
 ]
 
 pub sound_new : (p : PartsView) → IsNewParts p → Sound p []

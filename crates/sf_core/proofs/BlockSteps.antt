@@ -12,21 +12,21 @@ use Rattle.sf_call.specs.Histories.{replay}
 use Rattle.sf_call.specs.Unanswered.{at_stage, staged}
 use Rattle.sf_inode.specs.declared.node.Node.{Node}
 use Rattle.sf_inode.specs.declared.node.Content.TheVariants as content
-use Rattle.sf_inode.specs.Nodes.{entry_in, is_directory_content, is_file_content, left_in, with_content, with_left, with_holder}
-use Rattle.sf_inode.specs.Stores.{StoreState, node_in, entry_of, holder_of, is_directory_at, is_file_at, left_set, edited}
+use Rattle.sf_inode.specs.Nodes.{child_in, is_directory_content, is_file_content, blocks_left_in, with_content, with_left, with_holder}
+use Rattle.sf_inode.specs.Stores.{StoreState, node_in, child_of, holder_of, is_directory_at, is_file_at, left_set, edited}
 use Rattle.sf_keeps.specs.Keeps.{Keeps}
 use Rattle.sf_keeps.proofs.Laws.{keeps_held, keeps_left, edited_apart, edited_itself}
 use Rattle.sf_keeps.proofs.Copied.{left_there, left_holders}
-use Rattle.sf_coupling.specs.Walks.{Spot, scene, AreWalks}
+use Rattle.sf_coupling.specs.Walks.{Spot, walkers_at, AreWalks}
 use Rattle.sf_coupling.proofs.Laws.{same_or_not}
 use Rattle.sf_copying.specs.Copies.{copying, AreCopies, Changes}
 use Rattle.sf_copying.proofs.Laws.{goes_keeps, ends_keeps}
 use Rattle.sf_walk.specs.Routes.{route_of, terrain}
 use Rattle.sf_walk.proofs.Laws.{IsSameGround, same_trans, same_held, leads_same, holder_freed}
 use Rattle.sf_core.specs.Cores.{call_at}
-use Rattle.sf_core.specs.Progress.{reply_of, IsCopying}
+use Rattle.sf_core.specs.Progress.{waiting_reply, IsCopying}
 use Rattle.sf_core.specs.Parts.{PartsView}
-use Rattle.sf_core.specs.Sound.{walker_of, writer_of, IsResting, spots_at, spots_in, copying_in, copying_scene, IsWriting, Sound}
+use Rattle.sf_core.specs.Sound.{walker_of, writer_of_file, IsAtRest, spots_at, spots_in, copying_in, copying_scene, IsWriting, Sound}
 use Rattle.sf_core.specs.Finishing.{write_finished}
 use Rattle.sf_core.specs.Writing.{part_copied, block_copied}
 use Rattle.sf_core.proofs.Maps.{some_eq, none_some}
@@ -40,9 +40,9 @@ use Rattle.sf_core.proofs.Unrecorded.{unrecorded}
 use Rattle.sf_core.proofs.Unrecorded.IsKept.{Same}
 
 -- ---- what copying leaves of a store
-entry_by : (k : ℕ) (n : Name) (o : Option Node) → option_and_then (λ (node : Node). entry_in node.content n) (option_map (with_content (with_left k)) o) ≡ option_and_then (λ (node : Node). entry_in node.content n) o
+entry_by : (k : ℕ) (n : Name) (o : Option Node) → option_and_then (λ (node : Node). child_in node.content n) (option_map (with_content (with_left k)) o) ≡ option_and_then (λ (node : Node). child_in node.content n) o
 entry_by k n None = refl
-entry_by k n (Some node) = elim node.content as (λ c. entry_in (with_left k c) n ≡ entry_in c n) [ content.Directory es ↦ refl | content.File contents ↦ refl ]
+entry_by k n (Some node) = elim node.content as (λ c. child_in (with_left k c) n ≡ child_in c n) [ content.Directory es ↦ refl | content.File contents ↦ refl ]
 
 directory_by : (k : ℕ) (o : Option Node) → option_map_or (λ (node : Node). is_directory_content node.content) (option_map (with_content (with_left k)) o) false ≡ option_map_or (λ (node : Node). is_directory_content node.content) o false
 directory_by k None = refl
@@ -56,9 +56,9 @@ module _ (k : ℕ) (s : StoreState) (id : ℕ) where
   pub ground_left : IsSameGround s (left_set s id k)
   ground_left = record {
     step = λ x n. elim (same_or_not x id) [
-      | inl e ↦ ap (λ (i : ℕ). entry_of (left_set s id k).nodes i n) e ∙ ap (option_and_then (λ (node : Node). entry_in node.content n)) (edited_itself (with_content (with_left k)) s id)
-          ∙ entry_by k n (node_in s.nodes id) ∙ ap (λ (i : ℕ). entry_of s.nodes i n) (sym e)
-      | inr ne ↦ ap (option_and_then (λ (node : Node). entry_in node.content n)) (edited_apart (with_content (with_left k)) s id x ne)
+      | inl e ↦ ap (λ (i : ℕ). child_of (left_set s id k).nodes i n) e ∙ ap (option_and_then (λ (node : Node). child_in node.content n)) (edited_itself (with_content (with_left k)) s id)
+          ∙ entry_by k n (node_in s.nodes id) ∙ ap (λ (i : ℕ). child_of s.nodes i n) (sym e)
+      | inr ne ↦ ap (option_and_then (λ (node : Node). child_in node.content n)) (edited_apart (with_content (with_left k)) s id x ne)
     ];
     root = refl;
     directory = λ x. elim (same_or_not x id) [
@@ -72,7 +72,7 @@ module _ (k : ℕ) (s : StoreState) (id : ℕ) where
   file_left = ap (λ (o : Option Node). option_map_or (λ (node : Node). is_file_content node.content) o false) (edited_itself (with_content (with_left k)) s id) ∙ file_by k (node_in s.nodes id)
 
 -- a node that is the same one has the same holder
-pub writer_apart : (s t : StoreState) (f : ℕ) → node_in t.nodes f ≡ node_in s.nodes f → writer_of t.nodes f ≡ writer_of s.nodes f
+pub writer_apart : (s t : StoreState) (f : ℕ) → node_in t.nodes f ≡ node_in s.nodes f → writer_of_file t.nodes f ≡ writer_of_file s.nodes f
 writer_apart s t f e = ap (λ (o : Option Node). if option_map_or (λ (node : Node). is_file_content node.content) o false then option_and_then (λ (node : Node). node.holder) o else None) e
 
 walker_apart : (s t : StoreState) (f : ℕ) → node_in t.nodes f ≡ node_in s.nodes f → walker_of t.nodes f ≡ walker_of s.nodes f
@@ -85,22 +85,22 @@ no_walker nodes f file = elim (is_directory_at nodes f) as (λ b. is_directory_a
   | false ↦ λ e. refl
 ] refl
 
-pub staged_reply : (c : Call) (g : Stage) → reply_of (at_stage g c) ≡ reply_of c
-unfolding reply_of
+pub staged_reply : (c : Call) (g : Stage) → waiting_reply (at_stage g c) ≡ waiting_reply c
+unfolding waiting_reply
 staged_reply c g = refl
 
 -- ---- a call whose reply waits comes to another stage, on a store of which one file alone is another
-module _ (p : PartsView) (h : List Record) (sound : Sound p h) (c : Call) (at : call_at p.calls c.number ≡ Some c) (given : Reply) (decided : reply_of c ≡ Some given) (rested : IsResting c.stage) (node : ℕ) (file_was : is_file_at p.store.nodes node ≡ true)
+module _ (p : PartsView) (h : List Record) (sound : Sound p h) (c : Call) (at : call_at p.calls c.number ≡ Some c) (given : Reply) (decided : waiting_reply c ≡ Some given) (rested : IsAtRest c.stage) (node : ℕ) (file_was : is_file_at p.store.nodes node ≡ true)
     (s : StoreState) (after : Stage) (keeps : Keeps s (replay h)) (ground : IsSameGround p.store s) (apart : (i : ℕ) → i ≢ node → node_in s.nodes i ≡ node_in p.store.nodes i) (file : is_file_at s.nodes node ≡ true)
-    (sessions : s.sessions ≡ p.store.sessions) (rests : IsResting after) (copies : AreCopies (copying_scene s (staged p.calls c.number after))) (writes : (f k : ℕ) → after ≡ stage.Copies f k → IsWriting s (at_stage after c) f) where
+    (sessions : s.sessions ≡ p.store.sessions) (rests : IsAtRest after) (copies : AreCopies (copying_scene s (staged p.calls c.number after))) (writes : (f k : ℕ) → after ≡ stage.Copies f k → IsWriting s (at_stage after c) f) where
   abbrev q : PartsView
   q = record { store = s; book = p.book; sessions = p.sessions; calls = staged p.calls c.number after; drawn = p.drawn; joins = p.joins }
 
   updates : Updates p.calls (staged p.calls c.number after) c.number (Some c) (Some (at_stage after c))
   updates = updates_staged p.calls c.number c after at
 
-  reply_same : reply_of (at_stage after c) ≡ reply_of c
-  unfolding reply_of
+  reply_same : waiting_reply (at_stage after c) ≡ waiting_reply c
+  unfolding waiting_reply
   reply_same = refl
 
   own : (m : ℕ) (d : Call) → m ≡ c.number → call_at (staged p.calls c.number after) m ≡ Some d → at_stage after c ≡ d
@@ -127,15 +127,15 @@ module _ (p : PartsView) (h : List Record) (sound : Sound p h) (c : Call) (at : 
       keeps refl refl refl
       (record {
         walks =
-            subst (λ (f : ℕ → List Spot). AreWalks (scene (terrain s) f (walker_of s.nodes))) (λ i m. sym (spots_same m) i)
-            (subst (λ (k : ℕ → Option ℕ). AreWalks (scene (terrain s) (spots_in p.calls) k)) (λ i l. sym (walkers_same l) i)
+            subst (λ (f : ℕ → List Spot). AreWalks (walkers_at (terrain s) f (walker_of s.nodes))) (λ i m. sym (spots_same m) i)
+            (subst (λ (k : ℕ → Option ℕ). AreWalks (walkers_at (terrain s) (spots_in p.calls) k)) (λ i l. sym (walkers_same l) i)
             (walks_on (terrain p.store) (terrain s) (spots_in p.calls) (walker_of p.store.nodes) (leads_same p.store s ground) sound.coupled.walks));
         positions = λ m d there none. elim (same_or_not m c.number) [
-          | inl e ↦ absurd (none_some given (sym none ∙ ap reply_of (sym (own m d e there)) ∙ reply_same ∙ decided))
+          | inl e ↦ absurd (none_some given (sym none ∙ ap waiting_reply (sym (own m d e there)) ∙ reply_same ∙ decided))
           | inr ne ↦ sound.coupled.positions m d (sym (updates.rest m ne) ∙ there) none
         ];
         waiting = λ m d g there some. elim (same_or_not m c.number) [
-          | inl e ↦ subst (λ (x : Call). IsResting x.stage) (own m d e there) rests
+          | inl e ↦ subst (λ (x : Call). IsAtRest x.stage) (own m d e there) rests
           | inr ne ↦ sound.coupled.waiting m d g (sym (updates.rest m ne) ∙ there) some
         ];
       })
@@ -153,7 +153,7 @@ pub changes_by : (p : PartsView) (c : Call) → call_at p.calls c.number ≡ Som
 changes_by p c at node s after apart = record {
   calls = λ m ne. ap copied_by ((updates_staged p.calls c.number c after at).rest m ne);
   writers = λ f ne. writer_apart p.store s f (apart f ne);
-  lefts = λ f ne. ap (λ (o : Option Node). option_map_or (λ (x : Node). left_in x.content) o 0) (apart f ne);
+  lefts = λ f ne. ap (λ (o : Option Node). option_map_or (λ (x : Node). blocks_left_in x.content) o 0) (apart f ne);
 }
 
 -- ---- a call that copies
@@ -170,7 +170,7 @@ module _ (p : PartsView) (h : List Record) (sound : Sound p h) (c : Call) (at : 
   pub some_blocks : 0 < left
   some_blocks = sound.copied.copies.some c.number (copying node left) copying_it
 
-  rested : IsResting c.stage
+  rested : IsAtRest c.stage
   rested = inr (subst IsCopying (sym is) tt)
 
   -- ---- a block more, and more are left

@@ -2,7 +2,7 @@
 use Rattle.std.specs.Prelude.{◌≡◌, ◌<◌, ◌≤◌, ◌+◌, ◌^◌, ℕ, zero, suc, List, [], length, Option, Some, None, refl}
 use Rattle.std.proofs.Common.{sym, ap, subst, ◌∙◌, inl, inr, arith}
 use Rattle.sf_reply.specs.declared.reply.Reply.{Reply}
-use Rattle.sf_call.specs.Answers.{Answered as Answer}
+use Rattle.sf_call.specs.Answers.{AnswerView as Answer}
 use Rattle.sf_call.specs.declared.call.Call.{Call}
 use Rattle.sf_call.specs.declared.call.Stage.TheVariants as stage
 use Rattle.sf_call.specs.declared.record.Record.{Record}
@@ -13,19 +13,19 @@ use Rattle.sf_inode.specs.Stores.{StoreState}
 use Rattle.sf_core.specs.declared.step.Step.TheVariants as step
 use Rattle.sf_core.specs.Lanes.{LaneView, at_rest}
 use Rattle.sf_core.specs.Cores.{call_at, session_at}
-use Rattle.sf_core.specs.Progress.{reply_of, IsCopying, undecided_in}
-use Rattle.sf_core.specs.Events.{CopiesBlock, Fetches, Moves}
-use Rattle.sf_core.specs.Parts.{PartsView, seen}
+use Rattle.sf_core.specs.Progress.{waiting_reply, IsCopying, undecided_in}
+use Rattle.sf_core.specs.Events.{CopiesBlock, Fetches, TakesMoves}
+use Rattle.sf_core.specs.Parts.{PartsView, core_of}
 use Rattle.sf_core.specs.Sound.{Sound, IsCore}
 use Rattle.sf_core.specs.Stepping.{session_set_by, FetchState}
 use Rattle.sf_core.specs.Finishing.{write_finished}
-use Rattle.sf_core.specs.Writing.{part_copied, CopiesBlock as CopiesOne, CopiedOn}
+use Rattle.sf_core.specs.Writing.{part_copied, CopiedBlock as CopiesOne, CopiedOn}
 use Rattle.sf_core.proofs.Maps.{some_eq, reply_is}
 use Rattle.sf_core.proofs.Updates.{Updates, updates_set, updates_removed, updates_staged}
 use Rattle.sf_core.proofs.Ledgers.{other_call}
 use Rattle.sf_core.proofs.Unrecorded.{fetched_sound}
 use Rattle.sf_core.proofs.BlockSteps.{staged_reply, block_sound, end_sound}
-use Rattle.sf_core.proofs.Told.{slot_busy, slot_idle, slots_kept, own_call, same_book, left_copying}
+use Rattle.sf_core.proofs.LaneStates.{slot_busy, slot_idle, slots_kept, own_call, same_book, left_copying}
 use Rattle.sf_core.proofs.Turns.{IsStep, adds_none, core_after, places_after, steps_on}
 
 -- the call of the number is the lane's, and look-ups are counted still
@@ -59,7 +59,7 @@ module _ (lane : LaneView) (n : ℕ) (call : lane.call ≡ Some n) where
       updates : Updates p.calls (part_copied p n b.node (suc left)).calls n (Some b.was.call) (Some (at_stage (stage.Copies b.node (suc left)) b.was.call))
       updates = updates_staged p.calls n b.was.call (stage.Copies b.node (suc left)) b.was.there
 
-      had : reply_of b.was.call ≡ Some b.was.given
+      had : waiting_reply b.was.call ≡ Some b.was.given
       had = reply_is b.was.call ∙ b.was.waits
 
       sound_now : (h : List Record) → Sound p h → Sound (part_copied p n b.node (suc left)) h
@@ -67,7 +67,7 @@ module _ (lane : LaneView) (n : ℕ) (call : lane.call ≡ Some n) where
           subst (λ (k : ℕ). Sound (part_copied p k b.node (suc left)) h) number
           (block_sound p h sound c at b.node (suc left + 1) b.was.is (suc left) refl)
 
-      told : (h : List Record) → Sound p h → CopiesBlock (seen p) (seen now) lane b.was.call d
+      told : (h : List Record) → Sound p h → CopiesBlock (core_of p) (core_of now) lane b.was.call d
       told h sound =
           let busy = ap (session_at p.sessions) (sym session) ∙ (sound.ledger.calls n c b.was.there).session in
           let has = staged_reply c (stage.Copies b.node (suc left)) ∙ had in
@@ -84,8 +84,8 @@ module _ (lane : LaneView) (n : ℕ) (call : lane.call ≡ Some n) where
             one = omega (arith, before, after);
             some = omega (arith, after);
             slot = record {
-              own = slot_busy (seen now) lane.session n d busy updates.now_is;
-              others = slots_kept (seen p) (seen now) n lane.session updates.rest (λ s ne. refl) (λ s m ne is. other_call p sound.ledger n c b.was.there s m (λ e. ne (e ∙ session)) is);
+              own = slot_busy (core_of now) lane.session n d busy updates.now_is;
+              others = slots_kept (core_of p) (core_of now) n lane.session updates.rest (λ s ne. refl) (λ s m ne is. other_call p sound.ledger n c b.was.there s m (λ e. ne (e ∙ session)) is);
               joined = refl;
               drawn = refl;
               joins = refl;
@@ -129,7 +129,7 @@ module _ (lane : LaneView) (n : ℕ) (call : lane.call ≡ Some n) where
       fetches : FetchState (write_finished p n b.node) q lane.session n
       fetches = subst (λ (x : PartsView). FetchState x q lane.session n) b.now fetched
 
-      had_e : reply_of b.was.call ≡ Some b.was.given
+      had_e : waiting_reply b.was.call ≡ Some b.was.given
       had_e = reply_is b.was.call ∙ b.was.waits
 
       staged_e : Updates p.calls (write_finished p n b.node).calls n (Some b.was.call) (Some (at_stage stage.Fresh b.was.call))
@@ -144,7 +144,7 @@ module _ (lane : LaneView) (n : ℕ) (call : lane.call ≡ Some n) where
           (subst (λ (k : ℕ). FetchState over q e.session k) (sym number_e) (subst (λ (s : ℕ). FetchState over q s n) (sym session_e) fetches))
 
       module _ (a : Answer) (is : a ≡ record { number = n; session = lane.session; reply = b.was.given }) where
-        last_told : (h : List Record) → Sound p h → Fetches (record { core = seen p; history = h; lane = lane }) (record { core = seen q; added = []; lane = at_rest lane }) b.was.call b.was.given
+        last_told : (h : List Record) → Sound p h → Fetches (record { core = core_of p; history = h; lane = lane }) (record { core = core_of q; added = []; lane = at_rest lane }) b.was.call b.was.given
         last_told h sound =
             let busy : session_at p.sessions lane.session ≡ Some (Some n) = ap (session_at p.sessions) (sym session_e) ∙ (sound.ledger.calls n e b.was.there).session in
             let calls = updates_removed over.calls n (at_stage stage.Fresh b.was.call) staged_e.now_is (sound_over h sound).ledger.calls_rise in
@@ -158,8 +158,8 @@ module _ (lane : LaneView) (n : ℕ) (call : lane.call ≡ Some n) where
               recorded = sound.history.decided n e b.was.given b.was.there had_e;
               none = refl;
               slot = record {
-                own = slot_idle (seen q) lane.session (ss lane.session ∙ sessions.now_is);
-                others = slots_kept (seen p) (seen q) n lane.session (λ m ne. ap (λ cs. call_at cs m) fetches.calls ∙ calls.rest m ne ∙ staged_e.rest m ne) (λ s ne. ss s ∙ sessions.rest s ne)
+                own = slot_idle (core_of q) lane.session (ss lane.session ∙ sessions.now_is);
+                others = slots_kept (core_of p) (core_of q) n lane.session (λ m ne. ap (λ cs. call_at cs m) fetches.calls ∙ calls.rest m ne ∙ staged_e.rest m ne) (λ s ne. ss s ∙ sessions.rest s ne)
                     (λ s m ne there. other_call p sound.ledger n e b.was.there s m (λ same. ne (same ∙ session_e)) there);
                 joined = let x = ap (λ (y : List (ℕ × Option ℕ)). length y) set in let z = sessions.size in omega (arith, x, z);
                 drawn = fetches.drawn;
@@ -175,7 +175,7 @@ module _ (lane : LaneView) (n : ℕ) (call : lane.call ≡ Some n) where
           (
             (
               b.was.call,
-              inl (subst (λ (g : Reply). Fetches (record { core = seen p; history = h; lane = lane }) (record { core = seen q; added = []; lane = at_rest lane }) b.was.call g) (sym (ap (λ (x : Answer). x.reply) is)) (last_told h sound)),
+              inl (subst (λ (g : Reply). Fetches (record { core = core_of p; history = h; lane = lane }) (record { core = core_of q; added = []; lane = at_rest lane }) b.was.call g) (sym (ap (λ (x : Answer). x.reply) is)) (last_told h sound)),
             ),
             record { session = ap (λ (x : Answer). x.session) is; number = call ∙ ap Some (sym (ap (λ (x : Answer). x.number) is)); lane = refl },
           ),
@@ -192,13 +192,13 @@ module _ (lane : LaneView) (n : ℕ) (call : lane.call ≡ Some n) where
           (given_before e.number e.session e.moment e.request b.was.given on.core.history is.legal (is.decided n e b.was.given b.was.there had_e)))
 
   -- ---- several blocks, one after the other
-  pub blocks_moved : (k : ℕ) (p q : PartsView) → OnTurn p lane n → CopiedOn k p n q → Moves k (seen p) lane (seen q) × OnTurn q lane n × (q.drawn ≡ p.drawn)
-  unfolding CopiedOn Moves
-  blocks_moved zero p q on same = (ap seen same, subst (λ (x : PartsView). OnTurn x lane n) (sym same) on, ap (λ (x : PartsView). x.drawn) same)
+  pub blocks_moved : (k : ℕ) (p q : PartsView) → OnTurn p lane n → CopiedOn k p n q → TakesMoves k (core_of p) lane (core_of q) × OnTurn q lane n × (q.drawn ≡ p.drawn)
+  unfolding CopiedOn TakesMoves
+  blocks_moved zero p q on same = (ap core_of same, subst (λ (x : PartsView). OnTurn x lane n) (sym same) on, ap (λ (x : PartsView). x.drawn) same)
   blocks_moved (suc k) p q on it =
       let before = blocks_moved k p it.0 on it.1 in
       let one = block_step it.0 before.1 it.2.0 q it.2.1 in
-      ((seen it.0, before.0, steps_on it.0 q lane lane step.Moved before.1.core one), block_on it.0 before.1 it.2.0 q it.2.1, block_drawn it.0 before.1 it.2.0 q it.2.1 ∙ before.2)
+      ((core_of it.0, before.0, steps_on it.0 q lane lane step.Moved before.1.core one), block_on it.0 before.1 it.2.0 q it.2.1, block_drawn it.0 before.1 it.2.0 q it.2.1 ∙ before.2)
 
   -- and no more calls are undecided
   pub blocks_places : (k : ℕ) (p q : PartsView) (places : ℕ) → OnTurn p lane n → CopiedOn k p n q → undecided_in p.calls ≤ places → undecided_in q.calls ≤ places

@@ -15,19 +15,19 @@ use Rattle.sf_call.specs.Unanswered.{at_stage, answered, with_reply}
 use Rattle.sf_inode.specs.declared.node.Node.{Node}
 use Rattle.sf_inode.specs.declared.node.Content.TheVariants as content
 use Rattle.sf_inode.specs.declared.handle.OpenHandle.{OpenHandle}
-use Rattle.sf_inode.specs.Nodes.{left_in, is_file_content, with_holder}
-use Rattle.sf_inode.specs.Stores.{StoreState, node_in, handle_at, is_file_at, left_at}
+use Rattle.sf_inode.specs.Nodes.{blocks_left_in, is_file_content, with_holder}
+use Rattle.sf_inode.specs.Stores.{StoreState, node_in, open_handle_at, is_file_at, blocks_left_at}
 use Rattle.sf_keeps.proofs.Copied.{left_there}
 use Rattle.sf_keeps.proofs.Laws.{edited_itself}
 use Rattle.sf_coupling.proofs.Laws.{same_or_not}
 use Rattle.sf_walk.specs.declared.files.Copying.{Copying}
 use Rattle.sf_walk.specs.declared.finding.Located.TheVariants.{NoWay}
-use Rattle.sf_walk.specs.Files.{Starts, IsWrite, IsSettled, file_handle}
+use Rattle.sf_walk.specs.Files.{StartsWriting, IsWriteRequest, IsSettled, file_handle}
 use Rattle.sf_walk.specs.Served.{IsAsBefore, NodesStay}
 use Rattle.sf_core.specs.Cores.{call_at}
 use Rattle.sf_core.specs.Progress.{is_write}
 use Rattle.sf_core.specs.Parts.{PartsView}
-use Rattle.sf_core.specs.Writing.{CopiesNow, IsCopyingOn, CopiesBlock, CopiedOn, EndsCopying, HasBegun, WritesOn, block_copied}
+use Rattle.sf_core.specs.Writing.{CopiesNow, IsCopyingOn, CopiedBlock, CopiedOn, EndsCopying, HasBegunWrite, WritesOn, block_copied}
 use Rattle.sf_core.specs.Writing.WritesOn.{ToTheEnd, UpToThere}
 use Rattle.sf_core.proofs.Updates.{updates_staged, updates_answered}
 
@@ -37,18 +37,18 @@ module _ (n : ℕ) where
   Told holder label = (holder ≡ None) × (label ≡ n)
 
   as_before : (o p : Option Node) (node : Node) → p ≡ Some node → option_and_then (λ (x : Node). x.holder) p ≡ option_and_then (λ (x : Node). x.holder) o → option_map (λ (x : Node). x.label) p ≡ option_map (λ (x : Node). x.label) o
-      → option_map_or (λ (x : Node). left_in x.content) p 0 ≡ 0 → option_map_or (λ (x : Node). left_in x.content) o 0 ≡ 0 → IsAsBefore Told o node
+      → option_map_or (λ (x : Node). blocks_left_in x.content) p 0 ≡ 0 → option_map_or (λ (x : Node). blocks_left_in x.content) o 0 ≡ 0 → IsAsBefore Told o node
   as_before None p node at holder label left was =
       let e : Some node.label ≡ None = sym (ap (option_map (λ (x : Node). x.label)) at) ∙ label in absurd (let z : ⊥ = cc in z)
   as_before (Some x) p node at holder label left was =
       let e : Some node.label ≡ Some x.label = sym (ap (option_map (λ (x : Node). x.label)) at) ∙ label in (
         sym (ap (option_and_then (λ (x : Node). x.holder)) at) ∙ holder,
         (let z : node.label ≡ x.label = cc in z),
-        sym (ap (λ (p : Option Node). option_map_or (λ (x : Node). left_in x.content) p 0) at) ∙ (left ∙ sym was),
+        sym (ap (λ (p : Option Node). option_map_or (λ (x : Node). blocks_left_in x.content) p 0) at) ∙ (left ∙ sym was),
       )
 
   -- where it copies all, each node is as before
-  pub stays_started : (s new : StoreState) (h : OpenHandle) (offset : ℕ) (bytes : List ℕ) → left_at s.nodes h.node ≡ 0 → left_at new.nodes h.node ≡ 0 → Starts s new h offset bytes → NodesStay n s new
+  pub stays_started : (s new : StoreState) (h : OpenHandle) (offset : ℕ) (bytes : List ℕ) → blocks_left_at s.nodes h.node ≡ 0 → blocks_left_at new.nodes h.node ≡ 0 → StartsWriting s new h offset bytes → NodesStay n s new
   stays_started s new h offset bytes was left starts = record {
     node = λ id node at. elim (same_or_not id h.node) [
       | inl e ↦
@@ -58,7 +58,7 @@ module _ (n : ℕ) where
     ];
   }
 
-pub is_a_write : (r : Request) → IsWrite r → (number : ℕ) × (offset : ℕ) × (bytes : List ℕ) × (r ≡ request.Write number offset bytes)
+pub is_a_write : (r : Request) → IsWriteRequest r → (number : ℕ) × (offset : ℕ) × (bytes : List ℕ) × (r ≡ request.Write number offset bytes)
 is_a_write (request.Write h o b) w = (h, o, b, refl)
 is_a_write (request.Stat p) w = absurd w
 is_a_write (request.SetStat p a) w = absurd w
@@ -76,7 +76,7 @@ is_a_write (request.Rename o n) w = absurd w
 is_a_write (request.PosixRename o n) w = absurd w
 is_a_write (request.Link o n) w = absurd w
 
-pub is_write_by : (r : Request) → is_write r ≡ true → IsWrite r
+pub is_write_by : (r : Request) → is_write r ≡ true → IsWriteRequest r
 is_write_by (request.Write handle offset bytes) e = tt
 is_write_by (request.Stat path) e = let z : ⊥ = cc in absurd z
 is_write_by (request.SetStat path attrs) e = let z : ⊥ = cc in absurd z
@@ -94,41 +94,41 @@ is_write_by (request.Rename old new) e = let z : ⊥ = cc in absurd z
 is_write_by (request.PosixRename old new) e = let z : ⊥ = cc in absurd z
 is_write_by (request.Link old new) e = let z : ⊥ = cc in absurd z
 
-pub write_is : (r : Request) → IsWrite r → is_write r ≡ true
+pub write_is : (r : Request) → IsWriteRequest r → is_write r ≡ true
 write_is r write = let w = is_a_write r write in ap is_write w.3
 
 -- the first step of a WRITE after which nothing is left to be copied
-module _ (s new : StoreState) (c : Call) (write : IsWrite c.request) (settled : IsSettled s c.session c.request NoWay)
-    (starts : (number offset : ℕ) (bytes : List ℕ) (h : OpenHandle) → c.request ≡ request.Write number offset bytes → handle_at s c.session number ≡ Some h → Starts s new h offset bytes)
-    (none : (number offset : ℕ) (bytes : List ℕ) → c.request ≡ request.Write number offset bytes → handle_at s c.session number ≡ None → new ≡ s)
+module _ (s new : StoreState) (c : Call) (write : IsWriteRequest c.request) (settled : IsSettled s c.session c.request NoWay)
+    (starts : (number offset : ℕ) (bytes : List ℕ) (h : OpenHandle) → c.request ≡ request.Write number offset bytes → open_handle_at s c.session number ≡ Some h → StartsWriting s new h offset bytes)
+    (none : (number offset : ℕ) (bytes : List ℕ) → c.request ≡ request.Write number offset bytes → open_handle_at s c.session number ≡ None → new ≡ s)
     (sessions : new.sessions ≡ s.sessions)
-    (done : (number : ℕ) (h : OpenHandle) → file_handle c.request ≡ Some number → handle_at new c.session number ≡ Some h → left_at new.nodes h.node ≡ 0) where
-  by_handle : (number offset : ℕ) (bytes : List ℕ) → c.request ≡ request.Write number offset bytes → (o : Option OpenHandle) → handle_at s c.session number ≡ o → NodesStay c.number s new
+    (done : (number : ℕ) (h : OpenHandle) → file_handle c.request ≡ Some number → open_handle_at new c.session number ≡ Some h → blocks_left_at new.nodes h.node ≡ 0) where
+  by_handle : (number offset : ℕ) (bytes : List ℕ) → c.request ≡ request.Write number offset bytes → (o : Option OpenHandle) → open_handle_at s c.session number ≡ o → NodesStay c.number s new
   by_handle number offset bytes is None at =
       subst (λ (x : StoreState). NodesStay c.number s x) (sym (none number offset bytes is at))
       (record { node = λ id node there. subst (λ (o : Option Node). IsAsBefore (Told c.number) o node) (sym there) (refl, refl, refl) })
   by_handle number offset bytes is (Some h) at =
       let own : file_handle c.request ≡ Some number = ap file_handle is in
-      let still : handle_at new c.session number ≡ Some h = ap (λ (ss : List (ℕ × List (ℕ × OpenHandle))). option_and_then (λ handles. lookup (is_at (nat_cmp number)) handles) (lookup (is_at (nat_cmp c.session)) ss)) sessions ∙ at in
+      let still : open_handle_at new c.session number ≡ Some h = ap (λ (ss : List (ℕ × List (ℕ × OpenHandle))). option_and_then (λ handles. lookup (is_at (nat_cmp number)) handles) (lookup (is_at (nat_cmp c.session)) ss)) sessions ∙ at in
       stays_started c.number s new h offset bytes (settled.by_handle number h own at) (done number h own still) (starts number offset bytes h is at)
 
   pub stays_written : NodesStay c.number s new
-  stays_written = let w = is_a_write c.request write in by_handle w.0 w.1 w.2 w.3 (handle_at s c.session w.0) refl
+  stays_written = let w = is_a_write c.request write in by_handle w.0 w.1 w.2 w.3 (open_handle_at s c.session w.0) refl
 
 -- ---- a further block
-file_left : (o : Option Node) → 0 < option_map_or (λ (x : Node). left_in x.content) o 0 → option_map_or (λ (x : Node). is_file_content x.content) o false ≡ true
+file_left : (o : Option Node) → 0 < option_map_or (λ (x : Node). blocks_left_in x.content) o 0 → option_map_or (λ (x : Node). is_file_content x.content) o false ≡ true
 file_left None some = absurd (omega (arith, some))
-file_left (Some node) some = elim node.content as (λ c. 0 < left_in c → is_file_content c ≡ true) [
+file_left (Some node) some = elim node.content as (λ c. 0 < blocks_left_in c → is_file_content c ≡ true) [
   | content.Directory es ↦ λ h. absurd (omega (arith, h))
   | content.File contents ↦ λ h. refl
 ] some
 
 -- blocks are left of a file alone
-pub is_file : (s : StoreState) (id left : ℕ) → left_at s.nodes id ≡ left → 0 < left → is_file_at s.nodes id ≡ true
+pub is_file : (s : StoreState) (id left : ℕ) → blocks_left_at s.nodes id ≡ left → 0 < left → is_file_at s.nodes id ≡ true
 is_file s id left e some = file_left (node_in s.nodes id) (subst (λ (k : ℕ). 0 < k) (sym e) some)
 
 -- a call that copied a block, which wasn't the last one, copies on
-pub copies_on : (p q : PartsView) (number left : ℕ) → CopiesBlock p q number (suc left) → IsCopyingOn q number
+pub copies_on : (p q : PartsView) (number left : ℕ) → CopiedBlock p q number (suc left) → IsCopyingOn q number
 copies_on p q number left b =
     let file : is_file_at p.store.nodes b.node ≡ true = is_file p.store b.node (suc left + 1) b.was.left_is b.was.some in (
       b.node,
@@ -145,17 +145,17 @@ copies_on p q number left b =
     )
 
 -- what a step that copies tells, of a call that copies
-pub block_of : (p q : PartsView) (number left : ℕ) → IsCopyingOn p number → ((node k : ℕ) → CopiesNow p number node k → (left + 1 ≡ k) × (q ≡ block_copied p number node left)) → CopiesBlock p q number left
+pub block_of : (p q : PartsView) (number left : ℕ) → IsCopyingOn p number → ((node k : ℕ) → CopiesNow p number node k → (left + 1 ≡ k) × (q ≡ block_copied p number node left)) → CopiedBlock p q number left
 block_of p q number left on law =
     let w = law on.0 on.1 on.2 in
     record { node = on.0; was = subst (CopiesNow p number on.0) (sym w.0) on.2; now = w.1 }
 
-pub more_left : (p q : PartsView) (number left : ℕ) → (left ≡ 0 → ⊥) → CopiesBlock p q number left → (k : ℕ) × CopiesBlock p q number (suc k)
+pub more_left : (p q : PartsView) (number left : ℕ) → (left ≡ 0 → ⊥) → CopiedBlock p q number left → (k : ℕ) × CopiedBlock p q number (suc k)
 more_left p q number zero some b = absurd (some refl)
 more_left p q number (suc k) some b = (k, b)
 
 -- with the last block its reply waits still
-pub waits_on : (p q : PartsView) (number : ℕ) → (b : CopiesBlock p q number 0) → option_and_then (λ (c : Call). c.reply) (call_at q.calls number) ≡ Some b.was.given
+pub waits_on : (p q : PartsView) (number : ℕ) → (b : CopiedBlock p q number 0) → option_and_then (λ (c : Call). c.reply) (call_at q.calls number) ≡ Some b.was.given
 waits_on p q number b =
     ap (λ (x : PartsView). option_and_then (λ (c : Call). c.reply) (call_at x.calls number)) b.now
     ∙ ap (option_and_then (λ (c : Call). c.reply)) (updates_staged p.calls number b.was.call stage.Fresh b.was.there).now_is ∙ b.was.waits
@@ -172,20 +172,20 @@ pub copied_none : (p : PartsView) (number : ℕ) → CopiedOn zero p number p
 unfolding CopiedOn
 copied_none p number = refl
 
-copied_suc : (p : PartsView) (number n : ℕ) (mid q : PartsView) (left : ℕ) → CopiedOn n p number mid → CopiesBlock mid q number (suc left) → CopiedOn (suc n) p number q
+copied_suc : (p : PartsView) (number n : ℕ) (mid q : PartsView) (left : ℕ) → CopiedOn n p number mid → CopiedBlock mid q number (suc left) → CopiedOn (suc n) p number q
 unfolding CopiedOn
 copied_suc p number n mid q left before b = (mid, before, (left, b))
 
-pub copied_more : (p : PartsView) (number n : ℕ) (mid q : PartsView) (left : ℕ) → CopiedOn n p number mid → CopiesBlock mid q number (suc left) → CopiedOn (n + 1) p number q
+pub copied_more : (p : PartsView) (number n : ℕ) (mid q : PartsView) (left : ℕ) → CopiedOn n p number mid → CopiedBlock mid q number (suc left) → CopiedOn (n + 1) p number q
 copied_more p number n mid q left before b = subst (λ (k : ℕ). CopiedOn k p number q) (let e : suc n ≡ n + 1 = omega arith in e) (copied_suc p number n mid q left before b)
 
 -- ---- from the first step on
-left_held : (h : Option ℕ) (o : Option Node) → option_map_or (λ (x : Node). left_in x.content) (option_map (with_holder h) o) 0 ≡ option_map_or (λ (x : Node). left_in x.content) o 0
+left_held : (h : Option ℕ) (o : Option Node) → option_map_or (λ (x : Node). blocks_left_in x.content) (option_map (with_holder h) o) 0 ≡ option_map_or (λ (x : Node). blocks_left_in x.content) o 0
 left_held h None = refl
 left_held h (Some node) = refl
 
 -- a WRITE that has begun copies
-pub begun_copies : (p q : PartsView) (c : Call) (number : ℕ) → call_at p.calls number ≡ Some c → HasBegun p q c number → IsCopyingOn q number
+pub begun_copies : (p q : PartsView) (c : Call) (number : ℕ) → call_at p.calls number ≡ Some c → HasBegunWrite p q c number → IsCopyingOn q number
 begun_copies p q c number at b =
     let given : Reply = b.0 in
     let into : Copying = b.1 in
@@ -200,10 +200,10 @@ begun_copies p q c number at b =
             ∙ (updates_staged (answered p.calls number given) number (with_reply given c) after (updates_answered p.calls number c given at).now_is).now_is;
         is = refl;
         left_is =
-            ap (λ (x : StoreState). left_at x.nodes into.node) w.store
-            ∙ ap (λ (o : Option Node). option_map_or (λ (x : Node). left_in x.content) o 0) (edited_itself (with_holder (Some number)) w.mid into.node)
+            ap (λ (x : StoreState). blocks_left_at x.nodes into.node) w.store
+            ∙ ap (λ (o : Option Node). option_map_or (λ (x : Node). blocks_left_in x.content) o 0) (edited_itself (with_holder (Some number)) w.mid into.node)
             ∙ left_held (Some number) (node_in w.mid.nodes into.node)
-            ∙ ap (left_at w.mid.nodes) w.copied.node ∙ w.copied.left;
+            ∙ ap (blocks_left_at w.mid.nodes) w.copied.node ∙ w.copied.left;
         some = w.copied.some;
         given = given;
         waits = refl;
@@ -214,7 +214,7 @@ pub call_there : (o : Option Call) → IsSome o → (c : Call) × (o ≡ Some c)
 call_there None h = absurd (let z : ⊥ = cc in z)
 call_there (Some c) h = (c, refl)
 
-pub written_on : (p mid q : PartsView) (c : Call) (session number most : ℕ) (o : Option Reply) → HasBegun p mid c number → IfSome o (λ given. EndsCopying mid q session number (most - 1) given)
+pub written_on : (p mid q : PartsView) (c : Call) (session number most : ℕ) (o : Option Reply) → HasBegunWrite p mid c number → IfSome o (λ given. EndsCopying mid q session number (most - 1) given)
     → IfNone o (CopiedOn (most - 1) mid number q) → WritesOn p q c session number most o
 written_on p mid q c session number most None begun ends more = UpToThere mid begun more
 written_on p mid q c session number most (Some given) begun ends more = ToTheEnd given mid begun ends

@@ -8,19 +8,19 @@ use Rattle.sf_call.specs.Histories.{replay}
 use Rattle.sf_inode.specs.Stores.{StoreState, node_in, holder_of, is_directory_at, is_file_at}
 use Rattle.sf_keeps.specs.Keeps.{Keeps}
 use Rattle.sf_keeps.proofs.Laws.{reached_node}
-use Rattle.sf_coupling.specs.Walks.{Terrain, Spot, Holds, IsNodeOf, LeadsTo, scene, AreWalks, HandsOver}
-use Rattle.sf_coupling.specs.Stepping.{Takes}
+use Rattle.sf_coupling.specs.Walks.{Terrain, Spot, Holds, IsNodeOf, LeadsTo, walkers_at, AreWalks, HandsOver}
+use Rattle.sf_coupling.specs.Stepping.{TakesSpot}
 use Rattle.sf_coupling.proofs.Laws.{step_keeps, takes_held, takes_new, holder_is, let_go_keeps}
 use Rattle.sf_walk.specs.declared.walking.Walk.TheVariants.{Moved}
 use Rattle.sf_walk.specs.Routes.{Route, IsPosition, spots_of, nodes_of, terrain}
-use Rattle.sf_walk.specs.Steps.{Walker, entered, handed_over, let_go, Moves}
+use Rattle.sf_walk.specs.Steps.{Walker, entered, handed_over, let_go, AdvancesTo}
 use Rattle.sf_walk.proofs.Laws.{ground_stays, same_let_go, leads_same, moved_hands, freed_hands}
-use Rattle.sf_core.specs.Sound.{walker_of, writer_of}
+use Rattle.sf_core.specs.Sound.{walker_of, writer_of_file}
 use Rattle.sf_core.proofs.Walkers.{walker_holds, free_walks, walks_hands}
 use Rattle.sf_core.proofs.Writers.{SameFiles, no_directory, files_let_go, writers_stay}
 
 -- walks are coupled where all spots lead as before
-pub walks_on : (t u : Terrain) (f : ℕ → List Spot) (k : ℕ → Option ℕ) → ((spot : Spot) → LeadsTo t spot → LeadsTo u spot) → AreWalks (scene t f k) → AreWalks (scene u f k)
+pub walks_on : (t u : Terrain) (f : ℕ → List Spot) (k : ℕ → Option ℕ) → ((spot : Spot) → LeadsTo t spot → LeadsTo u spot) → AreWalks (walkers_at t f k) → AreWalks (walkers_at u f k)
 walks_on t u f k on walks = record { shaped = walks.shaped; leads = λ n s h. on s (walks.leads n s h); held = walks.held; holds = walks.holds; apart = walks.apart }
 
 entered_nodes : (at : Stage) (s : StoreState) → (entered at s).nodes ≡ s.nodes
@@ -31,12 +31,12 @@ entered_nodes (stage.Copies node left) s = λ i. s.nodes
 
 -- ---- a step to a directory that no other call holds
 module _ (old new : StoreState) (history : List Record) (keeps : Keeps old (replay history))
-    (f : ℕ → List Spot) (walks : AreWalks (scene (terrain old) f (walker_of old.nodes)))
-    (w : Walker) (after : Stage) (own : f w.number ≡ spots_of w.route w.at) (is : IsPosition w.route w.at) (moves : Moves old new w after) where
+    (f : ℕ → List Spot) (walks : AreWalks (walkers_at (terrain old) f (walker_of old.nodes)))
+    (w : Walker) (after : Stage) (own : f w.number ≡ spots_of w.route w.at) (is : IsPosition w.route w.at) (moves : AdvancesTo old new w after) where
   was_held : (l : ℕ) → IsNodeOf (spots_of w.route after) l → (l ≡ moves.spot.node) ⊎ (walker_of old.nodes l ≡ Some w.number)
   was_held l h = elim (takes_held moves.spot (spots_of w.route w.at) (spots_of w.route after) h.spot moves.takes h.holds) [
     | inl e ↦ inl (sym h.node ∙ ap (λ (s : Spot). s.node) e)
-    | inr was ↦ inr (holder_is (scene (terrain old) f (walker_of old.nodes)) walks w.number l (record { spot = h.spot; holds = subst (λ (x : List Spot). Holds x h.spot) (sym own) was; node = h.node }))
+    | inr was ↦ inr (holder_is (walkers_at (terrain old) f (walker_of old.nodes)) walks w.number l (record { spot = h.spot; holds = subst (λ (x : List Spot). Holds x h.spot) (sym own) was; node = h.node }))
   ]
 
   held_by : (l : ℕ) → IsNodeOf (spots_of w.route after) l → (l ≡ moves.spot.node) ⊎ (holder_of old.nodes l ≡ Some w.number)
@@ -61,11 +61,11 @@ module _ (old new : StoreState) (history : List Record) (keeps : Keeps old (repl
   walkers : HandsOver (walker_of old.nodes) (walker_of new.nodes) w.number (spots_of w.route w.at) (spots_of w.route after)
   walkers = walks_hands old new w.number (spots_of w.route w.at) (spots_of w.route after) (ground_stays old new w (Moved after) moves).directory is_directory hands
 
-  pub moved_keeps : (f' : ℕ → List Spot) → f' w.number ≡ spots_of w.route after → ((m : ℕ) → w.number ≢ m → f' m ≡ f m) → AreWalks (scene (terrain new) f' (walker_of new.nodes))
+  pub moved_keeps : (f' : ℕ → List Spot) → f' w.number ≡ spots_of w.route after → ((m : ℕ) → w.number ≢ m → f' m ≡ f m) → AreWalks (walkers_at (terrain new) f' (walker_of new.nodes))
   moved_keeps f' set same =
       walks_on (terrain old) (terrain new) f' (walker_of new.nodes) (leads_same old new (ground_stays old new w (Moved after) moves))
       (step_keeps (terrain old) f (walker_of old.nodes) w.number walks moves.spot (free_walks old.nodes w.number moves.spot.node moves.free) moves.leads f' (walker_of new.nodes)
-      (subst (λ (x : List Spot). Takes moves.spot x (f' w.number)) (sym own) (subst (λ (y : List Spot). Takes moves.spot (spots_of w.route w.at) y) (sym set) moves.takes)) same
+      (subst (λ (x : List Spot). TakesSpot moves.spot x (f' w.number)) (sym own) (subst (λ (y : List Spot). TakesSpot moves.spot (spots_of w.route w.at) y) (sym set) moves.takes)) same
       (subst (λ (x : List Spot). HandsOver (walker_of old.nodes) (walker_of new.nodes) w.number x (f' w.number)) (sym own)
       (subst (λ (y : List Spot). HandsOver (walker_of old.nodes) (walker_of new.nodes) w.number (spots_of w.route w.at) y) (sym set) walkers)))
 
@@ -76,22 +76,22 @@ module _ (old new : StoreState) (history : List Record) (keeps : Keeps old (repl
       no_directory old.nodes l file (ap (is_directory_at old.nodes) (sym h.node) ∙ leads.directory)
 
   -- who holds a file holds it still
-  pub moved_writers : SameFiles old new → (id : ℕ) → writer_of new.nodes id ≡ writer_of old.nodes id
+  pub moved_writers : SameFiles old new → (id : ℕ) → writer_of_file new.nodes id ≡ writer_of_file old.nodes id
   moved_writers same =
       writers_stay old new w.number (spots_of w.route w.at) (spots_of w.route after) same no_file_was
       (λ l h file. no_directory old.nodes l file (sym ((ground_stays old new w (Moved after) moves).directory l) ∙ is_directory l h)) hands
 
 -- ---- a call is set back: nothing is asked of it
-pub reset_keeps : (s : StoreState) (f f' : ℕ → List Spot) (n : ℕ) (route : Route) (at : Stage) → AreWalks (scene (terrain s) f (walker_of s.nodes)) → IsPosition route at → f n ≡ spots_of route at → f' n ≡ []
-    → ((m : ℕ) → n ≢ m → f' m ≡ f m) → AreWalks (scene (terrain (let_go [] (nodes_of at) s)) f' (walker_of (let_go [] (nodes_of at) s).nodes))
+pub reset_keeps : (s : StoreState) (f f' : ℕ → List Spot) (n : ℕ) (route : Route) (at : Stage) → AreWalks (walkers_at (terrain s) f (walker_of s.nodes)) → IsPosition route at → f n ≡ spots_of route at → f' n ≡ []
+    → ((m : ℕ) → n ≢ m → f' m ≡ f m) → AreWalks (walkers_at (terrain (let_go [] (nodes_of at) s)) f' (walker_of (let_go [] (nodes_of at) s).nodes))
 reset_keeps s f f' n route at walks is own none same =
     walks_on (terrain s) (terrain (let_go [] (nodes_of at) s)) f' (walker_of (let_go [] (nodes_of at) s).nodes) (leads_same s (let_go [] (nodes_of at) s) (same_let_go [] (nodes_of at) s))
     (let_go_keeps (terrain s) f f' (walker_of s.nodes) (walker_of (let_go [] (nodes_of at) s).nodes) n walks none same
     (subst (λ (x : List Spot). HandsOver (walker_of s.nodes) (walker_of (let_go [] (nodes_of at) s).nodes) n x []) (sym own)
     (walks_hands s (let_go [] (nodes_of at) s) n (spots_of route at) [] (same_let_go [] (nodes_of at) s).directory (λ l h. absurd h.holds) (freed_hands route at is s n))))
 
-pub reset_writers : (s : StoreState) (f : ℕ → List Spot) (n : ℕ) (route : Route) (at : Stage) → AreWalks (scene (terrain s) f (walker_of s.nodes)) → IsPosition route at → f n ≡ spots_of route at
-    → (id : ℕ) → writer_of (let_go [] (nodes_of at) s).nodes id ≡ writer_of s.nodes id
+pub reset_writers : (s : StoreState) (f : ℕ → List Spot) (n : ℕ) (route : Route) (at : Stage) → AreWalks (walkers_at (terrain s) f (walker_of s.nodes)) → IsPosition route at → f n ≡ spots_of route at
+    → (id : ℕ) → writer_of_file (let_go [] (nodes_of at) s).nodes id ≡ writer_of_file s.nodes id
 reset_writers s f n route at walks is own =
     writers_stay s (let_go [] (nodes_of at) s) n (spots_of route at) [] (files_let_go [] (nodes_of at) s)
     (λ l h file.

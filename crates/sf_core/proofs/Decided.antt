@@ -11,17 +11,17 @@ use Rattle.sf_call.specs.Calls.{answer_to}
 use Rattle.sf_call.specs.Tree.{label_at}
 use Rattle.sf_call.specs.Histories.{after, replay, IsLegal, IsNewNumber}
 use Rattle.sf_inode.specs.declared.node.Node.{Node}
-use Rattle.sf_inode.specs.Stores.{StoreState, node_in, entry_of, holder_of, is_directory_at}
+use Rattle.sf_inode.specs.Stores.{StoreState, node_in, child_of, holder_of, is_directory_at}
 use Rattle.sf_keeps.specs.Steps.{walk}
 use Rattle.sf_keeps.specs.Keeps.{Keeps}
 use Rattle.sf_keeps.proofs.Laws.{reached_node}
-use Rattle.sf_coupling.specs.Walks.{Spot, Holds, IsNodeOf, Between, IsShaped, LeadsTo, scene, AreWalks, HandsOver}
+use Rattle.sf_coupling.specs.Walks.{Spot, Holds, IsNodeOf, Between, IsShaped, LeadsTo, walkers_at, AreWalks, HandsOver}
 use Rattle.sf_coupling.proofs.Laws.{same_or_not, keeps_walks}
 use Rattle.sf_walk.specs.Routes.{IsPosition, route_of, spots_of, terrain}
 use Rattle.sf_walk.specs.Served.{IsAsBefore, NodesStay, IsRefused, IsCarriedOut}
 use Rattle.sf_walk.specs.Routes.{nodes_of}
 use Rattle.sf_walk.proofs.Laws.{same_let_go, leads_same, freed_hands}
-use Rattle.sf_core.specs.Sound.{walker_of, writer_of}
+use Rattle.sf_core.specs.Sound.{walker_of, writer_of_file}
 use Rattle.sf_core.specs.Stepping.{freed}
 use Rattle.sf_core.proofs.Maps.{none_some}
 use Rattle.sf_core.proofs.Walkers.{if_none, walker_is, walker_holds}
@@ -32,10 +32,10 @@ module _ (old mid : StoreState) (history : List Record) (n session moment : ℕ)
     (legal : IsLegal history) (above : 0 < n) (fresh : IsNewNumber n history) (keeps : Keeps old (replay history))
     (served : IsRefused old mid (replay history) given ⊎ IsCarriedOut mid (replay history) (answer_to (replay history) session n moment r) given)
     (stays : NodesStay n old mid)
-    (labels : (q : Path) (l holder : ℕ) → walk (entry_of old.nodes) old.root q ≡ Some l → walker_of old.nodes l ≡ Some holder → n ≢ holder
+    (labels : (q : Path) (l holder : ℕ) → walk (child_of old.nodes) old.root q ≡ Some l → walker_of old.nodes l ≡ Some holder → n ≢ holder
     → label_at (after (replay history) (Did n session moment r given)).names q ≡ label_at (replay history).names q)
-    (files : (l m : ℕ) → writer_of old.nodes l ≡ Some m → is_directory_at mid.nodes l ≡ true → ⊥)
-    (at : Stage) (is : IsPosition (route_of r) at) (f : ℕ → List Spot) (walks : AreWalks (scene (terrain old) f (walker_of old.nodes))) (own : f n ≡ spots_of (route_of r) at) where
+    (files : (l m : ℕ) → writer_of_file old.nodes l ≡ Some m → is_directory_at mid.nodes l ≡ true → ⊥)
+    (at : Stage) (is : IsPosition (route_of r) at) (f : ℕ → List Spot) (walks : AreWalks (walkers_at (terrain old) f (walker_of old.nodes))) (own : f n ≡ spots_of (route_of r) at) where
   -- a node's holder after the decision is the one that it had
   holder_was : (l m : ℕ) (o : Option Node) (node : Node) → node_in old.nodes l ≡ o → IsAsBefore (λ holder label. (holder ≡ None) × (label ≡ n)) o node → node.holder ≡ Some m → holder_of old.nodes l ≡ Some m
   holder_was l m None node e is h = let x : None ≡ Some m = sym is.0.0 ∙ h in absurd (let z : ⊥ = cc in z)
@@ -57,7 +57,7 @@ module _ (old mid : StoreState) (history : List Record) (n session moment : ℕ)
     leads : LeadsTo (terrain old) s
     leads = walks.leads m s hold
 
-    still : (walk (entry_of mid.nodes) mid.root s.path ≡ Some s.node) × ((node : Node) × (node_in mid.nodes s.node ≡ Some node))
+    still : (walk (child_of mid.nodes) mid.root s.path ≡ Some s.node) × ((node : Node) × (node_in mid.nodes s.node ≡ Some node))
     still =
         leads_still old mid history n session moment r given legal above fresh keeps served stays s.path s.node leads.names
         (labels s.path s.node m leads.names (walks.held m s hold) other)
@@ -110,10 +110,10 @@ module _ (old mid : StoreState) (history : List Record) (n session moment : ℕ)
       }
 
   -- the other calls' walks are what they were, and what is left of the call holds nothing
-  pub decided_keeps : (f' : ℕ → List Spot) → f' n ≡ [] → ((m : ℕ) → n ≢ m → f' m ≡ f m) → AreWalks (scene (terrain (freed at mid)) f' (walker_of (freed at mid).nodes))
+  pub decided_keeps : (f' : ℕ → List Spot) → f' n ≡ [] → ((m : ℕ) → n ≢ m → f' m ≡ f m) → AreWalks (walkers_at (terrain (freed at mid)) f' (walker_of (freed at mid).nodes))
   decided_keeps f' none same =
       let nothing : (s : Spot) → Holds (f' n) s → ⊥ = λ s h. subst (λ (x : List Spot). Holds x s) none h in
-      keeps_walks (scene (terrain old) f (walker_of old.nodes)) (scene (terrain (freed at mid)) f' (walker_of (freed at mid).nodes)) n walks (record {
+      keeps_walks (walkers_at (terrain old) f (walker_of old.nodes)) (walkers_at (terrain (freed at mid)) f' (walker_of (freed at mid).nodes)) n walks (record {
         same = same;
         hands = subst (λ (x : List Spot). HandsOver (walker_of old.nodes) (walker_of (freed at mid).nodes) n (f n) x) (sym none) hands;
         free = λ l h. absurd (nothing h.spot h.holds);

@@ -7,14 +7,14 @@ use Rattle.std.proofs.lemmas.List.{length-take}
 use Rattle.sf_path.specs.Names.{Path}
 use Rattle.sf_call.specs.declared.call.Reached.{Reached}
 use Rattle.sf_call.specs.declared.call.Stage.{Stage}
-use Rattle.sf_coupling.specs.Walks.{Spot, Holds, Scene, AreWalks}
+use Rattle.sf_coupling.specs.Walks.{Spot, Holds, Walkers, AreWalks}
 use Rattle.sf_coupling.specs.Stepping.{IsNextTo, IsFrom}
 use Rattle.sf_coupling.proofs.Laws.{waits_at_top}
 use Rattle.sf_walk.specs.Routes.{Route, IsPosition, reached, spot_on, spots_of}
 use Rattle.sf_walk.specs.Routes.IsPosition.{Starts, IsOn, IsBefore, IsApart}
-use Rattle.sf_walk.specs.Steps.{GoesFrom, LooksAt}
+use Rattle.sf_walk.specs.Steps.{GoesFrom, LooksUp}
 use Rattle.sf_walk.specs.Steps.GoesFrom.{OnOne, Together, OldEnd, NewEnd}
-use Rattle.sf_walk.specs.Steps.LooksAt.{Root, Next}
+use Rattle.sf_walk.specs.Steps.LooksUp.{Root, Next}
 use Rattle.sf_core.specs.Progress.{depth_at}
 
 one_more : (path : Path) (walked : ℕ) → walked < length path → take (walked + 1) path ≡ take walked path ++ get_or path walked [] ∷ []
@@ -40,7 +40,7 @@ on_way r at path from (OldEnd old new c a b more) (IsApart o u d f g ends) = (en
 on_way r at path from (NewEnd old new c a b parent) (IsApart o u d f g ends) = (ends.short_new, inr (inr (inl refl)))
 
 -- what a call looks up next is the root, or one name past what it holds
-looks_from : (r : Route) (at : Stage) (to : Path) → LooksAt r at to → IsPosition r at → (spot : Spot) → spot.path ≡ to → IsFrom (spots_of r at) spot
+looks_from : (r : Route) (at : Stage) (to : Path) → LooksUp r at to → IsPosition r at → (spot : Spot) → spot.path ≡ to → IsFrom (spots_of r at) spot
 looks_from r at to (Root o path rest paths) is spot e = inl e
 looks_from r at to (Next o g path from goes) is spot e = let way = on_way r at path from goes is in inr (spot_on path from, way.1, next_to path from spot way.0 e)
 
@@ -52,7 +52,7 @@ goes_depth r at path from (NewEnd old new c a b parent) (IsApart o u d f g ends)
     let x = length-take (from.walked + 1) path in let y = ends.short_new in omega (arith, x, y, goes_last (length old) a.walked from.walked parent)
 
 -- so far down it looks
-looks_depth : (r : Route) (at : Stage) (to : Path) → LooksAt r at to → IsPosition r at → length to ≡ depth_at r at
+looks_depth : (r : Route) (at : Stage) (to : Path) → LooksUp r at to → IsPosition r at → length to ≡ depth_at r at
 looks_depth r at to (Root o path rest paths) is = refl
 looks_depth r at to (Next o g path from goes) is = goes_depth r at path from goes is
 
@@ -81,8 +81,8 @@ first_depth r at (IsApart old new c f g is) top ends e =
     ]
 
 -- a call that wants what another holds looks less far down
-pub looks_deeper : (s : Scene) → AreWalks s → (n m : ℕ) → n ≢ m → (r q : Route) (at there : Stage) → s.spots n ≡ spots_of r at → IsPosition r at → s.spots m ≡ spots_of q there → IsPosition q there
-    → (wanted : Spot) → LooksAt r at wanted.path → Holds (s.spots m) wanted → depth_at r at < depth_at q there
+pub looks_deeper : (s : Walkers) → AreWalks s → (n m : ℕ) → n ≢ m → (r q : Route) (at there : Stage) → s.spots n ≡ spots_of r at → IsPosition r at → s.spots m ≡ spots_of q there → IsPosition q there
+    → (wanted : Spot) → LooksUp r at wanted.path → Holds (s.spots m) wanted → depth_at r at < depth_at q there
 looks_deeper s walks n m other r q at there own is its has wanted looks held =
     by (spots_of q there) refl (subst (λ (x : List Spot). Holds x wanted) its held)
   where

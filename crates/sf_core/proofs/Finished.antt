@@ -12,12 +12,12 @@ use Rattle.sf_inode.specs.Stores.{StoreState}
 use Rattle.sf_coupling.specs.Walks.{Spot, Holds}
 use Rattle.sf_coupling.proofs.Laws.{same_or_not}
 use Rattle.sf_walk.specs.Routes.{route_of}
-use Rattle.sf_walk.specs.Ways.{names_of as path_names}
+use Rattle.sf_walk.specs.Ways.{request_names as path_names}
 use Rattle.sf_walk.specs.Files.{cuts_file}
-use Rattle.sf_walk.specs.Served.{LookedUp, LooksUp, after_look_ups}
+use Rattle.sf_walk.specs.Served.{LookedUp, MakesLookUps, after_look_ups}
 use Rattle.sf_walk.proofs.Laws.{IsSameGround, same_itself, same_trans}
 use Rattle.sf_core.specs.Cores.{call_at}
-use Rattle.sf_core.specs.Progress.{reply_of, IsCopying}
+use Rattle.sf_core.specs.Progress.{waiting_reply, IsCopying}
 use Rattle.sf_core.specs.Parts.{PartsView}
 use Rattle.sf_core.specs.Sound.{copying_at, spots_at, spots_in, Sound}
 use Rattle.sf_core.specs.Finishing.{write_finished, FinishesWriter}
@@ -44,10 +44,10 @@ copies_not (stage.Ends common from to) none copies = copies
 copies_not (stage.Copies node left) none copies = let z : ⊥ = cc in z
 
 -- one that is undecided copies nothing
-pub not_copying : (p : PartsView) (h : List Record) → Sound p h → (m : ℕ) (d : Call) → call_at p.calls m ≡ Some d → reply_of d ≡ None → IsCopying d.stage → ⊥
+pub not_copying : (p : PartsView) (h : List Record) → Sound p h → (m : ℕ) (d : Call) → call_at p.calls m ≡ Some d → waiting_reply d ≡ None → IsCopying d.stage → ⊥
 not_copying p h sound m d at undecided copies = copies_not d.stage (none_copied (route_of d.request) d.stage (sound.coupled.positions m d at undecided)) copies
 
-pub still_undecided : (p q : PartsView) (h : List Record) → Sound p h → (why : Type 0) (m : ℕ) (d : Call) → call_at p.calls m ≡ Some d → reply_of d ≡ None → IsStill q why m d → call_at q.calls m ≡ Some d
+pub still_undecided : (p q : PartsView) (h : List Record) → Sound p h → (why : Type 0) (m : ℕ) (d : Call) → call_at p.calls m ≡ Some d → waiting_reply d ≡ None → IsStill q why m d → call_at q.calls m ≡ Some d
 still_undecided p q h sound why m d at undecided (inl e) = e
 still_undecided p q h sound why m d at undecided (inr f) = absurd (not_copying p h sound m d at undecided f.0)
 
@@ -61,7 +61,7 @@ pub record Readied (p q : PartsView) (h : List Record) (most : ℕ) (r : Request
   pub sessions : q.sessions ≡ p.sessions
   pub drawn : q.drawn ≡ p.drawn
   pub joins : q.joins ≡ p.joins
-  pub looks : LooksUp p.store q.store most
+  pub looks : MakesLookUps p.store q.store most
 
 ground_counted : (k : ℕ) (s : StoreState) → IsSameGround s (after_look_ups k s)
 ground_counted zero s = same_itself s

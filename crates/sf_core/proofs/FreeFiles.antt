@@ -16,7 +16,7 @@ use Rattle.sf_inode.specs.declared.node.Node.{Node}
 use Rattle.sf_inode.specs.declared.node.Content.{Content}
 use Rattle.sf_inode.specs.declared.node.Content.TheVariants as content
 use Rattle.sf_inode.specs.Nodes.{object_in, is_directory_content}
-use Rattle.sf_inode.specs.Stores.{StoreState, node_in, holder_of, shown_node, is_directory_at, is_file_at, left_at}
+use Rattle.sf_inode.specs.Stores.{StoreState, node_in, holder_of, shown_node, is_directory_at, is_file_at, blocks_left_at}
 use Rattle.sf_keeps.specs.Keeps.{Keeps}
 use Rattle.sf_coupling.specs.Walks.{IsFree}
 use Rattle.sf_walk.specs.declared.finding.Ways.{Ways}
@@ -28,12 +28,12 @@ use Rattle.sf_walk.specs.Routes.IsPosition.{Starts, IsOn, IsBefore, IsApart}
 use Rattle.sf_walk.specs.Ways.{AreWays}
 use Rattle.sf_walk.specs.Files.{IsFileFree, IsSettled, file_handle, cuts_file}
 use Rattle.sf_walk.specs.Served.{LookedUp, after_look_ups}
-use Rattle.sf_walk.specs.Steps.WalksOn.{TakesRoot, PartsAtRoot, GoesOn, Parts, OldGoesOn, NewGoesOn}
-use Rattle.sf_walk.specs.Steps.{walker, WalksOn, Moves, IsFreeThere, AreFree}
+use Rattle.sf_walk.specs.Steps.AdvancesOne.{TakesRoot, PartsAtRoot, GoesOn, Parts, OldGoesOn, NewGoesOn}
+use Rattle.sf_walk.specs.Steps.{walker, AdvancesOne, AdvancesTo, IsFreeThere, AreFree}
 use Rattle.sf_core.specs.Cores.{call_at}
-use Rattle.sf_core.specs.Progress.{reply_of, IsCopying}
+use Rattle.sf_core.specs.Progress.{waiting_reply, IsCopying}
 use Rattle.sf_core.specs.Parts.{PartsView}
-use Rattle.sf_core.specs.Sound.{writer_of, Sound}
+use Rattle.sf_core.specs.Sound.{writer_of_file, Sound}
 use Rattle.sf_core.proofs.Maps.{some_eq, none_some}
 use Rattle.sf_core.proofs.Writers.{no_directory, writer_holds}
 use Rattle.sf_core.proofs.SparedFiles.{file_writer, no_file}
@@ -52,8 +52,8 @@ root_kept s t keeps = by_node (node_in s.nodes s.root) keeps.shows.by.sound.root
         by_content m (content.File contents) is = is
 
 -- where it is asked of a file alone
-pub left_where : (s : StoreState) (node : ℕ) → (is_file_at s.nodes node ≡ true → left_at s.nodes node ≡ 0) → left_at s.nodes node ≡ 0
-left_where s node each = elim (is_file_at s.nodes node) as (λ b. is_file_at s.nodes node ≡ b → left_at s.nodes node ≡ 0) [
+pub left_where : (s : StoreState) (node : ℕ) → (is_file_at s.nodes node ≡ true → blocks_left_at s.nodes node ≡ 0) → blocks_left_at s.nodes node ≡ 0
+left_where s node each = elim (is_file_at s.nodes node) as (λ b. is_file_at s.nodes node ≡ b → blocks_left_at s.nodes node ≡ 0) [
   | true ↦ λ e. each e
   | false ↦ λ e. no_file (node_in s.nodes node) e
 ] refl
@@ -72,7 +72,7 @@ only_fresh r g e (IsOn path walked node less) = absurd (let z : ⊥ = cc in z)
 only_fresh r g e (IsBefore old new walked node count part less) = absurd (let z : ⊥ = cc in z)
 only_fresh r g e (IsApart old new common from to is) = absurd (let z : ⊥ = cc in z)
 
-walked_on : (g after : Stage) → WalksOn g after → after ≡ stage.Fresh → ⊥
+walked_on : (g after : Stage) → AdvancesOne g after → after ≡ stage.Fresh → ⊥
 walked_on g after (TakesRoot node) e = let z : ⊥ = cc in z
 walked_on g after (PartsAtRoot to at_root) e = let z : ⊥ = cc in z
 walked_on g after (GoesOn walked node to more) e = let z : ⊥ = cc in z
@@ -80,10 +80,10 @@ walked_on g after (Parts walked node to more) e = let z : ⊥ = cc in z
 walked_on g after (OldGoesOn common old new to more) e = let z : ⊥ = cc in z
 walked_on g after (NewGoesOn common old new to more) e = let z : ⊥ = cc in z
 
-no_path_moved : (g after : Stage) → IsPosition NoPath after → WalksOn g after → ⊥
+no_path_moved : (g after : Stage) → IsPosition NoPath after → AdvancesOne g after → ⊥
 no_path_moved g after is on = walked_on g after on (only_fresh NoPath after refl is)
 
-pub no_handle_moved : (r : Request) (g after : Stage) → IsPosition (route_of r) after → WalksOn g after → (number : ℕ) → file_handle r ≡ Some number → ⊥
+pub no_handle_moved : (r : Request) (g after : Stage) → IsPosition (route_of r) after → AdvancesOne g after → (number : ℕ) → file_handle r ≡ Some number → ⊥
 no_handle_moved (request.Read handle offset len) g after is on number e = no_path_moved g after is on
 no_handle_moved (request.Write handle offset bytes) g after is on number e = no_path_moved g after is on
 no_handle_moved (request.FSetStat handle attrs) g after is on number e = no_path_moved g after is on
@@ -101,12 +101,12 @@ no_handle_moved (request.Rename old new) g after is on number e = none_some numb
 no_handle_moved (request.PosixRename old new) g after is on number e = none_some number e
 no_handle_moved (request.Link old new) g after is on number e = none_some number e
 
-pub file_free_moved : (s t : StoreState) (c : Call) (after : Stage) → Moves s t (walker c.number (route_of c.request) c.stage) after → IsFileFree t c
+pub file_free_moved : (s t : StoreState) (c : Call) (after : Stage) → AdvancesTo s t (walker c.number (route_of c.request) c.stage) after → IsFileFree t c
 file_free_moved s t c after moves = record { free = λ number x own opens is. absurd (no_handle_moved c.request c.stage after moves.position moves.walks number own) }
 
-module _ (p : PartsView) (h : List Record) (sound : Sound p h) (c : Call) (at : call_at p.calls c.number ≡ Some c) (undecided : reply_of c ≡ None) where
-  left_free : (node : ℕ) → IsFree (holder_of p.store.nodes) c.number node → left_at p.store.nodes node ≡ 0
-  left_free node free = elim (writer_of p.store.nodes node) as (λ o. writer_of p.store.nodes node ≡ o → left_at p.store.nodes node ≡ 0) [
+module _ (p : PartsView) (h : List Record) (sound : Sound p h) (c : Call) (at : call_at p.calls c.number ≡ Some c) (undecided : waiting_reply c ≡ None) where
+  left_free : (node : ℕ) → IsFree (holder_of p.store.nodes) c.number node → blocks_left_at p.store.nodes node ≡ 0
+  left_free node free = elim (writer_of_file p.store.nodes node) as (λ o. writer_of_file p.store.nodes node ≡ o → blocks_left_at p.store.nodes node ≡ 0) [
     | None ↦ λ e. sound.copied.copies.settled node e
     | Some m ↦ λ e.
         let f = file_writer p.store p.calls sound.copied.copies node m e in
@@ -115,14 +115,14 @@ module _ (p : PartsView) (h : List Record) (sound : Sound p h) (c : Call) (at : 
         absurd (not_copying p h sound c.number c at undecided (subst (λ (x : Call). IsCopying x.stage) own (subst IsCopying (sym f.3) tt)))
   ] refl
 
-  left_root : (node : ℕ) → node ≡ p.store.root → left_at p.store.nodes node ≡ 0
+  left_root : (node : ℕ) → node ≡ p.store.root → blocks_left_at p.store.nodes node ≡ 0
   left_root node e = left_where p.store node (λ file. absurd (no_directory p.store.nodes node file (ap (is_directory_at p.store.nodes) e ∙ root_kept p.store _ sound.history.tree)))
 
-  by_path : (ways : Ways) (path : Path) → AreWays p.store (Along path) ways → AreFree (holder_of p.store.nodes) c.number (Along path) ways → (parent node : ℕ) → ways.path ≡ located.At parent node → left_at p.store.nodes node ≡ 0
+  by_path : (ways : Ways) (path : Path) → AreWays p.store (Along path) ways → AreFree (holder_of p.store.nodes) c.number (Along path) ways → (parent node : ℕ) → ways.path ≡ located.At parent node → blocks_left_at p.store.nodes node ≡ 0
   by_path ways [] w free parent node there = left_root node (let e : located.At parent node ≡ located.At p.store.root p.store.root = sym there ∙ w in cc)
   by_path ways (x ∷ path) w free parent node there = left_free node (subst (λ (f : Located). IsFreeThere (holder_of p.store.nodes) c.number f) there free)
 
-  on_path_by : (r : Request) (ways : Ways) → AreWays p.store (route_of r) ways → AreFree (holder_of p.store.nodes) c.number (route_of r) ways → (parent node : ℕ) → cuts_file r ≡ true → ways.path ≡ located.At parent node → left_at p.store.nodes node ≡ 0
+  on_path_by : (r : Request) (ways : Ways) → AreWays p.store (route_of r) ways → AreFree (holder_of p.store.nodes) c.number (route_of r) ways → (parent node : ℕ) → cuts_file r ≡ true → ways.path ≡ located.At parent node → blocks_left_at p.store.nodes node ≡ 0
   on_path_by (request.SetStat path attrs) ways w free parent node cuts there = by_path ways path w free parent node there
   on_path_by (request.Open path flags attrs) ways w free parent node cuts there = by_path ways path w free parent node there
   on_path_by (request.Stat path) ways w free parent node cuts there = absurd (let z : ⊥ = cc in z)

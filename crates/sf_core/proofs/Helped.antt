@@ -18,15 +18,15 @@ use Rattle.sf_walk.specs.Files.{IsSettled, file_handle}
 use Rattle.sf_walk.specs.Routes.{route_of, paths_on, reached_at}
 use Rattle.sf_walk.specs.Steps.{is_one_of}
 use Rattle.sf_core.specs.Cores.{call_at}
-use Rattle.sf_core.specs.Progress.{reply_of, has_passed, are_past, overtaken}
+use Rattle.sf_core.specs.Progress.{waiting_reply, has_passed, are_past, overtaken}
 use Rattle.sf_core.specs.Parts.{PartsView}
 use Rattle.sf_core.specs.Sound.{Sound}
 use Rattle.sf_core.specs.Stepping.{all_set_back}
 use Rattle.sf_core.specs.Finishing.{IsSettledWhereFree, KeepsRequests, AreOnPaths, FinishesWriter, IsReadyToHelp}
 use Rattle.sf_core.proofs.Maps.{some_eq, none_some}
 use Rattle.sf_core.proofs.Numbers.{among}
-use Rattle.sf_core.proofs.Backing.{back_if, calls_back, AreBack, all_back}
-use Rattle.sf_core.proofs.Preparing.{three_true, none_of}
+use Rattle.sf_core.proofs.SettingBack.{back_if, calls_back, AreBack, all_back}
+use Rattle.sf_core.proofs.BeforeDeciding.{three_true, none_of}
 use Rattle.sf_core.proofs.Updates.{updates_staged, updates_answered}
 
 -- the same call, or set to where it started
@@ -201,12 +201,12 @@ passed_walks (request.Link from to) at old e = refl
 
 -- those that a call overtakes are undecided, and have passed the path
 module _ (p : PartsView) (h : List Record) (sound : Sound p h) (n : ℕ) (old : Path) where
-  overtaken_is : (k : ℕ) (d : Call) → is_one_of k (overtaken p.calls n (Some old)) ≡ true → call_at p.calls k ≡ Some d → (reply_of d ≡ None) × (has_passed d old ≡ true)
+  overtaken_is : (k : ℕ) (d : Call) → is_one_of k (overtaken p.calls n (Some old)) ≡ true → call_at p.calls k ≡ Some d → (waiting_reply d ≡ None) × (has_passed d old ≡ true)
   overtaken_is k d here at =
-      let t = sym (ap (λ (o : Option Call). option_map_or (λ (x : Call). not (nat_eq k n) && is_none (reply_of x) && has_passed x old) o false) at)
-      ∙ sym (among (λ (e : ℕ × Call). not (nat_eq e.0 n) && is_none (reply_of e.1) && has_passed e.1 old) p.calls sound.ledger.calls_rise k) ∙ here in
-      let three = three_true (not (nat_eq k n)) (is_none (reply_of d)) (has_passed d old) t in
-      (none_of (reply_of d) three.1, three.2)
+      let t = sym (ap (λ (o : Option Call). option_map_or (λ (x : Call). not (nat_eq k n) && is_none (waiting_reply x) && has_passed x old) o false) at)
+      ∙ sym (among (λ (e : ℕ × Call). not (nat_eq e.0 n) && is_none (waiting_reply e.1) && has_passed e.1 old) p.calls sound.ledger.calls_rise k) ∙ here in
+      let three = three_true (not (nat_eq k n)) (is_none (waiting_reply d)) (has_passed d old) t in
+      (none_of (waiting_reply d) three.1, three.2)
 
   overtaken_back : AreBack p (all_set_back p (overtaken p.calls n (Some old))) h
   overtaken_back = all_back (overtaken p.calls n (Some old)) p h sound (λ k d here at. (overtaken_is k d here at).0)

@@ -22,7 +22,7 @@ use Rattle.sf_call.specs.Unanswered.{with_reply}
 use Rattle.sf_call.proofs.Laws.{after_told, never_wants, named_way}
 use Rattle.sf_laws.proofs.Laws.{below_labels, other_labels, unmoved_nested, moved_old}
 use Rattle.sf_inode.specs.declared.node.Node.{Node}
-use Rattle.sf_inode.specs.Stores.{StoreState, node_in, entry_of, is_directory_at}
+use Rattle.sf_inode.specs.Stores.{StoreState, node_in, child_of, is_directory_at}
 use Rattle.sf_keeps.specs.Steps.{walk}
 use Rattle.sf_keeps.specs.Keeps.{Keeps}
 use Rattle.sf_keeps.proofs.Laws.{reached_node, label_found, one_way}
@@ -33,15 +33,15 @@ use Rattle.sf_walk.specs.Routes.Route.{NoPath, Along, Between}
 use Rattle.sf_walk.specs.Steps.{is_one_of}
 use Rattle.sf_walk.specs.Served.{IsRefused, IsCarriedOut}
 use Rattle.sf_walk.proofs.Laws.{walk_same}
-use Rattle.sf_walk.specs.Ways.{names_of as path_names}
+use Rattle.sf_walk.specs.Ways.{request_names as path_names}
 use Rattle.sf_core.specs.Cores.{call_at}
-use Rattle.sf_core.specs.Progress.{reply_of, did, copy_of, IsCopying, names_in, names_of, number_at}
+use Rattle.sf_core.specs.Progress.{waiting_reply, did, copy_of, IsCopying, names_in_record, names_in_records, record_number}
 use Rattle.sf_core.specs.Sure.{AreSure}
 use Rattle.sf_walk.specs.Files.{cuts_file}
 use Rattle.sf_core.specs.Events.{AreRecordsOf, HasCut}
 use Rattle.sf_core.specs.Parts.{PartsView}
 use Rattle.sf_core.specs.Sound.{spots_at, spots_in, Sound}
-use Rattle.sf_core.specs.Stepping.{freed, Serves, HelpState, HelpsAll}
+use Rattle.sf_core.specs.Stepping.{freed, ServesCall, HelpState, HelpsAll}
 use Rattle.sf_core.proofs.Maps.{some_eq, none_some}
 use Rattle.sf_core.proofs.Updates.{Updates, updates_answered}
 use Rattle.sf_core.proofs.LookUps.{looks_fit, looks_between}
@@ -63,7 +63,7 @@ IsClear p old = (m : ℕ) (s : Spot) → Holds (spots_in p.calls m) s → after_
 pub record IsReady (p : PartsView) (old : Path) (number : ℕ) : Type 0 where
   pub call : Call
   pub at : call_at p.calls number ≡ Some call
-  pub undecided : reply_of call ≡ None
+  pub undecided : waiting_reply call ≡ None
   pub fresh : call.stage ≡ stage.Fresh
   pub below : LiesBelow old (route_of call.request)
 
@@ -71,8 +71,8 @@ pub record IsReady (p : PartsView) (old : Path) (number : ℕ) : Type 0 where
 pub record AreLed (old : Path) (p q : PartsView) (h helped : List Record) : Type 0 where
   pub sound : Sound q (h ++ helped)
   pub sure : AreSure h helped
-  pub walks : (path : Path) → IsAside old path → walk (entry_of q.store.nodes) q.store.root path ≡ walk (entry_of p.store.nodes) p.store.root path
-  pub directory : (path : Path) (l : ℕ) → IsAside old path → walk (entry_of p.store.nodes) p.store.root path ≡ Some l → is_directory_at p.store.nodes l ≡ true → is_directory_at q.store.nodes l ≡ true
+  pub walks : (path : Path) → IsAside old path → walk (child_of q.store.nodes) q.store.root path ≡ walk (child_of p.store.nodes) p.store.root path
+  pub directory : (path : Path) (l : ℕ) → IsAside old path → walk (child_of p.store.nodes) p.store.root path ≡ Some l → is_directory_at p.store.nodes l ≡ true → is_directory_at q.store.nodes l ≡ true
   pub stood : (m : ℕ) (s : Spot) → Holds (spots_in q.calls m) s → Holds (spots_in p.calls m) s
   pub sessions : q.sessions ≡ p.sessions
   pub drawn : q.drawn ≡ p.drawn
@@ -80,7 +80,7 @@ pub record AreLed (old : Path) (p q : PartsView) (h helped : List Record) : Type
   pub keep : q.book.keep ≡ p.book.keep
   pub fits : q.store.look_ups < 2 ^ 64
   pub more : p.store.look_ups ≤ q.store.look_ups
-  pub few : q.store.look_ups ≤ p.store.look_ups + names_of helped
+  pub few : q.store.look_ups ≤ p.store.look_ups + names_in_records helped
 
 nested_none : (from to : Path) → are_nested from to ≡ true → after_front from to ≡ None → after_front to from ≡ None → ⊥
 nested_none from to nested a b =
@@ -127,7 +127,7 @@ copied old (Along path) request below = refl
 copied old (Between from to) request below = refl
 
 -- ---- one call
-module _ (old : Path) (p : PartsView) (history : List Record) (sound : Sound p history) (clear : IsClear p old) (c : Call) (at : call_at p.calls c.number ≡ Some c) (undecided : reply_of c ≡ None) (fresh : c.stage ≡ stage.Fresh)
+module _ (old : Path) (p : PartsView) (history : List Record) (sound : Sound p history) (clear : IsClear p old) (c : Call) (at : call_at p.calls c.number ≡ Some c) (undecided : waiting_reply c ≡ None) (fresh : c.stage ≡ stage.Fresh)
     (below : LiesBelow old (route_of c.request)) (fits : p.store.look_ups < 2 ^ 64) (q : PartsView) (given : Reply) (helped : HelpState p q c c.number given) where
   above : 0 < c.number
   above = (sound.ledger.calls c.number c at).above
@@ -135,8 +135,8 @@ module _ (old : Path) (p : PartsView) (history : List Record) (sound : Sound p h
   new_number : IsNewNumber c.number history
   new_number = sound.history.undecided c.number c at undecided
 
-  serves : Serves p.store q.store c given
-  serves = subst (λ (s : StoreState). Serves p.store s c given) (sym (helped.records.store ∙ ap (λ (g : Stage). freed g helped.records.mid) fresh)) helped.records.serves
+  serves : ServesCall p.store q.store c given
+  serves = subst (λ (s : StoreState). ServesCall p.store s c given) (sym (helped.records.store ∙ ap (λ (g : Stage). freed g helped.records.mid) fresh)) helped.records.serves
 
   served : IsRefused p.store q.store (replay history) given ⊎ IsCarriedOut q.store (replay history) (answer_to (replay history) c.session c.number c.moment c.request) given
   served = serves.served (replay history) sound.history.tree (new_to p history c sound at undecided)
@@ -164,20 +164,20 @@ module _ (old : Path) (p : PartsView) (history : List Record) (sound : Sound p h
   calls_now = subst (λ cs. Updates p.calls cs c.number (Some c) (Some (with_reply given c))) (sym helped.calls) (updates_answered p.calls c.number c given at)
 
   -- a path aside leads where it led
-  leads_aside : (x : Path) (l : ℕ) → IsAside old x → walk (entry_of p.store.nodes) p.store.root x ≡ Some l → (walk (entry_of q.store.nodes) q.store.root x ≡ Some l) × ((node : Node) × (node_in q.store.nodes l ≡ Some node))
+  leads_aside : (x : Path) (l : ℕ) → IsAside old x → walk (child_of p.store.nodes) p.store.root x ≡ Some l → (walk (child_of q.store.nodes) q.store.root x ≡ Some l) × ((node : Node) × (node_in q.store.nodes l ≡ Some node))
   leads_aside x l aside w = leads_still p.store q.store history c.number c.session c.moment c.request given sound.history.legal above new_number sound.history.tree served serves.nodes x l w (label_aside x aside)
 
   keeps_now : Keeps q.store (after (replay history) (did c given))
   keeps_now = keeps_after p.store q.store history c.number c.session c.moment c.request given sound.history.legal above new_number sound.history.tree served serves.nodes
 
-  walks_aside : (x : Path) → IsAside old x → walk (entry_of q.store.nodes) q.store.root x ≡ walk (entry_of p.store.nodes) p.store.root x
+  walks_aside : (x : Path) → IsAside old x → walk (child_of q.store.nodes) q.store.root x ≡ walk (child_of p.store.nodes) p.store.root x
   walks_aside x aside =
-      elim (walk (entry_of p.store.nodes) p.store.root x) as (λ o. walk (entry_of p.store.nodes) p.store.root x ≡ o → walk (entry_of q.store.nodes) q.store.root x ≡ o) [
+      elim (walk (child_of p.store.nodes) p.store.root x) as (λ o. walk (child_of p.store.nodes) p.store.root x ≡ o → walk (child_of q.store.nodes) q.store.root x ≡ o) [
         | Some l ↦ λ w. (leads_aside x l aside w).0
         | None ↦ λ w.
             let before : label_at (replay history).names x ≡ None =
             label_found p.store (replay history) sound.history.tree x ∙ ap (λ (o : Option ℕ). option_map (λ (y : Node). y.label) (option_and_then (node_in p.store.nodes) o)) w in
-            elim (walk (entry_of q.store.nodes) q.store.root x) as (λ o. walk (entry_of q.store.nodes) q.store.root x ≡ o → o ≡ None) [
+            elim (walk (child_of q.store.nodes) q.store.root x) as (λ o. walk (child_of q.store.nodes) q.store.root x ≡ o → o ≡ None) [
               | None ↦ λ v. refl
               | Some l ↦ λ v.
                   let it = reached_node q.store (after (replay history) (did c given)) keeps_now x l v in
@@ -233,7 +233,7 @@ pub not_there : (k n : ℕ) (ns : List ℕ) → is_one_of k ns ≡ true → is_o
 not_there k n ns here gone same = let x = sym here ∙ ap (λ i. is_one_of i ns) same ∙ gone in let z : ⊥ = cc in z
 
 -- records of calls that are elsewhere, too
-pub records_on : (old new : List (ℕ × Call)) (ns : List ℕ) (rs : List Record) → ((n : ℕ) (c : Call) → is_one_of n ns ≡ true → call_at new n ≡ Some c → reply_of c ≡ None → (d : Call) × (call_at old n ≡ Some d) × (reply_of d ≡ None) × ((g : Reply) → did c g ≡ did d g))
+pub records_on : (old new : List (ℕ × Call)) (ns : List ℕ) (rs : List Record) → ((n : ℕ) (c : Call) → is_one_of n ns ≡ true → call_at new n ≡ Some c → waiting_reply c ≡ None → (d : Call) × (call_at old n ≡ Some d) × (waiting_reply d ≡ None) × ((g : Reply) → did c g ≡ did d g))
     → AreRecordsOf new ns rs → AreRecordsOf old ns rs
 unfolding AreRecordsOf
 records_on old new [] [] each h = tt
@@ -243,8 +243,8 @@ records_on old new (n ∷ ns) (r ∷ rs) each h =
     let d = each n h.0.0 (ap (λ b. b || is_one_of n ns) (eq-eqb n n refl)) h.0.2 h.0.3 in
     ((d.0, h.0.1, d.1, d.2, h.0.4 ∙ d.3 h.0.1), records_on old new ns rs (λ m c here. each m c (or_right (nat_eq m n) (is_one_of m ns) here)) h.1)
 
-names_more : (r : Record) (rs : List Record) → names_of (r ∷ rs) ≡ names_in r + names_of rs
-names_more r rs = sum_by-cons (λ x. x) (names_in r) (map names_in rs)
+names_more : (r : Record) (rs : List Record) → names_in_records (r ∷ rs) ≡ names_in_record r + names_in_records rs
+names_more r rs = sum_by-cons (λ x. x) (names_in_record r) (map names_in_record rs)
 
 led_on : (old : Path) (p q s : PartsView) (h : List Record) (r : Record) (rs : List Record) → AreLed old p q h (r ∷ []) → AreLed old q s (h ++ r ∷ []) rs → AreLed old p s h (r ∷ rs)
 unfolding AreSure
@@ -310,7 +310,7 @@ pub record HelpedAll (old : Path) (p q : PartsView) (h : List Record) (ns : List
   pub helped : List Record
   pub led : AreLed old p q h helped
   pub records : AreRecordsOf p.calls ns helped
-  pub numbers : filter_map number_at helped ≡ ns
+  pub numbers : filter_map record_number helped ≡ ns
   pub these : (n : ℕ) → is_one_of n ns ≡ true → WasHelped p q helped n
   pub others : (m : ℕ) (d : Call) → is_one_of m ns ≡ false → call_at p.calls m ≡ Some d → IsStill q (HasCut helped) m d
 
@@ -318,7 +318,7 @@ none_recorded : (p : PartsView) → AreRecordsOf p.calls [] []
 unfolding AreRecordsOf
 none_recorded p = tt
 
-one_recorded : (p : PartsView) (n : ℕ) (ns : List ℕ) (c : Call) (given : Reply) (rs : List Record) → call_at p.calls n ≡ Some c → reply_of c ≡ None → AreRecordsOf p.calls ns rs → AreRecordsOf p.calls (n ∷ ns) (did c given ∷ rs)
+one_recorded : (p : PartsView) (n : ℕ) (ns : List ℕ) (c : Call) (given : Reply) (rs : List Record) → call_at p.calls n ≡ Some c → waiting_reply c ≡ None → AreRecordsOf p.calls ns rs → AreRecordsOf p.calls (n ∷ ns) (did c given ∷ rs)
 unfolding AreRecordsOf
 one_recorded p n ns c given rs at undecided h = ((c, given, at, undecided, refl), h)
 
@@ -364,7 +364,7 @@ help_all (n ∷ ns) old p q h sound clear fits ready apart helps =
     let now = calls_now old f h before.sound clear_f c at r.undecided r.fresh r.below fits_f mid given.0 done in
     let same : (m : ℕ) → m ≢ n → call_at mid.calls m ≡ call_at f.calls m = λ m ne. now.rest m (λ e. ne (e ∙ is)) in
     let here : call_at mid.calls n ≡ Some (with_reply given.0 c) = ap (call_at mid.calls) (sym is) ∙ now.now_is in
-    let there : (m : ℕ) (x : Call) → m ≢ n → call_at p.calls m ≡ Some x → reply_of x ≡ None → call_at mid.calls m ≡ Some x =
+    let there : (m : ℕ) (x : Call) → m ≢ n → call_at p.calls m ≡ Some x → waiting_reply x ≡ None → call_at mid.calls m ≡ Some x =
     λ m x ne at_x none. same m ne ∙ still_undecided p f h sound (cuts_file c.request ≡ true) m x at_x none (before.each m x at_x) in
     let all = help_all ns old mid q (h ++ did c given.0 ∷ []) one.sound (λ m s hold. clear m s (one.stood m s hold)) one.fits
     (λ m here. let x = ready m (or_right (nat_eq m n) (is_one_of m ns) here) in
@@ -378,7 +378,7 @@ help_all (n ∷ ns) old p q h sound clear fits ready apart helps =
           let x = ready m (or_right (nat_eq m n) (is_one_of m ns) later) in
           let in_mid = there m x.call (not_there m n ns later apart.0) x.at x.undecided in
           (x.call, x.at, x.undecided, λ g. ap (λ (y : Call). did y g) (some_eq d x.call (sym at_d ∙ in_mid)))) all.records);
-      numbers = let x : c.number ∷ filter_map number_at all.helped ≡ n ∷ ns = (ap (λ k. k ∷ filter_map number_at all.helped) is) ∙ ap (λ (ks : List ℕ). n ∷ ks) all.numbers in x;
+      numbers = let x : c.number ∷ filter_map record_number all.helped ≡ n ∷ ns = (ap (λ k. k ∷ filter_map record_number all.helped) is) ∙ ap (λ (ks : List ℕ). n ∷ ks) all.numbers in x;
       these = λ m one_of d at_d.
           elim (nat_eq m n) as (λ b. nat_eq m n ≡ b → (b || is_one_of m ns) ≡ true → (g : Reply) × (call_at q.calls m ≡ Some (with_reply g d)) × IsAmong (did d g) (did c given.0 ∷ all.helped)) [
             | true ↦ λ e _.
@@ -390,7 +390,7 @@ help_all (n ∷ ns) old p q h sound clear fits ready apart helps =
                 )
             | false ↦ λ e later.
                 let x = ready m (or_right (nat_eq m n) (is_one_of m ns) later) in
-                let undecided_d : reply_of d ≡ None = ap reply_of (some_eq d x.call (sym at_d ∙ x.at)) ∙ x.undecided in
+                let undecided_d : waiting_reply d ≡ None = ap waiting_reply (some_eq d x.call (sym at_d ∙ x.at)) ∙ x.undecided in
                 let w = all.these m later d (there m d (not_there m n ns later apart.0) at_d undecided_d) in
                 (w.0, w.1, among_later (did d w.0) (did c given.0) all.helped w.2)
           ] refl one_of;

@@ -8,14 +8,14 @@ use Rattle.sf_call.specs.declared.record.Record.{Record}
 use Rattle.sf_call.specs.Tree.{Tree}
 use Rattle.sf_call.specs.Histories.{after, IsLegal, replay, IsNewNumber, IsPresent, IsOther, IsNoLeaving, MayFollow, IsAmong}
 use Rattle.sf_call.proofs.Laws.{replay-push, IsLegal-push}
-use Rattle.sf_book.specs.Books.{BookView, is_deed, excess, kept_of, gone_of, put}
+use Rattle.sf_book.specs.Books.{BookView, is_call, excess, kept_of, gone_of, put}
 use Rattle.sf_book.proofs.Laws.{kept-put, gone-put, deeds-split, deeds-append}
 use Rattle.sf_keeps.specs.Keeps.{Keeps}
 use Rattle.sf_coupling.proofs.Laws.{same_or_not}
 use Rattle.sf_core.specs.Cores.{call_at, session_at, last_number, most_sessions}
-use Rattle.sf_core.specs.Progress.{reply_of, did, undecided_in}
+use Rattle.sf_core.specs.Progress.{waiting_reply, did, undecided_in}
 use Rattle.sf_core.specs.Histories.{IsHistory}
-use Rattle.sf_core.specs.Parts.{PartsView, seen}
+use Rattle.sf_core.specs.Parts.{PartsView, core_of}
 use Rattle.sf_core.proofs.Maps.{some_eq, none_some, one_if}
 use Rattle.sf_core.proofs.Updates.{one_by, Updates}
 
@@ -23,7 +23,7 @@ pub all_push : {A : Type 0} (P : A → Type 0) (xs : List A) (x : A) → AllByRe
 all_push P [] x h p = (p, tt)
 all_push P (y ∷ xs) x h p = (h.0, all_push P xs x h.1 p)
 
-pub deeds_push : (rs : List Record) (r : Record) → count_by is_deed (rs ++ r ∷ []) ≡ count_by is_deed rs + count_by is_deed (r ∷ [])
+pub deeds_push : (rs : List Record) (r : Record) → count_by is_call (rs ++ r ∷ []) ≡ count_by is_call rs + count_by is_call (r ∷ [])
 deeds_push rs r = deeds-append rs (r ∷ [])
 
 pub among_more : (r : Record) (h rs : List Record) → IsAmong r h → IsAmong r (h ++ rs)
@@ -44,27 +44,27 @@ few all folded gone now before rest total a b c d e = omega (arith, a, b, c, d, 
 -- the book has the history's last records, and counts those before
 pub record IsWritten (b : BookView) (h : List Record) : Type 0 where
   pub records : b.records ≡ kept_of b.keep h
-  pub folded : b.folded ≡ count_by is_deed (gone_of b.keep h)
+  pub folded : b.folded ≡ count_by is_call (gone_of b.keep h)
 
-pub written_put : (b : BookView) (h : List Record) (r : Record) → IsWritten b h → count_by is_deed (h ++ r ∷ []) < 2 ^ 63 → IsWritten (put b r) (h ++ r ∷ [])
+pub written_put : (b : BookView) (h : List Record) (r : Record) → IsWritten b h → count_by is_call (h ++ r ∷ []) < 2 ^ 63 → IsWritten (put b r) (h ++ r ∷ [])
 written_put b h r w small = record {
   records = ap (λ (rs : List Record). kept_of b.keep (rs ++ r ∷ [])) w.records ∙ kept-put b.keep h r;
   folded =
-      let y : count_by is_deed (gone_of b.keep (b.records ++ r ∷ [])) ≡ count_by is_deed (gone_of b.keep (kept_of b.keep h ++ r ∷ [])) =
-      ap (λ (rs : List Record). count_by is_deed (gone_of b.keep (rs ++ r ∷ []))) w.records in
-      few (count_by is_deed (gone_of b.keep (h ++ r ∷ []))) b.folded (count_by is_deed (gone_of b.keep h)) (count_by is_deed (gone_of b.keep (b.records ++ r ∷ [])))
-      (count_by is_deed (gone_of b.keep (kept_of b.keep h ++ r ∷ []))) (count_by is_deed (kept_of b.keep (h ++ r ∷ []))) (count_by is_deed (h ++ r ∷ [])) w.folded y (gone-put b.keep h r)
+      let y : count_by is_call (gone_of b.keep (b.records ++ r ∷ [])) ≡ count_by is_call (gone_of b.keep (kept_of b.keep h ++ r ∷ [])) =
+      ap (λ (rs : List Record). count_by is_call (gone_of b.keep (rs ++ r ∷ []))) w.records in
+      few (count_by is_call (gone_of b.keep (h ++ r ∷ []))) b.folded (count_by is_call (gone_of b.keep h)) (count_by is_call (gone_of b.keep (b.records ++ r ∷ [])))
+      (count_by is_call (gone_of b.keep (kept_of b.keep h ++ r ∷ []))) (count_by is_call (kept_of b.keep (h ++ r ∷ []))) (count_by is_call (h ++ r ∷ [])) w.folded y (gone-put b.keep h r)
       (deeds-split (h ++ r ∷ []) (excess b.keep (h ++ r ∷ []))) small;
 }
 
 -- ---- the history after an event of one call and of one session: g is the old one, with records or without
-module _ (p q : PartsView) (h g : List Record) (is : IsHistory (seen p) h) (n session : ℕ) (was now : Option Call) (before after : Option (Option ℕ)) (calls : Updates p.calls q.calls n was now) (sessions : Updates p.sessions q.sessions session before after)
-    (legal : IsLegal g) (written : IsWritten q.book g) (tree : Keeps q.store (replay g)) (counted : q.drawn ≡ count_by is_deed g + undecided_in q.calls)
+module _ (p q : PartsView) (h g : List Record) (is : IsHistory (core_of p) h) (n session : ℕ) (was now : Option Call) (before after : Option (Option ℕ)) (calls : Updates p.calls q.calls n was now) (sessions : Updates p.sessions q.sessions session before after)
+    (legal : IsLegal g) (written : IsWritten q.book g) (tree : Keeps q.store (replay g)) (counted : q.drawn ≡ count_by is_call g + undecided_in q.calls)
     (among : (r : Record) → IsAmong r h → IsAmong r g) (others : (m : ℕ) → m ≢ n → IsNewNumber m h → IsNewNumber m g)
-    (undecided : (c : Call) → now ≡ Some c → reply_of c ≡ None → IsNewNumber n g) (decided : (c : Call) (given : Reply) → now ≡ Some c → reply_of c ≡ Some given → IsAmong (did c given) g)
+    (undecided : (c : Call) → now ≡ Some c → waiting_reply c ≡ None → IsNewNumber n g) (decided : (c : Call) (given : Reply) → now ≡ Some c → waiting_reply c ≡ Some given → IsAmong (did c given) g)
     (later : (m : ℕ) → q.drawn < m → IsNewNumber m g) (present : (s : ℕ) → s ≢ session → IsPresent s h → IsPresent s g) (own : (o : Option ℕ) → after ≡ Some o → IsPresent session g)
     (newcomers : (s : ℕ) → q.joins < s → IsPresent s g) (few : length q.sessions ≤ most_sessions) where
-  pub history_changed : IsHistory (seen q) g
+  pub history_changed : IsHistory (core_of q) g
   history_changed = record {
     legal = legal;
     records = written.records;
@@ -91,17 +91,17 @@ module _ (p q : PartsView) (h g : List Record) (is : IsHistory (seen p) h) (n se
 -- what is left of a call after its record: nothing, or the same call with its reply
 pub data IsLeft (c : Call) (given : Reply) : Option Call → Type 0 where
   Gone : IsLeft c given None
-  Waits : (d : Call) → reply_of d ≡ Some given → did d given ≡ did c given → IsLeft c given (Some d)
+  Waits : (d : Call) → waiting_reply d ≡ Some given → did d given ≡ did c given → IsLeft c given (Some d)
 
 abbrev pub is_undecided : Call → Bool
-is_undecided c = is_none (reply_of c)
+is_undecided c = is_none (waiting_reply c)
 
 left_decided : (c : Call) (given : Reply) (now : Option Call) → IsLeft c given now → one_by is_undecided now ≡ 0
 left_decided c given now Gone = refl
 left_decided c given now (Waits d e same) = ap (λ (o : Option Reply). one_if (is_none o)) e
 
 -- ---- the record of a call
-module _ (p q : PartsView) (h : List Record) (is : IsHistory (seen p) h) (c : Call) (given : Reply) (now : Option Call) (calls : Updates p.calls q.calls c.number (Some c) now) (undecided : reply_of c ≡ None) (left : IsLeft c given now)
+module _ (p q : PartsView) (h : List Record) (is : IsHistory (core_of p) h) (c : Call) (given : Reply) (now : Option Call) (calls : Updates p.calls q.calls c.number (Some c) now) (undecided : waiting_reply c ≡ None) (left : IsLeft c given now)
     (slot : Option ℕ) (sessions : Updates p.sessions q.sessions c.session (Some (Some c.number)) (Some slot))
     (follow : MayFollow h (did c given)) (keeps : Keeps q.store (after (replay h) (did c given))) (book : q.book ≡ put p.book (did c given)) (drawn : q.drawn ≡ p.drawn) (joins : q.joins ≡ p.joins)
     (most : c.number ≤ p.drawn) (fits : p.drawn ≤ last_number) where
@@ -121,15 +121,15 @@ module _ (p q : PartsView) (h : List Record) (is : IsHistory (seen p) h) (c : Ca
       let b = ap (λ (o : Option Reply). one_if (is_none o)) undecided in
       omega (arith, a, b, left_decided c given now left)
 
-  counted_now : q.drawn ≡ count_by is_deed (h ++ r ∷ []) + undecided_in q.calls
+  counted_now : q.drawn ≡ count_by is_call (h ++ r ∷ []) + undecided_in q.calls
   counted_now = let a = is.counted in omega (arith, a, drawn, fewer, deeds_push h r)
 
-  own_by : (o : Option Call) → IsLeft c given o → (d : Call) → o ≡ Some d → (reply_of d ≡ Some given) × IsAmong (did d given) (h ++ r ∷ [])
+  own_by : (o : Option Call) → IsLeft c given o → (d : Call) → o ≡ Some d → (waiting_reply d ≡ Some given) × IsAmong (did d given) (h ++ r ∷ [])
   own_by o Gone d at = absurd (none_some d at)
   own_by o (Waits f reply same) d at =
-      let e = some_eq f d at in subst (λ (x : Call). (reply_of x ≡ Some given) × IsAmong (did x given) (h ++ r ∷ [])) e (reply, subst (λ (x : Record). IsAmong x (h ++ r ∷ [])) (sym same) (among_last r h))
+      let e = some_eq f d at in subst (λ (x : Call). (waiting_reply x ≡ Some given) × IsAmong (did x given) (h ++ r ∷ [])) e (reply, subst (λ (x : Record). IsAmong x (h ++ r ∷ [])) (sym same) (among_last r h))
 
-  pub history_recorded : IsHistory (seen q) (h ++ r ∷ [])
+  pub history_recorded : IsHistory (core_of q) (h ++ r ∷ [])
   history_recorded =
       history_changed p q h (h ++ r ∷ []) is c.number c.session (Some c) now (Some (Some c.number)) (Some slot) calls sessions (IsLegal-push h r is.legal follow)
       (subst (λ (b : BookView). IsWritten b (h ++ r ∷ [])) (sym book) (written_put p.book h r (record { records = is.records; folded = is.folded }) (let a = counted_now in omega (arith, a, drawn, fits))))

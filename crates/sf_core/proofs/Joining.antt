@@ -7,17 +7,17 @@ use Rattle.sf_call.specs.Histories.{replay}
 use Rattle.sf_book.specs.Books.{BookView}
 use Rattle.sf_inode.specs.Stores.{StoreState}
 use Rattle.sf_keeps.specs.Keeps.{Keeps}
-use Rattle.sf_coupling.specs.Walks.{scene, AreWalks}
+use Rattle.sf_coupling.specs.Walks.{walkers_at, AreWalks}
 use Rattle.sf_walk.specs.Routes.{terrain}
-use Rattle.sf_core.specs.Cores.{call_at, session_at, slot_by, last_number, most_sessions}
+use Rattle.sf_core.specs.Cores.{call_at, session_at, lane_state_by, last_number, most_sessions}
 use Rattle.sf_core.specs.Progress.{undecided_in}
-use Rattle.sf_core.specs.Parts.{PartsView, seen}
+use Rattle.sf_core.specs.Parts.{PartsView, core_of}
 use Rattle.sf_core.specs.Sound.{walker_of, spots_in, Sound}
 use Rattle.sf_core.specs.Stepping.{JoinState}
 use Rattle.sf_core.proofs.Maps.{some_eq, none_some}
 use Rattle.sf_core.proofs.Updates.{Updates, updates_nothing}
 use Rattle.sf_core.specs.Events.{Joins}
-use Rattle.sf_core.proofs.Told.{slot_idle, slot_kept, same_records}
+use Rattle.sf_core.proofs.LaneStates.{slot_idle, slot_kept, same_records}
 use Rattle.sf_core.proofs.Histories.{IsWritten, history_changed}
 use Rattle.sf_core.proofs.Ledgers.{ledger_changed}
 use Rattle.sf_core.proofs.Writers.{copied_same}
@@ -49,8 +49,8 @@ module _ (p q : PartsView) (h : List Record) (sound : Sound p h) (joined : JoinS
         (let b = sessions.size in omega (arith, fewer, b));
     coupled = record {
       walks =
-          subst (λ (s : StoreState). AreWalks (scene (terrain s) (spots_in q.calls) (walker_of s.nodes))) (sym joined.store)
-          (subst (λ cs. AreWalks (scene (terrain p.store) (spots_in cs) (walker_of p.store.nodes))) (sym joined.calls) sound.coupled.walks);
+          subst (λ (s : StoreState). AreWalks (walkers_at (terrain s) (spots_in q.calls) (walker_of s.nodes))) (sym joined.store)
+          (subst (λ cs. AreWalks (walkers_at (terrain p.store) (spots_in cs) (walker_of p.store.nodes))) (sym joined.calls) sound.coupled.walks);
       positions = λ m d at. sound.coupled.positions m d (still m d at);
       waiting = λ m d g at some. sound.coupled.waiting m d g (still m d at) some;
     };
@@ -65,13 +65,13 @@ module _ (p q : PartsView) (h : List Record) (sound : Sound p h) (joined : JoinS
         (let a = joined.room in let b = sessions.size in let d = undecided_few p.calls in let e = ap (λ cs. undecided_in cs) joined.calls in omega (arith, a, b, d, e));
   }
 
-  pub joined_told : Joins (seen p) (seen q)
+  pub joined_told : Joins (core_of p) (core_of q)
   joined_told = record {
     few = fewer;
     unspent = unspent;
-    was = ap (slot_by p.calls) none_yet;
-    own = slot_idle (seen q) (p.joins + 1) sessions.now_is;
-    others = λ s ne. slot_kept (seen p) (seen q) s (session_at p.sessions s) refl (sessions.rest s ne) (λ m e. ap (λ cs. call_at cs m) joined.calls);
+    was = ap (lane_state_by p.calls) none_yet;
+    own = slot_idle (core_of q) (p.joins + 1) sessions.now_is;
+    others = λ s ne. slot_kept (core_of p) (core_of q) s (session_at p.sessions s) refl (sessions.rest s ne) (λ m e. ap (λ cs. call_at cs m) joined.calls);
     joined = let e = sessions.size in omega (arith, e);
     joins = joined.joins;
     records = same_records p q joined.book;

@@ -16,21 +16,21 @@ use Rattle.sf_call.specs.Histories.{replay, IsNewNumber, IsPresent, IsOther, IsN
 use Rattle.sf_call.specs.declared.handle.Handle.{Handle}
 use Rattle.sf_call.specs.Handles.{handle_in}
 use Rattle.sf_call.proofs.Laws.{replay-push, IsLegal-push, no_object}
-use Rattle.sf_book.specs.Books.{BookView, is_deed}
+use Rattle.sf_book.specs.Books.{BookView, is_call}
 use Rattle.sf_inode.specs.declared.node.Node.{Node}
 use Rattle.sf_inode.specs.declared.handle.OpenHandle.{OpenHandle}
-use Rattle.sf_inode.specs.Nodes.{left_in, is_directory_content, with_opened, is_unused}
-use Rattle.sf_inode.specs.Stores.{StoreState, node_in, entry_of, handle_at, handles_of, is_directory_at, shown_handle, with_nodes, with_sessions, edited, released_if, let_go, each_let_go, closed_each, closed_all}
+use Rattle.sf_inode.specs.Nodes.{blocks_left_in, is_directory_content, with_opened, is_unused}
+use Rattle.sf_inode.specs.Stores.{StoreState, node_in, child_of, open_handle_at, handles_of, is_directory_at, shown_handle, with_nodes, with_sessions, edited, released_if, after_close, each_let_go, closed_each, closed_all}
 use Rattle.sf_keeps.specs.Steps.{walk}
 use Rattle.sf_keeps.specs.Keeps.{Keeps, WasThere, KeepsNodes}
 use Rattle.sf_keeps.proofs.Laws.{keeps_closed_all, nodes_kept, holder_kept, holder_was, directory_kept, way_kept, looks_kept}
-use Rattle.sf_coupling.specs.Walks.{Spot, scene, AreWalks}
+use Rattle.sf_coupling.specs.Walks.{Spot, walkers_at, AreWalks}
 use Rattle.sf_walk.specs.Routes.{terrain}
 use Rattle.sf_walk.specs.Served.{NodesStay, IsAsBefore}
-use Rattle.sf_core.specs.Cores.{call_at, session_at, slot_by}
+use Rattle.sf_core.specs.Cores.{call_at, session_at, lane_state_by}
 use Rattle.sf_core.specs.Progress.{undecided_in}
-use Rattle.sf_core.specs.Parts.{PartsView, seen}
-use Rattle.sf_core.specs.Sound.{walker_of, writer_of, copying_in, spots_in, Sound}
+use Rattle.sf_core.specs.Parts.{PartsView, core_of}
+use Rattle.sf_core.specs.Sound.{walker_of, writer_of_file, copying_in, spots_in, Sound}
 use Rattle.sf_core.specs.Stepping.{LeaveState}
 use Rattle.sf_core.proofs.Maps.{some_eq, none_some, removed_other}
 use Rattle.sf_core.proofs.Walkers.{walker_is, walker_holds}
@@ -38,15 +38,15 @@ use Rattle.sf_core.proofs.Writers.{SameFiles, files_itself}
 use Rattle.sf_core.proofs.SparedFiles.{all_copied}
 use Rattle.sf_core.proofs.Updates.{Updates, updates_removed, updates_nothing}
 use Rattle.sf_core.specs.Events.{Leaves}
-use Rattle.sf_core.proofs.Told.{slot_idle, slot_kept}
+use Rattle.sf_core.proofs.LaneStates.{slot_idle, slot_kept}
 use Rattle.sf_core.proofs.Ledgers.{ledger_changed}
 use Rattle.sf_core.proofs.Starting.{no_call, has_call}
 use Rattle.sf_core.proofs.Histories.{IsWritten, written_put, history_changed, all_push, deeds_push, among_more}
 
 -- ---- walks
 module _ (old new : StoreState) (t u : Tree) (keeps : Keeps old t) (keeps' : Keeps new u) (nodes : KeepsNodes old new) (names : u.names ≡ t.names)
-    (f : ℕ → List Spot) (walks : AreWalks (scene (terrain old) f (walker_of old.nodes))) where
-  still : (q : Path) (l : ℕ) → walk (entry_of old.nodes) old.root q ≡ Some l → (walk (entry_of new.nodes) new.root q ≡ Some l) × ((node : Node) × (node_in new.nodes l ≡ Some node))
+    (f : ℕ → List Spot) (walks : AreWalks (walkers_at (terrain old) f (walker_of old.nodes))) where
+  still : (q : Path) (l : ℕ) → walk (child_of old.nodes) old.root q ≡ Some l → (walk (child_of new.nodes) new.root q ≡ Some l) × ((node : Node) × (node_in new.nodes l ≡ Some node))
   still = way_kept old new t u keeps keeps' nodes names
 
   same_kind : (l : ℕ) (node : Node) (o : Option Node) → node_in old.nodes l ≡ o → WasThere o node → is_directory_content node.content ≡ true → is_directory_at old.nodes l ≡ true
@@ -58,7 +58,7 @@ module _ (old new : StoreState) (t u : Tree) (keeps : Keeps old t) (keeps' : Kee
   directory_was l None e dir = absurd (let z : ⊥ = cc in z)
   directory_was l (Some node) e dir = same_kind l node (node_in old.nodes l) refl (nodes.node l node e) dir
 
-  pub walks_still : AreWalks (scene (terrain new) f (walker_of new.nodes))
+  pub walks_still : AreWalks (walkers_at (terrain new) f (walker_of new.nodes))
   walks_still = record {
     shaped = walks.shaped;
     leads = λ n s h. let w = walks.leads n s h in let e = still s.path s.node w.names in record { names = e.0; directory = directory_kept old new nodes s.node e.1.0 e.1.1 w.directory };
@@ -75,7 +75,7 @@ module _ (old new : StoreState) (t u : Tree) (keeps : Keeps old t) (keeps' : Kee
 -- ---- files
 kept_by : (n : ℕ) (o : Option Node) (node : Node) → WasThere o node → IsAsBefore (λ holder label. (holder ≡ None) × (label ≡ n)) o node
 kept_by n None node h = absurd h
-kept_by n (Some x) node h = (h.0, h.1, ap left_in h.2)
+kept_by n (Some x) node h = (h.0, h.1, ap blocks_left_in h.2)
 
 -- no node is new, whatever number a new one would have
 stays_kept : (n : ℕ) (old new : StoreState) → KeepsNodes old new → NodesStay n old new
@@ -85,18 +85,18 @@ released_sessions : (s : StoreState) (id : ℕ) (o : Option Node) → (released_
 released_sessions s id None = refl
 released_sessions s id (Some node) = elim (is_unused node) as (λ b. (if b then with_nodes s (slice_set s.nodes id None) else s).sessions ≡ s.sessions) [ true ↦ refl | false ↦ refl ]
 
-let_go_sessions : (s : StoreState) (id : ℕ) → (let_go s id).sessions ≡ s.sessions
+let_go_sessions : (s : StoreState) (id : ℕ) → (after_close s id).sessions ≡ s.sessions
 let_go_sessions s id = let now = edited (λ node. with_opened (node.opens - 1) node) s id in released_sessions now id (node_in now.nodes id)
 
 each_sessions : (handles : List (ℕ × OpenHandle)) (s : StoreState) → (each_let_go s handles).sessions ≡ s.sessions
 each_sessions [] s = refl
-each_sessions (e ∷ handles) s = each_sessions handles (let_go s e.1.node) ∙ let_go_sessions s e.1.node
+each_sessions (e ∷ handles) s = each_sessions handles (after_close s e.1.node) ∙ let_go_sessions s e.1.node
 
 -- the handles of other sessions are open still
-handles_other : (s : StoreState) (session other handle : ℕ) → other ≢ session → T (is_sorted nat_cmp s.sessions) → handle_at (closed_all s session) other handle ≡ handle_at s other handle
+handles_other : (s : StoreState) (session other handle : ℕ) → other ≢ session → T (is_sorted nat_cmp s.sessions) → open_handle_at (closed_all s session) other handle ≡ open_handle_at s other handle
 handles_other s session other handle ne rise = by (handles_of s session)
   where
-    by : (o : Option (List (ℕ × OpenHandle))) → handle_at (closed_each s session o) other handle ≡ handle_at s other handle
+    by : (o : Option (List (ℕ × OpenHandle))) → open_handle_at (closed_each s session o) other handle ≡ open_handle_at s other handle
     by None = refl
     by (Some handles) =
         ap (λ (ss : List (ℕ × List (ℕ × OpenHandle))). option_and_then (λ (hs : List (ℕ × OpenHandle)). lookup (is_at (nat_cmp handle)) hs) (lookup (is_at (nat_cmp other)) ss))
@@ -133,7 +133,7 @@ module _ (p q : PartsView) (h : List Record) (sound : Sound p h) (session : ℕ)
   as_many : undecided_in q.calls ≡ undecided_in p.calls
   as_many = ap (λ cs. undecided_in cs) parted.calls
 
-  counted_now : q.drawn ≡ count_by is_deed (h ++ Left session ∷ []) + undecided_in q.calls
+  counted_now : q.drawn ≡ count_by is_call (h ++ Left session ∷ []) + undecided_in q.calls
   counted_now = let a = sound.history.counted in let b = parted.drawn in omega (arith, a, b, as_many, deeds_push h (Left session))
 
   pub left_sound : Sound q (h ++ Left session ∷ [])
@@ -151,8 +151,8 @@ module _ (p q : PartsView) (h : List Record) (sound : Sound p h) (session : ℕ)
         (let a = is.few in let b = sessions.size in omega (arith, a, b));
     coupled = record {
       walks =
-          subst (λ (s : StoreState). AreWalks (scene (terrain s) (spots_in q.calls) (walker_of s.nodes))) (sym parted.store)
-          (subst (λ cs. AreWalks (scene (terrain (closed_all p.store session)) (spots_in cs) (walker_of (closed_all p.store session).nodes))) (sym parted.calls)
+          subst (λ (s : StoreState). AreWalks (walkers_at (terrain s) (spots_in q.calls) (walker_of s.nodes))) (sym parted.store)
+          (subst (λ cs. AreWalks (walkers_at (terrain (closed_all p.store session)) (spots_in cs) (walker_of (closed_all p.store session).nodes))) (sym parted.calls)
           (walks_still p.store (closed_all p.store session) (replay h) (replay (h ++ Left session ∷ [])) is.tree tree_now (nodes_kept p.store session) (ap (λ (t : Tree). t.names) (replay-push h (Left session))) (spots_in p.calls)
           sound.coupled.walks));
       positions = λ m d at. sound.coupled.positions m d (still_call m d at);
@@ -165,7 +165,7 @@ module _ (p q : PartsView) (h : List Record) (sound : Sound p h) (session : ℕ)
         (no_object h (p.drawn + 1) is.legal (omega arith) fresh) handles_stay (λ l node at dir. directory_kept p.store (closed_all p.store session) nodes l node at dir)
         p.calls sound.copied.copies sound.copied.writing
         (λ m d node left at copies e. none_some m (some_eq None (Some m) (sym idle ∙ ap (session_at p.sessions) (sym e) ∙ (sound.ledger.calls m d at).session)))
-        p q refl (subst (SameFiles (closed_all p.store session)) (sym parted.store) (files_itself (closed_all p.store session))) (λ f. ap (λ (s : StoreState). writer_of s.nodes f) parted.store)
+        p q refl (subst (SameFiles (closed_all p.store session)) (sym parted.store) (files_itself (closed_all p.store session))) (λ f. ap (λ (s : StoreState). writer_of_file s.nodes f) parted.store)
         (λ m. ap (λ cs. copying_in cs m) parted.calls) (λ m d node left at copies. still_call m d at);
     ledger =
         ledger_changed p q sound.ledger (p.drawn + 1) session None None (Some None) None calls sessions
@@ -176,11 +176,11 @@ module _ (p q : PartsView) (h : List Record) (sound : Sound p h) (session : ℕ)
         (let a = sound.ledger.room in let b = sessions.size in let d = ap (λ (x : BookView). x.room) parted.book in omega (arith, a, b, d, as_many));
   }
 
-  pub left_told : Leaves (seen p) (seen q) session
+  pub left_told : Leaves (core_of p) (core_of q) session
   left_told = record {
-    idle = slot_idle (seen p) session idle;
-    own = ap (slot_by q.calls) sessions.now_is;
-    others = λ s ne. slot_kept (seen p) (seen q) s (session_at p.sessions s) refl (sessions.rest s ne) (λ m e. ap (λ cs. call_at cs m) parted.calls);
+    idle = slot_idle (core_of p) session idle;
+    own = ap (lane_state_by q.calls) sessions.now_is;
+    others = λ s ne. slot_kept (core_of p) (core_of q) s (session_at p.sessions s) refl (sessions.rest s ne) (λ m e. ap (λ cs. call_at cs m) parted.calls);
     joined = let e = sessions.size in omega (arith, e);
     drawn = parted.drawn;
     joins = parted.joins;

@@ -7,7 +7,7 @@ use Rattle.sf_call.specs.Values.{IsCall}
 use Rattle.sf_coupling.proofs.Laws.{same_or_not}
 use Rattle.sf_walk.specs.Routes.{route_of}
 use Rattle.sf_core.specs.Cores.{call_at, session_at, last_number}
-use Rattle.sf_core.specs.Progress.{reply_of, undecided_in, copy_of, SameCall}
+use Rattle.sf_core.specs.Progress.{waiting_reply, undecided_in, copy_of, SameCall}
 use Rattle.sf_core.specs.Parts.{PartsView}
 use Rattle.sf_core.specs.Sound.{IsCallOf, IsSessionOf, Ledger}
 use Rattle.sf_core.proofs.Maps.{some_eq, none_some}
@@ -64,7 +64,7 @@ module _ (p : PartsView) (ledger : Ledger p) (n : ℕ) (c : Call) (at : call_at 
 
 -- the call is the same one further on, and its session has it; or it is gone, and its session has none
 pub data Follows (c : Call) (n : ℕ) : Option Call → Option ℕ → Type 0 where
-  Stays : (d : Call) → SameCall c d → (reply_of d ≡ None → d.copy ≡ copy_of (route_of d.request) d.request) → Follows c n (Some d) (Some n)
+  Stays : (d : Call) → SameCall c d → (waiting_reply d ≡ None → d.copy ≡ copy_of (route_of d.request) d.request) → Follows c n (Some d) (Some n)
   Goes : Follows c n None None
 
 module _ (p q : PartsView) (ledger : Ledger p) (n : ℕ) (c : Call) (now : Option Call) (slot : Option ℕ) (calls : Updates p.calls q.calls n (Some c) now)

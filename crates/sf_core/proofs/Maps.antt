@@ -9,7 +9,7 @@ use Rattle.std.specs.BTreeMap.{is_at, insert_entry}
 use Rattle.std.specs.FinMap.{is_sorted}
 use Rattle.std.proofs.lemmas.Map.{length-set_value}
 use Rattle.sf_call.specs.declared.call.Call.{Call}
-use Rattle.sf_core.specs.Progress.{reply_of}
+use Rattle.sf_core.specs.Progress.{waiting_reply}
 use Rattle.sf_call.proofs.Laws.{lookup-put, sorted_put, sorted_removed, sorted_set}
 use Rattle.sf_keeps.proofs.Laws.{lookup-set, lookup-removed, at_is, nat_at_itself}
 
@@ -151,6 +151,6 @@ module _ {X : Type 0} where
         ] e
 
 -- ---- words on a call
-pub reply_is : (c : Call) → reply_of c ≡ c.reply
-unfolding reply_of
+pub reply_is : (c : Call) → waiting_reply c ≡ c.reply
+unfolding waiting_reply
 reply_is c = refl

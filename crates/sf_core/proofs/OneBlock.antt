@@ -16,7 +16,7 @@ use Rattle.sf_inode.specs.declared.node.Content.{Content}
 use Rattle.sf_inode.specs.declared.node.Content.TheVariants as content
 use Rattle.sf_inode.specs.declared.handle.OpenHandle.{OpenHandle}
 use Rattle.sf_inode.specs.Nodes.{object_in, bytes_in}
-use Rattle.sf_inode.specs.Stores.{StoreState, handle_at, bytes_of, shown_handle}
+use Rattle.sf_inode.specs.Stores.{StoreState, open_handle_at, bytes_of, shown_handle}
 use Rattle.sf_keeps.specs.Keeps.{Keeps}
 use Rattle.sf_keeps.proofs.Laws.{object_there}
 use Rattle.sf_walk.specs.Files.{start_by}
@@ -35,7 +35,7 @@ opens_file t session number x meta z here object handle m contents e =
 
 module _ (s : StoreState) (t : Tree) (keeps : Keeps s t) (session number : ℕ) where
   -- a write by a handle starts in the tree where it starts in the store
-  pub start_told : (x : OpenHandle) → handle_at s session number ≡ Some x → (handle : Handle) (m : Metadata) (contents : List ℕ) → opened t session number ≡ OpenFile handle m contents → (offset : ℕ)
+  pub start_told : (x : OpenHandle) → open_handle_at s session number ≡ Some x → (handle : Handle) (m : Metadata) (contents : List ℕ) → opened t session number ≡ OpenFile handle m contents → (offset : ℕ)
       → start_of handle contents offset ≡ start_by s x offset
   start_told x at handle m contents opens offset =
       let node = keeps.led session number x at in
@@ -46,7 +46,7 @@ module _ (s : StoreState) (t : Tree) (keeps : Keeps s t) (session number : ℕ) 
       ap (λ (y : Handle). start_of y contents offset) f.0 ∙ ap (λ (b : List ℕ). if x.marks.append then length b else offset) stored
 
   -- what is open in the tree is so in the store
-  open_there : handle_at s session number ≡ None → (handle : Handle) (m : Metadata) (contents : List ℕ) → opened t session number ≡ OpenFile handle m contents → ⊥
+  open_there : open_handle_at s session number ≡ None → (handle : Handle) (m : Metadata) (contents : List ℕ) → opened t session number ≡ OpenFile handle m contents → ⊥
   open_there none handle m contents opens =
       let here : handle_in t session number ≡ None = keeps.shows.by.handles session number ∙ ap (option_map (shown_handle session)) none in
       let e = sym (ap (opened_by t) here) ∙ opens in
@@ -54,7 +54,7 @@ module _ (s : StoreState) (t : Tree) (keeps : Keeps s t) (session number : ℕ) 
 
 pub one_block : (s : StoreState) (t : Tree) → Keeps s t → (c : Call) (given : Reply) → CopiesOne s c given → IsOfOneBlock t c given
 one_block s t keeps c given one number offset [] is ok handle m contents opens = omega arith
-one_block s t keeps c given one number offset (b ∷ bytes) is ok handle m contents opens = elim (handle_at s c.session number) as (λ o. handle_at s c.session number ≡ o → blocks_of (start_of handle contents offset) (b ∷ bytes) ≤ 1) [
+one_block s t keeps c given one number offset (b ∷ bytes) is ok handle m contents opens = elim (open_handle_at s c.session number) as (λ o. open_handle_at s c.session number ≡ o → blocks_of (start_of handle contents offset) (b ∷ bytes) ≤ 1) [
   | None ↦ λ none. absurd (open_there s t keeps c.session number none handle m contents opens)
   | Some x ↦ λ at.
       let e = ap (λ k. blocks_of k (b ∷ bytes)) (start_told s t keeps c.session number x at handle m contents opens offset) ∙ one number offset (b ∷ bytes) x is at refl ok in

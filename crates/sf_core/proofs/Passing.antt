@@ -9,12 +9,12 @@ use Rattle.sf_path.specs.Order.{same_name}
 use Rattle.sf_call.specs.declared.call.Reached.{Reached}
 use Rattle.sf_call.specs.Tree.{after_front}
 use Rattle.sf_call.proofs.Laws.{append-after_front, after_front-append}
-use Rattle.sf_coupling.specs.Fronts.{Begins}
+use Rattle.sf_coupling.specs.Fronts.{IsPrefix}
 use Rattle.sf_coupling.specs.Walks.{Spot, Holds}
 use Rattle.sf_coupling.proofs.Laws.{fronts_meet}
 use Rattle.sf_walk.specs.Routes.{Route, spots_on}
 use Rattle.sf_walk.specs.Routes.Route.{NoPath, Along, Between}
-use Rattle.sf_core.specs.Progress.{is_past, are_past}
+use Rattle.sf_core.specs.Progress.{has_walked, are_past}
 
 pub both_true : (a b : Bool) → (a && b) ≡ true → (a ≡ true) × (b ≡ true)
 both_true true b e = (refl, e)
@@ -34,7 +34,7 @@ front_taken (n ∷ old) (m ∷ path) (suc w) rest e =
     ] e
 
 -- a spot that isn't past a path is neither there nor below
-pub stands_aside : (old path : Path) (w : ℕ) → is_past path w old ≡ false → after_front old (take w path) ≡ None
+pub stands_aside : (old path : Path) (w : ℕ) → has_walked path w old ≡ false → after_front old (take w path) ≡ None
 stands_aside old path w never =
     elim (after_front old (take w path)) as (λ o. after_front old (take w path) ≡ o → o ≡ None) [
       | None ↦ λ e. refl
@@ -45,29 +45,29 @@ stands_aside old path w never =
     ] refl
 
 -- what is past a path is so after more names
-pub past_on : (old path : Path) (v w : ℕ) → v ≤ w → is_past path v old ≡ true → is_past path w old ≡ true
+pub past_on : (old path : Path) (v w : ℕ) → v ≤ w → has_walked path v old ≡ true → has_walked path w old ≡ true
 past_on old path v w more past =
     let both = both_true (nat_le (length old) v) (is_some (after_front old path)) past in
     let many = leb-true (length old) v both.0 in
     ap (λ b. b && is_some (after_front old path)) (le-leb (length old) w (omega (arith, many, more))) ∙ both.1
 
 -- and after fewer, no fewer than it has
-pub past_back : (old path : Path) (v w : ℕ) → length old ≤ v → is_past path w old ≡ true → is_past path v old ≡ true
+pub past_back : (old path : Path) (v w : ℕ) → length old ≤ v → has_walked path w old ≡ true → has_walked path v old ≡ true
 past_back old path v w many past =
     let both = both_true (nat_le (length old) w) (is_some (after_front old path)) past in
     ap (λ b. b && is_some (after_front old path)) (le-leb (length old) v many) ∙ both.1
 
-pub past_length : (old path : Path) (w : ℕ) → is_past path w old ≡ true → length old ≤ w
+pub past_length : (old path : Path) (w : ℕ) → has_walked path w old ≡ true → length old ≤ w
 past_length old path w past = leb-true (length old) w (both_true (nat_le (length old) w) (is_some (after_front old path)) past).0
 
-pub never_past : (old path : Path) (w : ℕ) → w < length old → is_past path w old ≡ false
-never_past old path w less = elim (is_past path w old) as (λ b. is_past path w old ≡ b → b ≡ false) [
+pub never_past : (old path : Path) (w : ℕ) → w < length old → has_walked path w old ≡ false
+never_past old path w less = elim (has_walked path w old) as (λ b. has_walked path w old ≡ b → b ≡ false) [
   | true ↦ λ e. let h = past_length old path w e in absurd (omega (arith, h, less))
   | false ↦ λ e. refl
 ] refl
 
 -- the walked names of what is past a path begin with it
-pub past_front : (old path : Path) (w : ℕ) → is_past path w old ≡ true → w ≤ length path → (rest : Path) × (take w path ≡ old ++ rest)
+pub past_front : (old path : Path) (w : ℕ) → has_walked path w old ≡ true → w ≤ length path → (rest : Path) × (take w path ≡ old ++ rest)
 past_front old path w past within =
     let both = both_true (nat_le (length old) w) (is_some (after_front old path)) past in
     let many = leb-true (length old) w both.0 in
@@ -80,7 +80,7 @@ past_front old path w past within =
     ] refl both.1
 
 -- names that begin with a path are past it
-pub front_past : (old path : Path) (w : ℕ) (rest : Path) → take w path ≡ old ++ rest → is_past path w old ≡ true
+pub front_past : (old path : Path) (w : ℕ) (rest : Path) → take w path ≡ old ++ rest → has_walked path w old ≡ true
 front_past old path w rest is =
     let r = front_taken old path w rest (ap (after_front old) is ∙ after_front-append old rest) in
     ap (λ b. b && is_some (after_front old path)) (le-leb (length old) w r.0) ∙ r.1
@@ -93,7 +93,7 @@ behind old path (Some []) e t less =
 behind old path (Some (name ∷ rest)) e t less = (name, rest, e)
 
 -- fewer names begin more
-pub begins_more : (path : Path) (v w : ℕ) → v ≤ w → Begins (take v path) (take w path)
+pub begins_more : (path : Path) (v w : ℕ) → v ≤ w → IsPrefix (take v path) (take w path)
 begins_more path v w few = record { rest = drop v (take w path); is = sym (take-append-drop v (take w path)) ∙ ap (λ (x : Path). x ++ drop v (take w path)) (twice path v w few) }
   where
     twice : (x : Path) (a b : ℕ) → a ≤ b → take a (take b x) ≡ take a x
@@ -104,7 +104,7 @@ begins_more path v w few = record { rest = drop v (take w path); is = sym (take-
     twice (n ∷ x) (suc a) (suc b) few = ap (λ (y : Path). n ∷ y) (twice x a b (omega (arith, few)))
 
 -- of two fronts of a path the one that begins the other not is the longer one
-pub longer_front : (c p e : Path) → Begins c e → Begins p e → (Begins c p → ⊥) → length p < length c
+pub longer_front : (c p e : Path) → IsPrefix c e → IsPrefix p e → (IsPrefix c p → ⊥) → length p < length c
 longer_front c p e begins other never = elim (fronts_meet c p e begins other) [
   | inl b ↦ absurd (never b)
   | inr b ↦ by_rest b.rest b.is
@@ -122,7 +122,7 @@ abbrev pub IsBelow : Path → Path → Type 0
 IsBelow old path = (name : Name) × (rest : Path) × (after_front old path ≡ Some (name ∷ rest))
 
 -- a path of which a proper front is past another leads strictly below it
-pub passed_below : (old path : Path) (w : ℕ) → is_past path w old ≡ true → w < length path → IsBelow old path
+pub passed_below : (old path : Path) (w : ℕ) → has_walked path w old ≡ true → w < length path → IsBelow old path
 passed_below old path w passed short =
     let both = both_true (nat_le (length old) w) (is_some (after_front old path)) passed in
     let many = leb-true (length old) w both.0 in
@@ -153,8 +153,8 @@ or_false false y e = (refl, e)
 pub held_aside : (old : Path) (at : List Reached) (paths : List Path) → are_past at paths old ≡ false → (s : Spot) → Holds (spots_on at paths) s → after_front old s.path ≡ None
 held_aside old [] paths never s hold = absurd hold
 held_aside old (r ∷ at) [] never s hold = absurd hold
-held_aside old (r ∷ at) (path ∷ paths) never s (inl e) = ap (λ (x : Spot). after_front old x.path) e ∙ stands_aside old path r.walked (or_false (is_past path r.walked old) (are_past at paths old) never).0
-held_aside old (r ∷ at) (path ∷ paths) never s (inr hold) = held_aside old at paths (or_false (is_past path r.walked old) (are_past at paths old) never).1 s hold
+held_aside old (r ∷ at) (path ∷ paths) never s (inl e) = ap (λ (x : Spot). after_front old x.path) e ∙ stands_aside old path r.walked (or_false (has_walked path r.walked old) (are_past at paths old) never).0
+held_aside old (r ∷ at) (path ∷ paths) never s (inr hold) = held_aside old at paths (or_false (has_walked path r.walked old) (are_past at paths old) never).1 s hold
 
 -- a test that tells whether a path begins with another
 pub begins_is : (path old : Path) (b : Bool) → (IsTrue b ↔ BeginsWith path old) → b ≡ is_some (after_front old path)

@@ -5,8 +5,8 @@ use Rattle.std.proofs.Common.{sym, ap, ◌∙◌, inl, inr}
 use Rattle.sf_path.specs.Names.{Path}
 use Rattle.sf_call.specs.declared.call.Call.{Call}
 use Rattle.sf_inode.specs.declared.node.Node.{Node}
-use Rattle.sf_inode.specs.Nodes.{left_in, with_content, with_left, with_holder}
-use Rattle.sf_inode.specs.Stores.{StoreState, node_in, holder_of, is_file_at, left_at, left_set, edited}
+use Rattle.sf_inode.specs.Nodes.{blocks_left_in, with_content, with_left, with_holder}
+use Rattle.sf_inode.specs.Stores.{StoreState, node_in, holder_of, is_file_at, blocks_left_at, left_set, edited}
 use Rattle.sf_keeps.proofs.Laws.{edited_apart}
 use Rattle.sf_keeps.proofs.Copied.{left_there}
 use Rattle.sf_coupling.proofs.Laws.{same_or_not}
@@ -16,11 +16,11 @@ use Rattle.sf_walk.specs.declared.finding.Located.TheVariants as located
 use Rattle.sf_walk.specs.Files.{HasNoWriter, IsWriter}
 use Rattle.sf_walk.specs.Routes.{Route, route_of}
 use Rattle.sf_walk.specs.Routes.Route.{NoPath, Along, Between}
-use Rattle.sf_walk.specs.Ways.{way_from, missing, names_of as path_names, AreWays, IsLocated}
+use Rattle.sf_walk.specs.Ways.{way_from, missing, request_names as path_names, AreWays, IsLocated}
 use Rattle.sf_walk.specs.Served.{LookedUp, IsAsBefore, NodesStay}
 use Rattle.sf_walk.proofs.Laws.{IsSameGround, same_trans, same_held}
 use Rattle.sf_core.specs.Parts.{PartsView}
-use Rattle.sf_core.specs.Sound.{writer_of}
+use Rattle.sf_core.specs.Sound.{writer_of_file}
 use Rattle.sf_core.specs.Finishing.{write_finished, IsSettledWhereFree, IsReadyToHelp}
 use Rattle.sf_core.proofs.Maps.{none_some}
 use Rattle.sf_core.proofs.Writers.{files_held, files_looked, writer_is, writer_holds}
@@ -45,7 +45,7 @@ module _ (s t : StoreState) (g : IsSameGround s t) where
 pub finished_ground : (s : StoreState) (node : ℕ) → IsSameGround s (edited (with_holder None) (left_set s node 0) node)
 finished_ground s node = same_trans s (left_set s node 0) (edited (with_holder None) (left_set s node 0) node) (ground_left 0 s node) (same_held None (left_set s node 0) node)
 
-if_free : (nodes : List (Option Node)) (id : ℕ) → is_file_at nodes id ≡ true → holder_of nodes id ≡ None → writer_of nodes id ≡ None
+if_free : (nodes : List (Option Node)) (id : ℕ) → is_file_at nodes id ≡ true → holder_of nodes id ≡ None → writer_of_file nodes id ≡ None
 if_free nodes id file none = ap (λ (b : Bool). if b then holder_of nodes id else None) file ∙ none
 
 module _ (p : PartsView) (c : Call) (ways : Ways) (looked : StoreState) (settled : IsSettledWhereFree p.store) (are_located : IsLocated p.store c.request ways) (looks : LookedUp p.store looked (path_names c.request)) where
@@ -71,7 +71,7 @@ module _ (p : PartsView) (c : Call) (ways : Ways) (looked : StoreState) (settled
     apart : (i : ℕ) → i ≢ w.node → node_in ended.nodes i ≡ node_in looked.nodes i
     apart i ne = edited_apart (with_holder None) (left_set looked w.node 0) w.node i ne ∙ edited_apart (with_content (with_left 0)) looked w.node i ne
 
-    none_left : left_at ended.nodes w.node ≡ 0
+    none_left : blocks_left_at ended.nodes w.node ≡ 0
     none_left = (files_held None (left_set looked w.node 0) w.node).left w.node ∙ left_there 0 looked w.node is.file
 
     pub ready_finished : IsReadyToHelp p (write_finished (record p { store = looked }) w.number w.node) c ways
@@ -82,10 +82,10 @@ module _ (p : PartsView) (c : Call) (ways : Ways) (looked : StoreState) (settled
       cut = λ parent node cuts there.
           let e : located.At parent node ≡ located.At is.parent w.node = sym there ∙ is.there in
           let same : node ≡ w.node = cc in
-          ap (left_at ended.nodes) same ∙ none_left;
+          ap (blocks_left_at ended.nodes) same ∙ none_left;
       settled = λ id free. elim (same_or_not id w.node) [
-        | inl e ↦ ap (left_at ended.nodes) e ∙ none_left
-        | inr ne ↦ ap (λ (o : Option Node). option_map_or (λ (x : Node). left_in x.content) o 0) (apart id ne) ∙ settled_looked id (sym (writer_apart looked ended id (apart id ne)) ∙ free)
+        | inl e ↦ ap (blocks_left_at ended.nodes) e ∙ none_left
+        | inr ne ↦ ap (λ (o : Option Node). option_map_or (λ (x : Node). blocks_left_in x.content) o 0) (apart id ne) ∙ settled_looked id (sym (writer_apart looked ended id (apart id ne)) ∙ free)
       ];
     }
 
@@ -95,17 +95,17 @@ module _ (s t : StoreState) (n : ℕ) (stays : NodesStay n s t) (settled : IsSet
   held_still id m node at None e is held = absurd (none_some m (sym (ap (option_and_then (λ (x : Node). x.holder)) e) ∙ held))
   held_still id m node at (Some x) e is held = ap (option_and_then (λ (y : Node). y.holder)) at ∙ is.0 ∙ sym (ap (option_and_then (λ (y : Node). y.holder)) e) ∙ held
 
-  left_still : (id : ℕ) (node : Node) → node_in t.nodes id ≡ Some node → (o : Option Node) → node_in s.nodes id ≡ o → IsAsBefore (λ holder label. (holder ≡ None) × (label ≡ n)) o node → (left_at s.nodes id ≡ 0 → left_at t.nodes id ≡ 0)
-  left_still id node at None e is zero = ap (λ (o : Option Node). option_map_or (λ (x : Node). left_in x.content) o 0) at ∙ is.1
+  left_still : (id : ℕ) (node : Node) → node_in t.nodes id ≡ Some node → (o : Option Node) → node_in s.nodes id ≡ o → IsAsBefore (λ holder label. (holder ≡ None) × (label ≡ n)) o node → (blocks_left_at s.nodes id ≡ 0 → blocks_left_at t.nodes id ≡ 0)
+  left_still id node at None e is zero = ap (λ (o : Option Node). option_map_or (λ (x : Node). blocks_left_in x.content) o 0) at ∙ is.1
   left_still id node at (Some x) e is zero =
-      ap (λ (o : Option Node). option_map_or (λ (y : Node). left_in y.content) o 0) at ∙ is.2 ∙ sym (ap (λ (o : Option Node). option_map_or (λ (y : Node). left_in y.content) o 0) e) ∙ zero
+      ap (λ (o : Option Node). option_map_or (λ (y : Node). blocks_left_in y.content) o 0) at ∙ is.2 ∙ sym (ap (λ (o : Option Node). option_map_or (λ (y : Node). blocks_left_in y.content) o 0) e) ∙ zero
 
   pub settled_decided : IsSettledWhereFree t
   settled_decided id free = left_where t id (λ file.
-      elim (node_in t.nodes id) as (λ o. node_in t.nodes id ≡ o → left_at t.nodes id ≡ 0) [
-        | None ↦ λ at. ap (λ (o : Option Node). option_map_or (λ (x : Node). left_in x.content) o 0) at
+      elim (node_in t.nodes id) as (λ o. node_in t.nodes id ≡ o → blocks_left_at t.nodes id ≡ 0) [
+        | None ↦ λ at. ap (λ (o : Option Node). option_map_or (λ (x : Node). blocks_left_in x.content) o 0) at
         | Some node ↦ λ at. left_still id node at (node_in s.nodes id) refl (stays.node id node at)
-            (elim (writer_of s.nodes id) as (λ o. writer_of s.nodes id ≡ o → left_at s.nodes id ≡ 0) [
+            (elim (writer_of_file s.nodes id) as (λ o. writer_of_file s.nodes id ≡ o → blocks_left_at s.nodes id ≡ 0) [
               | None ↦ λ e. settled id e
               | Some m ↦ λ e.
                   let held = held_still id m node at (node_in s.nodes id) refl (stays.node id node at) (writer_holds s.nodes id m e).1 in

@@ -19,20 +19,20 @@ use Rattle.sf_call.proofs.Laws.{no_object, no_handle, after_told}
 use Rattle.sf_book.specs.Books.{BookView}
 use Rattle.sf_inode.specs.Nodes.{with_holder}
 use Rattle.sf_inode.specs.declared.node.Node.{Node}
-use Rattle.sf_inode.specs.Stores.{StoreState, node_in, entry_of, is_directory_at, is_file_at, edited}
+use Rattle.sf_inode.specs.Stores.{StoreState, node_in, child_of, is_directory_at, is_file_at, edited}
 use Rattle.sf_keeps.specs.Steps.{walk}
 use Rattle.sf_keeps.specs.Keeps.{Keeps}
 use Rattle.sf_keeps.proofs.Laws.{keeps_held}
-use Rattle.sf_coupling.specs.Walks.{Holds, IsNodeOf, scene, AreWalks}
+use Rattle.sf_coupling.specs.Walks.{Holds, IsNodeOf, walkers_at, AreWalks}
 use Rattle.sf_coupling.proofs.Laws.{same_or_not}
 use Rattle.sf_walk.specs.Routes.{route_of, nodes_of, spots_of, terrain}
 use Rattle.sf_walk.proofs.Laws.{freed_hands}
 use Rattle.sf_walk.specs.Steps.{is_one_of, let_go, free_unless}
 use Rattle.sf_walk.specs.Served.{IsUnused, IsRefused, IsCarriedOut}
 use Rattle.sf_core.specs.Cores.{call_at, session_at}
-use Rattle.sf_core.specs.Progress.{reply_of, did}
+use Rattle.sf_core.specs.Progress.{waiting_reply, did}
 use Rattle.sf_core.specs.Parts.{PartsView}
-use Rattle.sf_core.specs.Sound.{walker_of, writer_of, spots_at, spots_in, IsCallOf, Copied, Sound}
+use Rattle.sf_core.specs.Sound.{walker_of, writer_of_file, spots_at, spots_in, IsCallOf, Copied, Sound}
 use Rattle.sf_core.specs.Stepping.{session_set_by, Records, FinishState, HelpState}
 use Rattle.sf_core.proofs.Maps.{some_eq, none_some}
 use Rattle.sf_core.proofs.Updates.{Updates, updates_set, updates_removed, updates_none, updates_answered}
@@ -54,7 +54,7 @@ let_go_keeps kept (node ∷ nodes) s t k = let_go_keeps kept nodes (free_unless 
     by true = k
     by false = keeps_held None s t node k
 
-pub new_to : (p : PartsView) (h : List Record) (c : Call) → Sound p h → call_at p.calls c.number ≡ Some c → reply_of c ≡ None → IsUnused (replay h) c.number
+pub new_to : (p : PartsView) (h : List Record) (c : Call) → Sound p h → call_at p.calls c.number ≡ Some c → waiting_reply c ≡ None → IsUnused (replay h) c.number
 new_to p h c sound at undecided =
     let call = sound.ledger.calls c.number c at in
     let fresh = sound.history.undecided c.number c at undecided in
@@ -75,8 +75,8 @@ none_held now (Fresh d e) = ap (λ (g : Stage). spots_of (route_of d.request) g)
 
 module _ (p q : PartsView) (h : List Record) (sound : Sound p h) (c : Call) (given : Reply) (records : Records p q c given) (now : Option Call) (slot : Option ℕ)
     (calls : Updates p.calls q.calls c.number (Some c) now) (sessions : Updates p.sessions q.sessions c.session (Some (Some c.number)) (Some slot))
-    (undecided : reply_of c ≡ None) (left : IsLeft c given now) (follows : Follows c c.number now slot) (away : HoldsNone now)
-    (labels : (path : Path) (l holder : ℕ) → walk (entry_of p.store.nodes) p.store.root path ≡ Some l → walker_of p.store.nodes l ≡ Some holder → c.number ≢ holder
+    (undecided : waiting_reply c ≡ None) (left : IsLeft c given now) (follows : Follows c c.number now slot) (away : HoldsNone now)
+    (labels : (path : Path) (l holder : ℕ) → walk (child_of p.store.nodes) p.store.root path ≡ Some l → walker_of p.store.nodes l ≡ Some holder → c.number ≢ holder
     → label_at (after (replay h) (did c given)).names path ≡ label_at (replay h).names path) where
   at : call_at p.calls c.number ≡ Some c
   at = calls.was_is
@@ -135,7 +135,7 @@ module _ (p q : PartsView) (h : List Record) (sound : Sound p h) (c : Call) (giv
       some_copied c.stage node left (sym (ap (λ (y : Call). y.stage) (some_eq d c (sym there ∙ ap (call_at p.calls) e ∙ at))) ∙ is) none_was) there
 
   -- a file that is held stays one
-  no_writer : (l m : ℕ) → writer_of p.store.nodes l ≡ Some m → is_directory_at records.mid.nodes l ≡ true → ⊥
+  no_writer : (l m : ℕ) → writer_of_file p.store.nodes l ≡ Some m → is_directory_at records.mid.nodes l ≡ true → ⊥
   no_writer l m e dir =
       let kept = file_kept p.store records.mid (replay h) (after (replay h) (did c given)) c.number c.session sound.history.tree keeps_mid records.serves.nodes (new_to p h c sound at undecided).label
       handles_stay kinds_stay p.calls sound.copied.copies sound.copied.writing apart l m e in
@@ -149,9 +149,9 @@ module _ (p q : PartsView) (h : List Record) (sound : Sound p h) (c : Call) (giv
       let there = file_node records.mid.nodes l file in
       no_directory records.mid.nodes l file (kinds_stay l there.0 there.1 dir)
 
-  writers_same : (l : ℕ) → writer_of q.store.nodes l ≡ writer_of records.mid.nodes l
+  writers_same : (l : ℕ) → writer_of_file q.store.nodes l ≡ writer_of_file records.mid.nodes l
   writers_same l =
-      ap (λ (s : StoreState). writer_of s.nodes l) records.store
+      ap (λ (s : StoreState). writer_of_file s.nodes l) records.store
       ∙ writers_stay records.mid (let_go [] (nodes_of c.stage) records.mid) c.number (spots_of (route_of c.request) c.stage) [] (files_let_go [] (nodes_of c.stage) records.mid) no_own (λ i own. absurd own.holds)
       (freed_hands (route_of c.request) c.stage (sound.coupled.positions c.number c at undecided) records.mid c.number) l
 
@@ -168,9 +168,9 @@ module _ (p q : PartsView) (h : List Record) (sound : Sound p h) (c : Call) (giv
   spots_other : (m : ℕ) → c.number ≢ m → spots_in q.calls m ≡ spots_in p.calls m
   spots_other m ne = ap (λ (o : Option Call). option_map_or spots_at o []) (calls.rest m (λ e. ne (sym e)))
 
-  walks_now : AreWalks (scene (terrain q.store) (spots_in q.calls) (walker_of q.store.nodes))
+  walks_now : AreWalks (walkers_at (terrain q.store) (spots_in q.calls) (walker_of q.store.nodes))
   walks_now =
-      subst (λ (s : StoreState). AreWalks (scene (terrain s) (spots_in q.calls) (walker_of s.nodes))) (sym records.store)
+      subst (λ (s : StoreState). AreWalks (walkers_at (terrain s) (spots_in q.calls) (walker_of s.nodes))) (sym records.store)
       (decided_keeps p.store records.mid h c.number c.session c.moment c.request given sound.history.legal call.above fresh sound.history.tree served records.serves.nodes labels no_writer
       c.stage (sound.coupled.positions c.number c at undecided) (spots_in p.calls) sound.coupled.walks (ap (λ (o : Option Call). option_map_or spots_at o []) at) (spots_in q.calls) spots_now spots_other)
 
@@ -178,9 +178,9 @@ module _ (p q : PartsView) (h : List Record) (sound : Sound p h) (c : Call) (giv
   fresh_by o Away e d is = absurd (none_some d is)
   fresh_by o (Fresh f is_fresh) e d is = ap (λ (x : Call). x.stage) (sym (some_eq f d is)) ∙ is_fresh
 
-  waits_by : (o : Option Call) → IsLeft c given o → (d : Call) → o ≡ Some d → reply_of d ≡ Some given
+  waits_by : (o : Option Call) → IsLeft c given o → (d : Call) → o ≡ Some d → waiting_reply d ≡ Some given
   waits_by o Gone d is = absurd (none_some d is)
-  waits_by o (Waits f reply same) d is = ap reply_of (sym (some_eq f d is)) ∙ reply
+  waits_by o (Waits f reply same) d is = ap waiting_reply (sym (some_eq f d is)) ∙ reply
 
   now_by : (m : ℕ) (d : Call) → m ≡ c.number → call_at q.calls m ≡ Some d → now ≡ Some d
   now_by m d e is = sym calls.now_is ∙ ap (call_at q.calls) (sym e) ∙ is
@@ -213,8 +213,8 @@ module _ (p q : PartsView) (h : List Record) (sound : Sound p h) (c : Call) (giv
   }
 
 -- ---- its two cases
-module _ (p q : PartsView) (h : List Record) (sound : Sound p h) (c : Call) (at : call_at p.calls c.number ≡ Some c) (undecided : reply_of c ≡ None) (given : Reply)
-    (labels : (path : Path) (l holder : ℕ) → walk (entry_of p.store.nodes) p.store.root path ≡ Some l → walker_of p.store.nodes l ≡ Some holder → c.number ≢ holder
+module _ (p q : PartsView) (h : List Record) (sound : Sound p h) (c : Call) (at : call_at p.calls c.number ≡ Some c) (undecided : waiting_reply c ≡ None) (given : Reply)
+    (labels : (path : Path) (l holder : ℕ) → walk (child_of p.store.nodes) p.store.root path ≡ Some l → walker_of p.store.nodes l ≡ Some holder → c.number ≢ holder
     → label_at (after (replay h) (did c given)).names path ≡ label_at (replay h).names path) where
   busy : session_at p.sessions c.session ≡ Some (Some c.number)
   busy = (sound.ledger.calls c.number c at).session
@@ -227,8 +227,8 @@ module _ (p q : PartsView) (h : List Record) (sound : Sound p h) (c : Call) (at 
       (subst (λ ss. Updates p.sessions ss c.session (Some (Some c.number)) (Some None)) (sym (fin.sessions ∙ ap (session_set_by p.sessions c.session None) busy)) (updates_set p.sessions c.session (Some c.number) busy None))
       undecided Gone Goes Away labels
 
-  reply_now : reply_of (with_reply given c) ≡ Some given
-  unfolding reply_of
+  reply_now : waiting_reply (with_reply given c) ≡ Some given
+  unfolding waiting_reply
   reply_now = refl
 
   -- it was carried out by another: its reply waits

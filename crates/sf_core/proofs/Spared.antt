@@ -14,7 +14,7 @@ use Rattle.sf_call.specs.Tree.{Tree, label_at, object_of, after_front}
 use Rattle.sf_call.specs.Calls.{answer_to, apply}
 use Rattle.sf_laws.specs.Own.{IsOwnPath}
 use Rattle.sf_laws.proofs.Laws.{other_labels, kinds_stay}
-use Rattle.sf_call.specs.Allowed.{kind_of}
+use Rattle.sf_call.specs.Allowed.{file_type_of}
 use Rattle.sf_call.specs.Histories.{after, replay, IsLegal, IsNewNumber}
 use Rattle.sf_call.proofs.Laws.{after_told, no_object, same_path_is, front_itself}
 use Rattle.std.specs.Ordering.{is_eq}
@@ -24,7 +24,7 @@ use Rattle.sf_inode.specs.declared.node.Node.{Node}
 use Rattle.sf_inode.specs.declared.node.Content.{Content}
 use Rattle.sf_inode.specs.declared.node.Content.TheVariants as content
 use Rattle.sf_inode.specs.Nodes.{object_in, is_directory_content}
-use Rattle.sf_inode.specs.Stores.{StoreState, node_in, entry_of, holder_of, is_directory_at}
+use Rattle.sf_inode.specs.Stores.{StoreState, node_in, child_of, holder_of, is_directory_at}
 use Rattle.sf_keeps.specs.Steps.{walk}
 use Rattle.sf_keeps.specs.Keeps.{Keeps}
 use Rattle.sf_keeps.proofs.Laws.{object_there, one_node, reached_node, label_found}
@@ -135,20 +135,20 @@ root_by t session number moment (request.PosixRename old new) e = absurd (path_p
 root_by t session number moment (request.Link old new) e = absurd (path_paths [] old new (sym e))
 
 -- what walking finds is located there
-pub located_at : (nodes : List (Option Node)) (q : Path) (above x l : ℕ) → walk (entry_of nodes) x q ≡ Some l → (parent : ℕ) × (way_from nodes above x q ≡ located.At parent l)
+pub located_at : (nodes : List (Option Node)) (q : Path) (above x l : ℕ) → walk (child_of nodes) x q ≡ Some l → (parent : ℕ) × (way_from nodes above x q ≡ located.At parent l)
 located_at nodes [] above x l e = (above, let same : x ≡ l = cc in ap (located.At above) same)
 located_at nodes (n ∷ q) above x l e =
-    elim (entry_of nodes x n) as (λ o. entry_of nodes x n ≡ o → option_and_then (λ y. walk (entry_of nodes) y q) o ≡ Some l
+    elim (child_of nodes x n) as (λ o. child_of nodes x n ≡ o → option_and_then (λ y. walk (child_of nodes) y q) o ≡ Some l
     → (parent : ℕ) × (cond (is_directory_at nodes x) (option_map_or (λ y. way_from nodes x y q) o (missing x q)) located.NoWay ≡ located.At parent l)) [
       | None ↦ λ f w. absurd (let z : ⊥ = cc in z)
       | Some y ↦ λ f w. let r = located_at nodes q x y l w in (r.0, ap (λ b. cond b (way_from nodes x y q) located.NoWay) (has_entry nodes x n y f) ∙ r.1)
     ] refl e
 
-kind_directory : (m : Metadata) (c : Content) → is_directory_content c ≡ true → kind_of (object_in m c) ≡ file_type.Directory
+kind_directory : (m : Metadata) (c : Content) → is_directory_content c ≡ true → file_type_of (object_in m c) ≡ file_type.Directory
 kind_directory m (content.Directory es) e = refl
 kind_directory m (content.File b) e = absurd (let z : ⊥ = cc in z)
 
-directory_kind : (m : Metadata) (c : Content) → kind_of (object_in m c) ≡ file_type.Directory → is_directory_content c ≡ true
+directory_kind : (m : Metadata) (c : Content) → file_type_of (object_in m c) ≡ file_type.Directory → is_directory_content c ≡ true
 directory_kind m (content.Directory es) e = refl
 directory_kind m (content.File b) e = absurd (let z : ⊥ = cc in z)
 
@@ -169,7 +169,7 @@ module _ (old mid : StoreState) (history : List Record) (n session moment : ℕ)
     | inr e ↦ subst (λ (u : Tree). Keeps mid u) (sym (after_told (replay history) session n moment r) ∙ ap (λ (g : Reply). after (replay history) (Did n session moment r g)) (sym e.told)) e.tree
   ]
 
-  node_of : (q : Path) (l : ℕ) → walk (entry_of old.nodes) old.root q ≡ Some l → (was : Node) × (node_in old.nodes l ≡ Some was) × (label_at (replay history).names q ≡ Some was.label)
+  node_of : (q : Path) (l : ℕ) → walk (child_of old.nodes) old.root q ≡ Some l → (was : Node) × (node_in old.nodes l ≡ Some was) × (label_at (replay history).names q ≡ Some was.label)
   node_of q l w =
       let was = reached_node old (replay history) keeps q l w in
       (was.0, was.1, label_found old (replay history) keeps q ∙ ap (λ (o : Option ℕ). option_map (λ (x : Node). x.label) (option_and_then (node_in old.nodes) o)) w ∙ ap (option_map (λ (x : Node). x.label)) was.1)
@@ -184,7 +184,7 @@ module _ (old mid : StoreState) (history : List Record) (n session moment : ℕ)
       absurd (let z : ⊥ = cc in z)
   same_node l id was node at label (Some w) e is = one_node old (replay history) keeps id l w was e at (sym is.1 ∙ label)
 
-  found_node : (q : Path) (l : ℕ) (was : Node) (o : Option ℕ) → node_in old.nodes l ≡ Some was → walk (entry_of mid.nodes) mid.root q ≡ o
+  found_node : (q : Path) (l : ℕ) (was : Node) (o : Option ℕ) → node_in old.nodes l ≡ Some was → walk (child_of mid.nodes) mid.root q ≡ o
       → option_map (λ (x : Node). x.label) (option_and_then (node_in mid.nodes) o) ≡ Some was.label → (o ≡ Some l) × ((node : Node) × (node_in mid.nodes l ≡ Some node) × (node.label ≡ was.label))
   found_node q l was None at w e = absurd (let z : ⊥ = cc in z)
   found_node q l was (Some id) at w e =
@@ -198,11 +198,11 @@ module _ (old mid : StoreState) (history : List Record) (n session moment : ℕ)
       ] refl e
 
   -- a path that keeps its label leads to the same node
-  pub leads_still : (q : Path) (l : ℕ) → walk (entry_of old.nodes) old.root q ≡ Some l → label_at (after (replay history) (Did n session moment r given)).names q ≡ label_at (replay history).names q
-      → (walk (entry_of mid.nodes) mid.root q ≡ Some l) × ((node : Node) × (node_in mid.nodes l ≡ Some node))
+  pub leads_still : (q : Path) (l : ℕ) → walk (child_of old.nodes) old.root q ≡ Some l → label_at (after (replay history) (Did n session moment r given)).names q ≡ label_at (replay history).names q
+      → (walk (child_of mid.nodes) mid.root q ≡ Some l) × ((node : Node) × (node_in mid.nodes l ≡ Some node))
   leads_still q l w same =
       let was = node_of q l w in
-      let f = found_node q l was.0 (walk (entry_of mid.nodes) mid.root q) was.1 refl
+      let f = found_node q l was.0 (walk (child_of mid.nodes) mid.root q) was.1 refl
       (sym (label_found mid (after (replay history) (Did n session moment r given)) keeps_after q) ∙ same ∙ was.2) in
       (f.0, (f.1.0, f.1.1))
 
@@ -235,10 +235,10 @@ module _ (old mid : StoreState) (history : List Record) (n session moment : ℕ)
 
   -- the path that another call stands at is not the call's own, or nothing happens there
   module _ (path : Path) (is_path : target_of r ≡ OnPath path) (ways : Ways) (way : ways.path ≡ way_from old.nodes old.root old.root path) (free : AreFree (holder_of old.nodes) n (Along path) ways) where
-    apart : (l holder : ℕ) → walk (entry_of old.nodes) old.root path ≡ Some l → holder_of old.nodes l ≡ Some holder → n ≢ holder → path ≡ []
+    apart : (l holder : ℕ) → walk (child_of old.nodes) old.root path ≡ Some l → holder_of old.nodes l ≡ Some holder → n ≢ holder → path ≡ []
     apart l holder w held other = by path w way free
       where
-        by : (p : Path) → walk (entry_of old.nodes) old.root p ≡ Some l → ways.path ≡ way_from old.nodes old.root old.root p → AreFree (holder_of old.nodes) n (Along p) ways → p ≡ []
+        by : (p : Path) → walk (child_of old.nodes) old.root p ≡ Some l → ways.path ≡ way_from old.nodes old.root old.root p → AreFree (holder_of old.nodes) n (Along p) ways → p ≡ []
         by [] w way free = refl
         by (x ∷ p) w way free = absurd (other (subst (IsFreeThere (holder_of old.nodes) n) (way ∙ (located_at old.nodes (x ∷ p) old.root old.root l w).1) free holder held))
 
@@ -248,11 +248,11 @@ module _ (old mid : StoreState) (history : List Record) (n session moment : ℕ)
       | false ↦ λ e. inr (λ own. let x : false ≡ true = sym e ∙ ap (λ y. same_path y path) (own_is r q path is_path own) ∙ ap is_eq (tied_itself path_total path) in let k : ⊥ = cc in k)
     ] refl
 
-    pub label_still : (q : Path) (l holder : ℕ) → walk (entry_of old.nodes) old.root q ≡ Some l → holder_of old.nodes l ≡ Some holder → n ≢ holder
+    pub label_still : (q : Path) (l holder : ℕ) → walk (child_of old.nodes) old.root q ≡ Some l → holder_of old.nodes l ≡ Some holder → n ≢ holder
         → label_at (after (replay history) (Did n session moment r given)).names q ≡ label_at (replay history).names q
     label_still q l holder w held other = label_after q (elim (own_or_not q) [
       | inl e ↦
-          let root : path ≡ [] = apart l holder (ap (walk (entry_of old.nodes) old.root) (sym e) ∙ w) held other in
+          let root : path ≡ [] = apart l holder (ap (walk (child_of old.nodes) old.root) (sym e) ∙ w) held other in
           ap (label_at (apply (replay history) session n moment r).tree.names) (e ∙ root) ∙ root_by (replay history) session n moment r (is_path ∙ ap OnPath root) ∙ ap (label_at (replay history).names) (sym (e ∙ root))
       | inr ne ↦ other_labels (replay history) session n moment r q ne
     ])

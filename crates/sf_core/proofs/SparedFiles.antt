@@ -12,8 +12,8 @@ use Rattle.sf_inode.specs.declared.node.Node.{Node}
 use Rattle.sf_inode.specs.declared.node.Content.{Content}
 use Rattle.sf_inode.specs.declared.node.Content.TheVariants as content
 use Rattle.sf_inode.specs.declared.handle.OpenHandle.{OpenHandle}
-use Rattle.sf_inode.specs.Nodes.{left_in, is_file_content, is_directory_content}
-use Rattle.sf_inode.specs.Stores.{StoreState, node_in, handle_at, holder_of, is_directory_at, is_file_at, left_at, shown_handle}
+use Rattle.sf_inode.specs.Nodes.{blocks_left_in, is_file_content, is_directory_content}
+use Rattle.sf_inode.specs.Stores.{StoreState, node_in, open_handle_at, holder_of, is_directory_at, is_file_at, blocks_left_at, shown_handle}
 use Rattle.sf_keeps.specs.Keeps.{Keeps}
 use Rattle.sf_copying.specs.Copies.{Copying, copying, AreCopies}
 use Rattle.sf_copying.proofs.Laws.{spares_keeps}
@@ -22,7 +22,7 @@ use Rattle.sf_walk.proofs.Laws.{file_spared}
 use Rattle.sf_core.specs.Cores.{call_at}
 use Rattle.sf_core.specs.Progress.{IsCopying}
 use Rattle.sf_core.specs.Parts.{PartsView}
-use Rattle.sf_core.specs.Sound.{writer_of, copying_at, copying_in, copying_scene, IsWriting, Copied}
+use Rattle.sf_core.specs.Sound.{writer_of_file, copying_at, copying_in, copying_scene, IsWriting, Copied}
 use Rattle.sf_core.proofs.CopySteps.{is_file}
 use Rattle.sf_core.proofs.Maps.{some_eq, none_some}
 use Rattle.sf_core.proofs.Writers.{SameFiles, copied_by, no_directory, writer_is, writer_holds, writing_on}
@@ -52,16 +52,16 @@ pub copying_is : (calls : List (ℕ × Call)) (m : ℕ) (c : Call) (node left : 
 copying_is calls m c node left at is = ap copied_by at ∙ ap copying_at is
 
 -- who holds a file copies into it
-pub file_writer : (s : StoreState) (calls : List (ℕ × Call)) → AreCopies (copying_scene s calls) → (f m : ℕ) → writer_of s.nodes f ≡ Some m → (c : Call) × (left : ℕ) × (call_at calls m ≡ Some c) × (c.stage ≡ stage.Copies f left)
+pub file_writer : (s : StoreState) (calls : List (ℕ × Call)) → AreCopies (copying_scene s calls) → (f m : ℕ) → writer_of_file s.nodes f ≡ Some m → (c : Call) × (left : ℕ) × (call_at calls m ≡ Some c) × (c.stage ≡ stage.Copies f left)
 file_writer s calls copies f m e =
     let h = copies.held f m e in
     let w = the_writer calls m h.0 h.1 in
     (w.0, h.0.left, w.1, subst (λ (x : ℕ). w.0.stage ≡ stage.Copies x h.0.left) h.2 w.2)
 
 -- the files into which blocks are still to be copied are held
-pub no_file : (o : Option Node) → option_map_or (λ (x : Node). is_file_content x.content) o false ≡ false → option_map_or (λ (x : Node). left_in x.content) o 0 ≡ 0
+pub no_file : (o : Option Node) → option_map_or (λ (x : Node). is_file_content x.content) o false ≡ false → option_map_or (λ (x : Node). blocks_left_in x.content) o 0 ≡ 0
 no_file None e = refl
-no_file (Some node) e = elim node.content as (λ c. is_file_content c ≡ false → left_in c ≡ 0) [
+no_file (Some node) e = elim node.content as (λ c. is_file_content c ≡ false → blocks_left_in c ≡ 0) [
   | content.Directory es ↦ λ h. refl
   | content.File contents ↦ λ h. absurd (let z : ⊥ = cc in z)
 ] e
@@ -90,7 +90,7 @@ file_or_directory (content.Directory es) e = absurd (let z : ⊥ = cc in z)
 file_or_directory (content.File b) e = refl
 
 -- what is held and is no directory is a file
-pub file_there : (nodes : List (Option Node)) (l m : ℕ) → is_directory_at nodes l ≡ false → holder_of nodes l ≡ Some m → writer_of nodes l ≡ Some m
+pub file_there : (nodes : List (Option Node)) (l m : ℕ) → is_directory_at nodes l ≡ false → holder_of nodes l ≡ Some m → writer_of_file nodes l ≡ Some m
 file_there nodes l m none held =
     let x = some_node nodes l m held in
     let bare : is_directory_content x.0.content ≡ false = sym (ap (λ (o : Option Node). option_map_or (λ (z : Node). is_directory_content z.content) o false) x.1) ∙ none in
@@ -112,7 +112,7 @@ module _ (old mid : StoreState) (t u : Tree) (n session : ℕ) (keeps : Keeps ol
     seen : handle_in t c.session w.handle ≡ Some (shown_handle c.session w.opened)
     seen = keeps.shows.by.handles c.session w.handle ∙ ap (option_map (shown_handle c.session)) w.opens
 
-    still : (k : OpenHandle) × (node : Node) × (handle_at mid c.session w.handle ≡ Some k) × (k.node ≡ w.opened.node) × (node_in mid.nodes w.opened.node ≡ Some node) × (node.holder ≡ led.0.holder) × (left_in node.content ≡ left_in led.0.content)
+    still : (k : OpenHandle) × (node : Node) × (open_handle_at mid c.session w.handle ≡ Some k) × (k.node ≡ w.opened.node) × (node_in mid.nodes w.opened.node ≡ Some node) × (node.holder ≡ led.0.holder) × (blocks_left_in node.content ≡ blocks_left_in led.0.content)
     still = file_spared old mid t u n keeps keeps' stays unused c.session w.handle w.opened led.0 (handles c.session w.handle (shown_handle c.session w.opened) (apart m c node left at is) seen) w.opens led.1.0 led.1.1
 
     copying_it : copying_in calls m ≡ Some (copying node left)
@@ -127,16 +127,16 @@ module _ (old mid : StoreState) (t u : Tree) (n session : ℕ) (keeps : Keeps ol
     held_was : (is_file_at old.nodes node ≡ true) × (holder_of old.nodes node ≡ Some m)
     held_was = writer_holds old.nodes node m (copies.holds m (copying node left) copying_it)
 
-    left_now : left_at mid.nodes node ≡ left
+    left_now : blocks_left_at mid.nodes node ≡ left
     left_now =
-        ap (λ (o : Option Node). option_map_or (λ (x : Node). left_in x.content) o 0) here ∙ still.6
-        ∙ sym (ap (λ (o : Option Node). option_map_or (λ (x : Node). left_in x.content) o 0) was) ∙ copies.left m (copying node left) copying_it
+        ap (λ (o : Option Node). option_map_or (λ (x : Node). blocks_left_in x.content) o 0) here ∙ still.6
+        ∙ sym (ap (λ (o : Option Node). option_map_or (λ (x : Node). blocks_left_in x.content) o 0) was) ∙ copies.left m (copying node left) copying_it
 
     holder_now : holder_of mid.nodes node ≡ Some m
     holder_now =
         ap (option_and_then (λ (x : Node). x.holder)) here ∙ still.5 ∙ sym (ap (option_and_then (λ (x : Node). x.holder)) was) ∙ held_was.1
 
-    held_now : writer_of mid.nodes node ≡ Some m
+    held_now : writer_of_file mid.nodes node ≡ Some m
     held_now = writer_is mid.nodes node m (is_file mid node left left_now (copies.some m (copying node left) copying_it)) holder_now
 
     pub writing_still : IsWriting mid c node
@@ -152,11 +152,11 @@ module _ (old mid : StoreState) (t u : Tree) (n session : ℕ) (keeps : Keeps ol
       decided = w.decided;
     }
 
-    pub writer_still : (writer_of mid.nodes node ≡ Some m) × (left_at mid.nodes node ≡ left) × (left_at old.nodes node ≡ left)
+    pub writer_still : (writer_of_file mid.nodes node ≡ Some m) × (blocks_left_at mid.nodes node ≡ left) × (blocks_left_at old.nodes node ≡ left)
     writer_still = (held_now, left_now, copies.left m (copying node left) copying_it)
 
   -- a file that is held is so by the same call, and as much of it is left
-  pub file_kept : (f m : ℕ) → writer_of old.nodes f ≡ Some m → (writer_of mid.nodes f ≡ Some m) × (left_at mid.nodes f ≡ left_at old.nodes f)
+  pub file_kept : (f m : ℕ) → writer_of_file old.nodes f ≡ Some m → (writer_of_file mid.nodes f ≡ Some m) × (blocks_left_at mid.nodes f ≡ blocks_left_at old.nodes f)
   file_kept f m e =
       let h = file_writer old calls copies f m e in
       let s = writer_still m h.0 f h.1 h.2 h.3 in
@@ -173,29 +173,29 @@ module _ (old mid : StoreState) (t u : Tree) (n session : ℕ) (keeps : Keeps ol
       holder_by l m x.0 (node_in old.nodes l) refl (stays.node l x.0 x.1) (sym (ap (option_and_then (λ (y : Node). y.holder)) x.1) ∙ h)
 
   -- and a file that is held then was one before
-  pub no_more : (f m : ℕ) → writer_of mid.nodes f ≡ Some m → writer_of old.nodes f ≡ Some m
+  pub no_more : (f m : ℕ) → writer_of_file mid.nodes f ≡ Some m → writer_of_file old.nodes f ≡ Some m
   no_more f m e =
       let h = writer_holds mid.nodes f m e in
       let before = holder_before f m h.1 in
       let x = some_node mid.nodes f m h.1 in
       let y = some_node old.nodes f m before in
-      elim (is_directory_content y.0.content) as (λ b. is_directory_content y.0.content ≡ b → writer_of old.nodes f ≡ Some m) [
+      elim (is_directory_content y.0.content) as (λ b. is_directory_content y.0.content ≡ b → writer_of_file old.nodes f ≡ Some m) [
         | true ↦ λ d. absurd (no_directory mid.nodes f h.0 (kinds f x.0 x.1 (ap (λ (o : Option Node). option_map_or (λ (z : Node). is_directory_content z.content) o false) y.1 ∙ d)))
         | false ↦ λ d. writer_is old.nodes f m (ap (λ (o : Option Node). option_map_or (λ (z : Node). is_file_content z.content) o false) y.1 ∙ file_or_directory y.0.content d) before
       ] refl
 
-  left_by : (f : ℕ) (node : Node) (o : Option Node) → node_in old.nodes f ≡ o → IsAsBefore (λ holder label. (holder ≡ None) × (label ≡ n)) o node → (left_in node.content ≡ 0) ⊎ (left_in node.content ≡ left_at old.nodes f)
+  left_by : (f : ℕ) (node : Node) (o : Option Node) → node_in old.nodes f ≡ o → IsAsBefore (λ holder label. (holder ≡ None) × (label ≡ n)) o node → (blocks_left_in node.content ≡ 0) ⊎ (blocks_left_in node.content ≡ blocks_left_at old.nodes f)
   left_by f node None e is = inl is.1
-  left_by f node (Some x) e is = inr (is.2 ∙ sym (ap (λ (o : Option Node). option_map_or (λ (y : Node). left_in y.content) o 0) e))
+  left_by f node (Some x) e is = inr (is.2 ∙ sym (ap (λ (o : Option Node). option_map_or (λ (y : Node). blocks_left_in y.content) o 0) e))
 
   -- of a file that nobody holds nothing is left
-  pub settled_still : (f : ℕ) → writer_of mid.nodes f ≡ None → left_at mid.nodes f ≡ 0
+  pub settled_still : (f : ℕ) → writer_of_file mid.nodes f ≡ None → blocks_left_at mid.nodes f ≡ 0
   settled_still f free =
-      elim (node_in mid.nodes f) as (λ o. node_in mid.nodes f ≡ o → left_at mid.nodes f ≡ 0) [
-        | None ↦ λ e. ap (λ (o : Option Node). option_map_or (λ (y : Node). left_in y.content) o 0) e
-        | Some node ↦ λ e. ap (λ (o : Option Node). option_map_or (λ (y : Node). left_in y.content) o 0) e ∙ elim (left_by f node (node_in old.nodes f) refl (stays.node f node e)) [
+      elim (node_in mid.nodes f) as (λ o. node_in mid.nodes f ≡ o → blocks_left_at mid.nodes f ≡ 0) [
+        | None ↦ λ e. ap (λ (o : Option Node). option_map_or (λ (y : Node). blocks_left_in y.content) o 0) e
+        | Some node ↦ λ e. ap (λ (o : Option Node). option_map_or (λ (y : Node). blocks_left_in y.content) o 0) e ∙ elim (left_by f node (node_in old.nodes f) refl (stays.node f node e)) [
           | inl zero ↦ zero
-          | inr same ↦ same ∙ elim (writer_of old.nodes f) as (λ o. writer_of old.nodes f ≡ o → left_at old.nodes f ≡ 0) [
+          | inr same ↦ same ∙ elim (writer_of_file old.nodes f) as (λ o. writer_of_file old.nodes f ≡ o → blocks_left_at old.nodes f ≡ 0) [
             | None ↦ λ none. copies.settled f none
             | Some m ↦ λ held. absurd (none_some m (sym free ∙ (file_kept f m held).0))
           ] refl
@@ -203,7 +203,7 @@ module _ (old mid : StoreState) (t u : Tree) (n session : ℕ) (keeps : Keeps ol
       ] refl
 
   -- the same calls copy as before, on a store where other nodes are free
-  pub files_spared : (new : StoreState) (calls' : List (ℕ × Call)) → SameFiles mid new → ((f : ℕ) → writer_of new.nodes f ≡ writer_of mid.nodes f) → ((m : ℕ) → copying_in calls' m ≡ copying_in calls m)
+  pub files_spared : (new : StoreState) (calls' : List (ℕ × Call)) → SameFiles mid new → ((f : ℕ) → writer_of_file new.nodes f ≡ writer_of_file mid.nodes f) → ((m : ℕ) → copying_in calls' m ≡ copying_in calls m)
       → AreCopies (copying_scene new calls')
   files_spared new calls' files writers same = spares_keeps (copying_scene old calls) (copying_scene new calls') copies (record {
     calls = same;
@@ -213,7 +213,7 @@ module _ (old mid : StoreState) (t u : Tree) (n session : ℕ) (keeps : Keeps ol
     settled = λ f e. files.left f ∙ settled_still f (sym (writers f) ∙ e);
   })
 
-  pub all_copied : (p q : PartsView) → p.calls ≡ calls → SameFiles mid q.store → ((f : ℕ) → writer_of q.store.nodes f ≡ writer_of mid.nodes f) → ((m : ℕ) → copying_in q.calls m ≡ copying_in calls m)
+  pub all_copied : (p q : PartsView) → p.calls ≡ calls → SameFiles mid q.store → ((f : ℕ) → writer_of_file q.store.nodes f ≡ writer_of_file mid.nodes f) → ((m : ℕ) → copying_in q.calls m ≡ copying_in calls m)
       → ((m : ℕ) (c : Call) (node left : ℕ) → call_at q.calls m ≡ Some c → c.stage ≡ stage.Copies node left → call_at calls m ≡ Some c) → Copied q
   all_copied p q calls_are files writers same kept = record {
     copies = files_spared q.store q.calls files writers same;

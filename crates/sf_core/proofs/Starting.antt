@@ -13,26 +13,26 @@ use Rattle.sf_call.specs.Histories.{replay}
 use Rattle.sf_book.specs.Books.{BookView}
 use Rattle.sf_inode.specs.Stores.{StoreState}
 use Rattle.sf_keeps.specs.Keeps.{Keeps}
-use Rattle.sf_coupling.specs.Walks.{Spot, scene, AreWalks}
+use Rattle.sf_coupling.specs.Walks.{Spot, walkers_at, AreWalks}
 use Rattle.sf_coupling.proofs.Laws.{same_or_not}
 use Rattle.sf_walk.specs.Routes.{IsPosition, route_of, terrain}
 use Rattle.sf_walk.proofs.Laws.{starts}
 use Rattle.sf_core.specs.Cores.{call_at, session_at, last_number}
-use Rattle.sf_core.specs.Progress.{reply_of, undecided_in, new_call}
-use Rattle.sf_core.specs.Parts.{PartsView, seen}
+use Rattle.sf_core.specs.Progress.{waiting_reply, undecided_in, new_call}
+use Rattle.sf_core.specs.Parts.{PartsView, core_of}
 use Rattle.sf_core.specs.Sound.{walker_of, spots_at, spots_in, IsCallOf, Ledger, Sound}
 use Rattle.sf_core.specs.Stepping.{session_set_by, set_back, set_back_by, BeginState}
 use Rattle.sf_core.proofs.Maps.{some_eq, none_some, one_if, put_same, put_other, count_put, passing_put, rise_put}
 use Rattle.sf_core.proofs.Updates.{Updates, updates_set}
-use Rattle.sf_core.specs.Events.{Begins}
-use Rattle.sf_core.proofs.Told.{slot_idle, slot_busy, slots_kept, all_left, same_records}
+use Rattle.sf_core.specs.Events.{CallBegins}
+use Rattle.sf_core.proofs.LaneStates.{slot_idle, slot_busy, slots_kept, all_left, same_records}
 use Rattle.sf_core.proofs.Ledgers.{ledger_changed}
 use Rattle.sf_core.proofs.Histories.{IsWritten, is_undecided, history_changed}
 use Rattle.sf_core.proofs.Writers.{copied_still}
 use Rattle.sf_core.proofs.Unrecorded.{reset_sound}
 
 -- a call that is set back
-pub set_back_sound : (p : PartsView) (h : List Record) → Sound p h → (c : Call) → call_at p.calls c.number ≡ Some c → reply_of c ≡ None → Sound (set_back p c.number) h
+pub set_back_sound : (p : PartsView) (h : List Record) → Sound p h → (c : Call) → call_at p.calls c.number ≡ Some c → waiting_reply c ≡ None → Sound (set_back p c.number) h
 set_back_sound p h sound c at undecided =
     subst (λ (x : PartsView). Sound x h) (sym (ap (set_back_by p c.number) at)) (reset_sound p h sound c at undecided (starts c.request))
 
@@ -63,7 +63,7 @@ pub undecided_few : (calls : List (ℕ × Call)) → undecided_in calls ≤ leng
 undecided_few [] = omega arith
 undecided_few (e ∷ calls) =
     let h = undecided_few calls in
-    elim (is_none (reply_of e.1)) as (λ b. length (cond b (e ∷ filter (λ (x : ℕ × Call). is_none (reply_of x.1)) calls) (filter (λ (x : ℕ × Call). is_none (reply_of x.1)) calls)) ≤ length (e ∷ calls)) [
+    elim (is_none (waiting_reply e.1)) as (λ b. length (cond b (e ∷ filter (λ (x : ℕ × Call). is_none (waiting_reply x.1)) calls) (filter (λ (x : ℕ × Call). is_none (waiting_reply x.1)) calls)) ≤ length (e ∷ calls)) [
       | true ↦ omega (arith, h)
       | false ↦ omega (arith, h)
     ]
@@ -72,8 +72,8 @@ module _ (p q : PartsView) (h : List Record) (sound : Sound p h) (session : ℕ)
   abbrev c : Call
   c = new_call (p.drawn + 1) session moment request
 
-  undecided : reply_of (new_call (p.drawn + 1) session moment request) ≡ None
-  unfolding reply_of
+  undecided : waiting_reply (new_call (p.drawn + 1) session moment request) ≡ None
+  unfolding waiting_reply
   undecided = refl
 
   none_yet : call_at p.calls (p.drawn + 1) ≡ None
@@ -106,13 +106,13 @@ module _ (p q : PartsView) (h : List Record) (sound : Sound p h) (session : ℕ)
         history_changed p q h h is (p.drawn + 1) session None (Some c) (Some None) (Some (Some (p.drawn + 1))) calls sessions is.legal
         (subst (λ (b : BookView). IsWritten b h) (sym begun.book) (record { records = is.records; folded = is.folded })) (subst (λ (s : StoreState). Keeps s (replay h)) (sym begun.store) is.tree)
         (let a = is.counted in let d = begun.drawn in omega (arith, a, d, one_more)) (λ r a. a) (λ m ne k. k) (λ d e none. is.later (p.drawn + 1) (omega arith))
-        (λ d g e some. absurd (none_some g (sym undecided ∙ ap reply_of (some_eq c d e) ∙ some)))
+        (λ d g e some. absurd (none_some g (sym undecided ∙ ap waiting_reply (some_eq c d e) ∙ some)))
         (λ m less. let d = begun.drawn in is.later m (omega (arith, less, d))) (λ s ne k. k) (λ o e. is.sessions session None idle) (λ s less. let d = begun.joins in is.newcomers s (omega (arith, less, d)))
         (let a = is.few in let b = sessions.size in omega (arith, a, b));
     coupled = record {
       walks =
-          subst (λ (s : StoreState). AreWalks (scene (terrain s) (spots_in q.calls) (walker_of s.nodes))) (sym begun.store)
-          (subst (λ (f : ℕ → List Spot). AreWalks (scene (terrain p.store) f (walker_of p.store.nodes))) (λ i m. sym (spots_same m) i) sound.coupled.walks);
+          subst (λ (s : StoreState). AreWalks (walkers_at (terrain s) (spots_in q.calls) (walker_of s.nodes))) (sym begun.store)
+          (subst (λ (f : ℕ → List Spot). AreWalks (walkers_at (terrain p.store) f (walker_of p.store.nodes))) (λ i m. sym (spots_same m) i) sound.coupled.walks);
       positions = λ m d at none. elim (same_or_not m (p.drawn + 1)) [
         | inl e ↦ subst (λ (x : Call). IsPosition (route_of x.request) x.stage) (own m d e at) (starts request)
         | inr ne ↦ sound.coupled.positions m d (sym (calls.rest m ne) ∙ at) none
@@ -144,13 +144,13 @@ module _ (p q : PartsView) (h : List Record) (sound : Sound p h) (session : ℕ)
         (let a = begun.room in let b = sessions.size in let d = undecided_few p.calls in omega (arith, a, b, d, one_more));
   }
 
-  pub begun_told : (call : Option ℕ) (count : ℕ) → Begins (seen p) (seen q) (record { session = session; call = call; begun = count }) request moment
+  pub begun_told : (call : Option ℕ) (count : ℕ) → CallBegins (core_of p) (core_of q) (record { session = session; call = call; begun = count }) request moment
   begun_told call count = record {
-    idle = slot_idle (seen p) session idle;
+    idle = slot_idle (core_of p) session idle;
     unspent = unspent;
-    own = slot_busy (seen q) session (p.drawn + 1) c sessions.now_is calls.now_is;
+    own = slot_busy (core_of q) session (p.drawn + 1) c sessions.now_is calls.now_is;
     fresh = (undecided, all_left (p.drawn + 1) session moment request);
-    others = slots_kept (seen p) (seen q) (p.drawn + 1) session calls.rest sessions.rest (has_call p sound.ledger session);
+    others = slots_kept (core_of p) (core_of q) (p.drawn + 1) session calls.rest sessions.rest (has_call p sound.ledger session);
     joined = let e = sessions.size in omega (arith, e);
     drawn = begun.drawn;
     joins = begun.joins;

@@ -11,15 +11,15 @@ use Rattle.sf_reply.specs.declared.reply.Reply.{Reply}
 use Rattle.sf_core.specs.declared.step.Step.{Step}
 use Rattle.sf_core.specs.declared.step.Step.TheVariants.{Moved, Blocked, Answered, Stranger}
 use Rattle.sf_core.specs.Lanes.{LaneView}
-use Rattle.sf_core.specs.Cores.{CoreView, Slot, slot_of}
-use Rattle.sf_core.specs.Cores.Slot.{Gone, Idle, Busy}
+use Rattle.sf_core.specs.Cores.{CoreView, LaneState, lane_state}
+use Rattle.sf_core.specs.Cores.LaneState.{Gone, Idle, Busy}
 use Rattle.sf_core.specs.Progress.{left_of, depth_of, IsCopying, IsBehind}
-use Rattle.sf_core.specs.Events.{OwnCall, Goes, Writes, CopiesBlock, IsHelped, IsFinished, Before, After, Fetches, Decides, Steps}
-use Rattle.sf_core.specs.Parts.{PartsView, seen}
+use Rattle.sf_core.specs.Events.{OwnCall, Goes, StartsToWrite, CopiesBlock, IsHelped, IsFinished, Before, After, Fetches, Decides, TakesStep}
+use Rattle.sf_core.specs.Parts.{PartsView, core_of}
 use Rattle.sf_core.specs.Sound.{IsCore}
-use Rattle.sf_core.specs.Stuck.{is_onward, CanGoOn, IsNeverStuck, left_in, left_below}
+use Rattle.sf_core.specs.Stuck.{is_onward, CanGoOn, IsNeverStuck, steps_left_in, left_below}
 use Rattle.sf_core.proofs.Maps.{some_eq}
-use Rattle.sf_core.proofs.Told.{busy_slot}
+use Rattle.sf_core.proofs.LaneStates.{busy_slot}
 
 -- ---- who is behind whom
 -- All that is said of it: it is so or not, it goes on, and no call is behind itself.
@@ -55,23 +55,23 @@ not_behind_itself c h = elim h.1 [ inl copies ↦ h.0 copies | inr less ↦ omeg
 
 -- of the sessions below a number none has a call
 abbrev pub NoCall : CoreView → ℕ → Type 0
-NoCall v n = (s : ℕ) (c : Call) → s < n → slot_of v s ≡ Busy c → ⊥
+NoCall v n = (s : ℕ) (c : Call) → s < n → lane_state v s ≡ Busy c → ⊥
 
 -- of their calls this one is behind none
 pub record Furthest (v : CoreView) (n : ℕ) : Type 0 where
   pub session : ℕ
   pub call : Call
-  pub slot : slot_of v session ≡ Busy call
-  pub first : (s : ℕ) (c : Call) → s < n → slot_of v s ≡ Busy c → IsBehind call c → ⊥
+  pub slot : lane_state v session ≡ Busy call
+  pub first : (s : ℕ) (c : Call) → s < n → lane_state v s ≡ Busy c → IsBehind call c → ⊥
 
 -- a session has one call
-pub one_call : (v : CoreView) (s t : ℕ) (c d : Call) → s ≡ t → slot_of v s ≡ Busy c → slot_of v t ≡ Busy d → c ≡ d
-one_call v s t c d same at there = let e : Busy c ≡ Busy d = sym at ∙ ap (λ (k : ℕ). slot_of v k) same ∙ there in cc
+pub one_call : (v : CoreView) (s t : ℕ) (c d : Call) → s ≡ t → lane_state v s ≡ Busy c → lane_state v t ≡ Busy d → c ≡ d
+one_call v s t c d same at there = let e : Busy c ≡ Busy d = sym at ∙ ap (λ (k : ℕ). lane_state v k) same ∙ there in cc
 
-not_behind : (v : CoreView) (s t : ℕ) (c d x : Call) → s ≡ t → slot_of v s ≡ Busy c → slot_of v t ≡ Busy d → (IsBehind x d → ⊥) → IsBehind x c → ⊥
+not_behind : (v : CoreView) (s t : ℕ) (c d x : Call) → s ≡ t → lane_state v s ≡ Busy c → lane_state v t ≡ Busy d → (IsBehind x d → ⊥) → IsBehind x c → ⊥
 not_behind v s t c d x same at there not h = not (subst (λ (z : Call). IsBehind x z) (one_call v s t c d same at there) h)
 
-one_busy : (v : CoreView) (n : ℕ) (c : Call) → slot_of v n ≡ Busy c → NoCall v n ⊎ Furthest v n → Furthest v (suc n)
+one_busy : (v : CoreView) (n : ℕ) (c : Call) → lane_state v n ≡ Busy c → NoCall v n ⊎ Furthest v n → Furthest v (suc n)
 one_busy v n c at (inl none) = record {
   session = n;
   call = c;
@@ -102,10 +102,10 @@ one_busy v n c at (inr f) = elim (behind_or_not f.call c) [
   }
 ]
 
-one_free : (v : CoreView) (n : ℕ) → ((c : Call) → slot_of v n ≡ Busy c → ⊥) → NoCall v n ⊎ Furthest v n → NoCall v (suc n) ⊎ Furthest v (suc n)
+one_free : (v : CoreView) (n : ℕ) → ((c : Call) → lane_state v n ≡ Busy c → ⊥) → NoCall v n ⊎ Furthest v n → NoCall v (suc n) ⊎ Furthest v (suc n)
 one_free v n free (inl none) = inl (λ s d below busy. elim (cases_lt s n) [
   | inl less ↦ none s d less busy
-  | inr ge ↦ let same : s ≡ n = omega (arith, below, ge) in free d (sym (ap (λ (k : ℕ). slot_of v k) same) ∙ busy)
+  | inr ge ↦ let same : s ≡ n = omega (arith, below, ge) in free d (sym (ap (λ (k : ℕ). lane_state v k) same) ∙ busy)
 ])
 one_free v n free (inr f) = inr (record {
   session = f.session;
@@ -113,22 +113,22 @@ one_free v n free (inr f) = inr (record {
   slot = f.slot;
   first = λ s d below busy. elim (cases_lt s n) [
     | inl less ↦ f.first s d less busy
-    | inr ge ↦ let same : s ≡ n = omega (arith, below, ge) in absurd (free d (sym (ap (λ (k : ℕ). slot_of v k) same) ∙ busy))
+    | inr ge ↦ let same : s ≡ n = omega (arith, below, ge) in absurd (free d (sym (ap (λ (k : ℕ). lane_state v k) same) ∙ busy))
   ];
 })
 
-one_more : (v : CoreView) (n : ℕ) (x : Slot) → slot_of v n ≡ x → NoCall v n ⊎ Furthest v n → NoCall v (suc n) ⊎ Furthest v (suc n)
+one_more : (v : CoreView) (n : ℕ) (x : LaneState) → lane_state v n ≡ x → NoCall v n ⊎ Furthest v n → NoCall v (suc n) ⊎ Furthest v (suc n)
 one_more v n Gone at f = one_free v n (λ c busy. let e : Gone ≡ Busy c = sym at ∙ busy in cc) f
 one_more v n Idle at f = one_free v n (λ c busy. let e : Idle ≡ Busy c = sym at ∙ busy in cc) f
 one_more v n (Busy c) at f = inr (one_busy v n c at f)
 
 pub furthest : (v : CoreView) (n : ℕ) → NoCall v n ⊎ Furthest v n
 furthest v zero = inl (λ s c below busy. absurd (omega (arith, below)))
-furthest v (suc n) = one_more v n (slot_of v n) refl (furthest v n)
+furthest v (suc n) = one_more v n (lane_state v n) refl (furthest v n)
 
 -- ---- it goes on
-onward : (v : CoreView) (n : ℕ) → ((s : ℕ) (c : Call) → slot_of v s ≡ Busy c → s < n) → (f : Furthest v n) → (lane : LaneView) → OwnCall v lane f.call → (h : List Record) (s : Step) (a : After)
-    → Steps (record { core = v; history = h; lane = lane }) s a → is_onward s ≡ true
+onward : (v : CoreView) (n : ℕ) → ((s : ℕ) (c : Call) → lane_state v s ≡ Busy c → s < n) → (f : Furthest v n) → (lane : LaneView) → OwnCall v lane f.call → (h : List Record) (s : Step) (a : After)
+    → TakesStep (record { core = v; history = h; lane = lane }) s a → is_onward s ≡ true
 onward v n fit f lane own h Moved a steps = refl
 onward v n fit f lane own h (Blocked holder) a steps =
     let b = steps.0.1 in
@@ -137,16 +137,16 @@ onward v n fit f lane own h (Blocked holder) a steps =
 onward v n fit f lane own h (Answered given) a steps = refl
 onward v n fit f lane own h Stranger a steps = absurd (steps.0 f.call own)
 
-pub never_stuck : (p : PartsView) → IsCore p → IsNeverStuck (seen p)
+pub never_stuck : (p : PartsView) → IsCore p → IsNeverStuck (core_of p)
 never_stuck p core session call at =
-    elim (furthest (seen p) (p.joins + 1)) [ inl none ↦ absurd (none session call (fit session call at) at) | inr f ↦ (f.session, goes f) ]
+    elim (furthest (core_of p) (p.joins + 1)) [ inl none ↦ absurd (none session call (fit session call at) at) | inr f ↦ (f.session, goes f) ]
   where
-    fit : (s : ℕ) (c : Call) → slot_of (seen p) s ≡ Busy c → s < p.joins + 1
-    fit s c busy = let b = busy_slot (seen p) s c busy in let m = (core.sound.ledger.sessions s (Some b.0) b.1).most in omega (arith, m)
+    fit : (s : ℕ) (c : Call) → lane_state (core_of p) s ≡ Busy c → s < p.joins + 1
+    fit s c busy = let b = busy_slot (core_of p) s c busy in let m = (core.sound.ledger.sessions s (Some b.0) b.1).most in omega (arith, m)
 
-    goes : (f : Furthest (seen p) (p.joins + 1)) → CanGoOn (seen p) f.session
+    goes : (f : Furthest (core_of p) (p.joins + 1)) → CanGoOn (core_of p) f.session
     goes f =
-        let b = busy_slot (seen p) f.session f.call f.slot in
+        let b = busy_slot (core_of p) f.session f.call f.slot in
         let o = (core.sound.ledger.sessions f.session (Some b.0) b.1).busy b.0 refl in
         let same : o.0 ≡ f.call = some_eq o.0 f.call (sym o.1 ∙ b.2) in
         record {
@@ -155,48 +155,48 @@ never_stuck p core session call at =
           own = sym (ap (λ (c : Call). c.session) same) ∙ o.2;
           steps = λ lane own s w lane' steps.
               let g = steps core.history core.sound.history in
-              onward (seen p) (p.joins + 1) fit f lane own core.history s (record { core = w; added = g.0; lane = lane' }) g.2;
+              onward (core_of p) (p.joins + 1) fit f lane own core.history s (record { core = w; added = g.0; lane = lane' }) g.2;
         }
 
 -- ---- what is left
 -- it falls where it falls for one session, and rises for none
-pub left_stays : (v w : CoreView) (n : ℕ) → ((s : ℕ) → left_in (slot_of w s) ≤ left_in (slot_of v s)) → left_below w n ≤ left_below v n
+pub left_stays : (v w : CoreView) (n : ℕ) → ((s : ℕ) → steps_left_in (lane_state w s) ≤ steps_left_in (lane_state v s)) → left_below w n ≤ left_below v n
 left_stays v w zero each = omega arith
 left_stays v w (suc n) each = let rest = left_stays v w n each in let one = each n in omega (arith, rest, one)
 
-pub left_falls : (v w : CoreView) (n s : ℕ) → ((i : ℕ) → left_in (slot_of w i) ≤ left_in (slot_of v i)) → s < n → left_in (slot_of w s) < left_in (slot_of v s) → left_below w n < left_below v n
+pub left_falls : (v w : CoreView) (n s : ℕ) → ((i : ℕ) → steps_left_in (lane_state w i) ≤ steps_left_in (lane_state v i)) → s < n → steps_left_in (lane_state w s) < steps_left_in (lane_state v s) → left_below w n < left_below v n
 left_falls v w zero s each below less = absurd (omega (arith, below))
 left_falls v w (suc n) s each below less = elim (cases_lt s n) [
   | inl before ↦ let rest = left_falls v w n s each before less in let one = each n in omega (arith, rest, one)
   | inr ge ↦
       let same : s ≡ n = omega (arith, below, ge) in
-      let old = ap (λ (k : ℕ). left_in (slot_of v k)) same in
-      let new = ap (λ (k : ℕ). left_in (slot_of w k)) same in
+      let old = ap (λ (k : ℕ). steps_left_in (lane_state v k)) same in
+      let new = ap (λ (k : ℕ). steps_left_in (lane_state w k)) same in
       let rest = left_stays v w n each in
       omega (arith, rest, less, old, new)
 ]
 
-same_left : (x y : Slot) → x ≡ y → left_in x ≤ left_in y
-same_left x y e = let n = ap (λ (z : Slot). left_in z) e in omega (arith, n)
+same_left : (x y : LaneState) → x ≡ y → steps_left_in x ≤ steps_left_in y
+same_left x y e = let n = ap (λ (z : LaneState). steps_left_in z) e in omega (arith, n)
 
-pub busy_left : (v : CoreView) (s : ℕ) (c : Call) → slot_of v s ≡ Busy c → left_in (slot_of v s) ≡ left_of c
-busy_left v s c at = ap (λ (z : Slot). left_in z) at
+pub busy_left : (v : CoreView) (s : ℕ) (c : Call) → lane_state v s ≡ Busy c → steps_left_in (lane_state v s) ≡ left_of c
+busy_left v s c at = ap (λ (z : LaneState). steps_left_in z) at
 
-pub idle_left : (v : CoreView) (s : ℕ) → slot_of v s ≡ Idle → left_in (slot_of v s) ≡ 0
-idle_left v s at = ap (λ (z : Slot). left_in z) at
+pub idle_left : (v : CoreView) (s : ℕ) → lane_state v s ≡ Idle → steps_left_in (lane_state v s) ≡ 0
+idle_left v s at = ap (λ (z : LaneState). steps_left_in z) at
 
-pub gone_left : (v : CoreView) (s : ℕ) → slot_of v s ≡ Gone → left_in (slot_of v s) ≡ 0
-gone_left v s at = ap (λ (z : Slot). left_in z) at
+pub gone_left : (v : CoreView) (s : ℕ) → lane_state v s ≡ Gone → steps_left_in (lane_state v s) ≡ 0
+gone_left v s at = ap (λ (z : LaneState). steps_left_in z) at
 
--- one session's slot is another, with less left
-set_falls : (v w : CoreView) (n s : ℕ) → left_in (slot_of w s) < left_in (slot_of v s) → ((i : ℕ) → i ≢ s → left_in (slot_of w i) ≤ left_in (slot_of v i)) → s < n → left_below w n < left_below v n
+-- one session's lane state is another, with less left
+set_falls : (v w : CoreView) (n s : ℕ) → steps_left_in (lane_state w s) < steps_left_in (lane_state v s) → ((i : ℕ) → i ≢ s → steps_left_in (lane_state w i) ≤ steps_left_in (lane_state v i)) → s < n → left_below w n < left_below v n
 set_falls v w n s less others below = left_falls v w n s each below less
   where
-    each : (i : ℕ) → left_in (slot_of w i) ≤ left_in (slot_of v i)
+    each : (i : ℕ) → steps_left_in (lane_state w i) ≤ steps_left_in (lane_state v i)
     each i = elim (same_or_not i s) [
       | inl e ↦
-          let old = ap (λ (k : ℕ). left_in (slot_of v k)) e in
-          let new = ap (λ (k : ℕ). left_in (slot_of w k)) e in
+          let old = ap (λ (k : ℕ). steps_left_in (lane_state v k)) e in
+          let new = ap (λ (k : ℕ). steps_left_in (lane_state w k)) e in
           omega (arith, less, old, new)
       | inr ne ↦ others i ne
     ]
@@ -207,22 +207,22 @@ goes_falls v w lane c d n g below =
     let old = busy_left v lane.session c g.own.slot in
     let new = busy_left w lane.session d g.slot.own in
     let less = g.less in
-    set_falls v w n lane.session (omega (arith, old, new, less)) (λ i ne. same_left (slot_of w i) (slot_of v i) (g.slot.others i ne)) below
+    set_falls v w n lane.session (omega (arith, old, new, less)) (λ i ne. same_left (lane_state w i) (lane_state v i) (g.slot.others i ne)) below
 
 -- with the first step of a WRITE, and with one that copies a block
-pub writes_falls : (b : Before) (a : After) (c d : Call) (given : Reply) (n : ℕ) → Writes b a c d given → b.lane.session < n → left_below a.core n < left_below b.core n
+pub writes_falls : (b : Before) (a : After) (c d : Call) (given : Reply) (n : ℕ) → StartsToWrite b a c d given → b.lane.session < n → left_below a.core n < left_below b.core n
 writes_falls b a c d given n w below =
     let old = busy_left b.core b.lane.session c w.own.slot in
     let new = busy_left a.core b.lane.session d w.slot.own in
     let less = w.less in
-    set_falls b.core a.core n b.lane.session (omega (arith, old, new, less)) (λ i ne. same_left (slot_of a.core i) (slot_of b.core i) (w.slot.others i ne)) below
+    set_falls b.core a.core n b.lane.session (omega (arith, old, new, less)) (λ i ne. same_left (lane_state a.core i) (lane_state b.core i) (w.slot.others i ne)) below
 
 pub copies_falls : (v w : CoreView) (lane : LaneView) (c d : Call) (n : ℕ) → CopiesBlock v w lane c d → lane.session < n → left_below w n < left_below v n
 copies_falls v w lane c d n b below =
     let old = busy_left v lane.session c b.own.slot in
     let new = busy_left w lane.session d b.slot.own in
     let one = b.one in
-    set_falls v w n lane.session (omega (arith, old, new, one)) (λ i ne. same_left (slot_of w i) (slot_of v i) (b.slot.others i ne)) below
+    set_falls v w n lane.session (omega (arith, old, new, one)) (λ i ne. same_left (lane_state w i) (lane_state v i) (b.slot.others i ne)) below
 
 -- and with one that answers
 pub fetches_falls : (b : Before) (a : After) (c : Call) (given : Reply) (n : ℕ) → Fetches b a c given → b.lane.session < n → left_below a.core n < left_below b.core n
@@ -230,10 +230,10 @@ fetches_falls b a c given n f below =
     let old = busy_left b.core b.lane.session c f.own.slot in
     let new = idle_left a.core b.lane.session f.slot.own in
     let one = f.one in
-    set_falls b.core a.core n b.lane.session (omega (arith, old, new, one)) (λ i ne. same_left (slot_of a.core i) (slot_of b.core i) (f.slot.others i ne)) below
+    set_falls b.core a.core n b.lane.session (omega (arith, old, new, one)) (λ i ne. same_left (lane_state a.core i) (lane_state b.core i) (f.slot.others i ne)) below
 
-helped_left : (v w : CoreView) (s : ℕ) (helped : List Record) → (slot_of w s ≡ slot_of v s) ⊎ IsHelped v w s helped ⊎ IsFinished v w s helped → left_in (slot_of w s) ≤ left_in (slot_of v s)
-helped_left v w s helped (inl e) = same_left (slot_of w s) (slot_of v s) e
+helped_left : (v w : CoreView) (s : ℕ) (helped : List Record) → (lane_state w s ≡ lane_state v s) ⊎ IsHelped v w s helped ⊎ IsFinished v w s helped → steps_left_in (lane_state w s) ≤ steps_left_in (lane_state v s)
+helped_left v w s helped (inl e) = same_left (lane_state w s) (lane_state v s) e
 helped_left v w s helped (inr (inl h)) =
     let old = busy_left v s h.before h.was in
     let new = busy_left w s h.after h.now in

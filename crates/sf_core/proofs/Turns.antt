@@ -3,7 +3,7 @@ use Rattle.std.specs.Prelude.{◌≡◌, ◌≢◌, ◌⊎◌, ◌<◌, ◌≤�
 use Rattle.std.specs.Option.{option_map_or}
 use Rattle.std.proofs.Common.{sym, ap, subst, ◌∙◌, inl, inr, arith, append-nil}
 use Rattle.sf_reply.specs.declared.reply.Reply.{Reply}
-use Rattle.sf_call.specs.Answers.{Answered as Answer}
+use Rattle.sf_call.specs.Answers.{AnswerView as Answer}
 use Rattle.sf_call.specs.declared.request.Request.{Request}
 use Rattle.sf_call.specs.declared.call.Call.{Call}
 use Rattle.sf_call.specs.declared.call.Stage.{Stage}
@@ -13,20 +13,20 @@ use Rattle.sf_call.specs.Unanswered.{at_stage}
 use Rattle.sf_book.proofs.Laws.{deeds-append}
 use Rattle.sf_inode.specs.Nodes.{with_holder}
 use Rattle.sf_inode.specs.Stores.{StoreState, edited}
-use Rattle.sf_coupling.specs.Walks.{Spot, Holds, scene}
+use Rattle.sf_coupling.specs.Walks.{Spot, Holds, walkers_at}
 use Rattle.sf_walk.specs.declared.walking.Walk.TheVariants as walked
 use Rattle.sf_walk.specs.Routes.{IsPosition, nodes_of, route_of, spots_of, terrain}
-use Rattle.sf_walk.specs.Steps.{entered, handed_over, walker, WalksOn}
+use Rattle.sf_walk.specs.Steps.{entered, handed_over, walker, AdvancesOne}
 use Rattle.sf_walk.specs.Files.{WaitsForFile, file_handle}
 use Rattle.sf_walk.proofs.Laws.{ground_stays}
 use Rattle.sf_core.specs.declared.step.Step.{Step}
 use Rattle.sf_core.specs.declared.step.Step.TheVariants as step
 use Rattle.sf_core.specs.Lanes.{LaneView, at_rest}
 use Rattle.sf_core.specs.Cores.{call_at, session_at}
-use Rattle.sf_core.specs.Progress.{reply_of, is_write, undecided_in, IsBehind, IsCopying, CopiesInto}
+use Rattle.sf_core.specs.Progress.{waiting_reply, is_write, undecided_in, IsBehind, IsCopying, CopiesInto}
 use Rattle.sf_core.specs.Histories.{IsHistory}
-use Rattle.sf_core.specs.Events.{OwnCall, Goes, HoldsWanted, HoldsFile, LooksOnly, IsBlocked, Fetches, Steps, StepsOn}
-use Rattle.sf_core.specs.Parts.{PartsView, seen}
+use Rattle.sf_core.specs.Events.{OwnCall, Goes, HoldsWanted, HoldsFile, LooksOnly, IsBlocked, Fetches, TakesStep, StepsOn}
+use Rattle.sf_core.specs.Parts.{PartsView, core_of}
 use Rattle.sf_core.specs.Sound.{walker_of, spots_at, spots_in, Sound, IsCore}
 use Rattle.sf_core.specs.Stepping.{session_set_by, Walked, FetchState}
 use Rattle.sf_core.proofs.Maps.{reply_is}
@@ -41,12 +41,12 @@ use Rattle.sf_core.proofs.FreeFiles.{no_handle_moved}
 use Rattle.sf_core.proofs.Finished.{not_copying}
 use Rattle.sf_core.proofs.Unrecorded.{looked_sound, moved_sound, blocked_wants, fetched_sound}
 use Rattle.sf_core.proofs.Deeper.{looks_deeper}
-use Rattle.sf_core.proofs.Backing.{let_go_looks}
-use Rattle.sf_core.proofs.Told.{slot_busy, slot_idle, slots_kept, slot_kept, own_call, no_stranger, same_book, left_is, left_one, walked_few, some_left, less_left}
+use Rattle.sf_core.proofs.SettingBack.{let_go_looks}
+use Rattle.sf_core.proofs.LaneStates.{slot_busy, slot_idle, slots_kept, slot_kept, own_call, no_stranger, same_book, left_is, left_one, walked_few, some_left, less_left}
 
 -- ---- histories
 -- parts that are a core's are sound by each history that it has
-pub sound_of : (p : PartsView) → IsCore p → (h : List Record) → IsHistory (seen p) h → Sound p h
+pub sound_of : (p : PartsView) → IsCore p → (h : List Record) → IsHistory (core_of p) h → Sound p h
 sound_of p core h is = record { history = is; coupled = core.sound.coupled; copied = core.sound.copied; ledger = core.sound.ledger }
 
 -- an event adds records, and a sound core is sound by its history with them
@@ -71,15 +71,15 @@ adds_none p q Told each h sound = let e = each h sound in ([], subst (λ (x : Li
 
 -- a step
 abbrev pub IsStep : PartsView → LaneView → Step → PartsView → LaneView → Type 0
-IsStep p lane s q lane' = Adds p q (λ h added. Steps (record { core = seen p; history = h; lane = lane }) s (record { core = seen q; added = added; lane = lane' }))
+IsStep p lane s q lane' = Adds p q (λ h added. TakesStep (record { core = core_of p; history = h; lane = lane }) s (record { core = core_of q; added = added; lane = lane' }))
 
-pub steps_on : (p q : PartsView) (lane lane' : LaneView) (s : Step) → IsCore p → IsStep p lane s q lane' → StepsOn (seen p) lane s (seen q) lane'
+pub steps_on : (p q : PartsView) (lane lane' : LaneView) (s : Step) → IsCore p → IsStep p lane s q lane' → StepsOn (core_of p) lane s (core_of q) lane'
 steps_on p q lane lane' s core adds h is = let a = adds h (sound_of p core h is) in (a.0, a.1.history, a.2)
 
 -- ---- a lane of no call of this core
 pub foreign_step : (p q : PartsView) (lane : LaneView) (n : ℕ) → lane.call ≡ Some n → ((c : Call) → call_at p.calls n ≡ Some c → c.session ≡ lane.session → ⊥) → q ≡ p → IsStep p lane step.Stranger q lane
 foreign_step p q lane n call never same = adds_none p q _ (λ h sound.
-    (subst (λ (x : PartsView). Sound x h) (sym same) sound, ((λ c own. no_stranger p sound.ledger lane n call never c own), ap seen same, record { none = refl; lane = refl })))
+    (subst (λ (x : PartsView). Sound x h) (sym same) sound, ((λ c own. no_stranger p sound.ledger lane n call never c own), ap core_of same, record { none = refl; lane = refl })))
 
 -- ---- look-ups
 one_more : (s : StoreState) → s.look_ups < 2 ^ 64 → (s.look_ups ≤ min (s.look_ups + 1) (2 ^ 64 - 1)) × (min (s.look_ups + 1) (2 ^ 64 - 1) ≤ s.look_ups + 2)
@@ -99,7 +99,7 @@ moved_looks n was now node s fits =
     (let a = e.0 in omega (arith, a, f), let b = e.1 in omega (arith, b, f))
 
 -- a call that walks is no WRITE
-not_write : (r : Request) (g after : Stage) → IsPosition (route_of r) after → WalksOn g after → is_write r ≡ false
+not_write : (r : Request) (g after : Stage) → IsPosition (route_of r) after → AdvancesOne g after → is_write r ≡ false
 not_write r g after is on = elim (is_write r) as (λ b. is_write r ≡ b → b ≡ false) [
   | true ↦ λ e. let w = is_a_write r (is_write_by r e) in absurd (no_handle_moved r g after is on w.0 (ap file_handle w.3))
   | false ↦ λ e. refl
@@ -118,7 +118,7 @@ turn_of p core lane n c at session call fits =
     (record { at = ap (call_at p.calls) is ∙ at; session = session; call = call ∙ ap Some (sym is); fits = fits }, is)
 
 module _ (p : PartsView) (lane : LaneView) (c : Call) (turn : IsTurn p lane c) where
-  own : (h : List Record) → Sound p h → OwnCall (seen p) lane c
+  own : (h : List Record) → Sound p h → OwnCall (core_of p) lane c
   own h sound = own_call p sound.ledger lane c.number c turn.at turn.session turn.call
 
   busy : (h : List Record) → Sound p h → session_at p.sessions lane.session ≡ Some (Some c.number)
@@ -129,8 +129,8 @@ module _ (p : PartsView) (lane : LaneView) (c : Call) (turn : IsTurn p lane c) w
   apart h sound s m ne at = other_call p sound.ledger c.number c turn.at s m (λ e. ne (e ∙ turn.session)) at
 
   -- ---- a reply is fetched
-  module _ (given : Reply) (decided : reply_of c ≡ Some given) (fresh : c.stage ≡ stage.Fresh) (q : PartsView) (fetched : FetchState p q lane.session c.number) (a : Answer) (is : a ≡ record { number = c.number; session = lane.session; reply = given }) where
-    fetched_told : (h : List Record) → Sound p h → Fetches (record { core = seen p; history = h; lane = lane }) (record { core = seen q; added = []; lane = at_rest lane }) c given
+  module _ (given : Reply) (decided : waiting_reply c ≡ Some given) (fresh : c.stage ≡ stage.Fresh) (q : PartsView) (fetched : FetchState p q lane.session c.number) (a : Answer) (is : a ≡ record { number = c.number; session = lane.session; reply = given }) where
+    fetched_told : (h : List Record) → Sound p h → Fetches (record { core = core_of p; history = h; lane = lane }) (record { core = core_of q; added = []; lane = at_rest lane }) c given
     fetched_told h sound =
         let calls = updates_removed p.calls c.number c turn.at sound.ledger.calls_rise in
         let sessions = updates_set p.sessions lane.session (Some c.number) (busy h sound) None in
@@ -142,8 +142,8 @@ module _ (p : PartsView) (lane : LaneView) (c : Call) (turn : IsTurn p lane c) w
           recorded = sound.history.decided c.number c given turn.at decided;
           none = refl;
           slot = record {
-            own = slot_idle (seen q) lane.session (ss lane.session ∙ sessions.now_is);
-            others = slots_kept (seen p) (seen q) c.number lane.session (λ m ne. ap (λ cs. call_at cs m) fetched.calls ∙ calls.rest m ne) (λ s ne. ss s ∙ sessions.rest s ne) (apart h sound);
+            own = slot_idle (core_of q) lane.session (ss lane.session ∙ sessions.now_is);
+            others = slots_kept (core_of p) (core_of q) c.number lane.session (λ m ne. ap (λ cs. call_at cs m) fetched.calls ∙ calls.rest m ne) (λ s ne. ss s ∙ sessions.rest s ne) (apart h sound);
             joined = let e = ap (λ (x : List (ℕ × Option ℕ)). length x) (fetched.sessions ∙ ap (session_set_by p.sessions lane.session None) (busy h sound)) in let f = sessions.size in omega (arith, e, f);
             drawn = fetched.drawn;
             joins = fetched.joins;
@@ -156,19 +156,19 @@ module _ (p : PartsView) (lane : LaneView) (c : Call) (turn : IsTurn p lane c) w
     fetched_step = adds_none p q _ (λ h sound. (
       fetched_sound p q h sound c turn.at given decided fresh (subst (λ s. FetchState p q s c.number) (sym turn.session) fetched),
       (
-        (c, inl (subst (λ (g : Reply). Fetches (record { core = seen p; history = h; lane = lane }) (record { core = seen q; added = []; lane = at_rest lane }) c g) (sym (ap (λ (x : Answer). x.reply) is)) (fetched_told h sound))),
+        (c, inl (subst (λ (g : Reply). Fetches (record { core = core_of p; history = h; lane = lane }) (record { core = core_of q; added = []; lane = at_rest lane }) c g) (sym (ap (λ (x : Answer). x.reply) is)) (fetched_told h sound))),
         record { session = ap (λ (x : Answer). x.session) is; number = turn.call ∙ ap Some (sym (ap (λ (x : Answer). x.number) is)); lane = refl },
       ),
     ))
 
-  module _ (undecided : reply_of c ≡ None) (q : PartsView) where
+  module _ (undecided : waiting_reply c ≡ None) (q : PartsView) where
     -- ---- it moves
     module _ (after : Stage) (w : Walked p q c c.number (walked.Moved after)) where
-      moved_told : (h : List Record) → Sound p h → Goes (seen p) (seen q) lane c (at_stage after c)
+      moved_told : (h : List Record) → Sound p h → Goes (core_of p) (core_of q) lane c (at_stage after c)
       moved_told h sound =
           let calls = subst (λ cs. Updates p.calls cs c.number (Some c) (Some (at_stage after c))) (sym w.calls) (updates_staged p.calls c.number c after turn.at) in
           let ss : (s : ℕ) → _ = λ s. ap (λ (x : List (ℕ × Option ℕ)). session_at x s) w.sessions in
-          let none : reply_of (at_stage after c) ≡ None = reply_is (at_stage after c) ∙ sym (reply_is c) ∙ undecided in
+          let none : waiting_reply (at_stage after c) ≡ None = reply_is (at_stage after c) ∙ sym (reply_is c) ∙ undecided in
           let few = walked_few c after w.advances.position in
           let now = left_is (at_stage after c) none in
           let looks = moved_looks c.number c.stage after w.advances.spot.node p.store turn.fits in
@@ -183,8 +183,8 @@ module _ (p : PartsView) (lane : LaneView) (c : Call) (turn : IsTurn p lane c) w
             less = let less = less_left c.request c.stage after w.advances.walks few in omega (arith, less, now, left_is c undecided);
             some = let some = some_left c after w.advances.position in omega (arith, some, now);
             slot = record {
-              own = slot_busy (seen q) lane.session c.number (at_stage after c) (ss lane.session ∙ busy h sound) calls.now_is;
-              others = slots_kept (seen p) (seen q) c.number lane.session calls.rest (λ s ne. ss s) (apart h sound);
+              own = slot_busy (core_of q) lane.session c.number (at_stage after c) (ss lane.session ∙ busy h sound) calls.now_is;
+              others = slots_kept (core_of p) (core_of q) c.number lane.session calls.rest (λ s ne. ss s) (apart h sound);
               joined = ap (λ (x : List (ℕ × Option ℕ)). length x) w.sessions;
               drawn = w.drawn;
               joins = w.joins;
@@ -202,8 +202,8 @@ module _ (p : PartsView) (lane : LaneView) (c : Call) (turn : IsTurn p lane c) w
       ))
 
     -- ---- it waits
-    told_by : (h : List Record) → Sound p h → (holder : ℕ) (d : Call) → call_at p.calls holder ≡ Some d → c.number ≢ holder → (reply_of d ≡ None) ⊎ IsCopying d.stage → HoldsWanted p.store c d ⊎ HoldsFile p.store c d → IsBehind c d
-        → LooksOnly (seen p) (seen q) 2 → IsBlocked (seen p) (seen q) lane c holder
+    told_by : (h : List Record) → Sound p h → (holder : ℕ) (d : Call) → call_at p.calls holder ≡ Some d → c.number ≢ holder → (waiting_reply d ≡ None) ⊎ IsCopying d.stage → HoldsWanted p.store c d ⊎ HoldsFile p.store c d → IsBehind c d
+        → LooksOnly (core_of p) (core_of q) 2 → IsBlocked (core_of p) (core_of q) lane c holder
     told_by h sound holder d at_d other holds wanted deeper looks =
         let is = sound.ledger.calls holder d at_d in
         record {
@@ -212,7 +212,7 @@ module _ (p : PartsView) (lane : LaneView) (c : Call) (turn : IsTurn p lane c) w
           other = d.session;
           call = d;
           apart = λ e. other_session p sound.ledger c.number c turn.at holder d (λ same. other (sym same)) at_d (e ∙ sym turn.session);
-          slot = slot_busy (seen p) d.session holder d is.session at_d;
+          slot = slot_busy (core_of p) d.session holder d is.session at_d;
           holds = holds;
           number = is.is_number;
           wanted = wanted;
@@ -229,26 +229,26 @@ module _ (p : PartsView) (lane : LaneView) (c : Call) (turn : IsTurn p lane c) w
       ] refl hold
 
       -- who holds a directory hasn't its reply yet
-      not_decided : (h : List Record) → Sound p h → (d : Call) (spot : Spot) → call_at p.calls holder ≡ Some d → Holds (spots_at d) spot → reply_of d ≡ None
-      not_decided h sound d spot at hold = elim (reply_of d) as (λ o. reply_of d ≡ o → o ≡ None) [
+      not_decided : (h : List Record) → Sound p h → (d : Call) (spot : Spot) → call_at p.calls holder ≡ Some d → Holds (spots_at d) spot → waiting_reply d ≡ None
+      not_decided h sound d spot at hold = elim (waiting_reply d) as (λ o. waiting_reply d ≡ o → o ≡ None) [
         | None ↦ λ e. refl
         | Some given ↦ λ e. absurd (subst (λ (x : List Spot). Holds x spot) (rests_none (route_of d.request) d.stage (sound.coupled.waiting holder d given at e)) hold)
       ] refl
 
-      looks_few : LooksOnly (seen p) (seen q) 2
+      looks_few : LooksOnly (core_of p) (core_of q) 2
       looks_few = let looks = looks_between p.store q.store 1 turn.fits (looks_of_looked p.store q.store 1 w.advances.looked) in record {
         records = same_book p q w.book;
         drawn = w.drawn;
         joins = w.joins;
         sessions = w.sessions;
         calls = w.calls;
-        slots = λ s. slot_kept (seen p) (seen q) s (session_at p.sessions s) refl (ap (λ ss. session_at ss s) w.sessions) (λ m f. ap (λ cs. call_at cs m) w.calls);
+        slots = λ s. slot_kept (core_of p) (core_of q) s (session_at p.sessions s) refl (ap (λ ss. session_at ss s) w.sessions) (λ m f. ap (λ cs. call_at cs m) w.calls);
         joined = ap (λ (ss : List (ℕ × Option ℕ)). length ss) w.sessions;
         more = looks.0;
         few = let b = looks.1 in omega (arith, b);
       }
 
-      blocked_told : (h : List Record) → Sound p h → IsBlocked (seen p) (seen q) lane c holder
+      blocked_told : (h : List Record) → Sound p h → IsBlocked (core_of p) (core_of q) lane c holder
       blocked_told h sound = elim (blocked_wants p h sound c turn.at undecided q.store holder w.advances) [
         | inl wants ↦
             let d = the_holder wants.0 wants.4 in
@@ -257,7 +257,7 @@ module _ (p : PartsView) (lane : LaneView) (c : Call) (turn : IsTurn p lane c) w
             told_by h sound holder d.0 d.1 w.advances.other (inl none)
             (inl (record { spot = wants.0; looks = wants.1; leads = wants.2; held = wants.3 ∙ ap Some (sym (sound.ledger.calls holder d.0 d.1).is_number); came = inl d.2 })) (
               not_copying p h sound c.number c turn.at undecided,
-              inr (looks_deeper (scene (terrain p.store) (spots_in p.calls) (walker_of p.store.nodes)) sound.coupled.walks c.number holder w.advances.other (route_of c.request) (route_of d.0.request) c.stage d.0.stage
+              inr (looks_deeper (walkers_at (terrain p.store) (spots_in p.calls) (walker_of p.store.nodes)) sound.coupled.walks c.number holder w.advances.other (route_of c.request) (route_of d.0.request) c.stage d.0.stage
                   (spots c.number c turn.at) (sound.coupled.positions c.number c turn.at undecided) (spots holder d.0 d.1) (sound.coupled.positions holder d.0 d.1 none) wants.0 wants.1 wants.4),
             ) looks_few
         | inr f ↦
@@ -282,7 +282,7 @@ module _ (p : PartsView) (lane : LaneView) (c : Call) (turn : IsTurn p lane c) w
 
     -- for the file that its handle opens
     module _ (holder : ℕ) (same : q ≡ p) (waits : WaitsForFile p.store c holder) where
-      file_told : (h : List Record) → Sound p h → IsBlocked (seen p) (seen q) lane c holder
+      file_told : (h : List Record) → Sound p h → IsBlocked (core_of p) (core_of q) lane c holder
       file_told h sound =
           let f = file_writer p.store p.calls sound.copied.copies waits.handle.node holder (writer_is p.store.nodes waits.handle.node holder waits.file waits.held) in
           let copies : IsCopying f.0.stage = subst IsCopying (sym f.3) tt in
@@ -300,7 +300,7 @@ module _ (p : PartsView) (lane : LaneView) (c : Call) (turn : IsTurn p lane c) w
             };
             copies = subst (λ (g : Stage). CopiesInto g waits.handle.node) (sym f.3) refl;
           }))
-          (not_copying p h sound c.number c turn.at undecided, inl copies) (subst (λ (x : PartsView). LooksOnly (seen p) (seen x) 2) (sym same) (record {
+          (not_copying p h sound c.number c turn.at undecided, inl copies) (subst (λ (x : PartsView). LooksOnly (core_of p) (core_of x) 2) (sym same) (record {
             records = record { records = refl; keep = refl; folded = refl };
             drawn = refl;
             joins = refl;

@@ -14,11 +14,11 @@ use Rattle.sf_walk.specs.declared.walking.Walk.TheVariants as walk
 use Rattle.sf_walk.specs.Files.{IsFileFree}
 use Rattle.sf_walk.specs.Routes.{route_of}
 use Rattle.sf_walk.specs.Steps.{Advances, walker}
-use Rattle.sf_core.specs.declared.parts.Outcome.TheVariants as outcome
+use Rattle.sf_core.specs.declared.parts.WalkOutcome.TheVariants as outcome
 use Rattle.sf_core.specs.Cores.{call_at}
 use Rattle.sf_core.specs.Parts.{PartsView}
 use Rattle.sf_core.specs.Sound.{IsCore}
-use Rattle.sf_core.specs.Stepping.{IsUnderWay, Stepped, come_to, stage_after, walked_calls}
+use Rattle.sf_core.specs.Stepping.{IsUnderWay, CallStep, come_to, stage_after, walked_calls}
 use Rattle.sf_core.proofs.Maps.{set_same, set_twice}
 use Rattle.sf_core.proofs.Updates.{staged_is}
 
@@ -49,7 +49,7 @@ module _ (n : ℕ) (c : Call) where
   noted p g at (walk.Ready ways) = staged_same p.calls n (at_stage g c) at
 
   pub one_step : (p : PartsView) (s t : StoreState) (g : Stage) (w : Walk) → IsUnderWay p n s c g → s.look_ups < 2 ^ 64 → Advances s t (walker c.number (route_of c.request) g) w
-      → Stepped p c.session n (outcome.Walked w) (come_to p n t (stage_after w g))
+      → CallStep p c.session n (outcome.Walked w) (come_to p n t (stage_after w g))
   one_step p s t g w on fits advances = record {
     core = on.core;
     fits = subst (λ (x : StoreState). x.look_ups < 2 ^ 64) (sym on.store) fits;
@@ -85,8 +85,8 @@ module _ (n : ℕ) (c : Call) where
   }
 
   pub step_more : (p : PartsView) (s t u : StoreState) (g h : Stage) (w : Walk) → IsUnderWay p n s c g → IsCore (come_to p n t h) → IsFileFree t c → t.look_ups < 2 ^ 64 → Advances t u (walker c.number (route_of c.request) h) w
-      → Stepped (come_to p n t h) c.session n (outcome.Walked w) (come_to p n u (stage_after w h))
+      → CallStep (come_to p n t h) c.session n (outcome.Walked w) (come_to p n u (stage_after w h))
   step_more p s t u g h w on core free fits advances =
-      subst (λ (q : PartsView). Stepped (come_to p n t h) c.session n (outcome.Walked w) q)
+      subst (λ (q : PartsView). CallStep (come_to p n t h) c.session n (outcome.Walked w) q)
       (ap (λ cs. record p { store = u; calls = cs }) (staged_twice p.calls n h (stage_after w h) (at_stage g c) on.call))
       (one_step (come_to p n t h) t u h w (under_way p s t g h on core free) fits advances)

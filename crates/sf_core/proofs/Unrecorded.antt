@@ -12,24 +12,24 @@ use Rattle.sf_call.specs.Tree.{Tree}
 use Rattle.std.specs.List.{count_by}
 use Rattle.sf_call.specs.Histories.{replay, IsAmong}
 use Rattle.sf_call.specs.Unanswered.{at_stage, staged}
-use Rattle.sf_book.specs.Books.{BookView, is_deed, kept_of, gone_of}
+use Rattle.sf_book.specs.Books.{BookView, is_call, kept_of, gone_of}
 use Rattle.sf_inode.specs.declared.node.Node.{Node}
 use Rattle.sf_inode.specs.Nodes.{with_holder}
-use Rattle.sf_inode.specs.Stores.{StoreState, entry_of, holder_of, is_directory_at, edited}
+use Rattle.sf_inode.specs.Stores.{StoreState, child_of, holder_of, is_directory_at, edited}
 use Rattle.sf_keeps.specs.Steps.{walk}
 use Rattle.sf_keeps.specs.Keeps.{Keeps}
 use Rattle.sf_keeps.proofs.Laws.{keeps_looked, keeps_held, one_way}
-use Rattle.sf_coupling.specs.Walks.{Spot, Holds, scene, AreWalks}
+use Rattle.sf_coupling.specs.Walks.{Spot, Holds, walkers_at, AreWalks}
 use Rattle.sf_coupling.proofs.Laws.{same_or_not}
 use Rattle.sf_walk.specs.Routes.{IsPosition, route_of, nodes_of, spots_of, terrain}
-use Rattle.sf_walk.specs.Steps.{walker, entered, LooksAt, Moves, Waits}
+use Rattle.sf_walk.specs.Steps.{walker, entered, LooksUp, AdvancesTo, WaitsFor}
 use Rattle.sf_walk.specs.Served.{LookedUp}
 use Rattle.sf_walk.proofs.Laws.{IsSameGround, leads_same, looked_nodes, keeps_counted}
 use Rattle.sf_core.specs.Cores.{call_at, session_at}
-use Rattle.sf_core.specs.Progress.{reply_of, did, undecided_in}
+use Rattle.sf_core.specs.Progress.{waiting_reply, did, undecided_in}
 use Rattle.sf_core.specs.Histories.{IsHistory}
-use Rattle.sf_core.specs.Parts.{PartsView, seen}
-use Rattle.sf_core.specs.Sound.{walker_of, writer_of, spots_at, spots_in, copying_at, Coupled, Copied, Sound}
+use Rattle.sf_core.specs.Parts.{PartsView, core_of}
+use Rattle.sf_core.specs.Sound.{walker_of, writer_of_file, spots_at, spots_in, copying_at, Coupled, Copied, Sound}
 use Rattle.sf_core.specs.Stepping.{session_set_by, freed, SameButRoom, FetchState}
 use Rattle.sf_core.proofs.Maps.{some_eq, none_some, one_if}
 use Rattle.sf_core.proofs.Updates.{one_by, Updates, updates_set, updates_removed, updates_none, updates_staged}
@@ -44,10 +44,10 @@ use Rattle.sf_core.proofs.Recorded.{let_go_keeps}
 
 -- the call is the same one with the same reply, or its reply was there and it is gone
 pub data IsKept (c : Call) : Option Call → Type 0 where
-  Same : (d : Call) → reply_of d ≡ reply_of c → ((g : Reply) → did d g ≡ did c g) → IsKept c (Some d)
-  Fetch : (g : Reply) → reply_of c ≡ Some g → IsKept c None
+  Same : (d : Call) → waiting_reply d ≡ waiting_reply c → ((g : Reply) → did d g ≡ did c g) → IsKept c (Some d)
+  Fetch : (g : Reply) → waiting_reply c ≡ Some g → IsKept c None
 
-module _ (p q : PartsView) (h : List Record) (is : IsHistory (seen p) h) (n : ℕ) (c : Call) (now : Option Call) (calls : Updates p.calls q.calls n (Some c) now) (kept : IsKept c now)
+module _ (p q : PartsView) (h : List Record) (is : IsHistory (core_of p) h) (n : ℕ) (c : Call) (now : Option Call) (calls : Updates p.calls q.calls n (Some c) now) (kept : IsKept c now)
     (slot : Option ℕ) (sessions : Updates p.sessions q.sessions c.session (Some (Some n)) (Some slot))
     (keeps : Keeps q.store (replay h)) (book : q.book ≡ p.book) (drawn : q.drawn ≡ p.drawn) (joins : q.joins ≡ p.joins) where
   one_kept : (o : Option Call) → IsKept c o → one_by is_undecided o ≡ one_by is_undecided (Some c)
@@ -57,11 +57,11 @@ module _ (p q : PartsView) (h : List Record) (is : IsHistory (seen p) h) (n : �
   pub as_many : undecided_in q.calls ≡ undecided_in p.calls
   as_many = let a = calls.passes is_undecided in let b = one_kept now kept in omega (arith, a, b)
 
-  was_by : (o : Option Call) → IsKept c o → (d : Call) → o ≡ Some d → (reply_of d ≡ reply_of c) × ((g : Reply) → did d g ≡ did c g)
-  was_by o (Same d reply same) e at = let f = some_eq d e at in subst (λ (x : Call). (reply_of x ≡ reply_of c) × ((g : Reply) → did x g ≡ did c g)) f (reply, same)
+  was_by : (o : Option Call) → IsKept c o → (d : Call) → o ≡ Some d → (waiting_reply d ≡ waiting_reply c) × ((g : Reply) → did d g ≡ did c g)
+  was_by o (Same d reply same) e at = let f = some_eq d e at in subst (λ (x : Call). (waiting_reply x ≡ waiting_reply c) × ((g : Reply) → did x g ≡ did c g)) f (reply, same)
   was_by o (Fetch g is) e at = absurd (none_some e at)
 
-  pub history_kept : IsHistory (seen q) h
+  pub history_kept : IsHistory (core_of q) h
   history_kept =
       history_changed p q h h is n c.session (Some c) now (Some (Some n)) (Some slot) calls sessions is.legal
       (subst (λ (b : BookView). IsWritten b h) (sym book) (record { records = is.records; folded = is.folded })) keeps (let a = is.counted in omega (arith, a, drawn, as_many)) (λ r a. a) (λ m ne k. k)
@@ -89,14 +89,14 @@ module _ (p q : PartsView) (h : List Record) (sound : Sound p h) (n : ℕ) (c : 
 
 -- ---- the store and the book alone are others
 module _ (p : PartsView) (h : List Record) (sound : Sound p h) (s : StoreState) (b : BookView) (records : b.records ≡ p.book.records) (keep : b.keep ≡ p.book.keep) (folded : b.folded ≡ p.book.folded) (room : p.book.room ≤ b.room)
-    (tree : Keeps s (replay h)) (walks : AreWalks (scene (terrain s) (spots_in p.calls) (walker_of s.nodes)))
+    (tree : Keeps s (replay h)) (walks : AreWalks (walkers_at (terrain s) (spots_in p.calls) (walker_of s.nodes)))
     (copied : Copied (record { store = s; book = b; sessions = p.sessions; calls = p.calls; drawn = p.drawn; joins = p.joins })) where
   pub calls_stay : Sound (record { store = s; book = b; sessions = p.sessions; calls = p.calls; drawn = p.drawn; joins = p.joins }) h
   calls_stay = let is = sound.history in let l = sound.ledger in record {
     history = record {
       legal = is.legal;
       records = records ∙ is.records ∙ ap (λ (k : Option ℕ). kept_of k h) (sym keep);
-      folded = folded ∙ is.folded ∙ ap (λ (k : Option ℕ). count_by is_deed (gone_of k h)) (sym keep);
+      folded = folded ∙ is.folded ∙ ap (λ (k : Option ℕ). count_by is_call (gone_of k h)) (sym keep);
       tree = tree;
       counted = is.counted;
       undecided = is.undecided;
@@ -131,21 +131,21 @@ pub looked_sound : (p : PartsView) (h : List Record) → Sound p h → (s : Stor
     → Sound (record { store = s; book = p.book; sessions = p.sessions; calls = p.calls; drawn = p.drawn; joins = p.joins }) h
 looked_sound p h sound s most looked ground =
     calls_stay p h sound s p.book refl refl refl (omega arith) (keeps_counted p.store s (replay h) most looked sound.history.tree)
-    (subst (λ (ns : List (Option Node)). AreWalks (scene (terrain s) (spots_in p.calls) (walker_of ns))) (sym (looked_nodes p.store s most looked))
+    (subst (λ (ns : List (Option Node)). AreWalks (walkers_at (terrain s) (spots_in p.calls) (walker_of ns))) (sym (looked_nodes p.store s most looked))
     (walks_on (terrain p.store) (terrain s) (spots_in p.calls) (walker_of p.store.nodes) (leads_same p.store s ground) sound.coupled.walks))
     (let files = files_looked p.store s most looked in
     copied_on p (record { store = s; book = p.book; sessions = p.sessions; calls = p.calls; drawn = p.drawn; joins = p.joins }) sound.copied (λ m. refl) (λ m c node left at is. at) files.0 files.1)
 
 -- ---- a call that comes to another stage
-module _ (p : PartsView) (h : List Record) (sound : Sound p h) (c : Call) (at : call_at p.calls c.number ≡ Some c) (undecided : reply_of c ≡ None) (s : StoreState) (after : Stage) where
+module _ (p : PartsView) (h : List Record) (sound : Sound p h) (c : Call) (at : call_at p.calls c.number ≡ Some c) (undecided : waiting_reply c ≡ None) (s : StoreState) (after : Stage) where
   abbrev q : PartsView
   q = record { store = s; book = p.book; sessions = p.sessions; calls = staged p.calls c.number after; drawn = p.drawn; joins = p.joins }
 
   staged_updates : Updates p.calls (staged p.calls c.number after) c.number (Some c) (Some (at_stage after c))
   staged_updates = updates_staged p.calls c.number c after at
 
-  reply_same : reply_of (at_stage after c) ≡ reply_of c
-  unfolding reply_of
+  reply_same : waiting_reply (at_stage after c) ≡ waiting_reply c
+  unfolding waiting_reply
   reply_same = refl
 
   pub spots_other : (m : ℕ) → c.number ≢ m → spots_in (staged p.calls c.number after) m ≡ spots_in p.calls m
@@ -160,7 +160,7 @@ module _ (p : PartsView) (h : List Record) (sound : Sound p h) (c : Call) (at : 
   now_is : (m : ℕ) (d : Call) → m ≡ c.number → call_at (staged p.calls c.number after) m ≡ Some d → at_stage after c ≡ d
   now_is m d e is = some_eq (at_stage after c) d (sym staged_updates.now_is ∙ ap (call_at (staged p.calls c.number after)) (sym e) ∙ is)
 
-  pub come_sound : Keeps s (replay h) → AreWalks (scene (terrain s) (spots_in (staged p.calls c.number after)) (walker_of s.nodes)) → IsPosition (route_of c.request) after → SameFiles p.store s → ((id : ℕ) → writer_of s.nodes id ≡ writer_of p.store.nodes id)
+  pub come_sound : Keeps s (replay h) → AreWalks (walkers_at (terrain s) (spots_in (staged p.calls c.number after)) (walker_of s.nodes)) → IsPosition (route_of c.request) after → SameFiles p.store s → ((id : ℕ) → writer_of_file s.nodes id ≡ writer_of_file p.store.nodes id)
       → Sound (record { store = s; book = p.book; sessions = p.sessions; calls = staged p.calls c.number after; drawn = p.drawn; joins = p.joins }) h
   come_sound keeps walks position files writers =
       let call = sound.ledger.calls c.number c at in
@@ -173,7 +173,7 @@ module _ (p : PartsView) (h : List Record) (sound : Sound p h) (c : Call) (at : 
           | inr ne ↦ sound.coupled.positions m d (sym (staged_updates.rest m ne) ∙ is) none
         ];
         waiting = λ m d g is some. elim (same_or_not m c.number) [
-          | inl e ↦ absurd (none_some g (sym undecided ∙ sym reply_same ∙ ap reply_of (now_is m d e is) ∙ some))
+          | inl e ↦ absurd (none_some g (sym undecided ∙ sym reply_same ∙ ap waiting_reply (now_is m d e is) ∙ some))
           | inr ne ↦ sound.coupled.waiting m d g (sym (staged_updates.rest m ne) ∙ is) some
         ];
       })
@@ -189,12 +189,12 @@ entered_keeps (stage.At walked node) s t k = keeps_looked s t k
 entered_keeps (stage.Ends common from to) s t k = keeps_looked s t k
 entered_keeps (stage.Copies node left) s t k = keeps_looked s t k
 
-module _ (p : PartsView) (h : List Record) (sound : Sound p h) (c : Call) (at : call_at p.calls c.number ≡ Some c) (undecided : reply_of c ≡ None) where
-  files : (s : StoreState) (after : Stage) → Moves p.store s (walker c.number (route_of c.request) c.stage) after → SameFiles p.store s
+module _ (p : PartsView) (h : List Record) (sound : Sound p h) (c : Call) (at : call_at p.calls c.number ≡ Some c) (undecided : waiting_reply c ≡ None) where
+  files : (s : StoreState) (after : Stage) → AdvancesTo p.store s (walker c.number (route_of c.request) c.stage) after → SameFiles p.store s
   files s after moves = subst (SameFiles p.store) (sym moves.state) (files_moved c.number c.stage after moves.spot.node p.store)
 
   -- a step
-  pub moved_sound : (s : StoreState) (after : Stage) → Moves p.store s (walker c.number (route_of c.request) c.stage) after
+  pub moved_sound : (s : StoreState) (after : Stage) → AdvancesTo p.store s (walker c.number (route_of c.request) c.stage) after
       → Sound (record { store = s; book = p.book; sessions = p.sessions; calls = staged p.calls c.number after; drawn = p.drawn; joins = p.joins }) h
   moved_sound s after moves =
       come_sound p h sound c at undecided s after
@@ -220,12 +220,12 @@ module _ (p : PartsView) (h : List Record) (sound : Sound p h) (c : Call) (at : 
 
   -- who waits, waits for a spot that another call holds, the one that its next names lead to; or for
   -- a file that another call copies into
-  pub blocked_wants : (new : StoreState) (holder : ℕ) → (waits : Waits p.store new (walker c.number (route_of c.request) c.stage) holder)
-      → ((spot : Spot) × LooksAt (route_of c.request) c.stage spot.path × (walk (entry_of p.store.nodes) p.store.root spot.path ≡ Some spot.node)
+  pub blocked_wants : (new : StoreState) (holder : ℕ) → (waits : WaitsFor p.store new (walker c.number (route_of c.request) c.stage) holder)
+      → ((spot : Spot) × LooksUp (route_of c.request) c.stage spot.path × (walk (child_of p.store.nodes) p.store.root spot.path ≡ Some spot.node)
       × (holder_of p.store.nodes spot.node ≡ Some holder) × Holds (spots_in p.calls holder) spot)
       ⊎ ((d : Call) × (left : ℕ) × (call_at p.calls holder ≡ Some d) × (d.stage ≡ stage.Copies waits.node left))
   blocked_wants new holder waits =
-      elim (is_directory_at p.store.nodes waits.node) as (λ b. is_directory_at p.store.nodes waits.node ≡ b → ((spot : Spot) × LooksAt (route_of c.request) c.stage spot.path × (walk (entry_of p.store.nodes) p.store.root spot.path ≡ Some spot.node)
+      elim (is_directory_at p.store.nodes waits.node) as (λ b. is_directory_at p.store.nodes waits.node ≡ b → ((spot : Spot) × LooksUp (route_of c.request) c.stage spot.path × (walk (child_of p.store.nodes) p.store.root spot.path ≡ Some spot.node)
       × (holder_of p.store.nodes spot.node ≡ Some holder) × Holds (spots_in p.calls holder) spot)
       ⊎ ((d : Call) × (left : ℕ) × (call_at p.calls holder ≡ Some d) × (d.stage ≡ stage.Copies waits.node left))) [
         | true ↦ λ e.
@@ -235,7 +235,7 @@ module _ (p : PartsView) (h : List Record) (sound : Sound p h) (c : Call) (at : 
             (ap (is_directory_at p.store.nodes) (sym w.node) ∙ leads.directory) in
             inl (
               w.spot,
-              subst (λ (x : Path). LooksAt (route_of c.request) c.stage x) same waits.looks,
+              subst (λ (x : Path). LooksUp (route_of c.request) c.stage x) same waits.looks,
               leads.names,
               (walker_holds p.store.nodes w.spot.node holder (sound.coupled.walks.held holder w.spot w.holds)).1,
               w.holds,
@@ -244,7 +244,7 @@ module _ (p : PartsView) (h : List Record) (sound : Sound p h) (c : Call) (at : 
       ] refl
 
 -- ---- a reply that waited is fetched
-module _ (p q : PartsView) (h : List Record) (sound : Sound p h) (c : Call) (at : call_at p.calls c.number ≡ Some c) (given : Reply) (decided : reply_of c ≡ Some given) (fresh : c.stage ≡ stage.Fresh) (fetched : FetchState p q c.session c.number) where
+module _ (p q : PartsView) (h : List Record) (sound : Sound p h) (c : Call) (at : call_at p.calls c.number ≡ Some c) (given : Reply) (decided : waiting_reply c ≡ Some given) (fresh : c.stage ≡ stage.Fresh) (fetched : FetchState p q c.session c.number) where
   busy : session_at p.sessions c.session ≡ Some (Some c.number)
   busy = (sound.ledger.calls c.number c at).session
 
@@ -273,8 +273,8 @@ module _ (p q : PartsView) (h : List Record) (sound : Sound p h) (c : Call) (at 
       (Fetch given decided) Goes (subst (λ (s : StoreState). Keeps s (replay h)) (sym fetched.store) sound.history.tree) fetched.book fetched.drawn fetched.joins
       (record {
         walks =
-            subst (λ (s : StoreState). AreWalks (scene (terrain s) (spots_in q.calls) (walker_of s.nodes))) (sym fetched.store)
-            (subst (λ (f : ℕ → List Spot). AreWalks (scene (terrain p.store) f (walker_of p.store.nodes))) (λ i m. sym (spots_same m) i) sound.coupled.walks);
+            subst (λ (s : StoreState). AreWalks (walkers_at (terrain s) (spots_in q.calls) (walker_of s.nodes))) (sym fetched.store)
+            (subst (λ (f : ℕ → List Spot). AreWalks (walkers_at (terrain p.store) f (walker_of p.store.nodes))) (λ i m. sym (spots_same m) i) sound.coupled.walks);
         positions = λ m d is. sound.coupled.positions m d (still m d is);
         waiting = λ m d g is some. sound.coupled.waiting m d g (still m d is) some;
       })

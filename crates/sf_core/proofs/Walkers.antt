@@ -8,7 +8,7 @@ use Rattle.sf_call.specs.declared.call.Stage.{Stage}
 use Rattle.sf_call.specs.declared.call.Stage.TheVariants as stage
 use Rattle.sf_walk.specs.Routes.{Route, spots_of}
 use Rattle.sf_core.specs.Progress.{IsCopying}
-use Rattle.sf_core.specs.Sound.{walker_of, IsResting}
+use Rattle.sf_core.specs.Sound.{walker_of, IsAtRest}
 
 pub if_none : (b : Bool) (o : Option ℕ) → o ≡ None → (if b then o else None) ≡ None
 if_none true o e = e
@@ -46,6 +46,6 @@ copying_none r (stage.At walked node) copying = absurd copying
 copying_none r (stage.Ends common from to) copying = absurd copying
 copying_none r (stage.Copies node left) copying = refl
 
-pub rests_none : (r : Route) (g : Stage) → IsResting g → spots_of r g ≡ []
+pub rests_none : (r : Route) (g : Stage) → IsAtRest g → spots_of r g ≡ []
 rests_none r g (inl fresh) = ap (spots_of r) fresh
 rests_none r g (inr copying) = copying_none r g copying

@@ -4,7 +4,7 @@ use Rattle.std.proofs.Common.{sym, ap, subst, ◌∙◌, arith}
 use Rattle.std.specs.Ordering.{nat_cmp}
 use Rattle.std.specs.BTreeMap.{is_at}
 use Rattle.sf_reply.specs.declared.reply.Reply.{Reply}
-use Rattle.sf_call.specs.Answers.{Answered as Answer}
+use Rattle.sf_call.specs.Answers.{AnswerView as Answer}
 use Rattle.sf_call.specs.Histories.{replay, IsGiven}
 use Rattle.sf_call.proofs.Laws.{given_before}
 use Rattle.sf_call.specs.declared.call.Call.{Call}
@@ -17,23 +17,23 @@ use Rattle.sf_walk.specs.Files.{IsFileFree, IsSettled}
 use Rattle.sf_walk.specs.declared.walking.Walk.TheVariants as walked
 use Rattle.sf_core.specs.declared.step.Step.{Step}
 use Rattle.sf_core.specs.declared.step.Step.TheVariants as step
-use Rattle.sf_core.specs.declared.parts.Outcome.{Outcome}
-use Rattle.sf_core.specs.declared.parts.Outcome.TheVariants as outcome
+use Rattle.sf_core.specs.declared.parts.WalkOutcome.{WalkOutcome}
+use Rattle.sf_core.specs.declared.parts.WalkOutcome.TheVariants as outcome
 use Rattle.sf_core.specs.Lanes.{LaneView, at_rest}
 use Rattle.sf_core.specs.Cores.{CoreView, call_at}
-use Rattle.sf_core.specs.Progress.{reply_of, undecided_in}
-use Rattle.sf_core.specs.Events.{Moves, Walks, came}
-use Rattle.sf_core.specs.Parts.{PartsView, seen}
+use Rattle.sf_core.specs.Progress.{waiting_reply, undecided_in}
+use Rattle.sf_core.specs.Events.{TakesMoves, Walks, came}
+use Rattle.sf_core.specs.Parts.{PartsView, core_of}
 use Rattle.sf_core.specs.Sound.{Sound, IsCore}
-use Rattle.sf_core.specs.Stepping.{is_move, Walked, Stepped, Moved, WalkState, ending, FetchState, Overtakes, FinishState}
+use Rattle.sf_core.specs.Stepping.{is_move, Walked, CallStep, Moved, WalkState, ending, FetchState, Overtakes, FinishState}
 use Rattle.sf_core.proofs.Maps.{some_eq, reply_is, passing_removed, one_if}
 use Rattle.sf_core.proofs.Histories.{is_undecided}
 use Rattle.sf_core.proofs.Updates.{updates_staged}
 use Rattle.sf_core.proofs.Turns.{IsStep, IsTurn, core_after, places_after, steps_on, turn_of, foreign_step, fetched_step, moved_step, blocked_step, file_blocked_step}
 use Rattle.sf_core.proofs.FreeFiles.{root_kept, file_free_moved}
-use Rattle.sf_core.proofs.Preparing.{Prepared}
+use Rattle.sf_core.proofs.BeforeDeciding.{Prepared}
 use Rattle.sf_core.specs.Writing.{CopiesOne}
-use Rattle.sf_core.proofs.Making.{ready_sound, made, decided_step, decided_given}
+use Rattle.sf_core.proofs.Deciding.{ready_sound, made, decided_step, decided_given}
 
 -- the root is a directory
 pub rooted : (p : PartsView) → IsCore p → is_directory_at p.store.nodes p.store.root ≡ true
@@ -44,16 +44,16 @@ unfolding Moved
 none_moved p session n = refl
 
 module _ (lane : LaneView) (n : ℕ) (call : lane.call ≡ Some n) where
-  moved_by : (p q : PartsView) (after : Stage) → Stepped p lane.session n (outcome.Walked (walked.Moved after)) q → IsStep p lane step.Moved q lane × (q.drawn ≡ p.drawn)
+  moved_by : (p q : PartsView) (after : Stage) → CallStep p lane.session n (outcome.Walked (walked.Moved after)) q → IsStep p lane step.Moved q lane × (q.drawn ≡ p.drawn)
   moved_by p q after it =
       let c = it.comes in
       let t = turn_of p it.core lane n c.0 c.1 c.2 call it.fits in
       (moved_step p lane c.0 t.0 (reply_is c.0 ∙ c.3) q after (subst (λ k. Walked p q c.0 k (walked.Moved after)) (sym t.1) c.5), c.5.drawn)
 
-  moves_by : (k : ℕ) (p q : PartsView) → Moved k p lane.session n q → Moves k (seen p) lane (seen q)
-  unfolding Moved Moves
-  moves_by zero p q same = ap seen same
-  moves_by (suc k) p q it = (seen it.0, moves_by k p it.0 it.1, steps_on it.0 q lane lane step.Moved it.2.1.core (moved_by it.0 q it.2.0 it.2.1).0)
+  moves_by : (k : ℕ) (p q : PartsView) → Moved k p lane.session n q → TakesMoves k (core_of p) lane (core_of q)
+  unfolding Moved TakesMoves
+  moves_by zero p q same = ap core_of same
+  moves_by (suc k) p q it = (core_of it.0, moves_by k p it.0 it.1, steps_on it.0 q lane lane step.Moved it.2.1.core (moved_by it.0 q it.2.0 it.2.1).0)
 
   -- no more calls are undecided
   places_by : (k : ℕ) (p q : PartsView) (places : ℕ) → Moved k p lane.session n q → undecided_in p.calls ≤ places → undecided_in q.calls ≤ places
@@ -64,7 +64,7 @@ module _ (lane : LaneView) (n : ℕ) (call : lane.call ≡ Some n) where
       places_after it.0 q _ it.2.1.core one.0 one.1 places (places_by k p it.0 places it.1 fit)
 
   -- after a step that moved the call
-  pub moved_core : (p q : PartsView) (r : Outcome) → Stepped p lane.session n r q → is_move r ≡ true → IsCore q
+  pub moved_core : (p q : PartsView) (r : WalkOutcome) → CallStep p lane.session n r q → is_move r ≡ true → IsCore q
   moved_core p q (outcome.Walked (walked.Moved after)) it is = core_after p q _ it.core (moved_by p q after it).0
   moved_core p q (outcome.Walked (walked.Blocked holder)) it is = absurd cc
   moved_core p q (outcome.Walked (walked.Ready ways)) it is = absurd cc
@@ -74,7 +74,7 @@ module _ (lane : LaneView) (n : ℕ) (call : lane.call ≡ Some n) where
   moved_core p q outcome.Writes it is = absurd cc
   moved_core p q (outcome.FileHeld holder) it is = absurd cc
 
-  pub moved_more : (k : ℕ) (o p q : PartsView) (r : Outcome) → Moved k o lane.session n p → Stepped p lane.session n r q → is_move r ≡ true → Moved (suc k) o lane.session n q
+  pub moved_more : (k : ℕ) (o p q : PartsView) (r : WalkOutcome) → Moved k o lane.session n p → CallStep p lane.session n r q → is_move r ≡ true → Moved (suc k) o lane.session n q
   unfolding Moved
   moved_more k o p q (outcome.Walked (walked.Moved after)) moved it is = (p, moved, (after, it))
   moved_more k o p q (outcome.Walked (walked.Blocked holder)) moved it is = absurd cc
@@ -86,7 +86,7 @@ module _ (lane : LaneView) (n : ℕ) (call : lane.call ≡ Some n) where
   moved_more k o p q (outcome.FileHeld holder) moved it is = absurd cc
 
   -- and no other call holds a file that it uses by a handle: it uses none
-  pub moved_free : (p q : PartsView) (r : Outcome) → Stepped p lane.session n r q → is_move r ≡ true → (d : Call) → call_at q.calls n ≡ Some d → IsFileFree q.store d
+  pub moved_free : (p q : PartsView) (r : WalkOutcome) → CallStep p lane.session n r q → is_move r ≡ true → (d : Call) → call_at q.calls n ≡ Some d → IsFileFree q.store d
   moved_free p q (outcome.Walked (walked.Moved after)) it is d at =
       let x = it.comes.0 in
       let w = it.comes.5 in
@@ -101,20 +101,20 @@ module _ (lane : LaneView) (n : ℕ) (call : lane.call ≡ Some n) where
   moved_free p q (outcome.FileHeld holder) it is d at = absurd cc
 
   -- ---- a whole walk, of so many steps at most
-  module _ (p : PartsView) (most places : ℕ) (fit : undecided_in p.calls ≤ places) (v : CoreView) (ev : seen p ≡ v) (l : LaneView) (el : lane ≡ l) where
+  module _ (p : PartsView) (most places : ℕ) (fit : undecided_in p.calls ≤ places) (v : CoreView) (ev : core_of p ≡ v) (l : LaneView) (el : lane ≡ l) where
     -- what it leaves
     abbrev pub Ends : PartsView → Step → LaneView → Type 0
-    Ends q s lane' = IsCore q × (undecided_in q.calls ≤ places) × Walks v l most (came s (seen q) lane')
+    Ends q s lane' = IsCore q × (undecided_in q.calls ≤ places) × Walks v l most (came s (core_of q) lane')
 
     -- after steps that moved, one more
-    pub ended_by : (k : ℕ) (mid r : PartsView) (s : Step) (lane' : LaneView) → k < most → Moves k (seen p) lane (seen mid) → IsCore mid → undecided_in mid.calls ≤ places → IsStep mid lane s r lane' → r.drawn ≡ mid.drawn → (s ≡ step.Moved → k + 1 ≡ most)
+    pub ended_by : (k : ℕ) (mid r : PartsView) (s : Step) (lane' : LaneView) → k < most → TakesMoves k (core_of p) lane (core_of mid) → IsCore mid → undecided_in mid.calls ≤ places → IsStep mid lane s r lane' → r.drawn ≡ mid.drawn → (s ≡ step.Moved → k + 1 ≡ most)
         → Ends r s lane'
     ended_by k mid r s lane' few moved core fits last drawn full = (
       core_after mid r _ core last,
       places_after mid r _ core last drawn places fits,
-      subst (λ (x : CoreView). Walks x l most (came s (seen r) lane')) ev (subst (λ (x : LaneView). Walks (seen p) x most (came s (seen r) lane')) el (record {
+      subst (λ (x : CoreView). Walks x l most (came s (core_of r) lane')) ev (subst (λ (x : LaneView). Walks (core_of p) x most (came s (core_of r) lane')) el (record {
         moves = k;
-        mid = seen mid;
+        mid = core_of mid;
         few = few;
         moved = moved;
         last = steps_on mid r lane lane' s core last;
@@ -122,7 +122,7 @@ module _ (lane : LaneView) (n : ℕ) (call : lane.call ≡ Some n) where
       })),
     )
 
-    ended : (o : Outcome) (q : PartsView) (w : WalkState p lane.session n most (ending o q)) (s : Step) (r : PartsView) (lane' : LaneView) → IsStep w.mid lane s r lane' → r.drawn ≡ w.mid.drawn → (s ≡ step.Moved → w.moves + 1 ≡ most) → Ends r s lane'
+    ended : (o : WalkOutcome) (q : PartsView) (w : WalkState p lane.session n most (ending o q)) (s : Step) (r : PartsView) (lane' : LaneView) → IsStep w.mid lane s r lane' → r.drawn ≡ w.mid.drawn → (s ≡ step.Moved → w.moves + 1 ≡ most) → Ends r s lane'
     ended o q w s r lane' last drawn full =
         ended_by w.moves w.mid r s lane' w.few (moves_by w.moves p w.mid w.moved) w.last.core (places_by w.moves p w.mid places w.moved fit) last drawn full
 
@@ -157,7 +157,7 @@ module _ (lane : LaneView) (n : ℕ) (call : lane.call ≡ Some n) where
       there : IsTurn w.mid lane w.last.comes.1 × (w.last.comes.1.number ≡ n)
       there = let x = w.last.comes in turn_of w.mid w.last.core lane n x.1 x.2 x.3 call w.last.fits
 
-      decided : reply_of w.last.comes.1 ≡ Some given
+      decided : waiting_reply w.last.comes.1 ≡ Some given
       decided =
           let x = w.last.comes in
           reply_is x.1 ∙ sym (waits ∙ ap (option_and_then (λ (d : Call). d.reply)) (ap (λ (y : PartsView). call_at y.calls n) x.0 ∙ x.2))
@@ -185,7 +185,7 @@ module _ (lane : LaneView) (n : ℕ) (call : lane.call ≡ Some n) where
       pub its_turn : IsTurn w.mid lane w.last.comes.0 × (w.last.comes.0.number ≡ n)
       its_turn = let x = w.last.comes in turn_of w.mid w.last.core lane n x.0 x.1 x.2 call w.last.fits
 
-      pub undecided : reply_of w.last.comes.0 ≡ None
+      pub undecided : waiting_reply w.last.comes.0 ≡ None
       undecided = let x = w.last.comes in reply_is x.0 ∙ x.3
 
       pub walk : Walked w.mid q w.last.comes.0 w.last.comes.0.number (walked.Ready ways)

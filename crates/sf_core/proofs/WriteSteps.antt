@@ -15,8 +15,8 @@ use Rattle.sf_call.specs.Calls.{answer_to}
 use Rattle.sf_call.specs.Histories.{after, replay, IsNewNumber}
 use Rattle.sf_call.specs.Unanswered.{at_stage, staged, answered, with_reply}
 use Rattle.sf_inode.specs.declared.node.Node.{Node}
-use Rattle.sf_inode.specs.Nodes.{left_in, with_content, with_left, with_holder}
-use Rattle.sf_inode.specs.Stores.{StoreState, node_in, handle_at, is_file_at, left_at, left_set, edited}
+use Rattle.sf_inode.specs.Nodes.{blocks_left_in, with_content, with_left, with_holder}
+use Rattle.sf_inode.specs.Stores.{StoreState, node_in, open_handle_at, is_file_at, blocks_left_at, left_set, edited}
 use Rattle.sf_keeps.specs.Keeps.{view_of, Keeps}
 use Rattle.sf_call.proofs.Laws.{after_told, replay-push}
 use Rattle.sf_keeps.proofs.Laws.{shows_one, keeps_held, keeps_left, edited_apart, edited_itself}
@@ -25,13 +25,13 @@ use Rattle.sf_copying.specs.Copies.{copying}
 use Rattle.sf_copying.proofs.Laws.{starts_keeps}
 use Rattle.sf_walk.specs.declared.files.Copying.{Copying as Into}
 use Rattle.sf_walk.specs.declared.finding.Located.TheVariants.{NoWay}
-use Rattle.sf_walk.specs.Files.{Starts, IsWrite, IsSettled, file_handle}
+use Rattle.sf_walk.specs.Files.{StartsWriting, IsWriteRequest, IsSettled, file_handle}
 use Rattle.sf_walk.specs.Served.{IsCarriedOut, NodesStay}
 use Rattle.sf_walk.proofs.Laws.{IsSameGround, same_trans, same_held, holder_here}
 use Rattle.sf_core.specs.Cores.{call_at}
-use Rattle.sf_core.specs.Progress.{reply_of, did}
+use Rattle.sf_core.specs.Progress.{waiting_reply, did}
 use Rattle.sf_core.specs.Parts.{PartsView}
-use Rattle.sf_core.specs.Sound.{writer_of, copying_scene, IsWriting, IsCallOf, Sound}
+use Rattle.sf_core.specs.Sound.{writer_of_file, copying_scene, IsWriting, IsCallOf, Sound}
 use Rattle.sf_core.specs.Stepping.{HelpState, freed}
 use Rattle.sf_core.specs.Writing.{WriteState}
 use Rattle.sf_core.proofs.Maps.{some_eq, reply_is}
@@ -46,8 +46,8 @@ use Rattle.sf_core.proofs.BlockSteps.{ground_left, file_left, rest_sound, change
 same_sym : (s t : StoreState) → IsSameGround s t → IsSameGround t s
 same_sym s t g = record { step = λ x n. sym (g.step x n); root = sym g.root; directory = λ x. sym (g.directory x) }
 
-module _ (p q : PartsView) (h : List Record) (sound : Sound p h) (c : Call) (at : call_at p.calls c.number ≡ Some c) (undecided : reply_of c ≡ None) (fresh : c.stage ≡ stage.Fresh)
-    (write : IsWrite c.request) (settled : IsSettled p.store c.session c.request NoWay) (given : Reply) (into : Into) (w : WriteState p q c c.number given into) where
+module _ (p q : PartsView) (h : List Record) (sound : Sound p h) (c : Call) (at : call_at p.calls c.number ≡ Some c) (undecided : waiting_reply c ≡ None) (fresh : c.stage ≡ stage.Fresh)
+    (write : IsWriteRequest c.request) (settled : IsSettled p.store c.session c.request NoWay) (given : Reply) (into : Into) (w : WriteState p q c c.number given into) where
   -- ---- the request, and the file that its handle opens
   pub is : (number : ℕ) × (offset : ℕ) × (bytes : List ℕ) × (c.request ≡ request.Write number offset bytes)
   is = is_a_write c.request write
@@ -58,16 +58,16 @@ module _ (p q : PartsView) (h : List Record) (sound : Sound p h) (c : Call) (at 
   abbrev file : ℕ
   file = w.copied.handle.node
 
-  opens : handle_at w.mid c.session is.0 ≡ Some w.copied.handle
-  opens = ap (handle_at w.mid c.session) (sym number_is) ∙ w.copied.opens
+  opens : open_handle_at w.mid c.session is.0 ≡ Some w.copied.handle
+  opens = ap (open_handle_at w.mid c.session) (sym number_is) ∙ w.copied.opens
 
-  pub opens_was : handle_at p.store c.session is.0 ≡ Some w.copied.handle
+  pub opens_was : open_handle_at p.store c.session is.0 ≡ Some w.copied.handle
   opens_was = sym (opens_same p.store w.mid c.session is.0 w.begins.sessions) ∙ opens
 
-  pub starts : Starts p.store w.mid w.copied.handle is.1 is.2
+  pub starts : StartsWriting p.store w.mid w.copied.handle is.1 is.2
   starts = w.begins.starts is.0 is.1 is.2 w.copied.handle is.3 opens_was
 
-  left_was : left_at p.store.nodes w.copied.handle.node ≡ 0
+  left_was : blocks_left_at p.store.nodes w.copied.handle.node ≡ 0
   left_was = settled.by_handle is.0 w.copied.handle (ap file_handle is.3) opens_was
 
   file_mid : is_file_at w.mid.nodes w.copied.handle.node ≡ true
@@ -83,7 +83,7 @@ module _ (p q : PartsView) (h : List Record) (sound : Sound p h) (c : Call) (at 
   pub carried : IsCarriedOut w.mid (replay h) (answer_to (replay h) c.session c.number c.moment c.request) given
   carried = elim (w.begins.served (replay h) sound.history.tree) [
     | inl e ↦
-        let same = ap (λ (o : Option Node). option_map_or (λ (x : Node). left_in x.content) o 0) (e.alike.nodes w.copied.handle.node) in
+        let same = ap (λ (o : Option Node). option_map_or (λ (x : Node). blocks_left_in x.content) o 0) (e.alike.nodes w.copied.handle.node) in
         let left = w.copied.left in
         let some = w.copied.some in
         absurd (omega (arith, same, left, some, left_was))
@@ -94,7 +94,7 @@ module _ (p q : PartsView) (h : List Record) (sound : Sound p h) (c : Call) (at 
   abbrev whole : StoreState
   whole = left_set w.mid w.copied.handle.node 0
 
-  whole_starts : Starts p.store (left_set w.mid w.copied.handle.node 0) w.copied.handle is.1 is.2
+  whole_starts : StartsWriting p.store (left_set w.mid w.copied.handle.node 0) w.copied.handle is.1 is.2
   whole_starts = record {
     others = λ i ne. edited_apart (with_content (with_left 0)) w.mid w.copied.handle.node i ne ∙ starts.others i ne;
     holder = left_holders 0 w.mid w.copied.handle.node w.copied.handle.node ∙ starts.holder;
@@ -147,7 +147,7 @@ module _ (p q : PartsView) (h : List Record) (sound : Sound p h) (c : Call) (at 
   at_d : call_at decided.calls c.number ≡ Some (with_reply given c)
   at_d = (updates_answered p.calls c.number c given at).now_is
 
-  reply_d : reply_of (with_reply given c) ≡ Some given
+  reply_d : waiting_reply (with_reply given c) ≡ Some given
   reply_d = reply_is (with_reply given c)
 
   abbrev held : StoreState
@@ -162,8 +162,8 @@ module _ (p q : PartsView) (h : List Record) (sound : Sound p h) (c : Call) (at 
   file_held : is_file_at (edited (with_holder (Some c.number)) w.mid w.copied.handle.node).nodes w.copied.handle.node ≡ true
   file_held = (files_held (Some c.number) w.mid w.copied.handle.node).file w.copied.handle.node ∙ file_mid
 
-  free : writer_of (left_set w.mid w.copied.handle.node 0).nodes w.copied.handle.node ≡ None
-  free = elim (writer_of whole.nodes w.copied.handle.node) as (λ o. writer_of whole.nodes w.copied.handle.node ≡ o → o ≡ None) [
+  free : writer_of_file (left_set w.mid w.copied.handle.node 0).nodes w.copied.handle.node ≡ None
+  free = elim (writer_of_file whole.nodes w.copied.handle.node) as (λ o. writer_of_file whole.nodes w.copied.handle.node ≡ o → o ≡ None) [
     | None ↦ λ e. refl
     | Some m ↦ λ e.
         let f = file_writer whole decided.calls sound_decided.copied.copies w.copied.handle.node m e in

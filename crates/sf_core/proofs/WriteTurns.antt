@@ -24,40 +24,40 @@ use Rattle.sf_walk.specs.declared.finding.Ways.{Ways}
 use Rattle.sf_walk.specs.declared.finding.Located.TheVariants.{NoWay}
 use Rattle.sf_walk.specs.declared.files.Copying.{Copying}
 use Rattle.sf_walk.specs.declared.walking.Walk.TheVariants as walked
-use Rattle.sf_walk.specs.Files.{IsFileFree, IsSettled, IsWrite, start_by}
+use Rattle.sf_walk.specs.Files.{IsFileFree, IsSettled, IsWriteRequest, start_by}
 use Rattle.sf_walk.specs.Routes.{IsPosition, route_of}
 use Rattle.sf_walk.specs.Routes.Route.{NoPath}
 use Rattle.sf_core.specs.declared.step.Step.TheVariants as step
 use Rattle.sf_core.specs.Lanes.{LaneView}
 use Rattle.sf_core.specs.Cores.{call_at, session_at}
-use Rattle.sf_core.specs.Progress.{reply_of, left_of, left_at, did}
+use Rattle.sf_core.specs.Progress.{waiting_reply, left_of, steps_left_at, did}
 use Rattle.sf_core.specs.Sure.{AreSure}
-use Rattle.sf_core.specs.Events.{Writes}
-use Rattle.sf_core.specs.Parts.{PartsView, seen}
+use Rattle.sf_core.specs.Events.{StartsToWrite}
+use Rattle.sf_core.specs.Parts.{PartsView, core_of}
 use Rattle.sf_core.specs.Sound.{Sound}
 use Rattle.sf_core.specs.Stepping.{Walked}
-use Rattle.sf_core.specs.Writing.{HasBegun, WriteState}
+use Rattle.sf_core.specs.Writing.{HasBegunWrite, WriteState}
 use Rattle.sf_core.proofs.Maps.{some_eq, reply_is}
 use Rattle.sf_core.proofs.Updates.{Updates, updates_answered, updates_staged}
 use Rattle.sf_core.proofs.LookUps.{looks_between, looks_fit, looks_of_looked}
 use Rattle.sf_core.proofs.FreeFiles.{only_fresh}
-use Rattle.sf_core.proofs.Told.{slot_busy, slots_kept, own_call, left_is, left_copying}
+use Rattle.sf_core.proofs.LaneStates.{slot_busy, slots_kept, own_call, left_is, left_copying}
 use Rattle.sf_core.proofs.Turns.{IsStep, IsTurn, apart}
-use Rattle.sf_core.proofs.Making.{may_by, stands, ready_sound, ready_settled, at_q}
+use Rattle.sf_core.proofs.Deciding.{may_by, stands, ready_sound, ready_settled, at_q}
 use Rattle.sf_core.proofs.CopySteps.{is_a_write, write_is}
 use Rattle.sf_core.proofs.WriteSteps.{is, opens_was, starts, carried, written_sound}
 use Rattle.sf_core.proofs.BlockTurns.{OnTurn}
 use Rattle.sf_core.proofs.OneBlock.{start_told}
 
-pub write_route : (r : Request) → IsWrite r → route_of r ≡ NoPath
+pub write_route : (r : Request) → IsWriteRequest r → route_of r ≡ NoPath
 write_route r write = let w = is_a_write r write in ap route_of w.3
 
 -- a WRITE decides where it starts
-pub write_fresh : (c : Call) → IsWrite c.request → IsPosition (route_of c.request) c.stage → c.stage ≡ stage.Fresh
+pub write_fresh : (c : Call) → IsWriteRequest c.request → IsPosition (route_of c.request) c.stage → c.stage ≡ stage.Fresh
 write_fresh c write is = only_fresh (route_of c.request) c.stage (write_route c.request write) is
 
-module _ (p : PartsView) (lane : LaneView) (c : Call) (turn : IsTurn p lane c) (undecided : reply_of c ≡ None) (q : PartsView) (ways : Ways) (w : Walked p q c c.number (walked.Ready ways)) (free : IsFileFree p.store c)
-    (write : IsWrite c.request) (r : PartsView) (begun : HasBegun q r c c.number) where
+module _ (p : PartsView) (lane : LaneView) (c : Call) (turn : IsTurn p lane c) (undecided : waiting_reply c ≡ None) (q : PartsView) (ways : Ways) (w : Walked p q c c.number (walked.Ready ways)) (free : IsFileFree p.store c)
+    (write : IsWriteRequest c.request) (r : PartsView) (begun : HasBegunWrite q r c c.number) where
   abbrev given : Reply
   given = begun.0
 
@@ -112,7 +112,7 @@ module _ (p : PartsView) (lane : LaneView) (c : Call) (turn : IsTurn p lane c) (
 
     few : begun.1.left < left_of c
     few =
-        let a = left_is c undecided ∙ ap (left_at c.request) fresh ∙ ap (λ (y : Request). left_at y stage.Fresh) request_is.3 in
+        let a = left_is c undecided ∙ ap (steps_left_at c.request) fresh ∙ ap (λ (y : Request). steps_left_at y stage.Fresh) request_is.3 in
         let b = left_store in
         let e = blocks_few (start_by q.store handle request_is.1) request_is.2 in
         omega (arith, a, b, e)
@@ -129,12 +129,12 @@ module _ (p : PartsView) (lane : LaneView) (c : Call) (turn : IsTurn p lane c) (
     unfolding AreSure
     sure = (λ plain is_none. never_wants (replay h) c.session c.number c.moment c.request (sym (carried q r h ready c at undecided fresh write settled begun.0 begun.1 begun.2).told ∙ is_none), tt)
 
-    told : Writes (record { core = seen p; history = h; lane = lane }) (record { core = seen r; added = did c begun.0 ∷ []; lane = lane }) c d begun.0
+    told : StartsToWrite (record { core = core_of p; history = h; lane = lane }) (record { core = core_of r; added = did c begun.0 ∷ []; lane = lane }) c d begun.0
     told =
         let looks = looks_between p.store q.store 2 turn.fits (looks_of_looked p.store q.store 2 w.advances.looked) in
         let same_looks = ap (λ (s : StoreState). s.look_ups) begun.2.store in
         let begins = begun.2.begins.look_ups in
-        let has : reply_of d ≡ Some begun.0 = reply_is d in
+        let has : waiting_reply d ≡ Some begun.0 = reply_is d in
         let left = left_copying d begun.0 begun.1.node begun.1.left has refl in
         let busy : session_at p.sessions lane.session ≡ Some (Some c.number) = ap (session_at p.sessions) (sym turn.session) ∙ (sound.ledger.calls c.number c turn.at).session in
         let ss : (s : ℕ) → session_at r.sessions s ≡ session_at p.sessions s = λ s. ap (λ x. session_at x s) (begun.2.sessions ∙ w.sessions) in
@@ -155,8 +155,8 @@ module _ (p : PartsView) (lane : LaneView) (c : Call) (turn : IsTurn p lane c) (
           some = let b = begun.2.copied.some in omega (arith, b, left);
           less = let b = few in omega (arith, b, left);
           slot = record {
-            own = slot_busy (seen r) lane.session c.number d (ss lane.session ∙ busy) last_updates.now_is;
-            others = slots_kept (seen p) (seen r) c.number lane.session (λ m ne. last_updates.rest m ne ∙ updates.rest m ne ∙ ap (λ cs. call_at cs m) w.calls) (λ s ne. ss s) (apart p lane c turn h sound);
+            own = slot_busy (core_of r) lane.session c.number d (ss lane.session ∙ busy) last_updates.now_is;
+            others = slots_kept (core_of p) (core_of r) c.number lane.session (λ m ne. last_updates.rest m ne ∙ updates.rest m ne ∙ ap (λ cs. call_at cs m) w.calls) (λ s ne. ss s) (apart p lane c turn h sound);
             joined = ap (λ (x : List (ℕ × Option ℕ)). length x) (begun.2.sessions ∙ w.sessions);
             drawn = begun.2.drawn ∙ w.drawn;
             joins = begun.2.joins ∙ w.joins;

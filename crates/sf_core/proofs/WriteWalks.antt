@@ -15,23 +15,23 @@ use Rattle.sf_copying.specs.Copies.{copying}
 use Rattle.sf_walk.specs.declared.finding.Ways.{Ways}
 use Rattle.sf_walk.specs.declared.walking.Walk.TheVariants as walked
 use Rattle.sf_walk.specs.declared.finding.Located.TheVariants as located
-use Rattle.sf_walk.specs.Routes.{Route, Stands, route_of}
+use Rattle.sf_walk.specs.Routes.{Route, HoldsWay, route_of}
 use Rattle.sf_walk.specs.Routes.Route.{NoPath}
-use Rattle.sf_walk.specs.Steps.{walker, Decides}
+use Rattle.sf_walk.specs.Steps.{walker, DecidesNow}
 use Rattle.sf_walk.specs.Ways.{along}
 use Rattle.sf_walk.proofs.Laws.{at_once}
-use Rattle.sf_walk.specs.Files.{IsWrite, file_handle}
+use Rattle.sf_walk.specs.Files.{IsWriteRequest, file_handle}
 use Rattle.sf_core.specs.declared.step.Step.{Step}
 use Rattle.sf_core.specs.declared.step.Step.TheVariants as step
-use Rattle.sf_core.specs.declared.parts.Outcome.TheVariants as outcome
+use Rattle.sf_core.specs.declared.parts.WalkOutcome.TheVariants as outcome
 use Rattle.sf_core.specs.Lanes.{LaneView, at_rest}
 use Rattle.sf_core.specs.Cores.{CoreView, call_at}
-use Rattle.sf_core.specs.Progress.{reply_of, is_write, copy_of, undecided_in, overtaken}
-use Rattle.sf_core.specs.Events.{StepsOn, Moves}
-use Rattle.sf_core.specs.Parts.{PartsView, seen}
+use Rattle.sf_core.specs.Progress.{waiting_reply, is_write, copy_of, undecided_in, overtaken}
+use Rattle.sf_core.specs.Events.{StepsOn, TakesMoves}
+use Rattle.sf_core.specs.Parts.{PartsView, core_of}
 use Rattle.sf_core.specs.Sound.{Sound}
 use Rattle.sf_core.specs.Stepping.{Moved, WalkState, ending, Walked, FinishState, Overtakes}
-use Rattle.sf_core.specs.Writing.{IsCopyingOn, CopiesBlock, CopiedOn, EndsCopying, HasBegun, IsReadyToWrite, WritesOn, Tells}
+use Rattle.sf_core.specs.Writing.{IsCopyingOn, CopiedBlock, CopiedOn, EndsCopying, HasBegunWrite, IsReadyToWrite, WritesOn, ReportsStep}
 use Rattle.sf_core.specs.Writing.WritesOn.{AtOnce, ToTheEnd, UpToThere}
 use Rattle.sf_core.proofs.Maps.{some_eq, none_some, reply_is}
 use Rattle.sf_core.proofs.Updates.{updates_staged}
@@ -42,13 +42,13 @@ use Rattle.sf_core.proofs.Finished.{not_copying}
 use Rattle.sf_core.proofs.Turns.{IsStep, IsTurn, steps_on, places_after}
 use Rattle.sf_core.proofs.BlockTurns.{OnTurn, block_step, block_drawn, last_step, last_drawn, last_given, blocks_moved, blocks_places}
 use Rattle.sf_core.proofs.WriteTurns.{write_fresh, write_route, written_step, written_drawn, written_turn}
-use Rattle.sf_core.proofs.Making.{ready_sound, ready_settled, stands}
+use Rattle.sf_core.proofs.Deciding.{ready_sound, ready_settled, stands}
 use Rattle.sf_core.specs.Writing.{CopiesOne}
 use Rattle.sf_core.proofs.Walks.{Ends, ended_by, its_turn, undecided, walk, made_room, decided_end, its_given}
 
 -- ---- words on steps
 -- the last block of several
-copied_last : (most : ℕ) (n : ℕ) (p q : PartsView) → 0 < most → CopiedOn most p n q → (k : ℕ) × (k + 1 ≡ most) × (mid : PartsView) × CopiedOn k p n mid × ((left : ℕ) × CopiesBlock mid q n (suc left))
+copied_last : (most : ℕ) (n : ℕ) (p q : PartsView) → 0 < most → CopiedOn most p n q → (k : ℕ) × (k + 1 ≡ most) × (mid : PartsView) × CopiedOn k p n mid × ((left : ℕ) × CopiedBlock mid q n (suc left))
 unfolding CopiedOn
 copied_last zero n p q some it = absurd (omega (arith, some))
 copied_last (suc k) n p q some it = (k, omega arith, it.0, it.1, it.2)
@@ -57,60 +57,60 @@ copied_nothing : (n : ℕ) (p q : PartsView) → CopiedOn zero p n q → q ≡ p
 unfolding CopiedOn
 copied_nothing n p q it = it
 
-after_first : (k : ℕ) (v x w : CoreView) (lane : LaneView) → StepsOn v lane step.Moved x lane → Moves k x lane w → Moves (suc k) v lane w
-unfolding Moves
+after_first : (k : ℕ) (v x w : CoreView) (lane : LaneView) → StepsOn v lane step.Moved x lane → TakesMoves k x lane w → TakesMoves (suc k) v lane w
+unfolding TakesMoves
 after_first zero v x w lane first it = (v, refl, subst (λ (y : CoreView). StepsOn v lane step.Moved y lane) (sym it) first)
 after_first (suc k) v x w lane first it = (it.0, after_first k v x it.0 lane first it.1, it.2)
 
-no_moves : (v : CoreView) (lane : LaneView) → Moves 0 v lane v
-unfolding Moves
+no_moves : (v : CoreView) (lane : LaneView) → TakesMoves 0 v lane v
+unfolding TakesMoves
 no_moves v lane = refl
 
 -- a call that moved is undecided, and no WRITE
-moved_last : (k : ℕ) (p q : PartsView) (session n : ℕ) → Moved (suc k) p session n q → (c : Call) → call_at q.calls n ≡ Some c → (reply_of c ≡ None) × (IsWrite c.request → ⊥)
+moved_last : (k : ℕ) (p q : PartsView) (session n : ℕ) → Moved (suc k) p session n q → (c : Call) → call_at q.calls n ≡ Some c → (waiting_reply c ≡ None) × (IsWriteRequest c.request → ⊥)
 unfolding Moved
 moved_last k p q session n it c at =
     let x = it.2.1.comes.0 in
     let w = it.2.1.comes.5 in
     let after = it.2.0 in
     let own : at_stage after x ≡ c = some_eq (at_stage after x) c (sym (ap (λ cs. call_at cs n) w.calls ∙ (updates_staged it.0.calls n x after it.2.1.comes.1).now_is) ∙ at) in
-    let none : reply_of (at_stage after x) ≡ None = reply_is (at_stage after x) ∙ it.2.1.comes.3 in (
-      ap reply_of (sym own) ∙ none,
+    let none : waiting_reply (at_stage after x) ≡ None = reply_is (at_stage after x) ∙ it.2.1.comes.3 in (
+      ap waiting_reply (sym own) ∙ none,
       λ write.
-          let r = is_a_write x.request (subst (λ (y : Call). IsWrite y.request) (sym own) write) in
+          let r = is_a_write x.request (subst (λ (y : Call). IsWriteRequest y.request) (sym own) write) in
           no_handle_moved x.request x.stage after w.advances.position w.advances.walks r.0 (ap file_handle r.3),
     )
 
-unmoved : (k : ℕ) (p q : PartsView) (session n : ℕ) → Moved k p session n q → (c : Call) → call_at q.calls n ≡ Some c → ((reply_of c ≡ None) → (IsWrite c.request → ⊥) → ⊥) → (k ≡ 0) × (q ≡ p)
+unmoved : (k : ℕ) (p q : PartsView) (session n : ℕ) → Moved k p session n q → (c : Call) → call_at q.calls n ≡ Some c → ((waiting_reply c ≡ None) → (IsWriteRequest c.request → ⊥) → ⊥) → (k ≡ 0) × (q ≡ p)
 unfolding Moved
 unmoved zero p q session n it c at never = (refl, it)
 unmoved (suc k) p q session n it c at never = let m = moved_last k p q session n it c at in absurd (never m.0 m.1)
 
 -- its request is there twice
-copied_twice : (r : Request) → IsWrite r → copy_of (route_of r) r ≡ Some r
+copied_twice : (r : Request) → IsWriteRequest r → copy_of (route_of r) r ≡ Some r
 copied_twice r write = let w = is_a_write r write in ap (λ (x : Request). copy_of (route_of x) x) w.3 ∙ ap Some (sym w.3)
 
 -- a WRITE overtakes nobody
-overtakes_none : (q : PartsView) (c : Call) → IsWrite c.request → Overtakes q q c
+overtakes_none : (q : PartsView) (c : Call) → IsWriteRequest c.request → Overtakes q q c
 overtakes_none q c write t keeps =
     let w = is_a_write c.request write in
     let none : moved_by (answer_to t c.session c.number c.moment c.request).changes ≡ None =
     never_moved t c.session c.number c.moment c.request (λ old new same. let z : ByHandle w.0 ≡ OnPaths old new = sym (ap target_of w.3) ∙ same in let k : ⊥ = cc in k) in
     ([], sym (ap (overtaken q.calls c.number) none), refl)
 
-module _ (lane : LaneView) (n : ℕ) (call : lane.call ≡ Some n) (p : PartsView) (most places : ℕ) (fit : undecided_in p.calls ≤ places) (v : CoreView) (ev : seen p ≡ v) (l : LaneView) (el : lane ≡ l) where
+module _ (lane : LaneView) (n : ℕ) (call : lane.call ≡ Some n) (p : PartsView) (most places : ℕ) (fit : undecided_in p.calls ≤ places) (v : CoreView) (ev : core_of p ≡ v) (l : LaneView) (el : lane ≡ l) where
   abbrev Done : PartsView → Step → LaneView → Type 0
   Done r s lane' = Ends lane n call p most places fit v ev l el r s lane'
 
   -- ---- blocks after some steps
-  module _ (k : ℕ) (mid : PartsView) (on : OnTurn mid lane n) (fits : undecided_in mid.calls ≤ places) (moved : (j : ℕ) (w : CoreView) → Moves j (seen mid) lane w → Moves (k + j) (seen p) lane w) (r : PartsView) where
+  module _ (k : ℕ) (mid : PartsView) (on : OnTurn mid lane n) (fits : undecided_in mid.calls ≤ places) (moved : (j : ℕ) (w : CoreView) → TakesMoves j (core_of mid) lane w → TakesMoves (k + j) (core_of p) lane w) (r : PartsView) where
     more_done : (steps : ℕ) → 0 < steps → k + steps ≡ most → CopiedOn steps mid n r → Done r step.Moved lane
     more_done steps some all it =
         let b = copied_last steps n mid r some it in
         let j = b.0 in
         let few = b.1 in
         let before = blocks_moved lane n call j mid b.2 on b.3 in
-        ended_by lane n call p most places fit v ev l el (k + j) b.2 r step.Moved lane (omega (arith, few, all)) (moved j (seen b.2) before.0) before.1.core
+        ended_by lane n call p most places fit v ev l el (k + j) b.2 r step.Moved lane (omega (arith, few, all)) (moved j (core_of b.2) before.0) before.1.core
         (blocks_places lane n call j mid b.2 places on b.3 fits) (block_step lane n call b.2 before.1 b.4.0 r b.4.1) (block_drawn lane n call b.2 before.1 b.4.0 r b.4.1) (λ e. omega (arith, few, all))
 
     over_done : (steps : ℕ) (given : Reply) → k + steps ≡ most → EndsCopying mid r lane.session n steps given → Done r (step.Answered (record { number = n; session = lane.session; reply = given })) (at_rest lane)
@@ -118,7 +118,7 @@ module _ (lane : LaneView) (n : ℕ) (call : lane.call ≡ Some n) (p : PartsVie
         let j = it.count in
         let few = it.few in
         let before = blocks_moved lane n call j mid it.mid on it.copied in
-        ended_by lane n call p most places fit v ev l el (k + j) it.mid r (step.Answered (record { number = n; session = lane.session; reply = given })) (at_rest lane) (omega (arith, few, all)) (moved j (seen it.mid) before.0) before.1.core
+        ended_by lane n call p most places fit v ev l el (k + j) it.mid r (step.Answered (record { number = n; session = lane.session; reply = given })) (at_rest lane) (omega (arith, few, all)) (moved j (core_of it.mid) before.0) before.1.core
         (blocks_places lane n call j mid it.mid places on it.copied fits)
         (last_step lane n call it.mid before.1 it.last r it.ends it.fetched (record { number = n; session = lane.session; reply = given }) (ap (λ (g : Reply). record { number = n; session = lane.session; reply = g }) (sym it.told)))
         (last_drawn lane n call it.mid before.1 it.last r it.ends it.fetched) (λ e. absurd cc)
@@ -153,8 +153,8 @@ module _ (lane : LaneView) (n : ℕ) (call : lane.call ≡ Some n) (p : PartsVie
     fits : undecided_in q.calls ≤ places
     fits = subst (λ (x : PartsView). undecided_in x.calls ≤ places) (sym same) fit
 
-    moved : (j : ℕ) (x : CoreView) → Moves j (seen q) lane x → Moves (0 + j) (seen p) lane x
-    moved j x it = subst (λ (i : ℕ). Moves i (seen p) lane x) (let e : j ≡ 0 + j = omega arith in e) (subst (λ (y : PartsView). Moves j (seen y) lane x) same it)
+    moved : (j : ℕ) (x : CoreView) → TakesMoves j (core_of q) lane x → TakesMoves (0 + j) (core_of p) lane x
+    moved j x it = subst (λ (i : ℕ). TakesMoves i (core_of p) lane x) (let e : j ≡ 0 + j = omega arith in e) (subst (λ (y : PartsView). TakesMoves j (core_of y) lane x) same it)
 
     pub copies_on : IsCopyingOn q n
     copies_on =
@@ -177,14 +177,14 @@ module _ (lane : LaneView) (n : ℕ) (call : lane.call ≡ Some n) (p : PartsVie
         )
 
     module _ (r : PartsView) where
-      copies_by : (o : Option Reply) → IfSome o (λ given. EndsCopying q r lane.session n most given) → IfNone o (CopiedOn most q n r) → (s : Step) (lane' : LaneView) → Tells n lane o s lane' → Done r s lane'
+      copies_by : (o : Option Reply) → IfSome o (λ given. EndsCopying q r lane.session n most given) → IfNone o (CopiedOn most q n r) → (s : Step) (lane' : LaneView) → ReportsStep n lane o s lane' → Done r s lane'
       copies_by None ends more s lane' tells =
           rest_lane r step.Moved s lane lane' tells.0 tells.1 (more_done 0 q turn fits moved r most (let few = w.few in omega (arith, few)) (omega arith) more)
       copies_by (Some given) ends more s lane' tells =
           rest_lane r (step.Answered (record { number = n; session = lane.session; reply = given })) s (at_rest lane) lane' tells.0 tells.1 (over_done 0 q turn fits moved r most given (omega arith) ends)
 
-      pub copies_end : (o : Option Reply) → IfSome o (λ given. EndsCopying q r lane.session n most given) → IfNone o (CopiedOn most q n r) → (s : Step) (lane' : LaneView) → Tells n l o s lane' → Done r s lane'
-      copies_end o ends more s lane' tells = copies_by o ends more s lane' (subst (λ (x : LaneView). Tells n x o s lane') (sym el) tells)
+      pub copies_end : (o : Option Reply) → IfSome o (λ given. EndsCopying q r lane.session n most given) → IfNone o (CopiedOn most q n r) → (s : Step) (lane' : LaneView) → ReportsStep n l o s lane' → Done r s lane'
+      copies_end o ends more s lane' tells = copies_by o ends more s lane' (subst (λ (x : LaneView). ReportsStep n x o s lane') (sym el) tells)
 
       pub copies_given : (o : Option Reply) → IfSome o (λ given. EndsCopying q r lane.session n most given) → (given : Reply) → o ≡ Some given → IsGiven n l.session given
       copies_given None ends given e = absurd (none_some given e)
@@ -197,7 +197,7 @@ module _ (lane : LaneView) (n : ℕ) (call : lane.call ≡ Some n) (p : PartsVie
     abbrev nowhere : Ways
     nowhere = along located.NoWay
 
-    none_yet : reply_of w.last.comes.1 ≡ None
+    none_yet : waiting_reply w.last.comes.1 ≡ None
     none_yet = reply_is w.last.comes.1 ∙ w.last.comes.4
 
     no_path : route_of w.last.comes.1.request ≡ NoPath
@@ -206,8 +206,8 @@ module _ (lane : LaneView) (n : ℕ) (call : lane.call ≡ Some n) (p : PartsVie
     walks_nowhere : Walked w.mid w.mid w.last.comes.1 n (walked.Ready nowhere)
     walks_nowhere = let c = w.last.comes.1 in record {
       advances =
-          subst (λ (r : Route). Decides w.mid.store w.mid.store (walker c.number r c.stage) nowhere) (sym no_path)
-          (at_once w.mid.store c.number c.stage (subst (λ (r : Route). Stands w.mid.store r c.stage) no_path (stands w.mid w.last.core.history w.last.core.sound n c w.last.comes.2 none_yet)));
+          subst (λ (r : Route). DecidesNow w.mid.store w.mid.store (walker c.number r c.stage) nowhere) (sym no_path)
+          (at_once w.mid.store c.number c.stage (subst (λ (r : Route). HoldsWay w.mid.store r c.stage) no_path (stands w.mid w.last.core.history w.last.core.sound n c w.last.comes.2 none_yet)));
       book = refl;
       sessions = refl;
       calls = refl;
@@ -239,7 +239,7 @@ module _ (lane : LaneView) (n : ℕ) (call : lane.call ≡ Some n) (p : PartsVie
     abbrev its_own : IsTurn w.mid lane w.last.comes.0 × (w.last.comes.0.number ≡ n)
     its_own = its_turn lane n call p most places fit v ev l el ways q w
 
-    none : reply_of w.last.comes.0 ≡ None
+    none : waiting_reply w.last.comes.0 ≡ None
     none = undecided lane n call p most places fit v ev l el ways q w
 
     step_on : Walked w.mid q w.last.comes.0 w.last.comes.0.number (walked.Ready ways)
@@ -248,7 +248,7 @@ module _ (lane : LaneView) (n : ℕ) (call : lane.call ≡ Some n) (p : PartsVie
     at_n : call_at q.calls n ≡ Some w.last.comes.0
     at_n = let x = w.last.comes in ap (λ cs. call_at cs n) x.5.calls ∙ x.1
 
-    write : IsWrite w.last.comes.0.request
+    write : IsWriteRequest w.last.comes.0.request
     write = is_write_by w.last.comes.0.request (sym (is w.last.comes.0 at_n))
 
     first_w : (w.moves ≡ 0) × (w.mid ≡ p)
@@ -281,33 +281,33 @@ module _ (lane : LaneView) (n : ℕ) (call : lane.call ≡ Some n) (p : PartsVie
     writes_room = made_room lane n call p most places fit v ev l el ways q w q over
 
     module _ (r : PartsView) where
-      begun_by : (mid : PartsView) → HasBegun q mid w.last.comes.0 n → HasBegun q mid w.last.comes.0 w.last.comes.0.number
-      begun_by mid b = subst (λ (k : ℕ). HasBegun q mid its k) (sym its_own.1) b
+      begun_by : (mid : PartsView) → HasBegunWrite q mid w.last.comes.0 n → HasBegunWrite q mid w.last.comes.0 w.last.comes.0.number
+      begun_by mid b = subst (λ (k : ℕ). HasBegunWrite q mid its k) (sym its_own.1) b
 
-      turn_w : (mid : PartsView) → HasBegun q mid w.last.comes.0 n → OnTurn mid lane n
+      turn_w : (mid : PartsView) → HasBegunWrite q mid w.last.comes.0 n → OnTurn mid lane n
       turn_w mid b = subst (λ (k : ℕ). OnTurn mid lane k) its_own.1 (written_turn w.mid lane its its_own.0 none q ways step_on w.last.comes.4 write mid (begun_by mid b) w.last.core.history w.last.core.sound)
 
-      step_w : (mid : PartsView) → HasBegun q mid w.last.comes.0 n → IsStep w.mid lane step.Moved mid lane
+      step_w : (mid : PartsView) → HasBegunWrite q mid w.last.comes.0 n → IsStep w.mid lane step.Moved mid lane
       step_w mid b = written_step w.mid lane its its_own.0 none q ways step_on w.last.comes.4 write mid (begun_by mid b)
 
-      drawn_w : (mid : PartsView) → HasBegun q mid w.last.comes.0 n → mid.drawn ≡ w.mid.drawn
+      drawn_w : (mid : PartsView) → HasBegunWrite q mid w.last.comes.0 n → mid.drawn ≡ w.mid.drawn
       drawn_w mid b = written_drawn w.mid lane its its_own.0 none q ways step_on w.last.comes.4 write mid (begun_by mid b)
 
-      fits_w : (mid : PartsView) → HasBegun q mid w.last.comes.0 n → undecided_in mid.calls ≤ places
+      fits_w : (mid : PartsView) → HasBegunWrite q mid w.last.comes.0 n → undecided_in mid.calls ≤ places
       fits_w mid b = places_after w.mid mid _ w.last.core (step_w mid b) (drawn_w mid b) places fits_mid
 
-      moved_w : (mid : PartsView) → HasBegun q mid w.last.comes.0 n → (j : ℕ) (x : CoreView) → Moves j (seen mid) lane x → Moves (1 + j) (seen p) lane x
-      moved_w mid b j x it = subst (λ (i : ℕ). Moves i (seen p) lane x) (let e : suc j ≡ 1 + j = omega arith in e) (after_first j (seen p) (seen mid) x lane (subst (λ (y : PartsView). StepsOn (seen y) lane step.Moved (seen mid) lane) first_w.1 (steps_on w.mid mid lane lane step.Moved w.last.core (step_w mid b))) it)
+      moved_w : (mid : PartsView) → HasBegunWrite q mid w.last.comes.0 n → (j : ℕ) (x : CoreView) → TakesMoves j (core_of mid) lane x → TakesMoves (1 + j) (core_of p) lane x
+      moved_w mid b j x it = subst (λ (i : ℕ). TakesMoves i (core_of p) lane x) (let e : suc j ≡ 1 + j = omega arith in e) (after_first j (core_of p) (core_of mid) x lane (subst (λ (y : PartsView). StepsOn (core_of y) lane step.Moved (core_of mid) lane) first_w.1 (steps_on w.mid mid lane lane step.Moved w.last.core (step_w mid b))) it)
 
-      more_by : (m : ℕ) (mid : PartsView) → m ≡ most - 1 → HasBegun q mid w.last.comes.0 n → CopiedOn m mid n r → Done r step.Moved lane
+      more_by : (m : ℕ) (mid : PartsView) → m ≡ most - 1 → HasBegunWrite q mid w.last.comes.0 n → CopiedOn m mid n r → Done r step.Moved lane
       more_by zero mid e b it =
           let few = w.few in
           subst (λ (x : PartsView). Done x step.Moved lane) (sym (copied_nothing n mid r it))
-          (ended_by lane n call p most places fit v ev l el 0 w.mid mid step.Moved lane (omega (arith, few)) (subst (λ (y : PartsView). Moves 0 (seen p) lane (seen y)) (sym first_w.1) (no_moves (seen p) lane)) w.last.core fits_mid
+          (ended_by lane n call p most places fit v ev l el 0 w.mid mid step.Moved lane (omega (arith, few)) (subst (λ (y : PartsView). TakesMoves 0 (core_of p) lane (core_of y)) (sym first_w.1) (no_moves (core_of p) lane)) w.last.core fits_mid
           (step_w mid b) (drawn_w mid b) (λ _. omega (arith, e, few)))
       more_by (suc m) mid e b it = more_done 1 mid (turn_w mid b) (fits_w mid b) (moved_w mid b) r (suc m) (omega arith) (omega (arith, e)) it
 
-      writes_by : (o : Option Reply) → WritesOn q r w.last.comes.0 lane.session n most o → (s : Step) (lane' : LaneView) → Tells n lane o s lane' → Done r s lane'
+      writes_by : (o : Option Reply) → WritesOn q r w.last.comes.0 lane.session n most o → (s : Step) (lane' : LaneView) → ReportsStep n lane o s lane' → Done r s lane'
       writes_by (Some given) (AtOnce x fin one) s lane' tells =
           rest_lane r (step.Answered (record { number = n; session = lane.session; reply = given })) s (at_rest lane) lane' tells.0 tells.1
           (decided_end lane n call p most places fit v ev l el ways q w q over r given (λ d at. subst (λ (y : Call). FinishState q r y n given) (some_eq its d (sym at_n ∙ at)) fin) (λ d at. subst (λ (y : Call). CopiesOne q.store y given) (some_eq its d (sym at_n ∙ at)) one)
@@ -318,8 +318,8 @@ module _ (lane : LaneView) (n : ℕ) (call : lane.call ≡ Some n) (p : PartsVie
           (over_done 1 mid (turn_w mid b) (fits_w mid b) (moved_w mid b) r (most - 1) given (omega (arith, few)) ends)
       writes_by None (UpToThere mid b copied) s lane' tells = rest_lane r step.Moved s lane lane' tells.0 tells.1 (more_by (most - 1) mid refl b copied)
 
-      pub writes_end : (o : Option Reply) → ((c : Call) → call_at q.calls n ≡ Some c → WritesOn q r c lane.session n most o) → (s : Step) (lane' : LaneView) → Tells n l o s lane' → Done r s lane'
-      writes_end o on s lane' tells = writes_by o (on its at_n) s lane' (subst (λ (x : LaneView). Tells n x o s lane') (sym el) tells)
+      pub writes_end : (o : Option Reply) → ((c : Call) → call_at q.calls n ≡ Some c → WritesOn q r c lane.session n most o) → (s : Step) (lane' : LaneView) → ReportsStep n l o s lane' → Done r s lane'
+      writes_end o on s lane' tells = writes_by o (on its at_n) s lane' (subst (λ (x : LaneView). ReportsStep n x o s lane') (sym el) tells)
 
       given_by : (o : Option Reply) → WritesOn q r w.last.comes.0 lane.session n most o → (given : Reply) → o ≡ Some given → IsGiven n lane.session given
       given_by (Some x) (AtOnce y fin one) given e =

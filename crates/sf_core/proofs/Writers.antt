@@ -12,8 +12,8 @@ use Rattle.sf_inode.specs.declared.node.Node.{Node}
 use Rattle.sf_inode.specs.declared.node.Content.{Content}
 use Rattle.sf_inode.specs.declared.node.Content.TheVariants as content
 use Rattle.sf_inode.specs.declared.handle.OpenHandle.{OpenHandle}
-use Rattle.sf_inode.specs.Nodes.{left_in, is_file_content, is_directory_content, with_holder}
-use Rattle.sf_inode.specs.Stores.{StoreState, node_in, handle_at, holder_of, is_directory_at, is_file_at, left_at, edited}
+use Rattle.sf_inode.specs.Nodes.{blocks_left_in, is_file_content, is_directory_content, with_holder}
+use Rattle.sf_inode.specs.Stores.{StoreState, node_in, open_handle_at, holder_of, is_directory_at, is_file_at, blocks_left_at, edited}
 use Rattle.sf_keeps.proofs.Laws.{edited_apart, edited_itself}
 use Rattle.sf_coupling.specs.Walks.{Spot, IsNodeOf, HandsOver}
 use Rattle.sf_coupling.proofs.Laws.{same_or_not}
@@ -24,7 +24,7 @@ use Rattle.sf_walk.specs.Steps.{is_one_of, free_unless, let_go, entered, handed_
 use Rattle.sf_walk.specs.Served.{LookedUp, after_look_ups}
 use Rattle.sf_core.specs.Cores.{call_at}
 use Rattle.sf_core.specs.Parts.{PartsView}
-use Rattle.sf_core.specs.Sound.{writer_of, copying_at, copying_in, IsWriting, Copied}
+use Rattle.sf_core.specs.Sound.{writer_of_file, copying_at, copying_in, IsWriting, Copied}
 use Rattle.sf_core.proofs.Updates.{Updates}
 
 -- ---- calls
@@ -75,16 +75,16 @@ if_holds : (b : Bool) (o : Option ℕ) (n : ℕ) → (if b then o else None) ≡
 if_holds true o n e = (refl, e)
 if_holds false o n e = absurd (let z : ⊥ = cc in z)
 
-pub writer_is : (nodes : List (Option Node)) (id n : ℕ) → is_file_at nodes id ≡ true → holder_of nodes id ≡ Some n → writer_of nodes id ≡ Some n
+pub writer_is : (nodes : List (Option Node)) (id n : ℕ) → is_file_at nodes id ≡ true → holder_of nodes id ≡ Some n → writer_of_file nodes id ≡ Some n
 writer_is nodes id n file held = ap (λ (b : Bool). if b then holder_of nodes id else None) file ∙ held
 
-pub writer_holds : (nodes : List (Option Node)) (id n : ℕ) → writer_of nodes id ≡ Some n → (is_file_at nodes id ≡ true) × (holder_of nodes id ≡ Some n)
+pub writer_holds : (nodes : List (Option Node)) (id n : ℕ) → writer_of_file nodes id ≡ Some n → (is_file_at nodes id ≡ true) × (holder_of nodes id ≡ Some n)
 writer_holds nodes id n e = if_holds (is_file_at nodes id) (holder_of nodes id) n e
 
 -- the same nodes are files, as much is left of each, and the same handles are open
 pub record SameFiles (s t : StoreState) : Type 0 where
   pub file : (id : ℕ) → is_file_at t.nodes id ≡ is_file_at s.nodes id
-  pub left : (id : ℕ) → left_at t.nodes id ≡ left_at s.nodes id
+  pub left : (id : ℕ) → blocks_left_at t.nodes id ≡ blocks_left_at s.nodes id
   pub sessions : t.sessions ≡ s.sessions
 
 pub files_itself : (s : StoreState) → SameFiles s s
@@ -97,7 +97,7 @@ file_held : (h : Option ℕ) (o : Option Node) → option_map_or (λ (x : Node).
 file_held h None = refl
 file_held h (Some node) = refl
 
-left_held : (h : Option ℕ) (o : Option Node) → option_map_or (λ (x : Node). left_in x.content) (option_map (with_holder h) o) 0 ≡ option_map_or (λ (x : Node). left_in x.content) o 0
+left_held : (h : Option ℕ) (o : Option Node) → option_map_or (λ (x : Node). blocks_left_in x.content) (option_map (with_holder h) o) 0 ≡ option_map_or (λ (x : Node). blocks_left_in x.content) o 0
 left_held h None = refl
 left_held h (Some node) = refl
 
@@ -109,9 +109,9 @@ files_held h s id = record {
     | inr ne ↦ ap (λ (o : Option Node). option_map_or (λ (x : Node). is_file_content x.content) o false) (edited_apart (with_holder h) s id i ne)
   ];
   left = λ i. elim (same_or_not i id) [
-    | inl e ↦ ap (left_at (edited (with_holder h) s id).nodes) e ∙ ap (λ (o : Option Node). option_map_or (λ (x : Node). left_in x.content) o 0) (edited_itself (with_holder h) s id)
-        ∙ left_held h (node_in s.nodes id) ∙ ap (left_at s.nodes) (sym e)
-    | inr ne ↦ ap (λ (o : Option Node). option_map_or (λ (x : Node). left_in x.content) o 0) (edited_apart (with_holder h) s id i ne)
+    | inl e ↦ ap (blocks_left_at (edited (with_holder h) s id).nodes) e ∙ ap (λ (o : Option Node). option_map_or (λ (x : Node). blocks_left_in x.content) o 0) (edited_itself (with_holder h) s id)
+        ∙ left_held h (node_in s.nodes id) ∙ ap (blocks_left_at s.nodes) (sym e)
+    | inr ne ↦ ap (λ (o : Option Node). option_map_or (λ (x : Node). blocks_left_in x.content) o 0) (edited_apart (with_holder h) s id i ne)
   ];
   sessions = refl;
 }
@@ -138,15 +138,15 @@ files_moved n was now node s =
 
 -- what is handed over are no files: each file has the holder that it had
 pub writers_stay : (s t : StoreState) (n : ℕ) (was now : List Spot) → SameFiles s t → ((l : ℕ) → IsNodeOf was l → is_file_at s.nodes l ≡ true → ⊥) → ((l : ℕ) → IsNodeOf now l → is_file_at s.nodes l ≡ true → ⊥)
-    → HandsOver (holder_of s.nodes) (holder_of t.nodes) n was now → (id : ℕ) → writer_of t.nodes id ≡ writer_of s.nodes id
+    → HandsOver (holder_of s.nodes) (holder_of t.nodes) n was now → (id : ℕ) → writer_of_file t.nodes id ≡ writer_of_file s.nodes id
 writers_stay s t n was now same before after hands id =
-    elim (is_file_at s.nodes id) as (λ b. is_file_at s.nodes id ≡ b → writer_of t.nodes id ≡ writer_of s.nodes id) [
+    elim (is_file_at s.nodes id) as (λ b. is_file_at s.nodes id ≡ b → writer_of_file t.nodes id ≡ writer_of_file s.nodes id) [
       | true ↦ λ e. λ i. if same.file id i then hands.rest id (λ h. before id h e) (λ h. after id h e) i else None
       | false ↦ λ e. ap (λ (b : Bool). if b then holder_of t.nodes id else None) (same.file id ∙ e) ∙ sym (ap (λ (b : Bool). if b then holder_of s.nodes id else None) e)
     ] refl
 
 -- ---- the facts about files
-pub opens_same : (s t : StoreState) (session handle : ℕ) → t.sessions ≡ s.sessions → handle_at t session handle ≡ handle_at s session handle
+pub opens_same : (s t : StoreState) (session handle : ℕ) → t.sessions ≡ s.sessions → open_handle_at t session handle ≡ open_handle_at s session handle
 opens_same s t session handle e = ap (λ (ss : List (ℕ × List (ℕ × OpenHandle))). option_and_then (λ handles. lookup (is_at (nat_cmp handle)) handles) (lookup (is_at (nat_cmp session)) ss)) e
 
 pub writing_on : (s t : StoreState) (c : Call) (file : ℕ) → t.sessions ≡ s.sessions → IsWriting s c file → IsWriting t c file
@@ -165,7 +165,7 @@ writing_on s t c file e w = record {
 -- an event that changes nothing about files
 pub copied_on : (p q : PartsView) → Copied p → ((m : ℕ) → copying_in q.calls m ≡ copying_in p.calls m)
     → ((m : ℕ) (c : Call) (node left : ℕ) → call_at q.calls m ≡ Some c → c.stage ≡ stage.Copies node left → call_at p.calls m ≡ Some c)
-    → SameFiles p.store q.store → ((id : ℕ) → writer_of q.store.nodes id ≡ writer_of p.store.nodes id) → Copied q
+    → SameFiles p.store q.store → ((id : ℕ) → writer_of_file q.store.nodes id ≡ writer_of_file p.store.nodes id) → Copied q
 copied_on p q copied same still files writers = record {
   copies = subst AreCopies (λ i. record { copying_of = λ m. sym (same m) i; writer = λ id. sym (writers id) i; left = λ id. sym (files.left id) i }) copied.copies;
   writing = λ m c node left at is. writing_on p.store q.store c node files.sessions (copied.writing m c node left (still m c node left at is) is);
@@ -176,21 +176,21 @@ pub copied_still : (p q : PartsView) (n : ℕ) (was now : Option Call) → Copie
 copied_still p q n was now copied u was_none now_none store =
     copied_on p q copied (same_copying p.calls q.calls n was now u was_none now_none)
     (λ m c node left at is. (still_copying p.calls q.calls n was now u was_none now_none m c node left at is).1)
-    (subst (SameFiles p.store) (sym store) (files_itself p.store)) (λ id. ap (λ (s : StoreState). writer_of s.nodes id) store)
+    (subst (SameFiles p.store) (sym store) (files_itself p.store)) (λ id. ap (λ (s : StoreState). writer_of_file s.nodes id) store)
 
 -- the calls are the same, and so is the store
 pub copied_same : (p q : PartsView) → Copied p → q.store ≡ p.store → q.calls ≡ p.calls → Copied q
 copied_same p q copied store calls =
     copied_on p q copied (λ m. ap (λ cs. copying_in cs m) calls) (λ m c node left at is. ap (λ cs. call_at cs m) (sym calls) ∙ at)
-    (subst (SameFiles p.store) (sym store) (files_itself p.store)) (λ id. ap (λ (s : StoreState). writer_of s.nodes id) store)
+    (subst (SameFiles p.store) (sym store) (files_itself p.store)) (λ id. ap (λ (s : StoreState). writer_of_file s.nodes id) store)
 
 -- look-ups were made
-files_counted : (k : ℕ) (s : StoreState) → SameFiles s (after_look_ups k s) × ((id : ℕ) → writer_of (after_look_ups k s).nodes id ≡ writer_of s.nodes id)
+files_counted : (k : ℕ) (s : StoreState) → SameFiles s (after_look_ups k s) × ((id : ℕ) → writer_of_file (after_look_ups k s).nodes id ≡ writer_of_file s.nodes id)
 files_counted zero s = (files_itself s, λ id. refl)
 files_counted (suc k) s =
     let h = files_counted k s in
     (record { file = h.0.file; left = h.0.left; sessions = h.0.sessions }, h.1)
 
-pub files_looked : (s t : StoreState) (most : ℕ) → LookedUp s t most → SameFiles s t × ((id : ℕ) → writer_of t.nodes id ≡ writer_of s.nodes id)
+pub files_looked : (s t : StoreState) (most : ℕ) → LookedUp s t most → SameFiles s t × ((id : ℕ) → writer_of_file t.nodes id ≡ writer_of_file s.nodes id)
 files_looked s t most looked =
-    subst (λ (x : StoreState). SameFiles s x × ((id : ℕ) → writer_of x.nodes id ≡ writer_of s.nodes id)) (sym looked.state) (files_counted looked.count s)
+    subst (λ (x : StoreState). SameFiles s x × ((id : ℕ) → writer_of_file x.nodes id ≡ writer_of_file s.nodes id)) (sym looked.state) (files_counted looked.count s)

@@ -23,10 +23,10 @@ pub record CoreView : Type 0 where
   pub store : StoreState
 
 -- what a core has for a session: it never joined or has left, it is at rest, or it has an unanswered call
-pub data Slot : Type 0 where
-  Gone : Slot
-  Idle : Slot
-  Busy : (call : Call) → Slot
+pub data LaneState : Type 0 where
+  Gone : LaneState
+  Idle : LaneState
+  Busy : (call : Call) → LaneState
 
 abbrev pub call_at : List (ℕ × Call) → ℕ → Option Call
 call_at calls number = lookup (is_at (nat_cmp number)) calls
@@ -35,17 +35,17 @@ abbrev pub session_at : List (ℕ × Option ℕ) → ℕ → Option (Option ℕ)
 session_at sessions session = lookup (is_at (nat_cmp session)) sessions
 
 -- no core has a number without its call
-abbrev pub busy_with : Option Call → Slot
+abbrev pub busy_with : Option Call → LaneState
 busy_with None = Gone
 busy_with (Some call) = Busy call
 
-abbrev pub slot_by : List (ℕ × Call) → Option (Option ℕ) → Slot
-slot_by calls None = Gone
-slot_by calls (Some None) = Idle
-slot_by calls (Some (Some number)) = busy_with (call_at calls number)
+abbrev pub lane_state_by : List (ℕ × Call) → Option (Option ℕ) → LaneState
+lane_state_by calls None = Gone
+lane_state_by calls (Some None) = Idle
+lane_state_by calls (Some (Some number)) = busy_with (call_at calls number)
 
-abbrev pub slot_of : CoreView → ℕ → Slot
-slot_of v session = slot_by v.calls (session_at v.sessions session)
+abbrev pub lane_state : CoreView → ℕ → LaneState
+lane_state v session = lane_state_by v.calls (session_at v.sessions session)
 
 -- how many sessions are joined
 abbrev pub joined : CoreView → ℕ

@@ -16,7 +16,7 @@ use Rattle.sf_call.specs.declared.record.Record.{Record}
 use Rattle.sf_call.specs.declared.record.Record.TheVariants.{Did, Left}
 use Rattle.sf_call.specs.declared.call.Call.{Call}
 use Rattle.sf_call.specs.declared.call.Stage.TheVariants as stage
-use Rattle.sf_call.specs.Answers.{Answered as Answer}
+use Rattle.sf_call.specs.Answers.{AnswerView as Answer}
 use Rattle.sf_call.specs.declared.fault.CoreFault.{CoreFault}
 use Rattle.sf_call.specs.declared.fault.CoreFault.TheVariants as fault
 use Rattle.sf_call.specs.Changes.{moved_by}
@@ -24,24 +24,24 @@ use Rattle.sf_call.specs.Calls.{answer_to, start_of}
 use Rattle.sf_call.specs.Handles.{opened}
 use Rattle.sf_call.specs.Handles.Opened.{OpenFile}
 use Rattle.sf_call.specs.Histories.{replay, IsNewNumber, IsAmong}
-use Rattle.sf_inode.specs.Stores.{StoreState, entry_of, holder_of}
+use Rattle.sf_inode.specs.Stores.{StoreState, child_of, holder_of}
 use Rattle.sf_keeps.specs.Steps.{walk}
 use Rattle.sf_coupling.specs.Walks.{Spot, Holds}
 use Rattle.sf_walk.specs.Routes.{IsPosition, route_of, spots_of}
-use Rattle.sf_walk.specs.Steps.{LooksAt, WalksOn}
+use Rattle.sf_walk.specs.Steps.{LooksUp, AdvancesOne}
 use Rattle.sf_walk.specs.Files.{WaitsForFile, cuts_file}
 use Rattle.sf_core.specs.Sure.{AreSure}
 use Rattle.sf_core.specs.declared.step.Step.{Step}
 use Rattle.sf_core.specs.declared.step.Step.TheVariants.{Moved, Blocked, Answered, Stranger}
 use Rattle.sf_core.specs.Lanes.{LaneView, at_rest}
-use Rattle.sf_core.specs.Cores.{CoreView, Slot, call_at, slot_of, joined, last_number, most_sessions}
-use Rattle.sf_core.specs.Cores.Slot.{Gone, Idle, Busy}
+use Rattle.sf_core.specs.Cores.{CoreView, LaneState, call_at, lane_state, joined, last_number, most_sessions}
+use Rattle.sf_core.specs.Cores.LaneState.{Gone, Idle, Busy}
 use Rattle.sf_core.specs.Histories.{IsHistory}
-use Rattle.sf_core.specs.Progress.{reply_of, left_of, bound_of, is_write, IsBehind, CopiesInto, IsCopying, MayDecide, did, new_call, SameCall, overtaken, names_of, number_at}
+use Rattle.sf_core.specs.Progress.{waiting_reply, left_of, bound_of, is_write, IsBehind, CopiesInto, IsCopying, MayDecide, did, new_call, SameCall, overtaken, names_in_records, record_number}
 
 -- the lane's call, if the lane is this core's
 pub record OwnCall (v : CoreView) (lane : LaneView) (c : Call) : Type 0 where
-  pub slot : slot_of v lane.session ≡ Busy c
+  pub slot : lane_state v lane.session ≡ Busy c
   pub session : c.session ≡ lane.session
   pub number : lane.call ≡ Some c.number
 
@@ -59,15 +59,15 @@ pub record LooksOnly (v w : CoreView) (most : ℕ) : Type 0 where
   pub joins : w.joins ≡ v.joins
   pub sessions : w.sessions ≡ v.sessions
   pub calls : w.calls ≡ v.calls
-  pub slots : (s : ℕ) → slot_of w s ≡ slot_of v s
+  pub slots : (s : ℕ) → lane_state w s ≡ lane_state v s
   pub joined : joined w ≡ joined v
   pub more : v.look_ups ≤ w.look_ups
   pub few : w.look_ups ≤ v.look_ups + most
 
--- a session's slot is another; all other slots and the counts of sessions and calls stay
-pub record SetsSlot (v w : CoreView) (session : ℕ) (slot : Slot) : Type 0 where
-  pub own : slot_of w session ≡ slot
-  pub others : (s : ℕ) → s ≢ session → slot_of w s ≡ slot_of v s
+-- the state of one session's lane is another; those of all others, and the counts of sessions and calls, stay
+pub record SetsSlot (v w : CoreView) (session : ℕ) (slot : LaneState) : Type 0 where
+  pub own : lane_state w session ≡ slot
+  pub others : (s : ℕ) → s ≢ session → lane_state w s ≡ lane_state v s
   pub joined : joined w ≡ joined v
   pub drawn : w.drawn ≡ v.drawn
   pub joins : w.joins ≡ v.joins
@@ -76,10 +76,10 @@ pub record SetsSlot (v w : CoreView) (session : ℕ) (slot : Slot) : Type 0 wher
 pub record Goes (v w : CoreView) (lane : LaneView) (c d : Call) : Type 0 where
   pub own : OwnCall v lane c
   pub same : SameCall c d
-  pub before : reply_of c ≡ None
-  pub after : reply_of d ≡ None
+  pub before : waiting_reply c ≡ None
+  pub after : waiting_reply d ≡ None
   pub no_write : is_write c.request ≡ false
-  pub walks : WalksOn c.stage d.stage
+  pub walks : AdvancesOne c.stage d.stage
   pub less : left_of d < left_of c
   pub some : 0 < left_of d
   pub slot : SetsSlot v w lane.session (Busy d)
@@ -91,8 +91,8 @@ pub record Goes (v w : CoreView) (lane : LaneView) (c d : Call) : Type 0 where
 -- at the node, and it has come there by the same names, or copies into it.
 pub record HoldsWanted (s : StoreState) (c d : Call) : Type 0 where
   pub spot : Spot
-  pub looks : LooksAt (route_of c.request) c.stage spot.path
-  pub leads : walk (entry_of s.nodes) s.root spot.path ≡ Some spot.node
+  pub looks : LooksUp (route_of c.request) c.stage spot.path
+  pub leads : walk (child_of s.nodes) s.root spot.path ≡ Some spot.node
   pub held : holder_of s.nodes spot.node ≡ Some d.number
   pub came : Holds (spots_of (route_of d.request) d.stage) spot ⊎ CopiesInto d.stage spot.node
 
@@ -105,12 +105,12 @@ pub record HoldsFile (s : StoreState) (c d : Call) : Type 0 where
 -- wants
 pub record IsBlocked (v w : CoreView) (lane : LaneView) (c : Call) (holder : ℕ) : Type 0 where
   pub own : OwnCall v lane c
-  pub undecided : reply_of c ≡ None
+  pub undecided : waiting_reply c ≡ None
   pub other : ℕ
   pub call : Call
   pub apart : other ≢ lane.session
-  pub slot : slot_of v other ≡ Busy call
-  pub holds : (reply_of call ≡ None) ⊎ IsCopying call.stage
+  pub slot : lane_state v other ≡ Busy call
+  pub holds : (waiting_reply call ≡ None) ⊎ IsCopying call.stage
   pub number : call.number ≡ holder
   pub wanted : HoldsWanted v.store c call ⊎ HoldsFile v.store c call
   pub deeper : IsBehind c call
@@ -131,7 +131,7 @@ pub record After : Type 0 where
 -- the record was there: a fetch, after the last block of a WRITE
 pub record Fetches (b : Before) (a : After) (c : Call) (given : Reply) : Type 0 where
   pub own : OwnCall b.core b.lane c
-  pub decided : reply_of c ≡ Some given
+  pub decided : waiting_reply c ≡ Some given
   pub one : left_of c ≡ 1
   pub recorded : IsAmong (did c given) b.history
   pub none : a.added ≡ []
@@ -140,8 +140,8 @@ pub record Fetches (b : Before) (a : After) (c : Call) (given : Reply) : Type 0 
   pub look_ups : a.core.look_ups ≡ b.core.look_ups
 
 -- as many blocks are left as the call writes, but for the first
-abbrev pub HasLeft : Tree → Call → ℕ → Type 0
-HasLeft t c left =
+abbrev pub LeavesBlocks : Tree → Call → ℕ → Type 0
+LeavesBlocks t c left =
     (number offset : ℕ) (bytes : List ℕ) → c.request ≡ request.Write number offset bytes
     → (handle : Handle) (m : Metadata) (contents : List ℕ)
     → opened t c.session number ≡ OpenFile handle m contents
@@ -157,11 +157,11 @@ IsOfOneBlock t c given =
 
 -- The first step of a WRITE of more than one block: its record is the one that is added, its reply
 -- waits, and it has copied its first block. It holds its file from now on.
-pub record Writes (b : Before) (a : After) (c d : Call) (given : Reply) : Type 0 where
+pub record StartsToWrite (b : Before) (a : After) (c d : Call) (given : Reply) : Type 0 where
   pub own : OwnCall b.core b.lane c
   pub same : SameCall c d
-  pub undecided : reply_of c ≡ None
-  pub decided : reply_of d ≡ Some given
+  pub undecided : waiting_reply c ≡ None
+  pub decided : waiting_reply d ≡ Some given
   pub write : is_write c.request ≡ true
   pub position : IsPosition (route_of c.request) c.stage
   pub way : MayDecide (replay b.history) c.request c.stage
@@ -170,7 +170,7 @@ pub record Writes (b : Before) (a : After) (c d : Call) (given : Reply) : Type 0
   pub sure : AreSure b.history a.added
   pub records : a.added ≡ did c given ∷ []
   pub told : given ≡ (answer_to (replay b.history) c.session c.number c.moment c.request).reply
-  pub blocks : HasLeft (replay b.history) c (left_of d)
+  pub blocks : LeavesBlocks (replay b.history) c (left_of d)
   pub some : 0 < left_of d
   pub less : left_of d < left_of c
   pub slot : SetsSlot b.core a.core b.lane.session (Busy d)
@@ -184,8 +184,8 @@ pub record CopiesBlock (v w : CoreView) (lane : LaneView) (c d : Call) : Type 0 
   pub own : OwnCall v lane c
   pub same : SameCall c d
   pub given : Reply
-  pub had : reply_of c ≡ Some given
-  pub has : reply_of d ≡ Some given
+  pub had : waiting_reply c ≡ Some given
+  pub has : waiting_reply d ≡ Some given
   pub before : IsCopying c.stage
   pub after : IsCopying d.stage
   pub one : left_of c ≡ left_of d + 1
@@ -209,12 +209,12 @@ pub record IsFinished (v w : CoreView) (session : ℕ) (helped : List Record) : 
   pub before : Call
   pub after : Call
   pub given : Reply
-  pub was : slot_of v session ≡ Busy before
+  pub was : lane_state v session ≡ Busy before
   pub copying : IsCopying before.stage
-  pub now : slot_of w session ≡ Busy after
+  pub now : lane_state w session ≡ Busy after
   pub same : SameCall before after
-  pub had : reply_of before ≡ Some given
-  pub has : reply_of after ≡ Some given
+  pub had : waiting_reply before ≡ Some given
+  pub has : waiting_reply after ≡ Some given
   pub rests : after.stage ≡ stage.Fresh
   pub less : left_of after ≤ left_of before
 
@@ -224,11 +224,11 @@ pub record IsHelped (v w : CoreView) (session : ℕ) (helped : List Record) : Ty
   pub before : Call
   pub after : Call
   pub given : Reply
-  pub was : slot_of v session ≡ Busy before
-  pub undecided : reply_of before ≡ None
-  pub now : slot_of w session ≡ Busy after
+  pub was : lane_state v session ≡ Busy before
+  pub undecided : waiting_reply before ≡ None
+  pub now : lane_state w session ≡ Busy after
   pub same : SameCall before after
-  pub decided : reply_of after ≡ Some given
+  pub decided : waiting_reply after ≡ Some given
   pub rests : after.stage ≡ stage.Fresh
   pub less : left_of after ≤ left_of before
   pub recorded : IsAmong (did before given) helped
@@ -239,7 +239,7 @@ AreRecordsOf calls [] [] = Unit {0}
 AreRecordsOf calls [] (r ∷ rs) = ⊥
 AreRecordsOf calls (n ∷ ns) [] = ⊥
 AreRecordsOf calls (n ∷ ns) (r ∷ rs) = ((c : Call) × (given : Reply) × (call_at calls n ≡ Some c)
-    × (reply_of c ≡ None) × (r ≡ did c given)) × AreRecordsOf calls ns rs
+    × (waiting_reply c ≡ None) × (r ≡ did c given)) × AreRecordsOf calls ns rs
 
 -- Who is helped by a decision: where its case is the move, each other undecided call that has
 -- passed the old path, in the order of their numbers; else nobody.
@@ -247,12 +247,12 @@ pub record HelpsInOrder (v : CoreView) (h : List Record) (c : Call)
     (helped : List Record) : Type 0 where
   pub records : AreRecordsOf v.calls (overtaken v.calls c.number
       (moved_by (answer_to (replay h) c.session c.number c.moment c.request).changes)) helped
-  pub rising : IsStrictlySortedBy nat_cmp (filter_map number_at helped)
+  pub rising : IsStrictlySortedBy nat_cmp (filter_map record_number helped)
 
 -- the record is of another session's undecided call
 abbrev pub IsOfOther : CoreView → ℕ → Record → Type 0
 IsOfOther v session (Did number s moment request given) = (c : Call) × (s ≢ session)
-    × (slot_of v s ≡ Busy c) × (reply_of c ≡ None)
+    × (lane_state v s ≡ Busy c) × (waiting_reply c ≡ None)
     × (Did number s moment request given ≡ did c given)
 IsOfOther v session (Left s) = ⊥
 
@@ -261,7 +261,7 @@ IsOfOther v session (Left s) = ⊥
 -- reply of the tree, after the records before it, only where that takes memory.
 pub record Decides (b : Before) (a : After) (c : Call) (given : Reply) : Type 0 where
   pub own : OwnCall b.core b.lane c
-  pub undecided : reply_of c ≡ None
+  pub undecided : waiting_reply c ≡ None
   pub some : 0 < left_of c
   pub new_number : IsNewNumber c.number b.history
   pub position : IsPosition (route_of c.request) c.stage
@@ -273,14 +273,14 @@ pub record Decides (b : Before) (a : After) (c : Call) (given : Reply) : Type 0 
   pub sure : AreSure b.history a.added
   pub records : a.added ≡ helped ++ did c given ∷ []
   pub keep : a.core.keep ≡ b.core.keep
-  pub slot : slot_of a.core b.lane.session ≡ Idle
-  pub others : (s : ℕ) → s ≢ b.lane.session → (slot_of a.core s ≡ slot_of b.core s)
+  pub slot : lane_state a.core b.lane.session ≡ Idle
+  pub others : (s : ℕ) → s ≢ b.lane.session → (lane_state a.core s ≡ lane_state b.core s)
       ⊎ IsHelped b.core a.core s helped ⊎ IsFinished b.core a.core s helped
   pub joined : joined a.core ≡ joined b.core
   pub drawn : a.core.drawn ≡ b.core.drawn
   pub joins : a.core.joins ≡ b.core.joins
   pub more : b.core.look_ups ≤ a.core.look_ups
-  pub few : a.core.look_ups ≤ b.core.look_ups + (2 + names_of helped)
+  pub few : a.core.look_ups ≤ b.core.look_ups + (2 + names_in_records helped)
 
 -- no record was added, and the lane is as it was
 pub record AddsNothing (b : Before) (a : After) : Type 0 where
@@ -297,24 +297,24 @@ pub record Answers (b : Before) (given : Answer) (a : After) : Type 0 where
 -- or another one that isn't its last.
 abbrev pub MovesOn : Before → After → Type 0
 MovesOn b a = (((c : Call) × (d : Call) × Goes b.core a.core b.lane c d) × AddsNothing b a)
-    ⊎ ((c : Call) × (d : Call) × (given : Reply) × Writes b a c d given)
+    ⊎ ((c : Call) × (d : Call) × (given : Reply) × StartsToWrite b a c d given)
     ⊎ (((c : Call) × (d : Call) × CopiesBlock b.core a.core b.lane c d) × AddsNothing b a)
 
 -- what a step does to a core and to the lane, and the records that it adds
-abbrev pub Steps : Before → Step → After → Type 0
-Steps b Moved a = MovesOn b a
-Steps b (Blocked holder) a =
+abbrev pub TakesStep : Before → Step → After → Type 0
+TakesStep b Moved a = MovesOn b a
+TakesStep b (Blocked holder) a =
     ((c : Call) × IsBlocked b.core a.core b.lane c holder) × AddsNothing b a
-Steps b (Answered given) a =
+TakesStep b (Answered given) a =
     ((c : Call) × (Fetches b a c given.reply ⊎ Decides b a c given.reply)) × Answers b given a
-Steps b Stranger a =
+TakesStep b Stranger a =
     ((c : Call) → OwnCall b.core b.lane c → ⊥) × (a.core ≡ b.core) × AddsNothing b a
 
 -- a step, whatever the history was: it adds records to it so
 abbrev pub StepsOn : CoreView → LaneView → Step → CoreView → LaneView → Type 0
 StepsOn v lane s w lane' =
     (h : List Record) → IsHistory v h → (added : List Record) × IsHistory w (h ++ added)
-    × Steps (record { core = v; history = h; lane = lane }) s (record {
+    × TakesStep (record { core = v; history = h; lane = lane }) s (record {
       core = w;
       added = added;
       lane = lane';
@@ -330,9 +330,9 @@ abbrev pub came : Step → CoreView → LaneView → Came
 came s w lane = record { step = s; core = w; lane = lane }
 
 -- so many steps, one after the other, each of which moved
-unfoldable pub Moves : ℕ → CoreView → LaneView → CoreView → Type 0
-Moves zero v lane w = w ≡ v
-Moves (suc n) v lane w = (mid : CoreView) × Moves n v lane mid × StepsOn mid lane Moved w lane
+unfoldable pub TakesMoves : ℕ → CoreView → LaneView → CoreView → Type 0
+TakesMoves zero v lane w = w ≡ v
+TakesMoves (suc n) v lane w = (mid : CoreView) × TakesMoves n v lane mid × StepsOn mid lane Moved w lane
 
 -- Walking on, by so many steps at most: all moved but the last, and this one too only where no more
 -- were to be made.
@@ -340,7 +340,7 @@ pub record Walks (v : CoreView) (lane : LaneView) (most : ℕ) (c : Came) : Type
   pub moves : ℕ
   pub mid : CoreView
   pub few : moves < most
-  pub moved : Moves moves v lane mid
+  pub moved : TakesMoves moves v lane mid
   pub last : StepsOn mid lane c.step c.core c.lane
   pub full : c.step ≡ Moved → moves + 1 ≡ most
 
@@ -348,9 +348,9 @@ pub record Walks (v : CoreView) (lane : LaneView) (most : ℕ) (c : Came) : Type
 pub record Joins (v w : CoreView) : Type 0 where
   pub few : joined v < most_sessions
   pub unspent : v.joins < last_number
-  pub was : slot_of v (v.joins + 1) ≡ Gone
-  pub own : slot_of w (v.joins + 1) ≡ Idle
-  pub others : (s : ℕ) → s ≢ v.joins + 1 → slot_of w s ≡ slot_of v s
+  pub was : lane_state v (v.joins + 1) ≡ Gone
+  pub own : lane_state w (v.joins + 1) ≡ Idle
+  pub others : (s : ℕ) → s ≢ v.joins + 1 → lane_state w s ≡ lane_state v s
   pub joined : joined w ≡ joined v + 1
   pub joins : w.joins ≡ v.joins + 1
   pub records : KeepsRecords v w
@@ -364,13 +364,13 @@ RefusesJoin v fault.NumbersSpent = (joined v < most_sessions) × (v.joins ≡ la
 RefusesJoin v fault.Stranger = ⊥
 
 -- the call begins, under the next number; it has walked nothing
-pub record Begins (v w : CoreView) (lane : LaneView) (request : Request) (moment : ℕ) : Type 0 where
-  pub idle : slot_of v lane.session ≡ Idle
+pub record CallBegins (v w : CoreView) (lane : LaneView) (request : Request) (moment : ℕ) : Type 0 where
+  pub idle : lane_state v lane.session ≡ Idle
   pub unspent : v.drawn < last_number
-  pub own : slot_of w lane.session ≡ Busy (new_call (v.drawn + 1) lane.session moment request)
-  pub fresh : (reply_of (new_call (v.drawn + 1) lane.session moment request) ≡ None)
+  pub own : lane_state w lane.session ≡ Busy (new_call (v.drawn + 1) lane.session moment request)
+  pub fresh : (waiting_reply (new_call (v.drawn + 1) lane.session moment request) ≡ None)
       × (left_of (new_call (v.drawn + 1) lane.session moment request) ≡ bound_of request)
-  pub others : (s : ℕ) → s ≢ lane.session → slot_of w s ≡ slot_of v s
+  pub others : (s : ℕ) → s ≢ lane.session → lane_state w s ≡ lane_state v s
   pub joined : joined w ≡ joined v
   pub drawn : w.drawn ≡ v.drawn + 1
   pub joins : w.joins ≡ v.joins
@@ -386,21 +386,21 @@ begun lane number =
 pub record AnswersAtOnce (v : CoreView) (lane : LaneView) (request : Request) (moment : ℕ)
     (c : Came) : Type 0 where
   pub mid : CoreView
-  pub begins : Begins v mid lane request moment
+  pub begins : CallBegins v mid lane request moment
   pub history : (h : List Record) → IsHistory v h → IsHistory mid h
   pub steps : StepsOn mid (begun lane mid.drawn) c.step c.core c.lane
 
 abbrev pub RefusesBegin : CoreView → LaneView → CoreFault → Type 0
-RefusesBegin v lane fault.OutOfMemory = (slot_of v lane.session ≡ Idle) × (v.drawn < last_number)
+RefusesBegin v lane fault.OutOfMemory = (lane_state v lane.session ≡ Idle) × (v.drawn < last_number)
 RefusesBegin v lane fault.Sessions = ⊥
-RefusesBegin v lane fault.NumbersSpent = (slot_of v lane.session ≡ Idle) × (v.drawn ≡ last_number)
-RefusesBegin v lane fault.Stranger = slot_of v lane.session ≢ Idle
+RefusesBegin v lane fault.NumbersSpent = (lane_state v lane.session ≡ Idle) × (v.drawn ≡ last_number)
+RefusesBegin v lane fault.Stranger = lane_state v lane.session ≢ Idle
 
 -- the session leaves
 pub record Leaves (v w : CoreView) (session : ℕ) : Type 0 where
-  pub idle : slot_of v session ≡ Idle
-  pub own : slot_of w session ≡ Gone
-  pub others : (s : ℕ) → s ≢ session → slot_of w s ≡ slot_of v s
+  pub idle : lane_state v session ≡ Idle
+  pub own : lane_state w session ≡ Gone
+  pub others : (s : ℕ) → s ≢ session → lane_state w s ≡ lane_state v s
   pub joined : joined v ≡ joined w + 1
   pub drawn : w.drawn ≡ v.drawn
   pub joins : w.joins ≡ v.joins

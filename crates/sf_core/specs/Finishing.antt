@@ -5,17 +5,17 @@ use Rattle.sf_call.specs.declared.call.Call.{Call}
 use Rattle.sf_call.specs.declared.call.Stage.TheVariants as stage
 use Rattle.sf_call.specs.Unanswered.{staged}
 use Rattle.sf_inode.specs.Nodes.{with_holder}
-use Rattle.sf_inode.specs.Stores.{StoreState, left_at, edited, left_set}
+use Rattle.sf_inode.specs.Stores.{StoreState, blocks_left_at, edited, left_set}
 use Rattle.sf_walk.specs.declared.files.Writer.{Writer}
 use Rattle.sf_walk.specs.declared.finding.Located.TheVariants as found
 use Rattle.sf_walk.specs.declared.finding.Ways.{Ways}
-use Rattle.sf_walk.specs.Ways.{names_of, IsLocated}
+use Rattle.sf_walk.specs.Ways.{request_names, IsLocated}
 use Rattle.sf_walk.specs.Files.{HasNoWriter, IsWriter, cuts_file, file_handle}
 use Rattle.sf_walk.specs.Steps.{is_one_of}
 use Rattle.sf_walk.specs.Served.{LookedUp}
 use Rattle.sf_core.specs.Cores.{call_at}
 use Rattle.sf_core.specs.Parts.{PartsView}
-use Rattle.sf_core.specs.Sound.{writer_of}
+use Rattle.sf_core.specs.Sound.{writer_of_file}
 
 -- all that was left was copied into a file, which nobody holds any more; the call's reply waits
 abbrev pub write_finished : PartsView → ℕ → ℕ → PartsView
@@ -26,7 +26,7 @@ write_finished p number node = record p {
 
 -- of a file that no call holds nothing is left to be copied
 abbrev pub IsSettledWhereFree : StoreState → Type 0
-IsSettledWhereFree s = (id : ℕ) → writer_of s.nodes id ≡ None → left_at s.nodes id ≡ 0
+IsSettledWhereFree s = (id : ℕ) → writer_of_file s.nodes id ≡ None → blocks_left_at s.nodes id ≡ 0
 
 -- each call's request is the one that it was
 abbrev pub KeepsRequests : PartsView → PartsView → Type 0
@@ -44,7 +44,7 @@ pub record FinishesWriter (p q : PartsView) (c : Call) : Type 0 where
   pub ways : Ways
   pub looked : StoreState
   pub located : IsLocated p.store c.request ways
-  pub looks : LookedUp p.store looked (names_of c.request)
+  pub looks : LookedUp p.store looked (request_names c.request)
   pub finished : (HasNoWriter looked c.request ways.path × (q ≡ record p { store = looked }))
       ⊎ ((w : Writer) × IsWriter looked c.request ways.path w
       × (q ≡ write_finished (record p { store = looked }) w.number w.node))
@@ -56,5 +56,5 @@ pub record IsReadyToHelp (p q : PartsView) (c : Call) (ways : Ways) : Type 0 whe
   pub same : finishes.ways ≡ ways
   pub located : IsLocated q.store c.request ways
   pub cut : (parent node : ℕ) → cuts_file c.request ≡ true → ways.path ≡ found.At parent node
-      → left_at q.store.nodes node ≡ 0
+      → blocks_left_at q.store.nodes node ≡ 0
   pub settled : IsSettledWhereFree q.store

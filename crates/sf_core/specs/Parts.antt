@@ -15,8 +15,8 @@ pub record PartsView : Type 0 where
   pub drawn : ℕ
   pub joins : ℕ
 
-abbrev pub seen : PartsView → CoreView
-seen p = record {
+abbrev pub core_of : PartsView → CoreView
+core_of p = record {
   records = p.book.records;
   keep = p.book.keep;
   folded = p.book.folded;

@@ -17,13 +17,13 @@ use Rattle.sf_walk.specs.Routes.Route.{NoPath, Along, Between}
 use Rattle.sf_walk.specs.Steps.{GoesFrom}
 use Rattle.sf_walk.specs.Files.{holder_by}
 use Rattle.sf_inode.specs.Stores.{StoreState}
-use Rattle.sf_walk.specs.Ways.{names_of as path_names}
+use Rattle.sf_walk.specs.Ways.{request_names as path_names}
 use Rattle.sf_call.specs.Requests.{Target}
 use Rattle.sf_call.specs.Requests.Target.{ByHandle, OnPath, OnPaths}
 
 -- the reply that waits, where another call carried this one out
-unfoldable pub reply_of : Call → Option Reply
-reply_of c = c.reply
+unfoldable pub waiting_reply : Call → Option Reply
+waiting_reply c = c.reply
 
 abbrev pub walks_nothing : Route → Bool
 walks_nothing NoPath = true
@@ -51,12 +51,12 @@ unfoldable pub bound_of : Request → ℕ
 bound_of request = path_names request + 3 + blocks_in request
 
 -- how many of them are left: to a call that copies, as many as there are blocks left
-abbrev pub left_at : Request → Stage → ℕ
-left_at request stage.Fresh = path_names request + 3 + blocks_in request
-left_at request (stage.At walked node) = path_names request + 2 - walked
-left_at request (stage.Ends common old new) =
+abbrev pub steps_left_at : Request → Stage → ℕ
+steps_left_at request stage.Fresh = path_names request + 3 + blocks_in request
+steps_left_at request (stage.At walked node) = path_names request + 2 - walked
+steps_left_at request (stage.Ends common old new) =
     path_names request + 2 - (old.walked + new.walked)
-left_at request (stage.Copies node left) = left
+steps_left_at request (stage.Copies node left) = left
 
 -- a call whose reply waits and that copies nothing makes one step more, which fetches it
 abbrev pub left_decided : Stage → ℕ
@@ -64,11 +64,11 @@ left_decided (stage.Copies node left) = left
 left_decided at = 1
 
 abbrev pub left_by : Request → Stage → Option Reply → ℕ
-left_by request at None = left_at request at
+left_by request at None = steps_left_at request at
 left_by request at (Some given) = left_decided at
 
 unfoldable pub left_of : Call → ℕ
-left_of c = left_by c.request c.stage (reply_of c)
+left_of c = left_by c.request c.stage (waiting_reply c)
 
 -- how far down a call looks next: on two paths that have parted, on the way of the old one up to
 -- its parent, then on the other
@@ -148,13 +148,13 @@ pub record SameCall (c d : Call) : Type 0 where
   pub request : d.request ≡ c.request
 
 -- whether so many names of a path begin with another
-abbrev pub is_past : Path → ℕ → Path → Bool
-is_past path walked old = nat_le (length old) walked && is_some (after_front old path)
+abbrev pub has_walked : Path → ℕ → Path → Bool
+has_walked path walked old = nat_le (length old) walked && is_some (after_front old path)
 
 abbrev pub are_past : List Reached → List Path → Path → Bool
 are_past [] paths front = false
 are_past (r ∷ at) [] front = false
-are_past (r ∷ at) (path ∷ paths) front = is_past path r.walked front || are_past at paths front
+are_past (r ∷ at) (path ∷ paths) front = has_walked path r.walked front || are_past at paths front
 
 -- whether what a call has walked begins with a path
 abbrev pub has_passed : Call → Path → Bool
@@ -170,21 +170,21 @@ old_at (OnPaths old new) = Some old
 abbrev pub overtaken : List (ℕ × Call) → ℕ → Option Path → List ℕ
 overtaken calls number None = []
 overtaken calls number (Some old) = map (λ e. e.0) (filter (λ e. not (nat_eq e.0 number)
-    && is_none (reply_of e.1) && has_passed e.1 old) calls)
+    && is_none (waiting_reply e.1) && has_passed e.1 old) calls)
 
 -- how many calls have no record
 abbrev pub undecided_in : List (ℕ × Call) → ℕ
-undecided_in calls = length (filter (λ e. is_none (reply_of e.1)) calls)
+undecided_in calls = length (filter (λ e. is_none (waiting_reply e.1)) calls)
 
 -- how many names the paths of the calls among the records have
-abbrev pub names_in : Record → ℕ
-names_in (Did number session moment request given) = path_names request
-names_in (Left session) = 0
+abbrev pub names_in_record : Record → ℕ
+names_in_record (Did number session moment request given) = path_names request
+names_in_record (Left session) = 0
 
-abbrev pub names_of : List Record → ℕ
-names_of records = sum (map names_in records)
+abbrev pub names_in_records : List Record → ℕ
+names_in_records records = sum (map names_in_record records)
 
 -- the numbers of the calls among the records
-abbrev pub number_at : Record → Option ℕ
-number_at (Did number session moment request given) = Some number
-number_at (Left session) = None
+abbrev pub record_number : Record → Option ℕ
+record_number (Did number session moment request given) = Some number
+record_number (Left session) = None

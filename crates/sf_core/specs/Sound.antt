@@ -14,14 +14,14 @@ use Rattle.sf_call.specs.declared.request.Request.TheVariants as request
 use Rattle.sf_call.specs.Values.{IsCall}
 use Rattle.sf_inode.specs.declared.node.Node.{Node}
 use Rattle.sf_inode.specs.declared.handle.OpenHandle.{OpenHandle}
-use Rattle.sf_inode.specs.Stores.{StoreState, holder_of, handle_at, left_at, is_directory_at, is_file_at}
-use Rattle.sf_copying.specs.Copies.{Copying, copying, AreCopies, Scene as CopyingScene}
-use Rattle.sf_coupling.specs.Walks.{Spot, scene, AreWalks}
+use Rattle.sf_inode.specs.Stores.{StoreState, holder_of, open_handle_at, blocks_left_at, is_directory_at, is_file_at}
+use Rattle.sf_copying.specs.Copies.{Copying, copying, AreCopies, Copiers as CopyingScene}
+use Rattle.sf_coupling.specs.Walks.{Spot, walkers_at, AreWalks}
 use Rattle.sf_walk.specs.Routes.{IsPosition, route_of, spots_of, terrain}
 use Rattle.sf_core.specs.Cores.{call_at, session_at, last_number}
-use Rattle.sf_core.specs.Progress.{reply_of, undecided_in, copy_of, IsCopying}
+use Rattle.sf_core.specs.Progress.{waiting_reply, undecided_in, copy_of, IsCopying}
 use Rattle.sf_core.specs.Histories.{IsHistory}
-use Rattle.sf_core.specs.Parts.{PartsView, seen}
+use Rattle.sf_core.specs.Parts.{PartsView, core_of}
 
 -- what a call holds
 abbrev pub spots_at : Call → List Spot
@@ -34,21 +34,21 @@ spots_in calls number = option_map_or spots_at (call_at calls number) []
 abbrev pub walker_of : List (Option Node) → ℕ → Option ℕ
 walker_of nodes id = if is_directory_at nodes id then holder_of nodes id else None
 
-abbrev pub writer_of : List (Option Node) → ℕ → Option ℕ
-writer_of nodes id = if is_file_at nodes id then holder_of nodes id else None
+abbrev pub writer_of_file : List (Option Node) → ℕ → Option ℕ
+writer_of_file nodes id = if is_file_at nodes id then holder_of nodes id else None
 
 -- a call whose reply waits stands nowhere, or copies
-abbrev pub IsResting : Stage → Type 0
-IsResting at = (at ≡ stage.Fresh) ⊎ IsCopying at
+abbrev pub IsAtRest : Stage → Type 0
+IsAtRest at = (at ≡ stage.Fresh) ⊎ IsCopying at
 
 -- The calls' walks are coupled, and each undecided one is on its route; one whose reply waits holds
 -- no directory.
 pub record Coupled (p : PartsView) : Type 0 where
-  pub walks : AreWalks (scene (terrain p.store) (spots_in p.calls) (walker_of p.store.nodes))
-  pub positions : (number : ℕ) (c : Call) → call_at p.calls number ≡ Some c → reply_of c ≡ None
+  pub walks : AreWalks (walkers_at (terrain p.store) (spots_in p.calls) (walker_of p.store.nodes))
+  pub positions : (number : ℕ) (c : Call) → call_at p.calls number ≡ Some c → waiting_reply c ≡ None
       → IsPosition (route_of c.request) c.stage
   pub waiting : (number : ℕ) (c : Call) (given : Reply) → call_at p.calls number ≡ Some c
-      → reply_of c ≡ Some given → IsResting c.stage
+      → waiting_reply c ≡ Some given → IsAtRest c.stage
 
 -- what a call copies into
 abbrev pub copying_at : Stage → Option Copying
@@ -61,8 +61,8 @@ copying_in calls number = option_and_then (λ (c : Call). copying_at c.stage) (c
 abbrev pub copying_scene : StoreState → List (ℕ × Call) → CopyingScene
 copying_scene s calls = record {
   copying_of = copying_in calls;
-  writer = writer_of s.nodes;
-  left = left_at s.nodes;
+  writer = writer_of_file s.nodes;
+  left = blocks_left_at s.nodes;
 }
 
 -- a WRITE that copies: its own session's handle opens the file, and its reply waits
@@ -72,10 +72,10 @@ pub record IsWriting (s : StoreState) (c : Call) (file : ℕ) : Type 0 where
   pub bytes : List ℕ
   pub write : c.request ≡ request.Write handle offset bytes
   pub opened : OpenHandle
-  pub opens : handle_at s c.session handle ≡ Some opened
+  pub opens : open_handle_at s c.session handle ≡ Some opened
   pub leads : opened.node ≡ file
   pub given : Reply
-  pub decided : reply_of c ≡ Some given
+  pub decided : waiting_reply c ≡ Some given
 
 -- Each call that copies holds its file, which is a WRITE's; no other file is held, and of one that
 -- nobody holds nothing is left to be copied.
@@ -89,7 +89,7 @@ pub record IsCallOf (sessions : List (ℕ × Option ℕ)) (drawn number : ℕ) (
   pub is_number : c.number ≡ number
   pub above : 0 < number
   pub most : number ≤ drawn
-  pub copied : reply_of c ≡ None → c.copy ≡ copy_of (route_of c.request) c.request
+  pub copied : waiting_reply c ≡ None → c.copy ≡ copy_of (route_of c.request) c.request
   pub is_call : IsCall number c.session c.moment c.request
   pub session : session_at sessions c.session ≡ Some (Some number)
 
@@ -114,7 +114,7 @@ pub record Ledger (p : PartsView) : Type 0 where
   pub sessions_rise : T (is_sorted nat_cmp p.sessions)
 
 pub record Sound (p : PartsView) (h : List Record) : Type 0 where
-  pub history : IsHistory (seen p) h
+  pub history : IsHistory (core_of p) h
   pub coupled : Coupled p
   pub copied : Copied p
   pub ledger : Ledger p

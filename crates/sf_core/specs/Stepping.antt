@@ -24,8 +24,8 @@ use Rattle.sf_walk.specs.Files.{IsFileFree, WaitsForFile}
 use Rattle.sf_walk.specs.Served.{IsCarriedOut, IsRefused, IsUnused, NodesStay, may_want_memory}
 use Rattle.sf_walk.specs.Routes.{route_of, nodes_of}
 use Rattle.sf_walk.specs.Steps.{Advances, walker, let_go}
-use Rattle.sf_core.specs.declared.parts.Outcome.{Outcome}
-use Rattle.sf_core.specs.declared.parts.Outcome.TheVariants as outcome
+use Rattle.sf_core.specs.declared.parts.WalkOutcome.{WalkOutcome}
+use Rattle.sf_core.specs.declared.parts.WalkOutcome.TheVariants as outcome
 use Rattle.sf_core.specs.Cores.{call_at, session_at}
 use Rattle.sf_core.specs.Progress.{did, is_write, new_call, overtaken, IsCopying}
 use Rattle.sf_core.specs.Parts.{PartsView}
@@ -103,19 +103,19 @@ pub record Walked (p q : PartsView) (c : Call) (number : ℕ) (step : Walk) : Ty
 
 -- A session's call was to go on: it is none of the session's; or its reply waits, or it is still to
 -- copy; or another call holds its file; or it is a WRITE that is to start; or it made a step.
-abbrev pub ComesTo : PartsView → PartsView → ℕ → ℕ → Outcome → Type 0
-ComesTo p q session number outcome.Foreign =
+abbrev pub WalkComesTo : PartsView → PartsView → ℕ → ℕ → WalkOutcome → Type 0
+WalkComesTo p q session number outcome.Foreign =
     (q ≡ p) × ((c : Call) → call_at p.calls number ≡ Some c → c.session ≡ session → ⊥)
-ComesTo p q session number outcome.Waits = (q ≡ p) × (c : Call) × (call_at p.calls number ≡ Some c)
+WalkComesTo p q session number outcome.Waits = (q ≡ p) × (c : Call) × (call_at p.calls number ≡ Some c)
     × (c.session ≡ session) × IsSome c.reply × (c.stage ≡ stage.Fresh)
-ComesTo p q session number outcome.Copies = (q ≡ p) × (c : Call) × (call_at p.calls number ≡ Some c)
+WalkComesTo p q session number outcome.Copies = (q ≡ p) × (c : Call) × (call_at p.calls number ≡ Some c)
     × (c.session ≡ session) × IsCopying c.stage
-ComesTo p q session number (outcome.FileHeld holder) = (q ≡ p) × (c : Call)
+WalkComesTo p q session number (outcome.FileHeld holder) = (q ≡ p) × (c : Call)
     × (call_at p.calls number ≡ Some c) × (c.session ≡ session) × (c.reply ≡ None)
     × WaitsForFile p.store c holder
-ComesTo p q session number outcome.Writes = (q ≡ p) × (c : Call) × (call_at p.calls number ≡ Some c)
+WalkComesTo p q session number outcome.Writes = (q ≡ p) × (c : Call) × (call_at p.calls number ≡ Some c)
     × (c.session ≡ session) × (c.reply ≡ None) × IsFileFree p.store c × (is_write c.request ≡ true)
-ComesTo p q session number (outcome.Walked step) = (c : Call) × (call_at p.calls number ≡ Some c)
+WalkComesTo p q session number (outcome.Walked step) = (c : Call) × (call_at p.calls number ≡ Some c)
     × (c.session ≡ session) × (c.reply ≡ None) × IsFileFree p.store c × Walked p q c number step
 
 -- the stage after a step
@@ -138,34 +138,34 @@ abbrev pub come_to : PartsView → ℕ → StoreState → Stage → PartsView
 come_to p number s at = record p { store = s; calls = staged p.calls number at }
 
 -- it made a step, or came to where it decides
-abbrev pub IsWalked : Outcome → Type 0
+abbrev pub IsWalked : WalkOutcome → Type 0
 IsWalked (outcome.Walked walk) = Unit {0}
 IsWalked _ = ⊥
 
 -- whether a step moved the call
-abbrev pub is_move : Outcome → Bool
+abbrev pub is_move : WalkOutcome → Bool
 is_move (outcome.Walked (walk.Moved after)) = true
 is_move _ = false
 
 -- a step of a session's call
-pub record Stepped (p : PartsView) (session number : ℕ) (result : Outcome)
+pub record CallStep (p : PartsView) (session number : ℕ) (result : WalkOutcome)
     (q : PartsView) : Type 0 where
   pub core : IsCore p
   pub fits : p.store.look_ups < 2 ^ 64
-  pub comes : ComesTo p q session number result
+  pub comes : WalkComesTo p q session number result
 
 -- so many steps, one after the other, each of which moved
 unfoldable pub Moved : ℕ → PartsView → ℕ → ℕ → PartsView → Type 0
 Moved zero p session number q = q ≡ p
 Moved (suc n) p session number q = (mid : PartsView) × Moved n p session number mid
-    × ((after : Stage) × Stepped mid session number (outcome.Walked (walk.Moved after)) q)
+    × ((after : Stage) × CallStep mid session number (outcome.Walked (walk.Moved after)) q)
 
 -- what steps came to: the last one, and the core's parts after it
 pub record Ending : Type 0 where
-  pub outcome : Outcome
+  pub outcome : WalkOutcome
   pub parts : PartsView
 
-abbrev pub ending : Outcome → PartsView → Ending
+abbrev pub ending : WalkOutcome → PartsView → Ending
 ending result q = record { outcome = result; parts = q }
 
 -- Walking on, by so many steps at most: all moved but the last, and this one too only where no more
@@ -175,7 +175,7 @@ pub record WalkState (p : PartsView) (session number most : ℕ) (e : Ending) : 
   pub mid : PartsView
   pub few : moves < most
   pub moved : Moved moves p session number mid
-  pub last : Stepped mid session number e.outcome e.parts
+  pub last : CallStep mid session number e.outcome e.parts
   pub full : (after : Stage) → e.outcome ≡ outcome.Walked (walk.Moved after) → moves + 1 ≡ most
 
 -- the store where a call holds nothing any more
@@ -183,7 +183,7 @@ abbrev pub freed : Stage → StoreState → StoreState
 freed at s = let_go [] (nodes_of at) s
 
 -- a call was answered on the store
-pub record Serves (old new : StoreState) (c : Call) (given : Reply) : Type 0 where
+pub record ServesCall (old new : StoreState) (c : Call) (given : Reply) : Type 0 where
   pub served : (t : Tree) → Keeps old t → IsUnused t c.number → IsRefused old new t given
       ⊎ IsCarriedOut new t (answer_to t c.session c.number c.moment c.request) given
   pub sure : (t : Tree) → Keeps old t → IsUnused t c.number
@@ -194,7 +194,7 @@ pub record Serves (old new : StoreState) (c : Call) (given : Reply) : Type 0 whe
 -- A call was answered on the store: its record is the next one, and it holds nothing any more.
 pub record Records (p q : PartsView) (c : Call) (given : Reply) : Type 0 where
   pub mid : StoreState
-  pub serves : Serves p.store mid c given
+  pub serves : ServesCall p.store mid c given
   pub store : q.store ≡ freed c.stage mid
   pub book : q.book ≡ put p.book (did c given)
   pub drawn : q.drawn ≡ p.drawn

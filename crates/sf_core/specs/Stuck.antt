@@ -4,8 +4,8 @@ use Rattle.sf_call.specs.declared.call.Call.{Call}
 use Rattle.sf_core.specs.declared.step.Step.{Step}
 use Rattle.sf_core.specs.declared.step.Step.TheVariants.{Moved, Blocked, Answered, Stranger}
 use Rattle.sf_core.specs.Lanes.{LaneView}
-use Rattle.sf_core.specs.Cores.{CoreView, Slot, slot_of}
-use Rattle.sf_core.specs.Cores.Slot.{Gone, Idle, Busy}
+use Rattle.sf_core.specs.Cores.{CoreView, LaneState, lane_state}
+use Rattle.sf_core.specs.Cores.LaneState.{Gone, Idle, Busy}
 use Rattle.sf_core.specs.Progress.{left_of}
 use Rattle.sf_core.specs.Events.{OwnCall, StepsOn}
 
@@ -20,7 +20,7 @@ is_onward Stranger = false
 -- it.
 pub record CanGoOn (v : CoreView) (session : ℕ) : Type 0 where
   pub call : Call
-  pub slot : slot_of v session ≡ Busy call
+  pub slot : lane_state v session ≡ Busy call
   pub own : call.session ≡ session
   pub steps : (lane : LaneView) → OwnCall v lane call → (s : Step) (w : CoreView)
       (lane' : LaneView) → StepsOn v lane s w lane' → is_onward s ≡ true
@@ -28,15 +28,15 @@ pub record CanGoOn (v : CoreView) (session : ℕ) : Type 0 where
 -- where a session has an unanswered call, there is a session whose call can go on
 abbrev pub IsNeverStuck : CoreView → Type 0
 IsNeverStuck v =
-    (session : ℕ) (call : Call) → slot_of v session ≡ Busy call → (other : ℕ) × CanGoOn v other
+    (session : ℕ) (call : Call) → lane_state v session ≡ Busy call → (other : ℕ) × CanGoOn v other
 
 -- how many steps are left to a session's call, if it has one
-abbrev pub left_in : Slot → ℕ
-left_in Gone = 0
-left_in Idle = 0
-left_in (Busy call) = left_of call
+abbrev pub steps_left_in : LaneState → ℕ
+steps_left_in Gone = 0
+steps_left_in Idle = 0
+steps_left_in (Busy call) = left_of call
 
 -- and to the calls of all sessions below a number
 abbrev pub left_below : CoreView → ℕ → ℕ
 left_below v zero = 0
-left_below v (suc n) = left_below v n + left_in (slot_of v n)
+left_below v (suc n) = left_below v n + steps_left_in (lane_state v n)

@@ -15,11 +15,11 @@ use Rattle.sf_call.specs.Unanswered.{staged, answered}
 use Rattle.sf_book.specs.Books.{put}
 use Rattle.sf_inode.specs.Nodes.{with_holder}
 use Rattle.sf_inode.specs.declared.handle.OpenHandle.{OpenHandle}
-use Rattle.sf_inode.specs.Stores.{StoreState, handle_at, left_at, edited, left_set}
+use Rattle.sf_inode.specs.Stores.{StoreState, open_handle_at, blocks_left_at, edited, left_set}
 use Rattle.sf_keeps.specs.Keeps.{Keeps}
 use Rattle.sf_walk.specs.declared.files.Copying.{Copying}
 use Rattle.sf_walk.specs.declared.finding.Located.TheVariants as located
-use Rattle.sf_walk.specs.Files.{IsCopied, IsSettled, IsWrite, Starts, start_by}
+use Rattle.sf_walk.specs.Files.{CopiesIntoFile, IsSettled, IsWriteRequest, StartsWriting, start_by}
 use Rattle.sf_walk.specs.Served.{IsCarriedOut, IsRefused}
 use Rattle.sf_core.specs.Progress.{did}
 use Rattle.sf_core.specs.declared.step.Step.{Step}
@@ -33,7 +33,7 @@ use Rattle.sf_core.specs.Stepping.{FinishState, FetchState}
 -- a WRITE that may make its first step: it is the call of the number, and no other one has left
 -- anything to be copied into its file
 pub record IsReadyToWrite (p : PartsView) (c : Call) (number : ℕ) : Type 0 where
-  pub write : IsWrite c.request
+  pub write : IsWriteRequest c.request
   pub settled : IsSettled p.store c.session c.request located.NoWay
   pub copied : c.copy ≡ Some c.request
   pub is_number : c.number ≡ number
@@ -45,7 +45,7 @@ pub record StartsWrite (old new : StoreState) (c : Call) (given : Reply) : Type 
       ⊎ IsCarriedOut new t (answer_to t c.session c.number c.moment c.request) given
   pub starts : (number offset : ℕ) (bytes : List ℕ) (h : OpenHandle)
       → c.request ≡ request.Write number offset bytes
-      → handle_at old c.session number ≡ Some h → Starts old new h offset bytes
+      → open_handle_at old c.session number ≡ Some h → StartsWriting old new h offset bytes
   pub sessions : new.sessions ≡ old.sessions
   pub look_ups : new.look_ups ≡ old.look_ups
 
@@ -55,7 +55,7 @@ pub record WriteState (p q : PartsView) (c : Call) (number : ℕ) (given : Reply
     (into : Copying) : Type 0 where
   pub mid : StoreState
   pub begins : StartsWrite p.store mid c given
-  pub copied : IsCopied mid c into
+  pub copied : CopiesIntoFile mid c into
   pub store : q.store ≡ edited (with_holder (Some number)) mid into.node
   pub book : q.book ≡ put p.book (did c given)
   pub sessions : q.sessions ≡ p.sessions
@@ -71,8 +71,8 @@ part_copied p number node left = record p {
   calls = staged p.calls number (stage.Copies node left);
 }
 
-abbrev pub HasBegun : PartsView → PartsView → Call → ℕ → Type 0
-HasBegun p q c number = (given : Reply) × (into : Copying) × WriteState p q c number given into
+abbrev pub HasBegunWrite : PartsView → PartsView → Call → ℕ → Type 0
+HasBegunWrite p q c number = (given : Reply) × (into : Copying) × WriteState p q c number given into
 
 -- the WRITE of the number holds its file: its record is the next one, and its reply waits
 abbrev pub file_held : PartsView → Call → ℕ → Reply → Reply → Copying → PartsView
@@ -92,7 +92,7 @@ pub record CopiesNow (p : PartsView) (number node left : ℕ) : Type 0 where
   pub call : Call
   pub there : call_at p.calls number ≡ Some call
   pub is : call.stage ≡ stage.Copies node left
-  pub left_is : left_at p.store.nodes node ≡ left
+  pub left_is : blocks_left_at p.store.nodes node ≡ left
   pub some : 0 < left
   pub given : Reply
   pub waits : call.reply ≡ Some given
@@ -101,7 +101,7 @@ abbrev pub IsCopyingOn : PartsView → ℕ → Type 0
 IsCopyingOn p number = (node : ℕ) × (left : ℕ) × CopiesNow p number node left
 
 -- it copied one block, and so many are left
-pub record CopiesBlock (p q : PartsView) (number left : ℕ) : Type 0 where
+pub record CopiedBlock (p q : PartsView) (number left : ℕ) : Type 0 where
   pub node : ℕ
   pub was : CopiesNow p number node (left + 1)
   pub now : q ≡ block_copied p number node left
@@ -110,7 +110,7 @@ pub record CopiesBlock (p q : PartsView) (number left : ℕ) : Type 0 where
 unfoldable pub CopiedOn : ℕ → PartsView → ℕ → PartsView → Type 0
 CopiedOn zero p number q = q ≡ p
 CopiedOn (suc n) p number q = (mid : PartsView) × CopiedOn n p number mid
-    × ((left : ℕ) × CopiesBlock mid q number (suc left))
+    × ((left : ℕ) × CopiedBlock mid q number (suc left))
 
 -- all blocks were copied, in so many steps at most, and this reply was fetched
 pub record EndsCopying (p q : PartsView) (session number most : ℕ) (given : Reply) : Type 0 where
@@ -119,14 +119,14 @@ pub record EndsCopying (p q : PartsView) (session number most : ℕ) (given : Re
   pub mid : PartsView
   pub copied : CopiedOn count p number mid
   pub last : PartsView
-  pub ends : CopiesBlock mid last number 0
+  pub ends : CopiedBlock mid last number 0
   pub told : ends.was.given ≡ given
   pub fetched : FetchState last q session number
 
 -- a WRITE of some bytes that succeeds writes one block
 abbrev pub CopiesOne : StoreState → Call → Reply → Type 0
 CopiesOne s c given = (number offset : ℕ) (bytes : List ℕ) (h : OpenHandle)
-    → c.request ≡ request.Write number offset bytes → handle_at s c.session number ≡ Some h
+    → c.request ≡ request.Write number offset bytes → open_handle_at s c.session number ≡ Some h
     → is_nil bytes ≡ false → given ≡ reply.Status Success → blocks_of (start_by s h offset) bytes ≡ 1
 
 -- A WRITE made its first step, and as many more as it might: it was decided with the first one; or
@@ -134,16 +134,16 @@ CopiesOne s c given = (number offset : ℕ) (bytes : List ℕ) (h : OpenHandle)
 pub data WritesOn (p q : PartsView) (c : Call) (session number most : ℕ) : Option Reply → Type 0 where
   AtOnce : (given : Reply) → FinishState p q c number given → CopiesOne p.store c given
       → WritesOn p q c session number most (Some given)
-  ToTheEnd : (given : Reply) (mid : PartsView) → HasBegun p mid c number
+  ToTheEnd : (given : Reply) (mid : PartsView) → HasBegunWrite p mid c number
       → EndsCopying mid q session number (most - 1) given
       → WritesOn p q c session number most (Some given)
-  UpToThere : (mid : PartsView) → HasBegun p mid c number → CopiedOn (most - 1) mid number q
+  UpToThere : (mid : PartsView) → HasBegunWrite p mid c number → CopiedOn (most - 1) mid number q
       → WritesOn p q c session number most None
 
 -- a step moved the lane's call, or answered it and left the lane at rest
-abbrev pub Tells : ℕ → LaneView → Option Reply → Step → LaneView → Type 0
-Tells number lane None step after = (step ≡ Moved) × (after ≡ lane)
-Tells number lane (Some given) step after = (step ≡ Answered (record {
+abbrev pub ReportsStep : ℕ → LaneView → Option Reply → Step → LaneView → Type 0
+ReportsStep number lane None step after = (step ≡ Moved) × (after ≡ lane)
+ReportsStep number lane (Some given) step after = (step ≡ Answered (record {
   number = number;
   session = lane.session;
   reply = given;

@@ -4,18 +4,18 @@ ghost use Rattle.std.specs.Prelude.{◌≡◌, ◌≢◌, ◌<◌, ◌+◌, ◌+
 ghost use Rattle.sf_call.specs.declared.record.Record.{Record};
 ghost use Rattle.sf_call.specs.declared.record.Record.TheVariants.{Left};
 ghost use Rattle.sf_call.specs.Histories.{IsGiven};
-ghost use Rattle.sf_core.specs.Cores.{Slot, new_core, slot_of, joined, last_number, most_sessions};
-ghost use Rattle.sf_core.specs.Cores.Slot.{Idle};
+ghost use Rattle.sf_core.specs.Cores.{LaneState, new_core, lane_state, joined, last_number, most_sessions};
+ghost use Rattle.sf_core.specs.Cores.LaneState.{Idle};
 ghost use Rattle.sf_core.specs.Histories.{IsHistory};
 ghost use Rattle.sf_core.specs.Progress.{is_at_once};
 ghost use Rattle.sf_reply.specs.declared.reply.Reply.{Reply};
 ghost use Rattle.sf_core.specs.Stuck.{IsNeverStuck};
 ghost use Rattle.sf_core.specs.declared.step.Step.TheVariants.{Answered};
-ghost use Rattle.sf_core.specs.Writing.{Tells};
-ghost use Rattle.sf_core.specs.Events.{StepsOn, Walks, Joins, Begins, begun, AnswersAtOnce, Leaves, RefusesJoin, RefusesBegin, came};
+ghost use Rattle.sf_core.specs.Writing.{ReportsStep};
+ghost use Rattle.sf_core.specs.Events.{StepsOn, Walks, Joins, CallBegins, begun, AnswersAtOnce, Leaves, RefusesJoin, RefusesBegin, came};
 
 use crate::lane::{Lane, Share};
-use crate::parts::{Outcome, Parts};
+use crate::parts::{Parts, WalkOutcome};
 use crate::step::Step;
 use sf_book::Book;
 use sf_call::{Answer, CoreFault, Record, Request};
@@ -52,12 +52,12 @@ impl Model for Core {
     ghost use Rattle.sf_core.specs.Progress.{undecided_in};
     ghost use Rattle.std.specs.Vec.{vec_capacity};
     ghost use Rattle.sf_core.specs.Cores.{CoreView};
-    ghost use Rattle.sf_core.specs.Parts.{seen};
+    ghost use Rattle.sf_core.specs.Parts.{core_of};
     ghost use Rattle.sf_core.specs.Sound.{IsCore};
 
     ghost Value = { CoreView };
 
-    ghost view = { λ core. seen core.parts };
+    ghost view = { λ core. core_of core.parts };
 
     ghost invariant = { λ core. IsCore core.parts
         × (undecided_in core.parts.calls ≤ vec_capacity core.overtaken) };
@@ -133,7 +133,7 @@ impl Core {
     /// and for its number where it is overtaken.
     pub fn begin(&mut self, lane: &mut Lane, request: Request, moment: u32) -> Result<(), CoreFault>
         requires { lane.old.call ≡ None }
-        ensures ok { OnOk result (Begins self.old self.new lane.old request moment) }
+        ensures ok { OnOk result (CallBegins self.old self.new lane.old request moment) }
         ensures place { OnOk result (lane.new ≡ begun lane.old self.new.drawn) }
         ensures history { OnOk result ((h : List Record) → IsHistory self.old h
             → IsHistory self.new h) }
@@ -171,7 +171,7 @@ impl Core {
             AnswersAtOnce self.old lane.old request moment
             (came (Answered answer) self.new lane.new))) }
         ensures begun { IfOk result (λ made. IfNone made
-            (Begins self.old self.new lane.old request moment
+            (CallBegins self.old self.new lane.old request moment
             × (lane.new ≡ begun lane.old self.new.drawn)
             × ((h : List Record) → IsHistory self.old h → IsHistory self.new h))) }
         ensures later { IfOk result (λ made. IfNone made
@@ -227,26 +227,26 @@ impl Core {
             return Step::Stranger;
         };
         match self.parts.walk_on(lane.session, number, most) {
-            Outcome::Foreign => Step::Stranger,
-            Outcome::Waits => {
+            WalkOutcome::Foreign => Step::Stranger,
+            WalkOutcome::Waits => {
                 let Some(reply) = self.parts.fetch(lane.session, number) else {
                     unreachable!();
                 };
                 lane.call = None;
                 Step::Answered(Answer::new(number, lane.session, reply))
             }
-            Outcome::Copies => {
+            WalkOutcome::Copies => {
                 let reply = self.parts.copy_on(lane.session, number, most);
                 told(lane, number, reply)
             }
-            Outcome::FileHeld(holder) => Step::Blocked(holder),
-            Outcome::Writes => {
+            WalkOutcome::FileHeld(holder) => Step::Blocked(holder),
+            WalkOutcome::Writes => {
                 let reply = self.parts.write_on(lane.session, number, most);
                 told(lane, number, reply)
             }
-            Outcome::Walked(Walk::Moved(_)) => Step::Moved,
-            Outcome::Walked(Walk::Blocked(holder)) => Step::Blocked(holder),
-            Outcome::Walked(Walk::Ready(ways)) => {
+            WalkOutcome::Walked(Walk::Moved(_)) => Step::Moved,
+            WalkOutcome::Walked(Walk::Blocked(holder)) => Step::Blocked(holder),
+            WalkOutcome::Walked(Walk::Ready(ways)) => {
                 self.parts.overtake(number, ways, &mut self.overtaken);
                 let reply = self.parts.finish(number, ways);
                 lane.call = None;
@@ -265,7 +265,7 @@ impl Core {
         ensures history { OnOk result ((h : List Record) → IsHistory self.old h
             → IsHistory self.new (h ++ Left lane.session ∷ [])) }
         ensures err { OnErr result ((self.new ≡ self.old)
-            × (slot_of self.old lane.session ≢ Idle)) }
+            × (lane_state self.old lane.session ≢ Idle)) }
     {
         if !self.parts.is_idle(lane.session) {
             return Err(lane);
@@ -313,7 +313,7 @@ impl Core {
 /// What steps of a WRITE came to: it is answered, and the lane is at rest; or it has more to copy.
 fn told(lane: &mut Lane, number: u64, reply: Option<Reply>) -> Step
     requires { (given : Reply) → reply ≡ Some given → IsGiven number lane.old.session given }
-    ensures { Tells number lane.old reply result lane.new }
+    ensures { ReportsStep number lane.old reply result lane.new }
 {
     match reply {
         None => Step::Moved,

@@ -9,18 +9,18 @@ ghost use Rattle.sf_call.specs.Tree.{after_front};
 ghost use Rattle.sf_call.specs.Unanswered.{at_stage};
 ghost use Rattle.sf_inode.specs.Stores.{is_directory_at};
 ghost use Rattle.sf_call.specs.declared.call.Stage.TheVariants as stage;
-ghost use Rattle.sf_inode.specs.Stores.{left_at};
+ghost use Rattle.sf_inode.specs.Stores.{blocks_left_at};
 ghost use Rattle.sf_walk.specs.Files.{IsSettled, file_handle};
 ghost use Rattle.sf_walk.specs.Ways.{IsLocated};
-ghost use Rattle.sf_walk.specs.Routes.{Stands, route_of, route_in};
+ghost use Rattle.sf_walk.specs.Routes.{HoldsWay, route_of, route_in};
 ghost use Rattle.sf_walk.specs.Steps.{Advances, walker};
 ghost use Rattle.sf_core.specs.Cores.{call_at, session_at};
 ghost use Rattle.sf_core.specs.Sound.{IsCore};
-ghost use Rattle.sf_core.specs.Progress.{reply_of, has_passed, is_at_once, is_past, is_write, overtaken, undecided_in, copy_of, old_at, did};
-ghost use Rattle.sf_core.specs.declared.parts.Outcome.TheVariants as outcome;
+ghost use Rattle.sf_core.specs.Progress.{waiting_reply, has_passed, is_at_once, has_walked, is_write, overtaken, undecided_in, copy_of, old_at, did};
+ghost use Rattle.sf_core.specs.declared.parts.WalkOutcome.TheVariants as outcome;
 ghost use Rattle.sf_core.specs.Parts.{PartsView};
 ghost use Rattle.sf_core.specs.Finishing.{AreOnPaths, IsReadyToHelp, IsSettledWhereFree, KeepsRequests, write_finished};
-ghost use Rattle.sf_core.specs.Writing.{CopiedOn, CopiesNow, CopiesOne, EndsCopying, HasBegun, IsCopyingOn, IsReadyToWrite, WritesOn, block_copied, file_held};
+ghost use Rattle.sf_core.specs.Writing.{CopiedOn, CopiesNow, CopiesOne, EndsCopying, HasBegunWrite, IsCopyingOn, IsReadyToWrite, WritesOn, block_copied, file_held};
 ghost use Rattle.sf_core.specs.Stepping.{IsNewParts, SameButRoom, JoinState, BeginState, FinishState, FetchState, gone, Overtakes, Helps, HelpsAll, LeaveState, AtOnceState, IsUnderWay, IsWalked, WalkState, come_to, is_move, stage_after, freed, set_back, all_set_back, ending};
 
 use crate::sessions::Sessions;
@@ -38,7 +38,7 @@ use std::marker::Model;
 
 /// What a call came to that was to go on.
 #[derive(Clone, Copy, Debug)]
-pub(crate) enum Outcome {
+pub(crate) enum WalkOutcome {
     /// It is no call of the session.
     Foreign,
     /// Its reply waits for the session.
@@ -252,7 +252,7 @@ impl Parts {
 
     /// Takes a session's call on, up to a step that doesn't move it, by so many steps at most,
     /// unless its reply waits. The stage that it has come to is noted once.
-    pub(crate) fn walk_on(&mut self, session: u64, number: u64, most: u64) -> Outcome
+    pub(crate) fn walk_on(&mut self, session: u64, number: u64, most: u64) -> WalkOutcome
         requires core { IsCore self.old }
         requires some { 0 < most }
         ensures comes { WalkState self.old session number most (ending result self.new) }
@@ -261,22 +261,22 @@ impl Parts {
     {
         let _count = self.store.look_ups();
         let Some(call) = self.calls.get(number) else {
-            return Outcome::Foreign;
+            return WalkOutcome::Foreign;
         };
         if call.session != session {
-            return Outcome::Foreign;
+            return WalkOutcome::Foreign;
         }
         if let Stage::Copies { .. } = call.stage {
-            return Outcome::Copies;
+            return WalkOutcome::Copies;
         }
         if call.reply.is_some() {
-            return Outcome::Waits;
+            return WalkOutcome::Waits;
         }
         if let Some(holder) = file_holder(&self.store, call) {
-            return Outcome::FileHeld(holder);
+            return WalkOutcome::FileHeld(holder);
         }
         if is_write(&call.request) {
-            return Outcome::Writes;
+            return WalkOutcome::Writes;
         }
         let mut stage = call.stage;
         let walk = go_on(
@@ -287,7 +287,7 @@ impl Parts {
             most,
         );
         self.calls.set_stage(number, stage);
-        Outcome::Walked(walk)
+        WalkOutcome::Walked(walk)
     }
 
     /// Takes the call of a number out, where its reply waits for the session.
@@ -314,7 +314,7 @@ impl Parts {
             → FinishState self.old self.new c number given
             × CopiesOne self.old.store c given) }
         ensures begun { IfNone result ((c : Call) → call_at self.old.calls number ≡ Some c
-            → HasBegun self.old self.new c number) }
+            → HasBegunWrite self.old self.new c number) }
     {
         let Some(call) = self.calls.get(number) else {
             unreachable!();
@@ -626,7 +626,7 @@ fn go_on(store: &mut Store, call: &Call, route: Route<'_>, stage: &mut Stage, mo
 /// Takes a call one step on from a stage.
 fn step(store: &mut Store, number: u64, route: Route<'_>, stage: &mut Stage) -> Walk
     requires root { is_directory_at store.old.nodes store.old.root ≡ true }
-    requires stands { Stands store.old (route_in route) stage.old }
+    requires stands { HoldsWay store.old (route_in route) stage.old }
     ensures advances { Advances store.old store.new (walker number (route_in route.entry) stage.old)
         result }
     ensures stage { stage.new ≡ stage_after result stage.old }
@@ -686,7 +686,7 @@ fn overtaken(calls: &Calls, number: u64, old: &Path, numbers: &mut Vec<u64>)
 #[tactic(auto, using(crate::proofs::Maps::reply_is))]
 fn is_overtaken(call: &Call, other: u64, number: u64, old: &Path) -> bool
     ensures { result
-        ≡ (not (nat_eq other number) && is_none (reply_of call.now)
+        ≡ (not (nat_eq other number) && is_none (waiting_reply call.now)
         && has_passed call.now old.now) }
 {
     other != number && call.reply.is_none() && has_passed(call, old)
@@ -723,7 +723,7 @@ fn has_passed(call: &Call, front: &Path) -> bool
 
 /// Whether so many names of a path begin with another.
 fn is_past(path: &Path, walked: usize, front: &Path) -> bool
-    ensures { result ≡ is_past path.now walked front.now }
+    ensures { result ≡ has_walked path.now walked front.now }
 {
     front.len() <= walked && begins(path, front)
 }

@@ -2,22 +2,22 @@
 use Rattle.std.specs.Prelude.{◌≡◌, ◌⊎◌, [], ◌∷◌, ◌++◌, refl}
 use Rattle.std.proofs.Common.{sym, ap, ◌∙◌, append_assoc, append-nil, inl, inr}
 use Rattle.sf_path.specs.Names.{Name, Path}
-use Rattle.sf_coupling.specs.Fronts.{Begins}
+use Rattle.sf_coupling.specs.Fronts.{IsPrefix}
 
-pub begins_itself : (p : Path) → Begins p p
+pub begins_itself : (p : Path) → IsPrefix p p
 begins_itself p = record { rest = []; is = sym (append-nil p) }
 
-pub begins_root : (p : Path) → Begins [] p
+pub begins_root : (p : Path) → IsPrefix [] p
 begins_root p = record { rest = p; is = refl }
 
-pub begins_trans : (p q s : Path) → Begins p q → Begins q s → Begins p s
+pub begins_trans : (p q s : Path) → IsPrefix p q → IsPrefix q s → IsPrefix p s
 begins_trans p q s b d = record { rest = b.rest ++ d.rest; is = d.is ∙ (ap (λ (l : Path). l ++ d.rest) b.is ∙ append_assoc p b.rest d.rest) }
 
-pub begins_cons : (a b : Name) (p q : Path) → a ≡ b → Begins p q → Begins (a ∷ p) (b ∷ q)
+pub begins_cons : (a b : Name) (p q : Path) → a ≡ b → IsPrefix p q → IsPrefix (a ∷ p) (b ∷ q)
 begins_cons a b p q e d = record { rest = d.rest; is = λ i. sym e i ∷ d.is i }
 
 -- one more name: a front of it is a front of the rest, or is all of it
-pub begins_snoc : (p q : Path) (n : Name) → Begins p (q ++ n ∷ []) → Begins p q ⊎ (p ≡ q ++ n ∷ [])
+pub begins_snoc : (p q : Path) (n : Name) → IsPrefix p (q ++ n ∷ []) → IsPrefix p q ⊎ (p ≡ q ++ n ∷ [])
 begins_snoc [] q n b = inl (begins_root q)
 begins_snoc (a ∷ []) [] n b = let e = b.is in let h : n ≡ a = cc in inr (λ i. sym h i ∷ [])
 begins_snoc (a ∷ c ∷ p) [] n b = let e = b.is in absurd (cc)
@@ -31,7 +31,7 @@ begins_snoc (a ∷ p) (m ∷ q) n b =
     ]
 
 -- of two fronts of one path one begins with the other
-pub fronts_meet : (p q s : Path) → Begins p s → Begins q s → Begins p q ⊎ Begins q p
+pub fronts_meet : (p q s : Path) → IsPrefix p s → IsPrefix q s → IsPrefix p q ⊎ IsPrefix q p
 fronts_meet [] q s b d = inl (begins_root q)
 fronts_meet (a ∷ p) [] s b d = inr (begins_root (a ∷ p))
 fronts_meet (a ∷ p) (m ∷ q) s b d =
@@ -45,12 +45,12 @@ fronts_meet (a ∷ p) (m ∷ q) s b d =
       | inr x ↦ inr (begins_cons m a q p (sym h) x)
     ]
 
-pub begins_nothing : (p : Path) → Begins p [] → p ≡ []
+pub begins_nothing : (p : Path) → IsPrefix p [] → p ≡ []
 begins_nothing [] b = refl
 begins_nothing (a ∷ p) b = let e = b.is in absurd (cc)
 
 -- two paths that begin with each other are one
-pub begins_both : (p q : Path) → Begins p q → Begins q p → p ≡ q
+pub begins_both : (p q : Path) → IsPrefix p q → IsPrefix q p → p ≡ q
 begins_both [] q b d = sym (begins_nothing q d)
 begins_both (a ∷ p) [] b d = begins_nothing (a ∷ p) b
 begins_both (a ∷ p) (m ∷ q) b d =

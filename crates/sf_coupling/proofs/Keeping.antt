@@ -2,7 +2,7 @@
 use Rattle.std.specs.Prelude.{◌≡◌, ◌≢◌, ◌⊎◌, ℕ, true, false, nat_eq, List, [], ◌∷◌, Option, Some, None, refl}
 use Rattle.std.proofs.Common.{sym, ap, subst, ◌∙◌, inl, inr, eqb-true}
 use Rattle.std.proofs.lemmas.Bool.{eqb-false}
-use Rattle.sf_coupling.specs.Walks.{Terrain, Spot, Holds, IsNodeOf, Between, IsShaped, LeadsTo, Scene, scene, AreWalks, HandsOver, GoesOn}
+use Rattle.sf_coupling.specs.Walks.{Terrain, Spot, Holds, IsNodeOf, Between, IsShaped, LeadsTo, Walkers, walkers_at, AreWalks, HandsOver, HoldsOthers}
 
 pub same_or_not : (n m : ℕ) → (n ≡ m) ⊎ (n ≢ m)
 same_or_not n m =
@@ -32,14 +32,14 @@ node_or_not (p ∷ spots) l = elim (same_or_not p.node l) [
 ]
 
 -- the call that holds a node of its spots
-pub holder_is : (s : Scene) → AreWalks s → (n l : ℕ) → IsNodeOf (s.spots n) l → s.holder l ≡ Some n
+pub holder_is : (s : Walkers) → AreWalks s → (n l : ℕ) → IsNodeOf (s.spots n) l → s.holder l ≡ Some n
 holder_is s walks n l h = ap s.holder (sym h.node) ∙ walks.held n h.spot h.holds
 
 -- two calls that hold one node are one call
-pub held_by_one : (s : Scene) → AreWalks s → (n m : ℕ) (a b : Spot) → Holds (s.spots n) a → Holds (s.spots m) b → a.node ≡ b.node → n ≡ m
+pub held_by_one : (s : Walkers) → AreWalks s → (n m : ℕ) (a b : Spot) → Holds (s.spots n) a → Holds (s.spots m) b → a.node ≡ b.node → n ≡ m
 held_by_one s walks n m a b x y e = some_same n m (sym (walks.held n a x) ∙ (ap s.holder e ∙ walks.held m b y))
 
-module _ (old new : Scene) (n : ℕ) (walks : AreWalks old) (goes : GoesOn old new n) where
+module _ (old new : Walkers) (n : ℕ) (walks : AreWalks old) (goes : HoldsOthers old new n) where
   own : (l : ℕ) → IsNodeOf (new.spots n) l → new.holder l ≡ Some n
   own = goes.hands.here
 
@@ -118,12 +118,12 @@ module _ (old new : Scene) (n : ℕ) (walks : AreWalks old) (goes : GoesOn old n
   keeps_walks = record { shaped = shaped'; leads = leads'; held = held'; holds = holds'; apart = apart' }
 
 -- a call that lets go of all that it holds keeps them: nothing is asked of it
-module _ (t : Terrain) (f f' : ℕ → List Spot) (k k' : ℕ → Option ℕ) (n : ℕ) (walks : AreWalks (scene t f k)) (none : f' n ≡ []) (same : (m : ℕ) → n ≢ m → f' m ≡ f m) (hands : HandsOver k k' n (f n) []) where
+module _ (t : Terrain) (f f' : ℕ → List Spot) (k k' : ℕ → Option ℕ) (n : ℕ) (walks : AreWalks (walkers_at t f k)) (none : f' n ≡ []) (same : (m : ℕ) → n ≢ m → f' m ≡ f m) (hands : HandsOver k k' n (f n) []) where
   holds_none : (s : Spot) → Holds (f' n) s → ⊥
   holds_none s h = subst (λ (x : List Spot). Holds x s) none h
 
-  pub let_go_keeps : AreWalks (scene t f' k')
-  let_go_keeps = keeps_walks (scene t f k) (scene t f' k') n walks (record {
+  pub let_go_keeps : AreWalks (walkers_at t f' k')
+  let_go_keeps = keeps_walks (walkers_at t f k) (walkers_at t f' k') n walks (record {
     same = same;
     hands = subst (λ (x : List Spot). HandsOver k k' n (f n) x) (sym none) hands;
     free = λ l h. absurd (holds_none h.spot h.holds);

@@ -3,6 +3,6 @@ use Rattle.std.specs.Prelude.{◌≡◌, ◌++◌}
 use Rattle.sf_path.specs.Names.{Path}
 
 -- q begins with p
-pub record Begins (p q : Path) : Type 0 where
+pub record IsPrefix (p q : Path) : Type 0 where
   pub rest : Path
   pub is : q ≡ p ++ rest

@@ -13,9 +13,9 @@ abbrev pub IsFrom : List Spot → Spot → Type 0
 IsFrom was q = (q.path ≡ []) ⊎ ((p : Spot) × Holds was p × IsNextTo p q)
 
 -- all of the spots are this one
-abbrev pub AreAll : Spot → List Spot → Type 0
-AreAll q [] = Unit {0}
-AreAll q (s ∷ spots) = (s ≡ q) × AreAll q spots
+abbrev pub AreAllAt : Spot → List Spot → Type 0
+AreAllAt q [] = Unit {0}
+AreAllAt q (s ∷ spots) = (s ≡ q) × AreAllAt q spots
 
 abbrev pub AreSome : List Spot → Type 0
 AreSome [] = ⊥
@@ -23,7 +23,7 @@ AreSome (s ∷ spots) = Unit {0}
 
 -- What a step of a call that doesn't decide does to what it holds, where the directory q is new: it
 -- comes to q with all that it holds, or one of the spots behind the first goes on to q.
-pub data Takes (q : Spot) : List Spot → List Spot → Type 0 where
-  Comes : (was now : List Spot) → IsFrom was q → AreSome now → AreAll q now → Takes q was now
+pub data TakesSpot (q : Spot) : List Spot → List Spot → Type 0 where
+  Comes : (was now : List Spot) → IsFrom was q → AreSome now → AreAllAt q now → TakesSpot q was now
   GoesOnWith : (top : Spot) (front : List Spot) (p : Spot) (rest : List Spot) → IsNextTo p q
-      → Takes q (top ∷ (front ++ p ∷ rest)) (top ∷ (front ++ q ∷ rest))
+      → TakesSpot q (top ∷ (front ++ p ∷ rest)) (top ∷ (front ++ q ∷ rest))

@@ -1,7 +1,7 @@
 -- Calls on their way through the tree, and what is true of all of them between two events.
 use Rattle.std.specs.Prelude.{◌≡◌, ◌≢◌, ◌⊎◌, ℕ, Bool, true, List, [], ◌∷◌, Option, Some, None}
 use Rattle.sf_path.specs.Names.{Path}
-use Rattle.sf_coupling.specs.Fronts.{Begins}
+use Rattle.sf_coupling.specs.Fronts.{IsPrefix}
 
 -- where paths lead, and which nodes are directories
 pub record Terrain : Type 0 where
@@ -28,16 +28,16 @@ pub record IsNodeOf (spots : List Spot) (l : ℕ) : Type 0 where
 -- the path leads to one of the spots, or to a directory on its way
 abbrev pub IsOnWayTo : List Spot → Path → Type 0
 IsOnWayTo [] q = ⊥
-IsOnWayTo (p ∷ spots) q = Begins q p.path ⊎ IsOnWayTo spots q
+IsOnWayTo (p ∷ spots) q = IsPrefix q p.path ⊎ IsOnWayTo spots q
 
 -- the paths from the first spot down to the others, both ends included
 abbrev pub Between : List Spot → Path → Type 0
 Between [] q = ⊥
-Between (top ∷ ends) q = Begins top.path q × IsOnWayTo ends q
+Between (top ∷ ends) q = IsPrefix top.path q × IsOnWayTo ends q
 
 abbrev pub AreBelow : Path → List Spot → Type 0
 AreBelow p [] = Unit {0}
-AreBelow p (s ∷ spots) = Begins p s.path × AreBelow p spots
+AreBelow p (s ∷ spots) = IsPrefix p s.path × AreBelow p spots
 
 -- the others lie at or below the first
 abbrev pub IsShaped : List Spot → Type 0
@@ -51,17 +51,17 @@ pub record LeadsTo (t : Terrain) (s : Spot) : Type 0 where
 
 -- calls on their way: where paths lead, what each call holds, by its number, and the call that
 -- holds each node
-pub record Scene : Type 0 where
+pub record Walkers : Type 0 where
   pub terrain : Terrain
   pub spots : ℕ → List Spot
   pub holder : ℕ → Option ℕ
 
-abbrev pub scene : Terrain → (ℕ → List Spot) → (ℕ → Option ℕ) → Scene
-scene terrain spots holder = record { terrain = terrain; spots = spots; holder = holder }
+abbrev pub walkers_at : Terrain → (ℕ → List Spot) → (ℕ → Option ℕ) → Walkers
+walkers_at terrain spots holder = record { terrain = terrain; spots = spots; holder = holder }
 
 -- Walks are coupled: what a call has walked leads to what it holds, nothing else is held, and no
 -- other call holds a directory between the first spot of a call and its others.
-pub record AreWalks (s : Scene) : Type 0 where
+pub record AreWalks (s : Walkers) : Type 0 where
   pub shaped : (n : ℕ) → IsShaped (s.spots n)
   pub leads : (n : ℕ) (at : Spot) → Holds (s.spots n) at → LeadsTo s.terrain at
   pub held : (n : ℕ) (at : Spot) → Holds (s.spots n) at → s.holder at.node ≡ Some n
@@ -82,7 +82,7 @@ pub record HandsOver (holder holder' : ℕ → Option ℕ) (n : ℕ) (was now : 
 
 -- The call n holds other spots, or none, and the tree may be another. No other call's way changed,
 -- and what the call holds now is apart from the others' ways as before.
-pub record GoesOn (old new : Scene) (n : ℕ) : Type 0 where
+pub record HoldsOthers (old new : Walkers) (n : ℕ) : Type 0 where
   pub same : (m : ℕ) → n ≢ m → new.spots m ≡ old.spots m
   pub hands : HandsOver old.holder new.holder n (old.spots n) (new.spots n)
   pub free : (l : ℕ) → IsNodeOf (new.spots n) l → IsFree old.holder n l

@@ -1,27 +1,27 @@
 //! What keeps walks coupled.
 
 ghost use Rattle.std.specs.Prelude.{◌≡◌, ◌≢◌, ℕ, List, [], ◌∷◌};
-ghost use Rattle.sf_coupling.specs.Stepping.{IsFrom, Takes};
-ghost use Rattle.sf_coupling.specs.Walks.{Spot, Holds, HandsOver, IsFree, LeadsTo, Scene, AreWalks, GoesOn};
+ghost use Rattle.sf_coupling.specs.Stepping.{IsFrom, TakesSpot};
+ghost use Rattle.sf_coupling.specs.Walks.{Spot, Holds, HandsOver, IsFree, LeadsTo, Walkers, AreWalks, HoldsOthers};
 
 /// Two calls never hold one node.
 #[tactic(auto, using(crate::proofs::Laws::held_by_one))]
 pub fn held_once()
-    ensures { (s : Scene) → AreWalks s → (n m : ℕ) (a b : Spot) → Holds (s.spots n) a
+    ensures { (s : Walkers) → AreWalks s → (n m : ℕ) (a b : Spot) → Holds (s.spots n) a
         → Holds (s.spots m) b → a.node ≡ b.node → n ≡ m }
 {}
 
 /// Walks stay coupled where one call goes on, or is decided, and the ways of the others are spared.
 #[tactic(auto, using(crate::proofs::Laws::keeps_walks))]
 pub fn walks_kept()
-    ensures { (old new : Scene) (n : ℕ) → AreWalks old → GoesOn old new n → AreWalks new }
+    ensures { (old new : Walkers) (n : ℕ) → AreWalks old → HoldsOthers old new n → AreWalks new }
 {}
 
 /// A step to a directory that no other call holds keeps walks coupled: to the root, or one name on.
 #[tactic(auto, using(crate::proofs::Laws::step_keeps))]
 pub fn steps_kept()
-    ensures { (s new : Scene) (n : ℕ) (q : Spot) → AreWalks s → new.terrain ≡ s.terrain
-        → IsFree s.holder n q.node → LeadsTo s.terrain q → Takes q (s.spots n) (new.spots n)
+    ensures { (s new : Walkers) (n : ℕ) (q : Spot) → AreWalks s → new.terrain ≡ s.terrain
+        → IsFree s.holder n q.node → LeadsTo s.terrain q → TakesSpot q (s.spots n) (new.spots n)
         → ((m : ℕ) → n ≢ m → new.spots m ≡ s.spots m)
         → HandsOver s.holder new.holder n (s.spots n) (new.spots n) → AreWalks new }
 {}
@@ -29,7 +29,7 @@ pub fn steps_kept()
 /// A call that lets go of all that it holds keeps walks coupled: nothing is asked of it.
 #[tactic(auto, using(crate::proofs::Laws::let_go_keeps))]
 pub fn let_go_kept()
-    ensures { (s new : Scene) (n : ℕ) → AreWalks s → new.terrain ≡ s.terrain
+    ensures { (s new : Walkers) (n : ℕ) → AreWalks s → new.terrain ≡ s.terrain
         → new.spots n ≡ [] → ((m : ℕ) → n ≢ m → new.spots m ≡ s.spots m)
         → HandsOver s.holder new.holder n (s.spots n) [] → AreWalks new }
 {}
@@ -37,7 +37,7 @@ pub fn let_go_kept()
 /// Who wants the root, or a spot one name past its own, which another call holds, wants the first spot of that
 /// call: so it waits above all that the other one does.
 pub fn waits_above()
-    ensures { (s : Scene) → AreWalks s → (n m : ℕ) → n ≢ m → (spot : Spot)
+    ensures { (s : Walkers) → AreWalks s → (n m : ℕ) → n ≢ m → (spot : Spot)
         → IsFrom (s.spots n) spot → (top : Spot) (ends : List Spot) → s.spots m ≡ top ∷ ends
         → Holds (top ∷ ends) spot → spot.path ≡ top.path }
 {}

@@ -6,7 +6,7 @@ use Rattle.std.proofs.lemmas.List.Elements.{All-take, All-drop, All-same}
 use Rattle.sf_field.specs.Fields.{AreBytes, be32, packet}
 use Rattle.sf_session.specs.declared.asking.Ask.{Ask}
 use Rattle.sf_session.specs.Asking.{AsksFor}
-use Rattle.sf_engine.specs.Worlds.{Answered, asked_by}
+use Rattle.sf_engine.specs.Worlds.{Response, ask_behind}
 use Rattle.sf_engine.specs.Traces.{has_begun}
 use Rattle.sf_engine.specs.Laws.{AreAsked}
 
@@ -35,9 +35,9 @@ asked_push begun [] (b ∷ asks) body a h k = absurd h
 asked_push begun (c ∷ bodies) [] body a h k = absurd h
 asked_push begun (c ∷ bodies) (b ∷ asks) body a h k = (h.0, asked_push true bodies asks body a h.1 (subst (λ (g : Bool). AsksFor g body a) (sym (begun_stays bodies)) k))
 
-pub map_push : (answers : List Answered) (a : Answered) → map asked_by (answers ++ a ∷ []) ≡ map asked_by answers ++ asked_by a ∷ []
+pub map_push : (answers : List Response) (a : Response) → map ask_behind (answers ++ a ∷ []) ≡ map ask_behind answers ++ ask_behind a ∷ []
 map_push [] a = refl
-map_push (b ∷ answers) a = ap (λ (xs : List Ask). asked_by b ∷ xs) (map_push answers a)
+map_push (b ∷ answers) a = ap (λ (xs : List Ask). ask_behind b ∷ xs) (map_push answers a)
 
 pub begun_push : (bodies : List (List ℕ)) (body : List ℕ) → has_begun (bodies ++ body ∷ []) ≡ true
 begun_push [] body = refl

@@ -13,9 +13,9 @@ use Rattle.sf_engine.specs.declared.event.Event.TheVariants as event
 use Rattle.sf_engine.specs.declared.event.Happened.{Happened}
 use Rattle.sf_engine.specs.declared.event.Happened.TheVariants as happened
 use Rattle.sf_engine.specs.declared.event.EngineFault.{EngineFault}
-use Rattle.sf_engine.specs.Worlds.{Entry, Phase, Resting, UnderWay, Decided, Gone, ByCall, Told, new_told, World, start, with_told}
-use Rattle.sf_engine.specs.Traces.{TurnLeads, RestLeads, IsUnderWay, IsHelped, Decides, Happens, LeadsBy, Leads, Runs, Tells, order, IsSession, calls_begun, with_answer, left_if_closed, leaving, left_by_close, closed_now, fed, sent_more}
-use Rattle.sf_engine.specs.Fits.{entry_of}
+use Rattle.sf_engine.specs.Worlds.{TraceEntry, Phase, Resting, UnderWay, Decided, Gone, ByCall, SessionState, new_state, World, start, with_state}
+use Rattle.sf_engine.specs.Traces.{TurnLeads, RestLeads, IsCallUnderWay, IsHelpedRecord, DecidesCall, Happens, LeadsBy, Leads, Runs, ReachesWorld, order, IsSession, calls_begun, with_answer, left_if_closed, leaving, left_by_close, closed_now, fed, sent_more}
+use Rattle.sf_engine.specs.Fits.{trace_entry}
 use Rattle.sf_engine.specs.Laws.{Began, begins_at, FollowsBeginning}
 use Rattle.sf_engine.proofs.Moving.{get_set_same, get_set_other}
 use Rattle.sf_engine.proofs.Tracing.{Runs-push, runs_nil}
@@ -53,11 +53,11 @@ among_all P r (x ∷ h) all (inl e) = subst P e all.0
 among_all P r (x ∷ h) all (inr k) = among_all P r h all.1 k
 
 -- what began in a trace began in a longer one
-abbrev later : (front : List Entry) (e : Entry) (n s m : ℕ) (q : Request) → Began front n s m q → Began (front ++ e ∷ []) n s m q
+abbrev later : (front : List TraceEntry) (e : TraceEntry) (n s m : ℕ) (q : Request) → Began front n s m q → Began (front ++ e ∷ []) n s m q
 later front e n s m q b = record {
   front = b.front;
   back = b.back ++ e ∷ [];
-  parts = ap (λ (xs : List Entry). xs ++ e ∷ []) b.parts ∙ append_assoc b.front (begins_at s m ∷ b.back) (e ∷ []);
+  parts = ap (λ (xs : List TraceEntry). xs ++ e ∷ []) b.parts ∙ append_assoc b.front (begins_at s m ∷ b.back) (e ∷ []);
   world = b.world;
   tells = b.tells;
   told = b.told;
@@ -66,28 +66,28 @@ later front e n s m q b = record {
   began = b.began;
 }
 
-order_push : (back : List Entry) (e : Entry) → order back ++ e.added ≡ order (back ++ e ∷ [])
-order_push back e = flat_map_more (λ (x : Entry). x.added) [] back e
+order_push : (back : List TraceEntry) (e : TraceEntry) → order back ++ e.added ≡ order (back ++ e ∷ [])
+order_push back e = flat_map_more (λ (x : TraceEntry). x.added) [] back e
 
 -- what is so after each trace
-record HaveBegun (front : List Entry) (w : World) : Type 0 where
-  each : (i : ℕ) (t : Told) → slice_get w.sessions i ≡ Some t → (n m : ℕ) (q : Request) → IsUnderWay t.phase n m q → Began front n (i + 1) m q
+record HaveBegun (front : List TraceEntry) (w : World) : Type 0 where
+  each : (i : ℕ) (t : SessionState) → slice_get w.sessions i ≡ Some t → (n m : ℕ) (q : Request) → IsCallUnderWay t.phase n m q → Began front n (i + 1) m q
   records : (r : Record) → IsAmong r w.records → FollowsBeginning front r
 
-of_session : (front : List Entry) (w : World) → HaveBegun front w → (s : ℕ) (t : Told) → IsSession w s t → (n m : ℕ) (q : Request) → IsUnderWay t.phase n m q → Began front n s m q
+of_session : (front : List TraceEntry) (w : World) → HaveBegun front w → (s : ℕ) (t : SessionState) → IsSession w s t → (n m : ℕ) (q : Request) → IsCallUnderWay t.phase n m q → Began front n s m q
 of_session front w h s t session n m q under =
     let num : s - 1 + 1 ≡ s = omega (arith, session.0) in
     subst (λ (k : ℕ). Began front n k m q) num (h.each (s - 1) t session.1 n m q under)
 
 -- ---- the records that an entry adds
 
-decided_began : (front : List Entry) (w : World) (s : ℕ) (t : Told) (moves n k : ℕ) (q : Request) (given : Reply) (added : List Record) → HaveBegun front w → IsSession w s t → IsUnderWay t.phase n k q
-    → Decides w s moves (Did n s k q given) added → (n' s' m' : ℕ) (q' : Request) (given' : Reply) → IsAmong (Did n' s' m' q' given') added → Began front n' s' m' q'
+decided_began : (front : List TraceEntry) (w : World) (s : ℕ) (t : SessionState) (moves n k : ℕ) (q : Request) (given : Reply) (added : List Record) → HaveBegun front w → IsSession w s t → IsCallUnderWay t.phase n k q
+    → DecidesCall w s moves (Did n s k q given) added → (n' s' m' : ℕ) (q' : Request) (given' : Reply) → IsAmong (Did n' s' m' q' given') added → Began front n' s' m' q'
 decided_began front w s t moves n k q given added h session under (inl d) n' s' m' q' given' among = absurd (among_none (Did n' s' m' q' given') added d.0 among)
 decided_began front w s t moves n k q given added h session under (inr d) n' s' m' q' given' among =
     elim (among_either (Did n' s' m' q' given') d.helped (Did n s k q given ∷ []) (subst (λ (xs : List Record). IsAmong (Did n' s' m' q' given') xs) d.records among)) [
       | inl a ↦
-          let o = among_all (IsHelped w s) (Did n' s' m' q' given') d.helped d.of_others a in
+          let o = among_all (IsHelpedRecord w s) (Did n' s' m' q' given') d.helped d.of_others a in
           of_session front w h s' o.told o.is_session n' m' q' o.under_way
       | inr b ↦
           let is : Did n s k q given ≡ Did n' s' m' q' given' = among_one (Did n' s' m' q' given') (Did n s k q given) b in
@@ -100,7 +100,7 @@ decided_began front w s t moves n k q given added h session under (inr d) n' s' 
     ]
 
 module _ (n s m : ℕ) (q : Request) (given : Reply) where
-  rest_began : (w : World) (z k : ℕ) (t t' : Told) (r : Happened) (added : List Record) → RestLeads k (record { world = w; session = z; told = t; added = added; now = t' }) r → IsAmong (Did n s m q given) added → ⊥
+  rest_began : (w : World) (z k : ℕ) (t t' : SessionState) (r : Happened) (added : List Record) → RestLeads k (record { world = w; session = z; told = t; added = added; now = t' }) r → IsAmong (Did n s m q given) added → ⊥
   rest_began w z k t t' happened.Idle added g a = among_none (Did n s m q given) added g.1 a
   rest_began w z k t t' happened.Wrote added g a = among_none (Did n s m q given) added g.1 a
   rest_began w z k t t' happened.Begun added g a = among_none (Did n s m q given) added g.1 a
@@ -123,16 +123,16 @@ module _ (n s m : ℕ) (q : Request) (given : Reply) where
   close_began (Decided id c r reply) z added e a = among_none (Did n s m q given) added e a
   close_began (Gone cause) z added e a = among_none (Did n s m q given) added e a
 
-  turn_began : (front : List Entry) (w : World) (z k : ℕ) (t t' : Told) (f : Phase) (r : Happened) (added : List Record) → HaveBegun front w → IsSession w z t → t.phase ≡ f
+  turn_began : (front : List TraceEntry) (w : World) (z k : ℕ) (t t' : SessionState) (f : Phase) (r : Happened) (added : List Record) → HaveBegun front w → IsSession w z t → t.phase ≡ f
       → TurnLeads k (record { world = w; session = z; told = t; added = added; now = t' }) f r → IsAmong (Did n s m q given) added → Began front n s m q
   turn_began front w z k t t' Resting r added h session e g a = absurd (rest_began w z k t t' r added g a)
   turn_began front w z k t t' (UnderWay id c o p moves) happened.Moved added h session e g a = elim g.1 [
     | inl none ↦ absurd (among_none (Did n s m q given) added none.0 a)
-    | inr writes ↦ decided_began front w z t 0 c o p writes.2.0 added h session (subst (λ (x : Phase). IsUnderWay x c o p) (sym e) (refl, refl, refl)) (inr writes.2.1) n s m q given a
+    | inr writes ↦ decided_began front w z t 0 c o p writes.2.0 added h session (subst (λ (x : Phase). IsCallUnderWay x c o p) (sym e) (refl, refl, refl)) (inr writes.2.1) n s m q given a
   ]
   turn_began front w z k t t' (UnderWay id c o p moves) (happened.Blocked holder) added h session e g a = absurd (among_none (Did n s m q given) added g.1 a)
   turn_began front w z k t t' (UnderWay id c o p moves) happened.Decided added h session e g a =
-      decided_began front w z t moves c o p g.0 added h session (subst (λ (x : Phase). IsUnderWay x c o p) (sym e) (refl, refl, refl)) g.1 n s m q given a
+      decided_began front w z t moves c o p g.0 added h session (subst (λ (x : Phase). IsCallUnderWay x c o p) (sym e) (refl, refl, refl)) g.1 n s m q given a
   turn_began front w z k t t' (UnderWay id c o p moves) (happened.Opened x) added h session e g a = absurd g
   turn_began front w z k t t' (UnderWay id c o p moves) happened.Fed added h session e g a = absurd g
   turn_began front w z k t t' (UnderWay id c o p moves) happened.Wrote added h session e g a = absurd g
@@ -144,23 +144,23 @@ module _ (n s m : ℕ) (q : Request) (given : Reply) where
   turn_began front w z k t t' (Decided id c p reply) r added h session e g a = absurd (leaving_began t.closed z added g.1 a)
   turn_began front w z k t t' (Gone cause) r added h session e g a = absurd (among_none (Did n s m q given) added g.1 a)
 
-  happens_began : (front : List Entry) (w w' : World) (ev : Event) (r : Happened) (added : List Record) → HaveBegun front w → Happens w ev r added w' → IsAmong (Did n s m q given) added → Began front n s m q
+  happens_began : (front : List TraceEntry) (w w' : World) (ev : Event) (r : Happened) (added : List Record) → HaveBegun front w → Happens w ev r added w' → IsAmong (Did n s m q given) added → Began front n s m q
   happens_began front w w' event.Open r added h g a = absurd (among_none (Did n s m q given) added g.2 a)
   happens_began front w w' (event.Feed z bytes) r added h g a = absurd (among_none (Did n s m q given) added g.1 a)
   happens_began front w w' (event.Turn z k) r added h g a = turn_began front w z k g.0 g.1 g.0.phase r added h g.2 refl g.3 a
   happens_began front w w' (event.Close z) r added h g a = absurd (close_began g.1.0.phase z added g.1.2 a)
   happens_began front w w' (event.Sent z c) r added h g a = absurd (among_none (Did n s m q given) added g.1 a)
 
-  added_began : (front : List Entry) (w w' : World) (ev : Event) (r : Result Happened EngineFault) (added : List Record) → HaveBegun front w → LeadsBy w ev r added w' → IsAmong (Did n s m q given) added → Began front n s m q
+  added_began : (front : List TraceEntry) (w w' : World) (ev : Event) (r : Result Happened EngineFault) (added : List Record) → HaveBegun front w → LeadsBy w ev r added w' → IsAmong (Did n s m q given) added → Began front n s m q
   added_began front w w' ev (Ok r) added h g a = happens_began front w w' ev r added h g a
   added_began front w w' ev (Err f) added h g a = absurd (among_none (Did n s m q given) added g.1 a)
 
-follows_later : (front : List Entry) (e : Entry) (r : Record) → FollowsBeginning front r → FollowsBeginning (front ++ e ∷ []) r
+follows_later : (front : List TraceEntry) (e : TraceEntry) (r : Record) → FollowsBeginning front r → FollowsBeginning (front ++ e ∷ []) r
 follows_later front e (Did n s m q given) h =
     (later front e n s m q h.0, subst (λ (xs : List Record). IsAmong (Did n s m q given) xs) (order_push h.0.back e) (among_front (Did n s m q given) (order h.0.back) e.added h.1))
 follows_later front e (Left s) h = tt
 
-follows_added : (front : List Entry) (e : Entry) (w w' : World) (r : Record) → HaveBegun front w → Leads w e w' → IsAmong r e.added → FollowsBeginning (front ++ e ∷ []) r
+follows_added : (front : List TraceEntry) (e : TraceEntry) (w w' : World) (r : Record) → HaveBegun front w → Leads w e w' → IsAmong r e.added → FollowsBeginning (front ++ e ∷ []) r
 follows_added front e w w' (Did n s m q given) h g a =
     let b = added_began n s m q given front w w' e.event e.result e.added h g a in
     (later front e n s m q b, subst (λ (xs : List Record). IsAmong (Did n s m q given) xs) (order_push b.back e) (among_back (Did n s m q given) (order b.back) e.added a))
@@ -173,17 +173,17 @@ abbrev BeginsNow : ℕ → Happened → List Record → Phase → (n k : ℕ) �
 BeginsNow m r added f n k q = (r ≡ happened.Begun) × (added ≡ []) × (m ≡ k) × ((id : ℕ) × (f ≡ UnderWay id n k q 0))
 
 module _ (n k : ℕ) (q : Request) where
-  same_under : (t t' : Told) → t' ≡ t → IsUnderWay t'.phase n k q → IsUnderWay t.phase n k q
-  same_under t t' e under = subst (λ (z : Told). IsUnderWay z.phase n k q) e under
+  same_under : (t t' : SessionState) → t' ≡ t → IsCallUnderWay t'.phase n k q → IsCallUnderWay t.phase n k q
+  same_under t t' e under = subst (λ (z : SessionState). IsCallUnderWay z.phase n k q) e under
 
-  rest_goes : (w : World) (s m : ℕ) (t t' : Told) (r : Happened) (added : List Record) → RestLeads m (record { world = w; session = s; told = t; added = added; now = t' }) r → t.phase ≡ Resting → IsUnderWay t'.phase n k q → BeginsNow m r added t'.phase n k q
-  rest_goes w s m t t' happened.Idle added g e under = absurd (subst (λ (z : Phase). IsUnderWay z n k q) e (same_under t t' g.2 under))
-  rest_goes w s m t t' happened.Wrote added g e under = absurd (subst (λ (z : Told). IsUnderWay z.phase n k q) g.0.now under)
+  rest_goes : (w : World) (s m : ℕ) (t t' : SessionState) (r : Happened) (added : List Record) → RestLeads m (record { world = w; session = s; told = t; added = added; now = t' }) r → t.phase ≡ Resting → IsCallUnderWay t'.phase n k q → BeginsNow m r added t'.phase n k q
+  rest_goes w s m t t' happened.Idle added g e under = absurd (subst (λ (z : Phase). IsCallUnderWay z n k q) e (same_under t t' g.2 under))
+  rest_goes w s m t t' happened.Wrote added g e under = absurd (subst (λ (z : SessionState). IsCallUnderWay z.phase n k q) g.0.now under)
   rest_goes w s m t t' happened.Begun added g e under =
       let a = g.0 in
-      let is = subst (λ (z : Told). IsUnderWay z.phase n k q) a.now under in
-      (refl, g.1, is.1, (a.id, ap (λ (z : Told). z.phase) a.now ∙ ap (λ (c : ℕ). UnderWay a.id c m a.request 0) is.0 ∙ ap (λ (c : ℕ). UnderWay a.id n c a.request 0) is.1 ∙ ap (λ (c : Request). UnderWay a.id n k c 0) is.2))
-  rest_goes w s m t t' (happened.Ended cause) added g e under = absurd (subst (λ (z : Told). IsUnderWay z.phase n k q) g.2 under)
+      let is = subst (λ (z : SessionState). IsCallUnderWay z.phase n k q) a.now under in
+      (refl, g.1, is.1, (a.id, ap (λ (z : SessionState). z.phase) a.now ∙ ap (λ (c : ℕ). UnderWay a.id c m a.request 0) is.0 ∙ ap (λ (c : ℕ). UnderWay a.id n c a.request 0) is.1 ∙ ap (λ (c : Request). UnderWay a.id n k c 0) is.2))
+  rest_goes w s m t t' (happened.Ended cause) added g e under = absurd (subst (λ (z : SessionState). IsCallUnderWay z.phase n k q) g.2 under)
   rest_goes w s m t t' (happened.Opened c) added g e under = absurd g
   rest_goes w s m t t' happened.Fed added g e under = absurd g
   rest_goes w s m t t' happened.Moved added g e under = absurd g
@@ -192,16 +192,16 @@ module _ (n k : ℕ) (q : Request) where
   rest_goes w s m t t' happened.Closed added g e under = absurd g
   rest_goes w s m t t' happened.Sent added g e under = absurd g
 
-  left_idle : (closed : Bool) (t : Told) → IsUnderWay t.phase n k q ≡ ⊥ → IsUnderWay (left_if_closed closed t).phase n k q → ⊥
+  left_idle : (closed : Bool) (t : SessionState) → IsCallUnderWay t.phase n k q ≡ ⊥ → IsCallUnderWay (left_if_closed closed t).phase n k q → ⊥
   left_idle true t e under = under
   left_idle false t e under = subst (λ (z : Type 0). z) e under
 
-  turn_goes : (w : World) (s m : ℕ) (t t' : Told) (f : Phase) (r : Happened) (added : List Record) → TurnLeads m (record { world = w; session = s; told = t; added = added; now = t' }) f r → t.phase ≡ f → IsUnderWay t'.phase n k q
-      → IsUnderWay f n k q ⊎ BeginsNow m r added t'.phase n k q
+  turn_goes : (w : World) (s m : ℕ) (t t' : SessionState) (f : Phase) (r : Happened) (added : List Record) → TurnLeads m (record { world = w; session = s; told = t; added = added; now = t' }) f r → t.phase ≡ f → IsCallUnderWay t'.phase n k q
+      → IsCallUnderWay f n k q ⊎ BeginsNow m r added t'.phase n k q
   turn_goes w s m t t' Resting r added g e under = inr (rest_goes w s m t t' r added g e under)
-  turn_goes w s m t t' (UnderWay id c o p moves) happened.Moved added g e under = inl (subst (λ (z : Told). IsUnderWay z.phase n k q) g.2 under)
-  turn_goes w s m t t' (UnderWay id c o p moves) (happened.Blocked holder) added g e under = inl (subst (λ (z : Phase). IsUnderWay z n k q) e (same_under t t' g.2 under))
-  turn_goes w s m t t' (UnderWay id c o p moves) happened.Decided added g e under = absurd (subst (λ (z : Told). IsUnderWay z.phase n k q) g.2 under)
+  turn_goes w s m t t' (UnderWay id c o p moves) happened.Moved added g e under = inl (subst (λ (z : SessionState). IsCallUnderWay z.phase n k q) g.2 under)
+  turn_goes w s m t t' (UnderWay id c o p moves) (happened.Blocked holder) added g e under = inl (subst (λ (z : Phase). IsCallUnderWay z n k q) e (same_under t t' g.2 under))
+  turn_goes w s m t t' (UnderWay id c o p moves) happened.Decided added g e under = absurd (subst (λ (z : SessionState). IsCallUnderWay z.phase n k q) g.2 under)
   turn_goes w s m t t' (UnderWay id c o p moves) (happened.Opened x) added g e under = absurd g
   turn_goes w s m t t' (UnderWay id c o p moves) happened.Fed added g e under = absurd g
   turn_goes w s m t t' (UnderWay id c o p moves) happened.Wrote added g e under = absurd g
@@ -210,65 +210,65 @@ module _ (n k : ℕ) (q : Request) where
   turn_goes w s m t t' (UnderWay id c o p moves) (happened.Ended x) added g e under = absurd g
   turn_goes w s m t t' (UnderWay id c o p moves) happened.Closed added g e under = absurd g
   turn_goes w s m t t' (UnderWay id c o p moves) happened.Sent added g e under = absurd g
-  turn_goes w s m t t' (Decided id c p reply) r added g e under = absurd (left_idle t.closed (with_answer t (ByCall id c p reply)) refl (subst (λ (z : Told). IsUnderWay z.phase n k q) g.2 under))
-  turn_goes w s m t t' (Gone cause) r added g e under = inl (subst (λ (z : Phase). IsUnderWay z n k q) e (same_under t t' g.2 under))
+  turn_goes w s m t t' (Decided id c p reply) r added g e under = absurd (left_idle t.closed (with_answer t (ByCall id c p reply)) refl (subst (λ (z : SessionState). IsCallUnderWay z.phase n k q) g.2 under))
+  turn_goes w s m t t' (Gone cause) r added g e under = inl (subst (λ (z : Phase). IsCallUnderWay z n k q) e (same_under t t' g.2 under))
 
-  close_goes : (t : Told) (f : Phase) → t.phase ≡ f → IsUnderWay (closed_now t f).phase n k q → IsUnderWay t.phase n k q
+  close_goes : (t : SessionState) (f : Phase) → t.phase ≡ f → IsCallUnderWay (closed_now t f).phase n k q → IsCallUnderWay t.phase n k q
   close_goes t Resting e under = absurd under
   close_goes t (UnderWay id c o p moves) e under = under
   close_goes t (Decided id c p reply) e under = under
   close_goes t (Gone cause) e under = under
 
-module _ (front : List Entry) (w : World) (h : HaveBegun front w) where
+module _ (front : List TraceEntry) (w : World) (h : HaveBegun front w) where
   -- the other sessions' calls began before
-  told_each : (e : Entry) (s more : ℕ) (t t' : Told) (added : List Record) → IsSession w s t
-      → ((n k : ℕ) (q : Request) → IsUnderWay t'.phase n k q → Began (front ++ e ∷ []) n s k q)
-      → (i : ℕ) (u : Told) → slice_get (with_told w s t' added more).sessions i ≡ Some u → (n k : ℕ) (q : Request) → IsUnderWay u.phase n k q → Began (front ++ e ∷ []) n (i + 1) k q
+  told_each : (e : TraceEntry) (s more : ℕ) (t t' : SessionState) (added : List Record) → IsSession w s t
+      → ((n k : ℕ) (q : Request) → IsCallUnderWay t'.phase n k q → Began (front ++ e ∷ []) n s k q)
+      → (i : ℕ) (u : SessionState) → slice_get (with_state w s t' added more).sessions i ≡ Some u → (n k : ℕ) (q : Request) → IsCallUnderWay u.phase n k q → Began (front ++ e ∷ []) n (i + 1) k q
   told_each e s more t t' added session now i u at n k q under = elim (cases_eq i (s - 1)) [
     | inl same ↦
         let num : s ≡ i + 1 = omega (arith, same, session.0) in
         let at' : slice_get (slice_set w.sessions (s - 1) t') (s - 1) ≡ Some u = ap (λ (j : ℕ). slice_get (slice_set w.sessions (s - 1) t') j) (sym same) ∙ at in
         let is : t' ≡ u = let z : slice_get (slice_set w.sessions (s - 1) t') (s - 1) ≡ Some t' = get_set_same w.sessions (s - 1) t t' session.1 in cc in
-        subst (λ (j : ℕ). Began (front ++ e ∷ []) n j k q) num (now n k q (subst (λ (z : Told). IsUnderWay z.phase n k q) (sym is) under))
+        subst (λ (j : ℕ). Began (front ++ e ∷ []) n j k q) num (now n k q (subst (λ (z : SessionState). IsCallUnderWay z.phase n k q) (sym is) under))
     | inr ne ↦ later front e n (i + 1) k q (h.each i u (sym (get_set_other w.sessions (s - 1) i t' ne) ∙ at) n k q under)
   ]
 
   -- a session that goes on as it was
-  goes_later : (e : Entry) (s : ℕ) (t : Told) → IsSession w s t → (n k : ℕ) (q : Request) → IsUnderWay t.phase n k q → Began (front ++ e ∷ []) n s k q
+  goes_later : (e : TraceEntry) (s : ℕ) (t : SessionState) → IsSession w s t → (n k : ℕ) (q : Request) → IsCallUnderWay t.phase n k q → Began (front ++ e ∷ []) n s k q
   goes_later e s t session n k q under = later front e n s k q (of_session front w h s t session n k q under)
 
-  begins_there : (s m : ℕ) (t t' : Told) (r : Happened) (added : List Record) (w' : World) → Tells front w → IsSession w s t → w' ≡ with_told w s t' added (calls_begun r) → Leads w (entry_of (event.Turn s m) (Ok r) added) w'
-      → (n k : ℕ) (q : Request) → BeginsNow m r added t'.phase n k q → Began (front ++ entry_of (event.Turn s m) (Ok r) added ∷ []) n s k q
+  begins_there : (s m : ℕ) (t t' : SessionState) (r : Happened) (added : List Record) (w' : World) → ReachesWorld front w → IsSession w s t → w' ≡ with_state w s t' added (calls_begun r) → Leads w (trace_entry (event.Turn s m) (Ok r) added) w'
+      → (n k : ℕ) (q : Request) → BeginsNow m r added t'.phase n k q → Began (front ++ trace_entry (event.Turn s m) (Ok r) added ∷ []) n s k q
   begins_there s m t t' r added w' tells session is leads n k q b =
-      let e = entry_of (event.Turn s m) (Ok r) added in
+      let e = trace_entry (event.Turn s m) (Ok r) added in
       let same : e ≡ begins_at s k =
-      ap (λ (z : Happened). entry_of (event.Turn s m) (Ok z) added) b.0 ∙ ap (λ (z : List Record). entry_of (event.Turn s m) (Ok happened.Begun) z) b.1
-      ∙ ap (λ (z : ℕ). entry_of (event.Turn s z) (Ok happened.Begun) []) b.2 in
+      ap (λ (z : Happened). trace_entry (event.Turn s m) (Ok z) added) b.0 ∙ ap (λ (z : List Record). trace_entry (event.Turn s m) (Ok happened.Begun) z) b.1
+      ∙ ap (λ (z : ℕ). trace_entry (event.Turn s z) (Ok happened.Begun) []) b.2 in
       record {
         front = front;
         back = [];
-        parts = ap (λ (z : Entry). front ++ z ∷ []) same;
+        parts = ap (λ (z : TraceEntry). front ++ z ∷ []) same;
         world = w';
-        tells = subst (λ (z : Entry). Tells (front ++ z ∷ []) w') same (Runs-push start w w' front e tells leads);
+        tells = subst (λ (z : TraceEntry). ReachesWorld (front ++ z ∷ []) w') same (Runs-push start w w' front e tells leads);
         told = t';
         id = b.3.0;
         is_session = (session.0, ap (λ (z : World). slice_get z.sessions (s - 1)) is ∙ get_set_same w.sessions (s - 1) t t' session.1);
         began = b.3.1;
       }
 
-  happens_each : (w' : World) (ev : Event) (r : Happened) (added : List Record) → Tells front w → Happens w ev r added w'
-      → (i : ℕ) (u : Told) → slice_get w'.sessions i ≡ Some u → (n k : ℕ) (q : Request) → IsUnderWay u.phase n k q → Began (front ++ entry_of ev (Ok r) added ∷ []) n (i + 1) k q
+  happens_each : (w' : World) (ev : Event) (r : Happened) (added : List Record) → ReachesWorld front w → Happens w ev r added w'
+      → (i : ℕ) (u : SessionState) → slice_get w'.sessions i ≡ Some u → (n k : ℕ) (q : Request) → IsCallUnderWay u.phase n k q → Began (front ++ trace_entry ev (Ok r) added ∷ []) n (i + 1) k q
   happens_each w' event.Open r added tells g i u at n k q under =
-      elim (new_get w.sessions i new_told u (ap (λ (z : World). slice_get z.sessions i) (sym g.3) ∙ at)) [
-        | inl old ↦ later front (entry_of event.Open (Ok r) added) n (i + 1) k q (h.each i u old n k q under)
-        | inr new ↦ absurd (subst (λ (z : Told). IsUnderWay z.phase n k q) (sym new) under)
+      elim (new_get w.sessions i new_state u (ap (λ (z : World). slice_get z.sessions i) (sym g.3) ∙ at)) [
+        | inl old ↦ later front (trace_entry event.Open (Ok r) added) n (i + 1) k q (h.each i u old n k q under)
+        | inr new ↦ absurd (subst (λ (z : SessionState). IsCallUnderWay z.phase n k q) (sym new) under)
       ]
   happens_each w' (event.Feed s bytes) r added tells g i u at n k q under =
-      let e = entry_of (event.Feed s bytes) (Ok r) added in
+      let e = trace_entry (event.Feed s bytes) (Ok r) added in
       let t = g.2.0 in
       told_each e s 0 t (fed t bytes.items) [] g.2.1 (λ a b c z. goes_later e s t g.2.1 a b c z) i u (ap (λ (z : World). slice_get z.sessions i) (sym g.2.3) ∙ at) n k q under
   happens_each w' (event.Turn s m) r added tells g i u at n k q under =
-      let e = entry_of (event.Turn s m) (Ok r) added in
+      let e = trace_entry (event.Turn s m) (Ok r) added in
       let t = g.0 in
       told_each e s (calls_begun r) t g.1 added g.2
       (λ a b c z. elim (turn_goes a b c w s m t g.1 t.phase r added g.3 refl z) [
@@ -277,21 +277,21 @@ module _ (front : List Entry) (w : World) (h : HaveBegun front w) where
       ])
       i u (ap (λ (z : World). slice_get z.sessions i) (sym g.4) ∙ at) n k q under
   happens_each w' (event.Close s) r added tells g i u at n k q under =
-      let e = entry_of (event.Close s) (Ok r) added in
+      let e = trace_entry (event.Close s) (Ok r) added in
       let t = g.1.0 in
       told_each e s 0 t (closed_now t t.phase) added g.1.1 (λ a b c z. goes_later e s t g.1.1 a b c (close_goes a b c t t.phase refl z)) i u (ap (λ (z : World). slice_get z.sessions i) (sym g.1.3) ∙ at) n k q under
   happens_each w' (event.Sent s c) r added tells g i u at n k q under =
-      let e = entry_of (event.Sent s c) (Ok r) added in
+      let e = trace_entry (event.Sent s c) (Ok r) added in
       let t = g.2.0 in
       told_each e s 0 t (sent_more t c) [] g.2.1 (λ a b d z. goes_later e s t g.2.1 a b d z) i u (ap (λ (z : World). slice_get z.sessions i) (sym g.2.3) ∙ at) n k q under
 
-  leads_each : (w' : World) (ev : Event) (r : Result Happened EngineFault) (added : List Record) → Tells front w → LeadsBy w ev r added w'
-      → (i : ℕ) (u : Told) → slice_get w'.sessions i ≡ Some u → (n k : ℕ) (q : Request) → IsUnderWay u.phase n k q → Began (front ++ entry_of ev r added ∷ []) n (i + 1) k q
+  leads_each : (w' : World) (ev : Event) (r : Result Happened EngineFault) (added : List Record) → ReachesWorld front w → LeadsBy w ev r added w'
+      → (i : ℕ) (u : SessionState) → slice_get w'.sessions i ≡ Some u → (n k : ℕ) (q : Request) → IsCallUnderWay u.phase n k q → Began (front ++ trace_entry ev r added ∷ []) n (i + 1) k q
   leads_each w' ev (Ok r) added tells g i u at n k q under = happens_each w' ev r added tells g i u at n k q under
   leads_each w' ev (Err f) added tells g i u at n k q under =
-      later front (entry_of ev (Err f) added) n (i + 1) k q (h.each i u (ap (λ (z : World). slice_get z.sessions i) (sym g.2) ∙ at) n k q under)
+      later front (trace_entry ev (Err f) added) n (i + 1) k q (h.each i u (ap (λ (z : World). slice_get z.sessions i) (sym g.2) ∙ at) n k q under)
 
-  step_begun : (e : Entry) (w' : World) → Tells front w → Leads w e w' → HaveBegun (front ++ e ∷ []) w'
+  step_begun : (e : TraceEntry) (w' : World) → ReachesWorld front w → Leads w e w' → HaveBegun (front ++ e ∷ []) w'
   step_begun e w' tells g = record {
     each = λ i u at n k q under. leads_each w' e.event e.result e.added tells g i u at n k q under;
     records = λ r a. elim (among_either r w.records e.added (subst (λ (xs : List Record). IsAmong r xs) (leads_records w w' e g) a)) [
@@ -300,16 +300,16 @@ module _ (front : List Entry) (w : World) (h : HaveBegun front w) where
     ];
   }
 
-runs_begun : (front entries : List Entry) (w w' : World) → Tells front w → HaveBegun front w → Runs w entries w' → HaveBegun (front ++ entries) w'
+runs_begun : (front entries : List TraceEntry) (w w' : World) → ReachesWorld front w → HaveBegun front w → Runs w entries w' → HaveBegun (front ++ entries) w'
 unfolding Runs
-runs_begun front [] w w' tells h g = subst (λ (z : World). HaveBegun (front ++ []) z) (sym g) (subst (λ (xs : List Entry). HaveBegun xs w) (sym (append-nil front)) h)
+runs_begun front [] w w' tells h g = subst (λ (z : World). HaveBegun (front ++ []) z) (sym g) (subst (λ (xs : List TraceEntry). HaveBegun xs w) (sym (append-nil front)) h)
 runs_begun front (e ∷ entries) w w' tells h g =
-    subst (λ (xs : List Entry). HaveBegun xs w') (append_assoc front (e ∷ []) entries)
+    subst (λ (xs : List TraceEntry). HaveBegun xs w') (append_assoc front (e ∷ []) entries)
     (runs_begun (front ++ e ∷ []) entries g.0 w' (Runs-push start w g.0 front e tells g.1) (step_begun front w h e g.0 tells g.1) g.2)
 
 start_begun : HaveBegun [] start
 unfolding IsAmong
 start_begun = record { each = λ i t at n k q under. absurd cc; records = λ r a. absurd a }
 
-pub all_begun : (trace : List Entry) (w : World) → Tells trace w → (r : Record) → IsAmong r w.records → FollowsBeginning trace r
+pub all_begun : (trace : List TraceEntry) (w : World) → ReachesWorld trace w → (r : Record) → IsAmong r w.records → FollowsBeginning trace r
 all_begun trace w g r a = (runs_begun [] trace start w runs_nil start_begun g).records r a

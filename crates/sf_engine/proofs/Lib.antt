@@ -5,7 +5,7 @@ pub mod Deciding
 pub mod Working
 pub mod Asked
 pub mod Resting
-pub mod Under
+pub mod TurnsUnderWay
 pub mod Writing
 pub mod Turning
 pub mod Chains

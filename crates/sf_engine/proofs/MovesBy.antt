@@ -2,9 +2,9 @@
 use Rattle.std.proofs.Common.{◌≡◌, ◌⊎◌, ◌<◌, ◌≤◌, ◌+◌, arith, inl, inr}
 use Rattle.sf_reply.specs.declared.reply.Reply.{Reply}
 use Rattle.sf_call.specs.declared.call.Call.{Call}
-use Rattle.sf_core.specs.Cores.Slot.{Busy}
+use Rattle.sf_core.specs.Cores.LaneState.{Busy}
 use Rattle.sf_core.specs.Progress.{left_of, SameCall}
-use Rattle.sf_core.specs.Events.{Before, After, OwnCall, SetsSlot, Goes, Writes, CopiesBlock, AddsNothing, MovesOn}
+use Rattle.sf_core.specs.Events.{Before, After, OwnCall, SetsSlot, Goes, StartsToWrite, CopiesBlock, AddsNothing, MovesOn}
 
 pub record MovesBy (b : Before) (a : After) : Type 0 where
   pub before : Call
@@ -17,7 +17,7 @@ pub record MovesBy (b : Before) (a : After) : Type 0 where
   pub lane : a.lane ≡ b.lane
   pub more : b.core.look_ups ≤ a.core.look_ups
   pub few : a.core.look_ups ≤ b.core.look_ups + 2
-  pub kind : (Goes b.core a.core b.lane before after × AddsNothing b a) ⊎ ((given : Reply) × Writes b a before after given) ⊎ (CopiesBlock b.core a.core b.lane before after × AddsNothing b a)
+  pub kind : (Goes b.core a.core b.lane before after × AddsNothing b a) ⊎ ((given : Reply) × StartsToWrite b a before after given) ⊎ (CopiesBlock b.core a.core b.lane before after × AddsNothing b a)
 
 pub moves_by : (b : Before) (a : After) → MovesOn b a → MovesBy b a
 moves_by b a (inl g) = let go = g.0.2 in record { before = g.0.0; after = g.0.1; own = go.own; same = go.same; slot = go.slot; less = go.less; some = go.some; lane = g.1.lane; more = go.more; few = go.few; kind = inl (go, g.1) }

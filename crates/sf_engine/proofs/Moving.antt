@@ -7,14 +7,14 @@ use Rattle.std.proofs.lemmas.List.Sums.{sum_by-set}
 use Rattle.sf_call.specs.declared.call.Call.{Call}
 use Rattle.sf_call.specs.declared.record.Record.{Record}
 use Rattle.sf_session.specs.Sessions.{SessionView}
-use Rattle.sf_core.specs.Cores.Slot.{Gone as nobody, Idle, Busy}
-use Rattle.sf_core.specs.Cores.{CoreView, slot_of, joined}
+use Rattle.sf_core.specs.Cores.LaneState.{Gone as nobody, Idle, Busy}
+use Rattle.sf_core.specs.Cores.{CoreView, lane_state, joined}
 use Rattle.sf_core.specs.Progress.{left_of, SameCall}
 use Rattle.sf_core.specs.Histories.{IsHistory}
 use Rattle.sf_engine.specs.declared.seat.Seat.{Seat}
-use Rattle.sf_engine.specs.declared.seat.Place.{Place}
-use Rattle.sf_engine.specs.Worlds.{Phase, Resting, UnderWay, Decided, Gone, Told, World, with_told, is_here}
-use Rattle.sf_engine.specs.Fits.{IsOnWay, PlaceAgrees, SeatAgrees, Agrees}
+use Rattle.sf_engine.specs.declared.seat.SeatState.{SeatState}
+use Rattle.sf_engine.specs.Worlds.{Phase, Resting, UnderWay, Decided, Gone, SessionState, World, with_state, is_here}
+use Rattle.sf_engine.specs.Fits.{IsStillWalking, PlaceAgrees, SeatAgrees, Agrees}
 
 pub get_set_same : {A : Type 0} (xs : List A) (i : ℕ) (x v : A) → slice_get xs i ≡ Some x → slice_get (slice_set xs i v) i ≡ Some v
 get_set_same [] i x v h = absurd cc
@@ -50,26 +50,26 @@ sum_by_write f xs i x v h =
     ap (λ y. sum_by f (slice_set xs i v) + f y) (sym at) ∙ sum_by-set f xs i v x (slice_get_within xs i x h)
 
 -- 1 if a session is there
-abbrev pub here_in : Told → ℕ
+abbrev pub here_in : SessionState → ℕ
 here_in t = cond (is_here t) 1 0
 
--- another session's slot stays, or its call was carried out
+-- another session's lane state stays, or its call was carried out
 abbrev pub OtherStays : CoreView → CoreView → ℕ → Type 0
-OtherStays v v' s = (slot_of v' s ≡ slot_of v s)
-    ⊎ ((before : Call) × (after : Call) × (slot_of v s ≡ Busy before) × (slot_of v' s ≡ Busy after) × SameCall before after × (left_of after ≤ left_of before) × (IsOnWay after → ⊥))
+OtherStays v v' s = (lane_state v' s ≡ lane_state v s)
+    ⊎ ((before : Call) × (after : Call) × (lane_state v s ≡ Busy before) × (lane_state v' s ≡ Busy after) × SameCall before after × (left_of after ≤ left_of before) × (IsStillWalking after → ⊥))
 
 -- what an event does to the core for one session, of which this is told before and after it
-pub record Moves (v v' : CoreView) (s : ℕ) (t t' : Told) (more : ℕ) : Type 0 where
+pub record Moves (v v' : CoreView) (s : ℕ) (t t' : SessionState) (more : ℕ) : Type 0 where
   pub joins : v'.joins ≡ v.joins
   pub drawn : v'.drawn ≡ v.drawn + more
   pub joined : joined v' + here_in t ≡ joined v + here_in t'
   pub others : (i : ℕ) → i ≢ s → OtherStays v v' i
 
-pub moves_none : (v : CoreView) (s : ℕ) (t t' : Told) → here_in t ≡ here_in t' → Moves v v s t t' 0
+pub moves_none : (v : CoreView) (s : ℕ) (t t' : SessionState) → here_in t ≡ here_in t' → Moves v v s t t' 0
 moves_none v s t t' same = record { joins = refl; drawn = omega arith; joined = ap (λ (n : ℕ). joined v + n) same; others = λ i ne. inl refl }
 
--- a place whose slot stays
-pub agrees_same : (v v' : CoreView) (s : ℕ) (x : SessionView) (f : Phase) (p : Place) → slot_of v' s ≡ slot_of v s → PlaceAgrees v s x f p → PlaceAgrees v' s x f p
+-- a seat state whose lane state stays
+pub agrees_same : (v v' : CoreView) (s : ℕ) (x : SessionView) (f : Phase) (p : SeatState) → lane_state v' s ≡ lane_state v s → PlaceAgrees v s x f p → PlaceAgrees v' s x f p
 agrees_same v v' s x Resting p e h = record { lane = h.lane; session = h.session; idle = h.idle; place_is = h.place_is; slot = e ∙ h.slot; waiting = h.waiting; ended = h.ended }
 agrees_same v v' s x (UnderWay id n m q moves) p e h = record {
   lane = h.lane;
@@ -98,7 +98,7 @@ agrees_same v v' s x (Decided id n q given) p e h = record {
 agrees_same v v' s x (Gone cause) p e h = (h.0, e ∙ h.1, h.2)
 
 -- a place whose call was carried out
-pub agrees_helped : (v v' : CoreView) (s : ℕ) (x : SessionView) (f : Phase) (p : Place) (c d : Call) → slot_of v s ≡ Busy c → slot_of v' s ≡ Busy d → SameCall c d → left_of d ≤ left_of c → (IsOnWay d → ⊥)
+pub agrees_helped : (v v' : CoreView) (s : ℕ) (x : SessionView) (f : Phase) (p : SeatState) (c d : Call) → lane_state v s ≡ Busy c → lane_state v' s ≡ Busy d → SameCall c d → left_of d ≤ left_of c → (IsStillWalking d → ⊥)
     → PlaceAgrees v s x f p → PlaceAgrees v' s x f p
 agrees_helped v v' s x Resting p c d was now same less done h = absurd (let w : Idle ≡ Busy c = sym h.slot ∙ was in cc)
 agrees_helped v v' s x (UnderWay id n m q moves) p c d was now same less done h =
@@ -123,7 +123,7 @@ agrees_helped v v' s x (UnderWay id n m q moves) p c d was now same less done h 
 agrees_helped v v' s x (Decided id n q given) p c d was now same less done h = absurd (let w : Idle ≡ Busy c = sym h.slot ∙ was in cc)
 agrees_helped v v' s x (Gone cause) p c d was now same less done h = absurd (let w : nobody ≡ Busy c = sym h.1 ∙ was in cc)
 
-pub seat_stays : (v v' : CoreView) (s : ℕ) (t : Told) (p : Seat) → OtherStays v v' s → SeatAgrees v s t p → SeatAgrees v' s t p
+pub seat_stays : (v v' : CoreView) (s : ℕ) (t : SessionState) (p : Seat) → OtherStays v v' s → SeatAgrees v s t p → SeatAgrees v' s t p
 seat_stays v v' s t p stays h = record {
   unread = h.unread;
   output = h.output;
@@ -136,13 +136,13 @@ seat_stays v v' s t p stays h = record {
 }
 
 -- one session written, by its place in the list
-abbrev pub with_at : World → ℕ → Told → List Record → ℕ → World
+abbrev pub with_at : World → ℕ → SessionState → List Record → ℕ → World
 with_at w at t added more = record { sessions = slice_set w.sessions at t; records = w.records ++ added; begun = w.begun + more }
 
-pub with_at_is : (w : World) (at : ℕ) (t : Told) (added : List Record) (more : ℕ) → with_told w (at + 1) t added more ≡ with_at w at t added more
+pub with_at_is : (w : World) (at : ℕ) (t : SessionState) (added : List Record) (more : ℕ) → with_state w (at + 1) t added more ≡ with_at w at t added more
 with_at_is w at t added more = let num : at + 1 - 1 ≡ at = omega arith in ap (λ (n : ℕ). with_at w n t added more) num
 
-keeps_at : (w : World) (v v' : CoreView) (seats : List Seat) (at : ℕ) (added : List Record) (more : ℕ) (p q : Seat) (t t' : Told)
+keeps_at : (w : World) (v v' : CoreView) (seats : List Seat) (at : ℕ) (added : List Record) (more : ℕ) (p q : Seat) (t t' : SessionState)
     → Agrees w (record { core = v; seats = seats }) → slice_get w.sessions at ≡ Some t → slice_get seats at ≡ Some p
     → IsHistory v' (w.records ++ added) → Moves v v' (at + 1) t t' more → SeatAgrees v' (at + 1) t' q
     → Agrees (with_at w at t' added more) (record { core = v'; seats = slice_set seats at q })
@@ -158,7 +158,7 @@ keeps_at w v v' seats at added more p q t t' agrees told was history moves now =
         let ho' : slice_get (slice_set seats at q) at ≡ Some o = ap (λ (n : ℕ). slice_get (slice_set seats at q) n) (sym e) ∙ ho in
         let tu : t' ≡ u = let k : slice_get (slice_set w.sessions at t') at ≡ Some t' = get_set_same w.sessions at t t' told in cc in
         let qo : q ≡ o = let k : slice_get (slice_set seats at q) at ≡ Some q = get_set_same seats at p q was in cc in
-        subst (λ (n : ℕ). SeatAgrees v' (n + 1) u o) (sym e) (subst (λ (z : Told). SeatAgrees v' (at + 1) z o) tu (subst (λ (z : Seat). SeatAgrees v' (at + 1) t' z) qo now))
+        subst (λ (n : ℕ). SeatAgrees v' (n + 1) u o) (sym e) (subst (λ (z : SessionState). SeatAgrees v' (at + 1) z o) tu (subst (λ (z : Seat). SeatAgrees v' (at + 1) t' z) qo now))
     | inr ne ↦
         seat_stays v v' (i + 1) u o (moves.others (i + 1) (λ k. ne (omega (arith, k))))
         (agrees.each i u o (sym (get_set_other w.sessions at i t' ne) ∙ hu) (sym (get_set_other seats at i q ne) ∙ ho))
@@ -173,10 +173,10 @@ keeps_at w v v' seats at added more p q t t' agrees told was history moves now =
       ];
 }
 
-pub keeps_agrees : (w : World) (v v' : CoreView) (seats : List Seat) (at : ℕ) (added : List Record) (more : ℕ) (p q : Seat) (t t' : Told)
+pub keeps_agrees : (w : World) (v v' : CoreView) (seats : List Seat) (at : ℕ) (added : List Record) (more : ℕ) (p q : Seat) (t t' : SessionState)
     → Agrees w (record { core = v; seats = seats }) → slice_get w.sessions at ≡ Some t → slice_get seats at ≡ Some p
     → IsHistory v' (w.records ++ added) → Moves v v' (at + 1) t t' more → SeatAgrees v' (at + 1) t' q
-    → Agrees (with_told w (at + 1) t' added more) (record { core = v'; seats = slice_set seats at q })
+    → Agrees (with_state w (at + 1) t' added more) (record { core = v'; seats = slice_set seats at q })
 keeps_agrees w v v' seats at added more p q t t' agrees told was history moves now =
     let P : World → Type 0 = λ z. Agrees z (record { core = v'; seats = slice_set seats at q }) in
     subst P (sym (with_at_is w at t' added more)) (keeps_at w v v' seats at added more p q t t' agrees told was history moves now)

@@ -24,8 +24,8 @@ use Rattle.sf_engine.specs.declared.event.Event.TheVariants as event
 use Rattle.sf_engine.specs.declared.event.Happened.{Happened}
 use Rattle.sf_engine.specs.declared.event.Happened.TheVariants as happened
 use Rattle.sf_engine.specs.declared.event.EngineFault.{EngineFault}
-use Rattle.sf_engine.specs.Worlds.{Entry, Answered, Version, Locally, ByCall, Refused, asked_by, transcript, Phase, Resting, UnderWay, Decided, Gone, Told, new_told, World, start, with_told, with_phase}
-use Rattle.sf_engine.specs.Traces.{has_begun, IsSession, IsAtOnce, Decides, TurnLeads, RestLeads, Happens, LeadsBy, Runs, Tells, order, left_if_closed, with_answer, closed_now, fed, sent_more, calls_begun}
+use Rattle.sf_engine.specs.Worlds.{TraceEntry, Response, Version, Locally, ByCall, Refused, ask_behind, transcript, Phase, Resting, UnderWay, Decided, Gone, SessionState, new_state, World, start, with_state, with_phase}
+use Rattle.sf_engine.specs.Traces.{has_begun, IsSession, IsAtOnce, DecidesCall, TurnLeads, RestLeads, Happens, LeadsBy, Runs, ReachesWorld, order, left_if_closed, with_answer, closed_now, fed, sent_more, calls_begun}
 use Rattle.sf_engine.specs.Laws.{IsOfBytes, AreOfBytes}
 use Rattle.sf_engine.specs.Views.{EngineView}
 use Rattle.sf_engine.specs.Fits.{Fits, IsSentBy}
@@ -56,7 +56,7 @@ one_fault w id id' r r' core.NumbersSpent core.Stranger h k = absurd k
 one_fault w id id' r r' core.Sessions g h k = absurd h
 one_fault w id id' r r' core.Stranger g h k = absurd h
 
-one_answer : (w : World) (a b : Answered) → IsAtOnce w a → IsAtOnce w b → asked_by a ≡ asked_by b → a ≡ b
+one_answer : (w : World) (a b : Response) → IsAtOnce w a → IsAtOnce w b → ask_behind a ≡ ask_behind b → a ≡ b
 one_answer w Version Version h k e = refl
 one_answer w Version (Locally id r) h k e = absurd cc
 one_answer w Version (ByCall id n q r) h k e = absurd k
@@ -106,7 +106,7 @@ unfolding IsLegal
 one_legal n s k q a b h legal x y = one_record n s k q a b [] h legal x y
 
 one_reply : (w : World) (s moves n k : ℕ) (q : Request) (a b : Reply) (added : List Record) → IsLegal w.records
-    → Decides w s moves (Did n s k q a) added → Decides w s moves (Did n s k q b) added → a ≡ b
+    → DecidesCall w s moves (Did n s k q a) added → DecidesCall w s moves (Did n s k q b) added → a ≡ b
 one_reply w s moves n k q a b added legal (inl h) (inl g) = one_legal n s k q a b w.records legal h.1 g.1
 one_reply w s moves n k q a b added legal (inl h) (inr g) = absurd (nil_push g.helped (Did n s k q b) (sym h.0 ∙ g.records))
 one_reply w s moves n k q a b added legal (inr h) (inl g) = absurd (nil_push h.helped (Did n s k q a) (sym g.0 ∙ h.records))
@@ -116,19 +116,19 @@ one_reply w s moves n k q a b added legal (inr h) (inr g) =
 -- ---- one world after an entry
 
 module _ (w : World) (legal : IsLegal w.records) where
-  one_rest : (s m : ℕ) (t a b : Told) (r : Happened) (added : List Record) → AreBytes t.unread → RestLeads m (record { world = w; session = s; told = t; added = added; now = a }) r → RestLeads m (record { world = w; session = s; told = t; added = added; now = b }) r → a ≡ b
+  one_rest : (s m : ℕ) (t a b : SessionState) (r : Happened) (added : List Record) → AreBytes t.unread → RestLeads m (record { world = w; session = s; told = t; added = added; now = a }) r → RestLeads m (record { world = w; session = s; told = t; added = added; now = b }) r → a ≡ b
   one_rest s m t a b happened.Idle added bytes g h = g.2 ∙ sym h.2
   one_rest s m t a b happened.Wrote added bytes g h =
       let x = g.0 in
       let y = h.0 in
       let same = one_body t.unread x.body x.rest y.body y.rest x.begins y.begins in
       let body : AreBytes y.body = whole_bytes y.body y.rest (All-same (λ c. c < 256) (packet y.body ++ y.rest) t.unread (sym y.begins.whole) bytes) in
-      let asks = one_ask (has_begun t.bodies) y.body (asked_by x.answer) (asked_by y.answer) body (subst (λ (z : List ℕ). AsksFor (has_begun t.bodies) z (asked_by x.answer)) same.0 x.asks) y.asks in
+      let asks = one_ask (has_begun t.bodies) y.body (ask_behind x.answer) (ask_behind y.answer) body (subst (λ (z : List ℕ). AsksFor (has_begun t.bodies) z (ask_behind x.answer)) same.0 x.asks) y.asks in
       let answer = one_answer w x.answer y.answer x.at_once y.at_once asks in
       x.now
       ∙ ap (λ (z : List ℕ). record t { unread = z; bodies = t.bodies ++ x.body ∷ []; answers = t.answers ++ x.answer ∷ []; phase = Resting }) same.1
       ∙ ap (λ (z : List ℕ). record t { unread = y.rest; bodies = t.bodies ++ z ∷ []; answers = t.answers ++ x.answer ∷ []; phase = Resting }) same.0
-      ∙ ap (λ (z : Answered). record t { unread = y.rest; bodies = t.bodies ++ y.body ∷ []; answers = t.answers ++ z ∷ []; phase = Resting }) answer
+      ∙ ap (λ (z : Response). record t { unread = y.rest; bodies = t.bodies ++ y.body ∷ []; answers = t.answers ++ z ∷ []; phase = Resting }) answer
       ∙ sym y.now
   one_rest s m t a b happened.Begun added bytes g h =
       let x = g.0 in
@@ -154,7 +154,7 @@ module _ (w : World) (legal : IsLegal w.records) where
   one_rest s m t a b happened.Closed added bytes g h = absurd g
   one_rest s m t a b happened.Sent added bytes g h = absurd g
 
-  one_turn : (s m : ℕ) (t a b : Told) (f : Phase) (r : Happened) (added : List Record) → AreBytes t.unread → TurnLeads m (record { world = w; session = s; told = t; added = added; now = a }) f r → TurnLeads m (record { world = w; session = s; told = t; added = added; now = b }) f r → a ≡ b
+  one_turn : (s m : ℕ) (t a b : SessionState) (f : Phase) (r : Happened) (added : List Record) → AreBytes t.unread → TurnLeads m (record { world = w; session = s; told = t; added = added; now = a }) f r → TurnLeads m (record { world = w; session = s; told = t; added = added; now = b }) f r → a ≡ b
   one_turn s m t a b Resting r added bytes g h = one_rest s m t a b r added bytes g h
   one_turn s m t a b (UnderWay id n k q moves) happened.Moved added bytes g h = g.2 ∙ sym h.2
   one_turn s m t a b (UnderWay id n k q moves) (happened.Blocked holder) added bytes g h = g.2 ∙ sym h.2
@@ -171,58 +171,58 @@ module _ (w : World) (legal : IsLegal w.records) where
   one_turn s m t a b (Decided id n q given) r added bytes g h = g.2 ∙ sym h.2
   one_turn s m t a b (Gone cause) r added bytes g h = g.2 ∙ sym h.2
 
-  one_told : (s : ℕ) (t u : Told) → IsSession w s t → IsSession w s u → u ≡ t
+  one_told : (s : ℕ) (t u : SessionState) → IsSession w s t → IsSession w s u → u ≡ t
   one_told s t u a b = let e : Some u ≡ Some t = sym b.1 ∙ a.1 in cc
 
-  one_after : (v v' : World) (ev : Event) (r : Happened) (added : List Record) → ((i : ℕ) (t : Told) → slice_get w.sessions i ≡ Some t → AreBytes t.unread) → Happens w ev r added v → Happens w ev r added v' → v ≡ v'
+  one_after : (v v' : World) (ev : Event) (r : Happened) (added : List Record) → ((i : ℕ) (t : SessionState) → slice_get w.sessions i ≡ Some t → AreBytes t.unread) → Happens w ev r added v → Happens w ev r added v' → v ≡ v'
   one_after v v' event.Open r added bytes g h = g.3 ∙ sym h.3
   one_after v v' (event.Feed s items) r added bytes g h =
       let same = one_told s h.2.0 g.2.0 h.2.1 g.2.1 in
-      g.2.3 ∙ ap (λ (z : Told). with_told w s (fed z items.items) [] 0) same ∙ sym h.2.3
+      g.2.3 ∙ ap (λ (z : SessionState). with_state w s (fed z items.items) [] 0) same ∙ sym h.2.3
   one_after v v' (event.Turn s m) r added bytes g h =
       let same = one_told s h.0 g.0 h.2 g.2 in
-      let g' = subst (λ (z : Told). TurnLeads m (record { world = w; session = s; told = z; added = added; now = g.1 }) z.phase r) same g.3 in
+      let g' = subst (λ (z : SessionState). TurnLeads m (record { world = w; session = s; told = z; added = added; now = g.1 }) z.phase r) same g.3 in
       let now = one_turn s m h.0 g.1 h.1 h.0.phase r added (bytes (s - 1) h.0 h.2.1) g' h.3 in
-      g.4 ∙ ap (λ (z : Told). with_told w s z added (calls_begun r)) now ∙ sym h.4
+      g.4 ∙ ap (λ (z : SessionState). with_state w s z added (calls_begun r)) now ∙ sym h.4
   one_after v v' (event.Close s) r added bytes g h =
       let same = one_told s h.1.0 g.1.0 h.1.1 g.1.1 in
-      g.1.3 ∙ ap (λ (z : Told). with_told w s (closed_now z z.phase) added 0) same ∙ sym h.1.3
+      g.1.3 ∙ ap (λ (z : SessionState). with_state w s (closed_now z z.phase) added 0) same ∙ sym h.1.3
   one_after v v' (event.Sent s n) r added bytes g h =
       let same = one_told s h.2.0 g.2.0 h.2.1 g.2.1 in
-      g.2.3 ∙ ap (λ (z : Told). with_told w s (sent_more z n) [] 0) same ∙ sym h.2.3
+      g.2.3 ∙ ap (λ (z : SessionState). with_state w s (sent_more z n) [] 0) same ∙ sym h.2.3
 
-  one_leads : (v v' : World) (ev : Event) (r : Result Happened EngineFault) (added : List Record) → ((i : ℕ) (t : Told) → slice_get w.sessions i ≡ Some t → AreBytes t.unread) → LeadsBy w ev r added v → LeadsBy w ev r added v' → v ≡ v'
+  one_leads : (v v' : World) (ev : Event) (r : Result Happened EngineFault) (added : List Record) → ((i : ℕ) (t : SessionState) → slice_get w.sessions i ≡ Some t → AreBytes t.unread) → LeadsBy w ev r added v → LeadsBy w ev r added v' → v ≡ v'
   one_leads v v' ev (Ok r) added bytes g h = one_after v v' ev r added bytes g h
   one_leads v v' ev (Err f) added bytes g h = g.2 ∙ sym h.2
 
 -- ---- what is unread are bytes
 
 record AreRead (w : World) : Type 0 where
-  each : (i : ℕ) (t : Told) → slice_get w.sessions i ≡ Some t → AreBytes t.unread
+  each : (i : ℕ) (t : SessionState) → slice_get w.sessions i ≡ Some t → AreBytes t.unread
 
 no_bytes : AreBytes []
 no_bytes = All-nil (λ b. b < 256)
 
-told_read : (w : World) (s more : ℕ) (t t' : Told) (added : List Record) → AreRead w → IsSession w s t → AreBytes t'.unread → AreRead (with_told w s t' added more)
+told_read : (w : World) (s more : ℕ) (t t' : SessionState) (added : List Record) → AreRead w → IsSession w s t → AreBytes t'.unread → AreRead (with_state w s t' added more)
 told_read w s more t t' added h session now = record {
   each = λ i u at. elim (cases_eq i (s - 1)) [
     | inl same ↦
         let at' : slice_get (slice_set w.sessions (s - 1) t') (s - 1) ≡ Some u = ap (λ (j : ℕ). slice_get (slice_set w.sessions (s - 1) t') j) (sym same) ∙ at in
         let is : t' ≡ u = let z : slice_get (slice_set w.sessions (s - 1) t') (s - 1) ≡ Some t' = get_set_same w.sessions (s - 1) t t' session.1 in cc in
-        subst (λ (z : Told). AreBytes z.unread) is now
+        subst (λ (z : SessionState). AreBytes z.unread) is now
     | inr ne ↦ h.each i u (sym (get_set_other w.sessions (s - 1) i t' ne) ∙ at)
   ];
 }
 
-module _ (w : World) (s m : ℕ) (t : Told) (bytes : AreBytes t.unread) where
+module _ (w : World) (s m : ℕ) (t : SessionState) (bytes : AreBytes t.unread) where
   begun_read : (unread body rest : List ℕ) → unread ≡ t.unread → Begins unread body rest → AreBytes rest
   begun_read unread body rest e b = rest_bytes body rest (All-same (λ c. c < 256) (packet body ++ rest) t.unread (sym b.whole ∙ e) bytes)
 
-  rest_read : (r : Happened) (added : List Record) (t' : Told) → RestLeads m (record { world = w; session = s; told = t; added = added; now = t' }) r → AreBytes t'.unread
-  rest_read happened.Idle added t' g = subst (λ (z : Told). AreBytes z.unread) (sym g.2) bytes
-  rest_read happened.Wrote added t' g = subst (λ (z : Told). AreBytes z.unread) (sym g.0.now) (begun_read t.unread g.0.body g.0.rest refl g.0.begins)
-  rest_read happened.Begun added t' g = subst (λ (z : Told). AreBytes z.unread) (sym g.0.now) (begun_read t.unread g.0.body g.0.rest refl g.0.begins)
-  rest_read (happened.Ended cause) added t' g = subst (λ (z : Told). AreBytes z.unread) (sym g.2) no_bytes
+  rest_read : (r : Happened) (added : List Record) (t' : SessionState) → RestLeads m (record { world = w; session = s; told = t; added = added; now = t' }) r → AreBytes t'.unread
+  rest_read happened.Idle added t' g = subst (λ (z : SessionState). AreBytes z.unread) (sym g.2) bytes
+  rest_read happened.Wrote added t' g = subst (λ (z : SessionState). AreBytes z.unread) (sym g.0.now) (begun_read t.unread g.0.body g.0.rest refl g.0.begins)
+  rest_read happened.Begun added t' g = subst (λ (z : SessionState). AreBytes z.unread) (sym g.0.now) (begun_read t.unread g.0.body g.0.rest refl g.0.begins)
+  rest_read (happened.Ended cause) added t' g = subst (λ (z : SessionState). AreBytes z.unread) (sym g.2) no_bytes
   rest_read (happened.Opened c) added t' g = absurd g
   rest_read happened.Fed added t' g = absurd g
   rest_read happened.Moved added t' g = absurd g
@@ -231,15 +231,15 @@ module _ (w : World) (s m : ℕ) (t : Told) (bytes : AreBytes t.unread) where
   rest_read happened.Closed added t' g = absurd g
   rest_read happened.Sent added t' g = absurd g
 
-  left_read : (closed : Bool) (u : Told) → AreBytes u.unread → AreBytes (left_if_closed closed u).unread
+  left_read : (closed : Bool) (u : SessionState) → AreBytes u.unread → AreBytes (left_if_closed closed u).unread
   left_read true u h = no_bytes
   left_read false u h = h
 
-  turn_read : (f : Phase) (r : Happened) (added : List Record) (t' : Told) → TurnLeads m (record { world = w; session = s; told = t; added = added; now = t' }) f r → AreBytes t'.unread
+  turn_read : (f : Phase) (r : Happened) (added : List Record) (t' : SessionState) → TurnLeads m (record { world = w; session = s; told = t; added = added; now = t' }) f r → AreBytes t'.unread
   turn_read Resting r added t' g = rest_read r added t' g
-  turn_read (UnderWay id n k q moves) happened.Moved added t' g = subst (λ (z : Told). AreBytes z.unread) (sym g.2) bytes
-  turn_read (UnderWay id n k q moves) (happened.Blocked holder) added t' g = subst (λ (z : Told). AreBytes z.unread) (sym g.2) bytes
-  turn_read (UnderWay id n k q moves) happened.Decided added t' g = subst (λ (z : Told). AreBytes z.unread) (sym g.2) bytes
+  turn_read (UnderWay id n k q moves) happened.Moved added t' g = subst (λ (z : SessionState). AreBytes z.unread) (sym g.2) bytes
+  turn_read (UnderWay id n k q moves) (happened.Blocked holder) added t' g = subst (λ (z : SessionState). AreBytes z.unread) (sym g.2) bytes
+  turn_read (UnderWay id n k q moves) happened.Decided added t' g = subst (λ (z : SessionState). AreBytes z.unread) (sym g.2) bytes
   turn_read (UnderWay id n k q moves) (happened.Opened x) added t' g = absurd g
   turn_read (UnderWay id n k q moves) happened.Fed added t' g = absurd g
   turn_read (UnderWay id n k q moves) happened.Wrote added t' g = absurd g
@@ -248,8 +248,8 @@ module _ (w : World) (s m : ℕ) (t : Told) (bytes : AreBytes t.unread) where
   turn_read (UnderWay id n k q moves) (happened.Ended x) added t' g = absurd g
   turn_read (UnderWay id n k q moves) happened.Closed added t' g = absurd g
   turn_read (UnderWay id n k q moves) happened.Sent added t' g = absurd g
-  turn_read (Decided id n q given) r added t' g = subst (λ (z : Told). AreBytes z.unread) (sym g.2) (left_read t.closed (with_answer t (ByCall id n q given)) bytes)
-  turn_read (Gone cause) r added t' g = subst (λ (z : Told). AreBytes z.unread) (sym g.2) bytes
+  turn_read (Decided id n q given) r added t' g = subst (λ (z : SessionState). AreBytes z.unread) (sym g.2) (left_read t.closed (with_answer t (ByCall id n q given)) bytes)
+  turn_read (Gone cause) r added t' g = subst (λ (z : SessionState). AreBytes z.unread) (sym g.2) bytes
 
   close_read : (f : Phase) → AreBytes (closed_now t f).unread
   close_read Resting = no_bytes
@@ -259,9 +259,9 @@ module _ (w : World) (s m : ℕ) (t : Told) (bytes : AreBytes t.unread) where
 
 happens_read : (w w' : World) (ev : Event) (r : Happened) (added : List Record) → AreRead w → IsOfBytes ev → Happens w ev r added w' → AreRead w'
 happens_read w w' event.Open r added h of g = subst AreRead (sym g.3) (record {
-  each = λ i u at. elim (new_get w.sessions i new_told u at) [
+  each = λ i u at. elim (new_get w.sessions i new_state u at) [
     | inl old ↦ h.each i u old
-    | inr new ↦ subst (λ (z : Told). AreBytes z.unread) new no_bytes
+    | inr new ↦ subst (λ (z : SessionState). AreBytes z.unread) new no_bytes
   ];
 })
 happens_read w w' (event.Feed s bytes) r added h of g =
@@ -292,7 +292,7 @@ legal_now : (xs ys : List Record) → IsLegal (xs ++ ys) → IsLegal xs
 unfolding IsLegal
 legal_now xs ys h = legal_front [] xs ys h
 
-one_run : (entries : List Entry) (w v v' : World) → AreRead w → AreOfBytes entries → IsLegal (w.records ++ order entries) → Runs w entries v → Runs w entries v' → v ≡ v'
+one_run : (entries : List TraceEntry) (w v v' : World) → AreRead w → AreOfBytes entries → IsLegal (w.records ++ order entries) → Runs w entries v → Runs w entries v' → v ≡ v'
 unfolding Runs
 one_run [] w v v' h of legal g k = g ∙ sym k
 one_run (e ∷ entries) w v v' h of legal g k =
@@ -302,10 +302,10 @@ one_run (e ∷ entries) w v v' h of legal g k =
     sym (append_assoc w.records e.added (order entries)) ∙ ap (λ (xs : List Record). xs ++ order entries) (sym (leads_records w k.0 e k.1)) in
     one_run entries k.0 v v' (leads_read w k.0 e.event e.result e.added h of.0 k.1) of.1 (subst IsLegal all legal) (subst (λ (z : World). Runs z entries v) same g.2) k.2
 
-pub one_world : (trace : List Entry) (w w' : World) → AreOfBytes trace → IsLegal (order trace) → Tells trace w → Tells trace w' → w ≡ w'
+pub one_world : (trace : List TraceEntry) (w w' : World) → AreOfBytes trace → IsLegal (order trace) → ReachesWorld trace w → ReachesWorld trace w' → w ≡ w'
 one_world trace w w' of legal g k = one_run trace start w w' (record { each = λ i t at. absurd cc }) of legal g k
 
-pub one_output : (trace : List Entry) (e e' : EngineView) → AreOfBytes trace → Fits e trace → Fits e' trace → (session : ℕ) (output output' : List ℕ)
+pub one_output : (trace : List TraceEntry) (e e' : EngineView) → AreOfBytes trace → Fits e trace → Fits e' trace → (session : ℕ) (output output' : List ℕ)
     → IsSentBy e session output → IsSentBy e' session output' → output ≡ output'
 one_output trace e e' of fits fits' session output output' sent sent' =
     let a = sent trace fits in
@@ -313,5 +313,5 @@ one_output trace e e' of fits fits' session output output' sent sent' =
     let same : fits.world ≡ fits'.world = one_world trace fits.world fits'.world of fits.legal fits.tells fits'.tells in
     let at : IsSession fits'.world session a.0 = subst (λ (z : World). IsSession z session a.0) same a.1 in
     let told : a.0 ≡ b.0 = let z : Some a.0 ≡ Some b.0 = sym at.1 ∙ b.1.1 in cc in
-    let both : a.0.sent ++ output ≡ a.0.sent ++ output' = sym a.2 ∙ ap (λ (z : Told). transcript z.answers) told ∙ b.2 ∙ ap (λ (z : Told). z.sent ++ output') (sym told) in
+    let both : a.0.sent ++ output ≡ a.0.sent ++ output' = sym a.2 ∙ ap (λ (z : SessionState). transcript z.answers) told ∙ b.2 ∙ ap (λ (z : SessionState). z.sent ++ output') (sym told) in
     sym (drop-append_seam a.0.sent output) ∙ ap (λ (z : List ℕ). drop (length a.0.sent) z) both ∙ drop-append_seam a.0.sent output'

@@ -5,18 +5,18 @@ use Rattle.std.proofs.lemmas.List.Sums.{sum_by-append}
 use Rattle.sf_call.specs.declared.record.Record.{Record}
 use Rattle.sf_session.specs.Sessions.{new_session}
 use Rattle.sf_inode.specs.Stores.{StoreState}
-use Rattle.sf_core.specs.Cores.Slot.{Gone as nobody, Idle}
-use Rattle.sf_core.specs.Cores.{CoreView, slot_of, new_core}
+use Rattle.sf_core.specs.Cores.LaneState.{Gone as nobody, Idle}
+use Rattle.sf_core.specs.Cores.{CoreView, lane_state, new_core}
 use Rattle.sf_core.specs.Events.{Joins}
 use Rattle.sf_core.specs.Histories.{IsHistory}
 use Rattle.sf_engine.specs.declared.seat.Seat.{Seat}
-use Rattle.sf_engine.specs.declared.seat.Place.TheVariants as place
+use Rattle.sf_engine.specs.declared.seat.SeatState.TheVariants as state
 use Rattle.sf_engine.specs.declared.event.Event.TheVariants as event
 use Rattle.sf_engine.specs.declared.event.Happened.{Happened}
 use Rattle.sf_engine.specs.declared.event.Happened.TheVariants as happened
 use Rattle.sf_engine.specs.declared.event.EngineFault.{EngineFault}
 use Rattle.sf_engine.specs.declared.event.EngineFault.TheVariants as fault
-use Rattle.sf_engine.specs.Worlds.{Told, World, new_told, start, transcript}
+use Rattle.sf_engine.specs.Worlds.{SessionState, World, new_state, start, transcript}
 use Rattle.sf_engine.specs.Traces.{MayRefuse, MayOpen}
 use Rattle.sf_engine.specs.Turns.{OpenGives, OpenFault}
 use Rattle.sf_engine.specs.Views.{EngineView}
@@ -34,9 +34,9 @@ get_push (x ∷ xs) zero v s h = inl h
 get_push (x ∷ xs) (suc j) v s h = elim (get_push xs j v s h) [ inl e ↦ inl e | inr e ↦ inr (ap (λ (n : ℕ). suc n) e.0, e.1) ]
 
 abbrev pub new_seat : ℕ → Seat
-new_seat s = seat new_session (place.Resting (record { session = s; call = None; begun = 0 })) false
+new_seat s = seat new_session (state.Resting (record { session = s; call = None; begun = 0 })) false
 
-seat_new : (v' : CoreView) (s : ℕ) → slot_of v' s ≡ Idle → SeatAgrees v' s new_told (new_seat s)
+seat_new : (v' : CoreView) (s : ℕ) → lane_state v' s ≡ Idle → SeatAgrees v' s new_state (new_seat s)
 unfolding transcript
 seat_new v' s idle = record {
   unread = refl;
@@ -48,16 +48,16 @@ seat_new v' s idle = record {
 
 -- with the new session's seat
 opened_agrees : (w : World) (v v' : CoreView) (seats : List Seat) → Agrees w (engine v seats) → Joins v v' → IsHistory v' w.records
-    → Agrees (record { sessions = w.sessions ++ new_told ∷ []; records = w.records; begun = w.begun }) (engine v' (seats ++ new_seat (v.joins + 1) ∷ []))
+    → Agrees (record { sessions = w.sessions ++ new_state ∷ []; records = w.records; begun = w.begun }) (engine v' (seats ++ new_seat (v.joins + 1) ∷ []))
 opened_agrees w v v' seats agrees j history =
     let num : v.joins + 1 ≡ length w.sessions + 1 = ap (λ (n : ℕ). n + 1) agrees.opened in
     record {
       history = history;
       begun = j.drawn ∙ agrees.begun;
-      opened = j.joins ∙ num ∙ sym (length-append w.sessions (new_told ∷ []));
-      here = omega (arith, j.joined, agrees.here, sum_by-append here_in w.sessions (new_told ∷ []));
-      count = length-append seats (new_seat (v.joins + 1) ∷ []) ∙ ap (λ (n : ℕ). n + 1) agrees.count ∙ sym (length-append w.sessions (new_told ∷ []));
-      each = λ i t p ht hp. elim (get_push w.sessions i new_told t ht) [
+      opened = j.joins ∙ num ∙ sym (length-append w.sessions (new_state ∷ []));
+      here = omega (arith, j.joined, agrees.here, sum_by-append here_in w.sessions (new_state ∷ []));
+      count = length-append seats (new_seat (v.joins + 1) ∷ []) ∙ ap (λ (n : ℕ). n + 1) agrees.count ∙ sym (length-append w.sessions (new_state ∷ []));
+      each = λ i t p ht hp. elim (get_push w.sessions i new_state t ht) [
         | inl told ↦ elim (get_push seats i (new_seat (v.joins + 1)) p hp) [
           | inl was ↦ seat_stays v v' (i + 1) t p (inl (j.others (i + 1) (λ e. absurd (omega (arith, e, num, slice_get_within w.sessions i t told))))) (agrees.each i t p told was)
           | inr out ↦ absurd (omega (arith, out.0, agrees.count, slice_get_within w.sessions i t told))
@@ -66,14 +66,14 @@ opened_agrees w v v' seats agrees j history =
           | inl was ↦ absurd (omega (arith, new.0, agrees.count, slice_get_within seats i p was))
           | inr out ↦
               let s : v.joins + 1 ≡ i + 1 = omega (arith, num, new.0) in
-              let idle : slot_of v' (i + 1) ≡ Idle = subst (λ (n : ℕ). slot_of v' n ≡ Idle) s j.own in
-              let now : SeatAgrees v' (i + 1) new_told (new_seat (v.joins + 1)) = subst (λ (n : ℕ). SeatAgrees v' (i + 1) new_told (new_seat n)) (sym s) (seat_new v' (i + 1) idle) in
-              subst (λ (z : Told). SeatAgrees v' (i + 1) z p) new.1 (subst (λ (z : Seat). SeatAgrees v' (i + 1) new_told z) out.1 now)
+              let idle : lane_state v' (i + 1) ≡ Idle = subst (λ (n : ℕ). lane_state v' n ≡ Idle) s j.own in
+              let now : SeatAgrees v' (i + 1) new_state (new_seat (v.joins + 1)) = subst (λ (n : ℕ). SeatAgrees v' (i + 1) new_state (new_seat n)) (sym s) (seat_new v' (i + 1) idle) in
+              subst (λ (z : SessionState). SeatAgrees v' (i + 1) z p) new.1 (subst (λ (z : Seat). SeatAgrees v' (i + 1) new_state z) out.1 now)
         ]
       ];
       nobody = λ s out.
-          let out' : (s ≡ 0) ⊎ (length w.sessions < s) = elim out [ inl e ↦ inl e | inr lt ↦ inr (omega (arith, lt, length-append w.sessions (new_told ∷ []))) ] in
-          let apart : s ≢ v.joins + 1 = λ e. elim out [ inl z ↦ absurd (omega (arith, e, z)) | inr lt ↦ absurd (omega (arith, e, lt, num, length-append w.sessions (new_told ∷ []))) ] in
+          let out' : (s ≡ 0) ⊎ (length w.sessions < s) = elim out [ inl e ↦ inl e | inr lt ↦ inr (omega (arith, lt, length-append w.sessions (new_state ∷ []))) ] in
+          let apart : s ≢ v.joins + 1 = λ e. elim out [ inl z ↦ absurd (omega (arith, e, z)) | inr lt ↦ absurd (omega (arith, e, lt, num, length-append w.sessions (new_state ∷ []))) ] in
           j.others s apart ∙ agrees.nobody s out';
     }
 
@@ -90,10 +90,10 @@ pub any_open_steps : (v v' : CoreView) (seats seats' : List Seat) (r : Result Ha
     → (w : World) → Agrees w (engine v seats) → Steps (engine v seats) event.Open r (engine v' seats') w
 any_open_steps v v' seats seats' (Ok r) ok history err why w agrees =
     let may : MayOpen w = (omega (arith, ok.core.few, agrees.here), omega (arith, ok.core.unspent, agrees.opened)) in
-    let P : List Seat → Type 0 = λ z. Agrees (record { sessions = w.sessions ++ new_told ∷ []; records = w.records; begun = w.begun }) (engine v' z) in
+    let P : List Seat → Type 0 = λ z. Agrees (record { sessions = w.sessions ++ new_state ∷ []; records = w.records; begun = w.begun }) (engine v' z) in
     record {
       added = [];
-      after = record { sessions = w.sessions ++ new_told ∷ []; records = w.records; begun = w.begun };
+      after = record { sessions = w.sessions ++ new_state ∷ []; records = w.records; begun = w.begun };
       leads = (ok.opened ∙ ap (λ (n : ℕ). happened.Opened (n + 1)) agrees.opened, may, refl, refl);
       records = sym (append-nil w.records);
       agrees = subst P (sym ok.added) (opened_agrees w v v' seats agrees ok.core (history w.records agrees.history));
@@ -106,7 +106,7 @@ any_open_steps v v' seats seats' (Err f) ok history err why w agrees =
     subst P (sym same) (refused_steps (engine v seats) event.Open f w agrees (open_fault w v seats f agrees why))
 
 -- a new core has nothing for anybody
-new_slots : (keep : Option ℕ) (store : StoreState) (s : ℕ) → slot_of (new_core keep store) s ≡ nobody
+new_slots : (keep : Option ℕ) (store : StoreState) (s : ℕ) → lane_state (new_core keep store) s ≡ nobody
 new_slots keep store zero = refl
 new_slots keep store (suc s) = refl
 

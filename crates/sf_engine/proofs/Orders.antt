@@ -9,8 +9,8 @@ use Rattle.sf_engine.specs.declared.event.Happened.{Happened}
 use Rattle.sf_engine.specs.declared.event.Happened.TheVariants as happened
 use Rattle.sf_engine.specs.declared.event.EngineFault.{EngineFault}
 use Rattle.sf_engine.specs.Deciding.{IsSure, AreSure}
-use Rattle.sf_engine.specs.Worlds.{Entry, Phase, Resting, UnderWay, Decided, Gone, Told, World, start}
-use Rattle.sf_engine.specs.Traces.{TurnLeads, RestLeads, Decides, Happens, LeadsBy, Leads, Runs, Tells, order, left_by_close, leaving}
+use Rattle.sf_engine.specs.Worlds.{TraceEntry, Phase, Resting, UnderWay, Decided, Gone, SessionState, World, start}
+use Rattle.sf_engine.specs.Traces.{TurnLeads, RestLeads, DecidesCall, Happens, LeadsBy, Leads, Runs, ReachesWorld, order, left_by_close, leaving}
 
 happens_records : (w w' : World) (e : Event) (r : Happened) (added : List Record) → Happens w e r added w' → w'.records ≡ w.records ++ added
 happens_records w w' event.Open r added g = ap (λ (z : World). z.records) g.3 ∙ sym (append-nil w.records) ∙ ap (λ (xs : List Record). w.records ++ xs) (sym g.2)
@@ -23,10 +23,10 @@ leads_by_records : (w w' : World) (e : Event) (r : Result Happened EngineFault) 
 leads_by_records w w' e (Ok r) added g = happens_records w w' e r added g
 leads_by_records w w' e (Err f) added g = ap (λ (z : World). z.records) g.2 ∙ sym (append-nil w.records) ∙ ap (λ (xs : List Record). w.records ++ xs) (sym g.1)
 
-pub leads_records : (w w' : World) (e : Entry) → Leads w e w' → w'.records ≡ w.records ++ e.added
+pub leads_records : (w w' : World) (e : TraceEntry) → Leads w e w' → w'.records ≡ w.records ++ e.added
 leads_records w w' e g = leads_by_records w w' e.event e.result e.added g
 
-pub runs_records : (w w' : World) (entries : List Entry) → Runs w entries w' → w'.records ≡ w.records ++ order entries
+pub runs_records : (w w' : World) (entries : List TraceEntry) → Runs w entries w' → w'.records ≡ w.records ++ order entries
 unfolding Runs
 runs_records w w' [] g = ap (λ (z : World). z.records) g ∙ sym (append-nil w.records)
 runs_records w w' (e ∷ entries) g =
@@ -52,7 +52,7 @@ close_sure h added s (UnderWay id n m q moves) e = no_sure h added e
 close_sure h added s (Decided id n q given) e = no_sure h added e
 close_sure h added s (Gone cause) e = no_sure h added e
 
-rest_sure : (w : World) (s m : ℕ) (t t' : Told) (r : Happened) (added : List Record) → RestLeads m (record { world = w; session = s; told = t; added = added; now = t' }) r → AreSure w.records added
+rest_sure : (w : World) (s m : ℕ) (t t' : SessionState) (r : Happened) (added : List Record) → RestLeads m (record { world = w; session = s; told = t; added = added; now = t' }) r → AreSure w.records added
 rest_sure w s m t t' happened.Idle added g = no_sure w.records added g.1
 rest_sure w s m t t' happened.Wrote added g = no_sure w.records added g.1
 rest_sure w s m t t' happened.Begun added g = no_sure w.records added g.1
@@ -65,11 +65,11 @@ rest_sure w s m t t' happened.Decided added g = absurd g
 rest_sure w s m t t' happened.Closed added g = absurd g
 rest_sure w s m t t' happened.Sent added g = absurd g
 
-decides_sure : (w : World) (s moves : ℕ) (own : Record) (added : List Record) → Decides w s moves own added → AreSure w.records added
+decides_sure : (w : World) (s moves : ℕ) (own : Record) (added : List Record) → DecidesCall w s moves own added → AreSure w.records added
 decides_sure w s moves own added (inl g) = no_sure w.records added g.0
 decides_sure w s moves own added (inr g) = g.sure
 
-turn_sure : (w : World) (s m : ℕ) (t t' : Told) (f : Phase) (r : Happened) (added : List Record) → TurnLeads m (record { world = w; session = s; told = t; added = added; now = t' }) f r → AreSure w.records added
+turn_sure : (w : World) (s m : ℕ) (t t' : SessionState) (f : Phase) (r : Happened) (added : List Record) → TurnLeads m (record { world = w; session = s; told = t; added = added; now = t' }) f r → AreSure w.records added
 turn_sure w s m t t' Resting r added g = rest_sure w s m t t' r added g
 turn_sure w s m t t' (UnderWay id n k q moves) happened.Moved added g = elim g.1 [ inl none ↦ no_sure w.records added none.0 | inr writes ↦ writes.2.1.sure ]
 turn_sure w s m t t' (UnderWay id n k q moves) (happened.Blocked holder) added g = no_sure w.records added g.1
@@ -102,14 +102,14 @@ sure_append before [] ys h k = subst (λ (b : List Record). AreSure b ys) (appen
 sure_append before (x ∷ xs) ys h k =
     (h.0, sure_append (before ++ x ∷ []) xs ys h.1 (subst (λ (b : List Record). AreSure b ys) (sym (append_assoc before (x ∷ []) xs)) k))
 
-runs_sure : (w w' : World) (entries : List Entry) → Runs w entries w' → AreSure w.records (order entries)
+runs_sure : (w w' : World) (entries : List TraceEntry) → Runs w entries w' → AreSure w.records (order entries)
 unfolding Runs AreSure
 runs_sure w w' [] g = tt
 runs_sure w w' (e ∷ entries) g =
     sure_append w.records e.added (order entries) (leads_sure w g.0 e.event e.result e.added g.1)
     (subst (λ (b : List Record). AreSure b (order entries)) (leads_records w g.0 e g.1) (runs_sure g.0 w' entries g.2))
 
-pub tells_sure : (trace : List Entry) (w : World) → Tells trace w → AreSure [] w.records
+pub tells_sure : (trace : List TraceEntry) (w : World) → ReachesWorld trace w → AreSure [] w.records
 tells_sure trace w g = subst (λ (xs : List Record). AreSure [] xs) (sym (runs_records start w trace g)) (runs_sure start w trace g)
 
 -- where a record stands in an order

@@ -5,7 +5,7 @@ use Rattle.std.proofs.lemmas.Option.{slice_get_within, get_or_from_slice_get}
 use Rattle.sf_session.specs.Sessions.{SessionView}
 use Rattle.sf_core.specs.Cores.{CoreView}
 use Rattle.sf_engine.specs.declared.seat.Seat.{Seat}
-use Rattle.sf_engine.specs.declared.seat.Place.{Place}
+use Rattle.sf_engine.specs.declared.seat.SeatState.{SeatState}
 use Rattle.sf_engine.specs.Worlds.{Phase, Resting, UnderWay, Decided, Gone}
 use Rattle.sf_engine.specs.Traces.{IsSession}
 use Rattle.sf_engine.specs.Turns.{is_busy}
@@ -13,13 +13,13 @@ use Rattle.sf_engine.specs.Views.{EngineView}
 use Rattle.sf_engine.specs.Fits.{PlaceAgrees, IsQuiet, IsQuietBy}
 use Rattle.sf_engine.proofs.Moving.{get_within}
 
-quiet_at : (v : CoreView) (s : ℕ) (x : SessionView) (f : Phase) (p : Place) → PlaceAgrees v s x f p → is_busy p ≡ false → IsQuiet f
+quiet_at : (v : CoreView) (s : ℕ) (x : SessionView) (f : Phase) (p : SeatState) → PlaceAgrees v s x f p → is_busy p ≡ false → IsQuiet f
 quiet_at v s x Resting p h e = tt
 quiet_at v s x (UnderWay id n m q moves) p h e = absurd (let busy : is_busy p ≡ true = ap is_busy h.place_is in let z : true ≡ false = sym busy ∙ e in cc)
 quiet_at v s x (Decided id n q given) p h e = absurd (let busy : is_busy p ≡ true = ap is_busy h.place_is in let z : true ≡ false = sym busy ∙ e in cc)
 quiet_at v s x (Gone cause) p h e = tt
 
-idle_at : (v : CoreView) (s : ℕ) (x : SessionView) (f : Phase) (p : Place) → PlaceAgrees v s x f p → IsQuiet f → is_busy p ≡ false
+idle_at : (v : CoreView) (s : ℕ) (x : SessionView) (f : Phase) (p : SeatState) → PlaceAgrees v s x f p → IsQuiet f → is_busy p ≡ false
 idle_at v s x Resting p h quiet = ap is_busy h.place_is
 idle_at v s x (UnderWay id n m q moves) p h quiet = absurd quiet
 idle_at v s x (Decided id n q given) p h quiet = absurd quiet

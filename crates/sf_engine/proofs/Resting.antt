@@ -15,43 +15,43 @@ use Rattle.sf_session.specs.declared.asking.Ask.TheVariants as ask
 use Rattle.sf_session.specs.declared.session.Next.TheVariants as next
 use Rattle.sf_session.specs.Asking.{AsksFor}
 use Rattle.sf_session.specs.Sessions.{SessionView, Begins, EndsBy, NextGives, LocalPacket, refusal_of}
-use Rattle.sf_core.specs.Cores.Slot.{Idle}
+use Rattle.sf_core.specs.Cores.LaneState.{Idle}
 use Rattle.sf_core.specs.Lanes.{LaneView}
-use Rattle.sf_core.specs.Cores.{CoreView, slot_of, last_number}
+use Rattle.sf_core.specs.Cores.{CoreView, lane_state, last_number}
 use Rattle.sf_core.specs.Progress.{new_call}
 use Rattle.sf_core.specs.Events.{begun, Leaves, RefusesBegin}
 use Rattle.sf_engine.specs.declared.seat.Seat.{Seat}
-use Rattle.sf_engine.specs.declared.seat.Place.{Place}
+use Rattle.sf_engine.specs.declared.seat.SeatState.{SeatState}
 use Rattle.sf_engine.specs.declared.event.Happened.{Happened}
 use Rattle.sf_engine.specs.declared.event.Happened.TheVariants as happened
-use Rattle.sf_engine.specs.Worlds.{Answered, Version, Locally, Refused, asked_by, packet_for, transcript, Resting, UnderWay, Told, World, with_phase}
+use Rattle.sf_engine.specs.Worlds.{Response, Version, Locally, Refused, ask_behind, packet_for, transcript, Resting, UnderWay, SessionState, World, with_phase}
 use Rattle.sf_engine.specs.Traces.{IsAtOnce, RestLeads, left_for, calls_begun}
-use Rattle.sf_engine.specs.Turns.{seated, new_part, Reads}
-use Rattle.sf_engine.specs.Fits.{IsResting, SeatAgrees}
+use Rattle.sf_engine.specs.Turns.{seated, new_part, ReadGives}
+use Rattle.sf_engine.specs.Fits.{HasNoCall, SeatAgrees}
 use Rattle.sf_engine.proofs.Moving.{Moves, moves_none, here_in}
 use Rattle.sf_engine.proofs.Asked.{begun_push}
 
 -- what an event leaves of one session, and of the core for it
-pub record Turned (v v' : CoreView) (s : ℕ) (t : Told) (more : ℕ) (q : Seat) (leads : Told → Type 0) : Type 0 where
-  pub told : Told
+pub record Turned (v v' : CoreView) (s : ℕ) (t : SessionState) (more : ℕ) (q : Seat) (leads : SessionState → Type 0) : Type 0 where
+  pub told : SessionState
   pub lead : leads told
   pub moves : Moves v v' s t told more
   pub agrees : SeatAgrees v' s told q
 
 -- what an engine has for a session, by its parts
-abbrev pub seat : SessionView → Place → Bool → Seat
+abbrev pub seat : SessionView → SeatState → Bool → Seat
 seat x p closed = record { session = x; place = p; closed = closed }
 
-pub transcript_push : (answers : List Answered) (a : Answered) → transcript answers ++ packet_for a ≡ transcript (answers ++ a ∷ [])
+pub transcript_push : (answers : List Response) (a : Response) → transcript answers ++ packet_for a ≡ transcript (answers ++ a ∷ [])
 unfolding transcript
 transcript_push answers a = flat_map_more packet_for [] answers a
 
 -- a packet more, behind what was sent and what waits
-pub output_push : (answers : List Answered) (sent output : List ℕ) (a : Answered) → transcript answers ≡ sent ++ output → transcript (answers ++ a ∷ []) ≡ sent ++ (output ++ packet_for a)
+pub output_push : (answers : List Response) (sent output : List ℕ) (a : Response) → transcript answers ≡ sent ++ output → transcript (answers ++ a ∷ []) ≡ sent ++ (output ++ packet_for a)
 output_push answers sent output a is = sym (transcript_push answers a) ∙ ap (λ (b : List ℕ). b ++ packet_for a) is ∙ append_assoc sent output (packet_for a)
 
 -- the session leaves the core
-pub moves_leaves : (v v' : CoreView) (s : ℕ) (t t' : Told) → Leaves v v' s → here_in t ≡ 1 → here_in t' ≡ 0 → Moves v v' s t t' 0
+pub moves_leaves : (v v' : CoreView) (s : ℕ) (t t' : SessionState) → Leaves v v' s → here_in t ≡ 1 → here_in t' ≡ 0 → Moves v v' s t t' 0
 moves_leaves v v' s t t' l was now = record {
   joins = l.joins;
   drawn = l.drawn ∙ omega arith;
@@ -60,7 +60,7 @@ moves_leaves v v' s t t' l was now = record {
 }
 
 -- less than a packet is unread: nothing changes
-pub stays : (w : World) (v v' : CoreView) (s m : ℕ) (t : Told) (x y : SessionView) (p q : Place) (closed : Bool) (added : List Record)
+pub stays : (w : World) (v v' : CoreView) (s m : ℕ) (t : SessionState) (x y : SessionView) (p q : SeatState) (closed : Bool) (added : List Record)
     → SeatAgrees v s t (seat x p closed) → NextGives x next.More y → v' ≡ v → added ≡ [] → q ≡ p
     → Turned v v' s t 0 (seat y q closed) (λ t'. RestLeads m (record { world = w; session = s; told = t; added = added; now = t' }) happened.Idle)
 stays w v v' s m t x y p q closed added h g vis none qis = record {
@@ -68,18 +68,18 @@ stays w v v' s m t x y p q closed added h g vis none qis = record {
   lead = (subst (λ (b : List ℕ). IsCut b cut.More) h.unread g.1, none, refl);
   moves = subst (λ (z : CoreView). Moves v z s t t 0) (sym vis) (moves_none v s t t refl);
   agrees = subst (λ (z : CoreView). SeatAgrees z s t (seat y q closed)) (sym vis)
-      (subst (λ (z : SessionView). SeatAgrees v s t (seat z q closed)) (sym g.2) (subst (λ (z : Place). SeatAgrees v s t (seat x z closed)) (sym qis) h));
+      (subst (λ (z : SessionView). SeatAgrees v s t (seat z q closed)) (sym g.2) (subst (λ (z : SeatState). SeatAgrees v s t (seat x z closed)) (sym qis) h));
 }
 
 -- a packet was answered at once, and the session rests again
-answered_at_once : (w : World) (v : CoreView) (s m : ℕ) (t : Told) (c : Bool) (x y : SessionView) (p q : Place) (added : List Record)
-    → SeatAgrees v s (with_phase t Resting) (seat x p c) → (at : IsResting v s x p)
-    → (body rest : List ℕ) (a : Answered) → Begins x.unread body rest → AsksFor x.begun body (asked_by a) → IsAtOnce w a
+answered_at_once : (w : World) (v : CoreView) (s m : ℕ) (t : SessionState) (c : Bool) (x y : SessionView) (p q : SeatState) (added : List Record)
+    → SeatAgrees v s (with_phase t Resting) (seat x p c) → (at : HasNoCall v s x p)
+    → (body rest : List ℕ) (a : Response) → Begins x.unread body rest → AsksFor x.begun body (ask_behind a) → IsAtOnce w a
     → y ≡ record { unread = rest; output = x.output ++ packet_for a; begun = true; waiting = None; ended = None }
     → added ≡ [] → q ≡ p
     → Turned v v s (with_phase t Resting) 0 (seat y q c) (λ t'. RestLeads m (record { world = w; session = s; told = (with_phase t Resting); added = added; now = t' }) happened.Wrote)
 answered_at_once w v s m t c x y p q added h at body rest a begins asks once now none qis =
-    let told : Told = record t { unread = rest; bodies = t.bodies ++ body ∷ []; answers = t.answers ++ a ∷ []; phase = Resting } in
+    let told : SessionState = record t { unread = rest; bodies = t.bodies ++ body ∷ []; answers = t.answers ++ a ∷ []; phase = Resting } in
     let lane = at.lane in record {
       told = told;
       lead = (
@@ -88,7 +88,7 @@ answered_at_once w v s m t c x y p q added h at body rest a begins asks once now
           rest = rest;
           answer = a;
           begins = subst (λ (b : List ℕ). Begins b body rest) h.unread begins;
-          asks = subst (λ (b : Bool). AsksFor b body (asked_by a)) h.begun asks;
+          asks = subst (λ (b : Bool). AsksFor b body (ask_behind a)) h.begun asks;
           at_once = once;
           now = refl;
         },
@@ -105,22 +105,22 @@ answered_at_once w v s m t c x y p q added h at body rest a begins asks once now
     }
 
 -- the answer of a body that needs no call
-local_answer : (v : SessionView) (a : Ask) (text : List ℕ) → LocalPacket a text → (answer : Answered) × (asked_by answer ≡ a) × (packet_for answer ≡ text) × ((w : World) → IsAtOnce w answer)
+local_answer : (v : SessionView) (a : Ask) (text : List ℕ) → LocalPacket a text → (answer : Response) × (ask_behind answer ≡ a) × (packet_for answer ≡ text) × ((w : World) → IsAtOnce w answer)
 local_answer v ask.Version text h = (Version, refl, sym h, λ w. tt)
 local_answer v (ask.Local id reply) text h = (Locally id reply, refl, sym h, λ w. tt)
 local_answer v (ask.Call id request) text h = absurd h
 local_answer v (ask.End cause) text h = absurd h
 
 -- why a call could not begin
-once_refused : (w : World) (v : CoreView) (lane : LaneView) (id : ℕ) (request : Request) (fault : CoreFault) → v.drawn ≡ w.begun → slot_of v lane.session ≡ Idle → RefusesBegin v lane fault → IsAtOnce w (Refused id request fault)
+once_refused : (w : World) (v : CoreView) (lane : LaneView) (id : ℕ) (request : Request) (fault : CoreFault) → v.drawn ≡ w.begun → lane_state v lane.session ≡ Idle → RefusesBegin v lane fault → IsAtOnce w (Refused id request fault)
 once_refused w v lane id request core.OutOfMemory drawn idle h = subst (λ (n : ℕ). n < last_number) drawn h.1
 once_refused w v lane id request core.NumbersSpent drawn idle h = sym drawn ∙ h.1
 once_refused w v lane id request core.Sessions drawn idle h = h
 once_refused w v lane id request core.Stranger drawn idle h = absurd (h idle)
 
-pub rest_turned : (w : World) (v v' : CoreView) (s m : ℕ) (t : Told) (c : Bool) (x y : SessionView) (p q : Place) (r : Happened) (added : List Record)
-    → v.drawn ≡ w.begun → SeatAgrees v s (with_phase t Resting) (seat x p c) → (at : IsResting v s x p)
-    → Reads (seated v x at.lane) m r (new_part v' added y q)
+pub rest_turned : (w : World) (v v' : CoreView) (s m : ℕ) (t : SessionState) (c : Bool) (x y : SessionView) (p q : SeatState) (r : Happened) (added : List Record)
+    → v.drawn ≡ w.begun → SeatAgrees v s (with_phase t Resting) (seat x p c) → (at : HasNoCall v s x p)
+    → ReadGives (seated v x at.lane) m r (new_part v' added y q)
     → Turned v v' s (with_phase t Resting) (calls_begun r) (seat y q c) (λ t'. RestLeads m (record { world = w; session = s; told = (with_phase t Resting); added = added; now = t' }) r)
 rest_turned w v v' s m t c x y p q happened.Idle added drawn h at g =
     stays w v v' s m (with_phase t Resting) x y p q c added h g.0 g.1 g.2 (g.3 ∙ sym at.place_is)
@@ -138,7 +138,7 @@ rest_turned w v v' s m t c x y p q happened.Wrote added drawn h at g =
           let mid = k.1 in
           let fault = k.2 in
           let o = k.3.1 in
-          let idle : slot_of v at.lane.session ≡ Idle = ap (λ (n : ℕ). slot_of v n) at.session ∙ at.slot in
+          let idle : lane_state v at.lane.session ≡ Idle = ap (λ (n : ℕ). lane_state v n) at.session ∙ at.slot in
           let wrote = subst (λ (z : Option ℕ). IfSome z (λ id. y ≡ record mid { output = mid.output ++ packet (reply_body id (refusal_of fault)); waiting = None })) (ap (λ (z : SessionView). z.waiting) o.now) k.5 in
           let now : y ≡ record { unread = o.rest; output = x.output ++ packet (reply_body o.id (refusal_of fault)); begun = true; waiting = None; ended = None } =
           wrote ∙ ap (λ (z : SessionView). record { unread = z.unread; output = z.output ++ packet (reply_body o.id (refusal_of fault)); begun = z.begun; waiting = None; ended = z.ended }) o.now in
@@ -151,7 +151,7 @@ rest_turned w v v' s m t c x y p q happened.Begun added drawn h at g =
     let b = g.2 in
     let lane' : LaneView = begun at.lane v'.drawn in
     let n = w.begun + 1 in
-    let told : Told = record t { unread = o.rest; bodies = t.bodies ++ o.body ∷ []; phase = UnderWay o.id n m request 0 } in
+    let told : SessionState = record t { unread = o.rest; bodies = t.bodies ++ o.body ∷ []; phase = UnderWay o.id n m request 0 } in
     let call = new_call (v.drawn + 1) at.lane.session m request in
     let number : v.drawn + 1 ≡ n = ap (λ (k : ℕ). k + 1) drawn in
     record {
@@ -186,7 +186,7 @@ rest_turned w v v' s m t c x y p q happened.Begun added drawn h at g =
           session = at.session;
           number_is = ap (λ (k : ℕ). Some k) (b.drawn ∙ number);
           place_is = g.4;
-          slot = ap (λ (k : ℕ). slot_of v' k) (sym at.session) ∙ b.own;
+          slot = ap (λ (k : ℕ). lane_state v' k) (sym at.session) ∙ b.own;
           own = (at.session, number, refl, refl);
           few = omega (arith, b.fresh.1);
           walked = λ e. refl;

@@ -8,25 +8,25 @@ use Rattle.std.proofs.lemmas.List.{length-take-le, take_more, take_all}
 use Rattle.std.proofs.lemmas.List.Sums.{sum_by_more}
 use Rattle.sf_call.specs.declared.call.Call.{Call}
 use Rattle.sf_session.specs.Sessions.{SessionView}
-use Rattle.sf_core.specs.Cores.Slot.{Gone as nobody, Idle, Busy}
-use Rattle.sf_core.specs.Cores.{CoreView, slot_of}
+use Rattle.sf_core.specs.Cores.LaneState.{Gone as nobody, Idle, Busy}
+use Rattle.sf_core.specs.Cores.{CoreView, lane_state}
 use Rattle.sf_core.specs.Progress.{IsBehind}
 use Rattle.sf_core.specs.Events.{Before, After}
-use Rattle.sf_core.specs.Stuck.{left_in, left_below}
+use Rattle.sf_core.specs.Stuck.{steps_left_in, left_below}
 use Rattle.sf_core.proofs.Laws.{furthest, one_call, busy_left, idle_left, gone_left, left_stays, goes_falls, writes_falls, copies_falls, fetches_falls, decides_falls}
 use Rattle.sf_engine.specs.declared.seat.Seat.{Seat}
-use Rattle.sf_engine.specs.declared.seat.Place.{Place}
+use Rattle.sf_engine.specs.declared.seat.SeatState.{SeatState}
 use Rattle.sf_engine.specs.declared.event.Event.TheVariants as event
 use Rattle.sf_engine.specs.declared.event.Happened.{Happened}
 use Rattle.sf_engine.specs.declared.event.Happened.TheVariants as happened
 use Rattle.sf_engine.specs.declared.event.EngineFault.{EngineFault}
 use Rattle.sf_engine.specs.declared.event.EngineFault.TheVariants as fault
-use Rattle.sf_engine.specs.Worlds.{Entry, Phase, Resting, UnderWay, Decided, Gone, Told, World}
+use Rattle.sf_engine.specs.Worlds.{TraceEntry, Phase, Resting, UnderWay, Decided, Gone, SessionState, World}
 use Rattle.sf_engine.specs.Traces.{IsSession, Turn, Walking, walking, StepLeads, TurnLeads, MayRefuse, MayWantMemory}
 use Rattle.sf_engine.specs.Turns.{is_under_way}
 use Rattle.sf_engine.specs.Works.{Passage, IsStep}
 use Rattle.sf_engine.specs.Views.{EngineView}
-use Rattle.sf_engine.specs.Fits.{IsEngine, PlaceAgrees, Agrees, Fits, GoesOnTrace, entry_of, passage}
+use Rattle.sf_engine.specs.Fits.{IsEngine, PlaceAgrees, Agrees, Fits, GoesOnTrace, trace_entry, passage}
 use Rattle.sf_engine.specs.Rounds.{is_unanswered, under_way_from, under_way, AreUnderWay, HasSteps, IsRound, HasRounds, bound_at, bounds, IsWithinBounds, left_to}
 use Rattle.sf_engine.proofs.Moving.{get_within, get_set_other}
 use Rattle.sf_engine.proofs.Waiting.{told_of_none}
@@ -38,14 +38,14 @@ abbrev pub seats_from : ℕ → List Seat → List ℕ
 seats_from s [] = []
 seats_from s (p ∷ ps) = if is_under_way p.place then s ∷ seats_from (s + 1) ps else seats_from (s + 1) ps
 
-phase_place : (v : CoreView) (s : ℕ) (x : SessionView) (f : Phase) (p : Place) → PlaceAgrees v s x f p → is_unanswered f ≡ is_under_way p
+phase_place : (v : CoreView) (s : ℕ) (x : SessionView) (f : Phase) (p : SeatState) → PlaceAgrees v s x f p → is_unanswered f ≡ is_under_way p
 phase_place v s x Resting p h = sym (ap is_under_way h.place_is)
 phase_place v s x (UnderWay id n m q moves) p h = sym (ap is_under_way h.place_is)
 phase_place v s x (Decided id n q given) p h = sym (ap is_under_way h.place_is)
 phase_place v s x (Gone cause) p h = sym (ap is_under_way h.0)
 
-same_list : (ts : List Told) (ps : List Seat) (s : ℕ) → length ps ≡ length ts
-    → ((i : ℕ) (t : Told) (p : Seat) → slice_get ts i ≡ Some t → slice_get ps i ≡ Some p → is_unanswered t.phase ≡ is_under_way p.place) → under_way_from s ts ≡ seats_from s ps
+same_list : (ts : List SessionState) (ps : List Seat) (s : ℕ) → length ps ≡ length ts
+    → ((i : ℕ) (t : SessionState) (p : Seat) → slice_get ts i ≡ Some t → slice_get ps i ≡ Some p → is_unanswered t.phase ≡ is_under_way p.place) → under_way_from s ts ≡ seats_from s ps
 same_list [] [] s e each = refl
 same_list [] (p ∷ ps) s e each = absurd (let no : ⊥ = omega (arith, e) in no)
 same_list (t ∷ ts) [] s e each = absurd (let no : ⊥ = omega (arith, e) in no)
@@ -139,15 +139,15 @@ rounds_push n e mid e' rounds round = (mid, rounds, round)
 pub record Waits (v : CoreView) (c : Call) : Type 0 where
   pub other : ℕ
   pub call : Call
-  pub slot : slot_of v other ≡ Busy call
+  pub slot : lane_state v other ≡ Busy call
   pub deeper : IsBehind c call
 
 abbrev pub SameSlots : CoreView → CoreView → Type 0
-SameSlots v w = (s : ℕ) → slot_of w s ≡ slot_of v s
+SameSlots v w = (s : ℕ) → lane_state w s ≡ lane_state v s
 
--- the session's step was blocked, and no slot is another; or less is left to the calls
+-- the session's step was blocked, and no lane state is another; or less is left to the calls
 abbrev pub StepDoes : CoreView → ℕ → CoreView → Type 0
-StepDoes v s w = (SameSlots v w × ((c : Call) → slot_of v s ≡ Busy c → Waits v c))
+StepDoes v s w = (SameSlots v w × ((c : Call) → lane_state v s ≡ Busy c → Waits v c))
     ⊎ ((n : ℕ) → s < n → left_below w n < left_below v n)
 
 does : (x : Turn) (call : Walking) (s m : ℕ) (p : Passage) (h : Happened) → StepLeads x call h → IsStep (event.Turn s m) (Ok h) p → StepDoes p.old s p.new
@@ -165,7 +165,7 @@ does x call s m p happened.Moved leads step =
 does x call s m p (happened.Blocked holder) leads step =
     let own : step.0.session ≡ s = step.2 in
     let b = step.3.1 in (
-    let waits : SameSlots p.old p.new × ((c : Call) → slot_of p.old s ≡ Busy c → Waits p.old c) = (
+    let waits : SameSlots p.old p.new × ((c : Call) → lane_state p.old s ≡ Busy c → Waits p.old c) = (
       b.looks.slots,
       λ c busy.
           let same = one_call p.old s step.0.session c step.3.0 (sym own) busy b.own.slot in
@@ -203,10 +203,10 @@ never_wants (UnderWay id n k q moves) under may = may
 never_wants (Decided id n q given) under may = let no : false ≡ true = under in cc
 never_wants (Gone cause) under may = may
 
-never_refused : (w : World) (s m : ℕ) (t : Told) → IsSession w s t → is_unanswered t.phase ≡ true → (f : EngineFault) → MayRefuse w (event.Turn s m) f → ⊥
+never_refused : (w : World) (s m : ℕ) (t : SessionState) → IsSession w s t → is_unanswered t.phase ≡ true → (f : EngineFault) → MayRefuse w (event.Turn s m) f → ⊥
 never_refused w s m t session under fault.OutOfMemory may =
     let same : t ≡ may.0 = let one : Some t ≡ Some may.0 = sym session.1 ∙ may.1.1 in cc in
-    never_wants may.0.phase (sym (ap (λ (z : Told). is_unanswered z.phase) same) ∙ under) may.2
+    never_wants may.0.phase (sym (ap (λ (z : SessionState). is_unanswered z.phase) same) ∙ under) may.2
 never_refused w s m t session under fault.NoSuchSession may = told_of_none w s t may session
 never_refused w s m t session under fault.Sessions may = may
 never_refused w s m t session under fault.Ended may = may
@@ -217,24 +217,24 @@ never_refused w s m t session under fault.NotSent may = may
 pub record HasStepped (e : EngineView) (w : World) (at : ℕ) (r : Result Happened EngineFault) (e' : EngineView) : Type 0 where
   pub happened : Happened
   pub is : r ≡ Ok happened
-  pub trace : List Entry
+  pub trace : List TraceEntry
   pub fits : Fits e' trace
   pub count : length fits.world.sessions ≡ length w.sessions
   pub others : (i : ℕ) → (i ≡ at → ⊥) → slice_get fits.world.sessions i ≡ slice_get w.sessions i
   pub does : StepDoes e.core (at + 1) e'.core
 
-stepped : (e e' : EngineView) (at : ℕ) (r : Result Happened EngineFault) (trace : List Entry) (fits : Fits e trace) (t : Told) → slice_get fits.world.sessions at ≡ Some t → is_unanswered t.phase ≡ true
+stepped : (e e' : EngineView) (at : ℕ) (r : Result Happened EngineFault) (trace : List TraceEntry) (fits : Fits e trace) (t : SessionState) → slice_get fits.world.sessions at ≡ Some t → is_unanswered t.phase ≡ true
     → GoesOnTrace e (event.Turn (at + 1) 0) r e' → HasStepped e fits.world at r e'
 stepped e e' at (Ok h) trace fits t told under turn =
     let o = turn trace fits in
     let l = o.2 in
     let num : at + 1 - 1 ≡ at = omega arith in
     let same : t ≡ l.0 = let one : Some t ≡ Some l.0 = sym told ∙ sym (ap (λ (n : ℕ). slice_get fits.world.sessions n) num) ∙ l.2.1 in cc in
-    let still = sym (ap (λ (z : Told). is_unanswered z.phase) same) ∙ under in
+    let still = sym (ap (λ (z : SessionState). is_unanswered z.phase) same) ∙ under in
     record {
       happened = h;
       is = refl;
-      trace = trace ++ entry_of (event.Turn (at + 1) 0) (Ok h) o.0 ∷ [];
+      trace = trace ++ trace_entry (event.Turn (at + 1) 0) (Ok h) o.0 ∷ [];
       fits = o.1;
       count = ap (λ (z : World). length z.sessions) l.4 ∙ length-set fits.world.sessions (at + 1 - 1) l.1;
       others = λ i ne. ap (λ (z : World). slice_get z.sessions i) l.4 ∙ get_set_other fits.world.sessions (at + 1 - 1) i l.1 (λ e. ne (e ∙ num));
@@ -246,15 +246,15 @@ stepped e e' at (Err f) trace fits t told under turn =
     absurd (never_refused fits.world (at + 1) 0 t (omega arith, ap (λ (n : ℕ). slice_get fits.world.sessions n) num ∙ told) under f o.2.0)
 
 -- ---- part of a round
--- the steps of sessions up to a number were all blocked, and no slot is another
+-- the steps of sessions up to a number were all blocked, and no lane state is another
 abbrev pub AllBlocked : CoreView → ℕ → CoreView → Type 0
-AllBlocked v at w = SameSlots v w × ((s : ℕ) (c : Call) → s ≤ at → slot_of v s ≡ Busy c → Waits v c)
+AllBlocked v at w = SameSlots v w × ((s : ℕ) (c : Call) → s ≤ at → lane_state v s ≡ Busy c → Waits v c)
 
 -- of so many seats those whose calls are under way have made their step: all were blocked, or less is left to the calls
 pub record RoundSoFar (e : EngineView) (at : ℕ) (any : Bool) (e' : EngineView) : Type 0 where
-  pub trace : List Entry
+  pub trace : List TraceEntry
   pub first : Fits e trace
-  pub further : List Entry
+  pub further : List TraceEntry
   pub now : Fits e' further
   pub count : length now.world.sessions ≡ length first.world.sessions
   pub later : (i : ℕ) → at ≤ i → slice_get now.world.sessions i ≡ slice_get first.world.sessions i
@@ -265,7 +265,7 @@ pub record RoundSoFar (e : EngineView) (at : ℕ) (any : Bool) (e' : EngineView)
 pub same_count : (e : EngineView) (at : ℕ) (any : Bool) (e' : EngineView) → RoundSoFar e at any e' → length e'.seats ≡ length e.seats
 same_count e at any e' k = k.now.agrees.count ∙ k.count ∙ sym k.first.agrees.count
 
-no_seat : (e : EngineView) → IsEngine e.core e.seats → (c : Call) → slot_of e.core 0 ≡ Busy c → ⊥
+no_seat : (e : EngineView) → IsEngine e.core e.seats → (c : Call) → lane_state e.core 0 ≡ Busy c → ⊥
 no_seat e is c busy = let no : nobody ≡ Busy c = sym (is.1.agrees.nobody 0 (inl refl)) ∙ busy in cc
 
 pub round_start : (e : EngineView) → IsEngine e.core e.seats → RoundSoFar e 0 false e
@@ -278,11 +278,11 @@ round_start e is = record {
   later = λ i le. refl;
   steps = steps_nil e;
   some = refl;
-  work = inl (λ s. refl, λ s c le busy. let z : s ≡ 0 = omega (arith, le) in absurd (no_seat e is c (sym (ap (λ (k : ℕ). slot_of e.core k) z) ∙ busy)));
+  work = inl (λ s. refl, λ s c le busy. let z : s ≡ 0 = omega (arith, le) in absurd (no_seat e is c (sym (ap (λ (k : ℕ). lane_state e.core k) z) ∙ busy)));
 }
 
 -- whose call the core has, its call is unanswered
-busy_phase : (v : CoreView) (s : ℕ) (x : SessionView) (f : Phase) (p : Place) (c : Call) → PlaceAgrees v s x f p → slot_of v s ≡ Busy c → is_unanswered f ≡ true
+busy_phase : (v : CoreView) (s : ℕ) (x : SessionView) (f : Phase) (p : SeatState) (c : Call) → PlaceAgrees v s x f p → lane_state v s ≡ Busy c → is_unanswered f ≡ true
 busy_phase v s x Resting p c h busy = absurd (let no : Idle ≡ Busy c = sym h.slot ∙ busy in cc)
 busy_phase v s x (UnderWay id n m q moves) p c h busy = refl
 busy_phase v s x (Decided id n q given) p c h busy = absurd (let no : Idle ≡ Busy c = sym h.slot ∙ busy in cc)
@@ -292,7 +292,7 @@ busy_phase v s x (Gone cause) p c h busy = absurd (let no : nobody ≡ Busy c = 
 record SeatStill (e e' : EngineView) (at : ℕ) (w w' : World) (p : Seat) : Type 0 where
   was : Seat
   here : slice_get e.seats at ≡ Some was
-  told : Told
+  told : SessionState
   first : slice_get w.sessions at ≡ Some told
   now : slice_get w'.sessions at ≡ Some told
   same : is_under_way was.place ≡ is_under_way p.place
@@ -335,7 +335,7 @@ round_skips e at any e' k p was rests =
           λ s c le busy. elim (cases_lt at s) [
             | inl last ↦
                 let num : s ≡ at + 1 = omega (arith, last, le) in
-                let here : slot_of e.core (at + 1) ≡ Busy c = sym (ap (λ (n : ℕ). slot_of e.core n) num) ∙ busy in
+                let here : lane_state e.core (at + 1) ≡ Busy c = sym (ap (λ (n : ℕ). lane_state e.core n) num) ∙ busy in
                 let under = busy_phase e.core (at + 1) o.was.session o.told.phase o.was.place c (k.first.agrees.each at o.told o.was o.first o.here).at here in
                 absurd (let no : true ≡ false = sym under ∙ o.phase ∙ rests in cc)
             | inr before ↦ blocked.1 s c before busy
@@ -353,7 +353,7 @@ work_on e at e' e'' within (inl blocked) (inl again) = inl (
   λ s c le busy. elim (cases_lt at s) [
     | inl last ↦
         let num : s ≡ at + 1 = omega (arith, last, le) in
-        let here : slot_of e'.core (at + 1) ≡ Busy c = sym (ap (λ (n : ℕ). slot_of e'.core n) num) ∙ blocked.0 s ∙ busy in
+        let here : lane_state e'.core (at + 1) ≡ Busy c = sym (ap (λ (n : ℕ). lane_state e'.core n) num) ∙ blocked.0 s ∙ busy in
         let w = again.1 c here in
         record { other = w.other; call = w.call; slot = sym (blocked.0 w.other) ∙ w.slot; deeper = w.deeper }
     | inr before ↦ blocked.1 s c before busy
@@ -361,10 +361,10 @@ work_on e at e' e'' within (inl blocked) (inl again) = inl (
 )
 work_on e at e' e'' within (inl blocked) (inr falls) =
     let less = falls (length e.seats + 1) (omega (arith, within)) in
-    let same = left_stays e.core e'.core (length e.seats + 1) (λ s. let n = ap left_in (blocked.0 s) in omega (arith, n)) in
+    let same = left_stays e.core e'.core (length e.seats + 1) (λ s. let n = ap steps_left_in (blocked.0 s) in omega (arith, n)) in
     inr (omega (arith, less, same))
 work_on e at e' e'' within (inr less) (inl again) =
-    let same = left_stays e'.core e''.core (length e.seats + 1) (λ s. let n = ap left_in (again.0 s) in omega (arith, n)) in
+    let same = left_stays e'.core e''.core (length e.seats + 1) (λ s. let n = ap steps_left_in (again.0 s) in omega (arith, n)) in
     inr (omega (arith, less, same))
 work_on e at e' e'' within (inr less) (inr falls) =
     let more = falls (length e.seats + 1) (omega (arith, within)) in
@@ -395,14 +395,14 @@ round_steps e at any e' k p was goes r e'' turn =
 
 -- ---- the whole round
 -- whose call the core has, its number is a session's
-within : (w : World) (e : EngineView) → Agrees w e → (s : ℕ) (c : Call) → slot_of e.core s ≡ Busy c → s ≤ length e.seats
+within : (w : World) (e : EngineView) → Agrees w e → (s : ℕ) (c : Call) → lane_state e.core s ≡ Busy c → s ≤ length e.seats
 within w e agrees s c busy = elim (cases_lt (length w.sessions) s) [
   | inl past ↦ absurd (let no : nobody ≡ Busy c = sym (agrees.nobody s (inr past)) ∙ busy in cc)
   | inr le ↦ let all = agrees.count in omega (arith, le, all)
 ]
 
 -- not all steps are blocked
-not_blocked : (w : World) (e : EngineView) (v : CoreView) → Agrees w e → AllBlocked e.core (length e.seats) v → (s : ℕ) (c : Call) → slot_of e.core s ≡ Busy c → ⊥
+not_blocked : (w : World) (e : EngineView) (v : CoreView) → Agrees w e → AllBlocked e.core (length e.seats) v → (s : ℕ) (c : Call) → lane_state e.core s ≡ Busy c → ⊥
 not_blocked w e v agrees blocked s c busy = elim (furthest e.core (length e.seats + 1)) [
   | inl none ↦ let le = within w e agrees s c busy in none s c (omega (arith, le)) busy
   | inr f ↦
@@ -411,7 +411,7 @@ not_blocked w e v agrees blocked s c busy = elim (furthest e.core (length e.seat
       f.first waits.other waits.call (omega (arith, le)) waits.slot waits.deeper
 ]
 
-under_busy : (v : CoreView) (s : ℕ) (x : SessionView) (f : Phase) (p : Place) → PlaceAgrees v s x f p → is_under_way p ≡ true → (c : Call) × (slot_of v s ≡ Busy c)
+under_busy : (v : CoreView) (s : ℕ) (x : SessionView) (f : Phase) (p : SeatState) → PlaceAgrees v s x f p → is_under_way p ≡ true → (c : Call) × (lane_state v s ≡ Busy c)
 under_busy v s x Resting p h e = absurd (let no : false ≡ true = ap is_under_way (sym h.place_is) ∙ e in cc)
 under_busy v s x (UnderWay id n m q moves) p h e = (h.call, h.slot)
 under_busy v s x (Decided id n q given) p h e = absurd (let no : false ≡ true = ap is_under_way (sym h.place_is) ∙ e in cc)
@@ -443,13 +443,13 @@ round_some e at any e' k all some =
     ((l.0, l.1, are_under_way e (l.0 ∷ l.1) l.2, subst (λ (xs : List ℕ). HasSteps xs e e') (list ∙ l.2) k.steps), omega (arith, less, same))
 
 -- ---- the bound
-phase_bound : (v : CoreView) (s : ℕ) (x : SessionView) (f : Phase) (p : Place) → PlaceAgrees v s x f p → left_in (slot_of v s) ≤ bound_at f
+phase_bound : (v : CoreView) (s : ℕ) (x : SessionView) (f : Phase) (p : SeatState) → PlaceAgrees v s x f p → steps_left_in (lane_state v s) ≤ bound_at f
 phase_bound v s x Resting p h = let e = idle_left v s h.slot in omega (arith, e)
 phase_bound v s x (UnderWay id n m q moves) p h = let e = busy_left v s h.call h.slot in let few = h.few in omega (arith, e, few)
 phase_bound v s x (Decided id n q given) p h = let e = idle_left v s h.slot in omega (arith, e)
 phase_bound v s x (Gone cause) p h = let e = gone_left v s h.1 in omega (arith, e)
 
-bounded : (w : World) (e : EngineView) → Agrees w e → (k : ℕ) → k ≤ length w.sessions → left_below e.core (suc k) ≤ sum_by (λ (t : Told). bound_at t.phase) (take k w.sessions)
+bounded : (w : World) (e : EngineView) → Agrees w e → (k : ℕ) → k ≤ length w.sessions → left_below e.core (suc k) ≤ sum_by (λ (t : SessionState). bound_at t.phase) (take k w.sessions)
 bounded w e agrees zero le = let none = gone_left e.core 0 (agrees.nobody 0 (inl refl)) in omega (arith, none)
 bounded w e agrees (suc k) le =
     let rest = bounded w e agrees k (omega (arith, le)) in
@@ -458,10 +458,10 @@ bounded w e agrees (suc k) le =
     let p = get_within e.seats k (omega (arith, le, all)) in
     let one = phase_bound e.core (k + 1) p.0.session t.0.phase p.0.place (agrees.each k t.0 p.0 t.1 p.1).at in
     let num : k + 1 ≡ suc k = add-one k in
-    let slot = ap (λ (n : ℕ). left_in (slot_of e.core n)) num in
-    let more = sum_by_more (λ (u : Told). bound_at u.phase) w.sessions k t.0 (omega (arith, le)) in
-    let here = ap (λ (u : Told). bound_at u.phase) (get_or_from_slice_get w.sessions k t.0 t.0 t.1) in
-    let taken = ap (λ (n : ℕ). sum_by (λ (u : Told). bound_at u.phase) (take n w.sessions)) num in
+    let slot = ap (λ (n : ℕ). steps_left_in (lane_state e.core n)) num in
+    let more = sum_by_more (λ (u : SessionState). bound_at u.phase) w.sessions k t.0 (omega (arith, le)) in
+    let here = ap (λ (u : SessionState). bound_at u.phase) (get_or_from_slice_get w.sessions k t.0 t.0 t.1) in
+    let taken = ap (λ (n : ℕ). sum_by (λ (u : SessionState). bound_at u.phase) (take n w.sessions)) num in
     omega (arith, rest, one, slot, more, here, taken)
 
 pub left_bounded : (w : World) (e : EngineView) → Agrees w e → left_to e ≤ bounds w
@@ -470,7 +470,7 @@ left_bounded w e agrees =
     let few = bounded w e agrees n (omega arith) in
     let num : length e.seats + 1 ≡ suc n = ap (λ (k : ℕ). k + 1) agrees.count ∙ add-one n in
     let same = ap (λ (k : ℕ). left_below e.core k) num in
-    let whole = ap (λ (ts : List Told). sum_by (λ (u : Told). bound_at u.phase) ts) (take_all n w.sessions (omega arith)) in
+    let whole = ap (λ (ts : List SessionState). sum_by (λ (u : SessionState). bound_at u.phase) ts) (take_all n w.sessions (omega arith)) in
     omega (arith, few, same, whole)
 
 pub within_bounds : (n : ℕ) (e : EngineView) → n ≤ left_to e → IsWithinBounds n e

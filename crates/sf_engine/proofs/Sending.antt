@@ -10,7 +10,7 @@ use Rattle.sf_engine.specs.declared.event.Event.TheVariants as event
 use Rattle.sf_engine.specs.declared.event.Happened.{Happened}
 use Rattle.sf_engine.specs.declared.event.EngineFault.{EngineFault}
 use Rattle.sf_engine.specs.declared.event.EngineFault.TheVariants as fault
-use Rattle.sf_engine.specs.Worlds.{transcript, output_of, Told, World, with_told}
+use Rattle.sf_engine.specs.Worlds.{transcript, unsent, SessionState, World, with_state}
 use Rattle.sf_engine.specs.Traces.{IsSession, MayRefuse, sent_more}
 use Rattle.sf_engine.specs.Turns.{SentGives, SentFault}
 use Rattle.sf_engine.specs.Views.{EngineView}
@@ -21,10 +21,10 @@ use Rattle.sf_engine.proofs.Turning.{engine, told_at, refused_steps, same_engine
 use Rattle.sf_engine.proofs.Feeding.{place_stays}
 
 -- what an engine has for a session to be sent is what waits by the trace
-output_is : (v : CoreView) (s : ℕ) (t : Told) (p : Seat) → SeatAgrees v s t p → output_of t ≡ p.session.output
+output_is : (v : CoreView) (s : ℕ) (t : SessionState) (p : Seat) → SeatAgrees v s t p → unsent t ≡ p.session.output
 output_is v s t p h = ap (λ (b : List ℕ). drop (length t.sent) b) h.output ∙ drop-append_seam t.sent p.session.output
 
-sent_fault : (w : World) (v : CoreView) (at s n : ℕ) (p : Seat) (t : Told) (f : EngineFault) → IsSession w s t → SeatAgrees v (at + 1) t p → SentFault p n f → MayRefuse w (event.Sent s n) f
+sent_fault : (w : World) (v : CoreView) (at s n : ℕ) (p : Seat) (t : SessionState) (f : EngineFault) → IsSession w s t → SeatAgrees v (at + 1) t p → SentFault p n f → MayRefuse w (event.Sent s n) f
 sent_fault w v at s n p t fault.NotSent session h why = (t, session, subst (λ (b : List ℕ). length b < n) (sym (output_is v (at + 1) t p h)) why)
 sent_fault w v at s n p t fault.OutOfMemory session h why = absurd why
 sent_fault w v at s n p t fault.NoSuchSession session h why = absurd why
@@ -36,7 +36,7 @@ take_drop_front : (sent output : List ℕ) (n : ℕ) → sent ++ output ≡ (sen
 take_drop_front sent output n = ap (λ (b : List ℕ). sent ++ b) (sym (take-append-drop n output)) ∙ sym (append_assoc sent (take n output) (drop n output))
 
 -- what was sent follows what was sent before
-output_sent : (v : CoreView) (s n : ℕ) (t : Told) (p : Seat) → SeatAgrees v s t p → transcript t.answers ≡ (t.sent ++ take n (output_of t)) ++ drop n p.session.output
+output_sent : (v : CoreView) (s n : ℕ) (t : SessionState) (p : Seat) → SeatAgrees v s t p → transcript t.answers ≡ (t.sent ++ take n (unsent t)) ++ drop n p.session.output
 output_sent v s n t p h =
     h.output ∙ take_drop_front t.sent p.session.output n ∙ ap (λ (b : List ℕ). (t.sent ++ take n b) ++ drop n p.session.output) (sym (output_is v s t p h))
 
@@ -56,7 +56,7 @@ any_send_steps v seats at s n p q (Ok r) num was ok err why w agrees =
     let P : List Record → Type 0 = λ h. IsHistory v h in
     let steps : Steps (engine v seats) (event.Sent (at + 1) n) (Ok r) (engine v (slice_set seats at q)) w = record {
       added = [];
-      after = with_told w (at + 1) told [] 0;
+      after = with_state w (at + 1) told [] 0;
       leads = (ok.sent, refl, (t.0, t.2, subst (λ (b : List ℕ). n ≤ length b) (sym (output_is v (at + 1) t.0 p t.3)) ok.within, refl));
       records = refl;
       agrees = keeps_agrees w v v seats at [] 0 p q t.0 told agrees t.1 was (subst P (sym (append-nil w.records)) agrees.history) (moves_none v (at + 1) t.0 told refl) now;

@@ -15,14 +15,14 @@ use Rattle.sf_request.specs.declared.request.Asked.{Asked}
 use Rattle.sf_request.specs.declared.request.Asked.TheVariants as asked
 use Rattle.sf_call.specs.declared.request.Request.{Request}
 use Rattle.sf_call.specs.declared.request.Request.TheVariants as call
-use Rattle.sf_walk.specs.Ways.{names_of}
+use Rattle.sf_walk.specs.Ways.{request_names}
 use Rattle.sf_session.specs.declared.asking.Ask.{Ask}
 use Rattle.sf_session.specs.declared.asking.Ask.TheVariants as ask
 use Rattle.sf_session.specs.declared.cause.Cause.TheVariants.{OldVersion}
-use Rattle.sf_session.specs.Asking.{path_unless, path_at, handle_at, call_of, call_ask, real_path_at, request_ask, ask_in, AsksFor}
+use Rattle.sf_session.specs.Asking.{path_unless, path_at, handle_number, call_of, call_ask, real_path_at, request_ask, ask_in, AsksFor}
 use Rattle.sf_request.specs.Requests.{SpellsFields, Asks}
 use Rattle.sf_core.specs.Progress.{bound_of, blocks_in}
-use Rattle.sf_engine.specs.Worlds.{Entry, Phase, Resting, UnderWay, Decided, Gone, Told, asked_by, is_here, is_here_in}
+use Rattle.sf_engine.specs.Worlds.{TraceEntry, Phase, Resting, UnderWay, Decided, Gone, SessionState, ask_behind, is_here, is_here_in}
 use Rattle.sf_engine.specs.Traces.{IsSession}
 use Rattle.sf_engine.specs.Laws.{AreAsked, asks_of}
 use Rattle.sf_engine.specs.Views.{EngineView}
@@ -54,10 +54,10 @@ short_text text none = short_by text none (nat_lt 4096 (length text)) refl
 -- the names of a call's paths, and the blocks that it writes
 abbrev IsShortCall : Option Request → Type 0
 IsShortCall None = Unit {0}
-IsShortCall (Some request) = names_of request + blocks_in request ≤ 2 ^ 21
+IsShortCall (Some request) = request_names request + blocks_in request ≤ 2 ^ 21
 
 abbrev IsShortAsk : Ask → Type 0
-IsShortAsk (ask.Call id request) = names_of request + blocks_in request ≤ 2 ^ 21
+IsShortAsk (ask.Call id request) = request_names request + blocks_in request ≤ 2 ^ 21
 IsShortAsk _ = Unit {0}
 
 abbrev IsShortPath : Option Path → Type 0
@@ -71,17 +71,17 @@ path_unless_short text (Some fault) e = tt
 path_short : (text : List ℕ) → IsShortPath (path_at text)
 path_short text = path_unless_short text (fault_of text) refl
 
-one_path : (f : Path → Request) → ((path : Path) → names_of (f path) + blocks_in (f path) ≡ length path) → (o : Option Path) → IsShortPath o → IsShortCall (option_map f o)
+one_path : (f : Path → Request) → ((path : Path) → request_names (f path) + blocks_in (f path) ≡ length path) → (o : Option Path) → IsShortPath o → IsShortCall (option_map f o)
 one_path f names None h = tt
 one_path f names (Some path) h = omega (arith, h, names path)
 
-two_paths : (f : Path → Path → Request) → ((old new : Path) → names_of (f old new) + blocks_in (f old new) ≡ length old + length new) → (o u : Option Path) → IsShortPath o → IsShortPath u
+two_paths : (f : Path → Path → Request) → ((old new : Path) → request_names (f old new) + blocks_in (f old new) ≡ length old + length new) → (o u : Option Path) → IsShortPath o → IsShortPath u
     → IsShortCall (option_map (λ (paths : Path × Path). f paths.0 paths.1) (option_and_then (λ from. option_map (λ to. (from, to)) u) o))
 two_paths f names None u h k = tt
 two_paths f names (Some old) None h k = tt
 two_paths f names (Some old) (Some new) h k = omega (arith, h, k, names old new)
 
-by_handle : (f : ℕ → Request) → ((handle : ℕ) → names_of (f handle) + blocks_in (f handle) ≡ 0) → (o : Option ℕ) → IsShortCall (option_map f o)
+by_handle : (f : ℕ → Request) → ((handle : ℕ) → request_names (f handle) + blocks_in (f handle) ≡ 0) → (o : Option ℕ) → IsShortCall (option_map f o)
 by_handle f names None = tt
 by_handle f names (Some handle) = omega (arith, names handle)
 
@@ -103,12 +103,12 @@ call_short (wire.Stat text) fields spelled = one_path call.Stat (λ path. omega 
 call_short (wire.Rename old new) fields spelled = two_paths call.Rename (λ a b. omega arith) (path_at old) (path_at new) (path_short old) (path_short new)
 call_short (wire.PosixRename old new) fields spelled = two_paths call.PosixRename (λ a b. omega arith) (path_at old) (path_at new) (path_short old) (path_short new)
 call_short (wire.Link old new) fields spelled = two_paths call.Link (λ a b. omega arith) (path_at old) (path_at new) (path_short old) (path_short new)
-call_short (wire.Close handle) fields spelled = by_handle call.Close (λ n. omega arith) (handle_at handle)
-call_short (wire.Read handle offset len) fields spelled = by_handle (λ n. call.Read n offset len) (λ n. omega arith) (handle_at handle)
-call_short (wire.Write handle offset bytes) fields spelled = write_short offset bytes (handle_at handle) spelled.second.second.short
-call_short (wire.FStat handle) fields spelled = by_handle call.FStat (λ n. omega arith) (handle_at handle)
-call_short (wire.FSetStat handle attrs) fields spelled = by_handle (λ n. call.FSetStat n attrs) (λ n. omega arith) (handle_at handle)
-call_short (wire.ReadDir handle) fields spelled = by_handle call.ReadDir (λ n. omega arith) (handle_at handle)
+call_short (wire.Close handle) fields spelled = by_handle call.Close (λ n. omega arith) (handle_number handle)
+call_short (wire.Read handle offset len) fields spelled = by_handle (λ n. call.Read n offset len) (λ n. omega arith) (handle_number handle)
+call_short (wire.Write handle offset bytes) fields spelled = write_short offset bytes (handle_number handle) spelled.second.second.short
+call_short (wire.FStat handle) fields spelled = by_handle call.FStat (λ n. omega arith) (handle_number handle)
+call_short (wire.FSetStat handle attrs) fields spelled = by_handle (λ n. call.FSetStat n attrs) (λ n. omega arith) (handle_number handle)
+call_short (wire.ReadDir handle) fields spelled = by_handle call.ReadDir (λ n. omega arith) (handle_number handle)
 
 call_ask_short : (id : ℕ) (o : Option Request) → IsShortCall o → IsShortAsk (call_ask id o)
 call_ask_short id None h = tt
@@ -152,27 +152,27 @@ last_short begun (body ∷ bodies) [] a h = asked_short begun body a h.0
 last_short begun (body ∷ bodies) (b ∷ asks) a h = last_short true bodies asks a h.1
 
 -- ---- bounds
-bound_is : (request : Request) → bound_of request ≡ names_of request + 3 + blocks_in request
+bound_is : (request : Request) → bound_of request ≡ request_names request + 3 + blocks_in request
 unfolding bound_of
 bound_is request = refl
 
 -- a session that is there has few steps left, and another one none
-phase_short : (t : Told) (f : Phase) → AreAsked false t.bodies (asks_of t.answers f) → bound_at f ≤ cond (is_here_in f) 1 0 * (2 ^ 21 + 3)
+phase_short : (t : SessionState) (f : Phase) → AreAsked false t.bodies (asks_of t.answers f) → bound_at f ≤ cond (is_here_in f) 1 0 * (2 ^ 21 + 3)
 phase_short t Resting h = omega arith
 phase_short t (UnderWay id n m q moves) h =
-    let few : names_of q + blocks_in q ≤ 2 ^ 21 = last_short false t.bodies (map asked_by t.answers) (ask.Call id q) h in
+    let few : request_names q + blocks_in q ≤ 2 ^ 21 = last_short false t.bodies (map ask_behind t.answers) (ask.Call id q) h in
     omega (arith, few, bound_is q)
 phase_short t (Decided id n q given) h = omega arith
 phase_short t (Gone cause) h = omega arith
 
-sum_short : (ts : List Told) → ((i : ℕ) (t : Told) → slice_get ts i ≡ Some t → bound_at t.phase ≤ cond (is_here t) 1 0 * (2 ^ 21 + 3)) → sum_by (λ (t : Told). bound_at t.phase) ts ≤ count_by is_here ts * (2 ^ 21 + 3)
+sum_short : (ts : List SessionState) → ((i : ℕ) (t : SessionState) → slice_get ts i ≡ Some t → bound_at t.phase ≤ cond (is_here t) 1 0 * (2 ^ 21 + 3)) → sum_by (λ (t : SessionState). bound_at t.phase) ts ≤ count_by is_here ts * (2 ^ 21 + 3)
 sum_short [] each = omega arith
 sum_short (t ∷ ts) each =
     let rest = sum_short ts (λ i u at. each (suc i) u at) in
     let one = each zero t refl in
-    omega (arith, rest, one, sum_by-cons (λ (u : Told). bound_at u.phase) t ts, sum_by-cons (λ (u : Told). cond (is_here u) 1 0) t ts)
+    omega (arith, rest, one, sum_by-cons (λ (u : SessionState). bound_at u.phase) t ts, sum_by-cons (λ (u : SessionState). cond (is_here u) 1 0) t ts)
 
-pub bounds_short : (e : EngineView) (trace : List Entry) (fits : Fits e trace) → bounds fits.world ≤ 256 * (2 ^ 21 + 3)
+pub bounds_short : (e : EngineView) (trace : List TraceEntry) (fits : Fits e trace) → bounds fits.world ≤ 256 * (2 ^ 21 + 3)
 bounds_short e trace fits =
     let w = fits.world in
     let sum = sum_short w.sessions (λ i t at.

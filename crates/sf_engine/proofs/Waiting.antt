@@ -5,21 +5,21 @@ use Rattle.sf_wire.specs.Packets.{IsCut}
 use Rattle.sf_session.specs.Sessions.{SessionView}
 use Rattle.sf_core.specs.Cores.{CoreView}
 use Rattle.sf_engine.specs.declared.seat.Seat.{Seat}
-use Rattle.sf_engine.specs.declared.seat.Place.{Place}
-use Rattle.sf_engine.specs.Worlds.{Phase, Resting, UnderWay, Decided, Gone, Told, World}
+use Rattle.sf_engine.specs.declared.seat.SeatState.{SeatState}
+use Rattle.sf_engine.specs.Worlds.{Phase, Resting, UnderWay, Decided, Gone, SessionState, World}
 use Rattle.sf_engine.specs.Traces.{IsSession, IsNoSession}
 use Rattle.sf_engine.specs.Turns.{is_resting}
 use Rattle.sf_engine.specs.Views.{EngineView}
 use Rattle.sf_engine.specs.Fits.{PlaceAgrees, WantsBytes, WantsBytesBy}
 use Rattle.sf_engine.proofs.Turning.{told_at, no_session}
 
-rests_at : (v : CoreView) (s : ℕ) (x : SessionView) (f : Phase) (p : Place) → PlaceAgrees v s x f p → is_resting p ≡ true → f ≡ Resting
+rests_at : (v : CoreView) (s : ℕ) (x : SessionView) (f : Phase) (p : SeatState) → PlaceAgrees v s x f p → is_resting p ≡ true → f ≡ Resting
 rests_at v s x Resting p h e = refl
 rests_at v s x (UnderWay id n m q moves) p h e = absurd (let no : is_resting p ≡ false = ap is_resting h.place_is in let z : true ≡ false = sym e ∙ no in cc)
 rests_at v s x (Decided id n q given) p h e = absurd (let no : is_resting p ≡ false = ap is_resting h.place_is in let z : true ≡ false = sym e ∙ no in cc)
 rests_at v s x (Gone cause) p h e = absurd (let no : is_resting p ≡ false = ap is_resting h.0 in let z : true ≡ false = sym e ∙ no in cc)
 
-seen_resting : (v : CoreView) (s : ℕ) (x : SessionView) (f : Phase) (p : Place) → PlaceAgrees v s x f p → f ≡ Resting → is_resting p ≡ true
+seen_resting : (v : CoreView) (s : ℕ) (x : SessionView) (f : Phase) (p : SeatState) → PlaceAgrees v s x f p → f ≡ Resting → is_resting p ≡ true
 seen_resting v s x Resting p h e = ap is_resting h.place_is
 seen_resting v s x (UnderWay id n m q moves) p h e = absurd cc
 seen_resting v s x (Decided id n q given) p h e = absurd cc
@@ -42,7 +42,7 @@ wants_is e at s p b num was h trace fits =
     )
 
 -- a number has no session, or one
-pub told_of_none : (w : World) (s : ℕ) (t : Told) → IsNoSession w s → IsSession w s t → ⊥
+pub told_of_none : (w : World) (s : ℕ) (t : SessionState) → IsNoSession w s → IsSession w s t → ⊥
 told_of_none w s t (inl z) session = omega (arith, z, session.0)
 told_of_none w s t (inr n) session = let e : None ≡ Some t = sym n ∙ session.1 in cc
 

@@ -10,19 +10,19 @@ use Rattle.sf_call.specs.declared.record.Record.TheVariants.{Did, Left}
 use Rattle.sf_session.specs.Sessions.{SessionView}
 use Rattle.sf_core.specs.Lanes.{LaneView}
 use Rattle.sf_core.specs.Cores.{CoreView}
-use Rattle.sf_core.specs.Progress.{did, names_of}
+use Rattle.sf_core.specs.Progress.{did, names_in_records}
 use Rattle.sf_core.specs.Events.{Before, After, Decides, IsOfOther}
-use Rattle.sf_engine.specs.declared.seat.Place.{Place}
-use Rattle.sf_engine.specs.declared.seat.Place.TheVariants as place
+use Rattle.sf_engine.specs.declared.seat.SeatState.{SeatState}
+use Rattle.sf_engine.specs.declared.seat.SeatState.TheVariants as state
 use Rattle.sf_engine.specs.declared.event.Event.TheVariants as event
 use Rattle.sf_engine.specs.declared.event.Happened.{Happened}
 use Rattle.sf_engine.specs.declared.event.Happened.TheVariants as happened
 use Rattle.sf_engine.specs.Worlds.{Phase, Resting, UnderWay, Decided as IsDecided, Gone}
 use Rattle.sf_engine.specs.Works.{Passage, is_of_other, names_helped, IsWork, IsStep}
-use Rattle.sf_engine.specs.Turns.{Part, NewPart, Seated, Reads, Settles, GoesOn, PlaceGives, CloseGives, before, after, seated}
+use Rattle.sf_engine.specs.Turns.{Part, NewPart, Seated, ReadGives, RestsOrLeaves, StepGives, PlaceGives, CloseGives, before, after_turn, seated}
 use Rattle.sf_engine.specs.Traces.{walking}
 use Rattle.sf_engine.proofs.MovesBy.{moves_by}
-use Rattle.sf_engine.specs.Fits.{IsResting, IsGoing, IsAnswered, PlaceAgrees, due}
+use Rattle.sf_engine.specs.Fits.{HasNoCall, IsGoing, HasAnswer, PlaceAgrees, reply_due}
 
 -- from a core with its history to another
 abbrev pub passing : CoreView → List Record → List Record → CoreView → Passage
@@ -48,19 +48,19 @@ others_kept v s (r ∷ rs) own h e =
     ∙ ap (λ (xs : List Record). r ∷ xs) (others_kept v s rs own h.1 e)
 
 -- how many names a step's helped calls have
-few_helped : (b : Before) (a : After) (c : Call) (given : Reply) (s : ℕ) → b.lane.session ≡ s → (d : Decides b a c given) → names_helped s a.added ≡ names_of d.helped
+few_helped : (b : Before) (a : After) (c : Call) (given : Reply) (s : ℕ) → b.lane.session ≡ s → (d : Decides b a c given) → names_helped s a.added ≡ names_in_records d.helped
 few_helped b a c given s e d =
-    ap (λ (xs : List Record). names_of (filter (is_of_other s) xs)) d.records
-    ∙ ap (λ (xs : List Record). names_of xs) (others_kept b.core s d.helped (did c given) (subst (λ (k : ℕ). AllByRecursion (IsOfOther b.core k) d.helped) e d.of_others) (own_is s c given (d.own.session ∙ e)))
+    ap (λ (xs : List Record). names_in_records (filter (is_of_other s) xs)) d.records
+    ∙ ap (λ (xs : List Record). names_in_records xs) (others_kept b.core s d.helped (did c given) (subst (λ (k : ℕ). AllByRecursion (IsOfOther b.core k) d.helped) e d.of_others) (own_is s c given (d.own.session ∙ e)))
 
 -- look-ups that stay
 pub same_work : (s m : ℕ) (p : Passage) → p.new.look_ups ≡ p.old.look_ups → IsWork (event.Turn s m) p
 same_work s m p e = (omega (arith, e), omega (arith, e))
 
-step_works : (v : CoreView) (h : List Record) (s m : ℕ) (lane lane' : LaneView) (r : Happened) (a : NewPart) → lane.session ≡ s → GoesOn (before v h lane) r (after a.core a.added lane') a.place → Works s m r (passing v h a.added a.core)
+step_works : (v : CoreView) (h : List Record) (s m : ℕ) (lane lane' : LaneView) (r : Happened) (a : NewPart) → lane.session ≡ s → StepGives (before v h lane) r (after_turn a.core a.added lane') a.place → Works s m r (passing v h a.added a.core)
 step_works v h s m lane lane' happened.Moved a e g = record {
   step = (lane, lane', e, g.0);
-  work = let m = moves_by (before v h lane) (after a.core a.added lane') g.0 in let more = m.more in let few = m.few in (more, omega (arith, few));
+  work = let m = moves_by (before v h lane) (after_turn a.core a.added lane') g.0 in let more = m.more in let few = m.few in (more, omega (arith, few));
 }
 step_works v h s m lane lane' (happened.Blocked holder) a e g = record {
   step = (lane, lane', e, g.0);
@@ -70,7 +70,7 @@ step_works v h s m lane lane' happened.Decided a e g =
     let c = g.1.0 in
     let given = g.0.reply in
     let b = before v h lane in
-    let n = after a.core a.added lane' in
+    let n = after_turn a.core a.added lane' in
     record {
       step = (lane, lane', e, (c, given, g.1.1));
       work = elim g.1.1 [
@@ -87,7 +87,7 @@ step_works v h s m lane lane' (happened.Ended k) a e g = absurd g
 step_works v h s m lane lane' happened.Closed a e g = absurd g
 step_works v h s m lane lane' happened.Sent a e g = absurd g
 
-read_works : (v : CoreView) (h : List Record) (s m : ℕ) (b : Seated) (r : Happened) (a : NewPart) → b.lane.session ≡ s → b.core ≡ v → Reads b m r a → Works s m r (passing v h a.added a.core)
+read_works : (v : CoreView) (h : List Record) (s m : ℕ) (b : Seated) (r : Happened) (a : NewPart) → b.lane.session ≡ s → b.core ≡ v → ReadGives b m r a → Works s m r (passing v h a.added a.core)
 read_works v h s m b happened.Idle a e i g = record { step = (b.lane, b.lane, e, tt); work = same_work s m (passing v h a.added a.core) (ap (λ (z : CoreView). z.look_ups) (g.1 ∙ i)) }
 read_works v h s m b happened.Wrote a e i g = record { step = (b.lane, b.lane, e, tt); work = same_work s m (passing v h a.added a.core) (ap (λ (z : CoreView). z.look_ups) (g.1 ∙ i)) }
 read_works v h s m b happened.Begun a e i g = record { step = (b.lane, b.lane, e, tt); work = same_work s m (passing v h a.added a.core) (g.2.look_ups ∙ ap (λ (z : CoreView). z.look_ups) i) }
@@ -101,28 +101,28 @@ read_works v h s m b happened.Closed a e i g = absurd g
 read_works v h s m b happened.Sent a e i g = absurd g
 
 -- a session that rests or leaves after a reply makes no look-up
-pub settle_same : (b : Seated) (closed : Bool) (a : NewPart) → Settles b closed a → a.core.look_ups ≡ b.core.look_ups
+pub settle_same : (b : Seated) (closed : Bool) (a : NewPart) → RestsOrLeaves b closed a → a.core.look_ups ≡ b.core.look_ups
 settle_same b false a g = ap (λ (z : CoreView). z.look_ups) g.0
 settle_same b true a g = g.0.look_ups
 
-pub turn_works : (b : Part) (p : Place) (s m : ℕ) (f : Phase) (r : Happened) (a : NewPart) → PlaceAgrees b.core s b.session f p → PlaceGives b p m r a → Works s m r (passing b.core b.history a.added a.core)
+pub turn_works : (b : Part) (p : SeatState) (s m : ℕ) (f : Phase) (r : Happened) (a : NewPart) → PlaceAgrees b.core s b.session f p → PlaceGives b p m r a → Works s m r (passing b.core b.history a.added a.core)
 turn_works b p s m Resting r a h g =
-    let at : IsResting b.core s b.session p = h in
-    read_works b.core b.history s m (seated b.core b.session at.lane) r a at.session refl (subst (λ (z : Place). PlaceGives b z m r a) at.place_is g)
+    let at : HasNoCall b.core s b.session p = h in
+    read_works b.core b.history s m (seated b.core b.session at.lane) r a at.session refl (subst (λ (z : SeatState). PlaceGives b z m r a) at.place_is g)
 turn_works b p s m (UnderWay id n k q moves) r a h g =
     let at : IsGoing b.core s b.session (walking id n k q moves) p = h in
-    let g' = subst (λ (z : Place). PlaceGives b z m r a) at.place_is g in
+    let g' = subst (λ (z : SeatState). PlaceGives b z m r a) at.place_is g in
     step_works b.core b.history s m at.lane g'.0.0 r a at.session g'.0.1
 turn_works b p s m (IsDecided id n q given) r a h g =
-    let at : IsAnswered b.core s b.session (due id given) p = h in
-    let g' = subst (λ (z : Place). PlaceGives b z m r a) at.place_is g in
+    let at : HasAnswer b.core s b.session (reply_due id given) p = h in
+    let g' = subst (λ (z : SeatState). PlaceGives b z m r a) at.place_is g in
     let P : Happened → Type 0 = λ z. Works s m z (passing b.core b.history a.added a.core) in
     subst P (sym g'.0) (record {
       step = (at.lane, at.lane, at.session, tt);
       work = same_work s m (passing b.core b.history a.added a.core) (settle_same (seated b.core g'.1.0 at.lane) b.closed a g'.1.2);
     })
 turn_works b p s m (Gone cause) r a h g =
-    let g' = subst (λ (z : Place). PlaceGives b z m r a) h.0 g in
+    let g' = subst (λ (z : SeatState). PlaceGives b z m r a) h.0 g in
     let lane : LaneView = record { session = s; call = None; begun = 0 } in
     let P : Happened → Type 0 = λ z. Works s m z (passing b.core b.history a.added a.core) in
     subst P (sym g'.0) (record {
@@ -131,8 +131,8 @@ turn_works b p s m (Gone cause) r a h g =
     })
 
 -- closing makes no look-up
-pub close_same : (v : CoreView) (x : SessionView) (p : Place) (a : NewPart) (goes_on : Bool) → CloseGives v x p a goes_on → a.core.look_ups ≡ v.look_ups
-close_same v x (place.Resting lane) a goes_on g = settle_same (seated v x lane) true a g.0
-close_same v x (place.UnderWay lane) a goes_on g = ap (λ (z : CoreView). z.look_ups) g.0.0
-close_same v x (place.Answered lane given) a goes_on g = ap (λ (z : CoreView). z.look_ups) g.0.0
-close_same v x (place.Left cause) a goes_on g = ap (λ (z : CoreView). z.look_ups) g.0.0
+pub close_same : (v : CoreView) (x : SessionView) (p : SeatState) (a : NewPart) (goes_on : Bool) → CloseGives v x p a goes_on → a.core.look_ups ≡ v.look_ups
+close_same v x (state.Resting lane) a goes_on g = settle_same (seated v x lane) true a g.0
+close_same v x (state.UnderWay lane) a goes_on g = ap (λ (z : CoreView). z.look_ups) g.0.0
+close_same v x (state.Answered lane given) a goes_on g = ap (λ (z : CoreView). z.look_ups) g.0.0
+close_same v x (state.Left cause) a goes_on g = ap (λ (z : CoreView). z.look_ups) g.0.0

@@ -11,8 +11,8 @@ pub use Rattle.sf_core.specs.Sure.{IsSure}
 unfoldable pub use Rattle.sf_core.specs.Sure.{AreSure}
 
 -- the names that so many moves walked lead to no directory, and are fewer than the path's
-abbrev pub StopsEarly : Tree → Path → ℕ → Type 0
-StopsEarly tree path moves =
+abbrev pub StopsOnWay : Tree → Path → ℕ → Type 0
+StopsOnWay tree path moves =
     (0 < moves) × (moves < length path) × (is_directory tree (take moves path) ≡ false)
 
 -- After how many moves a call stops. The first takes the root, each further one walks a name: a
@@ -20,16 +20,16 @@ StopsEarly tree path moves =
 -- where the next is missing or no directory. One between two paths stops where its old path's walk
 -- does before its parent; else it walks to that parent, then from the last directory in common on
 -- to where its new path's walk stops.
-abbrev pub Stops : Tree → Route → ℕ → Type 0
-Stops tree NoPath moves = moves ≡ 0
-Stops tree (Along path) moves = (moves ≡ length path) ⊎ StopsEarly tree path moves
-Stops tree (Between old new) moves =
-    StopsEarly tree old moves
+abbrev pub WalkStops : Tree → Route → ℕ → Type 0
+WalkStops tree NoPath moves = moves ≡ 0
+WalkStops tree (Along path) moves = (moves ≡ length path) ⊎ StopsOnWay tree path moves
+WalkStops tree (Between old new) moves =
+    StopsOnWay tree old moves
     ⊎ ((count : ℕ) × PartAt old new count × ((walked : ℕ) × (count ≤ walked)
     × (moves + count ≡ length old + walked) × EndsWalk tree new walked))
 
 -- so does the call of a record
-abbrev pub HasStopped : Tree → ℕ → Record → Type 0
-HasStopped tree moves (Did number session moment request given) =
-    Stops tree (route_of request) moves
-HasStopped tree moves (Left session) = ⊥
+abbrev pub WalkHasStopped : Tree → ℕ → Record → Type 0
+WalkHasStopped tree moves (Did number session moment request given) =
+    WalkStops tree (route_of request) moves
+WalkHasStopped tree moves (Left session) = ⊥

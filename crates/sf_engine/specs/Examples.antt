@@ -11,7 +11,7 @@ use Rattle.sf_laws.specs.Examples.{a, no_attrs, all_attrs, by_owner, at_times}
 use Rattle.sf_engine.specs.declared.event.Event.TheVariants as event
 use Rattle.sf_engine.specs.declared.event.Happened.{Happened}
 use Rattle.sf_engine.specs.declared.event.Happened.TheVariants as happened
-use Rattle.sf_engine.specs.Worlds.{Entry}
+use Rattle.sf_engine.specs.Worlds.{TraceEntry}
 
 -- INIT, for the version 3
 abbrev pub init_packet : List ℕ
@@ -28,22 +28,22 @@ stat_packet = 0 ∷ 0 ∷ 0 ∷ 11 ∷ 17 ∷ 0 ∷ 0 ∷ 0 ∷ 8 ∷ 0 ∷ 0 �
 abbrev pub mkdir : Request
 mkdir = request.Mkdir (a ∷ []) no_attrs
 
-abbrev pub stat : Request
-stat = request.Stat (a ∷ [])
+abbrev pub stat_a : Request
+stat_a = request.Stat (a ∷ [])
 
 -- the records of both calls
 abbrev pub made : Record
 made = Did 1 1 100 mkdir (reply.Status Success)
 
 abbrev pub found : Record
-found = Did 2 2 101 stat (reply.Attrs (all_attrs 0 (by_owner 0 0) 0o40755 (at_times 100 100)))
+found = Did 2 2 101 stat_a (reply.Attrs (all_attrs 0 (by_owner 0 0) 0o40755 (at_times 100 100)))
 
-abbrev pub turn : ℕ → ℕ → Happened → List Record → Entry
+abbrev pub turn : ℕ → ℕ → Happened → List Record → TraceEntry
 turn session moment result added =
     record { event = event.Turn session moment; result = Ok result; added = added }
 
 -- what happens, where these are the streams of both sessions
-abbrev pub example : Vec ℕ Global → Vec ℕ Global → List Entry
+abbrev pub example : Vec ℕ Global → Vec ℕ Global → List TraceEntry
 example first second =
     record { event = event.Open; result = Ok (happened.Opened 1); added = [] }
     ∷ record { event = event.Open; result = Ok (happened.Opened 2); added = [] }

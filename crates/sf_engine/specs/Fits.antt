@@ -7,38 +7,38 @@ use Rattle.sf_call.specs.declared.call.Call.{Call}
 use Rattle.sf_call.specs.declared.call.Stage.{Stage}
 use Rattle.sf_call.specs.declared.call.Stage.TheVariants as stage
 use Rattle.sf_call.specs.declared.record.Record.{Record}
-use Rattle.sf_call.specs.Answers.{Answered as Answer}
+use Rattle.sf_call.specs.Answers.{AnswerView as Answer}
 use Rattle.sf_call.specs.Histories.{IsLegal}
 use Rattle.sf_session.specs.Sessions.{SessionView}
 use Rattle.sf_core.specs.Lanes.{LaneView}
-use Rattle.sf_core.specs.Cores.Slot.{Gone, Idle, Busy}
-use Rattle.sf_core.specs.Cores.{CoreView, slot_of, joined}
-use Rattle.sf_core.specs.Progress.{reply_of, left_of, bound_of, IsCopying}
+use Rattle.sf_core.specs.Cores.LaneState.{Gone, Idle, Busy}
+use Rattle.sf_core.specs.Cores.{CoreView, lane_state, joined}
+use Rattle.sf_core.specs.Progress.{waiting_reply, left_of, bound_of, IsCopying}
 use Rattle.sf_core.specs.Histories.{IsHistory}
 use Rattle.sf_engine.specs.declared.seat.Seat.{Seat}
-use Rattle.sf_engine.specs.declared.seat.Place.{Place}
-use Rattle.sf_engine.specs.declared.seat.Place.TheVariants as place
+use Rattle.sf_engine.specs.declared.seat.SeatState.{SeatState}
+use Rattle.sf_engine.specs.declared.seat.SeatState.TheVariants as state
 use Rattle.sf_engine.specs.declared.event.Event.{Event}
 use Rattle.sf_engine.specs.declared.event.Happened.{Happened}
 use Rattle.sf_engine.specs.declared.event.EngineFault.{EngineFault}
-use Rattle.sf_engine.specs.Worlds.{Entry, Phase, Resting, UnderWay, Decided, Gone as left, Told, World, transcript, here}
-use Rattle.sf_engine.specs.Traces.{has_begun, goes_on, Tells, order, AreEntries, IsSession, IsNoSession, Leads, Walking, walking}
+use Rattle.sf_engine.specs.Worlds.{TraceEntry, Phase, Resting, UnderWay, Decided, Gone as left, SessionState, World, transcript, here}
+use Rattle.sf_engine.specs.Traces.{has_begun, goes_on, ReachesWorld, order, AreEntries, IsSession, IsNoSession, Leads, Walking, walking}
 use Rattle.sf_engine.specs.Works.{Passage, IsStep, IsWork}
 use Rattle.sf_engine.specs.Views.{EngineView}
 
 -- a resting session
-pub record IsResting (v : CoreView) (s : ℕ) (x : SessionView) (p : Place) : Type 0 where
+pub record HasNoCall (v : CoreView) (s : ℕ) (x : SessionView) (p : SeatState) : Type 0 where
   pub lane : LaneView
   pub session : lane.session ≡ s
   pub idle : lane.call ≡ None
-  pub place_is : p ≡ place.Resting lane
-  pub slot : slot_of v s ≡ Idle
+  pub place_is : p ≡ state.Resting lane
+  pub slot : lane_state v s ≡ Idle
   pub waiting : x.waiting ≡ None
   pub ended : x.ended ≡ None
 
 -- a call that is undecided, or copies: it is on its way
-abbrev pub IsOnWay : Call → Type 0
-IsOnWay c = (reply_of c ≡ None) ⊎ IsCopying c.stage
+abbrev pub IsStillWalking : Call → Type 0
+IsStillWalking c = (waiting_reply c ≡ None) ⊎ IsCopying c.stage
 
 -- the moves of such a call: the first took the root, and each further one walked a name, those up
 -- to a rename's common directory for both its paths; a WRITE that copies has made its first
@@ -49,49 +49,49 @@ HasMoved (stage.Ends common old new) moves = moves + common.walked ≡ old.walke
 HasMoved (stage.Copies node blocks) moves = 0 < moves
 
 -- A session whose call is under way as is told: the core has the call, and so many steps are left to it at most.
-pub record IsGoing (v : CoreView) (s : ℕ) (x : SessionView) (told : Walking) (p : Place) : Type 0 where
+pub record IsGoing (v : CoreView) (s : ℕ) (x : SessionView) (told : Walking) (p : SeatState) : Type 0 where
   pub lane : LaneView
   pub call : Call
   pub session : lane.session ≡ s
   pub number_is : lane.call ≡ Some told.number
-  pub place_is : p ≡ place.UnderWay lane
-  pub slot : slot_of v s ≡ Busy call
+  pub place_is : p ≡ state.UnderWay lane
+  pub slot : lane_state v s ≡ Busy call
   pub own : (call.session ≡ s) × (call.number ≡ told.number) × (call.moment ≡ told.moment)
       × (call.request ≡ told.request)
   pub few : told.moves + left_of call ≤ bound_of told.request
-  pub walked : IsOnWay call → HasMoved call.stage told.moves
+  pub walked : IsStillWalking call → HasMoved call.stage told.moves
   pub waiting : x.waiting ≡ Some told.id
   pub ended : x.ended ≡ None
 
 -- a reply that waits for a request
-pub record Due : Type 0 where
+pub record DueReply : Type 0 where
   pub id : ℕ
   pub reply : Reply
 
-abbrev pub due : ℕ → Reply → Due
-due id reply = record { id = id; reply = reply }
+abbrev pub reply_due : ℕ → Reply → DueReply
+reply_due id reply = record { id = id; reply = reply }
 
 -- a session whose answer waits
-pub record IsAnswered (v : CoreView) (s : ℕ) (x : SessionView) (d : Due) (p : Place) : Type 0 where
+pub record HasAnswer (v : CoreView) (s : ℕ) (x : SessionView) (d : DueReply) (p : SeatState) : Type 0 where
   pub lane : LaneView
   pub answer : Answer
   pub session : lane.session ≡ s
   pub idle : lane.call ≡ None
-  pub place_is : p ≡ place.Answered lane answer
+  pub place_is : p ≡ state.Answered lane answer
   pub reply : answer.reply ≡ d.reply
-  pub slot : slot_of v s ≡ Idle
+  pub slot : lane_state v s ≡ Idle
   pub waiting : x.waiting ≡ Some d.id
   pub ended : x.ended ≡ None
 
 -- what an engine has for a session is as far as a trace tells
-abbrev pub PlaceAgrees : CoreView → ℕ → SessionView → Phase → Place → Type 0
-PlaceAgrees v s x Resting p = IsResting v s x p
+abbrev pub PlaceAgrees : CoreView → ℕ → SessionView → Phase → SeatState → Type 0
+PlaceAgrees v s x Resting p = HasNoCall v s x p
 PlaceAgrees v s x (UnderWay id number moment request moves) p =
     IsGoing v s x (walking id number moment request moves) p
-PlaceAgrees v s x (Decided id number request reply) p = IsAnswered v s x (due id reply) p
-PlaceAgrees v s x (left cause) p = (p ≡ place.Left cause) × (slot_of v s ≡ Gone) × (x.ended ≢ None)
+PlaceAgrees v s x (Decided id number request reply) p = HasAnswer v s x (reply_due id reply) p
+PlaceAgrees v s x (left cause) p = (p ≡ state.Left cause) × (lane_state v s ≡ Gone) × (x.ended ≢ None)
 
-pub record SeatAgrees (v : CoreView) (s : ℕ) (t : Told) (p : Seat) : Type 0 where
+pub record SeatAgrees (v : CoreView) (s : ℕ) (t : SessionState) (p : Seat) : Type 0 where
   pub unread : p.session.unread ≡ t.unread
   pub output : transcript t.answers ≡ t.sent ++ p.session.output
   pub begun : p.session.begun ≡ has_begun t.bodies
@@ -105,25 +105,25 @@ pub record Agrees (w : World) (e : EngineView) : Type 0 where
   pub opened : e.core.joins ≡ length w.sessions
   pub here : joined e.core ≡ here w
   pub count : length e.seats ≡ length w.sessions
-  pub each : (i : ℕ) (t : Told) (p : Seat) → slice_get w.sessions i ≡ Some t
+  pub each : (i : ℕ) (t : SessionState) (p : Seat) → slice_get w.sessions i ≡ Some t
       → slice_get e.seats i ≡ Some p
       → SeatAgrees e.core (i + 1) t p
-  pub nobody : (s : ℕ) → (s ≡ 0) ⊎ (length w.sessions < s) → slot_of e.core s ≡ Gone
+  pub nobody : (s : ℕ) → (s ≡ 0) ⊎ (length w.sessions < s) → lane_state e.core s ≡ Gone
 
 -- The trace is lawful. Its order is a legal history, and the core's. What the engine keeps is what the trace leaves.
-pub record Fits (e : EngineView) (trace : List Entry) : Type 0 where
+pub record Fits (e : EngineView) (trace : List TraceEntry) : Type 0 where
   pub world : World
-  pub tells : Tells trace world
+  pub tells : ReachesWorld trace world
   pub ordered : world.records ≡ order trace
   pub legal : IsLegal (order trace)
   pub agrees : Agrees world e
 
-abbrev pub entry_of : Event → Result Happened EngineFault → List Record → Entry
-entry_of event result added = record { event = event; result = result; added = added }
+abbrev pub trace_entry : Event → Result Happened EngineFault → List Record → TraceEntry
+trace_entry event result added = record { event = event; result = result; added = added }
 
 -- what is true of every engine: there is a trace that it fits
 abbrev pub IsEngine : CoreView → List Seat → Type 0
-IsEngine core seats = (trace : List Entry) × Fits (record { core = core; seats = seats }) trace
+IsEngine core seats = (trace : List TraceEntry) × Fits (record { core = core; seats = seats }) trace
 
 -- from an engine that fits a trace to another, which added records
 abbrev pub passage : EngineView → List Record → List Record → EngineView → Passage
@@ -133,10 +133,10 @@ passage old history added new =
 -- The engine fits each trace that it fitted, followed by the event's entry, which leads on from where the trace led. What the event did
 -- to the core is the step of the session's call, and so much work at most.
 abbrev pub GoesOnTrace : EngineView → Event → Result Happened EngineFault → EngineView → Type 0
-GoesOnTrace old event result new = (trace : List Entry) → (fits : Fits old trace)
+GoesOnTrace old event result new = (trace : List TraceEntry) → (fits : Fits old trace)
     → (added : List Record)
-    × (now : Fits new (trace ++ entry_of event result added ∷ []))
-    × Leads fits.world (entry_of event result added) now.world
+    × (now : Fits new (trace ++ trace_entry event result added ∷ []))
+    × Leads fits.world (trace_entry event result added) now.world
     × IsStep event result (passage old fits.world.records added new)
     × IsWork event (passage old fits.world.records added new)
 
@@ -149,23 +149,23 @@ HasTurns (suc n) e turn r e' = (mid : EngineView) × (h : Happened)
 
 -- The engine fits each trace that it fitted, followed by one entry for each event, so many of them refused.
 abbrev pub RunsTrace : EngineView → List Event → ℕ → EngineView → Type 0
-RunsTrace old events refused new = (trace : List Entry) → Fits old trace
-    → (entries : List Entry) × AreEntries events entries refused × Fits new (trace ++ entries)
+RunsTrace old events refused new = (trace : List TraceEntry) → Fits old trace
+    → (entries : List TraceEntry) × AreEntries events entries refused × Fits new (trace ++ entries)
 
 -- what a session's output is, by each trace that the engine fits: it follows what was sent, and both are the transcript of what the
 -- session was answered
 abbrev pub IsSentBy : EngineView → ℕ → List ℕ → Type 0
-IsSentBy e session output = (trace : List Entry) → (fits : Fits e trace)
-    → (t : Told) × IsSession fits.world session t × (transcript t.answers ≡ t.sent ++ output)
+IsSentBy e session output = (trace : List TraceEntry) → (fits : Fits e trace)
+    → (t : SessionState) × IsSession fits.world session t × (transcript t.answers ≡ t.sent ++ output)
 
 -- what is told of a session that waits for bytes: it rests, and no whole packet is unread
-abbrev pub WantsBytes : Told → Type 0
+abbrev pub WantsBytes : SessionState → Type 0
 WantsBytes t = (t.phase ≡ Resting) × IsCut t.unread cut.More
 
 -- whether that is so of a session, by each trace that the engine fits
 abbrev pub WantsBytesBy : EngineView → ℕ → Bool → Type 0
-WantsBytesBy e session wants = (trace : List Entry) → (fits : Fits e trace)
-    → IsTrue wants ↔ ((t : Told) × IsSession fits.world session t × WantsBytes t)
+WantsBytesBy e session wants = (trace : List TraceEntry) → (fits : Fits e trace)
+    → IsTrue wants ↔ ((t : SessionState) × IsSession fits.world session t × WantsBytes t)
 
 -- no call of a session goes on: none is under way, and no answer waits to be written
 abbrev pub IsQuiet : Phase → Type 0
@@ -176,9 +176,9 @@ IsQuiet (left cause) = Unit {0}
 
 -- whether that is so of all sessions, by each trace that the engine fits
 abbrev pub IsQuietBy : EngineView → Bool → Type 0
-IsQuietBy e quiet = (trace : List Entry) → (fits : Fits e trace)
-    → IsTrue quiet ↔ ((session : ℕ) (t : Told) → IsSession fits.world session t → IsQuiet t.phase)
+IsQuietBy e quiet = (trace : List TraceEntry) → (fits : Fits e trace)
+    → IsTrue quiet ↔ ((session : ℕ) (t : SessionState) → IsSession fits.world session t → IsQuiet t.phase)
 
 -- by each trace that the engine fits there is no such session
-abbrev pub IsUnknown : EngineView → ℕ → Type 0
-IsUnknown e session = (trace : List Entry) → (fits : Fits e trace) → IsNoSession fits.world session
+abbrev pub IsUnknownSession : EngineView → ℕ → Type 0
+IsUnknownSession e session = (trace : List TraceEntry) → (fits : Fits e trace) → IsNoSession fits.world session

@@ -5,7 +5,7 @@ use Rattle.sf_core.specs.Progress.{bound_of}
 use Rattle.sf_core.specs.Stuck.{left_below}
 use Rattle.sf_engine.specs.declared.event.Event.TheVariants as event
 use Rattle.sf_engine.specs.declared.event.Happened.{Happened}
-use Rattle.sf_engine.specs.Worlds.{Entry, Phase, Resting, UnderWay, Decided, Gone, Told, World}
+use Rattle.sf_engine.specs.Worlds.{TraceEntry, Phase, Resting, UnderWay, Decided, Gone, SessionState, World}
 use Rattle.sf_engine.specs.Views.{EngineView}
 use Rattle.sf_engine.specs.Fits.{Fits, GoesOnTrace}
 
@@ -17,7 +17,7 @@ is_unanswered (Decided id number request reply) = false
 is_unanswered (Gone cause) = false
 
 -- the sessions whose calls are under way, by rising number, where the first session has this number
-abbrev pub under_way_from : ℕ → List Told → List ℕ
+abbrev pub under_way_from : ℕ → List SessionState → List ℕ
 under_way_from s [] = []
 under_way_from s (t ∷ ts) =
     if is_unanswered t.phase then s ∷ under_way_from (s + 1) ts else under_way_from (s + 1) ts
@@ -28,7 +28,7 @@ under_way w = under_way_from 1 w.sessions
 -- these are the sessions whose calls are under way, by each trace that the engine fits
 abbrev pub AreUnderWay : List ℕ → EngineView → Type 0
 AreUnderWay sessions e =
-    (trace : List Entry) → (fits : Fits e trace) → under_way fits.world ≡ sessions
+    (trace : List TraceEntry) → (fits : Fits e trace) → under_way fits.world ≡ sessions
 
 -- Of each of these sessions, in order, one turn at the moment 0. None is refused.
 unfoldable pub HasSteps : List ℕ → EngineView → EngineView → Type 0
@@ -61,7 +61,7 @@ bounds w = sum_by (λ t. bound_at t.phase) w.sessions
 -- no more than the bounds of the calls that were under way, by each trace that the engine fits
 abbrev pub IsWithinBounds : ℕ → EngineView → Type 0
 IsWithinBounds rounds e =
-    (trace : List Entry) → (fits : Fits e trace) → rounds ≤ bounds fits.world
+    (trace : List TraceEntry) → (fits : Fits e trace) → rounds ≤ bounds fits.world
 
 -- how many steps are left to the calls of an engine
 abbrev pub left_to : EngineView → ℕ

@@ -8,19 +8,19 @@ use Rattle.sf_call.specs.declared.record.Record.TheVariants.{Left}
 use Rattle.sf_call.specs.declared.request.Request.{Request}
 use Rattle.sf_call.specs.declared.call.Call.{Call}
 use Rattle.sf_call.specs.declared.fault.CoreFault.{CoreFault}
-use Rattle.sf_call.specs.Answers.{Answered as Answer}
+use Rattle.sf_call.specs.Answers.{AnswerView as Answer}
 use Rattle.sf_session.specs.declared.cause.Cause.TheVariants.{Closed}
 use Rattle.sf_session.specs.declared.session.Next.TheVariants as next
 use Rattle.sf_session.specs.Sessions.{SessionView, NextGives, refusal_of}
 use Rattle.sf_core.specs.Lanes.{LaneView}
 use Rattle.sf_session.specs.Sessions.{new_session}
-use Rattle.sf_core.specs.Cores.Slot.{Idle}
-use Rattle.sf_core.specs.Cores.{CoreView, slot_of, joined, most_sessions, last_number}
-use Rattle.sf_core.specs.Events.{Before, After, Joins, OwnCall, MovesOn, IsBlocked, Fetches, Decides, AddsNothing, Answers, Begins, begun, RefusesBegin, Leaves}
+use Rattle.sf_core.specs.Cores.LaneState.{Idle}
+use Rattle.sf_core.specs.Cores.{CoreView, lane_state, joined, most_sessions, last_number}
+use Rattle.sf_core.specs.Events.{Before, After, Joins, OwnCall, MovesOn, IsBlocked, Fetches, Decides, AddsNothing, Answers, CallBegins, begun, RefusesBegin, Leaves}
 use Rattle.sf_core.specs.Histories.{IsHistory}
 use Rattle.sf_engine.specs.declared.seat.Seat.{Seat}
-use Rattle.sf_engine.specs.declared.seat.Place.{Place}
-use Rattle.sf_engine.specs.declared.seat.Place.TheVariants as place
+use Rattle.sf_engine.specs.declared.seat.SeatState.{SeatState}
+use Rattle.sf_engine.specs.declared.seat.SeatState.TheVariants as state
 use Rattle.sf_engine.specs.declared.event.Happened.{Happened}
 use Rattle.sf_engine.specs.declared.event.Happened.TheVariants as happened
 use Rattle.sf_engine.specs.declared.event.EngineFault.{EngineFault}
@@ -28,8 +28,8 @@ use Rattle.sf_engine.specs.declared.event.EngineFault.TheVariants as fault
 use Rattle.sf_engine.specs.Traces.{goes_on, goes_on_at}
 
 -- whatever the history was, records are added to it so
-abbrev pub Gives : CoreView → CoreView → (List Record → List Record → Type 0) → Type 0
-Gives v w R =
+abbrev pub AddsRecords : CoreView → CoreView → (List Record → List Record → Type 0) → Type 0
+AddsRecords v w R =
     (h : List Record) → IsHistory v h → (added : List Record) × IsHistory w (h ++ added) × R h added
 
 -- a core, and a session with its lane
@@ -50,7 +50,7 @@ pub record NewPart : Type 0 where
   pub core : CoreView
   pub added : List Record
   pub session : SessionView
-  pub place : Place
+  pub place : SeatState
 
 abbrev pub seated : CoreView → SessionView → LaneView → Seated
 seated v x lane = record { core = v; session = x; lane = lane }
@@ -58,24 +58,24 @@ seated v x lane = record { core = v; session = x; lane = lane }
 abbrev pub part : CoreView → List Record → SessionView → Bool → Part
 part v h x closed = record { core = v; history = h; session = x; closed = closed }
 
-abbrev pub new_part : CoreView → List Record → SessionView → Place → NewPart
+abbrev pub new_part : CoreView → List Record → SessionView → SeatState → NewPart
 new_part w added y p = record { core = w; added = added; session = y; place = p }
 
 abbrev pub before : CoreView → List Record → LaneView → Before
 before v h lane = record { core = v; history = h; lane = lane }
 
-abbrev pub after : CoreView → List Record → LaneView → After
-after w added lane = record { core = w; added = added; lane = lane }
+abbrev pub after_turn : CoreView → List Record → LaneView → After
+after_turn w added lane = record { core = w; added = added; lane = lane }
 
 -- the step of a call under way
-abbrev pub GoesOn : Before → Happened → After → Place → Type 0
-GoesOn b happened.Moved a p = MovesOn b a × (p ≡ place.UnderWay a.lane)
-GoesOn b (happened.Blocked holder) a p = ((c : Call) × IsBlocked b.core a.core b.lane c holder)
-    × AddsNothing b a × (p ≡ place.UnderWay a.lane)
-GoesOn b happened.Decided a p =
+abbrev pub StepGives : Before → Happened → After → SeatState → Type 0
+StepGives b happened.Moved a p = MovesOn b a × (p ≡ state.UnderWay a.lane)
+StepGives b (happened.Blocked holder) a p = ((c : Call) × IsBlocked b.core a.core b.lane c holder)
+    × AddsNothing b a × (p ≡ state.UnderWay a.lane)
+StepGives b happened.Decided a p =
     (given : Answer) × ((c : Call) × (Fetches b a c given.reply ⊎ Decides b a c given.reply))
-    × Answers b given a × (p ≡ place.Answered a.lane given)
-GoesOn b _ a p = ⊥
+    × Answers b given a × (p ≡ state.Answered a.lane given)
+StepGives b _ a p = ⊥
 
 -- a packet was answered with no call: by the session alone, or since the call could not begin
 abbrev pub WritesAtOnce : Seated → SessionView → Type 0
@@ -88,102 +88,102 @@ WritesAtOnce b y = NextGives b.session next.Local y
     }))
 
 -- what stood at the front of a resting session's bytes
-abbrev pub Reads : Seated → ℕ → Happened → NewPart → Type 0
-Reads b m happened.Idle a = NextGives b.session next.More a.session × (a.core ≡ b.core)
-    × (a.added ≡ []) × (a.place ≡ place.Resting b.lane)
-Reads b m happened.Wrote a =
-    WritesAtOnce b a.session × (a.core ≡ b.core) × (a.added ≡ []) × (a.place ≡ place.Resting b.lane)
-Reads b m happened.Begun a =
+abbrev pub ReadGives : Seated → ℕ → Happened → NewPart → Type 0
+ReadGives b m happened.Idle a = NextGives b.session next.More a.session × (a.core ≡ b.core)
+    × (a.added ≡ []) × (a.place ≡ state.Resting b.lane)
+ReadGives b m happened.Wrote a =
+    WritesAtOnce b a.session × (a.core ≡ b.core) × (a.added ≡ []) × (a.place ≡ state.Resting b.lane)
+ReadGives b m happened.Begun a =
     (request : Request) × NextGives b.session (next.Call request) a.session
-    × Begins b.core a.core b.lane request m
-    × (a.added ≡ []) × (a.place ≡ place.UnderWay (begun b.lane a.core.drawn))
-Reads b m (happened.Ended cause) a =
+    × CallBegins b.core a.core b.lane request m
+    × (a.added ≡ []) × (a.place ≡ state.UnderWay (begun b.lane a.core.drawn))
+ReadGives b m (happened.Ended cause) a =
     NextGives b.session (next.Ended cause) a.session × Leaves b.core a.core b.lane.session
-    × (a.added ≡ Left b.lane.session ∷ []) × (a.place ≡ place.Left cause)
-Reads b m _ a = ⊥
+    × (a.added ≡ Left b.lane.session ∷ []) × (a.place ≡ state.Left cause)
+ReadGives b m _ a = ⊥
 
 -- after a reply: the session rests, or leaves since it was closed
-abbrev pub Settles : Seated → Bool → NewPart → Type 0
-Settles b false a =
-    (a.core ≡ b.core) × (a.added ≡ []) × (a.session ≡ b.session) × (a.place ≡ place.Resting b.lane)
-Settles b true a =
+abbrev pub RestsOrLeaves : Seated → Bool → NewPart → Type 0
+RestsOrLeaves b false a =
+    (a.core ≡ b.core) × (a.added ≡ []) × (a.session ≡ b.session) × (a.place ≡ state.Resting b.lane)
+RestsOrLeaves b true a =
     Leaves b.core a.core b.lane.session × (a.added ≡ Left b.lane.session ∷ [])
     × (a.session ≡ record b.session { unread = []; ended = Some Closed })
-    × (a.place ≡ place.Left Closed)
+    × (a.place ≡ state.Left Closed)
 
 -- the answer that waited was written
-abbrev pub Writes : Seated → Answer → Bool → NewPart → Type 0
-Writes b given closed a = (mid : SessionView)
+abbrev pub WritesAnswer : Seated → Answer → Bool → NewPart → Type 0
+WritesAnswer b given closed a = (mid : SessionView)
     × IfSome b.session.waiting (λ id. mid ≡ record b.session {
       output = b.session.output ++ packet (reply_body id given.reply);
       waiting = None;
     })
-    × Settles (record b { session = mid }) closed a
+    × RestsOrLeaves (record b { session = mid }) closed a
 
--- what a session's place asks of the core and of the session
-abbrev pub IsPlaced : CoreView → SessionView → Place → Type 0
-IsPlaced v x (place.Resting lane) =
-    (lane.call ≡ None) × (slot_of v lane.session ≡ Idle) × (x.waiting ≡ None)
-IsPlaced v x (place.UnderWay lane) =
+-- what a session's state asks of the core and of the session
+abbrev pub IsSeatState : CoreView → SessionView → SeatState → Type 0
+IsSeatState v x (state.Resting lane) =
+    (lane.call ≡ None) × (lane_state v lane.session ≡ Idle) × (x.waiting ≡ None)
+IsSeatState v x (state.UnderWay lane) =
     (h : List Record) × (c : Call) × IsHistory v h × OwnCall v lane c
-IsPlaced v x (place.Answered lane a) =
-    (lane.call ≡ None) × (slot_of v lane.session ≡ Idle) × IsSome x.waiting
-IsPlaced v x (place.Left cause) = Unit {0}
+IsSeatState v x (state.Answered lane a) =
+    (lane.call ≡ None) × (lane_state v lane.session ≡ Idle) × IsSome x.waiting
+IsSeatState v x (state.Left cause) = Unit {0}
 
 -- whether a session's call goes on: it is under way, or its answer waits
-abbrev pub is_busy : Place → Bool
-is_busy (place.Resting lane) = false
-is_busy (place.UnderWay lane) = true
-is_busy (place.Answered lane given) = true
-is_busy (place.Left cause) = false
+abbrev pub is_busy : SeatState → Bool
+is_busy (state.Resting lane) = false
+is_busy (state.UnderWay lane) = true
+is_busy (state.Answered lane given) = true
+is_busy (state.Left cause) = false
 
-abbrev pub is_resting : Place → Bool
-is_resting (place.Resting lane) = true
-is_resting (place.UnderWay lane) = false
-is_resting (place.Answered lane given) = false
-is_resting (place.Left cause) = false
+abbrev pub is_resting : SeatState → Bool
+is_resting (state.Resting lane) = true
+is_resting (state.UnderWay lane) = false
+is_resting (state.Answered lane given) = false
+is_resting (state.Left cause) = false
 
-abbrev pub is_under_way : Place → Bool
-is_under_way (place.UnderWay lane) = true
+abbrev pub is_under_way : SeatState → Bool
+is_under_way (state.UnderWay lane) = true
 is_under_way _ = false
 
 -- whether it has a lane, and which
-abbrev pub has_lane : Place → Bool
-has_lane (place.Resting lane) = true
-has_lane (place.UnderWay lane) = true
-has_lane (place.Answered lane given) = true
-has_lane (place.Left cause) = false
+abbrev pub has_lane : SeatState → Bool
+has_lane (state.Resting lane) = true
+has_lane (state.UnderWay lane) = true
+has_lane (state.Answered lane given) = true
+has_lane (state.Left cause) = false
 
-abbrev pub IsLaneOf : Place → LaneView → Type 0
-IsLaneOf (place.Resting own) lane = lane ≡ own
-IsLaneOf (place.UnderWay own) lane = lane ≡ own
-IsLaneOf (place.Answered own given) lane = lane ≡ own
-IsLaneOf (place.Left cause) lane = ⊥
+abbrev pub IsLaneOf : SeatState → LaneView → Type 0
+IsLaneOf (state.Resting own) lane = lane ≡ own
+IsLaneOf (state.UnderWay own) lane = lane ≡ own
+IsLaneOf (state.Answered own given) lane = lane ≡ own
+IsLaneOf (state.Left cause) lane = ⊥
 
 -- what a turn gives, by the place before it
-abbrev pub PlaceGives : Part → Place → ℕ → Happened → NewPart → Type 0
-PlaceGives b (place.Resting lane) m r a = Reads (seated b.core b.session lane) m r a
-PlaceGives b (place.UnderWay lane) m r a =
-    ((lane' : LaneView) × GoesOn (before b.core b.history lane) r
-    (after a.core a.added lane') a.place) × (a.session ≡ b.session)
-PlaceGives b (place.Answered lane given) m r a =
-    (r ≡ happened.Wrote) × Writes (seated b.core b.session lane) given b.closed a
-PlaceGives b (place.Left cause) m r a =
+abbrev pub PlaceGives : Part → SeatState → ℕ → Happened → NewPart → Type 0
+PlaceGives b (state.Resting lane) m r a = ReadGives (seated b.core b.session lane) m r a
+PlaceGives b (state.UnderWay lane) m r a =
+    ((lane' : LaneView) × StepGives (before b.core b.history lane) r
+    (after_turn a.core a.added lane') a.place) × (a.session ≡ b.session)
+PlaceGives b (state.Answered lane given) m r a =
+    (r ≡ happened.Wrote) × WritesAnswer (seated b.core b.session lane) given b.closed a
+PlaceGives b (state.Left cause) m r a =
     (r ≡ happened.Ended cause) × (a.core ≡ b.core) × (a.added ≡ []) × (a.session ≡ b.session)
-    × (a.place ≡ place.Left cause)
+    × (a.place ≡ state.Left cause)
 
 -- nothing changes but that it is told whether the session goes on to its answer first
-abbrev pub StaysAs : CoreView → SessionView → Place → NewPart → Type 0
+abbrev pub StaysAs : CoreView → SessionView → SeatState → NewPart → Type 0
 StaysAs v x p a = (a.core ≡ v) × (a.added ≡ []) × (a.session ≡ x) × (a.place ≡ p)
 
 -- what closing gives
-abbrev pub CloseGives : CoreView → SessionView → Place → NewPart → Bool → Type 0
-CloseGives v x (place.Resting lane) a goes_on = Settles (seated v x lane) true a × (goes_on ≡ false)
-CloseGives v x (place.UnderWay lane) a goes_on =
-    StaysAs v x (place.UnderWay lane) a × (goes_on ≡ true)
-CloseGives v x (place.Answered lane given) a goes_on =
-    StaysAs v x (place.Answered lane given) a × (goes_on ≡ true)
-CloseGives v x (place.Left cause) a goes_on = StaysAs v x (place.Left cause) a × (goes_on ≡ false)
+abbrev pub CloseGives : CoreView → SessionView → SeatState → NewPart → Bool → Type 0
+CloseGives v x (state.Resting lane) a goes_on = RestsOrLeaves (seated v x lane) true a × (goes_on ≡ false)
+CloseGives v x (state.UnderWay lane) a goes_on =
+    StaysAs v x (state.UnderWay lane) a × (goes_on ≡ true)
+CloseGives v x (state.Answered lane given) a goes_on =
+    StaysAs v x (state.Answered lane given) a × (goes_on ≡ true)
+CloseGives v x (state.Left cause) a goes_on = StaysAs v x (state.Left cause) a × (goes_on ≡ false)
 
 -- bytes were fed
 pub record FeedGives (p : Seat) (bytes : List ℕ) (r : Happened) (q : Seat) : Type 0 where
@@ -214,7 +214,7 @@ pub record OpenGives (v : CoreView) (seats : List Seat) (r : Happened) (w : Core
   pub core : Joins v w
   pub added : seats' ≡ seats ++ record {
     session = new_session;
-    place = place.Resting (record { session = v.joins + 1; call = None; begun = 0 });
+    place = state.Resting (record { session = v.joins + 1; call = None; begun = 0 });
     closed = false;
   } ∷ []
 
@@ -225,32 +225,32 @@ OpenFault v fault.NumbersSpent = (joined v < most_sessions) × (v.joins ≡ last
 OpenFault v _ = ⊥
 
 -- where a turn may want memory
-abbrev pub MayRefuseTurn : Place → Type 0
-MayRefuseTurn (place.Resting lane) = Unit {0}
-MayRefuseTurn (place.UnderWay lane) = ⊥
-MayRefuseTurn (place.Answered lane a) = Unit {0}
-MayRefuseTurn (place.Left cause) = ⊥
+abbrev pub MayRefuseTurn : SeatState → Type 0
+MayRefuseTurn (state.Resting lane) = Unit {0}
+MayRefuseTurn (state.UnderWay lane) = ⊥
+MayRefuseTurn (state.Answered lane a) = Unit {0}
+MayRefuseTurn (state.Left cause) = ⊥
 
 -- a core, with a session and its place
 pub record Stand : Type 0 where
   pub core : CoreView
   pub session : SessionView
-  pub place : Place
+  pub place : SeatState
 
-abbrev pub stand : CoreView → SessionView → Place → Stand
+abbrev pub stand : CoreView → SessionView → SeatState → Stand
 stand v x p = record { core = v; session = x; place = p }
 
 -- what turns ask of the core and of the session
 pub record IsReady (a : Stand) : Type 0 where
   pub history : List Record
   pub is_history : IsHistory a.core history
-  pub placed : IsPlaced a.core a.session a.place
+  pub placed : IsSeatState a.core a.session a.place
   pub waits : is_busy a.place ≡ true → IsSome a.session.waiting
 
 -- a turn of a session that was closed or not, at a moment
 abbrev pub TurnGives : Stand → Bool → ℕ → Happened → Stand → Type 0
 TurnGives a closed m r b =
-    Gives a.core b.core (λ h added. PlaceGives (part a.core h a.session closed) a.place m r
+    AddsRecords a.core b.core (λ h added. PlaceGives (part a.core h a.session closed) a.place m r
     (new_part b.core added b.session b.place))
 
 -- the next packet was taken, and asked for no call

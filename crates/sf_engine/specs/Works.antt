@@ -6,7 +6,7 @@ use Rattle.sf_call.specs.declared.record.Record.{Record}
 use Rattle.sf_call.specs.declared.record.Record.TheVariants.{Did, Left}
 use Rattle.sf_core.specs.Lanes.{LaneView}
 use Rattle.sf_core.specs.Cores.{CoreView}
-use Rattle.sf_core.specs.Progress.{names_of}
+use Rattle.sf_core.specs.Progress.{names_in_records}
 use Rattle.sf_core.specs.Events.{Before, After, MovesOn, IsBlocked, Fetches, Decides}
 use Rattle.sf_engine.specs.declared.event.Event.{Event}
 use Rattle.sf_engine.specs.declared.event.Event.TheVariants as event
@@ -27,7 +27,7 @@ is_of_other s (Did number session moment request given) = not (nat_eq session s)
 is_of_other s (Left session) = false
 
 abbrev pub names_helped : ℕ → List Record → ℕ
-names_helped s added = names_of (filter (is_of_other s) added)
+names_helped s added = names_in_records (filter (is_of_other s) added)
 
 -- By how much look-ups rise: by two at most for a turn's step, and by the names of the paths of
 -- other sessions' calls that it carried out. No other event makes any.

@@ -7,9 +7,9 @@ ghost use Rattle.sf_core.specs.Histories.{IsHistory};
 ghost use Rattle.sf_engine.specs.Traces.{goes_on_at, refusals};
 ghost use Rattle.sf_engine.specs.declared.seat.Seat.{Seat};
 ghost use Rattle.sf_engine.specs.Turns.{is_under_way};
-ghost use Rattle.sf_engine.specs.Worlds.{Entry};
+ghost use Rattle.sf_engine.specs.Worlds.{TraceEntry};
 ghost use Rattle.sf_engine.specs.Rounds.{AreUnderWay, IsRound, HasRounds, IsWithinBounds, left_to};
-ghost use Rattle.sf_engine.specs.Fits.{IsEngine, Fits, GoesOnTrace, HasTurns, RunsTrace, IsSentBy, IsUnknown, WantsBytesBy, IsQuietBy};
+ghost use Rattle.sf_engine.specs.Fits.{IsEngine, Fits, GoesOnTrace, HasTurns, RunsTrace, IsSentBy, IsUnknownSession, WantsBytesBy, IsQuietBy};
 
 use crate::event::{EngineFault, Event, Happened};
 use crate::seat::{
@@ -251,7 +251,7 @@ impl Engine {
     /// readable after the session left.
     pub fn output(&self, session: u64) -> Option<&[u8]>
         ensures sent { IfSome result (λ output. IsSentBy self.now session output.now) }
-        ensures unknown { IfNone result (IsUnknown self.now session) }
+        ensures unknown { IfNone result (IsUnknownSession self.now session) }
     {
         let Some(at) = index_of(session, self.seats.len()) else {
             return None;

@@ -7,13 +7,13 @@ ghost use Rattle.sf_call.specs.declared.record.Record.{Record};
 ghost use Rattle.sf_call.specs.declared.record.Record.TheVariants.{Left};
 ghost use Rattle.sf_session.specs.declared.session.Next.TheVariants as TheNext;
 ghost use Rattle.sf_session.specs.Sessions.{SessionView, NextGives};
-ghost use Rattle.sf_core.specs.Cores.Slot.{Idle};
-ghost use Rattle.sf_core.specs.Cores.{slot_of};
+ghost use Rattle.sf_core.specs.Cores.LaneState.{Idle};
+ghost use Rattle.sf_core.specs.Cores.{lane_state};
 ghost use Rattle.sf_core.specs.Events.{Leaves};
 ghost use Rattle.sf_core.specs.Histories.{IsHistory};
 ghost use Rattle.sf_core.specs.Lanes.{LaneView};
 ghost use Rattle.sf_engine.specs.Traces.{goes_on_at};
-ghost use Rattle.sf_engine.specs.Turns.{Gives, seated, part, new_part, Settles, has_lane, is_resting, is_under_way, IsLaneOf, PlaceGives, OtherGives, CloseGives, FeedGives, FeedFault, SentGives, SentFault, IsPlaced, is_busy, OpenGives, OpenFault, MayRefuseTurn, stand, IsReady, TurnsGive, GoesFar, finding};
+ghost use Rattle.sf_engine.specs.Turns.{AddsRecords, seated, part, new_part, RestsOrLeaves, has_lane, is_resting, is_under_way, IsLaneOf, PlaceGives, OtherGives, CloseGives, FeedGives, FeedFault, SentGives, SentFault, IsSeatState, is_busy, OpenGives, OpenFault, MayRefuseTurn, stand, IsReady, TurnsGive, GoesFar, finding};
 
 use crate::event::{EngineFault, Happened};
 use sf_call::{Answer, CoreFault, Request};
@@ -27,7 +27,7 @@ const MANY: u64 = u64::MAX;
 
 /// How far a session is.
 #[derive(Debug)]
-pub(crate) enum Place {
+pub(crate) enum SeatState {
     Resting(Lane),
     /// Its call is in the core.
     UnderWay(Lane),
@@ -36,13 +36,13 @@ pub(crate) enum Place {
     Left(Cause),
 }
 
-impl Drop for Place {
+impl Drop for SeatState {
     fn drop(self) {
         match self {
-            Place::Resting(lane) => lane.abandon(),
-            Place::UnderWay(lane) => lane.abandon(),
-            Place::Answered(lane, _answer) => lane.abandon(),
-            Place::Left(_cause) => {}
+            SeatState::Resting(lane) => lane.abandon(),
+            SeatState::UnderWay(lane) => lane.abandon(),
+            SeatState::Answered(lane, _answer) => lane.abandon(),
+            SeatState::Left(_cause) => {}
         }
     }
 }
@@ -51,7 +51,7 @@ impl Drop for Place {
 #[derive(Debug, Drop)]
 pub(crate) struct Seat {
     pub session: Session,
-    pub place: Place,
+    pub place: SeatState,
     /// It was closed while its call went on.
     pub closed: bool,
 }
@@ -59,7 +59,7 @@ pub(crate) struct Seat {
 /// The lane's session leaves.
 fn leave(core: &mut Core, lane: Lane)
     requires idle { lane.call ≡ None }
-    requires slot { slot_of core.old lane.session ≡ Idle }
+    requires slot { lane_state core.old lane.session ≡ Idle }
     ensures left { Leaves core.old core.new lane.session }
     ensures history { (h : List Record) → IsHistory core.old h
         → IsHistory core.new (h ++ Left lane.session ∷ []) }
@@ -74,30 +74,30 @@ fn leave(core: &mut Core, lane: Lane)
 }
 
 /// After a reply the session rests, or leaves if it was closed.
-fn settle(core: &mut Core, session: &mut Session, lane: Lane, closed: bool) -> Place
+fn settle(core: &mut Core, session: &mut Session, lane: Lane, closed: bool) -> SeatState
     requires idle { lane.call ≡ None }
-    requires slot { slot_of core.old lane.session ≡ Idle }
+    requires slot { lane_state core.old lane.session ≡ Idle }
     requires waiting { session.old.waiting ≡ None }
-    ensures { Gives core.old core.new (λ h added.
-        Settles (seated core.old session.old lane) closed
+    ensures { AddsRecords core.old core.new (λ h added.
+        RestsOrLeaves (seated core.old session.old lane) closed
         (new_part core.new added session.new result)) }
 {
     if !closed {
-        return Place::Resting(lane);
+        return SeatState::Resting(lane);
     }
     leave(core, lane);
     session.close();
-    Place::Left(Cause::Closed)
+    SeatState::Left(Cause::Closed)
 }
 
-impl Place {
+impl SeatState {
     /// Whether its call goes on, or its answer waits.
     fn is_busy(&self) -> bool
         ensures { result ≡ is_busy self.now }
     {
         match self {
-            Place::Resting(_) | Place::Left(_) => false,
-            Place::UnderWay(_) | Place::Answered(_, _) => true,
+            SeatState::Resting(_) | SeatState::Left(_) => false,
+            SeatState::UnderWay(_) | SeatState::Answered(_, _) => true,
         }
     }
 
@@ -105,7 +105,7 @@ impl Place {
     pub(crate) fn is_under_way(&self) -> bool
         ensures { result ≡ is_under_way self.now }
     {
-        matches!(self, Place::UnderWay(_))
+        matches!(self, SeatState::UnderWay(_))
     }
 
     /// Its lane.
@@ -114,25 +114,25 @@ impl Place {
         ensures { IsLaneOf self result }
     {
         match self {
-            Place::Resting(lane) => lane,
-            Place::UnderWay(lane) => lane,
-            Place::Answered(lane, _answer) => lane,
-            Place::Left(_cause) => unreachable!(),
+            SeatState::Resting(lane) => lane,
+            SeatState::UnderWay(lane) => lane,
+            SeatState::Answered(lane, _answer) => lane,
+            SeatState::Left(_cause) => unreachable!(),
         }
     }
 
-    /// Its lane, taken out. Another place is to be put here then.
+    /// Its lane, taken out. Another state is to be put here then.
     fn take_lane(&mut self) -> Lane
         requires { has_lane self.old ≡ true }
         ensures { IsLaneOf self.old result }
     {
-        mem::replace(self, Place::Left(Cause::Closed)).into_lane()
+        mem::replace(self, SeatState::Left(Cause::Closed)).into_lane()
     }
 
     /// What the next packet of a resting session came to, where it asks for no call.
     fn read_other(&mut self, core: &mut Core, next: Next) -> Happened
         requires resting { is_resting self.old ≡ true }
-        requires placed { (x : SessionView) × IsPlaced core.old x self.old }
+        requires placed { (x : SessionView) × IsSeatState core.old x self.old }
         requires other { (request : Request) → next ≢ TheNext.Call request }
         ensures { (x y : SessionView) → NextGives x next y
             → OtherGives (stand core.old x self.old) result (stand core.new y self.new) }
@@ -143,7 +143,7 @@ impl Place {
             Next::Call(_request) => unreachable!(),
             Next::Ended(cause) => {
                 leave(core, self.take_lane());
-                *self = Place::Left(cause);
+                *self = SeatState::Left(cause);
                 Happened::Ended(cause)
             }
         }
@@ -157,8 +157,8 @@ impl Place {
         moment: u32,
     ) -> Result<Happened, EngineFault>
         requires resting { is_resting self.old ≡ true }
-        requires placed { IsPlaced core.old session.old self.old }
-        ensures ok { IfOk result (λ r. Gives core.old core.new (λ h added.
+        requires placed { IsSeatState core.old session.old self.old }
+        ensures ok { IfOk result (λ r. AddsRecords core.old core.new (λ h added.
             PlaceGives (part core.old h session.old false) self.old moment r
             (new_part core.new added session.new self.new))) }
         ensures err { OnErr result ((self.new ≡ self.old) × (core.new ≡ core.old)
@@ -171,12 +171,12 @@ impl Place {
         let Next::Call(request) = next else {
             return Ok(self.read_other(core, next));
         };
-        let Place::Resting(lane) = self else {
+        let SeatState::Resting(lane) = self else {
             unreachable!();
         };
         match core.begin(lane, request, moment) {
             Ok(()) => {
-                *self = Place::UnderWay(self.take_lane());
+                *self = SeatState::UnderWay(self.take_lane());
                 Ok(Happened::Begun)
             }
             Err(fault) => {
@@ -194,8 +194,8 @@ impl Place {
         closed: bool,
         moment: u32,
     ) -> Result<Happened, EngineFault>
-        requires { IsPlaced core.old session.old self.old }
-        ensures ok { IfOk result (λ r. Gives core.old core.new (λ h added.
+        requires { IsSeatState core.old session.old self.old }
+        ensures ok { IfOk result (λ r. AddsRecords core.old core.new (λ h added.
             PlaceGives (part core.old h session.old closed) self.old moment r
             (new_part core.new added session.new self.new))) }
         ensures err { OnErr result ((self.new ≡ self.old) × (core.new ≡ core.old)
@@ -204,24 +204,24 @@ impl Place {
             × MayRefuseTurn self.old) }
     {
         match self {
-            Place::Resting(_) => self.read(core, session, moment),
-            Place::UnderWay(lane) => match core.step(lane) {
+            SeatState::Resting(_) => self.read(core, session, moment),
+            SeatState::UnderWay(lane) => match core.step(lane) {
                 Step::Moved => Ok(Happened::Moved),
                 Step::Blocked(holder) => Ok(Happened::Blocked(holder)),
                 Step::Answered(answer) => {
-                    *self = Place::Answered(self.take_lane(), answer);
+                    *self = SeatState::Answered(self.take_lane(), answer);
                     Ok(Happened::Decided)
                 }
                 Step::Stranger => unreachable!(),
             },
-            Place::Answered(_, answer) => {
+            SeatState::Answered(_, answer) => {
                 if session.answer(answer).is_err() {
                     return Err(EngineFault::OutOfMemory);
                 }
                 *self = settle(core, session, self.take_lane(), closed);
                 Ok(Happened::Wrote)
             }
-            Place::Left(cause) => Ok(Happened::Ended(*cause)),
+            SeatState::Left(cause) => Ok(Happened::Ended(*cause)),
         }
     }
 
@@ -239,10 +239,10 @@ impl Place {
             (stand core.new session.new self.new) }
     {
         match self {
-            Place::Resting(_) => self.read_on(core, session, closed, moment),
-            Place::UnderWay(_) => self.walk_on(core, session, closed),
-            Place::Answered(_, _) => self.turn(core, session, closed, moment),
-            Place::Left(cause) => Ok(Happened::Ended(*cause)),
+            SeatState::Resting(_) => self.read_on(core, session, closed, moment),
+            SeatState::UnderWay(_) => self.walk_on(core, session, closed),
+            SeatState::Answered(_, _) => self.turn(core, session, closed, moment),
+            SeatState::Left(cause) => Ok(Happened::Ended(*cause)),
         }
     }
 
@@ -266,7 +266,7 @@ impl Place {
         let Next::Call(request) = next else {
             return Ok(self.read_other(core, next));
         };
-        let Place::Resting(lane) = self else {
+        let SeatState::Resting(lane) = self else {
             unreachable!();
         };
         let made = match core.call(lane, request, moment) {
@@ -276,7 +276,7 @@ impl Place {
                 return Ok(Happened::Wrote);
             }
         };
-        *self = Place::UnderWay(self.take_lane());
+        *self = SeatState::UnderWay(self.take_lane());
         match made {
             Some(answer) => self.write_on(core, session, closed, answer),
             None => self.walk_on(core, session, closed),
@@ -297,7 +297,7 @@ impl Place {
             → GoesFar (stand core.old session.old self.old) closed moment result
             (stand core.new session.new self.new) }
     {
-        let Place::UnderWay(lane) = self else {
+        let SeatState::UnderWay(lane) = self else {
             unreachable!();
         };
         match core.walk(lane, MANY) {
@@ -319,9 +319,9 @@ impl Place {
     ) -> Result<Happened, EngineFault>
         requires under_way { is_under_way self.old ≡ true }
         requires placed { (lane : LaneView) → IsLaneOf self.old lane
-            → IsPlaced core.old session.old (Place.Answered lane answer) }
+            → IsSeatState core.old session.old (SeatState.Answered lane answer) }
         ensures { (lane : LaneView) → IsLaneOf self.old lane → (moment : ℕ)
-            → TurnsGive 0 (stand core.old session.old (Place.Answered lane answer))
+            → TurnsGive 0 (stand core.old session.old (SeatState.Answered lane answer))
             (finding closed moment)
             result (stand core.new session.new self.new)
             × (goes_on_at result ≡ false) }
@@ -333,36 +333,36 @@ impl Place {
                 Ok(Happened::Wrote)
             }
             Err(_) => {
-                *self = Place::Answered(lane, answer);
+                *self = SeatState::Answered(lane, answer);
                 Err(EngineFault::OutOfMemory)
             }
         }
     }
 
-    /// Closing: a session that rests leaves at once. Whether it goes on to its answer first is told with the place.
-    fn close(self, core: &mut Core, session: &mut Session) -> (Place, bool)
-        requires { IsPlaced core.old session.old self }
-        ensures { Gives core.old core.new (λ h added.
+    /// Closing: a session that rests leaves at once. Whether it goes on to its answer first is told with the state.
+    fn close(self, core: &mut Core, session: &mut Session) -> (SeatState, bool)
+        requires { IsSeatState core.old session.old self }
+        ensures { AddsRecords core.old core.new (λ h added.
             CloseGives core.old session.old self (new_part core.new added session.new result.0)
             result.1) }
     {
         match self {
-            Place::Resting(lane) => (settle(core, session, lane, true), false),
-            Place::UnderWay(lane) => (Place::UnderWay(lane), true),
-            Place::Answered(lane, answer) => (Place::Answered(lane, answer), true),
-            Place::Left(cause) => (Place::Left(cause), false),
+            SeatState::Resting(lane) => (settle(core, session, lane, true), false),
+            SeatState::UnderWay(lane) => (SeatState::UnderWay(lane), true),
+            SeatState::Answered(lane, answer) => (SeatState::Answered(lane, answer), true),
+            SeatState::Left(cause) => (SeatState::Left(cause), false),
         }
     }
 }
 
-/// One turn of a session, whatever its place.
+/// One turn of a session, whatever its state.
 pub(crate) fn turn_seat(
     core: &mut Core,
     seat: &mut Seat,
     moment: u32,
 ) -> Result<Happened, EngineFault>
-    requires { IsPlaced core.old seat.old.session seat.old.place }
-    ensures ok { IfOk result (λ r. Gives core.old core.new (λ h added.
+    requires { IsSeatState core.old seat.old.session seat.old.place }
+    ensures ok { IfOk result (λ r. AddsRecords core.old core.new (λ h added.
         PlaceGives (part core.old h seat.old.session seat.old.closed) seat.old.place moment r
         (new_part core.new added seat.new.session seat.new.place)
         × (seat.new.closed ≡ seat.old.closed))) }
@@ -397,8 +397,8 @@ pub(crate) fn wants_bytes(seat: &Seat) -> bool
         × IsCut seat.now.session.unread More }
 {
     match seat.place {
-        Place::Resting(_) => seat.session.is_drained(),
-        Place::UnderWay(_) | Place::Answered(_, _) | Place::Left(_) => false,
+        SeatState::Resting(_) => seat.session.is_drained(),
+        SeatState::UnderWay(_) | SeatState::Answered(_, _) | SeatState::Left(_) => false,
     }
 }
 
@@ -411,13 +411,13 @@ pub(crate) fn are_quiet(seats: &[Seat]) -> bool
 
 /// Closes a session. It leaves at once if it rests, and else once its call's reply is written.
 pub(crate) fn close_seat(core: &mut Core, seat: &mut Seat)
-    requires { IsPlaced core.old seat.old.session seat.old.place }
-    ensures { Gives core.old core.new (λ h added. (goes_on : Bool)
+    requires { IsSeatState core.old seat.old.session seat.old.place }
+    ensures { AddsRecords core.old core.new (λ h added. (goes_on : Bool)
         × CloseGives core.old seat.old.session seat.old.place
         (new_part core.new added seat.new.session seat.new.place) goes_on
         × (seat.new.closed ≡ (seat.old.closed || goes_on))) }
 {
-    let place = mem::replace(&mut seat.place, Place::Left(Cause::Closed));
+    let place = mem::replace(&mut seat.place, SeatState::Left(Cause::Closed));
     let (place, goes_on) = place.close(core, &mut seat.session);
     seat.place = place;
     seat.closed |= goes_on;
@@ -478,7 +478,7 @@ pub(crate) fn open_seat(
     let session = lane.session();
     let seat = Seat {
         session: Session::new(alloc),
-        place: Place::Resting(lane),
+        place: SeatState::Resting(lane),
         closed: false,
     };
     if seats.push(seat).is_err() {

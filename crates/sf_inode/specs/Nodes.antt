@@ -11,7 +11,7 @@ use Rattle.sf_call.specs.declared.metadata.Metadata.{Metadata}
 use Rattle.sf_call.specs.Attributes.{Object}
 use Rattle.sf_call.specs.Attributes.Object.{Directory, File}
 use Rattle.sf_call.specs.Tree.{is_nil}
-use Rattle.sf_block.specs.Contents.{FileBytes, whole}
+use Rattle.sf_block.specs.Contents.{FileBytes, complete}
 use Rattle.sf_inode.specs.declared.node.Node.{Node}
 use Rattle.sf_inode.specs.declared.node.NewNode.{NewNode}
 use Rattle.sf_inode.specs.declared.node.Content.{Content}
@@ -25,9 +25,9 @@ entries_in (content.Directory entries) = entries
 entries_in (content.File contents) = []
 
 -- the node that a name leads to
-abbrev pub entry_in : Content → Name → Option ℕ
-entry_in (content.Directory entries) n = lookup (same_name n) entries
-entry_in (content.File contents) n = None
+abbrev pub child_in : Content → Name → Option ℕ
+child_in (content.Directory entries) n = lookup (same_name n) entries
+child_in (content.File contents) n = None
 
 abbrev pub is_directory_content : Content → Bool
 is_directory_content (content.Directory entries) = true
@@ -47,9 +47,9 @@ bytes_in (content.Directory entries) = []
 bytes_in (content.File contents) = contents.bytes
 
 -- how many blocks of a file are still to be copied
-abbrev pub left_in : Content → ℕ
-left_in (content.Directory entries) = 0
-left_in (content.File contents) = contents.left
+abbrev pub blocks_left_in : Content → ℕ
+blocks_left_in (content.Directory entries) = 0
+blocks_left_in (content.File contents) = contents.left
 
 -- what is still to be copied counts as copied
 abbrev pub object_in : Metadata → Content → Object
@@ -67,7 +67,7 @@ entries_past last entries = filter (λ e. is_past last e.0) entries
 -- ---- new nodes
 abbrev pub new_content : FileType → Content
 new_content file_type.Directory = content.Directory []
-new_content file_type.File = content.File (whole [])
+new_content file_type.File = content.File (complete [])
 
 -- a node with one name, which nothing holds and no handle opens
 abbrev pub new_node : NewNode → Node
@@ -98,7 +98,7 @@ with_file new (content.Directory entries) = content.Directory entries
 with_file new (content.File contents) = content.File new
 
 abbrev pub with_bytes : List ℕ → Content → Content
-with_bytes new = with_file (whole new)
+with_bytes new = with_file (complete new)
 
 -- so many blocks are left
 abbrev pub with_left : ℕ → Content → Content

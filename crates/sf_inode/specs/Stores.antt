@@ -5,14 +5,14 @@ use Rattle.std.specs.Ordering.{nat_cmp}
 use Rattle.std.specs.Map.{lookup, set_value, remove_entry}
 use Rattle.std.specs.BTreeMap.{is_at, insert_entry}
 use Rattle.sf_path.specs.Names.{Name}
-use Rattle.sf_block.specs.Contents.{FileBytes, whole}
+use Rattle.sf_block.specs.Contents.{FileBytes, complete}
 use Rattle.sf_call.specs.declared.handle.Handle.{Handle}
 use Rattle.sf_call.specs.Attributes.{Object, made_at}
 use Rattle.sf_inode.specs.declared.node.Node.{Node}
 use Rattle.sf_inode.specs.declared.node.Content.TheVariants as content
 use Rattle.sf_inode.specs.declared.handle.OpenHandle.{OpenHandle}
 use Rattle.sf_inode.specs.declared.handle.Marks.{Marks}
-use Rattle.sf_inode.specs.Nodes.{entry_in, entries_in, object_in, is_directory_content, is_bare_content, less_content, more_content, bytes_in, left_in, is_file_content, with_file, with_left, with_content, with_name, without_name, with_opened, is_unused}
+use Rattle.sf_inode.specs.Nodes.{child_in, entries_in, object_in, is_directory_content, is_bare_content, less_content, more_content, bytes_in, blocks_left_in, is_file_content, with_file, with_left, with_content, with_name, without_name, with_opened, is_unused}
 
 -- a node or nothing at each number from 0 on, each session's handles by their numbers, and how many
 -- look-ups were made
@@ -25,8 +25,8 @@ pub record StoreState : Type 0 where
 abbrev pub node_in : List (Option Node) → ℕ → Option Node
 node_in nodes id = slice_index_or nodes id None
 
-abbrev pub entry_of : List (Option Node) → ℕ → Name → Option ℕ
-entry_of nodes id n = option_and_then (λ node. entry_in node.content n) (node_in nodes id)
+abbrev pub child_of : List (Option Node) → ℕ → Name → Option ℕ
+child_of nodes id n = option_and_then (λ node. child_in node.content n) (node_in nodes id)
 
 abbrev pub shown_node : Node → ℕ × Object
 shown_node node = (node.label, object_in node.metadata node.content)
@@ -38,8 +38,8 @@ abbrev pub holder_of : List (Option Node) → ℕ → Option ℕ
 holder_of nodes id = option_and_then (λ node. node.holder) (node_in nodes id)
 
 -- a session's handle of a number
-abbrev pub handle_at : StoreState → ℕ → ℕ → Option OpenHandle
-handle_at s session number = option_and_then (λ handles. lookup (is_at (nat_cmp number)) handles)
+abbrev pub open_handle_at : StoreState → ℕ → ℕ → Option OpenHandle
+open_handle_at s session number = option_and_then (λ handles. lookup (is_at (nat_cmp number)) handles)
     (lookup (is_at (nat_cmp session)) s.sessions)
 
 abbrev pub shown_handle : ℕ → OpenHandle → Handle
@@ -86,16 +86,16 @@ abbrev pub forgotten : StoreState → ℕ → StoreState
 forgotten s id = released (edited without_name s id) id
 
 -- a handle less opens a node
-abbrev pub let_go : StoreState → ℕ → StoreState
-let_go s id = released (edited (λ node. with_opened (node.opens - 1) node) s id) id
+abbrev pub after_close : StoreState → ℕ → StoreState
+after_close s id = released (edited (λ node. with_opened (node.opens - 1) node) s id) id
 
 abbrev pub unlinked_from : StoreState → ℕ → Name → Option ℕ → StoreState
 unlinked_from s dir n None = s
 unlinked_from s dir n (Some id) = forgotten (entry_taken s dir n) id
 
 -- how many names lead to a node
-abbrev pub names_at : List (Option Node) → ℕ → ℕ
-names_at nodes id = option_map_or (λ node. node.names) (node_in nodes id) 0
+abbrev pub link_count_at : List (Option Node) → ℕ → ℕ
+link_count_at nodes id = option_map_or (λ node. node.names) (node_in nodes id) 0
 
 -- a further name leads to a node
 abbrev pub linked : StoreState → ℕ → Name → ℕ → StoreState
@@ -103,22 +103,22 @@ linked s dir n id = edited with_name (entry_put s dir n id) id
 
 -- an entry is taken out, and its node goes if nothing else leads to it
 abbrev pub unlinked : StoreState → ℕ → Name → StoreState
-unlinked s dir n = unlinked_from s dir n (entry_of s.nodes dir n)
+unlinked s dir n = unlinked_from s dir n (child_of s.nodes dir n)
 
 -- Where an entry stands: a directory, and a name.
-pub record Spot : Type 0 where
+pub record EntryKey : Type 0 where
   pub dir : ℕ
   pub name : Name
 
-abbrev pub spot : ℕ → Name → Spot
+abbrev pub spot : ℕ → Name → EntryKey
 spot dir name = record { dir = dir; name = name }
 
 -- An entry is moved: to a new name, or to one that leads to another node, which goes if nothing
 -- else leads to it.
-abbrev pub moved_entry : StoreState → Spot → Spot → ℕ → StoreState
+abbrev pub moved_entry : StoreState → EntryKey → EntryKey → ℕ → StoreState
 moved_entry s old new id = entry_taken (entry_put s new.dir new.name id) old.dir old.name
 
-abbrev pub relinked_from : StoreState → Spot → Spot → Option ℕ → Option ℕ → StoreState
+abbrev pub relinked_from : StoreState → EntryKey → EntryKey → Option ℕ → Option ℕ → StoreState
 relinked_from s old new None target = s
 relinked_from s old new (Some id) None = moved_entry s old new id
 relinked_from s old new (Some id) (Some target) = forgotten (moved_entry s old new id) target
@@ -126,19 +126,19 @@ relinked_from s old new (Some id) (Some target) = forgotten (moved_entry s old n
 abbrev pub relinked : StoreState → ℕ → Name → ℕ → Name → StoreState
 relinked s old_dir old_name new_dir new_name =
     relinked_from s (spot old_dir old_name) (spot new_dir new_name)
-    (entry_of s.nodes old_dir old_name) (entry_of s.nodes new_dir new_name)
+    (child_of s.nodes old_dir old_name) (child_of s.nodes new_dir new_name)
 
 -- a node's bytes, if it is a file
 abbrev pub bytes_of : List (Option Node) → ℕ → List ℕ
 bytes_of nodes id = option_map_or (λ node. bytes_in node.content) (node_in nodes id) []
 
 -- how many blocks of a file are still to be copied
-abbrev pub left_at : List (Option Node) → ℕ → ℕ
-left_at nodes id = option_map_or (λ node. left_in node.content) (node_in nodes id) 0
+abbrev pub blocks_left_at : List (Option Node) → ℕ → ℕ
+blocks_left_at nodes id = option_map_or (λ node. blocks_left_in node.content) (node_in nodes id) 0
 
 -- a directory's entries, in the order of their names; a file has none
-abbrev pub entries_at : List (Option Node) → ℕ → List (Name × ℕ)
-entries_at nodes id = option_map_or (λ node. entries_in node.content) (node_in nodes id) []
+abbrev pub node_entries : List (Option Node) → ℕ → List (Name × ℕ)
+node_entries nodes id = option_map_or (λ node. entries_in node.content) (node_in nodes id) []
 
 abbrev pub is_file_at : List (Option Node) → ℕ → Bool
 is_file_at nodes id = option_map_or (λ node. is_file_content node.content) (node_in nodes id) false
@@ -161,7 +161,7 @@ file_set s id new = edited (with_content (with_file new)) s id
 
 -- with other bytes of a file, of which nothing is left to be copied
 abbrev pub bytes_set : StoreState → ℕ → List ℕ → StoreState
-bytes_set s id new = file_set s id (whole new)
+bytes_set s id new = file_set s id (complete new)
 
 -- so many blocks of a file are left to be copied
 abbrev pub left_set : StoreState → ℕ → ℕ → StoreState
@@ -190,14 +190,14 @@ handle_put s session number h = handles_put s session number h (handles_of s ses
 abbrev pub new_handle : ℕ → Marks → Node → OpenHandle
 new_handle id marks node = record { node = id; label = node.label; marks = marks; listed = None }
 
-abbrev pub opened_by : StoreState → ℕ → ℕ → OpenHandle → StoreState
-opened_by s session number h = edited (λ it. with_opened (min (it.opens + 1) (2 ^ 64 - 1)) it)
+abbrev pub after_open_node : StoreState → ℕ → ℕ → OpenHandle → StoreState
+after_open_node s session number h = edited (λ it. with_opened (min (it.opens + 1) (2 ^ 64 - 1)) it)
     (handle_put s session number h) h.node
 
 -- a handle opens a node, if it is there
-abbrev pub opened : StoreState → ℕ → ℕ → ℕ → Marks → StoreState
-opened s session number id marks =
-    option_map_or (λ node. opened_by s session number (new_handle id marks node))
+abbrev pub after_open : StoreState → ℕ → ℕ → ℕ → Marks → StoreState
+after_open s session number id marks =
+    option_map_or (λ node. after_open_node s session number (new_handle id marks node))
     (node_in s.nodes id) s
 
 -- with the last name that a listing gave
@@ -229,16 +229,16 @@ handle_dropped s session number (Some handles) =
 
 abbrev pub closed_by : StoreState → Option OpenHandle → StoreState
 closed_by s None = s
-closed_by s (Some h) = let_go s h.node
+closed_by s (Some h) = after_close s h.node
 
 -- a handle is closed, and its node goes if nothing else names it
 abbrev pub closed : StoreState → ℕ → ℕ → StoreState
 closed s session number =
-    closed_by (handle_dropped s session number (handles_of s session)) (handle_at s session number)
+    closed_by (handle_dropped s session number (handles_of s session)) (open_handle_at s session number)
 
 -- the nodes of handles are let go of
 abbrev pub each_let_go : StoreState → List (ℕ × OpenHandle) → StoreState
-each_let_go s handles = fold (λ after e. let_go after e.1.node) s handles
+each_let_go s handles = fold (λ after e. after_close after e.1.node) s handles
 
 abbrev pub closed_each : StoreState → ℕ → Option (List (ℕ × OpenHandle)) → StoreState
 closed_each s session None = s

@@ -4,7 +4,7 @@ ghost use Rattle.std.specs.Prelude.{◌≡◌, ◌+◌, ◌-◌, ◌<◌, ◌≤
 ghost use Rattle.std.specs.Option.{option_copied};
 ghost use Rattle.sf_field.specs.declared.attrs.Attrs.{Attrs};
 ghost use Rattle.sf_call.specs.Attributes.{attrs_of, with_parts, modified_at};
-ghost use Rattle.sf_inode.specs.Nodes.{entry_in, entries_in, entries_past, is_directory_content, is_file_content, is_bare_content, object_in, new_node, with_content, with_metadata, less_content, more_content, bytes_in, left_in, with_file, with_bytes, with_left, is_unused};
+ghost use Rattle.sf_inode.specs.Nodes.{child_in, entries_in, entries_past, is_directory_content, is_file_content, is_bare_content, object_in, new_node, with_content, with_metadata, less_content, more_content, bytes_in, blocks_left_in, with_file, with_bytes, with_left, is_unused};
 ghost use Rattle.sf_block.specs.Contents.{resized, written, writing};
 
 use crate::NodeId;
@@ -82,7 +82,7 @@ impl Node {
 
     /// The node that a name leads to; a file has no entries.
     pub(crate) fn entry(&self, name: &Name) -> Option<NodeId>
-        ensures { result ≡ entry_in self.now.content name.now }
+        ensures { result ≡ child_in self.now.content name.now }
     {
         match &self.content {
             Content::Directory(entries) => entries.find(name),
@@ -121,7 +121,7 @@ impl Node {
     /// Takes a name out of a directory, and gives the node that it led to; of a file nothing
     /// changes.
     pub(crate) fn remove_entry(&mut self, name: &Name) -> Option<NodeId>
-        ensures node { result ≡ entry_in self.old.content name.now }
+        ensures node { result ≡ child_in self.old.content name.now }
         ensures rest { self.new ≡ with_content (less_content name.now) self.old }
         ensures none { IfNone result (self.new ≡ self.old) }
     {
@@ -160,7 +160,7 @@ impl Node {
     pub(crate) fn file(&self) -> Option<&Contents>
         ensures some { IfSome result (λ file. (is_file_content self.now.content ≡ true)
             × (file.now.bytes ≡ bytes_in self.now.content)
-            × (file.now.left ≡ left_in self.now.content)) }
+            × (file.now.left ≡ blocks_left_in self.now.content)) }
         ensures none { IfNone result (is_file_content self.now.content ≡ false) }
     {
         match &self.content {
@@ -171,7 +171,7 @@ impl Node {
 
     /// How many blocks of a file are still to be copied.
     pub(crate) fn left(&self) -> usize
-        ensures { result ≡ left_in self.now.content }
+        ensures { result ≡ blocks_left_in self.now.content }
     {
         match &self.content {
             Content::Directory(_) => 0,
@@ -187,7 +187,7 @@ impl Node {
         offset: u64,
         bytes: &ByteString,
     ) -> Result<(), AllocError>
-        requires settled { left_in self.old.content ≡ 0 }
+        requires settled { blocks_left_in self.old.content ≡ 0 }
         requires some { 0 < length bytes.now }
         requires fits { offset + length bytes.now < 2 ^ 64 }
         ensures ok { OnOk result (self.new
@@ -203,8 +203,8 @@ impl Node {
 
     /// Copies one block of a file that is being written. It needs no memory.
     pub(crate) fn copy_block(&mut self)
-        requires { 0 < left_in self.old.content }
-        ensures { self.new ≡ with_content (with_left (left_in self.old.content - 1)) self.old }
+        requires { 0 < blocks_left_in self.old.content }
+        ensures { self.new ≡ with_content (with_left (blocks_left_in self.old.content - 1)) self.old }
     {
         if let Content::File(contents) = &mut self.content {
             contents.copy_block();
@@ -227,7 +227,7 @@ impl Node {
         offset: u64,
         bytes: &ByteString,
     ) -> Result<(), AllocError>
-        requires settled { left_in self.old.content ≡ 0 }
+        requires settled { blocks_left_in self.old.content ≡ 0 }
         requires some { 0 < length bytes.now }
         requires fits { offset + length bytes.now < 2 ^ 64 }
         ensures ok { OnOk result (self.new
@@ -243,7 +243,7 @@ impl Node {
 
     /// Cuts the bytes at a size, or fills them up to it with zeros. It takes no memory.
     pub(crate) fn set_len(&mut self, n: u64)
-        requires { left_in self.old.content ≡ 0 }
+        requires { blocks_left_in self.old.content ≡ 0 }
         ensures { self.new ≡ with_content (with_bytes (resized (bytes_in self.old.content) n))
             self.old }
     {

@@ -5,7 +5,7 @@ ghost use Rattle.std.specs.Option.{option_map_or};
 ghost use Rattle.std.specs.declared.alloc.Global.{Global};
 ghost use Rattle.sf_call.specs.Attributes.{attrs_of, with_parts, modified_at};
 ghost use Rattle.sf_inode.specs.Nodes.{new_node, object_in, with_metadata, with_holder, entries_past};
-ghost use Rattle.sf_inode.specs.Stores.{IsFirst, Inserted, with_nodes, node_in, entry_of, holder_of, looked_up, edited, entry_taken, entry_put, released, forgotten, let_go, unlinked, names_at, linked, relinked, bytes_of, is_file_at, file_size, is_directory_at, is_bare_at, left_at, file_set, bytes_set, left_set, opened, handle_put, handle_at, handles_of, handle_dropped, handle_listed, entries_at, closed, each_let_go, closed_all, new_entry};
+ghost use Rattle.sf_inode.specs.Stores.{IsFirst, Inserted, with_nodes, node_in, child_of, holder_of, looked_up, edited, entry_taken, entry_put, released, forgotten, after_close, unlinked, link_count_at, linked, relinked, bytes_of, is_file_at, file_size, is_directory_at, is_bare_at, blocks_left_at, file_set, bytes_set, left_set, after_open, handle_put, open_handle_at, handles_of, handle_dropped, handle_listed, node_entries, closed, each_let_go, closed_all, new_entry};
 ghost use Rattle.std.specs.Option.{option_copied};
 ghost use Rattle.sf_block.specs.Contents.{resized, written, writing};
 
@@ -121,7 +121,7 @@ impl Store {
 
     /// The node that a name of a directory leads to. It counts as one look-up.
     pub fn find(&mut self, dir: NodeId, name: &Name) -> Option<NodeId>
-        ensures found { result ≡ entry_of self.old.nodes dir name.now }
+        ensures found { result ≡ child_of self.old.nodes dir name.now }
         ensures counted { self.new ≡ looked_up self.old }
     {
         self.look_ups = self.look_ups.saturating_add(1);
@@ -129,7 +129,7 @@ impl Store {
     }
 
     fn entry(&self, dir: NodeId, name: &Name) -> Option<NodeId>
-        ensures { result ≡ entry_of self.now.nodes dir name.now }
+        ensures { result ≡ child_of self.now.nodes dir name.now }
     {
         match self.nodes.get(dir) {
             Some(node) => node.entry(name),
@@ -232,7 +232,7 @@ impl Store {
 
     /// Takes a name out of a directory, and gives the node that it led to.
     fn take_entry(&mut self, dir: NodeId, name: &Name) -> Option<NodeId>
-        ensures node { result ≡ entry_of self.old.nodes dir name.now }
+        ensures node { result ≡ child_of self.old.nodes dir name.now }
         ensures rest { self.new ≡ entry_taken self.old dir name.now }
         ensures none { IfNone result (self.new ≡ self.old) }
     {
@@ -267,7 +267,7 @@ impl Store {
 
     /// A handle less opens a node.
     fn let_go(&mut self, node: NodeId)
-        ensures { self.new ≡ let_go self.old node }
+        ensures { self.new ≡ after_close self.old node }
     {
         if let Some(it) = self.nodes.get_mut(node) {
             it.opens = it.opens.saturating_sub(1);
@@ -286,7 +286,7 @@ impl Store {
 
     /// How many names lead to a node.
     pub fn links(&self, node: NodeId) -> u64
-        ensures { result ≡ names_at self.now.nodes node }
+        ensures { result ≡ link_count_at self.now.nodes node }
     {
         match self.nodes.get(node) {
             Some(it) => it.names,
@@ -346,7 +346,7 @@ impl Store {
     pub fn file(&self, node: NodeId) -> Option<&Contents>
         ensures some { IfSome result (λ file. (is_file_at self.now.nodes node ≡ true)
             × (file.now.bytes ≡ bytes_of self.now.nodes node)
-            × (file.now.left ≡ left_at self.now.nodes node)) }
+            × (file.now.left ≡ blocks_left_at self.now.nodes node)) }
         ensures none { IfNone result (is_file_at self.now.nodes node ≡ false) }
     {
         self.nodes.get(node)?.file()
@@ -361,7 +361,7 @@ impl Store {
 
     /// How many blocks of a file are still to be copied.
     pub fn left(&self, node: NodeId) -> usize
-        ensures { result ≡ left_at self.now.nodes node }
+        ensures { result ≡ blocks_left_at self.now.nodes node }
     {
         match self.nodes.get(node) {
             Some(it) => it.left(),
@@ -377,7 +377,7 @@ impl Store {
         offset: u64,
         bytes: &ByteString,
     ) -> Result<(), AllocError>
-        requires settled { left_at self.old.nodes node ≡ 0 }
+        requires settled { blocks_left_at self.old.nodes node ≡ 0 }
         requires some { 0 < length bytes.now }
         requires fits { offset + length bytes.now < 2 ^ 64 }
         ensures ok { OnOk result (self.new
@@ -392,8 +392,8 @@ impl Store {
 
     /// Copies one block of a file that is being written. It needs no memory.
     pub fn copy_block(&mut self, node: NodeId)
-        requires { 0 < left_at self.old.nodes node }
-        ensures { self.new ≡ left_set self.old node (left_at self.old.nodes node - 1) }
+        requires { 0 < blocks_left_at self.old.nodes node }
+        ensures { self.new ≡ left_set self.old node (blocks_left_at self.old.nodes node - 1) }
     {
         if let Some(it) = self.nodes.get_mut(node) {
             it.copy_block();
@@ -411,7 +411,7 @@ impl Store {
 
     /// Replaces a file's bytes from an offset on; a gap before them is filled with zeros.
     pub fn write(&mut self, node: NodeId, offset: u64, bytes: &ByteString) -> Result<(), AllocError>
-        requires settled { left_at self.old.nodes node ≡ 0 }
+        requires settled { blocks_left_at self.old.nodes node ≡ 0 }
         requires some { 0 < length bytes.now }
         requires fits { offset + length bytes.now < 2 ^ 64 }
         ensures ok { OnOk result (self.new
@@ -426,7 +426,7 @@ impl Store {
 
     /// Cuts a file's bytes at a size, or fills them up to it with zeros. It takes no memory.
     pub fn set_len(&mut self, node: NodeId, n: u64)
-        requires { left_at self.old.nodes node ≡ 0 }
+        requires { blocks_left_at self.old.nodes node ≡ 0 }
         ensures { self.new ≡ bytes_set self.old node (resized (bytes_of self.old.nodes node) n) }
     {
         if let Some(it) = self.nodes.get_mut(node) {
@@ -442,7 +442,7 @@ impl Store {
         node: NodeId,
         marks: Marks,
     ) -> Result<(), AllocError>
-        ensures ok { OnOk result (self.new ≡ opened self.old session number node marks) }
+        ensures ok { OnOk result (self.new ≡ after_open self.old session number node marks) }
         ensures err { OnErr result (self.new ≡ self.old) }
     {
         let label = match self.nodes.get(node) {
@@ -486,7 +486,7 @@ impl Store {
 
     /// A session's handle.
     pub fn handle(&self, session: u64, number: u64) -> Option<&OpenHandle>
-        ensures { option_copied result ≡ handle_at self.now session number }
+        ensures { option_copied result ≡ open_handle_at self.now session number }
     {
         match self.sessions.get(&session) {
             Some(handles) => handles.get(number),
@@ -508,7 +508,7 @@ impl Store {
     /// Closes a session's handle, if it is there, and tells whether it was. Its node goes if
     /// nothing else names it.
     pub fn close(&mut self, session: u64, number: u64) -> bool
-        ensures told { result ≡ is_some (handle_at self.old session number) }
+        ensures told { result ≡ is_some (open_handle_at self.old session number) }
         ensures closed { self.new ≡ closed self.old session number }
         ensures none { result ≡ false → self.new ≡ self.old }
     {
@@ -521,7 +521,7 @@ impl Store {
 
     #[tactic(auto, using(std::proofs::lemmas::Map::Steps::set_value_same))]
     fn take_handle(&mut self, session: u64, number: u64) -> Option<OpenHandle>
-        ensures value { result ≡ handle_at self.old session number }
+        ensures value { result ≡ open_handle_at self.old session number }
         ensures rest { self.new
             ≡ handle_dropped self.old session number (handles_of self.old session) }
         ensures none { IfNone result (self.new ≡ self.old) }
@@ -570,8 +570,8 @@ impl Store {
         most: usize,
     ) -> Result<Vec<(Name, NodeId)>, AllocError>
         ensures ok { IfOk result (λ found. found.items
-            ≡ take most (entries_past (option_copied last.entry) (entries_at self.now.nodes dir))) }
-        ensures none_left { entries_past (option_copied last.entry) (entries_at self.now.nodes dir)
+            ≡ take most (entries_past (option_copied last.entry) (node_entries self.now.nodes dir))) }
+        ensures none_left { entries_past (option_copied last.entry) (node_entries self.now.nodes dir)
             ≡ [] → IsOk result }
     {
         match self.nodes.get(dir) {

@@ -4,8 +4,8 @@ use Rattle.std.proofs.Common.{sym, ap, subst, ◌∙◌, inl, inr, eqb-true}
 use Rattle.sf_path.specs.Names.{Name}
 use Rattle.sf_call.specs.Tree.{Tree, links}
 use Rattle.sf_inode.specs.declared.node.Node.{Node}
-use Rattle.sf_inode.specs.Nodes.{entry_in, with_opened}
-use Rattle.sf_inode.specs.Stores.{StoreState, node_in, entry_of}
+use Rattle.sf_inode.specs.Nodes.{child_in, with_opened}
+use Rattle.sf_inode.specs.Stores.{StoreState, node_in, child_of}
 use Rattle.sf_keeps.specs.Keeps.{Keeps, times_open}
 use Rattle.sf_keeps.proofs.Sound.{IsBare}
 use Rattle.sf_keeps.proofs.Shown.{nat_eq_apart, same_apart}
@@ -21,7 +21,7 @@ pub record Before (before : List (Option Node)) (i : ℕ) (after : Node) : Type 
   pub named : after.names ≡ node.names
 
 pub record AreAlike (before after : List (Option Node)) : Type 0 where
-  pub steps : (x : ℕ) (n : Name) → entry_of after x n ≡ entry_of before x n
+  pub steps : (x : ℕ) (n : Name) → child_of after x n ≡ child_of before x n
   pub back : (i : ℕ) (node : Node) → node_in after i ≡ Some node → Before before i node
   pub ordered : InOrder before → InOrder after
 
@@ -31,7 +31,7 @@ module _ (s : StoreState) (t : Tree) (k : Keeps s t) (after : StoreState) (a : A
       let b = a.back id node at in
       b.named ∙ k.linked id b.node b.there ∙ ap (links t.names) (sym b.label)
 
-  pub bare_alike : (id : ℕ) (node : Node) → node_in after.nodes id ≡ Some node → node.names ≡ 0 → (n : Name) → entry_of after.nodes id n ≡ None
+  pub bare_alike : (id : ℕ) (node : Node) → node_in after.nodes id ≡ Some node → node.names ≡ 0 → (n : Name) → child_of after.nodes id n ≡ None
   bare_alike id node at none n =
       let b = a.back id node at in
       a.steps id n ∙ k.bare id b.node b.there (sym b.named ∙ none) n
@@ -83,11 +83,11 @@ module _ (s : StoreState) (t : Tree) (k : Keeps s t) (c : ℕ) (node : Node) (he
         | false ↦ λ e f. (e, f)
       ] refl (sym (put i) ∙ at)
 
-  pub gone_alike : IsBare (entry_of s.nodes) c → AreAlike s.nodes nodes
+  pub gone_alike : IsBare (child_of s.nodes) c → AreAlike s.nodes nodes
   gone_alike bare = record {
-    steps = λ x m. ap (option_and_then (λ (z : Node). entry_in z.content m)) (put x)
-        ∙ elim (nat_eq c x) as (λ b. nat_eq c x ≡ b → option_and_then (λ (z : Node). entry_in z.content m) (cond b None (node_in s.nodes x)) ≡ entry_of s.nodes x m) [
-          | true ↦ λ e. sym (ap (λ (y : ℕ). entry_of s.nodes y m) (sym (eqb-true c x e)) ∙ bare m)
+    steps = λ x m. ap (option_and_then (λ (z : Node). child_in z.content m)) (put x)
+        ∙ elim (nat_eq c x) as (λ b. nat_eq c x ≡ b → option_and_then (λ (z : Node). child_in z.content m) (cond b None (node_in s.nodes x)) ≡ child_of s.nodes x m) [
+          | true ↦ λ e. sym (ap (λ (y : ℕ). child_of s.nodes y m) (sym (eqb-true c x e)) ∙ bare m)
           | false ↦ λ e. refl
         ] refl;
     back = λ i x at. record { node = x; there = (gone_back i x at).1; label = refl; named = refl };

@@ -11,9 +11,9 @@ use Rattle.sf_call.proofs.Laws.{same_path_is, same_name_itself, after_front-appe
 use Rattle.sf_inode.specs.declared.node.Node.{Node}
 use Rattle.sf_inode.specs.declared.node.Content.{Content}
 use Rattle.sf_inode.specs.declared.node.Content.TheVariants as content
-use Rattle.sf_inode.specs.Nodes.{entry_in, is_bare_content}
+use Rattle.sf_inode.specs.Nodes.{child_in, is_bare_content}
 use Rattle.sf_keeps.specs.Steps.{walk}
-use Rattle.sf_inode.specs.Stores.{StoreState, node_in, entry_of, shown_node, is_bare_at}
+use Rattle.sf_inode.specs.Stores.{StoreState, node_in, child_of, shown_node, is_bare_at}
 use Rattle.sf_keeps.specs.Keeps.{view_of, Keeps}
 use Rattle.sf_keeps.proofs.Sound.{IsBare, reached_there}
 use Rattle.sf_keeps.proofs.Shown.{same_path_itself}
@@ -49,16 +49,16 @@ only_is p q n = elim (after_front p q) as (λ o. after_front p q ≡ o → only_
 ] refl
 
 -- a node that is not bare has an entry
-first_entry : (c : Content) → is_bare_content c ≡ false → (n : Name) × (id : ℕ) × (entry_in c n ≡ Some id)
+first_entry : (c : Content) → is_bare_content c ≡ false → (n : Name) × (id : ℕ) × (child_in c n ≡ Some id)
 first_entry (content.Directory []) e = absurd (cc)
 first_entry (content.Directory (x ∷ es)) e = (x.0, x.1, ap (λ b. cond b (Some x.1) (lookup (same_name x.0) es)) (same_name_itself x.0))
 first_entry (content.File contents) e = absurd (cc)
 
-module _ (s : StoreState) (t : Tree) (k : Keeps s t) (p : Path) (id : ℕ) (at : walk (entry_of s.nodes) s.root p ≡ Some id) where
-  none_below : IsBare (entry_of s.nodes) id → children t.names p ≡ []
+module _ (s : StoreState) (t : Tree) (k : Keeps s t) (p : Path) (id : ℕ) (at : walk (child_of s.nodes) s.root p ≡ Some id) where
+  none_below : IsBare (child_of s.nodes) id → children t.names p ≡ []
   none_below bare = no_children t.names p (λ q n e. ap (label_at t.names) (only_is p q n e) ∙ free_name (view_of s) t k.shows p id n at (bare n))
 
-  some_below : (n : Name) (c : ℕ) → entry_of s.nodes id n ≡ Some c → is_nil (children t.names p) ≡ false
+  some_below : (n : Name) (c : ℕ) → child_of s.nodes id n ≡ Some c → is_nil (children t.names p) ≡ false
   some_below n c there =
       let w = entry_node s t k id c n there in
       some_children t.names p (p ++ n ∷ []) n w.0.label (ap only_name (after_front-append p (n ∷ [])))
@@ -67,11 +67,11 @@ module _ (s : StoreState) (t : Tree) (k : Keeps s t) (p : Path) (id : ℕ) (at :
   -- what a path leads to is bare where no name stands below the path
   pub bare_found : is_empty t.names p ≡ is_bare_at s.nodes id
   bare_found = elim (node_in s.nodes id) as (λ o. node_in s.nodes id ≡ o → is_empty t.names p ≡ option_map_or (λ (it : Node). is_bare_content it.content) o false) [
-    | None ↦ λ e. absurd (reached_there (entry_of s.nodes) (view_of s).shown s.root k.shows.by.sound p id at (ap (option_map shown_node) e))
+    | None ↦ λ e. absurd (reached_there (child_of s.nodes) (view_of s).shown s.root k.shows.by.sound p id at (ap (option_map shown_node) e))
     | Some node ↦ λ e. elim (is_bare_content node.content) as (λ b. is_bare_content node.content ≡ b → is_empty t.names p ≡ b) [
       | true ↦ λ f. ap is_nil (none_below (bare_at s.nodes id (ap (λ (o : Option Node). option_map_or (λ (it : Node). is_bare_content it.content) o false) e ∙ f)))
       | false ↦ λ f.
           let w = first_entry node.content f in
-          some_below w.0 w.1 (ap (option_and_then (λ (z : Node). entry_in z.content w.0)) e ∙ w.2)
+          some_below w.0 w.1 (ap (option_and_then (λ (z : Node). child_in z.content w.0)) e ∙ w.2)
     ] refl
   ] refl

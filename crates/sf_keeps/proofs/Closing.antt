@@ -12,7 +12,7 @@ use Rattle.sf_inode.specs.declared.node.Node.{Node}
 use Rattle.sf_inode.specs.declared.handle.OpenHandle.{OpenHandle}
 use Rattle.sf_inode.specs.Nodes.{object_in, with_opened, is_unused}
 use Rattle.sf_keeps.specs.Shows.{View, Shows, with_opens, with_shown}
-use Rattle.sf_inode.specs.Stores.{StoreState, node_in, handle_at, shown_node, shown_handle, with_nodes, with_sessions, edited, released_if, released, let_go, handles_of, handle_dropped, closed_by, closed}
+use Rattle.sf_inode.specs.Stores.{StoreState, node_in, open_handle_at, shown_node, shown_handle, with_nodes, with_sessions, edited, released_if, released, after_close, handles_of, handle_dropped, closed_by, closed}
 use Rattle.sf_keeps.specs.Keeps.{view_of, Keeps, IsUnlinked, times_open}
 use Rattle.sf_keeps.proofs.Keyed.{lookup-removed}
 use Rattle.sf_keeps.proofs.Less.{is_named, is_opened, IsClosed, handle_there, opened_by}
@@ -24,7 +24,7 @@ use Rattle.sf_keeps.proofs.Counts.{closed_times}
 use Rattle.sf_keeps.proofs.Openings.{any_counted, none_counted, some_names, linked_named, both_zero, unnamed_node}
 use Rattle.sf_keeps.proofs.Alike.{linked_alike, bare_alike, counted_alike, counted_now, counted_there, gone_alike, gone_now, gone_there}
 
-module _ (s : StoreState) (t : Tree) (k : Keeps s t) (session number : ℕ) (h : OpenHandle) (at : handle_at s session number ≡ Some h) (node : Node) (here : node_in s.nodes h.node ≡ Some node) (same : node.label ≡ h.label) where
+module _ (s : StoreState) (t : Tree) (k : Keeps s t) (session number : ℕ) (h : OpenHandle) (at : open_handle_at s session number ≡ Some h) (node : Node) (here : node_in s.nodes h.node ≡ Some node) (same : node.label ≡ h.label) where
   abbrev less : Node → Node
   less it = with_opened (it.opens - 1) it
 
@@ -108,12 +108,12 @@ module _ (s : StoreState) (t : Tree) (k : Keeps s t) (session number : ℕ) (h :
     view_mid = view_set s new session number None set
 
     -- a handle of the session's others
-    still_there : (a b : ℕ) (x : OpenHandle) → handle_at mid a b ≡ Some x → handle_at s a b ≡ Some x
+    still_there : (a b : ℕ) (x : OpenHandle) → open_handle_at mid a b ≡ Some x → open_handle_at s a b ≡ Some x
     still_there a b x e =
-        elim (nat_eq session a && nat_eq number b) as (λ z. cond z None (handle_at s a b) ≡ Some x → handle_at s a b ≡ Some x) [ true ↦ λ f. cc | false ↦ λ f. f ] (sym (set.at a b) ∙ e)
+        elim (nat_eq session a && nat_eq number b) as (λ z. cond z None (open_handle_at s a b) ≡ Some x → open_handle_at s a b ≡ Some x) [ true ↦ λ f. cc | false ↦ λ f. f ] (sym (set.at a b) ∙ e)
 
     -- ---- it stays
-    keeps_stays : is_unused (less node) ≡ false → Keeps (let_go mid h.node) after
+    keeps_stays : is_unused (less node) ≡ false → Keeps (after_close mid h.node) after
     keeps_stays used =
         let is : released stays h.node ≡ stays = ap (released_if stays h.node) put_here ∙ ap (λ (b : Bool). if b then with_nodes stays (slice_set stays.nodes h.node None) else stays) used in
         let alike = counted_alike s t k h.node (less node).opens node here stays.nodes put in
@@ -141,7 +141,7 @@ module _ (s : StoreState) (t : Tree) (k : Keeps s t) (session number : ℕ) (h :
         ∙ ap (cond (nat_eq h.node i) None) (put i)
         ∙ elim (nat_eq h.node i) as (λ b. cond b None (cond b (Some (less node)) (node_in s.nodes i)) ≡ cond b None (node_in s.nodes i)) [ true ↦ refl | false ↦ refl ]
 
-    keeps_goes : is_unused (less node) ≡ true → Keeps (let_go mid h.node) after
+    keeps_goes : is_unused (less node) ≡ true → Keeps (after_close mid h.node) after
     keeps_goes unused =
         let is : released stays h.node ≡ goes = ap (released_if stays h.node) put_here ∙ ap (λ (b : Bool). if b then with_nodes stays (slice_set stays.nodes h.node None) else stays) unused in
         let why = both_zero node.names (node.opens - 1) unused in
@@ -172,13 +172,13 @@ module _ (s : StoreState) (t : Tree) (k : Keeps s t) (session number : ℕ) (h :
           numbers = numbers_after;
         })
 
-    keeps_gone_or_not : Keeps (let_go mid h.node) after
-    keeps_gone_or_not = elim (is_unused (less node)) as (λ b. is_unused (less node) ≡ b → Keeps (let_go mid h.node) after) [ true ↦ λ e. keeps_goes e | false ↦ λ e. keeps_stays e ] refl
+    keeps_gone_or_not : Keeps (after_close mid h.node) after
+    keeps_gone_or_not = elim (is_unused (less node)) as (λ b. is_unused (less node) ≡ b → Keeps (after_close mid h.node) after) [ true ↦ λ e. keeps_goes e | false ↦ λ e. keeps_stays e ] refl
 
-pub keeps_closed : (s : StoreState) (t : Tree) → Keeps s t → (session number : ℕ) (h : OpenHandle) → handle_at s session number ≡ Some h → Keeps (closed s session number) (changed t (change.CloseHandle number))
+pub keeps_closed : (s : StoreState) (t : Tree) → Keeps s t → (session number : ℕ) (h : OpenHandle) → open_handle_at s session number ≡ Some h → Keeps (closed s session number) (changed t (change.CloseHandle number))
 keeps_closed s t k session number h at =
     let p = dropped_set s k.sessions k.handles session number h at in
     let w = k.led session number h at in
     subst (λ (x : StoreState). Keeps x (changed t (change.CloseHandle number)))
-    (sym (ap (λ (o : Option OpenHandle). closed_by (handle_dropped s session number (handles_of s session)) o) at ∙ ap (λ (z : StoreState). let_go z h.node) p.1))
+    (sym (ap (λ (o : Option OpenHandle). closed_by (handle_dropped s session number (handles_of s session)) o) at ∙ ap (λ (z : StoreState). after_close z h.node) p.1))
     (keeps_gone_or_not s t k session number h at w.0 w.1.0 w.1.1 p.0 p.2)

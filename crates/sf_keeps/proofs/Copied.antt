@@ -6,8 +6,8 @@ use Rattle.std.proofs.lemmas.Bool.{cases_eq}
 use Rattle.sf_inode.specs.declared.node.Node.{Node}
 use Rattle.sf_inode.specs.declared.node.Content.{Content}
 use Rattle.sf_inode.specs.declared.node.Content.TheVariants as content
-use Rattle.sf_inode.specs.Nodes.{left_in, is_file_content, with_content, with_left}
-use Rattle.sf_inode.specs.Stores.{StoreState, node_in, shown_node, shown_of, holder_of, left_at, left_set, is_file_at}
+use Rattle.sf_inode.specs.Nodes.{blocks_left_in, is_file_content, with_content, with_left}
+use Rattle.sf_inode.specs.Stores.{StoreState, node_in, shown_node, shown_of, holder_of, blocks_left_at, left_set, is_file_at}
 use Rattle.sf_keeps.proofs.Untouched.{edited_apart, edited_itself}
 use Rattle.sf_keeps.proofs.StoreBytes.{object_left}
 
@@ -64,18 +64,18 @@ left_shown k s id i = elim (cases_eq i id) [
   | inr ne ↦ ap (option_map shown_node) (edited_apart (with_content (with_left k)) s id i ne)
 ]
 
-left_by : (k : ℕ) (o : Option Node) → option_map_or (λ (node : Node). is_file_content node.content) o false ≡ true → option_map_or (λ (node : Node). left_in node.content) (option_map (with_content (with_left k)) o) 0 ≡ k
+left_by : (k : ℕ) (o : Option Node) → option_map_or (λ (node : Node). is_file_content node.content) o false ≡ true → option_map_or (λ (node : Node). blocks_left_in node.content) (option_map (with_content (with_left k)) o) 0 ≡ k
 left_by k None file = absurd (cc)
-left_by k (Some node) file = elim node.content as (λ c. is_file_content c ≡ true → left_in (with_left k c) ≡ k) [
+left_by k (Some node) file = elim node.content as (λ c. is_file_content c ≡ true → blocks_left_in (with_left k c) ≡ k) [
   | content.Directory es ↦ λ e. absurd (cc)
   | content.File contents ↦ λ e. refl
 ] file
 
 -- so many blocks of a file are left then, and as many of each other one as were
-pub left_there : (k : ℕ) (s : StoreState) (id : ℕ) → is_file_at s.nodes id ≡ true → left_at (left_set s id k).nodes id ≡ k
+pub left_there : (k : ℕ) (s : StoreState) (id : ℕ) → is_file_at s.nodes id ≡ true → blocks_left_at (left_set s id k).nodes id ≡ k
 left_there k s id file =
-    ap (λ (o : Option Node). option_map_or (λ (node : Node). left_in node.content) o 0) (edited_itself (with_content (with_left k)) s id)
+    ap (λ (o : Option Node). option_map_or (λ (node : Node). blocks_left_in node.content) o 0) (edited_itself (with_content (with_left k)) s id)
     ∙ left_by k (node_in s.nodes id) file
 
-pub left_others : (k : ℕ) (s : StoreState) (id i : ℕ) → i ≢ id → left_at (left_set s id k).nodes i ≡ left_at s.nodes i
-left_others k s id i ne = ap (λ (o : Option Node). option_map_or (λ (node : Node). left_in node.content) o 0) (edited_apart (with_content (with_left k)) s id i ne)
+pub left_others : (k : ℕ) (s : StoreState) (id i : ℕ) → i ≢ id → blocks_left_at (left_set s id k).nodes i ≡ blocks_left_at s.nodes i
+left_others k s id i ne = ap (λ (o : Option Node). option_map_or (λ (node : Node). blocks_left_in node.content) o 0) (edited_apart (with_content (with_left k)) s id i ne)

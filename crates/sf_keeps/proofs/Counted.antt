@@ -10,9 +10,9 @@ use Rattle.sf_call.specs.declared.handle.Handle.{Handle}
 use Rattle.sf_call.specs.Tree.{Tree, handle_of, links}
 use Rattle.sf_inode.specs.declared.node.Node.{Node}
 use Rattle.sf_inode.specs.declared.handle.OpenHandle.{OpenHandle}
-use Rattle.sf_keeps.specs.Steps.{Steps}
+use Rattle.sf_keeps.specs.Steps.{EntryMap}
 use Rattle.sf_keeps.specs.Shows.{Shows}
-use Rattle.sf_inode.specs.Stores.{StoreState, node_in, entry_of, handle_at, handles_of, with_sessions}
+use Rattle.sf_inode.specs.Stores.{StoreState, node_in, child_of, open_handle_at, handles_of, with_sessions}
 use Rattle.sf_keeps.specs.Keeps.{view_of, Keeps, times_open}
 use Rattle.sf_keeps.proofs.Sound.{IsBare}
 use Rattle.sf_keeps.proofs.InOrder.{InOrder}
@@ -30,7 +30,7 @@ mark_of node = (node.label, node.names, node.opens)
 abbrev pub marks_of : List (Option Node) → Marks
 marks_of nodes id = option_map mark_of (node_in nodes id)
 
-pub record IsMarked (step : Steps) (marks : Marks) (paths count : ℕ → ℕ) (handles : ℕ → ℕ → Option OpenHandle) : Type 0 where
+pub record IsMarked (step : EntryMap) (marks : Marks) (paths count : ℕ → ℕ) (handles : ℕ → ℕ → Option OpenHandle) : Type 0 where
   pub bare : (id label opens : ℕ) → marks id ≡ Some (label, 0, opens) → IsBare step id
   pub linked : (id label names opens : ℕ) → marks id ≡ Some (label, names, opens) → names ≡ paths label
   pub counted : (id label names opens : ℕ) → marks id ≡ Some (label, names, opens) → opens ≡ count label
@@ -50,7 +50,7 @@ marks_found nodes id label names opens at =
     ] refl at
 
 -- ---- a kept store is so
-pub marked : (s : StoreState) (t : Tree) → Keeps s t → IsMarked (entry_of s.nodes) (marks_of s.nodes) (links t.names) (times_open t) (handle_at s)
+pub marked : (s : StoreState) (t : Tree) → Keeps s t → IsMarked (child_of s.nodes) (marks_of s.nodes) (links t.names) (times_open t) (open_handle_at s)
 marked s t k = record {
   bare = λ id label opens e. let w = marks_found s.nodes id label 0 opens e in k.bare id w.0 w.1 w.3;
   linked = λ id label names opens e. let w = marks_found s.nodes id label names opens e in sym w.3 ∙ k.linked id w.0 w.1 ∙ ap (links t.names) w.2;
@@ -59,13 +59,13 @@ marked s t k = record {
 }
 
 -- what is so is kept, where handles stay
-pub keeps_marked : (s new : StoreState) (t after : Tree) (step : Steps) (marks : Marks) → Keeps s t → Shows (view_of new) after
-    → ((x : ℕ) (m : Name) → entry_of new.nodes x m ≡ step x m) → ((i : ℕ) → marks_of new.nodes i ≡ marks i) → new.sessions ≡ s.sessions → after.handles ≡ t.handles
-    → IsMarked step marks (links after.names) (times_open t) (handle_at s) → InOrder new.nodes → Keeps new after
+pub keeps_marked : (s new : StoreState) (t after : Tree) (step : EntryMap) (marks : Marks) → Keeps s t → Shows (view_of new) after
+    → ((x : ℕ) (m : Name) → child_of new.nodes x m ≡ step x m) → ((i : ℕ) → marks_of new.nodes i ≡ marks i) → new.sessions ≡ s.sessions → after.handles ≡ t.handles
+    → IsMarked step marks (links after.names) (times_open t) (open_handle_at s) → InOrder new.nodes → Keeps new after
 keeps_marked s new t after step marks k shows steps says sessions handles m ordered =
-    let is : IsMarked (entry_of new.nodes) (marks_of new.nodes) (links after.names) (times_open t) (handle_at s) =
-    subst (λ (w : Steps × Marks). IsMarked w.0 w.1 (links after.names) (times_open t) (handle_at s)) (sym (λ i. ((λ x n. steps x n i), (λ x. says x i)))) m in
-    let alike : (session number : ℕ) → handle_at new session number ≡ handle_at s session number = λ session number. ap (λ (hs : List (ℕ × List (ℕ × OpenHandle))). handle_at (with_sessions s hs) session number) sessions in
+    let is : IsMarked (child_of new.nodes) (marks_of new.nodes) (links after.names) (times_open t) (open_handle_at s) =
+    subst (λ (w : EntryMap × Marks). IsMarked w.0 w.1 (links after.names) (times_open t) (open_handle_at s)) (sym (λ i. ((λ x n. steps x n i), (λ x. says x i)))) m in
+    let alike : (session number : ℕ) → open_handle_at new session number ≡ open_handle_at s session number = λ session number. ap (λ (hs : List (ℕ × List (ℕ × OpenHandle))). open_handle_at (with_sessions s hs) session number) sessions in
     record {
       shows = shows;
       entries = ordered;
@@ -82,7 +82,7 @@ keeps_marked s new t after step marks k shows steps says sessions handles m orde
     }
 
 -- ---- other entries
-module _ (step new : Steps) (marks : Marks) (paths after count : ℕ → ℕ) (handles : ℕ → ℕ → Option OpenHandle) (m : IsMarked step marks paths count handles) where
+module _ (step new : EntryMap) (marks : Marks) (paths after count : ℕ → ℕ) (handles : ℕ → ℕ → Option OpenHandle) (m : IsMarked step marks paths count handles) where
   -- as many paths of each node
   pub marked_same : ((id label opens : ℕ) → marks id ≡ Some (label, 0, opens) → IsBare step id → IsBare new id) → ((label : ℕ) → after label ≡ paths label) → IsMarked new marks after count handles
   marked_same bare same = record {

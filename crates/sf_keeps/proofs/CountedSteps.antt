@@ -4,17 +4,17 @@ use Rattle.std.proofs.Common.{sym, ap, ◌∙◌, arith, inl, inr, eqb-true}
 use Rattle.sf_path.specs.Names.{Name}
 use Rattle.sf_path.specs.Order.{same_name}
 use Rattle.sf_inode.specs.declared.handle.OpenHandle.{OpenHandle}
-use Rattle.sf_keeps.specs.Steps.{Steps, changed_step}
+use Rattle.sf_keeps.specs.Steps.{EntryMap, changed_step}
 use Rattle.sf_keeps.proofs.Sound.{HasNoEntry, IsBare, step_less, step_more, changed_there}
 use Rattle.sf_keeps.proofs.Shown.{nat_eq_apart}
 use Rattle.sf_keeps.proofs.Counted.{Mark, Marks, IsMarked, mark_same}
 
 -- one entry at most leads to a node
-abbrev pub HasOneEntry : Steps → ℕ → Type 0
+abbrev pub HasOneEntry : EntryMap → ℕ → Type 0
 HasOneEntry step c = (x y : ℕ) (n m : Name) → step x n ≡ Some c → step y m ≡ Some c → (x ≡ y) × (n ≡ m)
 
 -- ---- an entry less
-module _ (step : Steps) (d : ℕ) (n : Name) where
+module _ (step : EntryMap) (d : ℕ) (n : Name) where
   pub bare_less : (id : ℕ) → IsBare step id → IsBare (changed_step step d n None) id
   bare_less id bare m = elim (nat_eq d id && same_name n m) as (λ b. cond b None (step id m) ≡ None) [ true ↦ refl | false ↦ bare m ]
 
@@ -25,19 +25,19 @@ module _ (step : Steps) (d : ℕ) (n : Name) where
       let gone : changed_step step d n None x m ≡ None = (λ i. changed_step step d n None (sym same.0 i) (sym same.1 i)) ∙ changed_there step d n None in cc
 
 -- ---- an entry more
-module _ (step : Steps) (d : ℕ) (n : Name) (c : ℕ) where
+module _ (step : EntryMap) (d : ℕ) (n : Name) (c : ℕ) where
   pub bare_more : (id : ℕ) → nat_eq d id ≡ false → IsBare step id → IsBare (changed_step step d n (Some c)) id
   bare_more id apart bare m = ap (λ b. cond (b && same_name n m) (Some c) (step id m)) apart ∙ bare m
 
 -- what has an entry is not bare
-pub bare_apart : (step : Steps) (d id : ℕ) (n : Name) (c : ℕ) → step d n ≡ Some c → IsBare step id → nat_eq d id ≡ false
+pub bare_apart : (step : EntryMap) (d id : ℕ) (n : Name) (c : ℕ) → step d n ≡ Some c → IsBare step id → nat_eq d id ≡ false
 bare_apart step d id n c there bare = nat_eq_apart d id (λ e. let f = ap (λ (x : ℕ). step x n) e in let g = bare n in cc)
 
 -- ---- a new node
-module _ (old : Steps) (d : ℕ) (n : Name) (c label : ℕ) (marks : Marks) (paths after count : ℕ → ℕ) (handles : ℕ → ℕ → Option OpenHandle) (m : IsMarked old marks paths count handles)
+module _ (old : EntryMap) (d : ℕ) (n : Name) (c label : ℕ) (marks : Marks) (paths after count : ℕ → ℕ) (handles : ℕ → ℕ → Option OpenHandle) (m : IsMarked old marks paths count handles)
     (new : marks c ≡ None) (bare : IsBare old c) (apart : nat_eq d c ≡ false) (away : (id l o : ℕ) → marks id ≡ Some (l, 0, o) → nat_eq d id ≡ false)
     (others : (id l b o : ℕ) → marks id ≡ Some (l, b, o) → after l ≡ paths l) (own : 1 ≡ after label) (closed : count label ≡ 0) where
-  abbrev step : Steps
+  abbrev step : EntryMap
   step = changed_step old d n (Some c)
 
   abbrev fresh : Mark
@@ -65,11 +65,11 @@ module _ (old : Steps) (d : ℕ) (n : Name) (c label : ℕ) (marks : Marks) (pat
   }
 
 -- ---- a moved entry
-module _ (step : Steps) (od : ℕ) (on : Name) (nd : ℕ) (nn : Name) (c : ℕ) where
-  abbrev taken : Steps
+module _ (step : EntryMap) (od : ℕ) (on : Name) (nd : ℕ) (nn : Name) (c : ℕ) where
+  abbrev taken : EntryMap
   taken = changed_step step od on None
 
-  abbrev moved : Steps
+  abbrev moved : EntryMap
   moved = changed_step taken nd nn (Some c)
 
   pub bare_moved : (id : ℕ) → nat_eq nd id ≡ false → IsBare step id → IsBare moved id

@@ -5,16 +5,16 @@ use Rattle.std.specs.List.{list_any}
 use Rattle.std.proofs.Common.{sym, ap, ◌∙◌, append_assoc}
 use Rattle.sf_path.specs.Names.{Name, Path}
 use Rattle.sf_call.specs.declared.metadata.Metadata.{Metadata}
-use Rattle.sf_call.specs.declared.place.Place.TheVariants.{NoWay, Absent, At}
+use Rattle.sf_call.specs.declared.lookup.Lookup.TheVariants.{NoWay, Absent, At}
 use Rattle.sf_call.specs.Attributes.{Object}
 use Rattle.sf_call.specs.Attributes.Object.{Directory}
-use Rattle.sf_call.specs.Tree.{Tree, directory_metadata, directory_at, label_at, object_of, is_directory, proper_fronts, is_faulty_way, place_of, place_at, found_object, found_place, found_at}
+use Rattle.sf_call.specs.Tree.{Tree, directory_metadata, directory_at, label_at, object_of, is_directory, proper_fronts, is_faulty_way, lookup_of, look_up, found_object, found_place, found_at}
 use Rattle.sf_inode.specs.declared.node.Node.{Node}
 use Rattle.sf_inode.specs.declared.node.Content.TheVariants as content
 use Rattle.sf_inode.specs.Nodes.{object_in, is_directory_content, is_file_content}
 use Rattle.sf_keeps.specs.Steps.{walk}
 use Rattle.sf_keeps.specs.Shows.{View, ShowsBy, is_directory_by, label_by}
-use Rattle.sf_inode.specs.Stores.{StoreState, node_in, entry_of, shown_node, shown_of, is_directory_at, is_file_at}
+use Rattle.sf_inode.specs.Stores.{StoreState, node_in, child_of, shown_node, shown_of, is_directory_at, is_file_at}
 use Rattle.sf_keeps.specs.Keeps.{view_of, Keeps}
 use Rattle.sf_keeps.proofs.Sound.{is_directory_shown, reached_there}
 use Rattle.sf_keeps.proofs.Whole.{one_more}
@@ -98,9 +98,9 @@ module _ (view : View) (t : Tree) (s : ShowsBy view t) where
       ] refl w
 
   -- no way leads on from what is no directory
-  no_way : (p : Path) (m : Name) (q : Path) → leads_to_directory (walk view.step view.root p) ≡ false → place_at t (p ++ m ∷ q) ≡ NoWay
+  no_way : (p : Path) (m : Name) (q : Path) → leads_to_directory (walk view.step view.root p) ≡ false → look_up t (p ++ m ∷ q) ≡ NoWay
   no_way p m q e =
-      ap (λ (b : Bool). if b then NoWay else place_of (label_at t.names (p ++ m ∷ q)))
+      ap (λ (b : Bool). if b then NoWay else lookup_of (label_at t.names (p ++ m ∷ q)))
       (way_by (p ++ m ∷ q) ∙ fails_at (λ front. leads_to_directory (walk view.step view.root front)) p m q e)
 
 -- ---- in a kept store
@@ -122,47 +122,47 @@ no_file nodes x = elim (node_in nodes x) as (λ o. option_map_or (λ (it : Node)
 
 module _ (s : StoreState) (t : Tree) (k : Keeps s t) where
   -- a name further
-  pub walk_on : (p : Path) (dir : ℕ) (n : Name) → walk (entry_of s.nodes) s.root p ≡ Some dir → walk (entry_of s.nodes) s.root (p ++ n ∷ []) ≡ entry_of s.nodes dir n
+  pub walk_on : (p : Path) (dir : ℕ) (n : Name) → walk (child_of s.nodes) s.root p ≡ Some dir → walk (child_of s.nodes) s.root (p ++ n ∷ []) ≡ child_of s.nodes dir n
   walk_on p dir n at = one_more (view_of s) t k.shows p dir n at
 
-  pub label_found : (path : Path) → label_at t.names path ≡ option_map (λ (node : Node). node.label) (option_and_then (node_in s.nodes) (walk (entry_of s.nodes) s.root path))
-  label_found path = k.shows.by.names path ∙ label_in s.nodes (walk (entry_of s.nodes) s.root path)
+  pub label_found : (path : Path) → label_at t.names path ≡ option_map (λ (node : Node). node.label) (option_and_then (node_in s.nodes) (walk (child_of s.nodes) s.root path))
+  label_found path = k.shows.by.names path ∙ label_in s.nodes (walk (child_of s.nodes) s.root path)
 
-  pub way_found : (p : Path) (dir : ℕ) (n : Name) → walk (entry_of s.nodes) s.root p ≡ Some dir → is_directory_at s.nodes dir ≡ true → is_faulty_way t (p ++ n ∷ []) ≡ false
+  pub way_found : (p : Path) (dir : ℕ) (n : Name) → walk (child_of s.nodes) s.root p ≡ Some dir → is_directory_at s.nodes dir ≡ true → is_faulty_way t (p ++ n ∷ []) ≡ false
   way_found p dir n at is = way_by (view_of s) t k.shows.by (p ++ n ∷ []) ∙ clear_name (view_of s) t k.shows.by p n s.root dir at (directory_in s.nodes dir ∙ is)
 
   -- what a way leads to stands there
-  pub place_found : (path : Path) (id : ℕ) (node : Node) → walk (entry_of s.nodes) s.root path ≡ Some id → node_in s.nodes id ≡ Some node → place_at t path ≡ At node.label
+  pub place_found : (path : Path) (id : ℕ) (node : Node) → walk (child_of s.nodes) s.root path ≡ Some id → node_in s.nodes id ≡ Some node → look_up t path ≡ At node.label
   place_found path id node at here =
-      ap (λ (b : Bool). if b then NoWay else place_of (label_at t.names path)) (way_by (view_of s) t k.shows.by path ∙ clear_way (view_of s) t k.shows.by path s.root id at)
-      ∙ ap place_of (label_found path ∙ ap (λ (w : Option ℕ). option_map (λ (node : Node). node.label) (option_and_then (node_in s.nodes) w)) at ∙ ap (option_map (λ (node : Node). node.label)) here)
+      ap (λ (b : Bool). if b then NoWay else lookup_of (label_at t.names path)) (way_by (view_of s) t k.shows.by path ∙ clear_way (view_of s) t k.shows.by path s.root id at)
+      ∙ ap lookup_of (label_found path ∙ ap (λ (w : Option ℕ). option_map (λ (node : Node). node.label) (option_and_then (node_in s.nodes) w)) at ∙ ap (option_map (λ (node : Node). node.label)) here)
 
-  pub object_found : (path : Path) (id : ℕ) (node : Node) → walk (entry_of s.nodes) s.root path ≡ Some id → node_in s.nodes id ≡ Some node → found_at t path ≡ found_object node.label (Some (object_in node.metadata node.content))
+  pub object_found : (path : Path) (id : ℕ) (node : Node) → walk (child_of s.nodes) s.root path ≡ Some id → node_in s.nodes id ≡ Some node → found_at t path ≡ found_object node.label (Some (object_in node.metadata node.content))
   object_found path id node at here = ap (found_place t.objects) (place_found path id node at here) ∙ ap (found_object node.label) (object_there s t k id node here)
 
   -- a name that a directory has not
-  pub absent_found : (p : Path) (dir : ℕ) (n : Name) → walk (entry_of s.nodes) s.root p ≡ Some dir → is_directory_at s.nodes dir ≡ true → entry_of s.nodes dir n ≡ None → place_at t (p ++ n ∷ []) ≡ Absent
+  pub absent_found : (p : Path) (dir : ℕ) (n : Name) → walk (child_of s.nodes) s.root p ≡ Some dir → is_directory_at s.nodes dir ≡ true → child_of s.nodes dir n ≡ None → look_up t (p ++ n ∷ []) ≡ Absent
   absent_found p dir n at is none =
-      ap (λ (b : Bool). if b then NoWay else place_of (label_at t.names (p ++ n ∷ []))) (way_found p dir n at is)
-      ∙ ap place_of (label_found (p ++ n ∷ []) ∙ ap (λ (w : Option ℕ). option_map (λ (node : Node). node.label) (option_and_then (node_in s.nodes) w)) (walk_on p dir n at ∙ none))
+      ap (λ (b : Bool). if b then NoWay else lookup_of (label_at t.names (p ++ n ∷ []))) (way_found p dir n at is)
+      ∙ ap lookup_of (label_found (p ++ n ∷ []) ∙ ap (λ (w : Option ℕ). option_map (λ (node : Node). node.label) (option_and_then (node_in s.nodes) w)) (walk_on p dir n at ∙ none))
 
-  pub no_way_on : (p : Path) (dir : ℕ) (n m : Name) (q : Path) → walk (entry_of s.nodes) s.root p ≡ Some dir → entry_of s.nodes dir n ≡ None → place_at t (p ++ n ∷ m ∷ q) ≡ NoWay
+  pub no_way_on : (p : Path) (dir : ℕ) (n m : Name) (q : Path) → walk (child_of s.nodes) s.root p ≡ Some dir → child_of s.nodes dir n ≡ None → look_up t (p ++ n ∷ m ∷ q) ≡ NoWay
   no_way_on p dir n m q at none =
-      ap (λ (z : Path). place_at t z) (sym (append_assoc p (n ∷ []) (m ∷ q)))
+      ap (λ (z : Path). look_up t z) (sym (append_assoc p (n ∷ []) (m ∷ q)))
       ∙ no_way (view_of s) t k.shows.by (p ++ n ∷ []) m q (ap (leads_to_directory (view_of s) t k.shows.by) (walk_on p dir n at ∙ none))
 
-  pub file_in_way : (p : Path) (id : ℕ) (n : Name) (q : Path) → walk (entry_of s.nodes) s.root p ≡ Some id → is_file_at s.nodes id ≡ true → place_at t (p ++ n ∷ q) ≡ NoWay
+  pub file_in_way : (p : Path) (id : ℕ) (n : Name) (q : Path) → walk (child_of s.nodes) s.root p ≡ Some id → is_file_at s.nodes id ≡ true → look_up t (p ++ n ∷ q) ≡ NoWay
   file_in_way p id n q at is = no_way (view_of s) t k.shows.by p n q (ap (leads_to_directory (view_of s) t k.shows.by) at ∙ directory_in s.nodes id ∙ no_file s.nodes id is)
 
   -- what a path leads to is there
-  pub reached_node : (path : Path) (id : ℕ) → walk (entry_of s.nodes) s.root path ≡ Some id → (node : Node) × (node_in s.nodes id ≡ Some node)
+  pub reached_node : (path : Path) (id : ℕ) → walk (child_of s.nodes) s.root path ≡ Some id → (node : Node) × (node_in s.nodes id ≡ Some node)
   reached_node path id at = elim (node_in s.nodes id) as (λ o. node_in s.nodes id ≡ o → (node : Node) × (node_in s.nodes id ≡ Some node)) [
-    | None ↦ λ e. absurd (reached_there (entry_of s.nodes) (shown_of s.nodes) s.root k.shows.by.sound path id at (ap (option_map shown_node) e))
+    | None ↦ λ e. absurd (reached_there (child_of s.nodes) (shown_of s.nodes) s.root k.shows.by.sound path id at (ap (option_map shown_node) e))
     | Some node ↦ λ e. (node, e)
   ] refl
 
   -- a path's directory, with its metadata
-  pub directory_found : (path : Path) (dir label : ℕ) (m : Metadata) → walk (entry_of s.nodes) s.root path ≡ Some dir → shown_of s.nodes dir ≡ Some (label, Directory m) → directory_at t path ≡ Some (label, m)
+  pub directory_found : (path : Path) (dir label : ℕ) (m : Metadata) → walk (child_of s.nodes) s.root path ≡ Some dir → shown_of s.nodes dir ≡ Some (label, Directory m) → directory_at t path ≡ Some (label, m)
   directory_found path dir label m at is =
       ap (option_and_then (directory_labelled t)) (k.shows.by.names path ∙ ap (option_and_then (label_by (shown_of s.nodes))) at ∙ ap (option_map (λ (z : ℕ × Object). z.0)) is)
       ∙ ap (λ (o : Option Object). paired label (option_and_then directory_metadata o)) (k.shows.by.objects dir label (Directory m) is)

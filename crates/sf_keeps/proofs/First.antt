@@ -10,10 +10,10 @@ use Rattle.sf_call.specs.Tree.{empty_tree, label_at, object_of}
 use Rattle.sf_inode.specs.declared.node.Node.{Node}
 use Rattle.sf_inode.specs.declared.node.Content.TheVariants as content
 use Rattle.sf_inode.specs.declared.handle.OpenHandle.{OpenHandle}
-use Rattle.sf_inode.specs.Nodes.{entry_in}
+use Rattle.sf_inode.specs.Nodes.{child_in}
 use Rattle.sf_keeps.specs.Steps.{walk}
 use Rattle.sf_keeps.specs.Shows.{Shows, label_by}
-use Rattle.sf_inode.specs.Stores.{StoreState, IsFirst, node_in, entry_of, shown_node, shown_of}
+use Rattle.sf_inode.specs.Stores.{StoreState, IsFirst, node_in, child_of, shown_node, shown_of}
 use Rattle.sf_keeps.specs.Keeps.{view_of}
 use Rattle.sf_keeps.proofs.Sound.{is_directory_shown}
 use Rattle.sf_keeps.proofs.Shown.{nat_same}
@@ -32,8 +32,8 @@ module _ (s : StoreState) (f : IsFirst s) where
         | false ↦ λ e. subst P (sym (f.others x (λ h. let g = eq-eqb s.root x (sym h) in cc))) none
       ] refl
 
-  pub no_steps : (x : ℕ) (n : Name) → entry_of s.nodes x n ≡ None
-  no_steps x n = root_or_none x (λ o. option_and_then (λ (z : Node). entry_in z.content n) o ≡ None) (λ _. refl) refl
+  pub no_steps : (x : ℕ) (n : Name) → child_of s.nodes x n ≡ None
+  no_steps x n = root_or_none x (λ o. option_and_then (λ (z : Node). child_in z.content n) o ≡ None) (λ _. refl) refl
 
   shown_root : shown_of s.nodes s.root ≡ Some (0, root_object)
   shown_root = ap (option_map shown_node) f.root
@@ -41,9 +41,9 @@ module _ (s : StoreState) (f : IsFirst s) where
   shown_first : (x label : ℕ) (o : Object) → shown_of s.nodes x ≡ Some (label, o) → (s.root ≡ x) × (◌≡◌ {A = Option (ℕ × Object)} (Some (0, root_object)) (Some (label, o)))
   shown_first x label o = root_or_none x (λ v. option_map shown_node v ≡ Some (label, o) → (s.root ≡ x) × (◌≡◌ {A = Option (ℕ × Object)} (Some (0, root_object)) (Some (label, o)))) (λ e g. (e, g)) (λ g. cc)
 
-  names_first : (q : Path) → label_at empty_tree.names q ≡ option_and_then (label_by (shown_of s.nodes)) (walk (entry_of s.nodes) s.root q)
+  names_first : (q : Path) → label_at empty_tree.names q ≡ option_and_then (label_by (shown_of s.nodes)) (walk (child_of s.nodes) s.root q)
   names_first [] = sym (ap (option_map (λ (x : ℕ × Object). x.0)) shown_root)
-  names_first (n ∷ q) = sym (ap (λ o. option_and_then (label_by (shown_of s.nodes)) (option_and_then (λ y. walk (entry_of s.nodes) y q) o)) (no_steps s.root n))
+  names_first (n ∷ q) = sym (ap (λ o. option_and_then (label_by (shown_of s.nodes)) (option_and_then (λ y. walk (child_of s.nodes) y q) o)) (no_steps s.root n))
 
   pub shows_first : Shows (view_of s) empty_tree
   shows_first = record {

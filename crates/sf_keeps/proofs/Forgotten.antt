@@ -9,10 +9,10 @@ use Rattle.sf_call.specs.Tree.{Tree, is_nil, links}
 use Rattle.sf_inode.specs.declared.node.Node.{Node}
 use Rattle.sf_inode.specs.declared.node.Content.{Content}
 use Rattle.sf_inode.specs.declared.node.Content.TheVariants as content
-use Rattle.sf_inode.specs.Nodes.{entry_in, is_directory_content, is_bare_content, with_content, without_name, is_unused}
-use Rattle.sf_keeps.specs.Steps.{Steps}
+use Rattle.sf_inode.specs.Nodes.{child_in, is_directory_content, is_bare_content, with_content, without_name, is_unused}
+use Rattle.sf_keeps.specs.Steps.{EntryMap}
 use Rattle.sf_keeps.specs.Shows.{View, Shows}
-use Rattle.sf_inode.specs.Stores.{StoreState, node_in, entry_of, handle_at, with_nodes, edited, released_if, forgotten}
+use Rattle.sf_inode.specs.Stores.{StoreState, node_in, child_of, open_handle_at, with_nodes, edited, released_if, forgotten}
 use Rattle.sf_keeps.specs.Keeps.{view_of, Keeps, times_open}
 use Rattle.sf_keeps.proofs.Sound.{IsBare}
 use Rattle.sf_keeps.proofs.StoreLaws.{node_in-edited, node_in-set, view_stays, view_goes, changed_there}
@@ -35,9 +35,9 @@ directory_at nodes d is =
     ] refl is
 
 -- a node that leads somewhere is there
-pub entry_above : (nodes : List (Option Node)) (d c : ℕ) (n : Name) → entry_of nodes d n ≡ Some c → (node : Node) × (node_in nodes d ≡ Some node)
+pub entry_above : (nodes : List (Option Node)) (d c : ℕ) (n : Name) → child_of nodes d n ≡ Some c → (node : Node) × (node_in nodes d ≡ Some node)
 entry_above nodes d c n there =
-    elim (node_in nodes d) as (λ o. node_in nodes d ≡ o → option_and_then (λ (z : Node). entry_in z.content n) o ≡ Some c → (node : Node) × (node_in nodes d ≡ Some node)) [
+    elim (node_in nodes d) as (λ o. node_in nodes d ≡ o → option_and_then (λ (z : Node). child_in z.content n) o ≡ Some c → (node : Node) × (node_in nodes d ≡ Some node)) [
       | None ↦ λ e f. absurd (cc)
       | Some node ↦ λ e f. (node, e)
     ] refl there
@@ -46,14 +46,14 @@ bare_nil : (es : List (Name × ℕ)) (m : Name) → is_nil es ≡ true → looku
 bare_nil [] m e = refl
 bare_nil (x ∷ es) m e = absurd (cc)
 
-bare_content : (c : Content) (m : Name) → is_bare_content c ≡ true → entry_in c m ≡ None
+bare_content : (c : Content) (m : Name) → is_bare_content c ≡ true → child_in c m ≡ None
 bare_content (content.Directory es) m e = bare_nil es m e
 bare_content (content.File contents) m e = refl
 
 -- what is a file or an empty directory has no entries
-pub bare_at : (nodes : List (Option Node)) (c : ℕ) → option_map_or (λ (it : Node). is_bare_content it.content) (node_in nodes c) false ≡ true → IsBare (entry_of nodes) c
+pub bare_at : (nodes : List (Option Node)) (c : ℕ) → option_map_or (λ (it : Node). is_bare_content it.content) (node_in nodes c) false ≡ true → IsBare (child_of nodes) c
 bare_at nodes c is m =
-    elim (node_in nodes c) as (λ o. option_map_or (λ (it : Node). is_bare_content it.content) o false ≡ true → option_and_then (λ (z : Node). entry_in z.content m) o ≡ None) [
+    elim (node_in nodes c) as (λ o. option_map_or (λ (it : Node). is_bare_content it.content) o false ≡ true → option_and_then (λ (z : Node). child_in z.content m) o ≡ None) [
       | None ↦ λ e. refl
       | Some node ↦ λ e. bare_content node.content m e
     ] is
@@ -72,15 +72,15 @@ kept_released f s id None same = refl
 kept_released f s id (Some node) same =
     elim (is_unused node) as (λ b. f (cond b (with_nodes s (slice_set s.nodes id None)) s) ≡ f s) [ true ↦ same (slice_set s.nodes id None) | false ↦ refl ]
 
-module _ (s : StoreState) (c : ℕ) (node : Node) (here : node_in s.nodes c ≡ Some node) (bare : IsBare (entry_of s.nodes) c) where
+module _ (s : StoreState) (c : ℕ) (node : Node) (here : node_in s.nodes c ≡ Some node) (bare : IsBare (child_of s.nodes) c) where
   abbrev pub mark_left : Option Mark
   mark_left = cond (is_unused (without_name node)) None (Some (node.label, node.names - 1, node.opens))
 
   abbrev unnamed : StoreState
   unnamed = edited without_name s c
 
-  pub steps_forgotten : (x : ℕ) (m : Name) → entry_of (forgotten s c).nodes x m ≡ entry_of s.nodes x m
-  steps_forgotten x m = elim (is_unused (without_name node)) as (λ b. is_unused (without_name node) ≡ b → entry_of (forgotten s c).nodes x m ≡ entry_of s.nodes x m) [
+  pub steps_forgotten : (x : ℕ) (m : Name) → child_of (forgotten s c).nodes x m ≡ child_of s.nodes x m
+  steps_forgotten x m = elim (is_unused (without_name node)) as (λ b. is_unused (without_name node) ≡ b → child_of (forgotten s c).nodes x m ≡ child_of s.nodes x m) [
     | true ↦ λ e. ap (λ (v : View). v.step x m) (view_goes without_name s c node here (λ m. refl) refl bare e)
     | false ↦ λ e. ap (λ (v : View). v.step x m) (view_stays without_name s c node here (λ m. refl) refl e)
   ] refl
@@ -116,11 +116,11 @@ opened_stays : (names opens : ℕ) → nat_eq opens 0 ≡ false → nat_eq names
 opened_stays names opens e = ap (λ b. nat_eq names 0 && b) e ∙ elim (nat_eq names 0) as (λ b. b && false ≡ false) [ true ↦ refl | false ↦ refl ]
 
 -- a kept store with another entry, whose node then has a name less
-pub keeps_forgotten : (s mid : StoreState) (t after : Tree) (step : Steps) (c : ℕ) (node : Node) → Keeps s t → node_in mid.nodes c ≡ Some node → InOrder mid.nodes → ((x : ℕ) (m : Name) → entry_of mid.nodes x m ≡ step x m)
-    → ((i : ℕ) → marks_of mid.nodes i ≡ marks_of s.nodes i) → mid.sessions ≡ s.sessions → IsBare step c → ((id l o : ℕ) → marks_of s.nodes id ≡ Some (l, 0, o) → IsBare (entry_of s.nodes) id → IsBare step id)
+pub keeps_forgotten : (s mid : StoreState) (t after : Tree) (step : EntryMap) (c : ℕ) (node : Node) → Keeps s t → node_in mid.nodes c ≡ Some node → InOrder mid.nodes → ((x : ℕ) (m : Name) → child_of mid.nodes x m ≡ step x m)
+    → ((i : ℕ) → marks_of mid.nodes i ≡ marks_of s.nodes i) → mid.sessions ≡ s.sessions → IsBare step c → ((id l o : ℕ) → marks_of s.nodes id ≡ Some (l, 0, o) → IsBare (child_of s.nodes) id → IsBare step id)
     → ((label : ℕ) → label ≢ node.label → links after.names label ≡ links t.names label) → node.names - 1 ≡ links after.names node.label → after.handles ≡ t.handles → Shows (view_of (forgotten mid c)) after → Keeps (forgotten mid c) after
 keeps_forgotten s mid t after step c node k here ordered steps marks sessions gone bares others own handles shows =
-    let bare : IsBare (entry_of mid.nodes) c = λ m. steps c m ∙ gone m in
+    let bare : IsBare (child_of mid.nodes) c = λ m. steps c m ∙ gone m in
     let unnamed = edited without_name mid c in
     let at : marks_of s.nodes c ≡ Some (mark_of node) = sym (marks c) ∙ ap (option_map mark_of) here in
     let was = mark_node s.nodes c (mark_of node) at in
@@ -129,7 +129,7 @@ keeps_forgotten s mid t after step c node k here ordered steps marks sessions go
     (λ i. marks_forgotten mid c node here bare i ∙ ap (cond (nat_eq c i) (mark_left mid c node here bare)) (marks i))
     (kept_released (λ (x : StoreState). x.sessions) unnamed c (node_in unnamed.nodes c) (λ _. refl) ∙ sessions)
     handles
-    (marked_left (entry_of s.nodes) step (marks_of s.nodes) (links t.names) (links after.names) (times_open t) (handle_at s) (marked s t k) c node.label node.names node.opens at
+    (marked_left (child_of s.nodes) step (marks_of s.nodes) (links t.names) (links after.names) (times_open t) (open_handle_at s) (marked s t k) c node.label node.names node.opens at
     (node.names - 1) (is_unused (without_name node)) gone bares
     (λ id l b o other e. others l (λ same.
     let w = mark_node s.nodes id (l, b, o) e in

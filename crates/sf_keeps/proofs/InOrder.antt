@@ -11,14 +11,14 @@ use Rattle.sf_inode.specs.declared.node.Content.{Content}
 use Rattle.sf_inode.specs.declared.node.Content.TheVariants as content
 use Rattle.sf_block.specs.Contents.{FileBytes}
 use Rattle.sf_inode.specs.Nodes.{entries_in, less_content, more_content, with_file, with_left}
-use Rattle.sf_inode.specs.Stores.{node_in, entries_at}
+use Rattle.sf_inode.specs.Stores.{node_in, node_entries}
 
 abbrev pub IsInOrder : Content → Type 0
 IsInOrder c = T (is_sorted name_cmp (entries_in c))
 
 -- of each node that is there
 abbrev pub InOrder : List (Option Node) → Type 0
-InOrder nodes = (id : ℕ) → T (is_sorted name_cmp (entries_at nodes id))
+InOrder nodes = (id : ℕ) → T (is_sorted name_cmp (node_entries nodes id))
 
 abbrev pub entries_of_node : Option Node → List (Name × ℕ)
 entries_of_node o = option_map_or (λ (it : Node). entries_in it.content) o []

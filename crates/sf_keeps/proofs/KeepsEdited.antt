@@ -13,9 +13,9 @@ use Rattle.sf_inode.specs.declared.node.Node.{Node}
 use Rattle.sf_inode.specs.declared.node.Content.{Content}
 use Rattle.sf_inode.specs.declared.node.Content.TheVariants as content
 use Rattle.sf_block.specs.Contents.{FileBytes}
-use Rattle.sf_inode.specs.Nodes.{entry_in, object_in, is_file_content, with_content, with_metadata, with_file, with_left, with_holder}
+use Rattle.sf_inode.specs.Nodes.{child_in, object_in, is_file_content, with_content, with_metadata, with_file, with_left, with_holder}
 use Rattle.sf_keeps.specs.Shows.{View, Shows}
-use Rattle.sf_inode.specs.Stores.{StoreState, node_in, entry_of, handle_at, shown_node, edited, edited_by, with_nodes, looked_up, is_file_at, file_set, left_set}
+use Rattle.sf_inode.specs.Stores.{StoreState, node_in, child_of, open_handle_at, shown_node, edited, edited_by, with_nodes, looked_up, is_file_at, file_set, left_set}
 use Rattle.sf_keeps.specs.Keeps.{view_of, Keeps, times_open}
 use Rattle.sf_keeps.proofs.StoreLaws.{node_in-edited, entry_same, shows_edited, view_unseen, kind_metadata}
 use Rattle.sf_keeps.proofs.StoreBytes.{entry_stored, kind_stored, entry_left, object_left}
@@ -33,14 +33,14 @@ marks_same before after d node node' at put same i =
     ] refl
 
 module _ (f : Node → Node) (s : StoreState) (t : Tree) (id : ℕ) (node : Node) (k : Keeps s t) (here : node_in s.nodes id ≡ Some node)
-    (entries : (m : Name) → entry_in (f node).content m ≡ entry_in node.content m) (same : mark_of (f node) ≡ mark_of node) (own : IsInOrder (f node).content) where
+    (entries : (m : Name) → child_in (f node).content m ≡ child_in node.content m) (same : mark_of (f node) ≡ mark_of node) (own : IsInOrder (f node).content) where
   keeps_by : (after : Tree) → after.names ≡ t.names → after.handles ≡ t.handles → Shows (view_of (edited f s id)) after → Keeps (edited f s id) after
   keeps_by after names handles shows =
-      keeps_marked s (edited f s id) t after (entry_of s.nodes) (marks_of s.nodes) k shows
+      keeps_marked s (edited f s id) t after (child_of s.nodes) (marks_of s.nodes) k shows
       (entry_same s.nodes (edited f s id).nodes id node (f node) here (node_in-edited f s id node here) entries)
       (marks_same s.nodes (edited f s id).nodes id node (f node) here (node_in-edited f s id node here) same)
       refl handles
-      (marked_same (entry_of s.nodes) (entry_of s.nodes) (marks_of s.nodes) (links t.names) (links after.names) (times_open t) (handle_at s) (marked s t k) (λ i l o e bare. bare) (λ label. ap (λ (ns : List (Path × ℕ)). links ns label) names))
+      (marked_same (child_of s.nodes) (child_of s.nodes) (marks_of s.nodes) (links t.names) (links after.names) (times_open t) (open_handle_at s) (marked s t k) (λ i l o e bare. bare) (λ label. ap (λ (ns : List (Path × ℕ)). links ns label) names))
       (in_order_put s.nodes (edited f s id).nodes id (Some (f node)) k.entries (node_in-edited f s id node here) own)
 
   -- another object of the node
@@ -83,7 +83,7 @@ keeps_none f s t id k none = subst (λ (x : StoreState). Keeps x t) (sym (ap (λ
 
 -- what changes each node that may be there in nothing that is seen
 keeps_always : (f : Node → Node) (s : StoreState) (t : Tree) (id : ℕ) → Keeps s t
-    → ((node : Node) → node_in s.nodes id ≡ Some node → (m : Name) → entry_in (f node).content m ≡ entry_in node.content m) → ((node : Node) → mark_of (f node) ≡ mark_of node)
+    → ((node : Node) → node_in s.nodes id ≡ Some node → (m : Name) → child_in (f node).content m ≡ child_in node.content m) → ((node : Node) → mark_of (f node) ≡ mark_of node)
     → ((node : Node) → IsInOrder node.content → IsInOrder (f node).content)
     → ((node : Node) → node_in s.nodes id ≡ Some node → shown_node (f node) ≡ shown_node node) → Keeps (edited f s id) t
 keeps_always f s t id k entries same own alike = elim (node_in s.nodes id) as (λ o. node_in s.nodes id ≡ o → Keeps (edited f s id) t) [
@@ -100,4 +100,4 @@ keeps_left left s t id k = keeps_always (with_content (with_left left)) s t id k
     (λ node e. λ i. (node.label, object_left left node.metadata node.content i))
 
 pub keeps_looked : (s : StoreState) (t : Tree) → Keeps s t → Keeps (looked_up s) t
-keeps_looked s t k = keeps_marked s (looked_up s) t t (entry_of s.nodes) (marks_of s.nodes) k k.shows (λ x m. refl) (λ i. refl) refl refl (marked s t k) k.entries
+keeps_looked s t k = keeps_marked s (looked_up s) t t (child_of s.nodes) (marks_of s.nodes) k k.shows (λ x m. refl) (λ i. refl) refl refl (marked s t k) k.entries

@@ -7,14 +7,14 @@ use Rattle.sf_path.specs.Order.{name_cmp}
 use Rattle.sf_call.specs.Tree.{empty_tree, links}
 use Rattle.sf_inode.specs.declared.node.Node.{Node}
 use Rattle.sf_inode.specs.declared.handle.OpenHandle.{OpenHandle}
-use Rattle.sf_inode.specs.Stores.{StoreState, IsFirst, handle_at, handles_of, with_sessions}
+use Rattle.sf_inode.specs.Stores.{StoreState, IsFirst, open_handle_at, handles_of, with_sessions}
 use Rattle.sf_keeps.specs.Keeps.{Keeps, times_open}
 use Rattle.sf_keeps.proofs.InOrder.{entries_of_node}
 use Rattle.sf_keeps.proofs.First.{root_node, root_or_none, no_steps, shows_first}
 
 module _ (s : StoreState) (f : IsFirst s) where
-  no_handles : (session number : ℕ) → handle_at s session number ≡ None
-  no_handles session number = ap (λ (hs : List (ℕ × List (ℕ × OpenHandle))). handle_at (with_sessions s hs) session number) f.sessions
+  no_handles : (session number : ℕ) → open_handle_at s session number ≡ None
+  no_handles session number = ap (λ (hs : List (ℕ × List (ℕ × OpenHandle))). open_handle_at (with_sessions s hs) session number) f.sessions
 
   no_session : (session : ℕ) → handles_of s session ≡ None
   no_session session = ap (λ (hs : List (ℕ × List (ℕ × OpenHandle))). handles_of (with_sessions s hs) session) f.sessions

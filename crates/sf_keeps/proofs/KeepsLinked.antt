@@ -14,9 +14,9 @@ use Rattle.sf_call.proofs.Laws.{lookup-put, ordered_changed, links_more, is_link
 use Rattle.sf_inode.specs.declared.node.Node.{Node}
 use Rattle.sf_inode.specs.declared.node.Content.{Content}
 use Rattle.sf_inode.specs.declared.node.Content.TheVariants as content
-use Rattle.sf_inode.specs.Nodes.{entry_in, object_in, is_directory_content, is_file_content, more_content, with_content, with_name}
-use Rattle.sf_inode.specs.Stores.{StoreState, node_in, entry_of, handle_at, shown_node, shown_of, entry_put, linked}
-use Rattle.sf_keeps.specs.Steps.{Steps, walk, changed_step}
+use Rattle.sf_inode.specs.Nodes.{child_in, object_in, is_directory_content, is_file_content, more_content, with_content, with_name}
+use Rattle.sf_inode.specs.Stores.{StoreState, node_in, child_of, open_handle_at, shown_node, shown_of, entry_put, linked}
+use Rattle.sf_keeps.specs.Steps.{EntryMap, walk, changed_step}
 use Rattle.sf_keeps.specs.Shows.{View, ShowsBy, Shows, label_by, is_directory_by, with_step}
 use Rattle.sf_keeps.specs.Keeps.{view_of, Keeps, times_open}
 use Rattle.sf_keeps.proofs.Walks.{Avoids, led, walk_changed}
@@ -76,8 +76,8 @@ module _ (view : View) (t : Tree) (h : Shows view t) (p : Path) (d : ℕ) (n : N
   }
 
 -- ---- the store
-module _ (s : StoreState) (t : Tree) (k : Keeps s t) (p : Path) (d : ℕ) (n : Name) (c : ℕ) (node : Node) (at : walk (entry_of s.nodes) s.root p ≡ Some d)
-    (is_dir : option_map_or (λ (it : Node). is_directory_content it.content) (node_in s.nodes d) false ≡ true) (free : entry_of s.nodes d n ≡ None) (here : node_in s.nodes c ≡ Some node)
+module _ (s : StoreState) (t : Tree) (k : Keeps s t) (p : Path) (d : ℕ) (n : Name) (c : ℕ) (node : Node) (at : walk (child_of s.nodes) s.root p ≡ Some d)
+    (is_dir : option_map_or (λ (it : Node). is_directory_content it.content) (node_in s.nodes d) false ≡ true) (free : child_of s.nodes d n ≡ None) (here : node_in s.nodes c ≡ Some node)
     (file : is_file_content node.content ≡ true) (fewer : node.names < 1024) where
   to : (above : Node) × (es : List (Name × ℕ)) × (node_in s.nodes d ≡ Some above) × (above.content ≡ content.Directory es)
   to = directory_at s.nodes d is_dir
@@ -85,8 +85,8 @@ module _ (s : StoreState) (t : Tree) (k : Keeps s t) (p : Path) (d : ℕ) (n : N
   abbrev mid : StoreState
   mid = entry_put s d n c
 
-  abbrev step : Steps
-  step = changed_step (entry_of s.nodes) d n (Some c)
+  abbrev step : EntryMap
+  step = changed_step (child_of s.nodes) d n (Some c)
 
   is : is_directory_by (shown_of s.nodes) d ≡ true
   is = ap (λ (v : Option Node). is_some (option_and_then (λ (w : ℕ × Object). directory_metadata w.1) (option_map shown_node v))) to.2 ∙ ap (λ (z : Content). is_some (directory_metadata (object_in to.0.metadata z))) to.3
@@ -95,15 +95,15 @@ module _ (s : StoreState) (t : Tree) (k : Keeps s t) (p : Path) (d : ℕ) (n : N
   no_directory m (content.Directory es) e = cc
   no_directory m (content.File contents) e = refl
 
-  no_entries : (z : Content) (m : Name) → is_file_content z ≡ true → entry_in z m ≡ None
+  no_entries : (z : Content) (m : Name) → is_file_content z ≡ true → child_in z m ≡ None
   no_entries (content.Directory es) m e = cc
   no_entries (content.File contents) m e = refl
 
   is_file : is_directory_by (shown_of s.nodes) c ≡ false
   is_file = ap (λ (v : Option Node). is_some (option_and_then (λ (w : ℕ × Object). directory_metadata w.1) (option_map shown_node v))) here ∙ no_directory node.metadata node.content file
 
-  bare : IsBare (entry_of s.nodes) c
-  bare m = ap (option_and_then (λ (z : Node). entry_in z.content m)) here ∙ no_entries node.content m file
+  bare : IsBare (child_of s.nodes) c
+  bare m = ap (option_and_then (λ (z : Node). child_in z.content m)) here ∙ no_entries node.content m file
 
   apart : nat_eq d c ≡ false
   apart = nat_eq_apart d c (λ e. let yes = ap (is_directory_by (shown_of s.nodes)) (sym e) ∙ is in let no = is_file in cc)
@@ -111,8 +111,8 @@ module _ (s : StoreState) (t : Tree) (k : Keeps s t) (p : Path) (d : ℕ) (n : N
   still : node_in mid.nodes c ≡ Some node
   still = node_in-edited (with_content (more_content n c)) s d to.0 to.2 c ∙ ap (λ b. cond b (Some (with_content (more_content n c) to.0)) (node_in s.nodes c)) apart ∙ here
 
-  says : (m : Name) → entry_in (more_content n c to.0.content) m ≡ cond (same_name n m) (Some c) (entry_in to.0.content m)
-  says m = subst (λ (z : Content). entry_in (more_content n c z) m ≡ cond (same_name n m) (Some c) (entry_in z m)) (sym to.3) (more_says n m c to.1)
+  says : (m : Name) → child_in (more_content n c to.0.content) m ≡ cond (same_name n m) (Some c) (child_in to.0.content m)
+  says m = subst (λ (z : Content). child_in (more_content n c z) m ≡ cond (same_name n m) (Some c) (child_in z m)) (sym to.3) (more_says n m c to.1)
 
   keeps : object_in to.0.metadata (more_content n c to.0.content) ≡ object_in to.0.metadata to.0.content
   keeps = subst (λ (z : Content). object_in to.0.metadata (more_content n c z) ≡ object_in to.0.metadata z) (sym to.3) refl
@@ -146,8 +146,8 @@ module _ (s : StoreState) (t : Tree) (k : Keeps s t) (p : Path) (d : ℕ) (n : N
       (subst (λ (v : View). Shows v after) (sym view_linked)
       (shows_linked (view_of s) t k.shows p d n c node.label (object_in node.metadata node.content) at is free (ap (option_map shown_node) here) is_file bare none))
       (λ x m. ap (λ (v : View). v.step x m) view_linked) marks refl refl
-      (marked_left (entry_of s.nodes) step (marks_of s.nodes) (links t.names) (links after.names) (times_open t) (handle_at s) (marked s t k) c node.label node.names node.opens (ap (option_map mark_of) here)
-      (min (node.names + 1) (2 ^ 64 - 1)) false (bare_more (entry_of s.nodes) d n c c apart bare) (λ id l o e. bare_more (entry_of s.nodes) d n c id (away s t k p d to.0 at to.2 id l o e))
+      (marked_left (child_of s.nodes) step (marks_of s.nodes) (links t.names) (links after.names) (times_open t) (open_handle_at s) (marked s t k) c node.label node.names node.opens (ap (option_map mark_of) here)
+      (min (node.names + 1) (2 ^ 64 - 1)) false (bare_more (child_of s.nodes) d n c c apart bare) (λ id l o e. bare_more (child_of s.nodes) d n c id (away s t k p d to.0 at to.2 id l o e))
       (λ id l b o ne e. omega (
         arith,
         links_more t.names l (p ++ n ∷ []) node.label none,

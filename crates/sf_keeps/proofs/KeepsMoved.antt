@@ -13,9 +13,9 @@ use Rattle.sf_call.proofs.Laws.{after_front-append, links_less, links_same, link
 use Rattle.sf_inode.specs.declared.node.Node.{Node}
 use Rattle.sf_inode.specs.declared.node.Content.TheVariants as content
 use Rattle.sf_inode.specs.Nodes.{is_directory_content, is_bare_content, more_content, less_content, with_content, without_name, is_unused}
-use Rattle.sf_keeps.specs.Steps.{Steps, walk, changed_step}
+use Rattle.sf_keeps.specs.Steps.{EntryMap, walk, changed_step}
 use Rattle.sf_keeps.specs.Shows.{View, Shows, label_by, is_directory_by, with_step}
-use Rattle.sf_inode.specs.Stores.{StoreState, node_in, entry_of, handle_at, shown_of, entry_put, moved_entry, relinked, relinked_from, spot}
+use Rattle.sf_inode.specs.Stores.{StoreState, node_in, child_of, open_handle_at, shown_of, entry_put, moved_entry, relinked, relinked_from, spot}
 use Rattle.sf_keeps.specs.Keeps.{view_of, Keeps, times_open}
 use Rattle.sf_keeps.proofs.Sound.{IsBare}
 use Rattle.sf_keeps.proofs.Shown.{below}
@@ -29,7 +29,7 @@ use Rattle.sf_keeps.proofs.Forgotten.{directory_at, entry_above, bare_at, keeps_
 use Rattle.sf_keeps.proofs.KeepsNames.{away}
 
 module _ (s : StoreState) (t : Tree) (po : Path) (od : ℕ) (on : Name) (c : ℕ) (pn : Path) (nd : ℕ) (nn : Name) (k : Keeps s t)
-    (at_from : walk (entry_of s.nodes) s.root po ≡ Some od) (there : entry_of s.nodes od on ≡ Some c) (at_to : walk (entry_of s.nodes) s.root pn ≡ Some nd)
+    (at_from : walk (child_of s.nodes) s.root po ≡ Some od) (there : child_of s.nodes od on ≡ Some c) (at_to : walk (child_of s.nodes) s.root pn ≡ Some nd)
     (is_dir : option_map_or (λ (it : Node). is_directory_content it.content) (node_in s.nodes nd) false ≡ true) (not_inside : after_front (po ++ on ∷ []) (pn ++ nn ∷ []) ≡ None) where
   from : (node : Node) × (node_in s.nodes od ≡ Some node)
   from = entry_above s.nodes od c on there
@@ -37,8 +37,8 @@ module _ (s : StoreState) (t : Tree) (po : Path) (od : ℕ) (on : Name) (c : ℕ
   to : (node : Node) × (es : List (Name × ℕ)) × (node_in s.nodes nd ≡ Some node) × (node.content ≡ content.Directory es)
   to = directory_at s.nodes nd is_dir
 
-  abbrev moved : Steps
-  moved = changed_step (changed_step (entry_of s.nodes) od on None) nd nn (Some c)
+  abbrev moved : EntryMap
+  moved = changed_step (changed_step (child_of s.nodes) od on None) nd nn (Some c)
 
   abbrev after : Tree
   after = changed t (Move (po ++ on ∷ []) (pn ++ nn ∷ []))
@@ -66,42 +66,42 @@ module _ (s : StoreState) (t : Tree) (po : Path) (od : ℕ) (on : Name) (c : ℕ
   to_away : (id l o : ℕ) → marks_of s.nodes id ≡ Some (l, 0, o) → nat_eq nd id ≡ false
   to_away = away s t k pn nd to.0 at_to to.2
 
-  bares : (id l o : ℕ) → marks_of s.nodes id ≡ Some (l, 0, o) → IsBare (entry_of s.nodes) id → IsBare moved id
-  bares id l o e = bare_moved (entry_of s.nodes) od on nd nn c id (to_away id l o e)
+  bares : (id l o : ℕ) → marks_of s.nodes id ≡ Some (l, 0, o) → IsBare (child_of s.nodes) id → IsBare moved id
+  bares id l o e = bare_moved (child_of s.nodes) od on nd nn c id (to_away id l o e)
 
   -- as many paths as without what the new one named, where nothing is below it
   counted_paths : ((name : Name) (rest : Path) → label_at t.names (new ++ name ∷ rest) ≡ None) → (label : ℕ) → links after.names label ≡ links (remove_entry (is_at (path_cmp new)) t.names) label
   counted_paths nothing label = links_moved t.names old new k.shows.ordered.names not_inside nothing label
 
-  below_new : (name : Name) (rest : Path) → walk (entry_of s.nodes) s.root (new ++ name ∷ rest) ≡ option_and_then (λ y. walk (entry_of s.nodes) y (name ∷ rest)) (entry_of s.nodes nd nn)
+  below_new : (name : Name) (rest : Path) → walk (child_of s.nodes) s.root (new ++ name ∷ rest) ≡ option_and_then (λ y. walk (child_of s.nodes) y (name ∷ rest)) (child_of s.nodes nd nn)
   below_new name rest = below (view_of s) t k.shows.by pn nd nn at_to (new ++ name ∷ rest) (name ∷ rest) (after_front-append new (name ∷ rest))
 
   -- ---- onto nothing
-  pub keeps_moved : entry_of s.nodes nd nn ≡ None → Keeps (relinked s od on nd nn) (changed t (Move (po ++ on ∷ []) (pn ++ nn ∷ [])))
+  pub keeps_moved : child_of s.nodes nd nn ≡ None → Keeps (relinked s od on nd nn) (changed t (Move (po ++ on ∷ []) (pn ++ nn ∷ [])))
   keeps_moved none =
-      let is : relinked s od on nd nn ≡ moved_entry s (spot od on) (spot nd nn) c = ap (λ o. relinked_from s (spot od on) (spot nd nn) o (entry_of s.nodes nd nn)) there ∙ ap (relinked_from s (spot od on) (spot nd nn) (Some c)) none in
+      let is : relinked s od on nd nn ≡ moved_entry s (spot od on) (spot nd nn) c = ap (λ o. relinked_from s (spot od on) (spot nd nn) o (child_of s.nodes nd nn)) there ∙ ap (relinked_from s (spot od on) (spot nd nn) (Some c)) none in
       let shows = shows_relinked s t k.shows po od on pn nd nn c from.0 to.0 to.1 at_from from.1 there at_to to.2 to.3 not_inside k.entries none in
       let nothing : (name : Name) (rest : Path) → label_at t.names (new ++ name ∷ rest) ≡ None =
-      λ name rest. k.shows.by.names (new ++ name ∷ rest) ∙ ap (option_and_then (label_by (view_of s).shown)) (below_new name rest ∙ ap (option_and_then (λ y. walk (entry_of s.nodes) y (name ∷ rest))) none) in
+      λ name rest. k.shows.by.names (new ++ name ∷ rest) ∙ ap (option_and_then (label_by (view_of s).shown)) (below_new name rest ∙ ap (option_and_then (λ y. walk (child_of s.nodes) y (name ∷ rest))) none) in
       let free = free_name (view_of s) t k.shows pn nd nn at_to none in
       subst (λ (x : StoreState). Keeps x after) (sym is)
       (keeps_marked s (moved_entry s (spot od on) (spot nd nn) c) t after moved (marks_of s.nodes) k (subst (λ (x : StoreState). Shows (view_of x) after) is shows)
       (λ x m. ap (λ (v : View). v.step x m) is_view) marks_moved refl refl
-      (marked_same (entry_of s.nodes) moved (marks_of s.nodes) (links t.names) (links after.names) (times_open t) (handle_at s) (marked s t k) bares
+      (marked_same (child_of s.nodes) moved (marks_of s.nodes) (links t.names) (links after.names) (times_open t) (open_handle_at s) (marked s t k) bares
       (λ label. counted_paths nothing label ∙ links_same t.names label new free)) ordered_moved)
 
   -- ---- in the place of another
-  module _ (target : ℕ) (stood_at : entry_of s.nodes nd nn ≡ Some target) (is_bare : option_map_or (λ (it : Node). is_bare_content it.content) (node_in s.nodes target) false ≡ true) (other : c ≡ target → ⊥) where
+  module _ (target : ℕ) (stood_at : child_of s.nodes nd nn ≡ Some target) (is_bare : option_map_or (λ (it : Node). is_bare_content it.content) (node_in s.nodes target) false ≡ true) (other : c ≡ target → ⊥) where
     gone : (node : Node) × (node_in s.nodes target ≡ Some node) × (0 < node.names)
     gone = entry_node s t k nd target nn stood_at
 
-    bare : IsBare (entry_of s.nodes) target
+    bare : IsBare (child_of s.nodes) target
     bare = bare_at s.nodes target is_bare
 
     nothing : (name : Name) (rest : Path) → label_at t.names (new ++ name ∷ rest) ≡ None
     nothing name rest =
         k.shows.by.names (new ++ name ∷ rest) ∙ ap (option_and_then (label_by (view_of s).shown))
-        (below_new name rest ∙ ap (option_and_then (λ y. walk (entry_of s.nodes) y (name ∷ rest))) stood_at ∙ ap (option_and_then (λ y. walk (entry_of s.nodes) y rest)) (bare name))
+        (below_new name rest ∙ ap (option_and_then (λ y. walk (child_of s.nodes) y (name ∷ rest))) stood_at ∙ ap (option_and_then (λ y. walk (child_of s.nodes) y rest)) (bare name))
 
     at_new : label_at t.names new ≡ Some gone.0.label
     at_new = path_label s t k new target gone.0 gone.1 (one_more (view_of s) t k.shows pn nd nn at_to ∙ stood_at)
@@ -114,7 +114,7 @@ module _ (s : StoreState) (t : Tree) (po : Path) (od : ℕ) (on : Name) (c : ℕ
       | true ↦ λ e.
           let none = both_zero (gone.0.names - 1) gone.0.opens e in
           shows_relinked_gone s t k.shows po od on pn nd nn c from.0 to.0 to.1 at_from from.1 there at_to to.2 to.3 not_inside k.entries target gone.0 stood_at gone.1 bare
-          (none_replaced (entry_of s.nodes) od on nd nn c target (one_entry s t k target gone.0 gone.1 (omega (arith, gone.2, none.0))) stood_at other)
+          (none_replaced (child_of s.nodes) od on nd nn c target (one_entry s t k target gone.0 gone.1 (omega (arith, gone.2, none.0))) stood_at other)
           (closed_label s t k gone.0.label (sym (k.counted target gone.0 gone.1) ∙ none.1)) e
       | false ↦ λ e. shows_relinked_used s t k.shows po od on pn nd nn c from.0 to.0 to.1 at_from from.1 there at_to to.2 to.3 not_inside k.entries target gone.0 stood_at gone.1 bare
           (used_still s t k after.names target (gone.0.names - 1) gone.0 gone.1 own e) e
@@ -128,6 +128,6 @@ module _ (s : StoreState) (t : Tree) (po : Path) (od : ℕ) (on : Name) (c : ℕ
         (target_there s t k.shows po od on pn nd nn c from.0 to.0 to.1 at_from from.1 there at_to to.2 to.3 not_inside k.entries target gone.0 stood_at gone.1 bare) ordered_moved
         (λ x m. ap (λ (v : View). v.step x m) is_view)
         marks_moved refl
-        (bare_moved (entry_of s.nodes) od on nd nn c target (bare_apart (entry_of s.nodes) nd target nn target stood_at bare) bare) bares
+        (bare_moved (child_of s.nodes) od on nd nn c target (bare_apart (child_of s.nodes) nd target nn target stood_at bare) bare) bares
         (λ label apart. omega (arith, counted_paths nothing label, links_less t.names label new gone.0.label at_new, is_link_other label gone.0.label (λ same. apart (sym same))))
         own refl (subst (λ (x : StoreState). Shows (view_of x) after) is shows_there))

@@ -16,10 +16,10 @@ use Rattle.sf_inode.specs.declared.node.Node.{Node}
 use Rattle.sf_inode.specs.declared.node.NewNode.{NewNode}
 use Rattle.sf_inode.specs.declared.node.Content.{Content}
 use Rattle.sf_inode.specs.declared.node.Content.TheVariants as content
-use Rattle.sf_inode.specs.Nodes.{entry_in, object_in, is_directory_content, is_bare_content, new_content, new_node, more_content, less_content, with_content, without_name, is_unused}
+use Rattle.sf_inode.specs.Nodes.{child_in, object_in, is_directory_content, is_bare_content, new_content, new_node, more_content, less_content, with_content, without_name, is_unused}
 use Rattle.sf_keeps.specs.Steps.{walk, changed_step}
 use Rattle.sf_keeps.specs.Shows.{View, Shows, is_directory_by}
-use Rattle.sf_inode.specs.Stores.{StoreState, node_in, entry_of, shown_node, shown_of, handle_at, entry_put, entry_taken, forgotten, unlinked, unlinked_from, Inserted, new_entry}
+use Rattle.sf_inode.specs.Stores.{StoreState, node_in, child_of, shown_node, shown_of, open_handle_at, entry_put, entry_taken, forgotten, unlinked, unlinked_from, Inserted, new_entry}
 use Rattle.sf_keeps.specs.Keeps.{view_of, Keeps, times_open}
 use Rattle.sf_keeps.proofs.Sound.{IsBare}
 use Rattle.sf_keeps.proofs.Shown.{nat_eq_apart, same_apart}
@@ -32,7 +32,7 @@ use Rattle.sf_keeps.proofs.Forgotten.{directory_at, entry_above, bare_at, mark_n
 use Rattle.sf_keeps.proofs.InOrder.{InOrder, IsInOrder, node_in_order, in_order_put, less_in_order, more_in_order}
 
 -- a node that a path leads to is not one without a name
-pub away : (s : StoreState) (t : Tree) (k : Keeps s t) (p : Path) (d : ℕ) (above : Node) → walk (entry_of s.nodes) s.root p ≡ Some d → node_in s.nodes d ≡ Some above
+pub away : (s : StoreState) (t : Tree) (k : Keeps s t) (p : Path) (d : ℕ) (above : Node) → walk (child_of s.nodes) s.root p ≡ Some d → node_in s.nodes d ≡ Some above
     → (id l o : ℕ) → marks_of s.nodes id ≡ Some (l, 0, o) → nat_eq d id ≡ false
 away s t k p d above at here id l o e = nat_eq_apart d id (λ same.
     let is : ◌≡◌ {A = Mark} (mark_of above) (l, 0, o) = mark_same (mark_of above) (l, 0, o) (sym (ap (option_map mark_of) here) ∙ ap (marks_of s.nodes) same ∙ e) in
@@ -47,18 +47,18 @@ labelled_node s t k id l b o e none =
     let gone : object_of t.objects w.0.label ≡ None = ap (object_of t.objects) (ap (λ (z : Mark). z.0) w.2) ∙ none in cc
 
 -- ---- an entry taken out
-pub keeps_unlinked : (s : StoreState) (t : Tree) (p : Path) (d : ℕ) (n : Name) (c : ℕ) → Keeps s t → walk (entry_of s.nodes) s.root p ≡ Some d → entry_of s.nodes d n ≡ Some c
+pub keeps_unlinked : (s : StoreState) (t : Tree) (p : Path) (d : ℕ) (n : Name) (c : ℕ) → Keeps s t → walk (child_of s.nodes) s.root p ≡ Some d → child_of s.nodes d n ≡ Some c
     → option_map_or (λ (it : Node). is_bare_content it.content) (node_in s.nodes c) false ≡ true → Keeps (unlinked s d n) (changed t (GonePath (p ++ n ∷ [])))
 keeps_unlinked s t p d n c k at there is_bare =
     let above = entry_above s.nodes d c n there in
     let node = entry_node s t k d c n there in
     let bare = bare_at s.nodes c is_bare in
     let ordered = node_in_order s.nodes d above.0 k.entries above.1 in
-    let step = changed_step (entry_of s.nodes) d n None in
+    let step = changed_step (child_of s.nodes) d n None in
     let after = changed t (GonePath (p ++ n ∷ [])) in
     let mid = entry_taken s d n in
     let here : node_in mid.nodes c ≡ Some node.0 =
-    node_in-edited (with_content (less_content n)) s d above.0 above.1 c ∙ ap (λ b. cond b (Some (with_content (less_content n) above.0)) (node_in s.nodes c)) (bare_apart (entry_of s.nodes) d c n c there bare) ∙ node.1 in
+    node_in-edited (with_content (less_content n)) s d above.0 above.1 c ∙ ap (λ b. cond b (Some (with_content (less_content n) above.0)) (node_in s.nodes c)) (bare_apart (child_of s.nodes) d c n c there bare) ∙ node.1 in
     let at_path = path_label s t k (p ++ n ∷ []) c node.0 node.1 (one_more (view_of s) t k.shows p d n at ∙ there) in
     let own : node.0.names - 1 ≡ links after.names node.0.label =
     omega (arith, k.linked c node.0 node.1, links_less t.names node.0.label (p ++ n ∷ []) node.0.label at_path, is_link_itself node.0.label) in
@@ -67,24 +67,24 @@ keeps_unlinked s t p d n c k at there is_bare =
       | true ↦ λ e.
           let none = both_zero (node.0.names - 1) node.0.opens e in
           shows_unlinked_gone s t k.shows p d n c above.0 node.0 ordered at above.1 there node.1 bare
-          (none_left (entry_of s.nodes) d n c (one_entry s t k c node.0 node.1 (omega (arith, node.2, none.0))) there)
+          (none_left (child_of s.nodes) d n c (one_entry s t k c node.0 node.1 (omega (arith, node.2, none.0))) there)
           (closed_label s t k node.0.label (sym (k.counted c node.0 node.1) ∙ none.1)) e
       | false ↦ λ e. shows_unlinked_used s t k.shows p d n c above.0 node.0 ordered at above.1 there node.1 bare (used_still s t k after.names c (node.0.names - 1) node.0 node.1 own e) e
     ] refl in
     let is : unlinked s d n ≡ forgotten mid c = ap (unlinked_from s d n) there in
     subst (λ (x : StoreState). Keeps x after) (sym is)
     (keeps_forgotten s mid t after step c node.0 k here (in_order_entries (less_content n) s d above.0 above.1 k.entries (less_in_order n above.0.content ordered)) (λ x m. ap (λ (v : View). v.step x m) (view_taken s d n above.0 ordered above.1)) (marks_entries (less_content n) s d above.0 above.1) refl
-    (bare_less (entry_of s.nodes) d n c bare) (λ id l o e. bare_less (entry_of s.nodes) d n id)
+    (bare_less (child_of s.nodes) d n c bare) (λ id l o e. bare_less (child_of s.nodes) d n id)
     (λ l other. omega (arith, links_less t.names l (p ++ n ∷ []) node.0.label at_path, is_link_other l node.0.label (λ same. other (sym same))))
     own refl (subst (λ (x : StoreState). Shows (view_of x) after) is shows))
 
 -- ---- a new node
-new_bare : (kind : FileType) (m : Name) → entry_in (new_content kind) m ≡ None
+new_bare : (kind : FileType) (m : Name) → child_in (new_content kind) m ≡ None
 new_bare file_type.Directory m = refl
 new_bare file_type.File m = refl
 
 module _ (old new : StoreState) (d : ℕ) (n : Name) (c : ℕ) (node above : Node) (es : List (Name × ℕ)) (did : Inserted old new (new_entry d n c) node) (here : node_in old.nodes d ≡ Some above)
-    (dir : above.content ≡ content.Directory es) (bare : (m : Name) → entry_in node.content m ≡ None) where
+    (dir : above.content ≡ content.Directory es) (bare : (m : Name) → child_in node.content m ≡ None) where
   abbrev mid : StoreState
   mid = entry_put old d n c
 
@@ -94,15 +94,15 @@ module _ (old new : StoreState) (d : ℕ) (n : Name) (c : ℕ) (node above : Nod
     | false ↦ λ e. ap f (did.others i (λ g. same_apart c i e (sym g)))
   ] refl
 
-  steps_new : (x : ℕ) (m : Name) → entry_of new.nodes x m ≡ changed_step (entry_of old.nodes) d n (Some c) x m
+  steps_new : (x : ℕ) (m : Name) → child_of new.nodes x m ≡ changed_step (child_of old.nodes) d n (Some c) x m
   steps_new x m =
-      node_new x (Option ℕ) (option_and_then (λ (z : Node). entry_in z.content m)) None (bare m)
+      node_new x (Option ℕ) (option_and_then (λ (z : Node). child_in z.content m)) None (bare m)
       ∙ ap (cond (nat_eq c x) None) (step_changed old.nodes mid.nodes d above (with_content (more_content n c) above) here (node_in-edited (with_content (more_content n c)) old d above here) n (Some c)
-      (λ m. subst (λ (z : Content). entry_in (more_content n c z) m ≡ cond (same_name n m) (Some c) (entry_in z m)) (sym dir) (more_says n m c es)) x m)
-      ∙ elim (nat_eq c x) as (λ b. nat_eq c x ≡ b → cond b None (changed_step (entry_of old.nodes) d n (Some c) x m) ≡ changed_step (entry_of old.nodes) d n (Some c) x m) [
+      (λ m. subst (λ (z : Content). child_in (more_content n c z) m ≡ cond (same_name n m) (Some c) (child_in z m)) (sym dir) (more_says n m c es)) x m)
+      ∙ elim (nat_eq c x) as (λ b. nat_eq c x ≡ b → cond b None (changed_step (child_of old.nodes) d n (Some c) x m) ≡ changed_step (child_of old.nodes) d n (Some c) x m) [
         | true ↦ λ e. sym (
-            ap (λ b. cond (b && same_name n m) (Some c) (entry_of old.nodes x m)) (nat_eq_apart d x (λ f. let g = ap (node_in old.nodes) (f ∙ sym (eqb-true c x e)) in let h = did.fresh in cc))
-            ∙ ap (option_and_then (λ (z : Node). entry_in z.content m)) (ap (node_in old.nodes) (sym (eqb-true c x e)) ∙ did.fresh))
+            ap (λ b. cond (b && same_name n m) (Some c) (child_of old.nodes x m)) (nat_eq_apart d x (λ f. let g = ap (node_in old.nodes) (f ∙ sym (eqb-true c x e)) in let h = did.fresh in cc))
+            ∙ ap (option_and_then (λ (z : Node). child_in z.content m)) (ap (node_in old.nodes) (sym (eqb-true c x e)) ∙ did.fresh))
         | false ↦ λ e. refl
       ] refl
 
@@ -118,23 +118,23 @@ new_in_order file_type.Directory = tt
 new_in_order file_type.File = tt
 
 pub keeps_inserted : (old new : StoreState) (t : Tree) (p : Path) (d : ℕ) (n : Name) (c : ℕ) (made : NewNode) → Keeps old t → Inserted old new (new_entry d n c) (new_node made)
-    → walk (entry_of old.nodes) old.root p ≡ Some d → option_map_or (λ (it : Node). is_directory_content it.content) (node_in old.nodes d) false ≡ true → entry_of old.nodes d n ≡ None → object_of t.objects made.label ≡ None
+    → walk (child_of old.nodes) old.root p ≡ Some d → option_map_or (λ (it : Node). is_directory_content it.content) (node_in old.nodes d) false ≡ true → child_of old.nodes d n ≡ None → object_of t.objects made.label ≡ None
     → Keeps new (changed t (NewPath (p ++ n ∷ []) made.label (object_in made.metadata (new_content made.file_type))))
 keeps_inserted old new t p d n c made k did at is_dir free fresh =
     let w = directory_at old.nodes d is_dir in
     let bare = new_bare made.file_type in
-    let none : lookup (same_name n) w.1 ≡ None = sym (ap (option_and_then (λ (z : Node). entry_in z.content n)) w.2 ∙ ap (λ (z : Content). entry_in z n) w.3) ∙ free in
+    let none : lookup (same_name n) w.1 ≡ None = sym (ap (option_and_then (λ (z : Node). child_in z.content n)) w.2 ∙ ap (λ (z : Content). child_in z n) w.3) ∙ free in
     let is : is_directory_by (shown_of old.nodes) d ≡ true = ap (λ (v : Option Node). is_some (option_and_then (λ (w : ℕ × Object). directory_metadata w.1) (option_map shown_node v))) w.2 ∙ ap (λ (z : Content). is_some (directory_metadata (object_in w.0.metadata z))) w.3 in
     let gone : shown_of old.nodes c ≡ None = ap (option_map shown_node) did.fresh in
-    let bare_c : IsBare (entry_of old.nodes) c = λ m. ap (option_and_then (λ (z : Node). entry_in z.content m)) did.fresh in
+    let bare_c : IsBare (child_of old.nodes) c = λ m. ap (option_and_then (λ (z : Node). child_in z.content m)) did.fresh in
     let q : Path = p ++ n ∷ [] in
     let free_path = free_name (view_of old) t k.shows p d n at free in
     let after = changed t (NewPath q made.label (object_in made.metadata (new_content made.file_type))) in
-    keeps_marked old new t after (changed_step (entry_of old.nodes) d n (Some c))
+    keeps_marked old new t after (changed_step (child_of old.nodes) d n (Some c))
     (λ i. cond (nat_eq c i) (Some (made.label, 1, 0)) (marks_of old.nodes i)) k
     (shows_inserted old new t p d n c (new_node made) w.0 w.1 did k.shows at w.2 w.3 none bare fresh)
     (steps_new old new d n c (new_node made) w.0 w.1 did w.2 w.3 bare) (marks_new old new d n c (new_node made) w.0 w.1 did w.2 w.3 bare) did.sessions refl
-    (marked_new (entry_of old.nodes) d n c made.label (marks_of old.nodes) (links t.names) (links after.names) (times_open t) (handle_at old) (marked old t k) (ap (option_map mark_of) did.fresh) bare_c
+    (marked_new (child_of old.nodes) d n c made.label (marks_of old.nodes) (links t.names) (links after.names) (times_open t) (open_handle_at old) (marked old t k) (ap (option_map mark_of) did.fresh) bare_c
     (nat_eq_apart d c (λ e. let g = ap (node_in old.nodes) e in let h = did.fresh in let i = w.2 in cc))
     (away old t k p d w.0 at w.2)
     (λ id l b o e. omega (arith, links_more t.names l q made.label free_path, is_link_other l made.label (λ same. labelled_node old t k id l b o e (ap (object_of t.objects) (sym same) ∙ fresh))))

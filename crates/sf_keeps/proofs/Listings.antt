@@ -17,12 +17,12 @@ use Rattle.sf_call.specs.Listings.{is_past, name_past, listing, listing_of, name
 use Rattle.sf_call.proofs.Laws.{exact_names, same_name_itself}
 use Rattle.sf_inode.specs.declared.node.Node.{Node}
 use Rattle.sf_inode.specs.declared.node.Content.TheVariants as content
-use Rattle.sf_inode.specs.Nodes.{entry_in, entries_in, object_in, is_directory_content, entries_past}
+use Rattle.sf_inode.specs.Nodes.{child_in, entries_in, object_in, is_directory_content, entries_past}
 use Rattle.sf_keeps.specs.Steps.{walk}
 use Rattle.sf_keeps.specs.Shows.{label_by, is_directory_by}
-use Rattle.sf_inode.specs.Stores.{StoreState, node_in, entry_of, entries_at, is_directory_at, shown_node}
+use Rattle.sf_inode.specs.Stores.{StoreState, node_in, child_of, node_entries, is_directory_at, shown_node}
 use Rattle.sf_keeps.specs.Keeps.{view_of, Keeps, IsUnlinked}
-use Rattle.sf_keeps.specs.Listed.{listed_entry}
+use Rattle.sf_keeps.specs.Listed.{node_entry}
 use Rattle.sf_keeps.proofs.Orderly.{same_sorted, sorted_mapped}
 use Rattle.sf_keeps.proofs.Shown.{once}
 use Rattle.sf_keeps.proofs.Sound.{never_reached}
@@ -66,7 +66,7 @@ module _ (s : StoreState) (t : Tree) (k : Keeps s t) (d : ℕ) where
     shown : (view_of s).shown d ≡ Some (shown_node node)
     shown = ap (option_map shown_node) here
 
-    pub path_found : (p : Path) → walk (entry_of s.nodes) s.root p ≡ Some d → is_directory_content node.content ≡ true → path_of t.names node.label ≡ Some p
+    pub path_found : (p : Path) → walk (child_of s.nodes) s.root p ≡ Some d → is_directory_content node.content ≡ true → path_of t.names node.label ≡ Some p
     path_found p at dir =
         let is : is_directory_by (view_of s).shown d ≡ true = ap (λ (v : Option (ℕ × Object)). is_some (option_and_then (λ (w : ℕ × Object). directory_metadata w.1) v)) shown ∙ is_directory_shown node dir in
         let there : label_at t.names p ≡ Some node.label = k.shows.by.names p ∙ ap (option_and_then (label_by (view_of s).shown)) at ∙ ap (option_map (λ (v : ℕ × Object). v.0)) shown in
@@ -76,13 +76,13 @@ module _ (s : StoreState) (t : Tree) (k : Keeps s t) (d : ℕ) where
 
     no_path : IsUnlinked s d → path_of t.names node.label ≡ None
     no_path u = find_none node.label t.names
-        (unnamed (view_of s) t k.shows.by k.shows.ordered d node.label (shown_node node).1 shown (λ q. never_reached (entry_of s.nodes) s.root d q u.free u.other))
+        (unnamed (view_of s) t k.shows.by k.shows.ordered d node.label (shown_node node).1 shown (λ q. never_reached (child_of s.nodes) s.root d q u.free u.other))
 
   -- ---- its entries
-  entries_found : (q : Name) → entry_of s.nodes d q ≡ lookup (same_name q) (entries_at s.nodes d)
-  entries_found q = elim (node_in s.nodes d) as (λ o. option_and_then (λ (x : Node). entry_in x.content q) o ≡ lookup (same_name q) (option_map_or (λ (x : Node). entries_in x.content) o [])) [
+  entries_found : (q : Name) → child_of s.nodes d q ≡ lookup (same_name q) (node_entries s.nodes d)
+  entries_found q = elim (node_in s.nodes d) as (λ o. option_and_then (λ (x : Node). child_in x.content q) o ≡ lookup (same_name q) (option_map_or (λ (x : Node). entries_in x.content) o [])) [
     | None ↦ refl
-    | Some node ↦ elim node.content as (λ c. entry_in c q ≡ lookup (same_name q) (entries_in c)) [ content.Directory es ↦ refl | content.File contents ↦ refl ]
+    | Some node ↦ elim node.content as (λ c. child_in c q ≡ lookup (same_name q) (entries_in c)) [ content.Directory es ↦ refl | content.File contents ↦ refl ]
   ]
 
   no_entries : (es : List (Name × ℕ)) → ((q : Name) → lookup (same_name q) es ≡ None) → es ≡ []
@@ -94,7 +94,7 @@ module _ (s : StoreState) (t : Tree) (k : Keeps s t) (d : ℕ) where
 
   module _ (last : Option Name) where
     abbrev past : List (Name × ℕ)
-    past = entries_past last (entries_at s.nodes d)
+    past = entries_past last (node_entries s.nodes d)
 
     abbrev labelled : Name × ℕ → Name × ℕ
     labelled e = (e.0, label_in e.1)
@@ -110,12 +110,12 @@ module _ (s : StoreState) (t : Tree) (k : Keeps s t) (d : ℕ) where
     abbrev IsListed : Name × ℕ → Type 0
     IsListed e = (node : Node) × (node_in s.nodes e.1 ≡ Some node) × (shown_label (labelled e) ≡ Some (listings.entry_of e.0 node.names (shown_object node)))
 
-    past_found : (q : Name) (c : ℕ) → lookup (same_name q) past ≡ Some c → entry_of s.nodes d q ≡ Some c
+    past_found : (q : Name) (c : ℕ) → lookup (same_name q) past ≡ Some c → child_of s.nodes d q ≡ Some c
     past_found q c l =
-        entries_found q ∙ elim (is_past last q) as (λ b. cond b (lookup (same_name q) (entries_at s.nodes d)) None ≡ Some c → lookup (same_name q) (entries_at s.nodes d) ≡ Some c) [
+        entries_found q ∙ elim (is_past last q) as (λ b. cond b (lookup (same_name q) (node_entries s.nodes d)) None ≡ Some c → lookup (same_name q) (node_entries s.nodes d) ≡ Some c) [
           | true ↦ λ e. e
           | false ↦ λ e. cc
-        ] (sym (past_lookup last (entries_at s.nodes d) q) ∙ l)
+        ] (sym (past_lookup last (node_entries s.nodes d) q) ∙ l)
 
     is_listed : (q : Name) (c : ℕ) → lookup (same_name q) past ≡ Some c → IsListed (q, c)
     is_listed q c l =
@@ -127,23 +127,23 @@ module _ (s : StoreState) (t : Tree) (k : Keeps s t) (d : ℕ) where
         )
 
     all_listed : AllByRecursion IsListed past
-    all_listed = each_found name_cmp name_total IsListed past (past_sorted last (entries_at s.nodes d) (k.entries d)) is_listed
+    all_listed = each_found name_cmp name_total IsListed past (past_sorted last (node_entries s.nodes d) (k.entries d)) is_listed
 
-    listed_first : (n : ℕ) (es : List (Name × ℕ)) → AllByRecursion IsListed es → take n (filter_map shown_label (map labelled es)) ≡ filter_map (listed_entry s.nodes) (take n es)
+    listed_first : (n : ℕ) (es : List (Name × ℕ)) → AllByRecursion IsListed es → take n (filter_map shown_label (map labelled es)) ≡ filter_map (node_entry s.nodes) (take n es)
     listed_first zero [] all = refl
     listed_first zero (e ∷ es) all = refl
     listed_first (suc n) [] all = refl
     listed_first (suc n) (e ∷ es) all =
         ap (λ (o : Option Entry). take (suc n) (cons_option o (filter_map shown_label (map labelled es)))) all.0.2
         ∙ ap (λ (xs : List Entry). listings.entry_of e.0 all.0.0.names (shown_object all.0.0) ∷ xs) (listed_first n es all.1)
-        ∙ sym (ap (λ (o : Option Node). cons_option (option_map (λ (x : Node). listings.entry_of e.0 x.names (shown_object x)) o) (filter_map (listed_entry s.nodes) (take n es))) all.0.1)
+        ∙ sym (ap (λ (o : Option Node). cons_option (option_map (λ (x : Node). listings.entry_of e.0 x.names (shown_object x)) o) (filter_map (node_entry s.nodes) (take n es))) all.0.1)
 
-    first_names : (n : ℕ) (es : List (Name × ℕ)) → AllByRecursion IsListed es → names_of (filter_map (listed_entry s.nodes) (take n es)) ≡ map (λ e. e.0) (take n es)
+    first_names : (n : ℕ) (es : List (Name × ℕ)) → AllByRecursion IsListed es → names_of (filter_map (node_entry s.nodes) (take n es)) ≡ map (λ e. e.0) (take n es)
     first_names zero [] all = refl
     first_names zero (e ∷ es) all = refl
     first_names (suc n) [] all = refl
     first_names (suc n) (e ∷ es) all =
-        ap (λ (o : Option Node). names_of (cons_option (option_map (λ (x : Node). listings.entry_of e.0 x.names (shown_object x)) o) (filter_map (listed_entry s.nodes) (take n es)))) all.0.1
+        ap (λ (o : Option Node). names_of (cons_option (option_map (λ (x : Node). listings.entry_of e.0 x.names (shown_object x)) o) (filter_map (node_entry s.nodes) (take n es)))) all.0.1
         ∙ ap (λ (xs : List Name). e.0 ∷ xs) (first_names n es all.1)
 
     first_there : (n : ℕ) (es : List (Name × ℕ)) → AllByRecursion IsListed es → AllByRecursion (λ e. (node : Node) × (node_in s.nodes e.1 ≡ Some node)) (take n es)
@@ -152,18 +152,18 @@ module _ (s : StoreState) (t : Tree) (k : Keeps s t) (d : ℕ) where
     first_there (suc n) [] all = tt
     first_there (suc n) (e ∷ es) all = ((all.0.0, all.0.1), first_there n es all.1)
 
-    pub names_listed : names_of (filter_map (listed_entry s.nodes) (take MAX_ENTRIES past)) ≡ map (λ e. e.0) (take MAX_ENTRIES past)
+    pub names_listed : names_of (filter_map (node_entry s.nodes) (take MAX_ENTRIES past)) ≡ map (λ e. e.0) (take MAX_ENTRIES past)
     names_listed = first_names MAX_ENTRIES past all_listed
 
     pub nodes_listed : All (λ e. (node : Node) × (node_in s.nodes e.1 ≡ Some node)) (take MAX_ENTRIES past)
     nodes_listed = All-from_recursion (λ e. (node : Node) × (node_in s.nodes e.1 ≡ Some node)) (take MAX_ENTRIES past) (first_there MAX_ENTRIES past all_listed)
 
     -- ---- a directory that a path leads to
-    module _ (p : Path) (at : walk (entry_of s.nodes) s.root p ≡ Some d) where
-      name_found : (q : Name) → label_at t.names (p ++ q ∷ []) ≡ option_map label_in (entry_of s.nodes d q)
+    module _ (p : Path) (at : walk (child_of s.nodes) s.root p ≡ Some d) where
+      name_found : (q : Name) → label_at t.names (p ++ q ∷ []) ≡ option_map label_in (child_of s.nodes d q)
       name_found q =
           k.shows.by.names (p ++ q ∷ []) ∙ ap (option_and_then (label_by (view_of s).shown)) (one_more (view_of s) t k.shows p d q at)
-          ∙ elim (entry_of s.nodes d q) as (λ o. entry_of s.nodes d q ≡ o → option_and_then (label_by (view_of s).shown) o ≡ option_map label_in o) [
+          ∙ elim (child_of s.nodes d q) as (λ o. child_of s.nodes d q ≡ o → option_and_then (label_by (view_of s).shown) o ≡ option_map label_in o) [
             | None ↦ λ e. refl
             | Some c ↦ λ e.
                 let w = entry_node s t k d c q e in
@@ -176,11 +176,11 @@ module _ (s : StoreState) (t : Tree) (k : Keeps s t) (d : ℕ) where
 
       same_names : filter_map (child last p) t.names ≡ map labelled past
       same_names = same_sorted name_cmp name_total exact_names (filter_map (child last p) t.names) (map labelled past)
-          (child_sorted last p t.names k.shows.ordered.names) (sorted_mapped name_cmp label_in past (past_sorted last (entries_at s.nodes d) (k.entries d)))
+          (child_sorted last p t.names k.shows.ordered.names) (sorted_mapped name_cmp label_in past (past_sorted last (node_entries s.nodes d) (k.entries d)))
           (λ q. child_found last p t.names q
           ∙ ap (λ (o : Option ℕ). cond (is_past last q) o None) (name_found q ∙ ap (option_map label_in) (entries_found q))
-          ∙ mapped (is_past last q) (lookup (same_name q) (entries_at s.nodes d))
-          ∙ sym (lookup-map_values label_in (same_name q) past ∙ ap (option_map label_in) (past_lookup last (entries_at s.nodes d) q)))
+          ∙ mapped (is_past last q) (lookup (same_name q) (node_entries s.nodes d))
+          ∙ sym (lookup-map_values label_in (same_name q) past ∙ ap (option_map label_in) (past_lookup last (node_entries s.nodes d) q)))
 
       by_labels : (names : List (Path × ℕ)) → filter_map (listings.listed_entry t p last) names ≡ filter_map shown_label (filter_map (child last p) names)
       by_labels [] = refl
@@ -191,23 +191,23 @@ module _ (s : StoreState) (t : Tree) (k : Keeps s t) (d : ℕ) where
             | Some n ↦ ap (cons_option (option_map (listings.entry_of n (links t.names e.1)) (object_of t.objects e.1))) (by_labels names)
           ]
 
-      listing_found : listing t last p ≡ filter_map (listed_entry s.nodes) (take MAX_ENTRIES past)
+      listing_found : listing t last p ≡ filter_map (node_entry s.nodes) (take MAX_ENTRIES past)
       listing_found = ap (take MAX_ENTRIES) (by_labels t.names ∙ ap (filter_map shown_label) same_names) ∙ listed_first MAX_ENTRIES past all_listed
 
     -- ---- a directory that is there, by its label: one that no path leads to any more has no entries
-    pub label_listed : (node : Node) → node_in s.nodes d ≡ Some node → is_directory_content node.content ≡ true → listing_of t last (path_of t.names node.label) ≡ filter_map (listed_entry s.nodes) (take MAX_ENTRIES past)
-    label_listed node here dir = elim (nat_eq node.names 0) as (λ b. nat_eq node.names 0 ≡ b → listing_of t last (path_of t.names node.label) ≡ filter_map (listed_entry s.nodes) (take MAX_ENTRIES past)) [
+    pub label_listed : (node : Node) → node_in s.nodes d ≡ Some node → is_directory_content node.content ≡ true → listing_of t last (path_of t.names node.label) ≡ filter_map (node_entry s.nodes) (take MAX_ENTRIES past)
+    label_listed node here dir = elim (nat_eq node.names 0) as (λ b. nat_eq node.names 0 ≡ b → listing_of t last (path_of t.names node.label) ≡ filter_map (node_entry s.nodes) (take MAX_ENTRIES past)) [
       | false ↦ λ e.
           let w = named_path s t k d node here (some_names node.names e) in
           ap (listing_of t last) (path_found node here w.0 w.1 dir) ∙ listing_found w.0 w.1
       | true ↦ λ e.
           let u = unnamed_node s t k d node here (eqb-true node.names 0 e) in
           ap (listing_of t last) (no_path node here u)
-          ∙ sym (ap (λ (es : List (Name × ℕ)). filter_map (listed_entry s.nodes) (take MAX_ENTRIES (entries_past last es))) (no_entries (entries_at s.nodes d) (λ q. sym (entries_found q) ∙ u.bare q)))
+          ∙ sym (ap (λ (es : List (Name × ℕ)). filter_map (node_entry s.nodes) (take MAX_ENTRIES (entries_past last es))) (no_entries (node_entries s.nodes d) (λ q. sym (entries_found q) ∙ u.bare q)))
     ] refl
 
 -- one path alone leads to a directory
-pub one_way : (s : StoreState) (t : Tree) (k : Keeps s t) (p q : Path) (d : ℕ) → walk (entry_of s.nodes) s.root p ≡ Some d → walk (entry_of s.nodes) s.root q ≡ Some d → is_directory_at s.nodes d ≡ true → p ≡ q
+pub one_way : (s : StoreState) (t : Tree) (k : Keeps s t) (p q : Path) (d : ℕ) → walk (child_of s.nodes) s.root p ≡ Some d → walk (child_of s.nodes) s.root q ≡ Some d → is_directory_at s.nodes d ≡ true → p ≡ q
 one_way s t k p q d to_p to_q dir =
     let w = directory_at s.nodes d dir in
     let is : is_directory_by (view_of s).shown d ≡ true =

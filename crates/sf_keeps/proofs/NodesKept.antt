@@ -10,7 +10,7 @@ use Rattle.sf_call.specs.Tree.{Tree, label_at}
 use Rattle.sf_inode.specs.declared.node.Node.{Node}
 use Rattle.sf_inode.specs.declared.handle.OpenHandle.{OpenHandle}
 use Rattle.sf_inode.specs.Nodes.{is_directory_content, with_opened, is_unused}
-use Rattle.sf_inode.specs.Stores.{StoreState, node_in, entry_of, holder_of, is_directory_at, with_nodes, with_sessions, edited_by, edited, released_if, released, let_go, each_let_go, closed_each, closed_all, handles_of}
+use Rattle.sf_inode.specs.Stores.{StoreState, node_in, child_of, holder_of, is_directory_at, with_nodes, with_sessions, edited_by, edited, released_if, released, after_close, each_let_go, closed_each, closed_all, handles_of}
 use Rattle.sf_keeps.specs.Steps.{walk}
 use Rattle.sf_keeps.specs.Keeps.{Keeps, WasThere, KeepsNodes}
 use Rattle.sf_keeps.proofs.StoreLaws.{node_in-set}
@@ -59,14 +59,14 @@ kept_released old s id h =
       ]
     ] refl
 
-kept_let_go : (old s : StoreState) (id : ℕ) → KeepsNodes old s → KeepsNodes old (let_go s id)
+kept_let_go : (old s : StoreState) (id : ℕ) → KeepsNodes old s → KeepsNodes old (after_close s id)
 kept_let_go old s id h =
     kept_released old (edited (λ node. with_opened (node.opens - 1) node) s id) id
     (kept_edited (λ node. with_opened (node.opens - 1) node) (λ node. (refl, refl, refl)) old s id h)
 
 kept_each : (old s : StoreState) (handles : List (ℕ × OpenHandle)) → KeepsNodes old s → KeepsNodes old (each_let_go s handles)
 kept_each old s [] h = h
-kept_each old s (e ∷ handles) h = kept_each old (let_go s e.1.node) handles (kept_let_go old s e.1.node h)
+kept_each old s (e ∷ handles) h = kept_each old (after_close s e.1.node) handles (kept_let_go old s e.1.node h)
 
 pub nodes_kept : (s : StoreState) (session : ℕ) → KeepsNodes s (closed_all s session)
 nodes_kept s session =
@@ -78,7 +78,7 @@ nodes_kept s session =
 each_looks : (s : StoreState) (handles : List (ℕ × OpenHandle)) → (each_let_go s handles).look_ups ≡ s.look_ups
 each_looks s [] = refl
 each_looks s (e ∷ handles) =
-    each_looks (let_go s e.1.node) handles
+    each_looks (after_close s e.1.node) handles
     ∙ elim (node_in (edited (λ node. with_opened (node.opens - 1) node) s e.1.node).nodes e.1.node) as (λ o. (released_if (edited (λ node. with_opened (node.opens - 1) node) s e.1.node) e.1.node o).look_ups ≡ s.look_ups) [
       | None ↦ refl
       | Some n ↦ elim (is_unused n) as (λ b. (if b then with_nodes (edited (λ node. with_opened (node.opens - 1) node) s e.1.node) (slice_set (edited (λ node. with_opened (node.opens - 1) node) s e.1.node).nodes e.1.node None)
@@ -132,8 +132,8 @@ module _ (old new : StoreState) (t u : Tree) (keeps : Keeps old t) (keeps' : Kee
             (ap Some same, (node, ap (node_in new.nodes) (sym same) ∙ a))
       ] refl e
 
-  pub way_kept : (q : Path) (l : ℕ) → walk (entry_of old.nodes) old.root q ≡ Some l → (walk (entry_of new.nodes) new.root q ≡ Some l) × ((node : Node) × (node_in new.nodes l ≡ Some node))
+  pub way_kept : (q : Path) (l : ℕ) → walk (child_of old.nodes) old.root q ≡ Some l → (walk (child_of new.nodes) new.root q ≡ Some l) × ((node : Node) × (node_in new.nodes l ≡ Some node))
   way_kept q l w =
       let was = reached_node old t keeps q l w in
       let label = label_found old t keeps q ∙ ap (λ (o : Option ℕ). option_map (λ (x : Node). x.label) (option_and_then (node_in old.nodes) o)) w ∙ ap (option_map (λ (x : Node). x.label)) was.1 in
-      found_node l was.0 (walk (entry_of new.nodes) new.root q) was.1 (sym (label_found new u keeps' q) ∙ ap (λ ns. label_at ns q) names ∙ label)
+      found_node l was.0 (walk (child_of new.nodes) new.root q) was.1 (sym (label_found new u keeps' q) ∙ ap (λ ns. label_at ns q) names ∙ label)

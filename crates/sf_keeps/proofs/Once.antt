@@ -3,25 +3,25 @@ use Rattle.std.specs.Prelude.{◌≡◌, ℕ, true, [], ◌∷◌, reverse, opti
 use Rattle.std.proofs.Common.{sym, ap, ◌∙◌}
 use Rattle.std.proofs.lemmas.List.{reverse-append, reverse-reverse}
 use Rattle.sf_path.specs.Names.{Name, Path}
-use Rattle.sf_keeps.specs.Steps.{Steps, walk}
+use Rattle.sf_keeps.specs.Steps.{EntryMap, walk}
 use Rattle.sf_keeps.specs.Shows.{Shown, IsSound, is_directory_by}
 use Rattle.sf_keeps.proofs.Walks.{LeadsOnce, walk-append}
 
 -- the way along the names read from the last
-abbrev pub back : Steps → ℕ → Path → Option ℕ
+abbrev pub back : EntryMap → ℕ → Path → Option ℕ
 back step x [] = Some x
 back step x (n ∷ p) = option_and_then (λ y. step y n) (back step x p)
 
-one_step : (step : Steps) (y : ℕ) (n : Name) → option_and_then (λ z. Some z) (step y n) ≡ step y n
+one_step : (step : EntryMap) (y : ℕ) (n : Name) → option_and_then (λ z. Some z) (step y n) ≡ step y n
 one_step step y n = elim (step y n) as (λ o. option_and_then (λ z. Some z) o ≡ o) [ None ↦ refl | Some z ↦ refl ]
 
-pub back_is : (step : Steps) (x : ℕ) (p : Path) → walk step x (reverse p) ≡ back step x p
+pub back_is : (step : EntryMap) (x : ℕ) (p : Path) → walk step x (reverse p) ≡ back step x p
 back_is step x [] = refl
 back_is step x (n ∷ p) =
     ap (walk step x) (reverse-append (n ∷ []) p) ∙ walk-append step x (reverse p) (n ∷ []) ∙ ap (option_and_then (λ y. option_and_then (λ z. Some z) (step y n))) (back_is step x p)
     ∙ elim (back step x p) as (λ o. option_and_then (λ y. option_and_then (λ z. Some z) (step y n)) o ≡ option_and_then (λ y. step y n) o) [ None ↦ refl | Some y ↦ one_step step y n ]
 
-module _ (step : Steps) (shown : Shown) (root : ℕ) (sound : IsSound step shown root) where
+module _ (step : EntryMap) (shown : Shown) (root : ℕ) (sound : IsSound step shown root) where
   back_once : (p q : Path) (x : ℕ) → is_directory_by shown x ≡ true → back step root p ≡ Some x → back step root q ≡ Some x → p ≡ q
   back_once [] [] x d hp hq = refl
   back_once [] (m ∷ q) x d hp hq =

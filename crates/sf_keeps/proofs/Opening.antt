@@ -16,7 +16,7 @@ use Rattle.sf_inode.specs.declared.handle.OpenHandle.{OpenHandle}
 use Rattle.sf_inode.specs.declared.handle.Marks.{Marks}
 use Rattle.sf_inode.specs.Nodes.{with_opened}
 use Rattle.sf_keeps.specs.Shows.{View, Shows}
-use Rattle.sf_inode.specs.Stores.{StoreState, node_in, handle_at, shown_handle, with_sessions, edited, opened, new_handle, opened_by, handle_listed, with_last}
+use Rattle.sf_inode.specs.Stores.{StoreState, node_in, open_handle_at, shown_handle, with_sessions, edited, after_open, new_handle, after_open_node, handle_listed, with_last}
 use Rattle.sf_keeps.specs.Keeps.{view_of, Keeps, times_open}
 use Rattle.sf_keeps.proofs.Keyed.{lookup-set}
 use Rattle.sf_keeps.proofs.Shown.{nat_same}
@@ -75,9 +75,9 @@ module _ (s : StoreState) (t : Tree) (k : Keeps s t) (session number id : ℕ) (
     alike : AreAlike s.nodes nodes
     alike = counted_alike s t k id (more node).opens node here nodes put
 
-    led_after : (a b : ℕ) (h : OpenHandle) → handle_at mid a b ≡ Some h → (x : Node) × ((node_in nodes h.node ≡ Some x) × (x.label ≡ h.label))
+    led_after : (a b : ℕ) (h : OpenHandle) → open_handle_at mid a b ≡ Some h → (x : Node) × ((node_in nodes h.node ≡ Some x) × (x.label ≡ h.label))
     led_after a b h e =
-        elim (nat_eq session a && nat_eq number b) as (λ z. cond z (Some own) (handle_at s a b) ≡ Some h → (x : Node) × ((node_in nodes h.node ≡ Some x) × (x.label ≡ h.label))) [
+        elim (nat_eq session a && nat_eq number b) as (λ z. cond z (Some own) (open_handle_at s a b) ≡ Some h → (x : Node) × ((node_in nodes h.node ≡ Some x) × (x.label ≡ h.label))) [
           | true ↦ λ f.
               let same : own ≡ h = cc in
               subst (λ (y : OpenHandle). (x : Node) × ((node_in nodes y.node ≡ Some x) × (x.label ≡ y.label))) same
@@ -102,13 +102,13 @@ module _ (s : StoreState) (t : Tree) (k : Keeps s t) (session number id : ℕ) (
       numbers = numbers_after;
     }
 
-  pub keeps_opened : Keeps (opened s session number id marks) after
+  pub keeps_opened : Keeps (after_open s session number id marks) after
   keeps_opened =
       let p = put_handle_set s k.sessions k.handles session number own in
-      subst (λ (x : StoreState). Keeps x after) (sym (ap (λ (o : Option Node). option_map_or (λ (node : Node). opened_by s session number (new_handle id marks node)) o s) here ∙ ap (λ (z : StoreState). edited more z id) p.1)) (keeps_put p.0 p.2)
+      subst (λ (x : StoreState). Keeps x after) (sym (ap (λ (o : Option Node). option_map_or (λ (node : Node). after_open_node s session number (new_handle id marks node)) o s) here ∙ ap (λ (z : StoreState). edited more z id) p.1)) (keeps_put p.0 p.2)
 
 -- ---- a handle's last name
-module _ (s : StoreState) (t : Tree) (k : Keeps s t) (session number : ℕ) (h : OpenHandle) (at : handle_at s session number ≡ Some h) (name : Name) where
+module _ (s : StoreState) (t : Tree) (k : Keeps s t) (session number : ℕ) (h : OpenHandle) (at : open_handle_at s session number ≡ Some h) (name : Name) where
   abbrev set_handle : Handle
   set_handle = with_listed (shown_handle session h) (Some name)
 
@@ -129,9 +129,9 @@ module _ (s : StoreState) (t : Tree) (k : Keeps s t) (session number : ℕ) (h :
       ] refl (sym (lookup-set nat_cmp nat_cmp_total t.handles number set_handle q (subst (λ o. IsSome o) (sym there) refl)) ∙ e)
 
   module _ (new : List (ℕ × List (ℕ × OpenHandle))) (set : HandleSet s new session number (Some (with_last name h))) where
-    led_listed : (a b : ℕ) (x : OpenHandle) → handle_at (with_sessions s new) a b ≡ Some x → (y : Node) × ((node_in s.nodes x.node ≡ Some y) × (y.label ≡ x.label))
+    led_listed : (a b : ℕ) (x : OpenHandle) → open_handle_at (with_sessions s new) a b ≡ Some x → (y : Node) × ((node_in s.nodes x.node ≡ Some y) × (y.label ≡ x.label))
     led_listed a b x e =
-        elim (nat_eq session a && nat_eq number b) as (λ z. cond z (Some (with_last name h)) (handle_at s a b) ≡ Some x → (y : Node) × ((node_in s.nodes x.node ≡ Some y) × (y.label ≡ x.label))) [
+        elim (nat_eq session a && nat_eq number b) as (λ z. cond z (Some (with_last name h)) (open_handle_at s a b) ≡ Some x → (y : Node) × ((node_in s.nodes x.node ≡ Some y) × (y.label ≡ x.label))) [
           | true ↦ λ f.
               let same : with_last name h ≡ x = cc in
               subst (λ (z : OpenHandle). (y : Node) × ((node_in s.nodes z.node ≡ Some y) × (y.label ≡ z.label))) same (k.led session number h at)

@@ -12,10 +12,10 @@ use Rattle.sf_call.specs.Tree.{Tree, object_of, label_at, links, is_used}
 use Rattle.sf_call.proofs.Laws.{linked_path, named_linked, only_path}
 use Rattle.sf_inode.specs.declared.node.Node.{Node}
 use Rattle.sf_inode.specs.declared.handle.OpenHandle.{OpenHandle}
-use Rattle.sf_inode.specs.Nodes.{object_in, entry_in}
+use Rattle.sf_inode.specs.Nodes.{object_in, child_in}
 use Rattle.sf_keeps.specs.Steps.{walk}
 use Rattle.sf_keeps.specs.Shows.{label_by}
-use Rattle.sf_inode.specs.Stores.{StoreState, node_in, entry_of, handle_at, shown_node, shown_handle}
+use Rattle.sf_inode.specs.Stores.{StoreState, node_in, child_of, open_handle_at, shown_node, shown_handle}
 use Rattle.sf_keeps.specs.Keeps.{view_of, Keeps, IsUnlinked, times_open}
 use Rattle.sf_keeps.proofs.Keyed.{lookup_any}
 use Rattle.sf_keeps.proofs.Less.{is_opened, IsClosed, handle_here, opened_by, led_by}
@@ -94,7 +94,7 @@ module _ (s : StoreState) (t : Tree) (k : Keeps s t) where
       record { session = w.1.session; number = w.0; handle = w.1; opens = sym (k.shows.by.handles w.1.session w.0) ∙ handle_here t w.0 w.1 w.2; same = eqb-true w.1.label label w.3 }
 
   -- a handle's label is counted
-  pub counted_handle : (session number : ℕ) (h : OpenHandle) → handle_at s session number ≡ Some h → nat_eq (times_open t h.label) 0 ≡ false
+  pub counted_handle : (session number : ℕ) (h : OpenHandle) → open_handle_at s session number ≡ Some h → nat_eq (times_open t h.label) 0 ≡ false
   counted_handle session number h at =
       elim (nat_eq (times_open t h.label) 0) as (λ b. nat_eq (times_open t h.label) 0 ≡ b → b ≡ false) [
         | true ↦ λ e. absurd (closed_label h.label (eqb-true (times_open t h.label) 0 e) session number (shown_handle session h) (ap (option_map (shown_handle session)) at) refl)
@@ -112,32 +112,32 @@ module _ (s : StoreState) (t : Tree) (k : Keeps s t) where
   object_there i x at = k.shows.by.objects i x.label (object_in x.metadata x.content) (ap (option_map shown_node) at)
 
   -- a path that leads to a node has its label
-  pub path_label : (path : Path) (id : ℕ) (node : Node) → node_in s.nodes id ≡ Some node → walk (entry_of s.nodes) s.root path ≡ Some id → label_at t.names path ≡ Some node.label
+  pub path_label : (path : Path) (id : ℕ) (node : Node) → node_in s.nodes id ≡ Some node → walk (child_of s.nodes) s.root path ≡ Some id → label_at t.names path ≡ Some node.label
   path_label path id node here at =
       k.shows.by.names path ∙ ap (option_and_then (label_by (view_of s).shown)) at ∙ ap (λ (o : Option Node). option_map (λ (x : ℕ × Object). x.0) (option_map shown_node o)) here
 
   -- a path leads to a node with a name, and a node that a path leads to has one
-  pub named_path : (id : ℕ) (node : Node) → node_in s.nodes id ≡ Some node → 0 < node.names → (path : Path) × (walk (entry_of s.nodes) s.root path ≡ Some id)
+  pub named_path : (id : ℕ) (node : Node) → node_in s.nodes id ≡ Some node → 0 < node.names → (path : Path) × (walk (child_of s.nodes) s.root path ≡ Some id)
   named_path id node here some =
       let w = linked_path t.names node.label k.shows.ordered.names (subst (λ (n : ℕ). 0 < n) (k.linked id node here) some) in
       (w.0, led_by (view_of s) t k.shows.by id node.label (object_in node.metadata node.content) (ap (option_map shown_node) here) w.0 w.1)
 
-  pub path_named : (path : Path) (id : ℕ) (node : Node) → node_in s.nodes id ≡ Some node → walk (entry_of s.nodes) s.root path ≡ Some id → 0 < node.names
+  pub path_named : (path : Path) (id : ℕ) (node : Node) → node_in s.nodes id ≡ Some node → walk (child_of s.nodes) s.root path ≡ Some id → 0 < node.names
   path_named path id node here at = subst (λ (n : ℕ). 0 < n) (sym (k.linked id node here)) (named_linked t.names path node.label (path_label path id node here at))
 
   -- a path leads to where an entry stands
-  pub entry_path : (x c : ℕ) (n : Name) → entry_of s.nodes x n ≡ Some c → (path : Path) × (walk (entry_of s.nodes) s.root path ≡ Some x)
+  pub entry_path : (x c : ℕ) (n : Name) → child_of s.nodes x n ≡ Some c → (path : Path) × (walk (child_of s.nodes) s.root path ≡ Some x)
   entry_path x c n there =
-      elim (node_in s.nodes x) as (λ o. node_in s.nodes x ≡ o → option_and_then (λ (z : Node). entry_in z.content n) o ≡ Some c → (path : Path) × (walk (entry_of s.nodes) s.root path ≡ Some x)) [
+      elim (node_in s.nodes x) as (λ o. node_in s.nodes x ≡ o → option_and_then (λ (z : Node). child_in z.content n) o ≡ Some c → (path : Path) × (walk (child_of s.nodes) s.root path ≡ Some x)) [
         | None ↦ λ e f. absurd (cc)
-        | Some node ↦ λ e f. elim (nat_eq node.names 0) as (λ b. nat_eq node.names 0 ≡ b → (path : Path) × (walk (entry_of s.nodes) s.root path ≡ Some x)) [
+        | Some node ↦ λ e f. elim (nat_eq node.names 0) as (λ b. nat_eq node.names 0 ≡ b → (path : Path) × (walk (child_of s.nodes) s.root path ≡ Some x)) [
           | true ↦ λ g. let none = k.bare x node e (eqb-true node.names 0 g) n in absurd (cc)
           | false ↦ λ g. named_path x node e (some_names node.names g)
         ] refl
       ] refl there
 
   -- an entry leads to a node that has a name
-  pub entry_node : (x c : ℕ) (n : Name) → entry_of s.nodes x n ≡ Some c → (node : Node) × (node_in s.nodes c ≡ Some node) × (0 < node.names)
+  pub entry_node : (x c : ℕ) (n : Name) → child_of s.nodes x n ≡ Some c → (node : Node) × (node_in s.nodes c ≡ Some node) × (0 < node.names)
   entry_node x c n there =
       elim (node_in s.nodes c) as (λ o. node_in s.nodes c ≡ o → (node : Node) × (o ≡ Some node) × (0 < node.names)) [
         | None ↦ λ e. absurd (k.shows.by.sound.to x c n there (ap (option_map shown_node) e))
@@ -158,14 +158,14 @@ module _ (s : StoreState) (t : Tree) (k : Keeps s t) where
   }
 
   -- one entry alone leads to a node with one name
-  pub one_entry : (c : ℕ) (node : Node) → node_in s.nodes c ≡ Some node → node.names ≡ 1 → (x y : ℕ) (n m : Name) → entry_of s.nodes x n ≡ Some c → entry_of s.nodes y m ≡ Some c → (x ≡ y) × (n ≡ m)
+  pub one_entry : (c : ℕ) (node : Node) → node_in s.nodes c ≡ Some node → node.names ≡ 1 → (x y : ℕ) (n m : Name) → child_of s.nodes x n ≡ Some c → child_of s.nodes y m ≡ Some c → (x ≡ y) × (n ≡ m)
   one_entry c node here one x y n m a b =
       let p = entry_path x c n a in
       let q = entry_path y c m b in
       let same = only_path t.names node.label (p.0 ++ n ∷ []) (q.0 ++ m ∷ []) (sym (k.linked c node here) ∙ one)
       (path_label (p.0 ++ n ∷ []) c node here (one_more (view_of s) t k.shows p.0 x n p.1 ∙ a)) (path_label (q.0 ++ m ∷ []) c node here (one_more (view_of s) t k.shows q.0 y m q.1 ∙ b)) in
       let parts = last_same p.0 q.0 n m same in
-      let led : Some x ≡ Some y = sym p.1 ∙ ap (walk (entry_of s.nodes) s.root) parts.0 ∙ q.1 in
+      let led : Some x ≡ Some y = sym p.1 ∙ ap (walk (child_of s.nodes) s.root) parts.0 ∙ q.1 in
       (cc, parts.1)
 
   -- what is not unused is named or open
@@ -179,7 +179,7 @@ module _ (s : StoreState) (t : Tree) (k : Keeps s t) where
   -- a path's label has an object
   pub labelled_object : (q : Path) (label : ℕ) → label_at t.names q ≡ Some label → object_of t.objects label ≡ None → ⊥
   labelled_object q label at none =
-      elim (walk (entry_of s.nodes) s.root q) as (λ w. option_and_then (label_by (view_of s).shown) w ≡ Some label → ⊥) [
+      elim (walk (child_of s.nodes) s.root q) as (λ w. option_and_then (label_by (view_of s).shown) w ≡ Some label → ⊥) [
         | None ↦ λ e. cc
         | Some y ↦ elim (node_in s.nodes y) as (λ o. node_in s.nodes y ≡ o → option_map (λ (x : ℕ × Object). x.0) (option_map shown_node o) ≡ Some label → ⊥) [
           | None ↦ λ e f. cc
@@ -197,7 +197,7 @@ module _ (s : StoreState) (t : Tree) (k : Keeps s t) where
         | true ↦ λ e. eqb-true (times_open t label) 0 e
         | false ↦ λ e.
             let o = opener label e in
-            elim (handle_at s o.session o.number) as (λ h. handle_at s o.session o.number ≡ h → option_map (shown_handle o.session) h ≡ Some o.handle → times_open t label ≡ 0) [
+            elim (open_handle_at s o.session o.number) as (λ h. open_handle_at s o.session o.number ≡ h → option_map (shown_handle o.session) h ≡ Some o.handle → times_open t label ≡ 0) [
               | None ↦ λ f g. absurd (cc)
               | Some h ↦ λ f g.
                   let same : shown_handle o.session h ≡ o.handle = cc in

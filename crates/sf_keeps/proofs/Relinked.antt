@@ -10,7 +10,7 @@ use Rattle.sf_call.specs.Moves.{moved}
 use Rattle.sf_call.specs.Changes.{changed}
 use Rattle.sf_call.specs.Changes.Change.{Move}
 use Rattle.sf_call.proofs.Laws.{after_front-append, append-after_front, at_old, lookup-moved, moved_to_new, moved_outside, ordered_changed}
-use Rattle.sf_keeps.specs.Steps.{Steps, walk, changed_step}
+use Rattle.sf_keeps.specs.Steps.{EntryMap, walk, changed_step}
 use Rattle.sf_keeps.specs.Shows.{View, ShowsBy, Shows, label_by, is_directory_by, with_step, with_shown}
 use Rattle.sf_keeps.proofs.Walks.{walk-append, Avoids, LeadsOnce, led, walk_changed, walk_apart}
 use Rattle.sf_keeps.proofs.Keyed.{lookup_any, any_lookup}
@@ -20,7 +20,7 @@ use Rattle.sf_keeps.proofs.Less.{is_named, is_opened, OthersUsed, IsClosed, kept
 use Rattle.sf_keeps.proofs.Whole.{one_more, or_grows}
 
 -- where a path leads after a move
-abbrev pub led_after_move : Steps → ℕ → Path → Path → Option Path → Option Path → Option ℕ
+abbrev pub led_after_move : EntryMap → ℕ → Path → Path → Option Path → Option Path → Option ℕ
 led_after_move step root old q None None = walk step root q
 led_after_move step root old q None (Some r) = None
 led_after_move step root old q (Some rest) before = walk step root (old ++ rest)
@@ -39,14 +39,14 @@ longer : (p : Path) (n : Name) (s : Path) → (p ++ n ∷ []) ++ s ≡ p → ⊥
 longer [] n s = λ e. cc
 longer (k ∷ p) n s = λ e. let t : (p ++ n ∷ []) ++ s ≡ p = cc in longer p n s t
 
-module _ (step : Steps) (root : ℕ) (po : Path) (no : Name) (from : ℕ) (pn : Path) (nn : Name) (to c : ℕ)
+module _ (step : EntryMap) (root : ℕ) (po : Path) (no : Name) (from : ℕ) (pn : Path) (nn : Name) (to c : ℕ)
     (at_from : walk step root po ≡ Some from) (once_from : LeadsOnce step root po from) (there : step from no ≡ Some c)
     (at_to : walk step root pn ≡ Some to) (once_to : LeadsOnce step root pn to)
     (not_inside : after_front (po ++ no ∷ []) (pn ++ nn ∷ []) ≡ None) where
-  abbrev taken : Steps
+  abbrev taken : EntryMap
   taken = changed_step step from no None
 
-  abbrev pub relinked : Steps
+  abbrev pub relinked : EntryMap
   relinked = changed_step taken to nn (Some c)
 
   at_old_path : walk step root (po ++ no ∷ []) ≡ Some c

@@ -19,7 +19,7 @@ use Rattle.sf_call.proofs.Laws.{sorted_filtered}
 use Rattle.sf_inode.specs.declared.node.Node.{Node}
 use Rattle.sf_inode.specs.declared.handle.OpenHandle.{OpenHandle}
 use Rattle.sf_inode.specs.Nodes.{object_in}
-use Rattle.sf_inode.specs.Stores.{StoreState, node_in, handle_at, handles_of, shown_handle}
+use Rattle.sf_inode.specs.Stores.{StoreState, node_in, open_handle_at, handles_of, shown_handle}
 use Rattle.sf_keeps.specs.Keeps.{Keeps}
 use Rattle.sf_keeps.proofs.Keyed.{distinct}
 use Rattle.sf_keeps.proofs.Orderly.{sorted_mapped, same_sorted}
@@ -31,12 +31,12 @@ filtered_is session (Some h) = refl
 
 module _ (s : StoreState) (t : Tree) (k : Keeps s t) where
   module _ (session : ℕ) where
-    own_found : (number : ℕ) → lookup (is_at (nat_cmp number)) (filter (λ (e : ℕ × Handle). nat_eq e.1.session session) t.handles) ≡ option_map (shown_handle session) (handle_at s session number)
+    own_found : (number : ℕ) → lookup (is_at (nat_cmp number)) (filter (λ (e : ℕ × Handle). nat_eq e.1.session session) t.handles) ≡ option_map (shown_handle session) (open_handle_at s session number)
     own_found number =
         lookup-filter-values (eq_by_cmp_equiv nat_cmp_total) (λ (h : Handle). nat_eq h.session session) number t.handles (distinct nat_cmp nat_cmp_total t.handles k.shows.ordered.handles)
         ∙ filtered_is session (handle_of t.handles number) ∙ k.shows.by.handles session number
 
-    counted_list : (handles : List (ℕ × OpenHandle)) → T (is_sorted nat_cmp handles) → ((number : ℕ) → lookup (is_at (nat_cmp number)) handles ≡ handle_at s session number)
+    counted_list : (handles : List (ℕ × OpenHandle)) → T (is_sorted nat_cmp handles) → ((number : ℕ) → lookup (is_at (nat_cmp number)) handles ≡ open_handle_at s session number)
         → length handles ≡ count_by (λ (e : ℕ × Handle). nat_eq e.1.session session) t.handles
     counted_list handles sorted found =
         let shown = map (λ (e : ℕ × OpenHandle). (e.0, shown_handle session e.1)) handles in
@@ -55,16 +55,16 @@ module _ (s : StoreState) (t : Tree) (k : Keeps s t) where
   handle_count session = counted_at session (handles_of s session) refl
 
   -- its node is there, with the object of its label
-  pub found_node : (session number : ℕ) (h : OpenHandle) → handle_at s session number ≡ Some h
+  pub found_node : (session number : ℕ) (h : OpenHandle) → open_handle_at s session number ≡ Some h
       → (node : Node) × ((node_in s.nodes h.node ≡ Some node) × (node.label ≡ h.label) × (object_of t.objects h.label ≡ Some (object_in node.metadata node.content)))
   found_node session number h at =
       let w = k.led session number h at in
       (w.0, (w.1.0, w.1.1, ap (object_of t.objects) (sym w.1.1) ∙ object_there s t k h.node w.0 w.1.0))
 
   -- a number that no handle has
-  pub free_handles : (number : ℕ) → handle_of t.handles number ≡ None → (session : ℕ) → handle_at s session number ≡ None
+  pub free_handles : (number : ℕ) → handle_of t.handles number ≡ None → (session : ℕ) → open_handle_at s session number ≡ None
   free_handles number free session =
-      elim (handle_at s session number) as (λ o. option_map (shown_handle session) o ≡ None → o ≡ None) [
+      elim (open_handle_at s session number) as (λ o. option_map (shown_handle session) o ≡ None → o ≡ None) [
         | None ↦ λ e. refl
         | Some h ↦ λ e. cc
       ] (sym (k.shows.by.handles session number) ∙ ap (option_and_then (if_of session)) free)

@@ -6,7 +6,7 @@ use Rattle.sf_path.specs.Order.{same_name}
 use Rattle.sf_call.specs.Attributes.{Object}
 use Rattle.sf_call.specs.Tree.{directory_metadata}
 use Rattle.sf_call.proofs.Laws.{same_name_is, same_name_itself, both_true}
-use Rattle.sf_keeps.specs.Steps.{Steps, walk, changed_step}
+use Rattle.sf_keeps.specs.Steps.{EntryMap, walk, changed_step}
 use Rattle.sf_keeps.specs.Shows.{Shown, IsSound, is_directory_by, changed_shown}
 
 -- whether it is a directory's
@@ -18,14 +18,14 @@ pub directory_there : (shown : Shown) (x : ℕ) → is_directory_by shown x ≡ 
 directory_there shown x is none = let e = ap is_directory_shown none in cc
 
 -- no entry leads to it
-abbrev pub HasNoEntry : Steps → ℕ → Type 0
+abbrev pub HasNoEntry : EntryMap → ℕ → Type 0
 HasNoEntry step c = (x : ℕ) (n : Name) → step x n ≡ Some c → ⊥
 
-abbrev pub IsBare : Steps → ℕ → Type 0
+abbrev pub IsBare : EntryMap → ℕ → Type 0
 IsBare step c = (m : Name) → step c m ≡ None
 
 -- the last step of a way
-pub last_step : (step : Steps) (q : Path) (x c : ℕ) → walk step x q ≡ Some c → (x ≡ c) ⊎ ((y : ℕ) × (m : Name) × (step y m ≡ Some c))
+pub last_step : (step : EntryMap) (q : Path) (x c : ℕ) → walk step x q ≡ Some c → (x ≡ c) ⊎ ((y : ℕ) × (m : Name) × (step y m ≡ Some c))
 last_step step [] x c w = let e : x ≡ c = cc in inl e
 last_step step (m ∷ q) x c w =
     elim (step x m) as (λ o. step x m ≡ o → option_and_then (λ y. walk step y q) o ≡ Some c → (x ≡ c) ⊎ ((y : ℕ) × (k : Name) × (step y k ≡ Some c))) [
@@ -36,17 +36,17 @@ last_step step (m ∷ q) x c w =
       ]
     ] refl w
 
-pub never_reached : (step : Steps) (root c : ℕ) (q : Path) → HasNoEntry step c → (root ≡ c → ⊥) → walk step root q ≡ Some c → ⊥
+pub never_reached : (step : EntryMap) (root c : ℕ) (q : Path) → HasNoEntry step c → (root ≡ c → ⊥) → walk step root q ≡ Some c → ⊥
 never_reached step root c q none other w = elim (last_step step q root c w) [ inl e ↦ other e | inr s ↦ none s.0 s.1 s.2 ]
 
 -- what a way leads to is there
-pub reached_there : (step : Steps) (shown : Shown) (root : ℕ) → IsSound step shown root → (q : Path) (y : ℕ) → walk step root q ≡ Some y → shown y ≡ None → ⊥
+pub reached_there : (step : EntryMap) (shown : Shown) (root : ℕ) → IsSound step shown root → (q : Path) (y : ℕ) → walk step root q ≡ Some y → shown y ≡ None → ⊥
 reached_there step shown root sound q y w none = elim (last_step step q root y w) [
   | inl e ↦ directory_there shown root sound.rooted (ap shown e ∙ none)
   | inr s ↦ sound.to s.0 y s.1 s.2 none
 ]
 
-module _ (step : Steps) (d : ℕ) (n : Name) where
+module _ (step : EntryMap) (d : ℕ) (n : Name) where
   pub step_less : (x c : ℕ) (m : Name) → changed_step step d n None x m ≡ Some c → step x m ≡ Some c
   step_less x c m = elim (nat_eq d x && same_name n m) as (λ b. cond b None (step x m) ≡ Some c → step x m ≡ Some c) [ true ↦ λ e. cc | false ↦ λ e. e ]
 
@@ -99,7 +99,7 @@ module _ (step : Steps) (d : ℕ) (n : Name) where
       rooted = sound.rooted;
     }
 
-module _ (step : Steps) (shown : Shown) (root c : ℕ) (sound : IsSound step shown root) where
+module _ (step : EntryMap) (shown : Shown) (root c : ℕ) (sound : IsSound step shown root) where
   pub there_more : (x : ℕ) (v : ℕ × Object) → (shown x ≡ None → ⊥) → changed_shown shown c (Some v) x ≡ None → ⊥
   there_more x v there = elim (nat_eq c x) as (λ b. cond b (Some v) (shown x) ≡ None → ⊥) [ true ↦ λ e. cc | false ↦ λ e. there e ]
 

@@ -6,9 +6,9 @@ use Rattle.sf_call.specs.Tree.{directory_metadata}
 use Rattle.sf_inode.specs.declared.node.Content.{Content}
 use Rattle.sf_inode.specs.declared.node.Content.TheVariants as content
 use Rattle.sf_block.specs.Contents.{FileBytes}
-use Rattle.sf_inode.specs.Nodes.{entry_in, object_in, with_file, with_left}
+use Rattle.sf_inode.specs.Nodes.{child_in, object_in, with_file, with_left}
 
-pub entry_stored : (st : FileBytes) (c : Content) (m : Name) → entry_in (with_file st c) m ≡ entry_in c m
+pub entry_stored : (st : FileBytes) (c : Content) (m : Name) → child_in (with_file st c) m ≡ child_in c m
 entry_stored st (content.Directory es) m = refl
 entry_stored st (content.File contents) m = refl
 
@@ -16,7 +16,7 @@ pub kind_stored : (st : FileBytes) (k : Metadata) (c : Content) → is_some (dir
 kind_stored st k (content.Directory es) = refl
 kind_stored st k (content.File contents) = refl
 
-pub entry_left : (left : ℕ) (c : Content) (m : Name) → entry_in (with_left left c) m ≡ entry_in c m
+pub entry_left : (left : ℕ) (c : Content) (m : Name) → child_in (with_left left c) m ≡ child_in c m
 entry_left left (content.Directory es) m = refl
 entry_left left (content.File contents) m = refl
 

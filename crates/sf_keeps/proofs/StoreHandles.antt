@@ -10,7 +10,7 @@ use Rattle.sf_path.specs.Names.{Name}
 use Rattle.sf_call.proofs.Laws.{lookup-put, sorted_put, sorted_set, sorted_removed}
 use Rattle.sf_inode.specs.declared.handle.OpenHandle.{OpenHandle}
 use Rattle.sf_keeps.specs.Shows.{with_opens}
-use Rattle.sf_inode.specs.Stores.{StoreState, handle_at, handles_of, shown_handle, with_sessions, handles_put, handle_put, handle_dropped, with_last, listed_by, listed_at, handle_listed}
+use Rattle.sf_inode.specs.Stores.{StoreState, open_handle_at, handles_of, shown_handle, with_sessions, handles_put, handle_put, handle_dropped, with_last, listed_by, listed_at, handle_listed}
 use Rattle.sf_keeps.specs.Keeps.{view_of}
 use Rattle.sf_keeps.proofs.Keyed.{lookup-set, lookup-removed}
 use Rattle.sf_keeps.proofs.Shown.{nat_same, nat_at_itself, nat_eq_apart}
@@ -44,19 +44,19 @@ AreOrdered sessions = (session : ℕ) (handles : Handles) → lookup (is_at (nat
 
 -- one handle has changed, and all stand in order
 pub record HandleSet (s : StoreState) (new : Sessions) (session number : ℕ) (r : Option OpenHandle) : Type 0 where
-  pub at : (a b : ℕ) → handle_at (with_sessions s new) a b ≡ cond (nat_eq session a && nat_eq number b) r (handle_at s a b)
+  pub at : (a b : ℕ) → open_handle_at (with_sessions s new) a b ≡ cond (nat_eq session a && nat_eq number b) r (open_handle_at s a b)
   pub sessions : T (is_sorted nat_cmp new)
   pub handles : AreOrdered new
 
 module _ (s : StoreState) (session number : ℕ) (r : Option OpenHandle) (handles : Handles) (new : Sessions)
     (outer : (a : ℕ) → lookup (is_at (nat_cmp a)) new ≡ cond (nat_eq session a) (Some handles) (handles_of s a))
-    (inner : (b : ℕ) → found b handles ≡ cond (nat_eq number b) r (handle_at s session b))
+    (inner : (b : ℕ) → found b handles ≡ cond (nat_eq number b) r (open_handle_at s session b))
     (others : AreOrdered s.sessions) (ordered : T (is_sorted nat_cmp new)) (own : T (is_sorted nat_cmp handles)) where
-  handle_changed : (a b : ℕ) → handle_at (with_sessions s new) a b ≡ cond (nat_eq session a && nat_eq number b) r (handle_at s a b)
+  handle_changed : (a b : ℕ) → open_handle_at (with_sessions s new) a b ≡ cond (nat_eq session a && nat_eq number b) r (open_handle_at s a b)
   handle_changed a b =
       ap (λ (o : Option Handles). option_and_then (found b) o) (outer a)
-      ∙ elim (nat_eq session a) as (λ z. nat_eq session a ≡ z → option_and_then (found b) (cond z (Some handles) (handles_of s a)) ≡ cond (z && nat_eq number b) r (handle_at s a b)) [
-        | true ↦ λ e. inner b ∙ ap (λ (x : ℕ). cond (nat_eq number b) r (handle_at s x b)) (eqb-true session a e)
+      ∙ elim (nat_eq session a) as (λ z. nat_eq session a ≡ z → option_and_then (found b) (cond z (Some handles) (handles_of s a)) ≡ cond (z && nat_eq number b) r (open_handle_at s a b)) [
+        | true ↦ λ e. inner b ∙ ap (λ (x : ℕ). cond (nat_eq number b) r (open_handle_at s x b)) (eqb-true session a e)
         | false ↦ λ e. refl
       ] refl
 
@@ -97,7 +97,7 @@ module _ (s : StoreState) (ordered : T (is_sorted nat_cmp s.sessions)) (own : Ar
   put_handle_set h = put_at h (handles_of s session) refl
 
   -- ---- a handle that is there
-  module _ (h : OpenHandle) (at : handle_at s session number ≡ Some h) where
+  module _ (h : OpenHandle) (at : open_handle_at s session number ≡ Some h) where
     pub its_session : (handles : Handles) × (handles_of s session ≡ Some handles) × (found number handles ≡ Some h)
     its_session = elim (handles_of s session) as (λ o. option_and_then (found number) o ≡ Some h → (handles : Handles) × (o ≡ Some handles) × (found number handles ≡ Some h)) [
       | None ↦ λ e. cc
@@ -105,7 +105,7 @@ module _ (s : StoreState) (ordered : T (is_sorted nat_cmp s.sessions)) (own : Ar
     ] at
 
     -- another list of the session's handles
-    changed_set : (r : Option OpenHandle) (handles : Handles) → T (is_sorted nat_cmp handles) → ((b : ℕ) → found b handles ≡ cond (nat_eq number b) r (handle_at s session b))
+    changed_set : (r : Option OpenHandle) (handles : Handles) → T (is_sorted nat_cmp handles) → ((b : ℕ) → found b handles ≡ cond (nat_eq number b) r (open_handle_at s session b))
         → HandleSet s (set_value (is_at (nat_cmp session)) s.sessions handles) session number r
     changed_set r handles sorted inner =
         let new = set_value (is_at (nat_cmp session)) s.sessions handles in
@@ -113,7 +113,7 @@ module _ (s : StoreState) (ordered : T (is_sorted nat_cmp s.sessions)) (own : Ar
         (λ a. lookup-set nat_cmp nat_cmp_total s.sessions session handles a (subst (λ x. IsSome x) (sym its_session.1) refl) ∙ ap (λ z. cond z (Some handles) (handles_of s a)) (at_is session a))
         inner own (sorted_set nat_cmp (is_at (nat_cmp session)) handles s.sessions ordered) sorted
 
-    its_handles : (b : ℕ) → handle_at s session b ≡ found b its_session.0
+    its_handles : (b : ℕ) → open_handle_at s session b ≡ found b its_session.0
     its_handles b = ap (option_and_then (found b)) its_session.1
 
     pub dropped_set : (new : Sessions) × (handle_dropped s session number (handles_of s session) ≡ with_sessions s new) × HandleSet s new session number None
@@ -144,8 +144,8 @@ pub view_set : (s : StoreState) (new : Sessions) (session number : ℕ) (r : Opt
 view_set s new session number r set =
     same_view (with_opens (view_of s) session number (option_map (shown_handle session) r)) (view_of (with_sessions s new)) (λ x m. refl) (λ x. refl) refl
     (λ a b. ap (option_map (shown_handle a)) (set.at a b)
-    ∙ elim (nat_eq session a) as (λ z. nat_eq session a ≡ z → option_map (shown_handle a) (cond (z && nat_eq number b) r (handle_at s a b)) ≡ cond (z && nat_eq number b) (option_map (shown_handle session) r) ((view_of s).opens a b)) [
-      | true ↦ λ e. elim (nat_eq number b) as (λ y. option_map (shown_handle a) (cond y r (handle_at s a b)) ≡ cond y (option_map (shown_handle session) r) ((view_of s).opens a b)) [
+    ∙ elim (nat_eq session a) as (λ z. nat_eq session a ≡ z → option_map (shown_handle a) (cond (z && nat_eq number b) r (open_handle_at s a b)) ≡ cond (z && nat_eq number b) (option_map (shown_handle session) r) ((view_of s).opens a b)) [
+      | true ↦ λ e. elim (nat_eq number b) as (λ y. option_map (shown_handle a) (cond y r (open_handle_at s a b)) ≡ cond y (option_map (shown_handle session) r) ((view_of s).opens a b)) [
         | true ↦ ap (λ (x : ℕ). option_map (shown_handle x) r) (sym (eqb-true session a e))
         | false ↦ refl
       ]

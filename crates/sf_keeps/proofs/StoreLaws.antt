@@ -15,10 +15,10 @@ use Rattle.sf_inode.specs.declared.node.Node.{Node}
 use Rattle.sf_inode.specs.declared.node.Content.{Content}
 use Rattle.sf_inode.specs.declared.node.Content.TheVariants as content
 use Rattle.sf_inode.specs.declared.handle.OpenHandle.{OpenHandle}
-use Rattle.sf_inode.specs.Nodes.{entry_in, object_in, less_content, more_content, with_content, without_name, is_unused}
+use Rattle.sf_inode.specs.Nodes.{child_in, object_in, less_content, more_content, with_content, without_name, is_unused}
 use Rattle.sf_keeps.specs.Steps.{walk, changed_step}
 use Rattle.sf_keeps.specs.Shows.{View, Shows, is_directory_by, changed_shown, with_step, with_shown}
-use Rattle.sf_inode.specs.Stores.{StoreState, node_in, entry_of, shown_node, shown_of, edited_by, edited, entry_taken, entry_put, with_nodes, released_if, released, forgotten, unlinked_from, unlinked, Inserted, new_entry}
+use Rattle.sf_inode.specs.Stores.{StoreState, node_in, child_of, shown_node, shown_of, edited_by, edited, entry_taken, entry_put, with_nodes, released_if, released, forgotten, unlinked_from, unlinked, Inserted, new_entry}
 use Rattle.sf_keeps.specs.Keeps.{view_of}
 use Rattle.sf_keeps.proofs.Keyed.{lookup-removed}
 use Rattle.sf_keeps.proofs.InOrder.{IsInOrder}
@@ -55,19 +55,19 @@ at_id A a b x y z p q = elim (nat_eq a b) as (λ t. nat_eq a b ≡ t → cond t 
 
 module _ (before after : List (Option Node)) (d : ℕ) (node node' : Node) (at : node_in before d ≡ Some node)
     (put : (i : ℕ) → node_in after i ≡ cond (nat_eq d i) (Some node') (node_in before i)) where
-  pub step_changed : (n : Name) (r : Option ℕ) → ((m : Name) → entry_in node'.content m ≡ cond (same_name n m) r (entry_in node.content m)) → (x : ℕ) (m : Name) → entry_of after x m ≡ changed_step (entry_of before) d n r x m
+  pub step_changed : (n : Name) (r : Option ℕ) → ((m : Name) → child_in node'.content m ≡ cond (same_name n m) r (child_in node.content m)) → (x : ℕ) (m : Name) → child_of after x m ≡ changed_step (child_of before) d n r x m
   step_changed n r says x m =
-      ap (option_and_then (λ (z : Node). entry_in z.content m)) (put x)
-      ∙ elim (nat_eq d x) as (λ b. nat_eq d x ≡ b → option_and_then (λ (z : Node). entry_in z.content m) (cond b (Some node') (node_in before x)) ≡ cond (b && same_name n m) r (entry_of before x m)) [
-        | true ↦ λ e. says m ∙ ap (cond (same_name n m) r) (sym (ap (option_and_then (λ (z : Node). entry_in z.content m)) (ap (node_in before) (sym (eqb-true d x e)) ∙ at)))
+      ap (option_and_then (λ (z : Node). child_in z.content m)) (put x)
+      ∙ elim (nat_eq d x) as (λ b. nat_eq d x ≡ b → option_and_then (λ (z : Node). child_in z.content m) (cond b (Some node') (node_in before x)) ≡ cond (b && same_name n m) r (child_of before x m)) [
+        | true ↦ λ e. says m ∙ ap (cond (same_name n m) r) (sym (ap (option_and_then (λ (z : Node). child_in z.content m)) (ap (node_in before) (sym (eqb-true d x e)) ∙ at)))
         | false ↦ λ e. refl
       ] refl
 
-  pub entry_same : ((m : Name) → entry_in node'.content m ≡ entry_in node.content m) → (x : ℕ) (m : Name) → entry_of after x m ≡ entry_of before x m
+  pub entry_same : ((m : Name) → child_in node'.content m ≡ child_in node.content m) → (x : ℕ) (m : Name) → child_of after x m ≡ child_of before x m
   entry_same says x m =
-      ap (option_and_then (λ (z : Node). entry_in z.content m)) (put x)
-      ∙ elim (nat_eq d x) as (λ b. nat_eq d x ≡ b → option_and_then (λ (z : Node). entry_in z.content m) (cond b (Some node') (node_in before x)) ≡ entry_of before x m) [
-        | true ↦ λ e. says m ∙ sym (ap (option_and_then (λ (z : Node). entry_in z.content m)) (ap (node_in before) (sym (eqb-true d x e)) ∙ at))
+      ap (option_and_then (λ (z : Node). child_in z.content m)) (put x)
+      ∙ elim (nat_eq d x) as (λ b. nat_eq d x ≡ b → option_and_then (λ (z : Node). child_in z.content m) (cond b (Some node') (node_in before x)) ≡ child_of before x m) [
+        | true ↦ λ e. says m ∙ sym (ap (option_and_then (λ (z : Node). child_in z.content m)) (ap (node_in before) (sym (eqb-true d x e)) ∙ at))
         | false ↦ λ e. refl
       ] refl
 
@@ -85,7 +85,7 @@ module _ (before after : List (Option Node)) (d : ℕ) (node node' : Node) (at :
       ] refl
 
 -- ---- entries of a directory
-pub less_says : (n m : Name) (c : Content) → IsInOrder c → entry_in (less_content n c) m ≡ cond (same_name n m) None (entry_in c m)
+pub less_says : (n m : Name) (c : Content) → IsInOrder c → child_in (less_content n c) m ≡ cond (same_name n m) None (child_in c m)
 less_says n m (content.File contents) h = elim (same_name n m) as (λ b. ◌≡◌ {A = Option ℕ} None (cond b None None)) [ true ↦ refl | false ↦ refl ]
 less_says n m (content.Directory es) h = lookup-removed name_cmp name_total es n m h
 
@@ -98,7 +98,7 @@ flip_name n m = elim (same_name n m) as (λ b. same_name n m ≡ b → b ≡ sam
   ] refl
 ] refl
 
-pub more_says : (n m : Name) (c : ℕ) (es : List (Name × ℕ)) → entry_in (more_content n c (content.Directory es)) m ≡ cond (same_name n m) (Some c) (lookup (same_name m) es)
+pub more_says : (n m : Name) (c : ℕ) (es : List (Name × ℕ)) → child_in (more_content n c (content.Directory es)) m ≡ cond (same_name n m) (Some c) (lookup (same_name m) es)
 more_says n m c es = lookup-put name_cmp name_total es n c m ∙ ap (λ b. cond b (Some c) (lookup (same_name m) es)) (flip_name m n)
 
 pub object_less : (n : Name) (m : Metadata) (c : Content) → object_in m (less_content n c) ≡ object_in m c
@@ -117,7 +117,7 @@ view_taken s d n node ordered here =
 -- ---- another object
 -- a change of a node that keeps its entries and its label is a change of its object
 pub shows_edited : (f : Node → Node) (s : StoreState) (t : Tree) (id : ℕ) (node : Node) → Shows (view_of s) t → node_in s.nodes id ≡ Some node
-    → ((m : Name) → entry_in (f node).content m ≡ entry_in node.content m) → (f node).label ≡ node.label
+    → ((m : Name) → child_in (f node).content m ≡ child_in node.content m) → (f node).label ≡ node.label
     → is_some (directory_metadata (object_in node.metadata node.content)) ≡ is_some (directory_metadata (object_in (f node).metadata (f node).content))
     → Shows (view_of (edited f s id)) (changed t (SetObject node.label (object_in (f node).metadata (f node).content)))
 shows_edited f s t id node h here entries label kind =
@@ -135,8 +135,8 @@ kind_metadata m k (content.File contents) = refl
 
 -- ---- a new node with its entry
 pub shows_inserted : (old new : StoreState) (t : Tree) (p : Path) (d : ℕ) (n : Name) (c : ℕ) (node above : Node) (es : List (Name × ℕ)) → Inserted old new (new_entry d n c) node → Shows (view_of old) t
-    → walk (entry_of old.nodes) old.root p ≡ Some d → node_in old.nodes d ≡ Some above → above.content ≡ content.Directory es → lookup (same_name n) es ≡ None
-    → ((m : Name) → entry_in node.content m ≡ None) → object_of t.objects node.label ≡ None
+    → walk (child_of old.nodes) old.root p ≡ Some d → node_in old.nodes d ≡ Some above → above.content ≡ content.Directory es → lookup (same_name n) es ≡ None
+    → ((m : Name) → child_in node.content m ≡ None) → object_of t.objects node.label ≡ None
     → Shows (view_of new) (changed t (NewPath (p ++ n ∷ []) node.label (object_in node.metadata node.content)))
 shows_inserted old new t p d n c node above es did h at here dir free bare fresh =
     let o = object_in node.metadata node.content in
@@ -146,13 +146,13 @@ shows_inserted old new t p d n c node above es did h at here dir free bare fresh
     let apart : nat_eq d c ≡ false = nat_eq_apart d c (λ e. let f = ap (node_in old.nodes) e in let g = did.fresh in cc) in
     let mid_c : node_in mid c ≡ None = put c ∙ ap (λ b. cond b (Some more) (node_in old.nodes c)) apart ∙ did.fresh in
     let all : (i : ℕ) → node_in new.nodes i ≡ cond (nat_eq c i) (Some node) (node_in mid i) = λ i. sym (at_id (Option Node) c i (Some node) (node_in mid i) (node_in new.nodes i) (λ e. sym (ap (node_in new.nodes) (sym (eqb-true c i e)) ∙ did.at)) (λ e. sym (did.others i (λ f. same_apart c i e (sym f))))) in
-    let says : (m : Name) → entry_in (more_content n c above.content) m ≡ cond (same_name n m) (Some c) (entry_in above.content m) =
-    λ m. subst (λ (z : Content). entry_in (more_content n c z) m ≡ cond (same_name n m) (Some c) (entry_in z m)) (sym dir) (more_says n m c es) in
+    let says : (m : Name) → child_in (more_content n c above.content) m ≡ cond (same_name n m) (Some c) (child_in above.content m) =
+    λ m. subst (λ (z : Content). child_in (more_content n c z) m ≡ cond (same_name n m) (Some c) (child_in z m)) (sym dir) (more_says n m c es) in
     let same : shown_node more ≡ shown_node above = λ i. (above.label, subst (λ (z : Content). object_in above.metadata (more_content n c z) ≡ object_in above.metadata z) (sym dir) refl i) in
     let is : is_directory_by (shown_of old.nodes) d ≡ true = ap (λ (v : Option Node). is_some (option_and_then (λ (w : ℕ × Object). directory_metadata w.1) (option_map shown_node v))) here ∙ ap (λ (z : Content). is_some (directory_metadata (object_in above.metadata z))) dir in
     along (with_step (with_shown (view_of old) c (Some (shown_node node))) d n (Some c)) (view_of new) (changed t (NewPath (p ++ n ∷ []) node.label o))
-    (λ x m. ap (option_and_then (λ (z : Node). entry_in z.content m)) (all x) ∙ elim (nat_eq c x) as (λ b. nat_eq c x ≡ b → option_and_then (λ (z : Node). entry_in z.content m) (cond b (Some node) (node_in mid x)) ≡ entry_of mid x m) [
-      | true ↦ λ e. bare m ∙ sym (ap (λ (y : ℕ). entry_of mid y m) (sym (eqb-true c x e)) ∙ ap (option_and_then (λ (z : Node). entry_in z.content m)) mid_c)
+    (λ x m. ap (option_and_then (λ (z : Node). child_in z.content m)) (all x) ∙ elim (nat_eq c x) as (λ b. nat_eq c x ≡ b → option_and_then (λ (z : Node). child_in z.content m) (cond b (Some node) (node_in mid x)) ≡ child_of mid x m) [
+      | true ↦ λ e. bare m ∙ sym (ap (λ (y : ℕ). child_of mid y m) (sym (eqb-true c x e)) ∙ ap (option_and_then (λ (z : Node). child_in z.content m)) mid_c)
       | false ↦ λ e. refl
     ] refl
     ∙ step_changed old.nodes mid d above more here put n (Some c) says x m)
@@ -163,15 +163,15 @@ shows_inserted old new t p d n c node above es did h at here dir free bare fresh
     did.root
     (λ a b. ap (λ (hs : List (ℕ × List (ℕ × OpenHandle))). (view_of (record { nodes = new.nodes; root = new.root; sessions = hs; look_ups = new.look_ups })).opens a b) did.sessions)
     (shows_new (view_of old) t h p d n c node.label o at is
-    (ap (option_and_then (λ (z : Node). entry_in z.content n)) here ∙ ap (λ (z : Content). entry_in z n) dir ∙ free) (ap (option_map shown_node) did.fresh) fresh)
+    (ap (option_and_then (λ (z : Node). child_in z.content n)) here ∙ ap (λ (z : Content). child_in z n) dir ∙ free) (ap (option_map shown_node) did.fresh) fresh)
 
 -- ---- a node let go
 module _ (before after : List (Option Node)) (c : ℕ) (put : (i : ℕ) → node_in after i ≡ cond (nat_eq c i) None (node_in before i)) where
-  steps_dropped : IsBare (entry_of before) c → (x : ℕ) (m : Name) → entry_of after x m ≡ entry_of before x m
+  steps_dropped : IsBare (child_of before) c → (x : ℕ) (m : Name) → child_of after x m ≡ child_of before x m
   steps_dropped bare x m =
-      ap (option_and_then (λ (z : Node). entry_in z.content m)) (put x)
-      ∙ elim (nat_eq c x) as (λ b. nat_eq c x ≡ b → option_and_then (λ (z : Node). entry_in z.content m) (cond b None (node_in before x)) ≡ entry_of before x m) [
-        | true ↦ λ e. sym (ap (λ (y : ℕ). entry_of before y m) (sym (eqb-true c x e)) ∙ bare m)
+      ap (option_and_then (λ (z : Node). child_in z.content m)) (put x)
+      ∙ elim (nat_eq c x) as (λ b. nat_eq c x ≡ b → option_and_then (λ (z : Node). child_in z.content m) (cond b None (node_in before x)) ≡ child_of before x m) [
+        | true ↦ λ e. sym (ap (λ (y : ℕ). child_of before y m) (sym (eqb-true c x e)) ∙ bare m)
         | false ↦ λ e. refl
       ] refl
 
@@ -179,7 +179,7 @@ module _ (before after : List (Option Node)) (c : ℕ) (put : (i : ℕ) → node
   shown_dropped x = ap (option_map shown_node) (put x) ∙ elim (nat_eq c x) as (λ b. option_map shown_node (cond b None (node_in before x)) ≡ cond b None (shown_of before x)) [ true ↦ refl | false ↦ refl ]
 
 -- a node is changed in what can't be seen, and goes where nothing uses it any more
-module _ (f : Node → Node) (s : StoreState) (c : ℕ) (node : Node) (here : node_in s.nodes c ≡ Some node) (entries : (m : Name) → entry_in (f node).content m ≡ entry_in node.content m) (same : shown_node (f node) ≡ shown_node node) where
+module _ (f : Node → Node) (s : StoreState) (c : ℕ) (node : Node) (here : node_in s.nodes c ≡ Some node) (entries : (m : Name) → child_in (f node).content m ≡ child_in node.content m) (same : shown_node (f node) ≡ shown_node node) where
   pub changed_there : node_in (edited f s c).nodes c ≡ Some (f node)
   changed_there = node_in-edited f s c node here c ∙ ap (λ b. cond b (Some (f node)) (node_in s.nodes c)) (eq-eqb c c refl)
 
@@ -194,10 +194,10 @@ module _ (f : Node → Node) (s : StoreState) (c : ℕ) (node : Node) (here : no
       ap (λ (o : Option Node). view_of (released_if (edited f s c) c o)) changed_there
       ∙ ap (λ (b : Bool). view_of (cond b (with_nodes (edited f s c) (slice_set (edited f s c).nodes c None)) (edited f s c))) used ∙ view_unseen
 
-  pub view_goes : IsBare (entry_of s.nodes) c → is_unused (f node) ≡ true → view_of (released (edited f s c) c) ≡ with_shown (view_of s) c None
+  pub view_goes : IsBare (child_of s.nodes) c → is_unused (f node) ≡ true → view_of (released (edited f s c) c) ≡ with_shown (view_of s) c None
   view_goes bare unused =
       let put = node_in-set (edited f s c).nodes c (f node) None changed_there in
-      let bare_now : IsBare (entry_of (edited f s c).nodes) c = λ m. entry_same s.nodes (edited f s c).nodes c node (f node) here (node_in-edited f s c node here) entries c m ∙ bare m in
+      let bare_now : IsBare (child_of (edited f s c).nodes) c = λ m. entry_same s.nodes (edited f s c).nodes c node (f node) here (node_in-edited f s c node here) entries c m ∙ bare m in
       ap (λ (o : Option Node). view_of (released_if (edited f s c) c o)) changed_there
       ∙ ap (λ (b : Bool). view_of (cond b (with_nodes (edited f s c) (slice_set (edited f s c).nodes c None)) (edited f s c))) unused
       ∙ same_view (with_shown (view_of (edited f s c)) c None) (view_of (with_nodes (edited f s c) (slice_set (edited f s c).nodes c None)))
@@ -208,9 +208,9 @@ module _ (f : Node → Node) (s : StoreState) (c : ℕ) (node : Node) (here : no
 
 -- ---- an entry taken out, and its node let go
 module _ (s : StoreState) (t : Tree) (h : Shows (view_of s) t) (p : Path) (d : ℕ) (n : Name) (c : ℕ) (above node : Node)
-    (ordered : IsInOrder above.content) (at : walk (entry_of s.nodes) s.root p ≡ Some d) (here : node_in s.nodes d ≡ Some above) (there : entry_of s.nodes d n ≡ Some c) (is : node_in s.nodes c ≡ Some node) (bare : IsBare (entry_of s.nodes) c) where
+    (ordered : IsInOrder above.content) (at : walk (child_of s.nodes) s.root p ≡ Some d) (here : node_in s.nodes d ≡ Some above) (there : child_of s.nodes d n ≡ Some c) (is : node_in s.nodes c ≡ Some node) (bare : IsBare (child_of s.nodes) c) where
   apart : nat_eq d c ≡ false
-  apart = nat_eq_apart d c (λ e. let f = ap (λ (x : ℕ). entry_of s.nodes x n) e in let g = bare n in cc)
+  apart = nat_eq_apart d c (λ e. let f = ap (λ (x : ℕ). child_of s.nodes x n) e in let g = bare n in cc)
 
   still : node_in (entry_taken s d n).nodes c ≡ Some node
   still = node_in-edited (with_content (less_content n)) s d above here c ∙ ap (λ b. cond b (Some (with_content (less_content n) above)) (node_in s.nodes c)) apart ∙ is
@@ -218,15 +218,15 @@ module _ (s : StoreState) (t : Tree) (h : Shows (view_of s) t) (p : Path) (d : �
   view_less : view_of (entry_taken s d n) ≡ with_step (view_of s) d n None
   view_less = view_taken s d n above ordered here
 
-  bare_less : IsBare (entry_of (entry_taken s d n).nodes) c
-  bare_less m = ap (λ (v : View). v.step c m) view_less ∙ ap (λ b. cond (b && same_name n m) None (entry_of s.nodes c m)) apart ∙ bare m
+  bare_less : IsBare (child_of (entry_taken s d n).nodes) c
+  bare_less m = ap (λ (v : View). v.step c m) view_less ∙ ap (λ b. cond (b && same_name n m) None (child_of s.nodes c m)) apart ∙ bare m
 
   is_unlinked : unlinked s d n ≡ forgotten (entry_taken s d n) c
   is_unlinked = ap (unlinked_from s d n) there
 
-  pub shows_unlinked_gone : HasNoEntry (changed_step (entry_of s.nodes) d n None) c → IsClosed (view_of s) node.label → is_unused (without_name node) ≡ true → Shows (view_of (unlinked s d n)) (changed t (GonePath (p ++ n ∷ [])))
+  pub shows_unlinked_gone : HasNoEntry (changed_step (child_of s.nodes) d n None) c → IsClosed (view_of s) node.label → is_unused (without_name node) ≡ true → Shows (view_of (unlinked s d n)) (changed t (GonePath (p ++ n ∷ [])))
   shows_unlinked_gone free closed unused =
-      let bare_step : IsBare (changed_step (entry_of s.nodes) d n None) c = λ m. sym (ap (λ (v : View). v.step c m) view_less) ∙ bare_less m in
+      let bare_step : IsBare (changed_step (child_of s.nodes) d n None) c = λ m. sym (ap (λ (v : View). v.step c m) view_less) ∙ bare_less m in
       subst (λ (v : View). Shows v (changed t (GonePath (p ++ n ∷ []))))
       (sym (ap view_of is_unlinked ∙ view_goes without_name (entry_taken s d n) c node still (λ m. refl) refl bare_less unused ∙ ap (λ (v : View). with_shown v c None) view_less))
       (shows_gone (view_of s) t h p d n c node.label (object_in node.metadata node.content) at there bare (ap (option_map shown_node) is) free bare_step closed)

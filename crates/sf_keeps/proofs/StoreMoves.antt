@@ -12,10 +12,10 @@ use Rattle.sf_call.proofs.Laws.{same_name_is, both_true}
 use Rattle.sf_inode.specs.declared.node.Node.{Node}
 use Rattle.sf_inode.specs.declared.node.Content.{Content}
 use Rattle.sf_inode.specs.declared.node.Content.TheVariants as content
-use Rattle.sf_inode.specs.Nodes.{entry_in, object_in, less_content, more_content, with_content, without_name, is_unused}
+use Rattle.sf_inode.specs.Nodes.{child_in, object_in, less_content, more_content, with_content, without_name, is_unused}
 use Rattle.sf_keeps.specs.Steps.{walk, changed_step}
 use Rattle.sf_keeps.specs.Shows.{View, Shows, is_directory_by, with_step, with_shown}
-use Rattle.sf_inode.specs.Stores.{StoreState, node_in, entry_of, shown_node, shown_of, edited, entry_put, forgotten, moved_entry, relinked_from, relinked, spot}
+use Rattle.sf_inode.specs.Stores.{StoreState, node_in, child_of, shown_node, shown_of, edited, entry_put, forgotten, moved_entry, relinked_from, relinked, spot}
 use Rattle.sf_keeps.specs.Keeps.{view_of}
 use Rattle.sf_keeps.proofs.InOrder.{InOrder, node_in_order, in_order_put, less_in_order, more_in_order}
 use Rattle.sf_keeps.proofs.Sound.{HasNoEntry, IsBare}
@@ -32,7 +32,7 @@ swapped false false c x h = refl
 
 -- an entry that leads to c from now on
 module _ (g : Content → Content) (s : StoreState) (d : ℕ) (n : Name) (c : ℕ) (above : Node) (here : node_in s.nodes d ≡ Some above)
-    (says : (m : Name) → entry_in (g above.content) m ≡ cond (same_name n m) (Some c) (entry_in above.content m)) (keeps : object_in above.metadata (g above.content) ≡ object_in above.metadata above.content) where
+    (says : (m : Name) → child_in (g above.content) m ≡ cond (same_name n m) (Some c) (child_in above.content m)) (keeps : object_in above.metadata (g above.content) ≡ object_in above.metadata above.content) where
   pub view_put : view_of (edited (with_content g) s d) ≡ with_step (view_of s) d n (Some c)
   view_put =
       let put = node_in-edited (with_content g) s d above here in
@@ -54,8 +54,8 @@ other_there f s d x above node here there other =
     node_in-edited f s d above here x ∙ ap (λ b. cond b (Some (f above)) (node_in s.nodes x)) (nat_eq_apart d x other) ∙ there
 
 module _ (s : StoreState) (t : Tree) (h : Shows (view_of s) t) (po : Path) (od : ℕ) (on : Name) (pn : Path) (nd : ℕ) (nn : Name) (c : ℕ) (from above : Node) (es : List (Name × ℕ))
-    (at_from : walk (entry_of s.nodes) s.root po ≡ Some od) (here_from : node_in s.nodes od ≡ Some from) (there : entry_of s.nodes od on ≡ Some c)
-    (at_to : walk (entry_of s.nodes) s.root pn ≡ Some nd) (here_to : node_in s.nodes nd ≡ Some above) (dir : above.content ≡ content.Directory es)
+    (at_from : walk (child_of s.nodes) s.root po ≡ Some od) (here_from : node_in s.nodes od ≡ Some from) (there : child_of s.nodes od on ≡ Some c)
+    (at_to : walk (child_of s.nodes) s.root pn ≡ Some nd) (here_to : node_in s.nodes nd ≡ Some above) (dir : above.content ≡ content.Directory es)
     (not_inside : after_front (po ++ on ∷ []) (pn ++ nn ∷ []) ≡ None) (ordered : InOrder s.nodes) where
   pub is_to : is_directory_by (shown_of s.nodes) nd ≡ true
   is_to = ap (λ (v : Option Node). is_some (option_and_then (λ (w : ℕ × Object). directory_metadata w.1) (option_map shown_node v))) here_to ∙ ap (λ (z : Content). is_some (directory_metadata (object_in above.metadata z))) dir
@@ -71,8 +71,8 @@ module _ (s : StoreState) (t : Tree) (h : Shows (view_of s) t) (po : Path) (od :
       let same : after_front (po ++ on ∷ []) (pn ++ nn ∷ []) ≡ after_front (po ++ on ∷ []) (po ++ on ∷ []) = λ i. after_front (po ++ on ∷ []) (way i ++ n i ∷ []) in
       let self = after_front-self (po ++ on ∷ []) in cc
 
-  pub says_put : (m : Name) → entry_in (more_content nn c above.content) m ≡ cond (same_name nn m) (Some c) (entry_in above.content m)
-  says_put m = subst (λ (z : Content). entry_in (more_content nn c z) m ≡ cond (same_name nn m) (Some c) (entry_in z m)) (sym dir) (more_says nn m c es)
+  pub says_put : (m : Name) → child_in (more_content nn c above.content) m ≡ cond (same_name nn m) (Some c) (child_in above.content m)
+  says_put m = subst (λ (z : Content). child_in (more_content nn c z) m ≡ cond (same_name nn m) (Some c) (child_in z m)) (sym dir) (more_says nn m c es)
 
   keeps_put : object_in above.metadata (more_content nn c above.content) ≡ object_in above.metadata above.content
   keeps_put = subst (λ (z : Content). object_in above.metadata (more_content nn c z) ≡ object_in above.metadata z) (sym dir) refl
@@ -89,7 +89,7 @@ module _ (s : StoreState) (t : Tree) (h : Shows (view_of s) t) (po : Path) (od :
       let f = still_there (with_content (more_content nn c)) s nd od above from here_to here_from in
       view_taken put od on f.0 (node_in_order put.nodes od f.0 in_order_put_in f.1) f.1 ∙ ap (λ (v : View). with_step v od on None) (view_put (more_content nn c) s nd nn c above here_to says_put keeps_put)
       ∙ same_view (with_step (with_step (view_of s) od on None) nd nn (Some c)) (with_step (with_step (view_of s) nd nn (Some c)) od on None)
-      (λ x m. swapped (nat_eq od x && same_name on m) (nat_eq nd x && same_name nn m) c (entry_of s.nodes x m) (apart x m)) (λ x. refl) refl (λ a b. refl)
+      (λ x m. swapped (nat_eq od x && same_name on m) (nat_eq nd x && same_name nn m) c (child_of s.nodes x m) (apart x m)) (λ x. refl) refl (λ a b. refl)
 
   pub in_order_moved : InOrder (moved_entry s (spot od on) (spot nd nn) c).nodes
   in_order_moved =
@@ -98,34 +98,34 @@ module _ (s : StoreState) (t : Tree) (h : Shows (view_of s) t) (po : Path) (od :
       (less_in_order on f.0.content (node_in_order put.nodes od f.0 in_order_put_in f.1))
 
   -- ---- onto nothing
-  pub shows_relinked : entry_of s.nodes nd nn ≡ None → Shows (view_of (relinked s od on nd nn)) (changed t (Move (po ++ on ∷ []) (pn ++ nn ∷ [])))
+  pub shows_relinked : child_of s.nodes nd nn ≡ None → Shows (view_of (relinked s od on nd nn)) (changed t (Move (po ++ on ∷ []) (pn ++ nn ∷ [])))
   shows_relinked none =
-      let is : relinked s od on nd nn ≡ moved_entry s (spot od on) (spot nd nn) c = ap (λ o. relinked_from s (spot od on) (spot nd nn) o (entry_of s.nodes nd nn)) there ∙ ap (relinked_from s (spot od on) (spot nd nn) (Some c)) none in
+      let is : relinked s od on nd nn ≡ moved_entry s (spot od on) (spot nd nn) c = ap (λ o. relinked_from s (spot od on) (spot nd nn) o (child_of s.nodes nd nn)) there ∙ ap (relinked_from s (spot od on) (spot nd nn) (Some c)) none in
       subst (λ (v : View). Shows v (changed t (Move (po ++ on ∷ []) (pn ++ nn ∷ [])))) (sym (ap view_of is ∙ view_moved))
       (shows_move (view_of s) t h po on od pn nn nd c at_from there at_to is_to not_inside none)
 
   -- ---- onto another node
-  module _ (target : ℕ) (gone : Node) (stood : entry_of s.nodes nd nn ≡ Some target) (is : node_in s.nodes target ≡ Some gone) (bare : IsBare (entry_of s.nodes) target) where
+  module _ (target : ℕ) (gone : Node) (stood : child_of s.nodes nd nn ≡ Some target) (is : node_in s.nodes target ≡ Some gone) (bare : IsBare (child_of s.nodes) target) where
     pub is_relinked : relinked s od on nd nn ≡ forgotten (moved_entry s (spot od on) (spot nd nn) c) target
-    is_relinked = ap (λ o. relinked_from s (spot od on) (spot nd nn) o (entry_of s.nodes nd nn)) there ∙ ap (relinked_from s (spot od on) (spot nd nn) (Some c)) stood
+    is_relinked = ap (λ o. relinked_from s (spot od on) (spot nd nn) o (child_of s.nodes nd nn)) there ∙ ap (relinked_from s (spot od on) (spot nd nn) (Some c)) stood
 
     pub target_there : node_in (moved_entry s (spot od on) (spot nd nn) c).nodes target ≡ Some gone
     target_there =
         let f = still_there (with_content (more_content nn c)) s nd od above from here_to here_from in
-        let first = other_there (with_content (more_content nn c)) s nd target above gone here_to is (λ e. let a = ap (λ (x : ℕ). entry_of s.nodes x nn) e in let b = bare nn in cc) in
-        other_there (with_content (less_content on)) put od target f.0 gone f.1 first (λ e. let a = ap (λ (x : ℕ). entry_of s.nodes x on) e in let b = bare on in cc)
+        let first = other_there (with_content (more_content nn c)) s nd target above gone here_to is (λ e. let a = ap (λ (x : ℕ). child_of s.nodes x nn) e in let b = bare nn in cc) in
+        other_there (with_content (less_content on)) put od target f.0 gone f.1 first (λ e. let a = ap (λ (x : ℕ). child_of s.nodes x on) e in let b = bare on in cc)
 
     -- the new entry is not the target's
-    bare_moved : IsBare (changed_step (changed_step (entry_of s.nodes) od on None) nd nn (Some c)) target
+    bare_moved : IsBare (changed_step (changed_step (child_of s.nodes) od on None) nd nn (Some c)) target
     bare_moved m =
-        ap (λ b. cond (b && same_name nn m) (Some c) (changed_step (entry_of s.nodes) od on None target m)) (nat_eq_apart nd target (λ e. let a = ap (λ (x : ℕ). entry_of s.nodes x nn) e in let b = bare nn in cc))
-        ∙ ap (λ b. cond (b && same_name on m) None (entry_of s.nodes target m)) (nat_eq_apart od target (λ e. let a = ap (λ (x : ℕ). entry_of s.nodes x on) e in let b = bare on in cc)) ∙ bare m
+        ap (λ b. cond (b && same_name nn m) (Some c) (changed_step (child_of s.nodes) od on None target m)) (nat_eq_apart nd target (λ e. let a = ap (λ (x : ℕ). child_of s.nodes x nn) e in let b = bare nn in cc))
+        ∙ ap (λ b. cond (b && same_name on m) None (child_of s.nodes target m)) (nat_eq_apart od target (λ e. let a = ap (λ (x : ℕ). child_of s.nodes x on) e in let b = bare on in cc)) ∙ bare m
 
-    pub shows_relinked_gone : HasNoEntry (changed_step (changed_step (entry_of s.nodes) od on None) nd nn (Some c)) target → IsClosed (view_of s) gone.label → is_unused (without_name gone) ≡ true
+    pub shows_relinked_gone : HasNoEntry (changed_step (changed_step (child_of s.nodes) od on None) nd nn (Some c)) target → IsClosed (view_of s) gone.label → is_unused (without_name gone) ≡ true
         → Shows (view_of (relinked s od on nd nn)) (changed t (Move (po ++ on ∷ []) (pn ++ nn ∷ [])))
     shows_relinked_gone free closed unused =
         let after = moved_entry s (spot od on) (spot nd nn) c in
-        let bare_after : IsBare (entry_of after.nodes) target = λ m. ap (λ (v : View). v.step target m) view_moved ∙ bare_moved m in
+        let bare_after : IsBare (child_of after.nodes) target = λ m. ap (λ (v : View). v.step target m) view_moved ∙ bare_moved m in
         subst (λ (v : View). Shows v (changed t (Move (po ++ on ∷ []) (pn ++ nn ∷ []))))
         (sym (ap view_of is_relinked ∙ view_goes without_name after target gone target_there (λ m. refl) refl bare_after unused ∙ ap (λ (v : View). with_shown v target None) view_moved))
         (shows_replaced (view_of s) t h po on od pn nn nd c at_from there at_to is_to not_inside target gone.label (object_in gone.metadata gone.content) stood (ap (option_map shown_node) is) bare free bare_moved closed)

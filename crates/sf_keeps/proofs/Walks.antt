@@ -5,9 +5,9 @@ use Rattle.sf_path.specs.Names.{Name, Path}
 use Rattle.sf_path.specs.Order.{same_name}
 use Rattle.sf_call.specs.Tree.{after_front}
 use Rattle.sf_call.proofs.Laws.{same_name_is, same_name_itself}
-use Rattle.sf_keeps.specs.Steps.{Steps, walk, changed_step}
+use Rattle.sf_keeps.specs.Steps.{EntryMap, walk, changed_step}
 
-pub walk-append : (step : Steps) (x : ℕ) (p q : Path) → walk step x (p ++ q) ≡ option_and_then (λ y. walk step y q) (walk step x p)
+pub walk-append : (step : EntryMap) (x : ℕ) (p q : Path) → walk step x (p ++ q) ≡ option_and_then (λ y. walk step y q) (walk step x p)
 walk-append step x [] q = refl
 walk-append step x (n ∷ p) q =
     elim (step x n) as (λ y. option_and_then (λ z. walk step z (p ++ q)) y ≡ option_and_then (λ z. walk step z q) (option_and_then (λ z. walk step z p) y)) [
@@ -16,22 +16,22 @@ walk-append step x (n ∷ p) q =
     ]
 
 -- no way from x leads to d
-abbrev pub Avoids : Steps → ℕ → ℕ → Type 0
+abbrev pub Avoids : EntryMap → ℕ → ℕ → Type 0
 Avoids step x d = (q : Path) → walk step x q ≡ Some d → ⊥
 
 -- p alone leads from x to d
-abbrev pub LeadsOnce : Steps → ℕ → Path → ℕ → Type 0
+abbrev pub LeadsOnce : EntryMap → ℕ → Path → ℕ → Type 0
 LeadsOnce step x p d = (q : Path) → walk step x q ≡ Some d → q ≡ p
 
 -- where a path leads: on from r, if it began with the changed step
-abbrev pub led : Steps → Option ℕ → Option Path → Option ℕ → Option ℕ
+abbrev pub led : EntryMap → Option ℕ → Option Path → Option ℕ → Option ℕ
 led step r None otherwise = otherwise
 led step r (Some rest) otherwise = option_and_then (λ c. walk step c rest) r
 
-first : (step : Steps) (x : ℕ) (m : Name) (y : ℕ) (q : Path) (d : ℕ) → step x m ≡ Some y → walk step y q ≡ Some d → walk step x (m ∷ q) ≡ Some d
+first : (step : EntryMap) (x : ℕ) (m : Name) (y : ℕ) (q : Path) (d : ℕ) → step x m ≡ Some y → walk step y q ≡ Some d → walk step x (m ∷ q) ≡ Some d
 first step x m y q d s w = ap (option_and_then (λ z. walk step z q)) s ∙ w
 
-module _ (step : Steps) (d : ℕ) (n : Name) (r : Option ℕ) where
+module _ (step : EntryMap) (d : ℕ) (n : Name) (r : Option ℕ) where
   other_node : (x : ℕ) (m : Name) → nat_eq d x ≡ false → changed_step step d n r x m ≡ step x m
   other_node x m e = ap (λ b. cond (b && same_name n m) r (step x m)) e
 

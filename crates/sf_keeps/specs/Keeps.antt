@@ -10,15 +10,15 @@ use Rattle.sf_call.specs.Tree.{Tree, handle_of, links}
 use Rattle.sf_inode.specs.declared.node.Node.{Node}
 use Rattle.sf_inode.specs.declared.handle.OpenHandle.{OpenHandle}
 use Rattle.sf_keeps.specs.Shows.{View, Shows}
-use Rattle.sf_inode.specs.Stores.{StoreState, node_in, entry_of, entries_at, shown_of, handles_of, handle_at, shown_handle}
+use Rattle.sf_inode.specs.Stores.{StoreState, node_in, child_of, node_entries, shown_of, handles_of, open_handle_at, shown_handle}
 
 -- what can be seen of a store
 abbrev pub view_of : StoreState → View
 view_of s = record {
-  step = entry_of s.nodes;
+  step = child_of s.nodes;
   shown = shown_of s.nodes;
   root = s.root;
-  opens = λ session number. option_map (shown_handle session) (handle_at s session number);
+  opens = λ session number. option_map (shown_handle session) (open_handle_at s session number);
 }
 
 -- how many handles open an object
@@ -27,9 +27,9 @@ times_open t label = count_by (λ e. nat_eq e.1.label label) t.handles
 
 -- no entry leads to it, it is not the root, and it has no entries
 pub record IsUnlinked (s : StoreState) (id : ℕ) : Type 0 where
-  pub free : (x : ℕ) (n : Name) → entry_of s.nodes x n ≡ Some id → ⊥
+  pub free : (x : ℕ) (n : Name) → child_of s.nodes x n ≡ Some id → ⊥
   pub other : s.root ≡ id → ⊥
-  pub bare : (n : Name) → entry_of s.nodes id n ≡ None
+  pub bare : (n : Name) → child_of s.nodes id n ≡ None
 
 -- The store shows the tree. A directory's entries stand in the order of their names, each once. A
 -- node counts the paths that name it, and has no entries where there are none; and it counts its
@@ -37,14 +37,14 @@ pub record IsUnlinked (s : StoreState) (id : ℕ) : Type 0 where
 -- 64 bits.
 pub record Keeps (s : StoreState) (t : Tree) : Type 0 where
   pub shows : Shows (view_of s) t
-  pub entries : (id : ℕ) → T (is_sorted name_cmp (entries_at s.nodes id))
+  pub entries : (id : ℕ) → T (is_sorted name_cmp (node_entries s.nodes id))
   pub linked : (id : ℕ) (node : Node) → node_in s.nodes id ≡ Some node
       → node.names ≡ links t.names node.label
   pub bare : (id : ℕ) (node : Node) → node_in s.nodes id ≡ Some node → node.names ≡ 0
-      → (n : Name) → entry_of s.nodes id n ≡ None
+      → (n : Name) → child_of s.nodes id n ≡ None
   pub counted : (id : ℕ) (node : Node) → node_in s.nodes id ≡ Some node
       → node.opens ≡ times_open t node.label
-  pub led : (session number : ℕ) (h : OpenHandle) → handle_at s session number ≡ Some h
+  pub led : (session number : ℕ) (h : OpenHandle) → open_handle_at s session number ≡ Some h
       → (node : Node) × ((node_in s.nodes h.node ≡ Some node) × (node.label ≡ h.label))
   pub sessions : T (is_sorted nat_cmp s.sessions)
   pub handles : (session : ℕ) (handles : List (ℕ × OpenHandle))

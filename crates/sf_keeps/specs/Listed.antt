@@ -8,6 +8,6 @@ use Rattle.sf_inode.specs.Nodes.{object_in}
 use Rattle.sf_inode.specs.Stores.{node_in}
 
 -- a name with what its node shows, and how many names lead to it
-abbrev pub listed_entry : List (Option Node) → Name × ℕ → Option Entry
-listed_entry nodes e = option_map (λ node. listings.entry_of e.0 node.names
+abbrev pub node_entry : List (Option Node) → Name × ℕ → Option Entry
+node_entry nodes e = option_map (λ node. listings.entry_of e.0 node.names
     (object_in node.metadata node.content)) (node_in nodes e.1)

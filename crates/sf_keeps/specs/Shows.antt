@@ -5,15 +5,15 @@ use Rattle.sf_call.specs.Attributes.{Object}
 use Rattle.sf_call.specs.declared.handle.Handle.{Handle}
 use Rattle.sf_call.specs.Tree.{Tree, IsOrderedTree, label_at, object_of, is_used, directory_metadata}
 use Rattle.sf_call.specs.Handles.{handle_in}
-use Rattle.sf_keeps.specs.Steps.{Steps, walk, changed_step}
+use Rattle.sf_keeps.specs.Steps.{EntryMap, walk, changed_step}
 
 -- the label and the object of a node
 abbrev pub Shown : Type 0
 Shown = ℕ → Option (ℕ × Object)
 
 -- the handle of a session and a number
-abbrev pub Opens : Type 0
-Opens = ℕ → ℕ → Option Handle
+abbrev pub HandleMap : Type 0
+HandleMap = ℕ → ℕ → Option Handle
 
 abbrev pub label_by : Shown → ℕ → Option ℕ
 label_by shown id = option_map (λ v. v.0) (shown id)
@@ -27,7 +27,7 @@ changed_shown shown c r i = if nat_eq c i then r else shown i
 
 -- Labels differ, entries lead from directories to nodes that are there, and one entry at most leads
 -- to a directory, none to the root. A file may have several entries.
-pub record IsSound (step : Steps) (shown : Shown) (root : ℕ) : Type 0 where
+pub record IsSound (step : EntryMap) (shown : Shown) (root : ℕ) : Type 0 where
   pub labels : (i j label : ℕ) (o u : Object) → shown i ≡ Some (label, o)
       → shown j ≡ Some (label, u) → i ≡ j
   pub one : (x y c : ℕ) (n m : Name) → is_directory_by shown c ≡ true → step x n ≡ Some c
@@ -44,10 +44,10 @@ AllUsed t = (label : ℕ) (o : Object) → object_of t.objects label ≡ Some o
 
 -- what of a store can be seen: where entries lead, what nodes are, and what is open
 pub record View : Type 0 where
-  pub step : Steps
+  pub step : EntryMap
   pub shown : Shown
   pub root : ℕ
-  pub opens : Opens
+  pub opens : HandleMap
 
 -- Each path has the label of the node that it leads to, the objects are those of the nodes, and the
 -- handles are the open ones.
@@ -84,7 +84,7 @@ with_shown view c r = record {
   opens = view.opens;
 }
 
-abbrev pub changed_opens : Opens → ℕ → ℕ → Option Handle → Opens
+abbrev pub changed_opens : HandleMap → ℕ → ℕ → Option Handle → HandleMap
 changed_opens opens session number r a b =
     if nat_eq session a && nat_eq number b then r else opens a b
 

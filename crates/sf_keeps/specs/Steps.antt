@@ -4,14 +4,14 @@ use Rattle.sf_path.specs.Names.{Name, Path}
 use Rattle.sf_path.specs.Order.{same_name}
 
 -- the node that a name leads to from a node
-abbrev pub Steps : Type 0
-Steps = ℕ → Name → Option ℕ
+abbrev pub EntryMap : Type 0
+EntryMap = ℕ → Name → Option ℕ
 
 -- the node that a path leads to from a node
-abbrev pub walk : Steps → ℕ → Path → Option ℕ
+abbrev pub walk : EntryMap → ℕ → Path → Option ℕ
 walk step x [] = Some x
 walk step x (n ∷ p) = option_and_then (λ y. walk step y p) (step x n)
 
 -- the step from d by the name n leads to r
-abbrev pub changed_step : Steps → ℕ → Name → Option ℕ → Steps
+abbrev pub changed_step : EntryMap → ℕ → Name → Option ℕ → EntryMap
 changed_step step d n r x m = if nat_eq d x && same_name n m then r else step x m

@@ -17,8 +17,8 @@ ghost use Rattle.sf_inode.specs.declared.handle.Marks.{Marks};
 ghost use Rattle.sf_inode.specs.declared.handle.OpenHandle.{OpenHandle};
 ghost use Rattle.sf_inode.specs.Nodes.{object_in, entries_past};
 ghost use Rattle.sf_keeps.specs.Steps.{walk};
-ghost use Rattle.sf_keeps.specs.Listed.{listed_entry};
-ghost use Rattle.sf_inode.specs.Stores.{StoreState, node_in, entry_of, entries_at, is_directory_at, handle_at, handles_of, shown_handle, opened, handle_listed, closed, closed_all};
+ghost use Rattle.sf_keeps.specs.Listed.{node_entry};
+ghost use Rattle.sf_inode.specs.Stores.{StoreState, node_in, child_of, node_entries, is_directory_at, open_handle_at, handles_of, shown_handle, after_open, handle_listed, closed, closed_all};
 ghost use Rattle.sf_keeps.specs.Keeps.{Keeps, KeepsNodes};
 
 /// A session's handle is that of the tree, its node is there and has the object of its label, and a
@@ -26,13 +26,13 @@ ghost use Rattle.sf_keeps.specs.Keeps.{Keeps, KeepsNodes};
 pub fn found_handles()
     ensures same { (s : StoreState) (t : Tree) (session number : ℕ) → Keeps s t
         → handle_in t session number
-        ≡ option_map (shown_handle session) (handle_at s session number) }
+        ≡ option_map (shown_handle session) (open_handle_at s session number) }
     ensures node { (s : StoreState) (t : Tree) (session number : ℕ) (h : OpenHandle) → Keeps s t
-        → handle_at s session number ≡ Some h
+        → open_handle_at s session number ≡ Some h
         → (node : Node) × ((node_in s.nodes h.node ≡ Some node) × (node.label ≡ h.label)
         × (object_of t.objects h.label ≡ Some (object_in node.metadata node.content))) }
     ensures free { (s : StoreState) (t : Tree) (session number : ℕ) → Keeps s t
-        → handle_of t.handles number ≡ None → handle_at s session number ≡ None }
+        → handle_of t.handles number ≡ None → open_handle_at s session number ≡ None }
 {}
 
 /// A session has as many handles in the store as in the tree.
@@ -47,7 +47,7 @@ pub fn opened_handles()
     ensures { (s : StoreState) (t : Tree) (session number id : ℕ) (marks : Marks) (node : Node)
         → Keeps s t → 0 < number → number < 2 ^ 64 → handle_of t.handles number ≡ None
         → node_in s.nodes id ≡ Some node
-        → Keeps (opened s session number id marks)
+        → Keeps (after_open s session number id marks)
         (changed t (change.OpenHandle number (shown_handle session (record {
           node = id;
           label = node.label;
@@ -59,7 +59,7 @@ pub fn opened_handles()
 /// A handle has the last name of a listing.
 pub fn listed_handles()
     ensures { (s : StoreState) (t : Tree) (session number : ℕ) (name : Name) (h : OpenHandle)
-        → Keeps s t → handle_at s session number ≡ Some h
+        → Keeps s t → open_handle_at s session number ≡ Some h
         → Keeps (handle_listed s session number name) (changed t
         (change.SetHandle number (with_listed (shown_handle session h) (Some name)))) }
 {}
@@ -68,7 +68,7 @@ pub fn listed_handles()
 /// store as from the tree, and the other nodes stay what they are.
 pub fn closed_handles()
     ensures one { (s : StoreState) (t : Tree) (session number : ℕ) (h : OpenHandle) → Keeps s t
-        → handle_at s session number ≡ Some h
+        → open_handle_at s session number ≡ Some h
         → Keeps (closed s session number) (changed t (change.CloseHandle number)) }
     ensures all { (s : StoreState) (t : Tree) (session : ℕ) → Keeps s t
         → Keeps (closed_all s session) (leave t session) }
@@ -81,20 +81,20 @@ pub fn closed_handles()
 /// entries.
 pub fn listed_entries()
     ensures path { (s : StoreState) (t : Tree) (p : Path) (dir : ℕ) (node : Node) → Keeps s t
-        → walk (entry_of s.nodes) s.root p ≡ Some dir → node_in s.nodes dir ≡ Some node
+        → walk (child_of s.nodes) s.root p ≡ Some dir → node_in s.nodes dir ≡ Some node
         → is_directory_at s.nodes dir ≡ true
         → path_of t.names node.label ≡ Some p }
     ensures listing { (s : StoreState) (t : Tree) (dir : ℕ) (node : Node) (last : Option Name)
         → Keeps s t → node_in s.nodes dir ≡ Some node → is_directory_at s.nodes dir ≡ true
         → listing_of t last (path_of t.names node.label)
-        ≡ filter_map (listed_entry s.nodes) (take MAX_ENTRIES
-        (entries_past last (entries_at s.nodes dir))) }
+        ≡ filter_map (node_entry s.nodes) (take MAX_ENTRIES
+        (entries_past last (node_entries s.nodes dir))) }
     ensures nodes { (s : StoreState) (t : Tree) (dir : ℕ) (last : Option Name) → Keeps s t
         → All (λ e. (node : Node)
         × (node_in s.nodes e.1
-        ≡ Some node)) (take MAX_ENTRIES (entries_past last (entries_at s.nodes dir))) }
+        ≡ Some node)) (take MAX_ENTRIES (entries_past last (node_entries s.nodes dir))) }
     ensures names { (s : StoreState) (t : Tree) (dir : ℕ) (last : Option Name) → Keeps s t
-        → names_of (filter_map (listed_entry s.nodes)
-        (take MAX_ENTRIES (entries_past last (entries_at s.nodes dir))))
-        ≡ map (λ e. e.0) (take MAX_ENTRIES (entries_past last (entries_at s.nodes dir))) }
+        → names_of (filter_map (node_entry s.nodes)
+        (take MAX_ENTRIES (entries_past last (node_entries s.nodes dir))))
+        ≡ map (λ e. e.0) (take MAX_ENTRIES (entries_past last (node_entries s.nodes dir))) }
 {}

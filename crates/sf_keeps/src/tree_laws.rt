@@ -6,8 +6,8 @@ ghost use Rattle.sf_path.specs.Names.{Name, Path};
 ghost use Rattle.sf_call.specs.declared.metadata.Metadata.{Metadata};
 ghost use Rattle.sf_call.specs.Attributes.{Object};
 ghost use Rattle.sf_call.specs.Attributes.Object.{Directory, File};
-ghost use Rattle.sf_call.specs.Tree.{Tree, empty_tree, after_front, directory_at, label_at, object_of, is_faulty_way, place_at, found_object, found_at, is_empty, links};
-ghost use Rattle.sf_call.specs.declared.place.Place.TheVariants.{NoWay, Absent, At};
+ghost use Rattle.sf_call.specs.Tree.{Tree, empty_tree, after_front, directory_at, label_at, object_of, is_faulty_way, look_up, found_object, found_at, is_empty, links};
+ghost use Rattle.sf_call.specs.declared.lookup.Lookup.TheVariants.{NoWay, Absent, At};
 ghost use Rattle.sf_call.specs.Changes.{changed};
 ghost use Rattle.sf_call.specs.Changes.Change.{SetObject, NewPath, NewName, GonePath, Move};
 ghost use Rattle.sf_inode.specs.declared.node.Node.{Node};
@@ -15,7 +15,7 @@ ghost use Rattle.sf_inode.specs.declared.node.NewNode.{NewNode};
 ghost use Rattle.sf_inode.specs.Nodes.{object_in, new_content, new_node, with_metadata, with_holder};
 ghost use Rattle.sf_keeps.specs.Steps.{walk};
 ghost use Rattle.sf_block.specs.Contents.{FileBytes};
-ghost use Rattle.sf_inode.specs.Stores.{StoreState, IsFirst, Inserted, node_in, entry_of, shown_of, holder_of, looked_up, edited, unlinked, linked, relinked, bytes_of, is_file_at, is_directory_at, is_bare_at, left_at, file_set, left_set, new_entry};
+ghost use Rattle.sf_inode.specs.Stores.{StoreState, IsFirst, Inserted, node_in, child_of, shown_of, holder_of, looked_up, edited, unlinked, linked, relinked, bytes_of, is_file_at, is_directory_at, is_bare_at, blocks_left_at, file_set, left_set, new_entry};
 ghost use Rattle.sf_keeps.specs.Keeps.{Keeps};
 
 /// A store keeps at most one tree, and a new one the root alone.
@@ -33,10 +33,10 @@ pub fn kept_nodes()
     ensures one { (s : StoreState) (t : Tree) (i j : ℕ) (x y : Node) → Keeps s t
         → node_in s.nodes i ≡ Some x → node_in s.nodes j ≡ Some y → x.label ≡ y.label → i ≡ j }
     ensures reached { (s : StoreState) (t : Tree) (p : Path) (id : ℕ) → Keeps s t
-        → walk (entry_of s.nodes) s.root p ≡ Some id → (node : Node)
+        → walk (child_of s.nodes) s.root p ≡ Some id → (node : Node)
         × (node_in s.nodes id ≡ Some node) }
     ensures there { (s : StoreState) (t : Tree) (dir id : ℕ) (n : Name) → Keeps s t
-        → entry_of s.nodes dir n ≡ Some id → (node : Node) × (node_in s.nodes id ≡ Some node)
+        → child_of s.nodes dir n ≡ Some id → (node : Node) × (node_in s.nodes id ≡ Some node)
         × (0 < node.names) }
     ensures names { (s : StoreState) (t : Tree) (id : ℕ) (node : Node) → Keeps s t
         → node_in s.nodes id ≡ Some node → node.names ≡ links t.names node.label }
@@ -67,11 +67,11 @@ pub fn other_nodes()
         → (shown_of new.nodes i ≡ shown_of old.nodes i)
         × (holder_of new.nodes i ≡ holder_of old.nodes i) }
     ensures unlinked { (s : StoreState) (dir : ℕ) (n : Name) (i : ℕ)
-        → entry_of s.nodes dir n ≢ Some i
+        → child_of s.nodes dir n ≢ Some i
         → (shown_of (unlinked s dir n).nodes i ≡ shown_of s.nodes i)
         × (holder_of (unlinked s dir n).nodes i ≡ holder_of s.nodes i) }
     ensures relinked { (s : StoreState) (dir : ℕ) (n : Name) (to : ℕ) (m : Name) (i : ℕ)
-        → entry_of s.nodes to m ≢ Some i
+        → child_of s.nodes to m ≢ Some i
         → (shown_of (relinked s dir n to m).nodes i ≡ shown_of s.nodes i)
         × (holder_of (relinked s dir n to m).nodes i ≡ holder_of s.nodes i) }
 {}
@@ -80,36 +80,36 @@ pub fn other_nodes()
 /// from a file or from what is not there.
 pub fn found_paths()
     ensures next { (s : StoreState) (t : Tree) (p : Path) (dir : ℕ) (n : Name) → Keeps s t
-        → walk (entry_of s.nodes) s.root p ≡ Some dir
-        → walk (entry_of s.nodes) s.root (p ++ n ∷ []) ≡ entry_of s.nodes dir n }
+        → walk (child_of s.nodes) s.root p ≡ Some dir
+        → walk (child_of s.nodes) s.root (p ++ n ∷ []) ≡ child_of s.nodes dir n }
     ensures label { (s : StoreState) (t : Tree) (p : Path) → Keeps s t
         → label_at t.names p
         ≡ option_map (λ node. node.label) (option_and_then (node_in s.nodes)
-        (walk (entry_of s.nodes) s.root p)) }
+        (walk (child_of s.nodes) s.root p)) }
     ensures way { (s : StoreState) (t : Tree) (p : Path) (dir : ℕ) (n : Name) → Keeps s t
-        → walk (entry_of s.nodes) s.root p ≡ Some dir → is_directory_at s.nodes dir ≡ true
+        → walk (child_of s.nodes) s.root p ≡ Some dir → is_directory_at s.nodes dir ≡ true
         → is_faulty_way t (p ++ n ∷ []) ≡ false }
     ensures place { (s : StoreState) (t : Tree) (p : Path) (id : ℕ) (node : Node) → Keeps s t
-        → walk (entry_of s.nodes) s.root p ≡ Some id → node_in s.nodes id ≡ Some node
-        → place_at t p ≡ At node.label }
+        → walk (child_of s.nodes) s.root p ≡ Some id → node_in s.nodes id ≡ Some node
+        → look_up t p ≡ At node.label }
     ensures found { (s : StoreState) (t : Tree) (p : Path) (id : ℕ) (node : Node) → Keeps s t
-        → walk (entry_of s.nodes) s.root p ≡ Some id → node_in s.nodes id ≡ Some node
+        → walk (child_of s.nodes) s.root p ≡ Some id → node_in s.nodes id ≡ Some node
         → found_at t p ≡ found_object node.label (Some (object_in node.metadata node.content)) }
     ensures directory { (s : StoreState) (t : Tree) (p : Path) (dir label : ℕ) (m : Metadata)
-        → Keeps s t → walk (entry_of s.nodes) s.root p ≡ Some dir
+        → Keeps s t → walk (child_of s.nodes) s.root p ≡ Some dir
         → shown_of s.nodes dir ≡ Some (label, Directory m) → directory_at t p ≡ Some (label, m) }
     ensures absent { (s : StoreState) (t : Tree) (p : Path) (dir : ℕ) (n : Name) → Keeps s t
-        → walk (entry_of s.nodes) s.root p ≡ Some dir → is_directory_at s.nodes dir ≡ true
-        → entry_of s.nodes dir n ≡ None
-        → place_at t (p ++ n ∷ []) ≡ Absent }
+        → walk (child_of s.nodes) s.root p ≡ Some dir → is_directory_at s.nodes dir ≡ true
+        → child_of s.nodes dir n ≡ None
+        → look_up t (p ++ n ∷ []) ≡ Absent }
     ensures beyond { (s : StoreState) (t : Tree) (p : Path) (dir : ℕ) (n m : Name) (q : Path)
-        → Keeps s t → walk (entry_of s.nodes) s.root p ≡ Some dir → entry_of s.nodes dir n ≡ None
-        → place_at t (p ++ n ∷ m ∷ q) ≡ NoWay }
+        → Keeps s t → walk (child_of s.nodes) s.root p ≡ Some dir → child_of s.nodes dir n ≡ None
+        → look_up t (p ++ n ∷ m ∷ q) ≡ NoWay }
     ensures file { (s : StoreState) (t : Tree) (p : Path) (id : ℕ) (n : Name) (q : Path) → Keeps s t
-        → walk (entry_of s.nodes) s.root p ≡ Some id → is_file_at s.nodes id ≡ true
-        → place_at t (p ++ n ∷ q) ≡ NoWay }
+        → walk (child_of s.nodes) s.root p ≡ Some id → is_file_at s.nodes id ≡ true
+        → look_up t (p ++ n ∷ q) ≡ NoWay }
     ensures empty { (s : StoreState) (t : Tree) (p : Path) (id : ℕ) → Keeps s t
-        → walk (entry_of s.nodes) s.root p ≡ Some id → is_empty t.names p ≡ is_bare_at s.nodes id }
+        → walk (child_of s.nodes) s.root p ≡ Some id → is_empty t.names p ≡ is_bare_at s.nodes id }
 {}
 
 /// A look-up and a holder leave the tree as it is, and so does the copying of what is written.
@@ -129,9 +129,9 @@ pub fn copied_blocks()
     ensures holders { (left : ℕ) (s : StoreState) (id i : ℕ)
         → holder_of (left_set s id left).nodes i ≡ holder_of s.nodes i }
     ensures there { (left : ℕ) (s : StoreState) (id : ℕ) → is_file_at s.nodes id ≡ true
-        → left_at (left_set s id left).nodes id ≡ left }
+        → blocks_left_at (left_set s id left).nodes id ≡ left }
     ensures others { (left : ℕ) (s : StoreState) (id i : ℕ) → i ≢ id
-        → left_at (left_set s id left).nodes i ≡ left_at s.nodes i }
+        → blocks_left_at (left_set s id left).nodes i ≡ blocks_left_at s.nodes i }
     ensures rest { (j k : ℕ) (s : StoreState) (id i : ℕ)
         → node_in (left_set (left_set s id k) id j).nodes i ≡ node_in (left_set s id j).nodes i }
 {}
@@ -168,8 +168,8 @@ pub fn changed_object()
 pub fn new_path()
     ensures { (old new : StoreState) (t : Tree) (p : Path) (dir : ℕ) (n : Name) (id : ℕ)
         (made : NewNode) → Keeps old t → Inserted old new (new_entry dir n id) (new_node made)
-        → walk (entry_of old.nodes) old.root p ≡ Some dir → is_directory_at old.nodes dir ≡ true
-        → entry_of old.nodes dir n ≡ None → object_of t.objects made.label ≡ None
+        → walk (child_of old.nodes) old.root p ≡ Some dir → is_directory_at old.nodes dir ≡ true
+        → child_of old.nodes dir n ≡ None → object_of t.objects made.label ≡ None
         → Keeps new (changed t (NewPath (p ++ n ∷ []) made.label
         (object_in made.metadata (new_content made.file_type)))) }
 {}
@@ -178,8 +178,8 @@ pub fn new_path()
 /// file.
 pub fn new_name()
     ensures { (s : StoreState) (t : Tree) (p : Path) (dir : ℕ) (n : Name) (id : ℕ) (node : Node)
-        → Keeps s t → walk (entry_of s.nodes) s.root p ≡ Some dir
-        → is_directory_at s.nodes dir ≡ true → entry_of s.nodes dir n ≡ None
+        → Keeps s t → walk (child_of s.nodes) s.root p ≡ Some dir
+        → is_directory_at s.nodes dir ≡ true → child_of s.nodes dir n ≡ None
         → node_in s.nodes id ≡ Some node → is_file_at s.nodes id ≡ true → node.names < 1024
         → Keeps (linked s dir n id) (changed t (NewName (p ++ n ∷ []) node.label)) }
 {}
@@ -188,7 +188,7 @@ pub fn new_name()
 /// handle opens it or another path names it.
 pub fn gone_path()
     ensures { (s : StoreState) (t : Tree) (p : Path) (dir : ℕ) (n : Name) (id : ℕ) → Keeps s t
-        → walk (entry_of s.nodes) s.root p ≡ Some dir → entry_of s.nodes dir n ≡ Some id
+        → walk (child_of s.nodes) s.root p ≡ Some dir → child_of s.nodes dir n ≡ Some id
         → is_bare_at s.nodes id ≡ true
         → Keeps (unlinked s dir n) (changed t (GonePath (p ++ n ∷ []))) }
 {}
@@ -198,16 +198,16 @@ pub fn gone_path()
 /// goes unless a handle opens it or another path names it.
 pub fn moved_path()
     ensures to_nothing { (s : StoreState) (t : Tree) (p : Path) (dir : ℕ) (n : Name) (id : ℕ)
-        (q : Path) (to : ℕ) (m : Name) → Keeps s t → walk (entry_of s.nodes) s.root p ≡ Some dir
-        → entry_of s.nodes dir n ≡ Some id
-        → walk (entry_of s.nodes) s.root q ≡ Some to → is_directory_at s.nodes to ≡ true
-        → after_front (p ++ n ∷ []) (q ++ m ∷ []) ≡ None → entry_of s.nodes to m ≡ None
+        (q : Path) (to : ℕ) (m : Name) → Keeps s t → walk (child_of s.nodes) s.root p ≡ Some dir
+        → child_of s.nodes dir n ≡ Some id
+        → walk (child_of s.nodes) s.root q ≡ Some to → is_directory_at s.nodes to ≡ true
+        → after_front (p ++ n ∷ []) (q ++ m ∷ []) ≡ None → child_of s.nodes to m ≡ None
         → Keeps (relinked s dir n to m) (changed t (Move (p ++ n ∷ []) (q ++ m ∷ []))) }
     ensures in_place { (s : StoreState) (t : Tree) (p : Path) (dir : ℕ) (n : Name) (id : ℕ)
         (q : Path) (to : ℕ) (m : Name) (target : ℕ) → Keeps s t
-        → walk (entry_of s.nodes) s.root p ≡ Some dir → entry_of s.nodes dir n ≡ Some id
-        → walk (entry_of s.nodes) s.root q ≡ Some to → is_directory_at s.nodes to ≡ true
-        → after_front (p ++ n ∷ []) (q ++ m ∷ []) ≡ None → entry_of s.nodes to m ≡ Some target
+        → walk (child_of s.nodes) s.root p ≡ Some dir → child_of s.nodes dir n ≡ Some id
+        → walk (child_of s.nodes) s.root q ≡ Some to → is_directory_at s.nodes to ≡ true
+        → after_front (p ++ n ∷ []) (q ++ m ∷ []) ≡ None → child_of s.nodes to m ≡ Some target
         → is_bare_at s.nodes target ≡ true → id ≢ target
         → Keeps (relinked s dir n to m) (changed t (Move (p ++ n ∷ []) (q ++ m ∷ []))) }
 {}

@@ -11,10 +11,10 @@ use Rattle.sf_field.specs.declared.attrs.Attrs.{Attrs}
 use Rattle.sf_field.specs.declared.open_flags.OpenFlags.{OpenFlags}
 use Rattle.sf_call.specs.declared.record.Record.{Record}
 use Rattle.sf_call.specs.declared.request.Request.TheVariants.{Stat, SetStat, OpenDir, Open}
-use Rattle.sf_call.specs.declared.place.Place.{Place}
-use Rattle.sf_call.specs.declared.place.Place.TheVariants.{NoWay, At}
-use Rattle.sf_call.specs.Tree.{Tree, label_at, links, place_of, place_at, found_place, is_directory}
-use Rattle.sf_call.specs.Calls.{Answer, answer_to, stat, set_stat, open_directory, open_file, opening, stamp, unless_root}
+use Rattle.sf_call.specs.declared.lookup.Lookup.{Lookup}
+use Rattle.sf_call.specs.declared.lookup.Lookup.TheVariants.{NoWay, At}
+use Rattle.sf_call.specs.Tree.{Tree, label_at, links, lookup_of, look_up, found_place, is_directory}
+use Rattle.sf_call.specs.Calls.{Outcome, answer_to, stat, set_stat, open_directory, open_file, opening, stamp, unless_root}
 use Rattle.sf_call.specs.Histories.{replay, IsLegal}
 use Rattle.sf_call.proofs.Laws.{exact_paths, same_path_is, one_path, named_way, open_way, ordered_replay, other_removed, removed_itself, sorted_removed, is_link_itself, links_less, none_linked}
 use Rattle.sf_laws.specs.Linked.{NameOne}
@@ -23,8 +23,8 @@ module _ (history : List Record) (legal : IsLegal history) where
   abbrev tree : Tree
   tree = replay history
 
-  leads : (path : Path) (label : ℕ) → label_at tree.names path ≡ Some label → place_at tree path ≡ At label
-  leads path label at = ap (λ b. cond b NoWay (place_of (label_at tree.names path))) (named_way history path label legal at) ∙ ap place_of at
+  leads : (path : Path) (label : ℕ) → label_at tree.names path ≡ Some label → look_up tree path ≡ At label
+  leads path label at = ap (λ b. cond b NoWay (lookup_of (label_at tree.names path))) (named_way history path label legal at) ∙ ap lookup_of at
 
   -- the root has no second name, as no directory has
   root_alone : (n : Name) (path : Path) (label : ℕ) → label_at tree.names [] ≡ Some label → label_at tree.names (n ∷ path) ≡ Some label → ⊥
@@ -34,15 +34,15 @@ module _ (history : List Record) (legal : IsLegal history) where
 
   module _ (session number moment : ℕ) where
     pub stat_alike : (path other : Path) → NameOne tree path other → answer_to tree session number moment (Stat path) ≡ answer_to tree session number moment (Stat other)
-    stat_alike path other one = ap (λ (p : Place). stat (found_place tree.objects p)) (leads path one.label one.first ∙ sym (leads other one.label one.second))
+    stat_alike path other one = ap (λ (p : Lookup). stat (found_place tree.objects p)) (leads path one.label one.first ∙ sym (leads other one.label one.second))
 
     pub directory_alike : (path other : Path) → NameOne tree path other → answer_to tree session number moment (OpenDir path) ≡ answer_to tree session number moment (OpenDir other)
     directory_alike path other one =
-        ap (λ (p : Place). open_directory tree session number (found_place tree.objects p)) (leads path one.label one.first ∙ sym (leads other one.label one.second))
+        ap (λ (p : Lookup). open_directory tree session number (found_place tree.objects p)) (leads path one.label one.first ∙ sym (leads other one.label one.second))
 
     -- what is answered by the label, to other paths than the root's
-    by_label : (to : Path → Place → Answer) (label : ℕ) → ((path other : Path) → to path (At label) ≡ to other (At label)) → (path other : Path)
-        → label_at tree.names path ≡ Some label → label_at tree.names other ≡ Some label → unless_root path (to path (place_at tree path)) ≡ unless_root other (to other (place_at tree other))
+    by_label : (to : Path → Lookup → Outcome) (label : ℕ) → ((path other : Path) → to path (At label) ≡ to other (At label)) → (path other : Path)
+        → label_at tree.names path ≡ Some label → label_at tree.names other ≡ Some label → unless_root path (to path (look_up tree path)) ≡ unless_root other (to other (look_up tree other))
     by_label to label alike [] [] first second = refl
     by_label to label alike [] (m ∷ other) first second = absurd (root_alone m other label first second)
     by_label to label alike (n ∷ path) [] first second = absurd (root_alone n path label second first)

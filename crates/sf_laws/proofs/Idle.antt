@@ -4,18 +4,18 @@ use Rattle.std.specs.Ordering.{nat_cmp}
 use Rattle.std.specs.Map.{lookup, set_value}
 use Rattle.std.specs.BTreeMap.{is_at}
 use Rattle.sf_path.specs.Names.{Path}
-use Rattle.sf_call.specs.declared.place.Place.{Place}
-use Rattle.sf_call.specs.declared.place.Place.TheVariants.{NoWay, Absent, At}
+use Rattle.sf_call.specs.declared.lookup.Lookup.{Lookup}
+use Rattle.sf_call.specs.declared.lookup.Lookup.TheVariants.{NoWay, Absent, At}
 use Rattle.sf_field.specs.Attributes.{no_attrs}
 use Rattle.sf_call.specs.Attributes.{Object}
 use Rattle.sf_call.specs.Attributes.Object.{Directory, File}
 use Rattle.sf_call.specs.declared.handle.Handle.{Handle}
-use Rattle.sf_call.specs.Tree.{Tree, Found, object_of, found_object, found_place, place_at, with_objects}
-use Rattle.sf_call.specs.Tree.Found.{Nowhere, Nothing, DirectoryAt, FileAt}
+use Rattle.sf_call.specs.Tree.{Tree, FoundObject, object_of, found_object, found_place, look_up, with_objects}
+use Rattle.sf_call.specs.Tree.FoundObject.{Nowhere, Nothing, DirectoryAt, FileAt}
 use Rattle.sf_call.specs.Handles.{Opened, opened_object, opened_by}
 use Rattle.sf_call.specs.Handles.Opened.{NotOpen, OpenDirectory, OpenFile}
 use Rattle.sf_call.specs.Changes.{done}
-use Rattle.sf_call.specs.Calls.{Answer, stat, stat_opened, sets, set_stat, set_opened, read, write, unless_root}
+use Rattle.sf_call.specs.Calls.{Outcome, stat, stat_opened, sets, set_stat, set_opened, read, write, unless_root}
 
 -- an entry that is set to the value that it has
 same_value : {K X : Type 0} (at : K → Bool) (es : List (K × X)) (v : X) → lookup at es ≡ Some v → set_value at es v ≡ es
@@ -27,11 +27,11 @@ same_value at (e ∷ es) v there =
     ] there
 
 module _ (tree : Tree) where
-  either : (b : Bool) (this that : Answer) → done tree this.changes ≡ tree → done tree that.changes ≡ tree → done tree (cond b this that).changes ≡ tree
+  either : (b : Bool) (this that : Outcome) → done tree this.changes ≡ tree → done tree that.changes ≡ tree → done tree (cond b this that).changes ≡ tree
   either true this that p q = p
   either false this that p q = q
 
-  pub told : (found : Found) → done tree (stat found).changes ≡ tree
+  pub told : (found : FoundObject) → done tree (stat found).changes ≡ tree
   told Nowhere = refl
   told Nothing = refl
   told (DirectoryAt label m) = refl
@@ -56,14 +56,14 @@ module _ (tree : Tree) where
   set_object moment label (Some (Directory m)) there = parts_set moment label (Directory m) there
   set_object moment label (Some (File m contents)) there = parts_set moment label (File m contents) there
 
-  set_place : (moment : ℕ) (place : Place) → done tree (set_stat moment no_attrs (found_place tree.objects place)).changes ≡ tree
+  set_place : (moment : ℕ) (place : Lookup) → done tree (set_stat moment no_attrs (found_place tree.objects place)).changes ≡ tree
   set_place moment NoWay = refl
   set_place moment Absent = refl
   set_place moment (At label) = set_object moment label (object_of tree.objects label) refl
 
-  pub set_by_path : (moment : ℕ) (path : Path) → done tree (unless_root path (set_stat moment no_attrs (found_place tree.objects (place_at tree path)))).changes ≡ tree
+  pub set_by_path : (moment : ℕ) (path : Path) → done tree (unless_root path (set_stat moment no_attrs (found_place tree.objects (look_up tree path)))).changes ≡ tree
   set_by_path moment [] = refl
-  set_by_path moment (name ∷ path) = set_place moment (place_at tree (name ∷ path))
+  set_by_path moment (name ∷ path) = set_place moment (look_up tree (name ∷ path))
 
   set_opened_object : (moment : ℕ) (h : Handle) (o : Option Object) → object_of tree.objects h.label ≡ o → done tree (set_opened moment no_attrs (opened_object h o)).changes ≡ tree
   set_opened_object moment h None there = refl

@@ -11,14 +11,14 @@ use Rattle.sf_reply.specs.declared.reply.StatusCode.TheVariants.{Success, Failur
 use Rattle.sf_call.specs.declared.limits.TheConstants.{MAX_LINKS}
 use Rattle.sf_call.specs.declared.metadata.Metadata.{Metadata}
 use Rattle.sf_call.specs.declared.request.Request.TheVariants.{Link}
-use Rattle.sf_call.specs.declared.place.Place.{Place}
-use Rattle.sf_call.specs.declared.place.Place.TheVariants.{NoWay, Absent, At}
+use Rattle.sf_call.specs.declared.lookup.Lookup.{Lookup}
+use Rattle.sf_call.specs.declared.lookup.Lookup.TheVariants.{NoWay, Absent, At}
 use Rattle.sf_call.specs.Attributes.{Object}
 use Rattle.sf_call.specs.Attributes.Object.{Directory, File}
-use Rattle.sf_call.specs.Tree.{Tree, label_at, object_of, links, place_at, found_object, found_place, directory_at}
+use Rattle.sf_call.specs.Tree.{Tree, label_at, object_of, links, look_up, found_object, found_place, directory_at}
 use Rattle.sf_call.specs.Changes.{changed, done, touch, touched}
 use Rattle.sf_call.specs.Changes.Change.{NewName}
-use Rattle.sf_call.specs.Calls.{Answer, answer_to, refuses, succeeds, unless_root, link_to, link}
+use Rattle.sf_call.specs.Calls.{Outcome, answer_to, refuses, succeeds, unless_root, link_to, link}
 use Rattle.sf_call.proofs.Laws.{lookup-put, place_label, place_free, is_link_itself, links_more}
 use Rattle.sf_laws.specs.Linked.{IsLinked}
 
@@ -28,7 +28,7 @@ names_touched t moment (Some e) = refl
 
 module _ (tree : Tree) (moment : ℕ) (old new : Path) where
   -- if the answer is OK, the file has a path more in the tree after it
-  abbrev pub LinksIt : Answer → Type 0
+  abbrev pub LinksIt : Outcome → Type 0
   LinksIt answer = answer.reply ≡ reply.Status Success → IsLinked tree (done tree answer.changes) old new
 
   put_there : (names : List (Path × ℕ)) (label : ℕ) (path : Path) → label_at (insert_entry path_cmp names new label) path ≡ cond (is_eq (path_cmp path new)) (Some label) (label_at names path)
@@ -53,7 +53,7 @@ module _ (tree : Tree) (moment : ℕ) (old new : Path) where
         few = leb-false MAX_LINKS (links tree.names label) few;
       }
 
-  to_place : (label : ℕ) → label_at tree.names old ≡ Some label → (place : Place) → place_at tree new ≡ place → LinksIt (link_to tree moment new label place)
+  to_place : (label : ℕ) → label_at tree.names old ≡ Some label → (place : Lookup) → look_up tree new ≡ place → LinksIt (link_to tree moment new label place)
   to_place label was NoWay at = λ e. cc
   to_place label was (At other) at = λ e. cc
   to_place label was Absent at =
@@ -65,16 +65,16 @@ module _ (tree : Tree) (moment : ℕ) (old new : Path) where
   of_object : (label : ℕ) → label_at tree.names old ≡ Some label → (o : Option Object) → LinksIt (link tree moment new (found_object label o))
   of_object label was None = λ e. cc
   of_object label was (Some (Directory m)) = λ e. cc
-  of_object label was (Some (File m contents)) = to_place label was (place_at tree new) refl
+  of_object label was (Some (File m contents)) = to_place label was (look_up tree new) refl
 
-  of_place : (place : Place) → place_at tree old ≡ place → LinksIt (link tree moment new (found_place tree.objects place))
+  of_place : (place : Lookup) → look_up tree old ≡ place → LinksIt (link tree moment new (found_place tree.objects place))
   of_place NoWay at = λ e. cc
   of_place Absent at = λ e. cc
   of_place (At label) at = of_object label (place_label tree old label at) (object_of tree.objects label)
 
-  rooted : (path : Path) (answer : Answer) → LinksIt answer → LinksIt (unless_root path answer)
+  rooted : (path : Path) (answer : Outcome) → LinksIt answer → LinksIt (unless_root path answer)
   rooted [] answer p = λ e. cc
   rooted (n ∷ path) answer p = p
 
   pub links_it : (session number : ℕ) → LinksIt (answer_to tree session number moment (Link old new))
-  links_it session number = rooted old _ (rooted new _ (of_place (place_at tree old) refl))
+  links_it session number = rooted old _ (rooted new _ (of_place (look_up tree old) refl))

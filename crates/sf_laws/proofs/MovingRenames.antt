@@ -8,20 +8,20 @@ use Rattle.sf_path.specs.Names.{Name, Path}
 use Rattle.sf_path.specs.Order.{same_path, path_total}
 use Rattle.sf_call.specs.declared.metadata.FileType.TheVariants as file_type
 use Rattle.sf_call.specs.declared.request.Request.TheVariants.{Rename, PosixRename}
-use Rattle.sf_call.specs.declared.place.Place.TheVariants.{NoWay, At}
+use Rattle.sf_call.specs.declared.lookup.Lookup.TheVariants.{NoWay, At}
 use Rattle.sf_call.specs.Attributes.{Object}
 use Rattle.sf_call.specs.Attributes.Object.{Directory, File}
-use Rattle.sf_call.specs.Tree.{Tree, label_at, object_of, is_directory, is_faulty_way, place_of, place_at, found_object, found_place, after_front, only_name, children, is_nil, is_empty}
+use Rattle.sf_call.specs.Tree.{Tree, label_at, object_of, is_directory, is_faulty_way, lookup_of, look_up, found_object, found_place, after_front, only_name, children, is_nil, is_empty}
 use Rattle.sf_call.specs.declared.record.Record.{Record}
 use Rattle.sf_call.specs.Histories.{replay, IsLegal}
-use Rattle.sf_call.specs.Allowed.{kind_of, IsMove}
-use Rattle.sf_call.specs.Calls.{Answer, answer_to, refuses, succeeds, moves, unless_nested, unless_root, rename_to, rename, replace_by, posix_rename}
+use Rattle.sf_call.specs.Allowed.{file_type_of, IsMove}
+use Rattle.sf_call.specs.Calls.{Outcome, answer_to, refuses, succeeds, moves, unless_nested, unless_root, rename_to, rename, replace_by, posix_rename}
 use Rattle.sf_reply.specs.declared.reply.StatusCode.TheVariants.{Failure}
 use Rattle.sf_call.proofs.Laws.{same_name_itself, same_path_is, append-after_front, kind_by, kind_at, named_object, named_way}
 
 -- the place of a path whose way is open
-place_open : (tree : Tree) (path : Path) (o : Option ℕ) → is_faulty_way tree path ≡ false → label_at tree.names path ≡ o → place_at tree path ≡ place_of o
-place_open tree path o way at = ap (λ b. cond b NoWay (place_of (label_at tree.names path))) way ∙ ap place_of at
+place_open : (tree : Tree) (path : Path) (o : Option ℕ) → is_faulty_way tree path ≡ false → label_at tree.names path ≡ o → look_up tree path ≡ lookup_of o
+place_open tree path o way at = ap (λ b. cond b NoWay (lookup_of (label_at tree.names path))) way ∙ ap lookup_of at
 
 -- a path that another doesn't begin with is another
 apart_paths : (p q : Path) → after_front p q ≡ None → same_path p q ≡ false
@@ -64,24 +64,24 @@ bare_empty (e ∷ es) path none =
 
 module _ (tree : Tree) (moment : ℕ) (old new : Path) (object : (path : Path) (label : ℕ) → label_at tree.names path ≡ Some label → IsSome (object_of tree.objects label))
     (way : (path : Path) (label : ℕ) → label_at tree.names path ≡ Some label → is_faulty_way tree path ≡ false) (may : IsMove tree old new) where
-  old_place : place_at tree old ≡ At may.label
+  old_place : look_up tree old ≡ At may.label
   old_place = place_open tree old (Some may.label) (way old may.label may.named) may.named
 
-  not_nested : (answer : Answer) → unless_nested old new answer ≡ answer
+  not_nested : (answer : Outcome) → unless_nested old new answer ≡ answer
   not_nested answer =
       ap (λ (o : Option Path). cond (is_some o || is_some (after_front new old)) (refuses Failure) answer) may.not_inside
       ∙ ap (λ (o : Option Path). cond (is_some o) (refuses Failure) answer) may.not_around
 
-  not_rooted : (answer : Answer) → unless_root old (unless_root new answer) ≡ answer
+  not_rooted : (answer : Outcome) → unless_root old (unless_root new answer) ≡ answer
   not_rooted answer = neither old new may.not_inside may.not_around where
     neither : (p q : Path) → after_front p q ≡ None → after_front q p ≡ None → unless_root p (unless_root q answer) ≡ answer
     neither [] q a b = cc
     neither (n ∷ p) [] a b = cc
     neither (n ∷ p) (m ∷ q) a b = refl
 
-  plain_moves : label_at tree.names new ≡ None → rename tree moment old new (place_at tree old) ≡ moves tree moment old new
+  plain_moves : label_at tree.names new ≡ None → rename tree moment old new (look_up tree old) ≡ moves tree moment old new
   plain_moves free =
-      ap (rename tree moment old new) old_place ∙ not_nested (rename_to tree moment old new (place_at tree new))
+      ap (rename tree moment old new) old_place ∙ not_nested (rename_to tree moment old new (look_up tree new))
       ∙ ap (rename_to tree moment old new) (place_open tree new None may.way free)
 
   kind_true : (b : Bool) → Some file_type.Directory ≡ Some (kind_by b) → b ≡ true
@@ -92,7 +92,7 @@ module _ (tree : Tree) (moment : ℕ) (old new : Path) (object : (path : Path) (
   kind_false true e = cc
   kind_false false e = refl
 
-  replaces_object : (at : ℕ) (o : Option Object) → nat_eq may.label at ≡ false → is_some o ≡ true → option_map kind_of o ≡ Some (kind_by (is_directory tree old)) → replace_by tree moment old new may.label (found_object at o) ≡ moves tree moment old new
+  replaces_object : (at : ℕ) (o : Option Object) → nat_eq may.label at ≡ false → is_some o ≡ true → option_map file_type_of o ≡ Some (kind_by (is_directory tree old)) → replace_by tree moment old new may.label (found_object at o) ≡ moves tree moment old new
   replaces_object at None apart some kind = cc
   replaces_object at (Some (Directory m)) apart some kind =
       ap (λ b. cond (b && is_empty tree.names new) (moves tree moment old new) (refuses Failure)) (kind_true (is_directory tree old) kind)
@@ -108,23 +108,23 @@ module _ (tree : Tree) (moment : ℕ) (old new : Path) (object : (path : Path) (
         | false ↦ λ f. refl
       ] refl
 
-  replaces : (o : Option ℕ) → label_at tree.names new ≡ o → replace_by tree moment old new may.label (found_place tree.objects (place_of o)) ≡ moves tree moment old new
+  replaces : (o : Option ℕ) → label_at tree.names new ≡ o → replace_by tree moment old new may.label (found_place tree.objects (lookup_of o)) ≡ moves tree moment old new
   replaces None e = refl
   replaces (Some at) e = replaces_object at (object_of tree.objects at) (another at e) (object new at e) (may.alike at e ∙ kind_at tree old may.label (object old may.label may.named) may.named)
 
-  posix_moves : posix_rename tree moment old new (place_at tree old) ≡ moves tree moment old new
+  posix_moves : posix_rename tree moment old new (look_up tree old) ≡ moves tree moment old new
   posix_moves =
       ap (posix_rename tree moment old new) old_place
-      ∙ ap (λ b. cond b (succeeds []) (unless_nested old new (replace_by tree moment old new may.label (found_place tree.objects (place_at tree new))))) (apart_paths old new may.not_inside)
-      ∙ not_nested (replace_by tree moment old new may.label (found_place tree.objects (place_at tree new)))
+      ∙ ap (λ b. cond b (succeeds []) (unless_nested old new (replace_by tree moment old new may.label (found_place tree.objects (look_up tree new))))) (apart_paths old new may.not_inside)
+      ∙ not_nested (replace_by tree moment old new may.label (found_place tree.objects (look_up tree new)))
       ∙ ap (λ place. replace_by tree moment old new may.label (found_place tree.objects place)) (place_open tree new (label_at tree.names new) may.way refl)
       ∙ replaces (label_at tree.names new) refl
 
   plain_answer : (session number : ℕ) → label_at tree.names new ≡ None → answer_to tree session number moment (Rename old new) ≡ moves tree moment old new
-  plain_answer session number free = not_rooted (rename tree moment old new (place_at tree old)) ∙ plain_moves free
+  plain_answer session number free = not_rooted (rename tree moment old new (look_up tree old)) ∙ plain_moves free
 
   posix_answer : (session number : ℕ) → answer_to tree session number moment (PosixRename old new) ≡ moves tree moment old new
-  posix_answer session number = not_rooted (posix_rename tree moment old new (place_at tree old)) ∙ posix_moves
+  posix_answer session number = not_rooted (posix_rename tree moment old new (look_up tree old)) ∙ posix_moves
 
 pub rename_moves : (history : List Record) (session number moment : ℕ) (old new : Path) → IsLegal history → IsMove (replay history) old new
     → label_at (replay history).names new ≡ None → answer_to (replay history) session number moment (Rename old new) ≡ moves (replay history) moment old new

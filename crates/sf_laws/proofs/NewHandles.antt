@@ -11,15 +11,15 @@ use Rattle.sf_field.specs.declared.open_flags.OpenFlags.{OpenFlags}
 use Rattle.sf_reply.specs.declared.reply.Reply.TheVariants as reply
 use Rattle.sf_call.specs.declared.metadata.Metadata.{Metadata}
 use Rattle.sf_call.specs.declared.request.Request.TheVariants.{OpenDir, Open}
-use Rattle.sf_call.specs.declared.place.Place.{Place}
-use Rattle.sf_call.specs.declared.place.Place.TheVariants.{NoWay, Absent, At}
+use Rattle.sf_call.specs.declared.lookup.Lookup.{Lookup}
+use Rattle.sf_call.specs.declared.lookup.Lookup.TheVariants.{NoWay, Absent, At}
 use Rattle.sf_call.specs.Attributes.{Object}
 use Rattle.sf_call.specs.Attributes.Object.{Directory, File}
 use Rattle.sf_call.specs.declared.handle.Handle.{Handle}
-use Rattle.sf_call.specs.Tree.{Tree, label_at, object_of, handle_of, directory_at, place_at, found_object, found_place}
+use Rattle.sf_call.specs.Tree.{Tree, label_at, object_of, handle_of, directory_at, look_up, found_object, found_place}
 use Rattle.sf_call.specs.Handles.{if_of}
 use Rattle.sf_call.specs.Changes.{done, touch}
-use Rattle.sf_call.specs.Calls.{Answer, apply, has_all_handles, directory_handle, file_handle, open_directory, open_present, open_file, unless_root, opening, stamp}
+use Rattle.sf_call.specs.Calls.{Outcome, apply, has_all_handles, directory_handle, new_file_handle, open_directory, open_present, open_file, unless_root, opening, stamp}
 use Rattle.sf_laws.specs.NewHandles.{IsJustOpened, allowing}
 use Rattle.sf_call.proofs.Laws.{lookup-put}
 use Rattle.sf_call.proofs.Laws.{place_label}
@@ -42,14 +42,14 @@ in_session handles session number h own =
 
 module _ (tree : Tree) (session number : ℕ) (path : Path) (read write append : Bool) where
   -- if the answer gives a handle, it is just opened in the tree after it
-  abbrev pub OpensIt : Answer → Type 0
+  abbrev pub OpensIt : Outcome → Type 0
   OpensIt answer = (given : ℕ) → answer.reply ≡ reply.Handle given → IsJustOpened (done tree answer.changes) session given path (allowing read write append)
 
-  either : (b : Bool) (this that : Answer) → OpensIt this → OpensIt that → OpensIt (cond b this that)
+  either : (b : Bool) (this that : Outcome) → OpensIt this → OpensIt that → OpensIt (cond b this that)
   either true this that p q = p
   either false this that p q = q
 
-  rooted : (way : Path) (answer : Answer) → OpensIt answer → OpensIt (unless_root way answer)
+  rooted : (way : Path) (answer : Outcome) → OpensIt answer → OpensIt (unless_root way answer)
   rooted [] answer p = λ given e. cc
   rooted (n ∷ way) answer p = p
 
@@ -87,7 +87,7 @@ module _ (tree : Tree) (session number moment : ℕ) (path : Path) where
         unlisted = refl;
       }))
 
-  directory_place : (place : Place) → place_at tree path ≡ place
+  directory_place : (place : Lookup) → look_up tree path ≡ place
       → OpensIt tree session number path false false false (open_directory tree session number (found_place tree.objects place))
   directory_place NoWay e = λ given k. cc
   directory_place Absent e = λ given k. cc
@@ -95,15 +95,15 @@ module _ (tree : Tree) (session number moment : ℕ) (path : Path) where
 
   pub directory_handle_made : (given : ℕ) → (apply tree session number moment (OpenDir path)).reply ≡ reply.Handle given
       → IsJustOpened (apply tree session number moment (OpenDir path)).tree session given path (allowing false false false)
-  directory_handle_made = directory_place (place_at tree path) refl
+  directory_handle_made = directory_place (look_up tree path) refl
 
   module _ (flags : OpenFlags) (attrs : Attrs) where
     -- in a tree with this handle put, in which the path has its label
-    file_handle_put : (t : Tree) (label : ℕ) → t.handles ≡ insert_entry nat_cmp tree.handles number (file_handle session label flags) → label_at t.names path ≡ Some label
+    file_handle_put : (t : Tree) (label : ℕ) → t.handles ≡ insert_entry nat_cmp tree.handles number (new_file_handle session label flags) → label_at t.names path ≡ Some label
         → IsJustOpened t session number path (allowing (flags.read || not flags.write) flags.write flags.append)
     file_handle_put t label put at = record {
-      handle = file_handle session label flags;
-      is_open = ap (λ (handles : List (ℕ × Handle)). option_and_then (if_of session) (handle_of handles number)) put ∙ in_session tree.handles session number (file_handle session label flags) refl;
+      handle = new_file_handle session label flags;
+      is_open = ap (λ (handles : List (ℕ × Handle)). option_and_then (if_of session) (handle_of handles number)) put ∙ in_session tree.handles session number (new_file_handle session label flags) refl;
       of_session = refl;
       of_path = at;
       reads = refl;
@@ -112,10 +112,10 @@ module _ (tree : Tree) (session number moment : ℕ) (path : Path) where
       unlisted = refl;
     }
 
-    abbrev pub OpensFile : Answer → Type 0
+    abbrev pub OpensFile : Outcome → Type 0
     OpensFile answer = OpensIt tree session number path (flags.read || not flags.write) flags.write flags.append answer
 
-    one_of : (b : Bool) (this that : Answer) → OpensFile this → OpensFile that → OpensFile (cond b this that)
+    one_of : (b : Bool) (this that : Outcome) → OpensFile this → OpensFile that → OpensFile (cond b this that)
     one_of = either tree session number path (flags.read || not flags.write) flags.write flags.append
 
     this_number : (t : Tree) (given : ℕ) → reply.Handle number ≡ reply.Handle given → IsJustOpened t session number path (allowing (flags.read || not flags.write) flags.write flags.append)
@@ -129,7 +129,7 @@ module _ (tree : Tree) (session number moment : ℕ) (path : Path) where
         one_of (has_all_handles tree session) _ _ (λ given e. cc)
         (one_of (flags.truncate && flags.write) _ _ (λ given e. this_number _ given e (file_handle_put _ label refl at)) (λ given e. this_number _ given e (file_handle_put _ label refl at)))
 
-    file_place : (place : Place) → place_at tree path ≡ place → OpensFile (open_file tree session (stamp number moment) (opening path flags attrs) place)
+    file_place : (place : Lookup) → look_up tree path ≡ place → OpensFile (open_file tree session (stamp number moment) (opening path flags attrs) place)
     file_place NoWay e = λ given k. cc
     file_place (At label) e = one_of (flags.create && flags.exclusive) _ _ (λ given k. cc) (file_object label (object_of tree.objects label) (place_label tree path label e))
     file_place Absent e =
@@ -139,4 +139,4 @@ module _ (tree : Tree) (session number moment : ℕ) (path : Path) where
 
     pub file_handle_made : (given : ℕ) → (apply tree session number moment (Open path flags attrs)).reply ≡ reply.Handle given
         → IsJustOpened (apply tree session number moment (Open path flags attrs)).tree session given path (allowing (flags.read || not flags.write) flags.write flags.append)
-    file_handle_made = rooted tree session number path (flags.read || not flags.write) flags.write flags.append path _ (file_place (place_at tree path) refl)
+    file_handle_made = rooted tree session number path (flags.read || not flags.write) flags.write flags.append path _ (file_place (look_up tree path) refl)

@@ -16,22 +16,22 @@ use Rattle.sf_reply.specs.declared.reply.Entry.{Entry}
 use Rattle.sf_call.specs.declared.limits.TheConstants.{MAX_FILE_SIZE, MAX_HANDLES}
 use Rattle.sf_call.specs.declared.metadata.Metadata.{Metadata}
 use Rattle.sf_call.specs.declared.handle.Handle.{Handle}
-use Rattle.sf_call.specs.declared.place.Place.{Place}
-use Rattle.sf_call.specs.declared.place.Place.TheVariants.{NoWay, Absent, At}
+use Rattle.sf_call.specs.declared.lookup.Lookup.{Lookup}
+use Rattle.sf_call.specs.declared.lookup.Lookup.TheVariants.{NoWay, Absent, At}
 use Rattle.sf_call.specs.declared.request.Request.{Request}
 use Rattle.sf_call.specs.declared.request.Request.TheVariants.{Stat, SetStat, Mkdir, Rmdir, Remove, OpenDir, Open, Close, FStat, FSetStat, Read, Write, ReadDir, Rename, PosixRename, Link}
 use Rattle.sf_call.specs.declared.record.Record.{Record}
 use Rattle.sf_call.specs.Attributes.{Object, new_metadata}
 use Rattle.sf_call.specs.Attributes.Object.{Directory, File}
-use Rattle.sf_call.specs.Tree.{Tree, Found, object_of, handle_of, kept, directory_at, place_at, found_object, found_place, found_at, is_empty, is_nil, with_names, with_handles}
-use Rattle.sf_call.specs.Tree.Found.{Nowhere, Nothing, DirectoryAt, FileAt}
+use Rattle.sf_call.specs.Tree.{Tree, FoundObject, object_of, handle_of, kept, directory_at, look_up, found_object, found_place, found_at, is_empty, is_nil, with_names, with_handles}
+use Rattle.sf_call.specs.Tree.FoundObject.{Nowhere, Nothing, DirectoryAt, FileAt}
 use Rattle.sf_call.specs.Handles.{Opened, handle_in, opened, opened_by, opened_object, if_of}
 use Rattle.sf_call.specs.Handles.Opened.{NotOpen, OpenDirectory, OpenFile}
 use Rattle.sf_call.specs.Listings.{path_of, listing_of}
 use Rattle.sf_call.specs.Moves.{moved}
 use Rattle.sf_call.specs.Changes.{changed, done, touch, touched}
 use Rattle.sf_call.specs.Changes.Change.{SetObject, NewPath, NewName, GonePath, Move, OpenHandle, SetHandle, CloseHandle}
-use Rattle.sf_call.specs.Calls.{Answer, answer_to, leave, stat, refuses_size, sets, set_stat, make_directory, remove_directory, remove_file, has_all_handles, directory_handle, file_handle, open_directory, open_present, open_file, close, stat_opened, set_opened, read, start_of, write, lists, read_directory, unless_root, moves, opening, stamp}
+use Rattle.sf_call.specs.Calls.{Outcome, answer_to, leave, stat, refuses_size, sets, set_stat, make_directory, remove_directory, remove_file, has_all_handles, directory_handle, new_file_handle, open_directory, open_present, open_file, close, stat_opened, set_opened, read, start_of, write, lists, read_directory, unless_root, moves, opening, stamp}
 use Rattle.sf_call.specs.Histories.{replay, IsLegal}
 use Rattle.sf_call.proofs.Laws.{lookup-put, object_kept, all_by, all_filtered, all_removed, all_put, all_set, found_value, holds_after, rename_cases, posix_rename_cases, link_cases, link_to_cases}
 
@@ -237,18 +237,18 @@ of_session session (Some x) handle e = elim (nat_eq x.session session) as (λ b.
 -- ---- each answer
 
 module _ (tree : Tree) (session number moment : ℕ) (h : HandlesHold tree) where
-  abbrev pub Keeps : Answer → Type 0
+  abbrev pub Keeps : Outcome → Type 0
   Keeps answer = HandlesHold (done tree answer.changes)
 
-  either : (b : Bool) (this that : Answer) → Keeps this → Keeps that → Keeps (cond b this that)
+  either : (b : Bool) (this that : Outcome) → Keeps this → Keeps that → Keeps (cond b this that)
   either true this that p q = p
   either false this that p q = q
 
-  rooted : (path : Path) (answer : Answer) → Keeps answer → Keeps (unless_root path answer)
+  rooted : (path : Path) (answer : Outcome) → Keeps answer → Keeps (unless_root path answer)
   rooted [] answer p = h
   rooted (n ∷ path) answer p = p
 
-  told : (found : Found) → Keeps (stat found)
+  told : (found : FoundObject) → Keeps (stat found)
   told Nowhere = h
   told Nothing = h
   told (DirectoryAt label m) = h
@@ -257,13 +257,13 @@ module _ (tree : Tree) (session number moment : ℕ) (h : HandlesHold tree) wher
   parts_set : (label : ℕ) (attrs : Attrs) (object : Object) → Keeps (sets moment label attrs object)
   parts_set label attrs object = either (refuses_size object attrs.size) _ _ h (set_holds tree label _ h)
 
-  set_found : (attrs : Attrs) (found : Found) → Keeps (set_stat moment attrs found)
+  set_found : (attrs : Attrs) (found : FoundObject) → Keeps (set_stat moment attrs found)
   set_found attrs Nowhere = h
   set_found attrs Nothing = h
   set_found attrs (DirectoryAt label m) = parts_set label attrs (Directory m)
   set_found attrs (FileAt label m contents) = parts_set label attrs (File m contents)
 
-  made : (path : Path) (attrs : Attrs) (place : Place) → Keeps (make_directory tree (stamp number moment) path attrs place)
+  made : (path : Path) (attrs : Attrs) (place : Lookup) → Keeps (make_directory tree (stamp number moment) path attrs place)
   made path attrs NoWay = h
   made path attrs (At label) = h
   made path attrs Absent = touch_holds _ moment (directory_at tree (parent path)) (new_holds tree path number _ h)
@@ -271,19 +271,19 @@ module _ (tree : Tree) (session number moment : ℕ) (h : HandlesHold tree) wher
   gone : (path : Path) → HandlesHold (done tree (GonePath path ∷ touched tree moment (parent path)))
   gone path = touch_holds _ moment (directory_at tree (parent path)) (gone_holds tree path h)
 
-  directory_removed : (path : Path) (found : Found) → Keeps (remove_directory tree moment path found)
+  directory_removed : (path : Path) (found : FoundObject) → Keeps (remove_directory tree moment path found)
   directory_removed path Nowhere = h
   directory_removed path Nothing = h
   directory_removed path (FileAt label m contents) = h
   directory_removed path (DirectoryAt label m) = either (is_empty tree.names path) _ _ (gone path) h
 
-  file_removed : (path : Path) (found : Found) → Keeps (remove_file tree moment path found)
+  file_removed : (path : Path) (found : FoundObject) → Keeps (remove_file tree moment path found)
   file_removed path Nowhere = h
   file_removed path Nothing = h
   file_removed path (DirectoryAt label m) = h
   file_removed path (FileAt label m contents) = gone path
 
-  unless_true : (b : Bool) (this that : Answer) → Keeps this → (b ≡ false → Keeps that) → Keeps (cond b this that)
+  unless_true : (b : Bool) (this that : Outcome) → Keeps this → (b ≡ false → Keeps that) → Keeps (cond b this that)
   unless_true true this that p q = p
   unless_true false this that p q = q refl
 
@@ -296,7 +296,7 @@ module _ (tree : Tree) (session number moment : ℕ) (h : HandlesHold tree) wher
   directory_object label (Some (Directory m)) is =
       unless_true (has_all_handles tree session) _ _ h (λ free. open_holds tree number (directory_handle session label) free (there label _ is) h)
 
-  directory_opened : (place : Place) → Keeps (open_directory tree session number (found_place tree.objects place))
+  directory_opened : (place : Lookup) → Keeps (open_directory tree session number (found_place tree.objects place))
   directory_opened NoWay = h
   directory_opened Absent = h
   directory_opened (At label) = directory_object label (object_of tree.objects label) refl
@@ -306,16 +306,16 @@ module _ (tree : Tree) (session number moment : ℕ) (h : HandlesHold tree) wher
   file_object flags label (Some (Directory m)) is = h
   file_object flags label (Some (File m contents)) is =
       unless_true (has_all_handles tree session) _ _ h (λ free.
-      let open' = open_holds tree number (file_handle session label flags) free (there label _ is) h in
+      let open' = open_holds tree number (new_file_handle session label flags) free (there label _ is) h in
       either (flags.truncate && flags.write) _ _ (set_holds _ label _ open') open')
 
-  file_opened : (path : Path) (flags : OpenFlags) (attrs : Attrs) (place : Place) → Keeps (open_file tree session (stamp number moment) (opening path flags attrs) place)
+  file_opened : (path : Path) (flags : OpenFlags) (attrs : Attrs) (place : Lookup) → Keeps (open_file tree session (stamp number moment) (opening path flags attrs) place)
   file_opened path flags attrs NoWay = h
   file_opened path flags attrs (At label) = either (flags.create && flags.exclusive) _ _ h (file_object flags label (object_of tree.objects label) refl)
   file_opened path flags attrs Absent =
       either (not flags.create) _ _ h (unless_true (has_all_handles tree session) _ _ h (λ free.
       touch_holds _ moment (directory_at tree (parent path))
-      (open_holds (changed tree (NewPath path number (File (new_metadata 0o644 moment attrs) []))) number (file_handle session number flags) free
+      (open_holds (changed tree (NewPath path number (File (new_metadata 0o644 moment attrs) []))) number (new_file_handle session number flags) free
       (there_put tree.objects number _) (new_holds tree path number _ h))))
 
   closed : (handle : ℕ) (o : Option Handle) → Keeps (close handle o)
@@ -363,11 +363,11 @@ module _ (tree : Tree) (session number moment : ℕ) (h : HandlesHold tree) wher
   pub answer_holds : (request : Request) → Keeps (answer_to tree session number moment request)
   answer_holds (Stat path) = told (found_at tree path)
   answer_holds (SetStat path attrs) = rooted path _ (set_found attrs (found_at tree path))
-  answer_holds (Mkdir path attrs) = rooted path _ (made path attrs (place_at tree path))
+  answer_holds (Mkdir path attrs) = rooted path _ (made path attrs (look_up tree path))
   answer_holds (Rmdir path) = rooted path _ (directory_removed path (found_at tree path))
   answer_holds (Remove path) = rooted path _ (file_removed path (found_at tree path))
-  answer_holds (OpenDir path) = directory_opened (place_at tree path)
-  answer_holds (Open path flags attrs) = rooted path _ (file_opened path flags attrs (place_at tree path))
+  answer_holds (OpenDir path) = directory_opened (look_up tree path)
+  answer_holds (Open path flags attrs) = rooted path _ (file_opened path flags attrs (look_up tree path))
   answer_holds (Close handle) = closed handle (handle_in tree session handle)
   answer_holds (FStat handle) = told_opened (opened tree session handle)
   answer_holds (FSetStat handle attrs) = set_by_handle attrs (opened tree session handle)
@@ -378,7 +378,7 @@ module _ (tree : Tree) (session number moment : ℕ) (h : HandlesHold tree) wher
   answer_holds (PosixRename old new) = posix_rename_cases Keeps (λ code. h) h tree moment old new (λ _ _. moved_holds old new) session number
   answer_holds (Link old new) =
       link_cases Keeps (λ code. h) tree moment old new
-      (λ label _ _ _. link_to_cases Keeps (λ code. h) tree moment new label (place_at tree new) refl
+      (λ label _ _ _. link_to_cases Keeps (λ code. h) tree moment new label (look_up tree new) refl
       (λ _ _. touch_holds _ moment (directory_at tree (parent new)) (name_holds tree new label h))) session number
 
 pub handles_hold : (history : List Record) → IsLegal history → HandlesHold (replay history)

@@ -10,13 +10,13 @@ use Rattle.sf_call.specs.declared.limits.TheConstants.{MAX_FILE_SIZE}
 use Rattle.sf_call.specs.declared.metadata.Metadata.{Metadata}
 use Rattle.sf_call.specs.declared.request.Request.{Request}
 use Rattle.sf_call.specs.declared.request.Request.TheVariants.{Stat, SetStat, Mkdir, Rmdir, Remove, OpenDir, Open, Close, FStat, FSetStat, Read, Write, ReadDir, Rename, PosixRename, Link}
-use Rattle.sf_call.specs.declared.place.Place.{Place}
-use Rattle.sf_call.specs.declared.place.Place.TheVariants.{NoWay, Absent, At}
+use Rattle.sf_call.specs.declared.lookup.Lookup.{Lookup}
+use Rattle.sf_call.specs.declared.lookup.Lookup.TheVariants.{NoWay, Absent, At}
 use Rattle.sf_call.specs.Attributes.{Object}
 use Rattle.sf_call.specs.Attributes.Object.{Directory, File}
 use Rattle.sf_call.specs.declared.handle.Handle.{Handle}
-use Rattle.sf_call.specs.Tree.{Tree, Found, label_at, object_of, handle_of, directory_at, place_at, found_object, found_place, found_at, is_empty, is_nil}
-use Rattle.sf_call.specs.Tree.Found.{Nowhere, Nothing, DirectoryAt, FileAt}
+use Rattle.sf_call.specs.Tree.{Tree, FoundObject, label_at, object_of, handle_of, directory_at, look_up, found_object, found_place, found_at, is_empty, is_nil}
+use Rattle.sf_call.specs.Tree.FoundObject.{Nowhere, Nothing, DirectoryAt, FileAt}
 use Rattle.sf_call.specs.Handles.{Opened, handle_in, opened_object, opened_by, opened}
 use Rattle.sf_call.specs.Handles.Opened.{NotOpen, OpenDirectory, OpenFile}
 use Rattle.sf_call.specs.Listings.{path_of, listing_of}
@@ -24,7 +24,7 @@ use Rattle.sf_call.specs.Changes.{Change, changed, done, touch, touched}
 use Rattle.sf_call.specs.Changes.Change.{SetObject, NewPath, NewName, GonePath, Move, OpenHandle, SetHandle, CloseHandle}
 use Rattle.sf_laws.specs.LeftAlone.{IsOfPath, IsOfLabel, IsOfNumber}
 use Rattle.sf_laws.specs.Own.{IsOwnPath, IsOwnObject, IsOwnHandle}
-use Rattle.sf_call.specs.Calls.{Answer, answer_to, stat, refuses_size, sets, set_stat, make_directory, remove_directory, remove_file, has_all_handles, open_directory, open_present, open_file, close, stat_opened, set_opened, read, start_of, write, lists, read_directory, unless_root, moves, opening, stamp}
+use Rattle.sf_call.specs.Calls.{Outcome, answer_to, stat, refuses_size, sets, set_stat, make_directory, remove_directory, remove_file, has_all_handles, open_directory, open_present, open_file, close, stat_opened, set_opened, read, start_of, write, lists, read_directory, unless_root, moves, opening, stamp}
 use Rattle.sf_call.proofs.Laws.{directory_there, place_label, rename_cases, posix_rename_cases, link_cases, link_to_cases}
 use Rattle.sf_laws.proofs.LeftAlone.{other_path, other_object, other_handle}
 
@@ -43,11 +43,11 @@ module _ (tree : Tree) (session number : ℕ) where
   abbrev pub AreOwn : Request → List Change → Type 0
   AreOwn request changes = AllByRecursion (IsOwnChange request) changes
 
-  either : (request : Request) (b : Bool) (this that : Answer) → AreOwn request this.changes → AreOwn request that.changes → AreOwn request (cond b this that).changes
+  either : (request : Request) (b : Bool) (this that : Outcome) → AreOwn request this.changes → AreOwn request that.changes → AreOwn request (cond b this that).changes
   either request true this that p q = p
   either request false this that p q = q
 
-  rooted : (request : Request) (path : Path) (answer : Answer) → AreOwn request answer.changes → AreOwn request (unless_root path answer).changes
+  rooted : (request : Request) (path : Path) (answer : Outcome) → AreOwn request answer.changes → AreOwn request (unless_root path answer).changes
   rooted request [] answer p = tt
   rooted request (n ∷ path) answer p = p
 
@@ -57,7 +57,7 @@ module _ (tree : Tree) (session number : ℕ) where
     touch_own request path None e own = tt
     touch_own request path (Some d) e own = (own d.0 (directory_there tree path d e).0, tt)
 
-    told : (request : Request) (found : Found) → AreOwn request (stat found).changes
+    told : (request : Request) (found : FoundObject) → AreOwn request (stat found).changes
     told request Nowhere = tt
     told request Nothing = tt
     told request (DirectoryAt label m) = tt
@@ -71,30 +71,30 @@ module _ (tree : Tree) (session number : ℕ) where
     set_object path attrs label (Some (Directory m)) e = parts_set (SetStat path attrs) label attrs (Directory m) e
     set_object path attrs label (Some (File m contents)) e = parts_set (SetStat path attrs) label attrs (File m contents) e
 
-    set_place : (path : Path) (attrs : Attrs) (place : Place) → place_at tree path ≡ place → AreOwn (SetStat path attrs) (set_stat moment attrs (found_place tree.objects place)).changes
+    set_place : (path : Path) (attrs : Attrs) (place : Lookup) → look_up tree path ≡ place → AreOwn (SetStat path attrs) (set_stat moment attrs (found_place tree.objects place)).changes
     set_place path attrs NoWay e = tt
     set_place path attrs Absent e = tt
     set_place path attrs (At label) e = set_object path attrs label (object_of tree.objects label) (place_label tree path label e)
 
-    made : (path : Path) (attrs : Attrs) (place : Place) → AreOwn (Mkdir path attrs) (make_directory tree (stamp number moment) path attrs place).changes
+    made : (path : Path) (attrs : Attrs) (place : Lookup) → AreOwn (Mkdir path attrs) (make_directory tree (stamp number moment) path attrs place).changes
     made path attrs NoWay = tt
     made path attrs (At label) = tt
     made path attrs Absent = ((refl, refl), touch_own (Mkdir path attrs) (parent path) (directory_at tree (parent path)) refl (λ label e. e))
 
-    directory_removed : (path : Path) (found : Found) → AreOwn (Rmdir path) (remove_directory tree moment path found).changes
+    directory_removed : (path : Path) (found : FoundObject) → AreOwn (Rmdir path) (remove_directory tree moment path found).changes
     directory_removed path Nowhere = tt
     directory_removed path Nothing = tt
     directory_removed path (FileAt label m contents) = tt
     directory_removed path (DirectoryAt label m) =
         either (Rmdir path) (is_empty tree.names path) _ _ (refl, touch_own (Rmdir path) (parent path) (directory_at tree (parent path)) refl (λ l e. e)) tt
 
-    file_removed : (path : Path) (found : Found) → AreOwn (Remove path) (remove_file tree moment path found).changes
+    file_removed : (path : Path) (found : FoundObject) → AreOwn (Remove path) (remove_file tree moment path found).changes
     file_removed path Nowhere = tt
     file_removed path Nothing = tt
     file_removed path (DirectoryAt label m) = tt
     file_removed path (FileAt label m contents) = (refl, touch_own (Remove path) (parent path) (directory_at tree (parent path)) refl (λ l e. e))
 
-    directory_opened : (path : Path) (found : Found) → AreOwn (OpenDir path) (open_directory tree session number found).changes
+    directory_opened : (path : Path) (found : FoundObject) → AreOwn (OpenDir path) (open_directory tree session number found).changes
     directory_opened path Nowhere = tt
     directory_opened path Nothing = tt
     directory_opened path (FileAt label m contents) = tt
@@ -108,7 +108,7 @@ module _ (tree : Tree) (session number : ℕ) where
         either (Open path flags attrs) (has_all_handles tree session) _ _ tt
         (either (Open path flags attrs) (flags.truncate && flags.write) _ _ (refl, (inl e, tt)) (refl, tt))
 
-    file_opened : (path : Path) (flags : OpenFlags) (attrs : Attrs) (place : Place) → place_at tree path ≡ place → AreOwn (Open path flags attrs) (open_file tree session (stamp number moment) (opening path flags attrs) place).changes
+    file_opened : (path : Path) (flags : OpenFlags) (attrs : Attrs) (place : Lookup) → look_up tree path ≡ place → AreOwn (Open path flags attrs) (open_file tree session (stamp number moment) (opening path flags attrs) place).changes
     file_opened path flags attrs NoWay e = tt
     file_opened path flags attrs (At label) e =
         either (Open path flags attrs) (flags.create && flags.exclusive) _ _ tt (present_opened path flags attrs label (object_of tree.objects label) (place_label tree path label e))
@@ -182,12 +182,12 @@ module _ (tree : Tree) (session number : ℕ) where
 
     pub own : (request : Request) → AreOwn request (answer_to tree session number moment request).changes
     own (Stat path) = told (Stat path) (found_at tree path)
-    own (SetStat path attrs) = rooted (SetStat path attrs) path _ (set_place path attrs (place_at tree path) refl)
-    own (Mkdir path attrs) = rooted (Mkdir path attrs) path _ (made path attrs (place_at tree path))
+    own (SetStat path attrs) = rooted (SetStat path attrs) path _ (set_place path attrs (look_up tree path) refl)
+    own (Mkdir path attrs) = rooted (Mkdir path attrs) path _ (made path attrs (look_up tree path))
     own (Rmdir path) = rooted (Rmdir path) path _ (directory_removed path (found_at tree path))
     own (Remove path) = rooted (Remove path) path _ (file_removed path (found_at tree path))
     own (OpenDir path) = directory_opened path (found_at tree path)
-    own (Open path flags attrs) = rooted (Open path flags attrs) path _ (file_opened path flags attrs (place_at tree path) refl)
+    own (Open path flags attrs) = rooted (Open path flags attrs) path _ (file_opened path flags attrs (look_up tree path) refl)
     own (Close handle) = closed handle (handle_in tree session handle) refl
     own (FStat handle) = told_opened (FStat handle) (opened tree session handle)
     own (FSetStat handle attrs) = set_by_handle handle attrs (handle_in tree session handle) refl
@@ -202,7 +202,7 @@ module _ (tree : Tree) (session number : ℕ) where
         (λ _ _. moved_own (PosixRename old new) old new (λ path of. of) (λ label at. inl at) (λ label at. inr at)) session number
     own (Link old new) =
         link_cases (λ answer. AreOwn (Link old new) answer.changes) (λ code. tt) tree moment old new
-        (λ label _ _ _. link_to_cases (λ answer. AreOwn (Link old new) answer.changes) (λ code. tt) tree moment new label (place_at tree new) refl
+        (λ label _ _ _. link_to_cases (λ answer. AreOwn (Link old new) answer.changes) (λ code. tt) tree moment new label (look_up tree new) refl
         (λ _ _. (refl, touch_own (Link old new) (parent new) (directory_at tree (parent new)) refl (λ l at. at)))) session number
 
   module _ (request : Request) where

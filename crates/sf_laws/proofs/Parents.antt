@@ -12,20 +12,20 @@ use Rattle.sf_path.specs.Order.{parent, path_cmp}
 use Rattle.sf_field.specs.declared.attrs.Attrs.{Attrs}
 use Rattle.sf_field.specs.declared.open_flags.OpenFlags.{OpenFlags}
 use Rattle.sf_call.specs.declared.metadata.Metadata.{Metadata}
-use Rattle.sf_call.specs.declared.place.Place.{Place}
-use Rattle.sf_call.specs.declared.place.Place.TheVariants.{NoWay, Absent, At}
+use Rattle.sf_call.specs.declared.lookup.Lookup.{Lookup}
+use Rattle.sf_call.specs.declared.lookup.Lookup.TheVariants.{NoWay, Absent, At}
 use Rattle.sf_call.specs.declared.request.Request.{Request}
 use Rattle.sf_call.specs.declared.request.Request.TheVariants.{Stat, SetStat, Mkdir, Rmdir, Remove, OpenDir, Open, Close, FStat, FSetStat, Read, Write, ReadDir, Rename, PosixRename, Link}
 use Rattle.sf_call.specs.Attributes.{Object, modified_at}
 use Rattle.sf_call.specs.Attributes.Object.{Directory, File}
-use Rattle.sf_call.specs.Tree.{Tree, Found, label_at, object_of, directory_at, place_at, found_object, found_at, is_empty, after_front, with_names}
+use Rattle.sf_call.specs.Tree.{Tree, FoundObject, label_at, object_of, directory_at, look_up, found_object, found_at, is_empty, after_front, with_names}
 use Rattle.sf_call.specs.Moves.{moved}
-use Rattle.sf_call.specs.Tree.Found.{Nowhere, Nothing, DirectoryAt, FileAt}
+use Rattle.sf_call.specs.Tree.FoundObject.{Nowhere, Nothing, DirectoryAt, FileAt}
 use Rattle.sf_call.specs.Changes.{changed, done, touch, touched}
 use Rattle.sf_call.specs.Changes.Change.{SetObject, NewPath, NewName, GonePath, Move}
-use Rattle.sf_call.specs.Calls.{Answer, answer_to, make_directory, remove_directory, remove_file, has_all_handles, open_present, open_file, moves, opening, stamp}
+use Rattle.sf_call.specs.Calls.{Outcome, answer_to, make_directory, remove_directory, remove_file, has_all_handles, open_present, open_file, moves, opening, stamp}
 use Rattle.sf_call.proofs.Laws.{exact_paths, other_put, other_set, other_removed, set_there, kept_object, directory_there, moved_outside, no_front, no_parent, rename_cases, posix_rename_cases, link_cases, link_to_cases}
-use Rattle.sf_laws.specs.Own.{IsOneOf, IsEntryOf}
+use Rattle.sf_laws.specs.Own.{IsOneOf, NamesEntry}
 
 -- a path that isn't the root's has another parent
 other_parent : (name : Name) (path : Path) → parent (name ∷ path) ≢ name ∷ path
@@ -87,10 +87,10 @@ module _ (tree : Tree) (session number moment label : ℕ) (path : Path) (m : Me
   abbrev pub Stays : Tree → Type 0
   Stays after = IsOneOf (Directory m) (Directory (modified_at moment m)) (object_of after.objects label)
 
-  abbrev pub Keeps : Answer → Type 0
+  abbrev pub Keeps : Outcome → Type 0
   Keeps answer = Stays (done tree answer.changes)
 
-  either : (b : Bool) (this that : Answer) → Keeps this → Keeps that → Keeps (cond b this that)
+  either : (b : Bool) (this that : Outcome) → Keeps this → Keeps that → Keeps (cond b this that)
   either true this that p q = p
   either false this that p q = q
 
@@ -100,7 +100,7 @@ module _ (tree : Tree) (session number moment label : ℕ) (path : Path) (m : Me
   new_stays : (new : Path) (object : Object) → object_of (changed tree (NewPath new number object)).objects label ≡ Some (Directory m)
   new_stays new object = other_put nat_cmp nat_cmp-IsAntisymmetric nat_cmp_total tree.objects number object label apart ∙ is
 
-  made : (attrs : Attrs) (place : Place) → Keeps (make_directory tree (stamp number moment) path attrs place)
+  made : (attrs : Attrs) (place : Lookup) → Keeps (make_directory tree (stamp number moment) path attrs place)
   made attrs NoWay = inl is
   made attrs (At l) = inl is
   made attrs Absent = touch_stays _ (directory_at tree (parent path)) refl (new_stays path _)
@@ -113,7 +113,7 @@ module _ (tree : Tree) (session number moment label : ℕ) (path : Path) (m : Me
       either (has_all_handles tree session) _ _ (inl is) (either (flags.truncate && flags.write) _ _
       (inl (other_set nat_cmp nat_cmp-IsAntisymmetric tree.objects l _ label other ∙ is)) (inl is))
 
-  file_opened : (flags : OpenFlags) (attrs : Attrs) (place : Place) → Keeps (open_file tree session (stamp number moment) (opening path flags attrs) place)
+  file_opened : (flags : OpenFlags) (attrs : Attrs) (place : Lookup) → Keeps (open_file tree session (stamp number moment) (opening path flags attrs) place)
   file_opened flags attrs NoWay = inl is
   file_opened flags attrs (At l) = either (flags.create && flags.exclusive) _ _ (inl is) (file_object flags l (object_of tree.objects l) refl)
   file_opened flags attrs Absent =
@@ -127,13 +127,13 @@ module _ (tree : Tree) (session number moment label : ℕ) (path : Path) (m : Me
         (kept_object (with_names tree (remove_entry (is_at (path_cmp path)) tree.names)) (parent path) label
         (other_removed path_cmp exact_paths path (parent path) tree.names not_root ∙ named) ∙ is)
 
-    directory_removed : (found : Found) → Keeps (remove_directory tree moment path found)
+    directory_removed : (found : FoundObject) → Keeps (remove_directory tree moment path found)
     directory_removed Nowhere = inl is
     directory_removed Nothing = inl is
     directory_removed (FileAt l x contents) = inl is
     directory_removed (DirectoryAt l x) = either (is_empty tree.names path) _ _ gone (inl is)
 
-    file_removed : (found : Found) → Keeps (remove_file tree moment path found)
+    file_removed : (found : FoundObject) → Keeps (remove_file tree moment path found)
     file_removed Nowhere = inl is
     file_removed Nothing = inl is
     file_removed (DirectoryAt l x) = inl is
@@ -144,12 +144,12 @@ module _ (tree : Tree) (session number moment label : ℕ) (m : Metadata) (apart
   KeepsParent path request = label_at tree.names (parent path) ≡ Some label
       → IsOneOf (Directory m) (Directory (modified_at moment m)) (object_of (done tree (answer_to tree session number moment request).changes).objects label)
 
-  abbrev pub StillThere : Answer → Type 0
+  abbrev pub StillThere : Outcome → Type 0
   StillThere answer = MayBeTouched tree moment label m is (done tree answer.changes)
 
   mkdir : (path : Path) (attrs : Attrs) → KeepsParent path (Mkdir path attrs)
   mkdir [] attrs named = inl is
-  mkdir (n ∷ path) attrs named = made tree session number moment label (n ∷ path) m apart named is attrs (place_at tree (n ∷ path))
+  mkdir (n ∷ path) attrs named = made tree session number moment label (n ∷ path) m apart named is attrs (look_up tree (n ∷ path))
 
   rmdir : (path : Path) → KeepsParent path (Rmdir path)
   rmdir [] named = inl is
@@ -161,9 +161,9 @@ module _ (tree : Tree) (session number moment label : ℕ) (m : Metadata) (apart
 
   open' : (path : Path) (flags : OpenFlags) (attrs : Attrs) → KeepsParent path (Open path flags attrs)
   open' [] flags attrs named = inl is
-  open' (n ∷ path) flags attrs named = file_opened tree session number moment label (n ∷ path) m apart named is flags attrs (place_at tree (n ∷ path))
+  open' (n ∷ path) flags attrs named = file_opened tree session number moment label (n ∷ path) m apart named is flags attrs (look_up tree (n ∷ path))
 
-  pub parents : (request : Request) (path : Path) → IsEntryOf request path → KeepsParent path request
+  pub parents : (request : Request) (path : Path) → NamesEntry request path → KeepsParent path request
   parents (Stat p) path own = absurd own
   parents (SetStat p attrs) path own = absurd own
   parents (Mkdir p attrs) path own = subst (λ (q : Path). KeepsParent path (Mkdir q attrs)) own (mkdir path attrs)
@@ -185,5 +185,5 @@ module _ (tree : Tree) (session number moment label : ℕ) (m : Metadata) (apart
       (λ not_inside not_around. both_ends tree moment label m is old new path own not_inside not_around named) session number
   parents (Link old new) path own = λ named.
       link_cases StillThere (λ code. inl is) tree moment old new
-      (λ l _ _ _. link_to_cases StillThere (λ code. inl is) tree moment new l (place_at tree new) refl
+      (λ l _ _ _. link_to_cases StillThere (λ code. inl is) tree moment new l (look_up tree new) refl
       (λ _ _. touched_or_not tree moment label m is (changed tree (NewName new l)) (parent new) (directory_at tree (parent new)) refl (inl is))) session number

@@ -9,15 +9,15 @@ use Rattle.sf_path.specs.Order.{parent, path_cmp}
 use Rattle.sf_reply.specs.declared.reply.Reply.TheVariants as reply
 use Rattle.sf_reply.specs.declared.reply.StatusCode.TheVariants.{Success}
 use Rattle.sf_call.specs.declared.metadata.Metadata.{Metadata}
-use Rattle.sf_call.specs.declared.place.Place.{Place}
-use Rattle.sf_call.specs.declared.place.Place.TheVariants.{NoWay, Absent, At}
+use Rattle.sf_call.specs.declared.lookup.Lookup.{Lookup}
+use Rattle.sf_call.specs.declared.lookup.Lookup.TheVariants.{NoWay, Absent, At}
 use Rattle.sf_call.specs.declared.request.Request.TheVariants.{Remove}
 use Rattle.sf_call.specs.Attributes.{Object}
 use Rattle.sf_call.specs.Attributes.Object.{Directory, File}
-use Rattle.sf_call.specs.Tree.{Tree, IsOrderedTree, label_at, object_of, links, is_used, directory_at, place_at, found_object, found_place, with_names}
+use Rattle.sf_call.specs.Tree.{Tree, IsOrderedTree, label_at, object_of, links, is_used, directory_at, look_up, found_object, found_place, with_names}
 use Rattle.sf_call.specs.Changes.{changed, done, touch}
 use Rattle.sf_call.specs.Changes.Change.{GonePath}
-use Rattle.sf_call.specs.Calls.{Answer, answer_to, goes, remove_file, unless_root}
+use Rattle.sf_call.specs.Calls.{Outcome, answer_to, goes, remove_file, unless_root}
 use Rattle.sf_call.proofs.Laws.{exact_paths, other_set, removed_itself, directory_there, place_label, kept_object, object_kept, is_link_itself, links_less}
 use Rattle.sf_laws.proofs.LinkedFiles.{names_touched}
 use Rattle.sf_laws.specs.Linked.{IsRemoved}
@@ -38,7 +38,7 @@ module _ (tree : Tree) (ordered : IsOrderedTree tree) (moment : ℕ) (path : Pat
   after = done tree (goes tree moment path).changes
 
   -- if the answer is OK, the file has a path less in the tree after it
-  abbrev RemovesIt : Answer → Type 0
+  abbrev RemovesIt : Outcome → Type 0
   RemovesIt answer = answer.reply ≡ reply.Status Success → IsRemoved tree (done tree answer.changes) path
 
   -- to modify the parent changes no file
@@ -72,14 +72,14 @@ module _ (tree : Tree) (ordered : IsOrderedTree tree) (moment : ℕ) (path : Pat
   of_object label was (Some (Directory m)) is = λ e. cc
   of_object label was (Some (File m contents)) is = λ e. gone label m contents was is
 
-  of_place : (place : Place) → place_at tree path ≡ place → RemovesIt (remove_file tree moment path (found_place tree.objects place))
+  of_place : (place : Lookup) → look_up tree path ≡ place → RemovesIt (remove_file tree moment path (found_place tree.objects place))
   of_place NoWay at = λ e. cc
   of_place Absent at = λ e. cc
   of_place (At label) at = of_object label (place_label tree path label at) (object_of tree.objects label) refl
 
-  rooted : (p : Path) (answer : Answer) → RemovesIt answer → RemovesIt (unless_root p answer)
+  rooted : (p : Path) (answer : Outcome) → RemovesIt answer → RemovesIt (unless_root p answer)
   rooted [] answer holds = λ e. cc
   rooted (n ∷ p) answer holds = holds
 
   pub removes_it : (session number : ℕ) → RemovesIt (answer_to tree session number moment (Remove path))
-  removes_it session number = rooted path _ (of_place (place_at tree path) refl)
+  removes_it session number = rooted path _ (of_place (look_up tree path) refl)

@@ -4,8 +4,8 @@ use Rattle.std.proofs.lemmas.List.{append-nil, take_all, take-append-le}
 use Rattle.sf_path.specs.Names.{Name, Path}
 use Rattle.sf_path.specs.Order.{parent}
 use Rattle.sf_call.specs.declared.metadata.Metadata.{Metadata}
-use Rattle.sf_call.specs.declared.place.Place.{Place}
-use Rattle.sf_call.specs.declared.place.Place.TheVariants.{NoWay, Absent, At}
+use Rattle.sf_call.specs.declared.lookup.Lookup.{Lookup}
+use Rattle.sf_call.specs.declared.lookup.Lookup.TheVariants.{NoWay, Absent, At}
 use Rattle.sf_call.specs.Attributes.{Object}
 use Rattle.sf_call.specs.Attributes.Object.{Directory, File}
 use Rattle.sf_call.specs.declared.request.Request.{Request}
@@ -13,8 +13,8 @@ use Rattle.sf_call.specs.declared.request.Request.TheVariants as request
 use Rattle.sf_call.specs.declared.record.Record.{Record}
 use Rattle.sf_call.specs.Requests.{Target, target_of}
 use Rattle.sf_call.specs.Requests.Target.{ByHandle, OnPath, OnPaths}
-use Rattle.sf_call.specs.Tree.{Tree, Found, label_at, object_of, directory_at, is_directory_object, is_directory, is_faulty_way, place_at, found_object, found_place, found_at, after_front}
-use Rattle.sf_call.specs.Tree.Found.{Nowhere, Nothing, DirectoryAt, FileAt}
+use Rattle.sf_call.specs.Tree.{Tree, FoundObject, label_at, object_of, directory_at, is_directory_object, is_directory, is_faulty_way, look_up, found_object, found_place, found_at, after_front}
+use Rattle.sf_call.specs.Tree.FoundObject.{Nowhere, Nothing, DirectoryAt, FileAt}
 use Rattle.sf_call.specs.Changes.{Change, done, touch, moved_by}
 use Rattle.sf_call.specs.Changes.Change.{SetObject, NewPath, NewName, GonePath, Move, OpenHandle, SetHandle, CloseHandle}
 use Rattle.sf_call.specs.Allowed.{AreAllowed, IsMove}
@@ -100,8 +100,8 @@ begins (Some rest) some nowhere = nowhere rest refl
 -- a file that is found is named, and its object is there
 found_file : (tree : Tree) (path : Path) (label : ℕ) (m : Metadata) (contents : List ℕ) → found_at tree path ≡ FileAt label m contents
     → (label_at tree.names path ≡ Some label) × (object_of tree.objects label ≡ Some (File m contents))
-found_file tree path label m contents e = by_place (place_at tree path) refl e where
-  by_object : (at : ℕ) (o : Option Object) → object_of tree.objects at ≡ o → place_at tree path ≡ At at → found_object at o ≡ FileAt label m contents
+found_file tree path label m contents e = by_place (look_up tree path) refl e where
+  by_object : (at : ℕ) (o : Option Object) → object_of tree.objects at ≡ o → look_up tree path ≡ At at → found_object at o ≡ FileAt label m contents
       → (label_at tree.names path ≡ Some label) × (object_of tree.objects label ≡ Some (File m contents))
   by_object at None is here f = cc
   by_object at (Some (Directory x)) is here f = cc
@@ -109,19 +109,19 @@ found_file tree path label m contents e = by_place (place_at tree path) refl e w
       let same : at ≡ label = ap label_in f in
       let object : Some (File x bytes) ≡ Some (File m contents) = ap object_found f in
       (place_label tree path at here ∙ ap Some same, ap (object_of tree.objects) (sym same) ∙ is ∙ object) where
-        label_in : Found → ℕ
+        label_in : FoundObject → ℕ
         label_in Nowhere = 0
         label_in Nothing = 0
         label_in (DirectoryAt l x) = l
         label_in (FileAt l x bytes) = l
 
-        object_found : Found → Option Object
+        object_found : FoundObject → Option Object
         object_found Nowhere = None
         object_found Nothing = None
         object_found (DirectoryAt l x) = Some (Directory x)
         object_found (FileAt l x bytes) = Some (File x bytes)
 
-  by_place : (place : Place) → place_at tree path ≡ place → found_place tree.objects place ≡ FileAt label m contents
+  by_place : (place : Lookup) → look_up tree path ≡ place → found_place tree.objects place ≡ FileAt label m contents
       → (label_at tree.names path ≡ Some label) × (object_of tree.objects label ≡ Some (File m contents))
   by_place NoWay here f = cc
   by_place Absent here f = cc
@@ -135,7 +135,7 @@ module _ (tree : Tree) (session number moment : ℕ) (r : Request) (old new : Pa
     pub contents : List ℕ
     pub is_link : r ≡ request.Link old new
     pub file : found_at tree old ≡ FileAt label metadata contents
-    pub free : place_at tree new ≡ Absent
+    pub free : look_up tree new ≡ Absent
     pub unmoved : moved_by changes ≡ None
 
   -- a rename changes nothing, or moves; a link changes nothing, or names
@@ -151,7 +151,7 @@ module _ (tree : Tree) (session number moment : ℕ) (r : Request) (old new : Pa
           (posix_rename_cases (λ answer. IsStillOrMoves answer.changes) (λ code. inl refl) (inl refl) tree moment old new (λ _ _. inr (inl refl)) session number)
       | inr is ↦ subst (λ (q : Request). IsStillOrMoves (answer_to tree session number moment q).changes) (sym is)
           (link_cases (λ answer. IsStillOrMoves answer.changes) (λ code. inl refl) tree moment old new
-          (λ label m contents file. link_to_cases (λ answer. IsStillOrMoves answer.changes) (λ code. inl refl) tree moment new label (place_at tree new) refl
+          (λ label m contents file. link_to_cases (λ answer. IsStillOrMoves answer.changes) (λ code. inl refl) tree moment new label (look_up tree new) refl
           (λ free _. inr (inr (record { label = label; metadata = m; contents = contents; is_link = is; file = file; free = free; unmoved = touch_moves moment (directory_at tree (parent new)) })))) session number)
     ]
   ]

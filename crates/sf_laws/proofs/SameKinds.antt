@@ -12,7 +12,7 @@ use Rattle.sf_call.specs.Attributes.{Object}
 use Rattle.sf_call.specs.Tree.{Tree, object_of, is_used, kept}
 use Rattle.sf_call.specs.Changes.{Change, changed, done}
 use Rattle.sf_call.specs.Changes.Change.{SetObject, NewPath, NewName, GonePath, Move, OpenHandle, SetHandle, CloseHandle}
-use Rattle.sf_call.specs.Allowed.{kind_of, IsSetRightly, MayChange, AreAllowed}
+use Rattle.sf_call.specs.Allowed.{file_type_of, IsSetRightly, MayChange, AreAllowed}
 use Rattle.sf_call.specs.Calls.{answer_to, apply}
 use Rattle.sf_call.specs.Histories.{replay, IsNewNumber, IsLegal}
 use Rattle.sf_call.proofs.Laws.{is_equal, set_there, none_set, other_put, other_set, object_kept, no_object, allowed_changes}
@@ -20,10 +20,10 @@ use Rattle.sf_call.proofs.Laws.{is_equal, set_there, none_set, other_put, other_
 module _ (number label : ℕ) (other : label ≢ number) (kind : FileType) where
   -- the label's object is of this kind, or there is none
   abbrev pub IsKindOrGone : Option Object → Type 0
-  IsKindOrGone o = (option_map kind_of o ≡ Some kind) ⊎ (o ≡ None)
+  IsKindOrGone o = (option_map file_type_of o ≡ Some kind) ⊎ (o ≡ None)
 
   as_before : (before after : Option Object) → after ≡ before → IsKindOrGone before → IsKindOrGone after
-  as_before before after same (inl is) = inl (ap (option_map kind_of) same ∙ is)
+  as_before before after same (inl is) = inl (ap (option_map file_type_of) same ∙ is)
   as_before before after same (inr none) = inr (same ∙ none)
 
   once_kept : (tree : Tree) → IsKindOrGone (object_of tree.objects label) → IsKindOrGone (object_of (kept tree).objects label)
@@ -40,8 +40,8 @@ module _ (number label : ℕ) (other : label ≢ number) (kind : FileType) where
     set_kind None none h = inr (none_set (is_at (nat_cmp label)) (is_at (nat_cmp label)) tree.objects object none)
     set_kind (Some x) some (inr none) = let same : Some x ≡ None = sym some ∙ none in cc
     set_kind (Some x) some (inl is) =
-        let kinds : Some (kind_of object) ≡ Some kind = sym may ∙ is in
-        inl (ap (option_map kind_of) (set_there (is_at (nat_cmp label)) tree.objects x object some) ∙ kinds)
+        let kinds : Some (file_type_of object) ≡ Some kind = sym may ∙ is in
+        inl (ap (option_map file_type_of) (set_there (is_at (nat_cmp label)) tree.objects x object some) ∙ kinds)
 
   once_set : (tree : Tree) (set : ℕ) (object : Object) → IsSetRightly tree set object → IsKindOrGone (object_of tree.objects label)
       → IsKindOrGone (object_of (changed tree (SetObject set object)).objects label)
@@ -71,17 +71,17 @@ module _ (number label : ℕ) (other : label ≢ number) (kind : FileType) where
   kind_done tree [] may h = h
   kind_done tree (c ∷ cs) may h = kind_done (changed tree c) cs may.1 (kind_changed tree c may.0 h)
 
-same_kind : (before after : Object) (o : Option Object) → o ≡ Some after → (option_map kind_of o ≡ Some (kind_of before)) ⊎ (o ≡ None) → kind_of after ≡ kind_of before
-same_kind before after o some (inl is) = let kinds : Some (kind_of after) ≡ Some (kind_of before) = ap (option_map kind_of) (sym some) ∙ is in cc
+same_kind : (before after : Object) (o : Option Object) → o ≡ Some after → (option_map file_type_of o ≡ Some (file_type_of before)) ⊎ (o ≡ None) → file_type_of after ≡ file_type_of before
+same_kind before after o some (inl is) = let kinds : Some (file_type_of after) ≡ Some (file_type_of before) = ap (option_map file_type_of) (sym some) ∙ is in cc
 same_kind before after o some (inr none) = let same : Some after ≡ None = sym some ∙ none in cc
 
 pub kinds_stay : (history : List Record) (number session moment label : ℕ) (request : Request) (before after : Object) → IsLegal history → 0 < number → IsNewNumber number history
-    → object_of (replay history).objects label ≡ Some before → object_of (apply (replay history) session number moment request).tree.objects label ≡ Some after → kind_of after ≡ kind_of before
+    → object_of (replay history).objects label ≡ Some before → object_of (apply (replay history) session number moment request).tree.objects label ≡ Some after → file_type_of after ≡ file_type_of before
 kinds_stay history number session moment label request before after legal above new was is =
     let apart : label ≢ number = λ same.
     let none : object_of (replay history).objects number ≡ None = no_object history number legal above new in
     let some : object_of (replay history).objects number ≡ Some before = ap (object_of (replay history).objects) (sym same) ∙ was in cc in
     same_kind before after (object_of (apply (replay history) session number moment request).tree.objects label) is
-    (kind_done number label apart (kind_of before) (replay history) (answer_to (replay history) session number moment request).changes
+    (kind_done number label apart (file_type_of before) (replay history) (answer_to (replay history) session number moment request).changes
     (allowed_changes history number session moment request legal above new)
-    (inl (ap (option_map kind_of) was)))
+    (inl (ap (option_map file_type_of) was)))

@@ -8,7 +8,7 @@ use Rattle.sf_call.specs.Attributes.{Object}
 use Rattle.sf_call.specs.Tree.{Tree, label_at, object_of, is_directory, after_front}
 use Rattle.sf_call.specs.Changes.{Change, done}
 use Rattle.sf_laws.specs.Own.{IsOwnPath}
-use Rattle.sf_call.specs.Allowed.{kind_of, IsMove, IsWellFormed}
+use Rattle.sf_call.specs.Allowed.{file_type_of, IsMove, IsWellFormed}
 use Rattle.sf_call.specs.Calls.{answer_to, apply}
 use Rattle.sf_call.specs.Histories.{replay, IsNewNumber, IsLegal}
 use Rattle.sf_call.proofs.Laws.{open_way, same_name_is, same_name_itself, no_front, is_directory_label, is_directory_is, is_there_directory, named_object, allowed_changes, well_formed, front_itself, directory_by_kind}
@@ -33,7 +33,7 @@ IsNotUnder old path = (name : Name) (rest : Path) → after_front old path ≢ S
 
 module _ (tree next : Tree) (old new : Path)
     (labels : (path : Path) → IsNotUnder old path → label_at next.names path ≡ label_at tree.names path)
-    (kinds : (path : Path) (label : ℕ) → label_at tree.names path ≡ Some label → label_at next.names path ≡ Some label → option_map kind_of (object_of next.objects label) ≡ option_map kind_of (object_of tree.objects label))
+    (kinds : (path : Path) (label : ℕ) → label_at tree.names path ≡ Some label → label_at next.names path ≡ Some label → option_map file_type_of (object_of next.objects label) ≡ option_map file_type_of (object_of tree.objects label))
     (may : IsMove tree old new) where
   outside : (path : Path) → after_front old path ≡ None → IsNotUnder old path
   outside path none name rest some = let same : Some (name ∷ rest) ≡ None = sym some ∙ none in cc
@@ -64,7 +64,7 @@ module _ (tree next : Tree) (old new : Path)
   }
 
 -- the kinds of two objects that are there
-both_there : (a b : Option Object) → is_some a ≡ true → is_some b ≡ true → ((x y : Object) → a ≡ Some x → b ≡ Some y → kind_of x ≡ kind_of y) → option_map kind_of a ≡ option_map kind_of b
+both_there : (a b : Option Object) → is_some a ≡ true → is_some b ≡ true → ((x y : Object) → a ≡ Some x → b ≡ Some y → file_type_of x ≡ file_type_of y) → option_map file_type_of a ≡ option_map file_type_of b
 both_there None b s t same = cc
 both_there (Some x) None s t same = cc
 both_there (Some x) (Some y) s t same = ap Some (same x y refl refl)

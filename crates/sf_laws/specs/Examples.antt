@@ -67,8 +67,8 @@ touched_root = record {
 }
 
 -- the tree with a file `/a` of three bytes
-abbrev pub with_file : Tree
-with_file = tree_with (File (metadata 5 6 0o644 100 200) (codes "abc"))
+abbrev pub tree_with_file : Tree
+tree_with_file = tree_with (File (metadata 5 6 0o644 100 200) (codes "abc"))
 
 -- call 8 of session 1, at the moment 300
 abbrev pub call : Tree → Request → Applied
@@ -78,11 +78,11 @@ call tree request = apply tree 1 8 300 request
 abbrev pub replies_of_another : Tree → List Request → List Reply
 replies_of_another tree requests = map (λ request. (apply tree 2 1000 100 request).reply) requests
 
-abbrev pub refused : Tree → StatusCode → Applied
-refused tree code = record { reply = reply.Status code; tree = tree }
+abbrev pub refuses_by : Tree → StatusCode → Applied
+refuses_by tree code = record { reply = reply.Status code; tree = tree }
 
-abbrev pub told : Tree → Attrs → Applied
-told tree attrs = record { reply = reply.Attrs attrs; tree = tree }
+abbrev pub tells_attrs : Tree → Attrs → Applied
+tells_attrs tree attrs = record { reply = reply.Attrs attrs; tree = tree }
 
 -- a directory is made, another one not for want of memory and then not found, and the session
 -- leaves
@@ -93,10 +93,10 @@ history =
     ∷ Did 8 1 300 (Stat (b ∷ [])) (reply.Status NoSuchFile) ∷ Left 1 ∷ []
 
 -- the replies to these requests of session 1, in turn, the first numbered so, at the moment 100
-abbrev pub replies_from : Tree → ℕ → List Request → List Reply
-replies_from tree number [] = []
-replies_from tree number (r ∷ rs) =
-    let done = apply tree 1 number 100 r in done.reply ∷ replies_from done.tree (number + 1) rs
+abbrev pub replies_in_turn : Tree → ℕ → List Request → List Reply
+replies_in_turn tree number [] = []
+replies_in_turn tree number (r ∷ rs) =
+    let done = apply tree 1 number 100 r in done.reply ∷ replies_in_turn done.tree (number + 1) rs
 
 -- the tree after them
 abbrev pub tree_after : Tree → ℕ → List Request → Tree
@@ -105,7 +105,7 @@ tree_after tree number (r ∷ rs) = tree_after (apply tree 1 number 100 r).tree 
 
 -- from the root alone, numbered 1, 2 and so on
 abbrev pub replies : List Request → List Reply
-replies requests = replies_from empty_tree 1 requests
+replies requests = replies_in_turn empty_tree 1 requests
 
 abbrev pub ok : Reply
 ok = reply.Status Success
@@ -186,10 +186,10 @@ abbrev pub up_to_32 : List ℕ
 up_to_32 = 1 ∷ 2 ∷ 3 ∷ 4 ∷ 5 ∷ 6 ∷ 7 ∷ 8 ∷ 9 ∷ 10 ∷ 11 ∷ 12 ∷ 13 ∷ 14 ∷ 15 ∷ 16 ∷ 17 ∷ 18 ∷ 19 ∷ 20
     ∷ 21 ∷ 22 ∷ 23 ∷ 24 ∷ 25 ∷ 26 ∷ 27 ∷ 28 ∷ 29 ∷ 30 ∷ 31 ∷ 32 ∷ []
 
-abbrev pub names_in : Reply → List Name
-names_in (reply.Status code) = []
-names_in reply.NoMemory = []
-names_in (reply.Handle number) = []
-names_in (reply.Data bytes) = []
-names_in (reply.Names entries) = map (λ e. e.filename) entries
-names_in (reply.Attrs attrs) = []
+abbrev pub names_in_reply : Reply → List Name
+names_in_reply (reply.Status code) = []
+names_in_reply reply.NoMemory = []
+names_in_reply (reply.Handle number) = []
+names_in_reply (reply.Data bytes) = []
+names_in_reply (reply.Names entries) = map (λ e. e.filename) entries
+names_in_reply (reply.Attrs attrs) = []

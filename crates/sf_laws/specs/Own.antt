@@ -12,21 +12,21 @@ use Rattle.sf_call.specs.Handles.{handle_in}
 use Rattle.sf_laws.specs.LeftAlone.{BeginsWithEither}
 
 -- the path that it names anew or removes; of a rename both, of a link the new one
-abbrev pub IsEntryOf : Request → Path → Type 0
-IsEntryOf (Mkdir path attrs) other = other ≡ path
-IsEntryOf (Rmdir path) other = other ≡ path
-IsEntryOf (Remove path) other = other ≡ path
-IsEntryOf (Open path flags attrs) other = other ≡ path
-IsEntryOf (Rename old new) other = (other ≡ old) ⊎ (other ≡ new)
-IsEntryOf (PosixRename old new) other = (other ≡ old) ⊎ (other ≡ new)
-IsEntryOf (Link old new) other = other ≡ new
-IsEntryOf request other = ⊥
+abbrev pub NamesEntry : Request → Path → Type 0
+NamesEntry (Mkdir path attrs) other = other ≡ path
+NamesEntry (Rmdir path) other = other ≡ path
+NamesEntry (Remove path) other = other ≡ path
+NamesEntry (Open path flags attrs) other = other ≡ path
+NamesEntry (Rename old new) other = (other ≡ old) ⊎ (other ≡ new)
+NamesEntry (PosixRename old new) other = (other ≡ old) ⊎ (other ≡ new)
+NamesEntry (Link old new) other = other ≡ new
+NamesEntry request other = ⊥
 
 -- that path; of a rename all that begins with one of its two
 abbrev pub IsOwnPath : Request → Path → Type 0
 IsOwnPath (Rename old new) other = BeginsWithEither old new other
 IsOwnPath (PosixRename old new) other = BeginsWithEither old new other
-IsOwnPath request other = IsEntryOf request other
+IsOwnPath request other = NamesEntry request other
 
 abbrev pub IsAt : Tree → Path → ℕ → Type 0
 IsAt tree path label = label_at tree.names path ≡ Some label

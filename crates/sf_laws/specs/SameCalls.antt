@@ -7,15 +7,15 @@ use Rattle.sf_call.specs.declared.record.Record.{Record}
 use Rattle.sf_call.specs.declared.record.Record.TheVariants.{Did, Left}
 
 -- a call that a session made at a moment, or a session's leaving
-pub data Call : Type 0 where
-  Asked : (number session moment : ℕ) → (request : Request) → Call
-  Leaving : (session : ℕ) → Call
+pub data AskedCall : Type 0 where
+  Asked : (number session moment : ℕ) → (request : Request) → AskedCall
+  Leaving : (session : ℕ) → AskedCall
 
-abbrev pub call_asked : Record → Call
+abbrev pub call_asked : Record → AskedCall
 call_asked (Did number session moment request given) = Asked number session moment request
 call_asked (Left session) = Leaving session
 
-abbrev pub calls_asked : List Record → List Call
+abbrev pub calls_asked : List Record → List AskedCall
 calls_asked history = map call_asked history
 
 -- the record is no call that wanted for memory

@@ -9,7 +9,7 @@ ghost use Rattle.sf_call.specs.Attributes.Object.{Directory};
 ghost use Rattle.sf_call.specs.Tree.{empty_tree};
 ghost use Rattle.sf_call.specs.Calls.{apply};
 ghost use Rattle.sf_call.specs.Histories.{IsLegal, replay};
-ghost use Rattle.sf_laws.specs.Examples.{a, b, no_attrs, all_attrs, metadata, tree_with, touched_root, with_directory, with_file, call, refused, told, history, replies, replies_of_another, tree_after, ok, failed, absent, sized, flags, exclusively, truncating, f, g, new_file, of_five, renames, linking, file_attrs, numbered, up_to_32, names_in, by_owner, at_times};
+ghost use Rattle.sf_laws.specs.Examples.{a, b, no_attrs, all_attrs, metadata, tree_with, touched_root, with_directory, tree_with_file, call, refuses_by, tells_attrs, history, replies, replies_of_another, tree_after, ok, failed, absent, sized, flags, exclusively, truncating, f, g, new_file, of_five, renames, linking, file_attrs, numbered, up_to_32, names_in_reply, by_owner, at_times};
 ghost use Rattle.sf_path.specs.Names.{slash};
 ghost use Rattle.sf_path.specs.Normal.{fault_of};
 ghost use Rattle.sf_path.specs.declared.fault.PathFault.TheVariants.{TooLong, NameTooLong};
@@ -30,23 +30,23 @@ pub fn mkdir_cases()
           reply = reply.Status Success;
           tree = tree_with (Directory (metadata 5 6 0o7777 1 2));
         } }
-    ensures root { call with_directory (Mkdir [] no_attrs) ≡ refused with_directory Failure }
+    ensures root { call with_directory (Mkdir [] no_attrs) ≡ refuses_by with_directory Failure }
     ensures present { call with_directory (Mkdir (a ∷ []) no_attrs)
-        ≡ refused with_directory Failure }
-    ensures below_file { call with_file (Mkdir (a ∷ b ∷ []) no_attrs)
-        ≡ refused with_file NoSuchFile }
+        ≡ refuses_by with_directory Failure }
+    ensures below_file { call tree_with_file (Mkdir (a ∷ b ∷ []) no_attrs)
+        ≡ refuses_by tree_with_file NoSuchFile }
     ensures below_nothing { call with_directory (Mkdir (b ∷ a ∷ []) no_attrs)
-        ≡ refused with_directory NoSuchFile }
+        ≡ refuses_by with_directory NoSuchFile }
 {}
 
 /// STAT.
 pub fn stat_cases()
     ensures directory { call with_directory (Stat (a ∷ []))
-        ≡ told with_directory (all_attrs 0 (by_owner 0 0) 0o40755 (at_times 100 100)) }
-    ensures file { call with_file (Stat (a ∷ []))
-        ≡ told with_file (all_attrs 3 (by_owner 5 6) 0o100644 (at_times 100 200)) }
-    ensures absent { call with_directory (Stat (b ∷ [])) ≡ refused with_directory NoSuchFile }
-    ensures below_file { call with_file (Stat (a ∷ b ∷ [])) ≡ refused with_file NoSuchFile }
+        ≡ tells_attrs with_directory (all_attrs 0 (by_owner 0 0) 0o40755 (at_times 100 100)) }
+    ensures file { call tree_with_file (Stat (a ∷ []))
+        ≡ tells_attrs tree_with_file (all_attrs 3 (by_owner 5 6) 0o100644 (at_times 100 200)) }
+    ensures absent { call with_directory (Stat (b ∷ [])) ≡ refuses_by with_directory NoSuchFile }
+    ensures below_file { call tree_with_file (Stat (a ∷ b ∷ [])) ≡ refuses_by tree_with_file NoSuchFile }
 {}
 
 /// Histories.
@@ -91,7 +91,7 @@ pub fn file_cases()
 
 /// 33 files are listed while names go.
 pub fn listing_cases()
-    ensures { map names_in (drop 33 (replies (map (λ k. new_file (numbered k)) (up_to_32 ++ 33 ∷ [])
+    ensures { map names_in_reply (drop 33 (replies (map (λ k. new_file (numbered k)) (up_to_32 ++ 33 ∷ [])
         ++ OpenDir [] ∷ ReadDir 34 ∷ Remove (numbered 1 ∷ []) ∷ ReadDir 34
         ∷ Remove (numbered 33 ∷ []) ∷ ReadDir 34 ∷ [])))
         ≡ [] ∷ map numbered up_to_32 ∷ [] ∷ (numbered 33 ∷ []) ∷ [] ∷ [] ∷ [] }
@@ -101,10 +101,10 @@ pub fn listing_cases()
 pub fn rmdir_cases()
     ensures gone { call with_directory (Rmdir (a ∷ []))
         ≡ record { reply = ok; tree = touched_root } }
-    ensures root { call with_directory (Rmdir []) ≡ refused with_directory Failure }
-    ensures absent { call with_directory (Rmdir (b ∷ [])) ≡ refused with_directory NoSuchFile }
-    ensures below_file { call with_file (Rmdir (a ∷ b ∷ [])) ≡ refused with_file NoSuchFile }
-    ensures file { call with_file (Rmdir (a ∷ [])) ≡ refused with_file Failure }
+    ensures root { call with_directory (Rmdir []) ≡ refuses_by with_directory Failure }
+    ensures absent { call with_directory (Rmdir (b ∷ [])) ≡ refuses_by with_directory NoSuchFile }
+    ensures below_file { call tree_with_file (Rmdir (a ∷ b ∷ [])) ≡ refuses_by tree_with_file NoSuchFile }
+    ensures file { call tree_with_file (Rmdir (a ∷ [])) ≡ refuses_by tree_with_file Failure }
     ensures full { replies (Mkdir (a ∷ []) no_attrs ∷ Mkdir (a ∷ b ∷ []) no_attrs ∷ Rmdir (a ∷ [])
         ∷ Rmdir (a ∷ b ∷ []) ∷ Rmdir (a ∷ []) ∷ [])
         ≡ ok ∷ ok ∷ reply.Status Failure ∷ ok ∷ ok ∷ [] }
@@ -234,7 +234,7 @@ pub fn move_cases()
         ≡ reply.Handle 1 ∷ ok ∷ reply.Handle 3 ∷ ok ∷ ok ∷ reply.Data (codes "abc")
         ∷ reply.Data (codes "x") ∷ reply.Attrs (file_attrs 1) ∷ absent ∷ [] }
     // An open directory that is moved lists what it holds.
-    ensures listed { map names_in (replies (Mkdir (a ∷ []) no_attrs ∷ Mkdir (a ∷ f ∷ []) no_attrs
+    ensures listed { map names_in_reply (replies (Mkdir (a ∷ []) no_attrs ∷ Mkdir (a ∷ f ∷ []) no_attrs
         ∷ OpenDir (a ∷ []) ∷ Rename (a ∷ []) (b ∷ []) ∷ ReadDir 3 ∷ []))
         ≡ [] ∷ [] ∷ [] ∷ [] ∷ (f ∷ []) ∷ [] }
 {}

@@ -19,9 +19,9 @@ ghost use Rattle.sf_field.specs.declared.open_flags.OpenFlags.{OpenFlags};
 ghost use Rattle.sf_field.specs.Attributes.{no_attrs};
 ghost use Rattle.sf_call.specs.Attributes.{Object, modified_at};
 ghost use Rattle.sf_call.specs.Attributes.Object.{Directory};
-ghost use Rattle.sf_laws.specs.Own.{IsOneOf, IsEntryOf, IsOwnPath, IsOwnObject, IsOwnHandle};
+ghost use Rattle.sf_laws.specs.Own.{IsOneOf, NamesEntry, IsOwnPath, IsOwnObject, IsOwnHandle};
 ghost use Rattle.sf_laws.specs.Linked.{NameOne, IsLinked, IsRemoved};
-ghost use Rattle.sf_call.specs.Allowed.{IsMove, kind_of};
+ghost use Rattle.sf_call.specs.Allowed.{IsMove, file_type_of};
 ghost use Rattle.sf_call.specs.Histories.{replay, IsNewNumber, IsLegal};
 
 /// What is not a request's own it leaves alone: the labels of other paths, other handles, and other
@@ -62,7 +62,7 @@ pub fn left_alone()
 /// which it was modified.
 pub fn parents_stay()
     ensures { (tree : Tree) (session number moment label : ℕ) (request : Request) (path : Path)
-        (m : Metadata) → IsEntryOf request path → label ≢ number
+        (m : Metadata) → NamesEntry request path → label ≢ number
         → label_at tree.names (parent path) ≡ Some label
         → object_of tree.objects label ≡ Some (Directory m)
         → IsOneOf (Directory m) (Directory (modified_at moment m))
@@ -101,7 +101,7 @@ pub fn kinds_stay()
         → object_of (replay history).objects label ≡ Some before
         → object_of (apply (replay history) session number moment request).tree.objects label
         ≡ Some after
-        → kind_of after ≡ kind_of before }
+        → file_type_of after ≡ file_type_of before }
 {}
 
 /// After a legal history each object is named or open, so that letting go of others changes

@@ -8,10 +8,10 @@ use Rattle.sf_reply.specs.declared.reply.Reply.TheVariants as reply
 use Rattle.sf_call.specs.Attributes.{Object, attrs_of}
 use Rattle.sf_call.specs.Attributes.Object.{Directory, File}
 use Rattle.sf_call.specs.declared.handle.Handle.{Handle}
-use Rattle.sf_call.specs.Tree.{Tree, directory_metadata, is_directory, place_at, found_object, is_empty}
+use Rattle.sf_call.specs.Tree.{Tree, directory_metadata, is_directory, look_up, found_object, is_empty}
 use Rattle.sf_call.specs.Handles.{opened_object}
 use Rattle.sf_plain.specs.Nodes.{is_file}
-use Rattle.sf_call.specs.Calls.{Answer, refuses, sets, set_stat, succeeds, goes, moves, replace_by, link_to, link, remove_directory, remove_file, has_all_handles, opens, directory_handle, open_directory, set_opened, tells, stat_opened}
+use Rattle.sf_call.specs.Calls.{Outcome, refuses, sets, set_stat, succeeds, goes, moves, replace_by, link_to, link, remove_directory, remove_file, has_all_handles, opens, directory_handle, open_directory, set_opened, tells, stat_opened}
 
 abbrev pub is_directory_node : Object → Bool
 is_directory_node o = is_some (directory_metadata o)
@@ -20,7 +20,7 @@ pub sets_object : (moment label : ℕ) (attrs : Attrs) (o : Object) → set_stat
 sets_object moment label attrs (Directory m) = refl
 sets_object moment label attrs (File m contents) = refl
 
-negated : (b : Bool) (x y : Answer) → cond b x y ≡ cond (not b) y x
+negated : (b : Bool) (x y : Outcome) → cond b x y ≡ cond (not b) y x
 negated true x y = refl
 negated false x y = refl
 
@@ -73,6 +73,6 @@ same_file tree moment old new label at (Some (File m contents)) same =
     ] same
 
 pub links_object : (tree : Tree) (moment : ℕ) (new : Path) (label : ℕ) (o : Object)
-    → link tree moment new (found_object label (Some o)) ≡ cond (is_directory_node o) (refuses Failure) (link_to tree moment new label (place_at tree new))
+    → link tree moment new (found_object label (Some o)) ≡ cond (is_directory_node o) (refuses Failure) (link_to tree moment new label (look_up tree new))
 links_object tree moment new label (Directory m) = refl
 links_object tree moment new label (File m contents) = refl

@@ -5,7 +5,7 @@ ghost use Rattle.std.specs.Option.{option_copied, is_some};
 ghost use Rattle.std.specs.Prelude.{◌≡◌, None, length, IfOk, OnOk, OnErr};
 ghost use Rattle.sf_call.specs.Attributes.{modified_at};
 ghost use Rattle.sf_call.specs.Attributes.Object.{File};
-ghost use Rattle.sf_call.specs.Tree.{empty_tree, label_at, directory_at, is_faulty_way, is_empty, only_name, after_front, place_at};
+ghost use Rattle.sf_call.specs.Tree.{empty_tree, label_at, directory_at, is_faulty_way, is_empty, only_name, after_front, look_up};
 ghost use Rattle.sf_call.specs.Changes.{changed, done, touch};
 ghost use Rattle.sf_call.specs.Changes.Change.{NewPath, SetObject, GonePath};
 ghost use Rattle.sf_call.specs.Calls.{apply, leave};
@@ -14,7 +14,7 @@ use crate::copies::copy_of;
 use crate::node::Node;
 use crate::sweep::{close_all, sweep};
 use sf_block::WholeContents;
-use sf_call::{Handle, Metadata, Place, Request};
+use sf_call::{Handle, Lookup, Metadata, Request};
 use sf_field::{Attrs, Owner, Times};
 use sf_path::{Name, Path};
 use sf_reply::Reply;
@@ -193,15 +193,15 @@ impl PlainTree {
         !self.has_child(path)
     }
 
-    fn place_at(&self, path: &Path) -> Result<Place, AllocError>
-        ensures { IfOk result (λ place. place ≡ place_at self.now path.now) }
+    fn place_at(&self, path: &Path) -> Result<Lookup, AllocError>
+        ensures { IfOk result (λ place. place ≡ look_up self.now path.now) }
     {
         if self.is_faulty_way(path)? {
-            return Ok(Place::NoWay);
+            return Ok(Lookup::NoWay);
         }
         match self.label_at(path) {
-            None => Ok(Place::Absent),
-            Some(label) => Ok(Place::At(label)),
+            None => Ok(Lookup::Absent),
+            Some(label) => Ok(Lookup::At(label)),
         }
     }
 }

@@ -10,39 +10,39 @@ use Rattle.sf_call.specs.declared.request.Request.{Request}
 use Rattle.sf_call.specs.declared.fault.CoreFault.{CoreFault}
 use Rattle.sf_session.specs.declared.asking.Ask.TheVariants as ask
 use Rattle.sf_session.specs.Sessions.{SessionView, refusal_of}
-use Rattle.sf_engine.specs.Worlds.{Answered, ByCall, Refused, asked_by, packet_for}
+use Rattle.sf_engine.specs.Worlds.{Response, ByCall, Refused, ask_behind, packet_for}
 use Rattle.sf_pool.specs.declared.calling.Stop.{Stop}
 use Rattle.sf_pool.specs.declared.calling.Stop.TheVariants as stop
 use Rattle.sf_pool.specs.declared.desk.Begin.{Begin}
-use Rattle.sf_audit.specs.Audits.{Deed}
-use Rattle.sf_pool.specs.Desks.{Place, Resting, UnderWay, IsResting, IsUnderWay, IsAnswered, IsLast, Answers, DeskView, Notes, counted}
-use Rattle.sf_pool.specs.Scenes.{answer_deeds, Attempt, attempt, answer_attempts, Begins}
+use Rattle.sf_audit.specs.Audits.{CallRecord}
+use Rattle.sf_pool.specs.Desks.{DeskState, Resting, UnderWay, IsResting, HasCallUnderWay, WasAnswered, IsLastAnswer, AnswersUnderWay, DeskView, Notes, counted}
+use Rattle.sf_pool.specs.Scenes.{response_calls, Attempt, attempt, answer_attempts, BeginsCalls}
 use Rattle.sf_pool.specs.AtDesks.{MakesCall, talk, begun_by, FailsSteps, LacksReply}
 use Rattle.sf_pool.proofs.Talking.{notes_none}
 
-abbrev deed : ℕ → Request → Reply → Deed
+abbrev deed : ℕ → Request → Reply → CallRecord
 deed number request reply = record { number = number; request = request; reply = reply }
 
 -- what the steps of a call came to
-pub answers_at : (request : Request) (number : ℕ) (moment : ℕ) (d1 d2 : DeskView) → d1.place ≡ UnderWay number request moment → Answers d1.place d1.calls d2
+pub answers_at : (request : Request) (number : ℕ) (moment : ℕ) (d1 d2 : DeskView) → d1.place ≡ UnderWay number request moment → AnswersUnderWay d1.place d1.calls d2
     → (reply : Reply) × (d2.place ≡ Resting (Some (deed number request reply))) × Notes d1.calls d2.calls (deed number request reply ∷ [])
-answers_at request number moment d1 d2 at answers = subst (λ (p : Place). Answers p d1.calls d2) at answers
+answers_at request number moment d1 d2 at answers = subst (λ (p : DeskState). AnswersUnderWay p d1.calls d2) at answers
 
-pub is_answered : (request : Request) (number : ℕ) (moment : ℕ) (d1 d2 : DeskView) → d1.place ≡ UnderWay number request moment → Answers d1.place d1.calls d2 → IsAnswered d2.place
+pub is_answered : (request : Request) (number : ℕ) (moment : ℕ) (d1 d2 : DeskView) → d1.place ≡ UnderWay number request moment → AnswersUnderWay d1.place d1.calls d2 → WasAnswered d2.place
 is_answered request number moment d1 d2 at answers =
     let h = answers_at request number moment d1 d2 at answers in
-    subst (λ (p : Place). IsAnswered p) (sym h.1) tt
+    subst (λ (p : DeskState). WasAnswered p) (sym h.1) tt
 
-last_at : (request : Request) (number n : ℕ) (reply given : Reply) (d2 : DeskView) → d2.place ≡ Resting (Some (deed number request given)) → IsLast d2.place n reply → reply ≡ given
+last_at : (request : Request) (number n : ℕ) (reply given : Reply) (d2 : DeskView) → d2.place ≡ Resting (Some (deed number request given)) → IsLastAnswer d2.place n reply → reply ≡ given
 last_at request number n reply given d2 placed last =
-    let h : (n ≡ number) × (reply ≡ given) = subst (λ (p : Place). IsLast p n reply) placed last in h.1
+    let h : (n ≡ number) × (reply ≡ given) = subst (λ (p : DeskState). IsLastAnswer p n reply) placed last in h.1
 
 made_at : (request : Request) (Asked : List Attempt → Type 0) (d d1 d2 : DeskView) (number moment n : ℕ) (reply : Reply) (v w : SessionView) (waiting : Option ℕ) → d1.place ≡ UnderWay number request moment → d1.calls ≡ d.calls
-    → Answers d1.place d1.calls d2 → IsLast d2.place n reply
+    → AnswersUnderWay d1.place d1.calls d2 → IsLastAnswer d2.place n reply
     → IfSome waiting (λ id. w ≡ record v { output = v.output ++ packet (reply_body id reply); waiting = None }) → Asked (attempt request (Ok number) ∷ []) → d2.begun ≡ counted d.begun
-    → IfSome waiting (λ id. (a : Answered) × (asked_by a ≡ ask.Call id request)
+    → IfSome waiting (λ id. (a : Response) × (ask_behind a ≡ ask.Call id request)
     × (w ≡ record v { output = v.output ++ packet_for a; waiting = None })
-    × IsResting d2.place × Notes d.calls d2.calls (answer_deeds a) × Asked (answer_attempts a) × (d2.begun ≡ begun_by a d.begun))
+    × IsResting d2.place × Notes d.calls d2.calls (response_calls a) × Asked (answer_attempts a) × (d2.begun ≡ begun_by a d.begun))
 made_at request Asked d d1 d2 number moment n reply v w None at calls answers last written asked begun = tt
 made_at request Asked d d1 d2 number moment n reply v w (Some id) at calls answers last written asked begun =
     let h = answers_at request number moment d1 d2 at answers in
@@ -50,22 +50,22 @@ made_at request Asked d d1 d2 number moment n reply v w (Some id) at calls answe
       ByCall id number request h.0,
       refl,
       written ∙ ap (λ (r : Reply). record v { output = v.output ++ packet (reply_body id r); waiting = None }) same,
-      subst (λ (p : Place). IsResting p) (sym h.1) tt,
-      subst (λ (c : Option (List Deed)). Notes c d2.calls (deed number request h.0 ∷ [])) calls h.2,
+      subst (λ (p : DeskState). IsResting p) (sym h.1) tt,
+      subst (λ (c : Option (List CallRecord)). Notes c d2.calls (deed number request h.0 ∷ [])) calls h.2,
       asked,
       begun,
     )
 
 pub call_made : (request : Request) (Asked : List Attempt → Type 0) (d d1 d2 : DeskView) (number moment n : ℕ) (reply : Reply) (v w : SessionView) → d1.place ≡ UnderWay number request moment → d1.calls ≡ d.calls
-    → Answers d1.place d1.calls d2 → IsLast d2.place n reply
+    → AnswersUnderWay d1.place d1.calls d2 → IsLastAnswer d2.place n reply
     → IfSome v.waiting (λ id. w ≡ record v { output = v.output ++ packet (reply_body id reply); waiting = None }) → Asked (attempt request (Ok number) ∷ []) → d2.begun ≡ counted d.begun → MakesCall request Asked (talk d v) (talk d2 w)
 call_made request Asked d d1 d2 number moment n reply v w at calls answers last written asked begun = made_at request Asked d d1 d2 number moment n reply v w v.waiting at calls answers last written asked begun
 
 refused_at : (request : Request) (Asked : List Attempt → Type 0) (d d1 : DeskView) (fault : CoreFault) (v w : SessionView) (waiting : Option ℕ) → IsResting d.place → d1 ≡ d
     → IfSome waiting (λ id. w ≡ record v { output = v.output ++ packet (reply_body id (refusal_of fault)); waiting = None }) → Asked (attempt request (Err fault) ∷ [])
-    → IfSome waiting (λ id. (a : Answered) × (asked_by a ≡ ask.Call id request)
+    → IfSome waiting (λ id. (a : Response) × (ask_behind a ≡ ask.Call id request)
     × (w ≡ record v { output = v.output ++ packet_for a; waiting = None })
-    × IsResting d1.place × Notes d.calls d1.calls (answer_deeds a) × Asked (answer_attempts a) × (d1.begun ≡ begun_by a d.begun))
+    × IsResting d1.place × Notes d.calls d1.calls (response_calls a) × Asked (answer_attempts a) × (d1.begun ≡ begun_by a d.begun))
 refused_at request Asked d d1 fault v w None rests same written asked = tt
 refused_at request Asked d d1 fault v w (Some id) rests same written asked = (
   Refused id request fault,
@@ -84,24 +84,24 @@ call_refused request Asked d d1 fault v w rests same written asked = refused_at 
 pub steps_failed : (request : Request) (number moment : ℕ) (why : Stop) (d d1 d2 : DeskView) → d1.place ≡ UnderWay number request moment → d1.calls ≡ d.calls → FailsSteps why d1 d2 → LacksReply request number why d d2
 steps_failed request number moment stop.Stranger d d1 d2 at calls h = (h.0, h.1 ∙ calls)
 steps_failed request number moment stop.UnderWay d d1 d2 at calls h = (
-  subst (λ (x : DeskView). IsUnderWay x.place) (sym h.0) (subst (λ (p : Place). IsUnderWay p) (sym at) tt),
+  subst (λ (x : DeskView). HasCallUnderWay x.place) (sym h.0) (subst (λ (p : DeskState). HasCallUnderWay p) (sym at) tt),
   ap (λ (x : DeskView). x.calls) h.0 ∙ calls,
   h.1,
 )
 steps_failed request number moment stop.OutOfMemory d d1 d2 at calls h = absurd h
 
-pub answer_failed : (request : Request) (number moment : ℕ) (d d1 d2 : DeskView) → d1.place ≡ UnderWay number request moment → d1.calls ≡ d.calls → Answers d1.place d1.calls d2 → d2.begun ≡ counted d.begun → LacksReply request number stop.OutOfMemory d d2
+pub answer_failed : (request : Request) (number moment : ℕ) (d d1 d2 : DeskView) → d1.place ≡ UnderWay number request moment → d1.calls ≡ d.calls → AnswersUnderWay d1.place d1.calls d2 → d2.begun ≡ counted d.begun → LacksReply request number stop.OutOfMemory d d2
 answer_failed request number moment d d1 d2 at calls answers begun =
     let h = answers_at request number moment d1 d2 at answers in (
       h.0,
-      subst (λ (p : Place). IsResting p) (sym h.1) tt,
-      subst (λ (c : Option (List Deed)). Notes c d2.calls (deed number request h.0 ∷ [])) calls h.2,
+      subst (λ (p : DeskState). IsResting p) (sym h.1) tt,
+      subst (λ (c : Option (List CallRecord)). Notes c d2.calls (deed number request h.0 ∷ [])) calls h.2,
       begun,
     )
 
 -- a desk was asked to begin a call at the moment that was told for it, and no other since
 pub one_begin : (tl tl' : Option (List ℕ)) (b b1 b2 : Option (List Begin)) (request : Request) (moment : ℕ) (outcome : Result ℕ CoreFault)
-    → Appends tl tl' (moment ∷ []) → Notes b b1 (record { request = request; moment = moment; outcome = outcome } ∷ []) → b2 ≡ b1 → Begins tl tl' b b2 (attempt request outcome ∷ [])
+    → Appends tl tl' (moment ∷ []) → Notes b b1 (record { request = request; moment = moment; outcome = outcome } ∷ []) → b2 ≡ b1 → BeginsCalls tl tl' b b2 (attempt request outcome ∷ [])
 one_begin tl tl' b b1 b2 request moment outcome told noted same =
     let one : List Begin = record { request = request; moment = moment; outcome = outcome } ∷ [] in
     (one, subst (λ (x : Option (List Begin)). Notes b x one) (sym same) noted, told, refl)

@@ -3,7 +3,7 @@ use Rattle.std.proofs.Common.{◌≡◌, ℕ, List, Option, Some, None, Result, 
 use Rattle.sf_session.specs.declared.fault.ServeFault.{ServeFault}
 use Rattle.sf_session.specs.declared.fault.ServeFault.TheVariants as fault
 use Rattle.sf_session.specs.Sessions.{SessionView}
-use Rattle.sf_engine.specs.Worlds.{Told}
+use Rattle.sf_engine.specs.Worlds.{SessionState}
 use Rattle.sf_serving.specs.declared.host.Went.{Went}
 use Rattle.sf_pool.specs.declared.desk.Begin.{Begin}
 use Rattle.sf_pool.specs.declared.at_desk.Standing.{Standing}
@@ -20,11 +20,11 @@ joined standing.UnderWay e = let no : Some fault.NumbersSpent ≡ None = e in ab
 joined standing.Strange e = let no : Some fault.Stranger ≡ None = e in absurd (cc)
 joined (standing.Left share) e = let no : Some fault.OutOfMemory ≡ None = e in absurd (cc)
 
-pub told_joined : (start now : DeskScene) (at : Standing) (v : SessionView) (t : Told) → standing_fault at ≡ None → IsToldAt start at v now t → IsToldAt start standing.Joined v now t
+pub told_joined : (start now : DeskScene) (at : Standing) (v : SessionView) (t : SessionState) → standing_fault at ≡ None → IsToldAt start at v now t → IsToldAt start standing.Joined v now t
 told_joined start now at v t e h = let P : Standing → Type 0 = λ s. IsToldAt start s v now t in subst P (joined at e) h
 
 -- a host stands as it did, and its desk is where it was
-pub goes_still : (start : DeskScene) (at at' : Standing) (w w' : SessionView) (d d' : DeskView) (b b' : Option (List Begin)) (tl : Option (List ℕ)) (r r' : Result Went ServeFault) (t : Told)
+pub goes_still : (start : DeskScene) (at at' : Standing) (w w' : SessionView) (d d' : DeskView) (b b' : Option (List Begin)) (tl : Option (List ℕ)) (r r' : Result Went ServeFault) (t : SessionState)
     → at' ≡ at → w' ≡ w → d' ≡ d → b' ≡ b → r' ≡ r → Goes start at w (desk_scene d b tl) r t → Goes start at' w' (desk_scene d' b' tl) r' t
 goes_still start at at' w w' d d' b b' tl r r' t p q e f g h =
     let S : Standing → Type 0 = λ x. Goes start x w' (desk_scene d' b' tl) r' t in

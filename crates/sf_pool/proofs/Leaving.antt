@@ -6,14 +6,14 @@ use Rattle.sf_session.specs.declared.cause.Cause.{Cause}
 use Rattle.sf_session.specs.declared.fault.ServeFault.{ServeFault}
 use Rattle.sf_session.specs.declared.fault.ServeFault.TheVariants as fault
 use Rattle.sf_session.specs.Sessions.{SessionView}
-use Rattle.sf_engine.specs.Worlds.{Phase, Gone as Left, Told}
+use Rattle.sf_engine.specs.Worlds.{Phase, Gone as Left, SessionState}
 use Rattle.sf_serving.specs.Ends.{IsWhole}
 use Rattle.sf_serving.specs.Hosts.{IsLeftFor}
 use Rattle.sf_serving.specs.Serving.{LineView, Progress, Serves, IsServed, HasWrittenFor, IsSpentFor, IsStopped, IsStop}
 use Rattle.sf_pool.specs.declared.at_desk.Standing.{Standing}
 use Rattle.sf_pool.specs.declared.at_desk.Standing.TheVariants as standing
 use Rattle.sf_pool.specs.Desks.{Gone, DeskView}
-use Rattle.sf_pool.specs.Scenes.{DeskScene, deeds_told, IsNoted, IsShared, join_refusal, HasLeft, LeavesFor, IsDeskFault}
+use Rattle.sf_pool.specs.Scenes.{DeskScene, state_calls, NotesCalls, IsShared, join_refusal, HasLeft, LeavesFor, IsDeskFault}
 use Rattle.sf_pool.specs.AtDesks.{IsToldAt, IsStrange, IsOver, IsInCall, IsCounted, share_of, IsAdded}
 
 shared_by : (share n old new : ℕ) → share ≡ share_of n → IsShared share old new → IsShared n old new
@@ -23,26 +23,26 @@ not_in_call : (f : Phase) (cause : Cause) → f ≡ Left cause → IsInCall f �
 not_in_call f cause e h = let no : IsInCall (Left cause) = subst (λ (x : Phase). IsInCall x) e h in no
 
 -- a session that was served to its end has left
-leaves_gone : (at : Standing) (d : DeskView) (t : Told) (cause : Cause) (old new : ℕ) → IsOver at d None → IsCounted at d t → IsWhole t cause → IsAdded at old new → (d.place ≡ Gone) × IsShared (length (deeds_told t)) old new
+leaves_gone : (at : Standing) (d : DeskView) (t : SessionState) (cause : Cause) (old new : ℕ) → IsOver at d None → IsCounted at d t → IsWhole t cause → IsAdded at old new → (d.place ≡ Gone) × IsShared (length (state_calls t)) old new
 leaves_gone standing.Joined d t cause old new over counts whole added = absurd over
 leaves_gone standing.Unanswered d t cause old new over counts whole added = absurd over
 leaves_gone standing.UnderWay d t cause old new over counts whole added = absurd (not_in_call t.phase cause whole.left counts)
 leaves_gone standing.Strange d t cause old new over counts whole added = let no : None ≡ Some fault.Stranger = over.0 in absurd (cc)
-leaves_gone (standing.Left share) d t cause old new over counts whole added = (over.1, shared_by share (length (deeds_told t)) old new counts added)
+leaves_gone (standing.Left share) d t cause old new over counts whole added = (over.1, shared_by share (length (state_calls t)) old new counts added)
 
 pub leaves_served : (start now : DeskScene) (from line : LineView) (at : Standing) (v : SessionView) (cause : Cause) (old new : ℕ) → IsOver at now.desk None → IsAdded at old new → Serves (IsToldAt start at v now) from line (IsServed line.incoming cause)
-    → Serves (IsNoted start now) from line (λ p. ((c : Cause) × IsServed line.incoming c p) × (now.desk.place ≡ Gone) × IsShared (length (deeds_told p.told)) old new)
+    → Serves (NotesCalls start now) from line (λ p. ((c : Cause) × IsServed line.incoming c p) × (now.desk.place ≡ Gone) × IsShared (length (state_calls p.told)) old new)
 leaves_served start now from line at v cause old new over added serves =
     let left = leaves_gone at now.desk serves.0.told cause old new over serves.1.counts serves.3.whole added in
     (serves.0, serves.1.notes, serves.2, ((cause, serves.3), left.0, left.1))
 
 -- after a fault it has left, too, or its call is under way
-left_none : (at : Standing) (d : DeskView) (t : Told) (old new : ℕ) → IsOver at d None → IsCounted at d t → IsAdded at old new → HasLeft d t old new
+left_none : (at : Standing) (d : DeskView) (t : SessionState) (old new : ℕ) → IsOver at d None → IsCounted at d t → IsAdded at old new → HasLeft d t old new
 left_none standing.Joined d t old new over counts added = absurd over
 left_none standing.Unanswered d t old new over counts added = absurd over
 left_none standing.UnderWay d t old new over counts added = inr (over.1, over.2, added)
 left_none standing.Strange d t old new over counts added = let no : None ≡ Some fault.Stranger = over.0 in absurd (cc)
-left_none (standing.Left share) d t old new over counts added = inl (over.1, shared_by share (length (deeds_told t)) old new counts added)
+left_none (standing.Left share) d t old new over counts added = inl (over.1, shared_by share (length (state_calls t)) old new counts added)
 
 -- ending it told no other fault than that the core doesn't know the session
 over_none : (at : Standing) (d : DeskView) (f : ServeFault) → (f ≡ fault.Stranger → ⊥) → IsLeftFor (IsOver at d) f → IsOver at d None
@@ -70,7 +70,7 @@ leaves_for at d fault.NumbersSpent p failed failed' old new left counts why spen
     (left_none at d p.told old new (over_none at d fault.NumbersSpent (λ e. let no : fault.NumbersSpent ≡ fault.Stranger = e in cc) left) counts added, spent)
 
 pub leaves_stopped : (start now : DeskScene) (from line : LineView) (at : Standing) (v : SessionView) (f : ServeFault) (failed failed' old new : ℕ) → IsLeftFor (IsOver at now.desk) f → IsStop f failed failed' (IsStrange at) → IsAdded at old new
-    → Serves (IsToldAt start at v now) from line (IsStopped f failed failed' now.desk.steps) → Serves (IsNoted start now) from line (λ p. HasWrittenFor f failed failed' p × LeavesFor f now.desk p old new)
+    → Serves (IsToldAt start at v now) from line (IsStopped f failed failed' now.desk.steps) → Serves (NotesCalls start now) from line (λ p. HasWrittenFor f failed failed' p × LeavesFor f now.desk p old new)
 leaves_stopped start now from line at v f failed failed' old new left why added serves =
     (serves.0, serves.1.notes, serves.2, (serves.3.written, leaves_for at now.desk f serves.0 failed failed' old new left serves.1.counts why serves.3.spent added))
 

@@ -9,13 +9,13 @@ use Rattle.sf_core.specs.declared.step.Step.TheVariants as step
 use Rattle.sf_core.specs.Lanes.{LaneView}
 use Rattle.sf_core.specs.Cores.{CoreView}
 use Rattle.sf_core.specs.Histories.{IsHistory}
-use Rattle.sf_core.specs.Events.{Begins, RefusesBegin, Steps}
-use Rattle.sf_pool.specs.declared.desk.Told.TheVariants as told
+use Rattle.sf_core.specs.Events.{CallBegins, RefusesBegin, TakesStep}
+use Rattle.sf_pool.specs.declared.desk.StepResult.TheVariants as step_result
 use Rattle.sf_pool.specs.declared.stay.Stepped.{Stepped}
-use Rattle.sf_pool.specs.Desks.{Place, UnderWay, IsLast, DeskView}
+use Rattle.sf_pool.specs.Desks.{DeskState, UnderWay, IsLastAnswer, DeskView}
 
 -- the number of the call under way
-abbrev pub call_in : Place → Option ℕ
+abbrev pub call_in : DeskState → Option ℕ
 call_in (UnderWay number request moment) = Some number
 call_in _ = None
 
@@ -26,7 +26,7 @@ pub record IsLaneAt (d : DeskView) (lane : LaneView) : Type 0 where
 
 -- the session's call begins on the core
 abbrev pub BeginsAt : DeskView → CoreView → CoreView → Request → ℕ → Type 0
-BeginsAt d v w request moment = (lane : LaneView) × IsLaneAt d lane × Begins v w lane request moment
+BeginsAt d v w request moment = (lane : LaneView) × IsLaneAt d lane × CallBegins v w lane request moment
 
 -- memory was wanting, or the core refuses the session's call
 abbrev pub RefusesAt : DeskView → CoreView → CoreFault → Type 0
@@ -34,12 +34,12 @@ RefusesAt d v fault =
     (fault ≡ OutOfMemory) ⊎ ((lane : LaneView) × IsLaneAt d lane × RefusesBegin v lane fault)
 
 -- what is told of a step of the core: whether its call was answered, and how; and whether it was blocked
-abbrev pub TellsOf : Step → Stepped → Place → Type 0
-TellsOf step.Moved s place = (s.told ≡ told.Going) × (s.blocked ≡ false)
-TellsOf (step.Blocked holder) s place = (s.told ≡ told.Going) × (s.blocked ≡ true)
+abbrev pub TellsOf : Step → Stepped → DeskState → Type 0
+TellsOf step.Moved s place = (s.told ≡ step_result.Going) × (s.blocked ≡ false)
+TellsOf (step.Blocked holder) s place = (s.told ≡ step_result.Going) × (s.blocked ≡ true)
 TellsOf (step.Answered answer) s place =
-    (s.told ≡ told.Answered) × (s.blocked ≡ false) × IsLast place answer.number answer.reply
-TellsOf step.Stranger s place = (s.told ≡ told.Stranger) × (s.blocked ≡ false)
+    (s.told ≡ step_result.Answered) × (s.blocked ≡ false) × IsLastAnswer place answer.number answer.reply
+TellsOf step.Stranger s place = (s.told ≡ step_result.Stranger) × (s.blocked ≡ false)
 
 -- what a step came to: what is told of it, and the desk and the core after it
 pub record SteppedTo : Type 0 where
@@ -58,7 +58,7 @@ pub record StepsAt (d : DeskView) (v : CoreView) (h : List Record) (s : SteppedT
   pub came : Step
   pub own : IsLaneAt d lane
   pub history : IsHistory s.core (h ++ added)
-  pub steps : Steps (record { core = v; history = h; lane = lane }) came (record {
+  pub steps : TakesStep (record { core = v; history = h; lane = lane }) came (record {
     core = s.core;
     added = added;
     lane = after;

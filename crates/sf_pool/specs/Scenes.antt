@@ -9,12 +9,12 @@ use Rattle.sf_call.specs.declared.fault.CoreFault.TheVariants as refused
 use Rattle.sf_session.specs.declared.cause.Cause.{Cause}
 use Rattle.sf_session.specs.declared.fault.ServeFault.{ServeFault}
 use Rattle.sf_session.specs.declared.fault.ServeFault.TheVariants as fault
-use Rattle.sf_engine.specs.Worlds.{Answered, Version, Locally, ByCall, Refused as NotBegun, Phase, Resting as AtRest, UnderWay as InCall, Decided, Gone as Left, Told}
+use Rattle.sf_engine.specs.Worlds.{Response, Version, Locally, ByCall, Refused as NotBegun, Phase, Resting as AtRest, UnderWay as InCall, Decided, Gone as Left, SessionState}
 use Rattle.sf_serving.specs.Hosts.{most_counted}
 use Rattle.sf_serving.specs.Serving.{LineView, Progress, Serves, IsServed, HasWrittenFor}
-use Rattle.sf_audit.specs.Audits.{Deed}
+use Rattle.sf_audit.specs.Audits.{CallRecord}
 use Rattle.sf_pool.specs.declared.desk.Begin.{Begin}
-use Rattle.sf_pool.specs.Desks.{Refused, Gone, IsUnderWay, DeskView, Notes}
+use Rattle.sf_pool.specs.Desks.{Refused, Gone, HasCallUnderWay, DeskView, Notes}
 
 -- A desk, the calls that it was asked to begin, where it tells them, and the moments that a clock
 -- told.
@@ -27,24 +27,24 @@ abbrev pub desk_scene : DeskView → Option (List Begin) → Option (List ℕ) �
 desk_scene desk begins told = record { desk = desk; begins = begins; told = told }
 
 -- the call that was answered so, unless it was refused
-abbrev pub answer_deeds : Answered → List Deed
-answer_deeds Version = []
-answer_deeds (Locally id reply) = []
-answer_deeds (ByCall id number request reply) =
+abbrev pub response_calls : Response → List CallRecord
+response_calls Version = []
+response_calls (Locally id reply) = []
+response_calls (ByCall id number request reply) =
     record { number = number; request = request; reply = reply } ∷ []
-answer_deeds (NotBegun id request refusal) = []
+response_calls (NotBegun id request refusal) = []
 
 -- the call whose answer waits
-abbrev pub phase_deeds : Phase → List Deed
-phase_deeds AtRest = []
-phase_deeds (InCall id number moment request moves) = []
-phase_deeds (Decided id number request reply) =
+abbrev pub phase_calls : Phase → List CallRecord
+phase_calls AtRest = []
+phase_calls (InCall id number moment request moves) = []
+phase_calls (Decided id number request reply) =
     record { number = number; request = request; reply = reply } ∷ []
-phase_deeds (Left cause) = []
+phase_calls (Left cause) = []
 
 -- the calls that a session was answered
-abbrev pub deeds_told : Told → List Deed
-deeds_told t = flat_map answer_deeds t.answers ++ phase_deeds t.phase
+abbrev pub state_calls : SessionState → List CallRecord
+state_calls t = flat_map response_calls t.answers ++ phase_calls t.phase
 
 -- A call that a desk was asked to begin: its request, and its number or why it was refused.
 pub record Attempt : Type 0 where
@@ -58,7 +58,7 @@ abbrev pub attempt_of : Begin → Attempt
 attempt_of b = attempt b.request b.outcome
 
 -- the call that was answered so began, or was refused
-abbrev pub answer_attempts : Answered → List Attempt
+abbrev pub answer_attempts : Response → List Attempt
 answer_attempts Version = []
 answer_attempts (Locally id reply) = []
 answer_attempts (ByCall id number request reply) = attempt request (Ok number) ∷ []
@@ -72,23 +72,23 @@ phase_attempts (Decided id number request reply) = attempt request (Ok number) �
 phase_attempts (Left cause) = []
 
 -- the calls that a session asked for
-abbrev pub attempts_told : Told → List Attempt
+abbrev pub attempts_told : SessionState → List Attempt
 attempts_told t = flat_map answer_attempts t.answers ++ phase_attempts t.phase
 
 -- The desk was asked to begin these calls, and no others, each at the moment that the clock told
 -- for it.
-abbrev pub Begins : Option (List ℕ) → Option (List ℕ) → Option (List Begin) → Option (List Begin)
+abbrev pub BeginsCalls : Option (List ℕ) → Option (List ℕ) → Option (List Begin) → Option (List Begin)
     → List Attempt → Type 0
-Begins told told' begins begins' attempts =
+BeginsCalls told told' begins begins' attempts =
     (more : List Begin) × Notes begins begins' more × Appends told told' (map (λ b. b.moment) more)
     × (map attempt_of more ≡ attempts)
 
 -- Since the start a session was told this at the desk, which noted the calls that it was answered,
 -- and no others; and it was asked to begin those that the session asked for, and no others, each at
 -- the moment that was told for it.
-pub record IsNoted (start now : DeskScene) (t : Told) : Type 0 where
-  pub noted : Notes start.desk.calls now.desk.calls (deeds_told t)
-  pub asked : Begins start.told now.told start.begins now.begins (attempts_told t)
+pub record NotesCalls (start now : DeskScene) (t : SessionState) : Type 0 where
+  pub noted : Notes start.desk.calls now.desk.calls (state_calls t)
+  pub asked : BeginsCalls start.told now.told start.begins now.begins (attempts_told t)
 
 -- so many calls were added to a share, up to 2^64 - 1
 abbrev pub IsShared : ℕ → ℕ → ℕ → Type 0
@@ -97,9 +97,9 @@ IsShared n old new = new ≡ min (old + n) (2 ^ 64 - 1)
 -- A session was served to its end. It has left the desk, and the calls that it was answered were
 -- added to a share.
 abbrev pub ServesDesk : (start now : DeskScene) → (from line : LineView) → (old new : ℕ) → Type 0
-ServesDesk start now from line old new = Serves (IsNoted start now) from line
+ServesDesk start now from line old new = Serves (NotesCalls start now) from line
     (λ p. ((cause : Cause) × IsServed line.incoming cause p) × (now.desk.place ≡ Gone)
-    × IsShared (length (deeds_told p.told)) old new)
+    × IsShared (length (state_calls p.told)) old new)
 
 -- why a session doesn't join
 abbrev pub join_refusal : CoreFault → ServeFault
@@ -116,9 +116,9 @@ NeverJoins start now f = ((f ≡ fault.OutOfMemory) × (now ≡ start))
 
 -- How a desk is left whose session joined: it has left, and the calls that it was answered were
 -- added to a share; or its call has no answer after 2^64 - 1 steps.
-abbrev pub HasLeft : DeskView → Told → (old new : ℕ) → Type 0
-HasLeft desk t old new = ((desk.place ≡ Gone) × IsShared (length (deeds_told t)) old new)
-    ⊎ (IsUnderWay desk.place × (most_counted ≤ desk.steps) × (new ≡ old))
+abbrev pub HasLeft : DeskView → SessionState → (old new : ℕ) → Type 0
+HasLeft desk t old new = ((desk.place ≡ Gone) × IsShared (length (state_calls t)) old new)
+    ⊎ (HasCallUnderWay desk.place × (most_counted ≤ desk.steps) × (new ≡ old))
 
 -- a session that the core doesn't know has no share; numbers are spent only by so many bytes or
 -- steps
@@ -137,7 +137,7 @@ abbrev pub StopsDesk : ServeFault → (start now : DeskScene) → (from line : L
 StopsDesk f start now from line failed failed' old new =
     (NeverJoins start.desk now.desk f × (now.begins ≡ start.begins) × (now.told ≡ start.told)
     × (line ≡ from) × (new ≡ old))
-    ⊎ Serves (IsNoted start now) from line (λ p. HasWrittenFor f failed failed' p
+    ⊎ Serves (NotesCalls start now) from line (λ p. HasWrittenFor f failed failed' p
     × LeavesFor f now.desk p old new)
 
 -- the line is told to have failed only where it did

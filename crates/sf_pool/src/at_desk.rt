@@ -4,15 +4,15 @@ ghost use Rattle.std.specs.Prelude.{◌≡◌, ◌≤◌, ℕ, List, length, tak
 ghost use Rattle.sf_session.specs.declared.fault.ServeFault.{ServeFault};
 ghost use Rattle.sf_session.specs.declared.fault.ServeFault.TheVariants.{Stranger};
 ghost use Rattle.sf_session.specs.Sessions.{new_session};
-ghost use Rattle.sf_engine.specs.Worlds.{Told, transcript};
+ghost use Rattle.sf_engine.specs.Worlds.{SessionState, transcript};
 ghost use Rattle.sf_engine.specs.Traces.{fed};
 ghost use Rattle.sf_engine.specs.Laws.{IsRead};
 ghost use Rattle.sf_serving.specs.Hosts.{IsOpen, HasSent, IsFurther, WentTo, with_sent, ended, IsHostFault};
-ghost use Rattle.sf_pool.specs.AtDesks.{standing_fault, standing_after, fault_of, IsAdded};
+ghost use Rattle.sf_pool.specs.AtDesks.{standing_fault, standing_after, stop_fault, IsAdded};
 
 use crate::calling::{Stop, make_call};
 use crate::desk::Desk;
-use crate::gate::Gate;
+use crate::observer::StepObserver;
 use sf_core::Share;
 use sf_serving::{Host, Went};
 use sf_session::{Clock, Next, ServeFault, Session};
@@ -41,7 +41,7 @@ pub(crate) enum Standing {
 pub(crate) struct DeskHost<'a, G> {
     number: u64,
     session: Session,
-    gate: &'a G,
+    observer: &'a G,
     // How many bytes the line gathers before it writes.
     room: usize,
     standing: Standing,
@@ -62,14 +62,14 @@ fn let_go_for<D: Desk>(desk: &mut D, len: usize, room: usize) -> usize
 
 impl<'a, G> DeskHost<'a, G> {
     /// A session that has joined, and has read nothing.
-    pub(crate) fn new(alloc: Global, number: u64, gate: &'a G) -> DeskHost<'a, G>
+    pub(crate) fn new(alloc: Global, number: u64, observer: &'a G) -> DeskHost<'a, G>
         ensures session { result.session ≡ new_session }
         ensures standing { result.standing ≡ Standing.Joined }
     {
         DeskHost {
             number,
             session: Session::new(alloc),
-            gate,
+            observer,
             room: GATHERED,
             standing: Standing::Joined,
         }
@@ -101,7 +101,7 @@ impl<'a, G> DeskHost<'a, G> {
 
     /// A call has no reply: how it stands then, and why it goes on no more.
     fn stand_after(&mut self, stop: Stop) -> ServeFault
-        ensures fault { result ≡ fault_of stop }
+        ensures fault { result ≡ stop_fault stop }
         ensures session { self.new.session ≡ self.old.session }
         ensures standing { self.new.standing ≡ standing_after stop }
     {
@@ -121,7 +121,7 @@ impl<'a, G> DeskHost<'a, G> {
         let DeskHost {
             number: _,
             session: _session,
-            gate: _,
+            observer: _,
             room: _,
             standing,
         } = self;
@@ -132,7 +132,7 @@ impl<'a, G> DeskHost<'a, G> {
     }
 }
 
-impl<D: Desk, G: Gate> Host<D> for DeskHost<'_, G> {
+impl<D: Desk, G: StepObserver> Host<D> for DeskHost<'_, G> {
     ghost use Rattle.sf_pool.specs.Scenes.{DeskScene, desk_scene};
     ghost use Rattle.sf_pool.specs.AtDesks.{IsToldAt, IsPlaced, IsStrange, IsOver};
 
@@ -175,7 +175,7 @@ impl<D: Desk, G: Gate> Host<D> for DeskHost<'_, G> {
                 match make_call(
                     desk,
                     clock,
-                    self.gate,
+                    self.observer,
                     self.number,
                     &mut self.session,
                     request,

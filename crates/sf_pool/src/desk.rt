@@ -2,8 +2,8 @@
 
 ghost use Rattle.std.specs.Prelude.{◌≡◌, ◌<◌, List, [], ◌∷◌, Option, None, map, OnOk, OnErr, IfOk, IfErr, IfSome};
 ghost use Rattle.sf_pool.specs.declared.desk.Begin.{Begin};
-ghost use Rattle.sf_audit.specs.Audits.{told};
-ghost use Rattle.sf_pool.specs.Desks.{New, Refused, UnderWay, Gone, IsResting, IsUnderWay, IsAnswered, IsLast, Notes, counted, DeskView, Steps};
+ghost use Rattle.sf_audit.specs.Audits.{call_record};
+ghost use Rattle.sf_pool.specs.Desks.{New, Refused, UnderWay, Gone, IsResting, HasCallUnderWay, WasAnswered, IsLastAnswer, Notes, counted, DeskView, Steps};
 
 use sf_audit::Transcript;
 use sf_call::{Answer, CoreFault, Request};
@@ -11,7 +11,7 @@ use sf_core::Share;
 
 /// What a step came to.
 #[derive(Clone, Copy, Debug, PartialEq, Eq)]
-pub enum Told {
+pub enum StepResult {
     /// The call has no answer yet.
     Going,
     /// The call was answered: `answer` tells how.
@@ -71,8 +71,8 @@ pub trait Desk {
         } ∷ []) };
 
     /// One step of the call. Where it is answered the answer is noted.
-    fn step(&mut self) -> Told
-        requires { IsUnderWay (at self.old).place }
+    fn step(&mut self) -> StepResult
+        requires { HasCallUnderWay (at self.old).place }
         ensures steps { Steps (at self.old) result (at self.new) }
         ensures session { (at self.new).session ≡ (at self.old).session }
         ensures count { (at self.new).steps ≡ counted (at self.old).steps }
@@ -85,8 +85,8 @@ pub trait Desk {
 
     /// The answer to the last call.
     fn answer(&self) -> &Answer
-        requires { IsAnswered (at self.now).place }
-        ensures { IsLast (at self.now).place result.now.number result.now.reply };
+        requires { WasAnswered (at self.now).place }
+        ensures { IsLastAnswer (at self.now).place result.now.number result.now.reply };
 
     /// The session leaves, and its share of the calls is told: as many as it began. There is none
     /// where the core doesn't know the session.
@@ -102,6 +102,6 @@ pub trait Desk {
     /// What the session was told.
     fn transcript(&self) -> &Transcript
         ensures session { result.now.session ≡ (at self.now).session }
-        ensures calls { IfSome (at self.now).calls (λ calls. map told result.now.calls.items
+        ensures calls { IfSome (at self.now).calls (λ calls. map call_record result.now.calls.items
             ≡ calls) };
 }

@@ -10,15 +10,15 @@
 mod at_desk;
 mod calling;
 mod desk;
-mod gate;
 mod hall;
 mod lock_desk;
+mod observer;
 mod serving;
 mod stay;
 
-pub use desk::{Begin, Desk, Told};
-pub use gate::{Gate, NoGate};
+pub use desk::{Begin, Desk, StepResult};
 pub use hall::Hall;
 pub use lock_desk::LockDesk;
+pub use observer::{NoObserver, StepObserver};
 pub use serving::serve;
 pub use stay::{Stay, Stepped};

@@ -1,10 +1,10 @@
 //! The desk of a session on a core under a lock.
 
 ghost use Rattle.std.specs.Prelude.{◌≡◌, [], map, IfSome};
-ghost use Rattle.sf_audit.specs.Audits.{told};
+ghost use Rattle.sf_audit.specs.Audits.{call_record};
 ghost use Rattle.sf_pool.specs.Desks.{New, kept_calls};
 
-use crate::desk::{Desk, Told};
+use crate::desk::{Desk, StepResult};
 use crate::hall::{Hall, LOOKS};
 use crate::stay::Stay;
 use sf_audit::Transcript;
@@ -115,7 +115,7 @@ impl<'a, R: Wait> LockDesk<'a, R> {
     /// What the session was told. A session that hasn't left is given up.
     pub fn into_transcript(self) -> Transcript
         ensures session { result.session ≡ self.entry.stay.session }
-        ensures calls { IfSome self.entry.stay.calls (λ calls. map told result.calls.items
+        ensures calls { IfSome self.entry.stay.calls (λ calls. map call_record result.calls.items
             ≡ calls) }
     {
         let LockDesk {
@@ -341,7 +341,7 @@ impl<R: Wait> Desk for LockDesk<'_, R> {
         begun
     }
 
-    fn step(&mut self) -> Told {
+    fn step(&mut self) -> StepResult {
         let mut core = self.lock_for_step();
         let stepped = self.stay.step(&mut core);
         if stepped.blocked {
@@ -351,7 +351,7 @@ impl<R: Wait> Desk for LockDesk<'_, R> {
         self.blocked = 0;
         self.moved = true;
         self.held = Some(core);
-        if stepped.told == Told::Answered {
+        if stepped.told == StepResult::Answered {
             self.end_call();
         }
         stepped.told

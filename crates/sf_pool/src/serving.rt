@@ -7,7 +7,7 @@ ghost use Rattle.sf_pool.specs.Scenes.{desk_scene, join_refusal, ServesDesk, Sto
 
 use crate::at_desk::DeskHost;
 use crate::desk::Desk;
-use crate::gate::Gate;
+use crate::observer::StepObserver;
 use sf_call::CoreFault;
 use sf_core::Share;
 use sf_line::Line;
@@ -31,12 +31,12 @@ fn join_refusal(fault: CoreFault) -> ServeFault
 /// the session, and merges its share of the calls.
 ///
 /// Where a call has no answer after 2^64 - 1 steps, its session is left at the desk.
-pub fn serve<D: Desk, L: Line, C: Clock, G: Gate>(
+pub fn serve<D: Desk, L: Line, C: Clock, G: StepObserver>(
     alloc: Global,
     desk: &mut D,
     line: &mut L,
     clock: &mut C,
-    gate: &G,
+    observer: &G,
     share: &mut Share,
 ) -> Result<(), ServeFault>
     requires { (D.at desk.old).place ≡ New }
@@ -60,7 +60,7 @@ pub fn serve<D: Desk, L: Line, C: Clock, G: Gate>(
         Ok(number) => number,
         Err(fault) => return Err(join_refusal(fault)),
     };
-    let mut host = DeskHost::new(alloc, number, gate);
+    let mut host = DeskHost::new(alloc, number, observer);
     let served = serve_session(&mut host, desk, line, clock, &mut piece);
     host.add_share(share);
     match served {

@@ -4,16 +4,16 @@ ghost use Rattle.std.specs.Prelude.{◌≡◌, ◌≢◌, ◌<◌, ◌+◌, ◌+
 ghost use Rattle.std.specs.Vec.{vec_capacity};
 ghost use Rattle.sf_call.specs.declared.record.Record.{Record};
 ghost use Rattle.sf_call.specs.declared.record.Record.TheVariants.{Left};
-ghost use Rattle.sf_core.specs.Cores.{slot_of};
-ghost use Rattle.sf_core.specs.Cores.Slot.{Idle};
+ghost use Rattle.sf_core.specs.Cores.{lane_state};
+ghost use Rattle.sf_core.specs.Cores.LaneState.{Idle};
 ghost use Rattle.sf_core.specs.Histories.{IsHistory};
 ghost use Rattle.sf_core.specs.Events.{Joins, RefusesJoin, Leaves};
-ghost use Rattle.sf_audit.specs.Audits.{told};
+ghost use Rattle.sf_audit.specs.Audits.{call_record};
 ghost use Rattle.sf_pool.specs.OnCores.{BeginsAt, RefusesAt, StepsAt, stepped_to};
-ghost use Rattle.sf_pool.specs.Desks.{Place, New, Refused, UnderWay, Gone, IsResting, IsUnderWay, IsAnswered, IsLast, counted, Steps, kept_calls};
+ghost use Rattle.sf_pool.specs.Desks.{DeskState, New, Refused, UnderWay, Gone, IsResting, HasCallUnderWay, WasAnswered, IsLastAnswer, counted, Steps, kept_calls};
 
-use crate::desk::Told;
-use sf_audit::{Exchange, Transcript};
+use crate::desk::StepResult;
+use sf_audit::{AnsweredCall, Transcript};
 use sf_call::{Answer, CoreFault, Request};
 use sf_core::{Core, Lane, Share, Step};
 use std::alloc::Global;
@@ -21,7 +21,7 @@ use std::marker::Model;
 
 /// What the call under way asks for, and when it began.
 #[derive(Debug, Drop)]
-struct Asked {
+struct CallUnderWay {
     request: Request,
     moment: u32,
 }
@@ -32,7 +32,7 @@ pub struct Stay {
     lane: Option<Lane>,
     // Why it couldn't join.
     refused: Option<CoreFault>,
-    asked: Option<Asked>,
+    asked: Option<CallUnderWay>,
     // How many steps were made of its calls.
     steps: u64,
     // All calls that were answered, or the last one.
@@ -44,7 +44,7 @@ impl Model for Stay {
     ghost use Rattle.std.specs.Prelude.{◌<◌, ◌≡◌, vec_len};
     ghost use Rattle.std.specs.Vec.{vec_capacity};
     ghost use Rattle.sf_pool.specs.Desks.{DeskView, lane_place, lane_begun, kept_calls};
-    ghost use Rattle.sf_audit.specs.Audits.{told};
+    ghost use Rattle.sf_audit.specs.Audits.{call_record};
     ghost use Rattle.std.specs.Prelude.{map};
 
     ghost Value = { DeskView };
@@ -52,7 +52,7 @@ impl Model for Stay {
     ghost view = { λ s. record {
       session = s.transcript.session;
       place = lane_place s.lane s.transcript.session s.refused s.asked
-          (map told s.transcript.calls.items);
+          (map call_record s.transcript.calls.items);
       calls = kept_calls s.keeps s.transcript.calls.items;
       begun = lane_begun s.lane;
       steps = s.steps;
@@ -66,23 +66,23 @@ impl Model for Stay {
 /// What a step of a stay came to.
 #[derive(Clone, Copy, Debug, PartialEq, Eq)]
 pub struct Stepped {
-    pub told: Told,
+    pub told: StepResult,
     /// Another call held what the call wanted.
     pub blocked: bool,
 }
 
 impl Stepped {
     fn going(blocked: bool) -> Stepped
-        ensures told { result.told ≡ Told.Going }
+        ensures told { result.told ≡ StepResult.Going }
         ensures blocked { result.blocked ≡ blocked }
     {
         Stepped {
-            told: Told::Going,
+            told: StepResult::Going,
             blocked,
         }
     }
 
-    fn ended(told: Told) -> Stepped
+    fn ended(told: StepResult) -> Stepped
         ensures told { result.told ≡ told }
         ensures blocked { result.blocked ≡ false }
     {
@@ -181,7 +181,7 @@ impl Stay {
         ensures fault { IfErr result (λ fault. RefusesAt self.old core.old fault) }
     {
         self.transcript.calls.reserve(1)?;
-        let asked = Asked {
+        let asked = CallUnderWay {
             request: request.share()?,
             moment,
         };
@@ -195,7 +195,7 @@ impl Stay {
 
     /// One step of the call.
     pub fn step(&mut self, core: &mut Core) -> Stepped
-        requires { IsUnderWay self.old.place }
+        requires { HasCallUnderWay self.old.place }
         ensures told { Steps self.old result.told self.new }
         ensures session { self.new.session ≡ self.old.session }
         ensures count { self.new.steps ≡ counted self.old.steps }
@@ -215,21 +215,21 @@ impl Stay {
                     unreachable!();
                 };
                 note(&mut self.transcript, self.keeps, asked.request, answer);
-                Stepped::ended(Told::Answered)
+                Stepped::ended(StepResult::Answered)
             }
             Step::Stranger => {
                 if let Some(lane) = self.lane.take() {
                     lane.abandon();
                 }
-                Stepped::ended(Told::Stranger)
+                Stepped::ended(StepResult::Stranger)
             }
         }
     }
 
     /// The answer to the last call.
     pub fn answer(&self) -> &Answer
-        requires { IsAnswered self.now.place }
-        ensures { IsLast self.now.place result.now.number result.now.reply }
+        requires { WasAnswered self.now.place }
+        ensures { IsLastAnswer self.now.place result.now.number result.now.reply }
     {
         match self.transcript.calls.as_slice().split_last() {
             Some((exchange, _earlier)) => &exchange.answer,
@@ -249,7 +249,7 @@ impl Stay {
         ensures history { OnSome result ((h : List Record) → IsHistory core.old h
             → IsHistory core.new (h ++ Left self.old.session ∷ [])) }
         ensures stranger { IfNone result ((core.new ≡ core.old)
-            × (slot_of core.old self.old.session ≢ Idle)) }
+            × (lane_state core.old self.old.session ≢ Idle)) }
     {
         let lane = self.lane.take()?;
         match core.leave(lane) {
@@ -264,7 +264,7 @@ impl Stay {
     /// What the session was told, or its last call alone.
     pub fn transcript(&self) -> &Transcript
         ensures session { result.now.session ≡ self.now.session }
-        ensures calls { IfSome self.now.calls (λ calls. map told result.now.calls.items ≡ calls) }
+        ensures calls { IfSome self.now.calls (λ calls. map call_record result.now.calls.items ≡ calls) }
     {
         &self.transcript
     }
@@ -272,7 +272,7 @@ impl Stay {
     /// What the session was told, or its last call alone. A session that hasn't left is given up.
     pub fn into_transcript(self) -> Transcript
         ensures session { result.session ≡ self.session }
-        ensures calls { IfSome self.calls (λ calls. map told result.calls.items ≡ calls) }
+        ensures calls { IfSome self.calls (λ calls. map call_record result.calls.items ≡ calls) }
     {
         let Stay {
             lane,
@@ -293,12 +293,14 @@ impl Stay {
 fn note(transcript: &mut Transcript, keeps: bool, request: Request, answer: Answer)
     requires { vec_len transcript.old.calls < vec_capacity transcript.old.calls }
     ensures session { transcript.new.session ≡ transcript.old.session }
-    ensures calls { map told transcript.new.calls.items
-        ≡ map told (if keeps then transcript.old.calls.items else [])
+    ensures calls { map call_record transcript.new.calls.items
+        ≡ map call_record (if keeps then transcript.old.calls.items else [])
         ++ record { number = answer.number; request = request; reply = answer.reply } ∷ [] }
 {
     if !keeps {
         transcript.calls.clear();
     }
-    transcript.calls.push_reserved(Exchange { request, answer });
+    transcript
+        .calls
+        .push_reserved(AnsweredCall { request, answer });
 }

@@ -1,10 +1,10 @@
 //! Transcripts of sessions that made directories, right and wrong ones, beside the history of a core.
 
-use sf_audit::{AuditFault, Exchange, GatherFault, Transcript, audit, gather};
+use sf_audit::{AnsweredCall, AuditFault, GatherFault, Transcript, audit, gather};
 use sf_call::{Answer, Request};
 use sf_cases::requests::mkdir;
 use sf_core::{Core, Lane, Share, Step};
-use sf_pool::{Desk, Hall, LockDesk, Told};
+use sf_pool::{Desk, Hall, LockDesk, StepResult};
 use sf_reply::{Reply, StatusCode};
 use std::alloc::Global;
 use std::process::Abort;
@@ -68,12 +68,12 @@ fn make(
     core: &mut Core,
     lane: &mut Lane,
     paths: &[&[u8]],
-) -> Result<Vec<Exchange>, Fail> {
+) -> Result<Vec<AnsweredCall>, Fail> {
     let mut calls = Vec::new(alloc);
     for path in paths {
         let answer = ask(rt, core, lane, mkdir(alloc, path));
         let request = mkdir(alloc, path)?;
-        calls.push(Exchange { request, answer })?;
+        calls.push(AnsweredCall { request, answer })?;
     }
     Ok(calls)
 }
@@ -259,8 +259,8 @@ fn visit(
     let mut desk = LockDesk::new(rt, alloc, core, hall, true);
     let session = desk.join()?;
     let number = desk.begin(request, 100)?;
-    assert_eq!(rt; desk.step(), Told::Going);
-    assert_eq!(rt; desk.step(), Told::Answered);
+    assert_eq!(rt; desk.step(), StepResult::Going);
+    assert_eq!(rt; desk.step(), StepResult::Answered);
     assert_eq!(rt; desk.answer().number(), number);
     assert_eq!(rt; desk.answer().session(), session);
     let share = desk.leave().ok_or("a stranger")?;

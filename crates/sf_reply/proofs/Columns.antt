@@ -4,7 +4,7 @@ use Rattle.std.specs.List.{repeat}
 use Rattle.std.proofs.Math.Utf8.{encode}
 use Rattle.std.proofs.lemmas.List.{append-nil}
 use Rattle.std.specs.Fmt.{padded_integral, format_spec, char_count}
-use Rattle.sf_reply.specs.Longname.{spaces, left_in, right_in}
+use Rattle.sf_reply.specs.Longname.{spaces, left_justified, right_in}
 
 repeat_is : (n : ℕ) → repeat n (32 ∷ []) ≡ spaces n
 repeat_is zero = refl
@@ -24,6 +24,6 @@ pub right : (width : ℕ) (text : List ℕ) → padded_integral (format_spec 32 
 unfolding padded_integral encode
 right width text = filled_before _ _ _ text (omega (arith, prefix_none)) (omega arith)
 
-pub left : (width : ℕ) (text : List ℕ) → padded_integral (format_spec 32 1 0 width 18446744073709551615) false [] text ≡ left_in width text
+pub left : (width : ℕ) (text : List ℕ) → padded_integral (format_spec 32 1 0 width 18446744073709551615) false [] text ≡ left_justified width text
 unfolding padded_integral encode
 left width text = filled_after _ _ text (omega (arith, prefix_none))

@@ -10,8 +10,8 @@ abbrev pub spaces : ℕ → List ℕ
 spaces n = replicate n 32
 
 -- in a column of this width, which a longer text leaves
-abbrev pub left_in : ℕ → List ℕ → List ℕ
-left_in width text = text ++ spaces (width - length text)
+abbrev pub left_justified : ℕ → List ℕ → List ℕ
+left_justified width text = text ++ spaces (width - length text)
 
 abbrev pub right_in : ℕ → List ℕ → List ℕ
 right_in width text = spaces (width - length text) ++ text
@@ -39,8 +39,8 @@ mode_text p =
 -- the numbers, with single spaces between them and at both ends
 abbrev pub columns_text : ℕ → Owner → ℕ → ℕ → List ℕ
 columns_text links owner size mtime =
-    spaces 1 ++ right_in 3 (decimal links) ++ spaces 1 ++ left_in 8 (decimal owner.uid) ++ spaces 1
-    ++ left_in 8 (decimal owner.gid)
+    spaces 1 ++ right_in 3 (decimal links) ++ spaces 1 ++ left_justified 8 (decimal owner.uid) ++ spaces 1
+    ++ left_justified 8 (decimal owner.gid)
     ++ spaces 1 ++ right_in 8 (decimal size) ++ spaces 1 ++ right_in 12 (decimal mtime) ++ spaces 1
 
 -- Attributes of which a part is missing have no line.

@@ -111,10 +111,10 @@ abbrev pub after_entries : ℕ → List ℕ → Option (List ℕ)
 after_entries n bytes = option_map (λ x. x.1) (entries_at n bytes)
 
 -- as many names as were counted are there
-abbrev pub IsCounted : FoundReply → Type 0
-IsCounted (found.Status code) = Unit {0}
-IsCounted found.NoMemory = Unit {0}
-IsCounted (found.Handle number) = Unit {0}
-IsCounted (found.Data bytes) = Unit {0}
-IsCounted (found.Names count entries) = length (listed (entries_at count entries.now)) ≡ count
-IsCounted (found.Attrs attrs) = Unit {0}
+abbrev pub HasCountedNames : FoundReply → Type 0
+HasCountedNames (found.Status code) = Unit {0}
+HasCountedNames found.NoMemory = Unit {0}
+HasCountedNames (found.Handle number) = Unit {0}
+HasCountedNames (found.Data bytes) = Unit {0}
+HasCountedNames (found.Names count entries) = length (listed (entries_at count entries.now)) ≡ count
+HasCountedNames (found.Attrs attrs) = Unit {0}

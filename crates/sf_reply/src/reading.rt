@@ -7,7 +7,7 @@ ghost use Rattle.sf_field.specs.Reading.{Gives, number_at, string_at, sent_attrs
 ghost use Rattle.sf_reply.specs.declared.reply.Reply.{Reply};
 ghost use Rattle.sf_reply.specs.declared.reply.Reply.TheVariants.{Names};
 ghost use Rattle.sf_reply.specs.Replies.{version_body};
-ghost use Rattle.sf_reply.specs.Reading.{IsReply, code_of, status_of, status_at, handle_at, whole, entry_at, entries_at, after_entries, names_at, reply_fields_at, reply_at, listed, reply_of, IsCounted};
+ghost use Rattle.sf_reply.specs.Reading.{IsReply, code_of, status_of, status_at, handle_at, whole, entry_at, entries_at, after_entries, names_at, reply_fields_at, reply_at, listed, reply_of, HasCountedNames};
 
 use crate::reply::{Entry, Listing, Reply, StatusCode};
 use crate::replying::{ATTRS, DATA, HANDLE, NAME, STATUS};
@@ -47,7 +47,7 @@ fn code(number: u32) -> Option<StatusCode>
 
 fn status_by(number: u32, message: &[u8]) -> Option<FoundReply<'static>>
     ensures found { Gives (λ x. reply_of x) result (status_of number message.now) }
-    ensures counted { IfSome result IsCounted }
+    ensures counted { IfSome result HasCountedNames }
 {
     if number == 4 && message == b"Out of memory".as_slice() {
         return Some(FoundReply::NoMemory);
@@ -71,7 +71,7 @@ fn last_string(bytes: &[u8]) -> Option<&[u8]>
 #[tactic(auto, unfolding(crate::specs::Reading::status_at))]
 fn status(bytes: &[u8]) -> Option<FoundReply<'_>>
     ensures found { Gives (λ x. reply_of x) result (status_at bytes.now) }
-    ensures counted { IfSome result IsCounted }
+    ensures counted { IfSome result HasCountedNames }
 {
     let (number, rest) = u32_at(bytes)?;
     let (message, rest) = bytes_at(rest)?;
@@ -141,7 +141,7 @@ fn skip_entries(count: u32, bytes: &[u8]) -> Option<&[u8]>
 #[tactic(auto, unfolding(crate::specs::Reading::names_at, crate::specs::Reading::whole))]
 fn last_names(bytes: &[u8]) -> Option<FoundReply<'_>>
     ensures found { Gives (λ x. reply_of x) result (option_map Names (whole names_at bytes.now)) }
-    ensures counted { IfSome result IsCounted }
+    ensures counted { IfSome result HasCountedNames }
 {
     let (count, entries) = u32_at(bytes)?;
     let rest = skip_entries(count, entries)?;
@@ -155,7 +155,7 @@ fn last_names(bytes: &[u8]) -> Option<FoundReply<'_>>
 #[tactic(auto, unfolding(crate::specs::Reading::reply_fields_at))]
 fn fields(kind: u8, bytes: &[u8]) -> Option<FoundReply<'_>>
     ensures found { Gives (λ x. reply_of x) result (reply_fields_at kind bytes.now) }
-    ensures counted { IfSome result IsCounted }
+    ensures counted { IfSome result HasCountedNames }
 {
     match kind {
         STATUS => status(bytes),
@@ -170,7 +170,7 @@ fn fields(kind: u8, bytes: &[u8]) -> Option<FoundReply<'_>>
 #[tactic(auto, unfolding(crate::specs::Reading::reply_at))]
 fn reply(body: &[u8]) -> Option<(u32, FoundReply<'_>)>
     ensures found { Gives (λ x. (x.0, reply_of x.1)) result (reply_at body.now) }
-    ensures counted { IfSome result (λ x. IsCounted x.1) }
+    ensures counted { IfSome result (λ x. HasCountedNames x.1) }
 {
     let [kind, rest @ ..] = body else {
         return None;
@@ -184,7 +184,7 @@ fn reply(body: &[u8]) -> Option<(u32, FoundReply<'_>)>
 pub fn find_reply(body: &[u8]) -> Option<(u32, FoundReply<'_>)>
     ensures found { IfSome result (λ x. IsReply body.now x.0 (reply_of x.1)) }
     // As many names are there as were counted.
-    ensures counted { IfSome result (λ x. IsCounted x.1) }
+    ensures counted { IfSome result (λ x. HasCountedNames x.1) }
     // It spells no other reply, or none at all.
     ensures none { IfNone result ((id : ℕ) (r : Reply) → IsReply body.now id r → ⊥) }
 {

@@ -9,7 +9,7 @@ use Rattle.sf_request.specs.declared.request.WireRequest.TheVariants as request
 use Rattle.sf_request.specs.declared.request.Asked.{Asked}
 use Rattle.sf_request.specs.declared.request.Asked.TheVariants.{Init, Request, BadFields, Unknown, NoVersion, NoId}
 use Rattle.sf_field.specs.Fields.{be32}
-use Rattle.sf_request.specs.Requests.{kind_of, is_request, posix_rename, hardlink, SpellsFields, HasId, HasOtherName, IsUnknown, Asks}
+use Rattle.sf_request.specs.Requests.{kind_of, is_request, posix_rename_extension, hardlink, SpellsFields, HasId, HasOtherName, IsUnknown, Asks}
 use Rattle.sf_field.specs.Reading.{number_at, string_at}
 use Rattle.sf_request.specs.Reading.{other_name, is_unknown, request_at, asked_by, asked_under, asked_of}
 use Rattle.sf_field.proofs.Laws.{IsBytes, IsBytes-rest, reads_u32, reads_string, number_none, number_short}
@@ -40,8 +40,8 @@ name_found (Some name) rest fits e is =
       more = name.1;
       short = t.1;
       parts = t.0.parts;
-      no_rename = λ same. let yes : bytes_eq name.0 posix_rename ≡ true = (bytes_eq-Decides name.0 posix_rename).1 same in let other = (neither (bytes_eq name.0 posix_rename) (bytes_eq name.0 hardlink) is).0 in absurd cc;
-      no_link = λ same. let yes : bytes_eq name.0 hardlink ≡ true = (bytes_eq-Decides name.0 hardlink).1 same in let other = (neither (bytes_eq name.0 posix_rename) (bytes_eq name.0 hardlink) is).1 in absurd cc;
+      no_rename = λ same. let yes : bytes_eq name.0 posix_rename_extension ≡ true = (bytes_eq-Decides name.0 posix_rename_extension).1 same in let other = (neither (bytes_eq name.0 posix_rename_extension) (bytes_eq name.0 hardlink) is).0 in absurd cc;
+      no_link = λ same. let yes : bytes_eq name.0 hardlink ≡ true = (bytes_eq-Decides name.0 hardlink).1 same in let other = (neither (bytes_eq name.0 posix_rename_extension) (bytes_eq name.0 hardlink) is).1 in absurd cc;
     }
 
 both_false : (a b : Bool) → (a ≡ true → ⊥) → (b ≡ true → ⊥) → not (a || b) ≡ true
@@ -52,7 +52,7 @@ both_false false false h k = refl
 name_only : (rest : List ℕ) → HasOtherName rest → other_name (string_at rest) ≡ true
 name_only rest h =
     let read : string_at rest ≡ Some (h.name, h.more) = ap string_at h.parts ∙ reads_string.again h.name h.more h.short in
-    ap other_name read ∙ both_false (bytes_eq h.name posix_rename) (bytes_eq h.name hardlink) (λ e. h.no_rename ((bytes_eq-Decides h.name posix_rename).0 e)) (λ e. h.no_link ((bytes_eq-Decides h.name hardlink).0 e))
+    ap other_name read ∙ both_false (bytes_eq h.name posix_rename_extension) (bytes_eq h.name hardlink) (λ e. h.no_rename ((bytes_eq-Decides h.name posix_rename_extension).0 e)) (λ e. h.no_link ((bytes_eq-Decides h.name hardlink).0 e))
 
 unknown_by : (extended : Bool) (kind : ℕ) (rest : List ℕ) → eqb kind 200 ≡ extended → IsBytes rest → kind ≢ 1 → cond extended (other_name (string_at rest)) (not (is_request kind)) ≡ true → IsUnknown kind rest
 unknown_by true kind rest p fits no_init e = inr (eqb-true kind 200 p, name_found (string_at rest) rest fits refl e)
@@ -172,7 +172,7 @@ request_known (request.Stat path) text more h = refl
 request_known (request.Rename old new) text more h = refl
 request_known (request.PosixRename old new) text more h =
     let parts : text ++ more ≡ h.front ++ (h.back ++ more) = ap (λ (t : List ℕ). t ++ more) h.parts ∙ append_assoc h.front h.back more in
-    ap (λ (t : List ℕ). other_name (string_at t)) parts ∙ ap other_name (as_string.again posix_rename h.front (h.back ++ more) h.first)
+    ap (λ (t : List ℕ). other_name (string_at t)) parts ∙ ap other_name (as_string.again posix_rename_extension h.front (h.back ++ more) h.first)
 request_known (request.Link old new) text more h =
     let parts : text ++ more ≡ h.front ++ (h.back ++ more) = ap (λ (t : List ℕ). t ++ more) h.parts ∙ append_assoc h.front h.back more in
     ap (λ (t : List ℕ). other_name (string_at t)) parts ∙ ap other_name (as_string.again hardlink h.front (h.back ++ more) h.first)

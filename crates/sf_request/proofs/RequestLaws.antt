@@ -9,7 +9,7 @@ use Rattle.std.proofs.lemmas.Slice.Eq.{bytes_eq-Decides}
 use Rattle.sf_field.specs.declared.attrs.Attrs.{Attrs}
 use Rattle.sf_request.specs.declared.request.WireRequest.{WireRequest}
 use Rattle.sf_request.specs.declared.request.WireRequest.TheVariants as request
-use Rattle.sf_request.specs.Requests.{kind_of, posix_rename, hardlink, IsU32, IsU64, IsString, IsAttrs, IsFlags, ◌⨾◌, SpellsFields}
+use Rattle.sf_request.specs.Requests.{kind_of, posix_rename_extension, hardlink, IsU32, IsU64, IsString, IsAttrs, IsFlags, ◌⨾◌, SpellsFields}
 use Rattle.sf_field.specs.Reading.{number_at, string_at, attrs_at, flags_at}
 use Rattle.sf_request.specs.Reading.{both_at, fields, two_strings_at, rename_at, string_request_at, attrs_request_at, extended_by, extended_at, readers, by_kind, request_at}
 use Rattle.sf_field.proofs.Laws.{IsBytes, some_is}
@@ -86,15 +86,15 @@ named make known bytes name more r of_kind spells fits read same e =
     }
     )
 
-by_name : (posix link : Bool) (bytes name more : List ℕ) (r : WireRequest) → IsBytes bytes → string_at bytes ≡ Some (name, more) → bytes_eq name posix_rename ≡ posix → bytes_eq name hardlink ≡ link
+by_name : (posix link : Bool) (bytes name more : List ℕ) (r : WireRequest) → IsBytes bytes → string_at bytes ≡ Some (name, more) → bytes_eq name posix_rename_extension ≡ posix → bytes_eq name hardlink ≡ link
     → cond posix (rename_at request.PosixRename more) (cond link (rename_at request.Link more) None) ≡ Some r → Found 200 bytes r
-by_name true link bytes name more r fits read posix is_link e = named request.PosixRename posix_rename bytes name more r (λ s t. refl) (λ text s t h. h) fits read posix e
+by_name true link bytes name more r fits read posix is_link e = named request.PosixRename posix_rename_extension bytes name more r (λ s t. refl) (λ text s t h. h) fits read posix e
 by_name false true bytes name more r fits read posix is_link e = named request.Link hardlink bytes name more r (λ s t. refl) (λ text s t h. h) fits read is_link e
 by_name false false bytes name more r fits read posix is_link e = absurd cc
 
 extension : (o : Option (List ℕ × List ℕ)) (bytes : List ℕ) (r : WireRequest) → IsBytes bytes → string_at bytes ≡ o → extended_by o ≡ Some r → Found 200 bytes r
 extension None bytes r fits read e = absurd cc
-extension (Some name) bytes r fits read e = by_name (bytes_eq name.0 posix_rename) (bytes_eq name.0 hardlink) bytes name.0 name.1 r fits read refl refl e
+extension (Some name) bytes r fits read e = by_name (bytes_eq name.0 posix_rename_extension) (bytes_eq name.0 hardlink) bytes name.0 name.1 r fits read refl refl e
 
 all_sound : AllByRecursion IsSound readers
 all_sound = (
@@ -201,5 +201,5 @@ request_again (request.Rmdir path) text more h = string_back request.Rmdir path 
 request_again (request.RealPath path) text more h = string_back request.RealPath path text more h
 request_again (request.Stat path) text more h = string_back request.Stat path text more h
 request_again (request.Rename old new) text more h = strings_back request.Rename old new text more h
-request_again (request.PosixRename old new) text more h = extension_back request.PosixRename posix_rename old new text more (λ rest. refl) h
+request_again (request.PosixRename old new) text more h = extension_back request.PosixRename posix_rename_extension old new text more (λ rest. refl) h
 request_again (request.Link old new) text more h = extension_back request.Link hardlink old new text more (λ rest. refl) h

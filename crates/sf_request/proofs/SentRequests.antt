@@ -8,7 +8,7 @@ use Rattle.sf_field.proofs.Laws.{bits_say}
 use Rattle.sf_request.specs.declared.request.WireRequest.{WireRequest}
 use Rattle.sf_request.specs.declared.request.WireRequest.TheVariants as request
 use Rattle.sf_request.specs.declared.request.Asked.TheVariants.{Init, Request}
-use Rattle.sf_request.specs.Requests.{IsU32, IsU64, IsString, IsFlags, ◌⨾◌, SpellsFields, Asks, kind_of, posix_rename, hardlink, fields_text, request_body, init_body, IsShort, RequestFits}
+use Rattle.sf_request.specs.Requests.{IsU32, IsU64, IsString, IsFlags, ◌⨾◌, SpellsFields, Asks, kind_of, posix_rename_extension, hardlink, fields_text, request_body, init_body, IsShort, RequestFits}
 
 a_string : (s : List ℕ) → IsShort s → IsString s (string s)
 a_string s short = record { short = short; is = refl }
@@ -45,7 +45,7 @@ spelled (request.Rmdir path) fits = a_string path fits
 spelled (request.RealPath path) fits = a_string path fits
 spelled (request.Stat path) fits = a_string path fits
 spelled (request.Rename old new) fits = then _ _ (a_string old fits.0) (a_string new fits.1)
-spelled (request.PosixRename old new) fits = three _ _ _ (a_string posix_rename (lit< tt)) (a_string old fits.0) (a_string new fits.1)
+spelled (request.PosixRename old new) fits = three _ _ _ (a_string posix_rename_extension (lit< tt)) (a_string old fits.0) (a_string new fits.1)
 spelled (request.Link old new) fits = three _ _ _ (a_string hardlink (lit< tt)) (a_string old fits.0) (a_string new fits.1)
 
 pub sent_asks : (id : ℕ) (r : WireRequest) → id < 2 ^ 32 → RequestFits r → Asks (request_body id r) (Request id r)

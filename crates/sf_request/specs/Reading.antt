@@ -8,7 +8,7 @@ use Rattle.sf_request.specs.declared.request.WireRequest.{WireRequest}
 use Rattle.sf_request.specs.declared.request.WireRequest.TheVariants as request
 use Rattle.sf_request.specs.declared.request.Asked.{Asked}
 use Rattle.sf_request.specs.declared.request.Asked.TheVariants.{Init, Request, BadFields, Unknown, NoVersion, NoId}
-use Rattle.sf_request.specs.Requests.{is_request, posix_rename, hardlink}
+use Rattle.sf_request.specs.Requests.{is_request, posix_rename_extension, hardlink}
 use Rattle.sf_field.specs.Reading.{◌>>=◌, number_at, string_at, attrs_at, flags_at}
 
 -- one field after another
@@ -51,12 +51,12 @@ rename_at make bytes = option_map (λ x. make x.0 x.1) (two_strings_at bytes)
 -- an extension by its name
 abbrev pub other_name : Option (List ℕ × List ℕ) → Bool
 other_name None = false
-other_name (Some name) = not (bytes_eq name.0 posix_rename || bytes_eq name.0 hardlink)
+other_name (Some name) = not (bytes_eq name.0 posix_rename_extension || bytes_eq name.0 hardlink)
 
 abbrev pub extended_by : Option (List ℕ × List ℕ) → Option WireRequest
 extended_by None = None
 extended_by (Some name) =
-    if bytes_eq name.0 posix_rename then rename_at request.PosixRename name.1
+    if bytes_eq name.0 posix_rename_extension then rename_at request.PosixRename name.1
     else if bytes_eq name.0 hardlink then rename_at request.Link name.1 else None
 
 abbrev pub extended_at : List ℕ → Option WireRequest

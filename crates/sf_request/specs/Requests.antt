@@ -35,8 +35,8 @@ kind_of (request.Link old new) = 200
 abbrev pub is_request : ℕ → Bool
 is_request kind = nat_lt 2 kind && nat_lt kind 19 || kind == 200
 
-abbrev pub posix_rename : List ℕ
-posix_rename = codes "posix-rename@openssh.com"
+abbrev pub posix_rename_extension : List ℕ
+posix_rename_extension = codes "posix-rename@openssh.com"
 
 abbrev pub hardlink : List ℕ
 hardlink = codes "hardlink@openssh.com"
@@ -94,7 +94,7 @@ SpellsFields text (request.RealPath path) = IsString path text
 SpellsFields text (request.Stat path) = IsString path text
 SpellsFields text (request.Rename old new) = (IsString old ⨾ IsString new) text
 SpellsFields text (request.PosixRename old new) =
-    (IsString posix_rename ⨾ IsString old ⨾ IsString new) text
+    (IsString posix_rename_extension ⨾ IsString old ⨾ IsString new) text
 SpellsFields text (request.Link old new) = (IsString hardlink ⨾ IsString old ⨾ IsString new) text
 
 -- the body of a packet, with its type and its id
@@ -108,7 +108,7 @@ pub record HasOtherName (rest : List ℕ) : Type 0 where
   pub more : List ℕ
   pub short : length name < 2 ^ 32
   pub parts : rest ≡ string name ++ more
-  pub no_rename : name ≢ posix_rename
+  pub no_rename : name ≢ posix_rename_extension
   pub no_link : name ≢ hardlink
 
 abbrev pub IsUnknown : ℕ → List ℕ → Type 0
@@ -150,7 +150,7 @@ fields_text (request.Rmdir path) = string path
 fields_text (request.RealPath path) = string path
 fields_text (request.Stat path) = string path
 fields_text (request.Rename old new) = string old ++ string new
-fields_text (request.PosixRename old new) = string posix_rename ++ string old ++ string new
+fields_text (request.PosixRename old new) = string posix_rename_extension ++ string old ++ string new
 fields_text (request.Link old new) = string hardlink ++ string old ++ string new
 
 -- the body of a request: its type, its id, and its fields

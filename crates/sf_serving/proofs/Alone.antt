@@ -9,7 +9,7 @@ use Rattle.sf_session.specs.declared.cause.Cause.{Cause}
 use Rattle.sf_session.specs.declared.cause.Cause.TheVariants.{Closed}
 use Rattle.sf_session.specs.declared.asking.Ask.{Ask}
 use Rattle.sf_session.specs.Sessions.{BeginsWrong, EndsBy}
-use Rattle.sf_engine.specs.Worlds.{Entry, asked_by, transcript, Told, World}
+use Rattle.sf_engine.specs.Worlds.{TraceEntry, ask_behind, transcript, SessionState, World}
 use Rattle.sf_engine.specs.Traces.{has_begun, IsSession}
 use Rattle.sf_engine.specs.Views.{EngineView}
 use Rattle.sf_engine.specs.Fits.{Fits, IsSentBy}
@@ -17,8 +17,8 @@ use Rattle.sf_engine.proofs.Laws.{begun_is}
 use Rattle.sf_serving.specs.Ends.{IsEnd, IsWhole}
 use Rattle.sf_serving.specs.Hosts.{IsFront}
 use Rattle.sf_serving.specs.Serving.{Progress}
-use Rattle.sf_serving.specs.OnEngine.{Scene, IsEntryOf, IsTold, since_at, ServesLine}
-use Rattle.sf_serving.specs.Alone.{answers_alone, moments_begun, HadMemory, EndsAlone, ServesAlone, supply}
+use Rattle.sf_serving.specs.OnEngine.{IoState, IsEntryOf, IsTold, since_at, ServesLine}
+use Rattle.sf_serving.specs.Alone.{answers_alone, moments_begun, HadMemoryThroughout, EndsAlone, ServesAlone, supply}
 use Rattle.sf_serving.proofs.OneStream.{Reads, one_reading}
 use Rattle.sf_serving.proofs.Reaching.{one_session, answered_alone}
 
@@ -49,7 +49,7 @@ end_more begun bytes more cause none (inl h) =
 end_more begun bytes more cause none (inr h) = inr (ends_more begun bytes more cause h)
 
 -- so the input is read as the session read it
-reads_of : (t : Told) (input : List ℕ) (cause : Cause) → IsWhole t cause → IsFront t.stream input → (cause ≡ Closed → t.stream ≡ input) → Reads false input t.bodies t.answers cause
+reads_of : (t : SessionState) (input : List ℕ) (cause : Cause) → IsWhole t cause → IsFront t.stream input → (cause ≡ Closed → t.stream ≡ input) → Reads false input t.bodies t.answers cause
 reads_of t input cause whole front all =
     let more = front.0 in
     let none : cause ≡ Closed → more ≡ [] = λ c. nothing_more t.stream more (all c ∙ front.1) in
@@ -63,30 +63,30 @@ reads_of t input cause whole front all =
 
 -- ---- two traces
 
-pub two_whole : (input moments : List ℕ) → AreBytes input → (trace trace' : List Entry) (w w' : World) (t t' : Told) (cause cause' : Cause)
+pub two_whole : (input moments : List ℕ) → AreBytes input → (trace trace' : List TraceEntry) (w w' : World) (t t' : SessionState) (cause cause' : Cause)
     → EndsAlone trace w t (supply input moments) cause → EndsAlone trace' w' t' (supply input moments) cause' → (t.bodies ≡ t'.bodies) × (t.answers ≡ t'.answers) × (cause ≡ cause')
 two_whole input moments are trace trace' w w' t t' cause cause' a b =
     let one = one_reading false input t.bodies t'.bodies t.answers t'.answers cause cause' are (reads_of t input cause a.whole a.fed a.all) (reads_of t' input cause' b.whole b.fed b.all) in
     let begun : moments_begun trace ≡ moments_begun trace' = a.begun ∙ sym b.begun in (
       one.0,
       answered_alone trace w t a.tells
-          ∙ ap (λ (m : List ℕ). answers_alone m (map asked_by t.answers)) begun
+          ∙ ap (λ (m : List ℕ). answers_alone m (map ask_behind t.answers)) begun
           ∙ ap (λ (asks : List Ask). answers_alone (moments_begun trace') asks) one.1
           ∙ sym (answered_alone trace' w' t' b.tells),
       one.2,
     )
 
-same_told : (w : World) (s : ℕ) (t u : Told) → IsSession w s t → IsSession w s u → u ≡ t
+same_told : (w : World) (s : ℕ) (t u : SessionState) → IsSession w s t → IsSession w s u → u ≡ t
 same_told w s t u a b = let x : Some u ≡ Some t = sym b.1 ∙ a.1 in cc
 
 -- what an engine sent and has to send
-sent_of : (e : EngineView) (trace : List Entry) (fits : Fits e trace) (t : Told) (output : List ℕ) → IsSession fits.world 1 t → IsSentBy e 1 output → transcript t.answers ≡ t.sent ++ output
+sent_of : (e : EngineView) (trace : List TraceEntry) (fits : Fits e trace) (t : SessionState) (output : List ℕ) → IsSession fits.world 1 t → IsSentBy e 1 output → transcript t.answers ≡ t.sent ++ output
 sent_of e trace fits t output is sent =
     let u = sent trace fits in
     let same : u.0 ≡ t = same_told fits.world 1 t u.0 is u.1 in
-    subst (λ (z : Told). transcript z.answers ≡ z.sent ++ output) same u.2
+    subst (λ (z : SessionState). transcript z.answers ≡ z.sent ++ output) same u.2
 
-pub two_outputs : (input moments : List ℕ) → AreBytes input → (trace trace' : List Entry) (e e' : EngineView) (fits : Fits e trace) (fits' : Fits e' trace') (t t' : Told) (cause cause' : Cause)
+pub two_outputs : (input moments : List ℕ) → AreBytes input → (trace trace' : List TraceEntry) (e e' : EngineView) (fits : Fits e trace) (fits' : Fits e' trace') (t t' : SessionState) (cause cause' : Cause)
     → EndsAlone trace fits.world t (supply input moments) cause → EndsAlone trace' fits'.world t' (supply input moments) cause' → (a b : List ℕ) → IsSentBy e 1 a → IsSentBy e' 1 b → t.sent ++ a ≡ t'.sent ++ b
 two_outputs input moments are trace trace' e e' fits fits' t t' cause cause' x y a b sent sent' =
     let same = (two_whole input moments are trace trace' fits.world fits'.world t t' cause cause' x y).1 in
@@ -108,7 +108,7 @@ read_all now input stream left e is at =
     let none : left ≡ [] = subst (λ (o : Option (List ℕ)). IsAtEnd o) e at in sym (is ∙ ap (λ (b : List ℕ). stream ++ b) none ∙ append-nil stream)
 
 -- a serving is a trace of one session alone
-ends_of : (start now : Scene) (input moments : List ℕ) (cause : Cause) (p : Progress) (a : ServesAlone start now (supply input moments) cause p) → EndsAlone a.tells.entries a.tells.fit.world p.told (supply input moments) cause
+ends_of : (start now : IoState) (input moments : List ℕ) (cause : Cause) (p : Progress) (a : ServesAlone start now (supply input moments) cause p) → EndsAlone a.tells.entries a.tells.fit.world p.told (supply input moments) cause
 ends_of start now input moments cause p a =
     let s = a.tells in
     let first : a.session ≡ 1 = (one_session s.entries s.fit.world a.session p.told s.fit.tells s.fit.legal s.own s.is_session a.memory).0 in
@@ -134,7 +134,7 @@ appended out now before written e h = given now (subst (λ (o : Option (List ℕ
     given None k = absurd k
     given (Some all) k = ap (λ (b : List ℕ). Some b) k
 
-pub two_servings : (input moments : List ℕ) → AreBytes input → (start now start' now' : Scene) (p p' : Progress) (cause cause' : Cause)
+pub two_servings : (input moments : List ℕ) → AreBytes input → (start now start' now' : IoState) (p p' : Progress) (cause cause' : Cause)
     → ServesAlone start now (supply input moments) cause p → ServesAlone start' now' (supply input moments) cause' p' → (p.written ≡ p'.written) × (cause ≡ cause')
     × ((before : List ℕ) → start.line.outgoing ≡ Some before → start'.line.outgoing ≡ Some before → now.line.outgoing ≡ now'.line.outgoing)
 two_servings input moments are start now start' now' p p' cause cause' a b =
@@ -150,9 +150,9 @@ two_servings input moments are start now start' now' p p' cause cause' a b =
     )
 
 -- what a new engine serves is a session alone
-pub line_alone : (start now : Scene) (input : List ℕ) (cause : Cause) (fits : Fits start.engine []) → start.line.incoming ≡ Some input → ServesLine start now cause
+pub line_alone : (start now : IoState) (input : List ℕ) (cause : Cause) (fits : Fits start.engine []) → start.line.incoming ≡ Some input → ServesLine start now cause
     → (session : ℕ) × (p : Progress) × (tells : IsTold (since_at start [] fits) session now.engine now.told p.told)
-    × (HadMemory tells.entries p.told → ServesAlone start now (supply input (moments_begun tells.entries)) cause p)
+    × (HadMemoryThroughout tells.entries p.told → ServesAlone start now (supply input (moments_begun tells.entries)) cause p)
 line_alone start now input cause fits e serves =
     let s = serves [] fits in
     let h = s.1 in (

@@ -6,12 +6,12 @@ use Rattle.std.proofs.lemmas.List.Sums.{sum_by-append}
 use Rattle.sf_line.specs.declared.line_call.LineCall.{LineCall}
 use Rattle.sf_line.specs.declared.line_call.LineCall.TheVariants.{Read, Write}
 use Rattle.sf_line.specs.Lines.{given, taken, bytes_given, bytes_taken}
-use Rattle.sf_engine.specs.Worlds.{Answered, packet_for, transcript}
+use Rattle.sf_engine.specs.Worlds.{Response, packet_for, transcript}
 use Rattle.sf_serving.specs.Hosts.{IsFront}
 use Rattle.sf_serving.specs.Serving.{Progress, IsPromptAt, IsPrompt, IsPiece}
 use Rattle.sf_serving.specs.Rounds.{IsPieceWritten}
 
-pub transcript_append : (answers more : List Answered) → transcript (answers ++ more) ≡ transcript answers ++ transcript more
+pub transcript_append : (answers more : List Response) → transcript (answers ++ more) ≡ transcript answers ++ transcript more
 unfolding transcript
 transcript_append answers more = flat_map-append packet_for answers more
 
@@ -32,7 +32,7 @@ front_same a b e = ([], e ∙ sym (append-nil a))
 pub front_of : {A : Type 0} (a b c : List A) → IsFront a b → IsFront b c → IsFront a c
 front_of a b c f g = front_more a b g.0 c f g.1
 
-pub begun_more : (written : List ℕ) (answers answers' : List Answered) → IsFront written (transcript answers) → IsFront answers answers' → IsFront written (transcript answers')
+pub begun_more : (written : List ℕ) (answers answers' : List Response) → IsFront written (transcript answers) → IsFront answers answers' → IsFront written (transcript answers')
 begun_more written answers answers' begun more =
     front_more written (transcript answers) (transcript more.0) (transcript answers') begun (ap transcript more.1 ∙ transcript_append answers more.0)
 

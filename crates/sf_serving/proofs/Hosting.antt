@@ -11,50 +11,50 @@ use Rattle.sf_engine.specs.declared.event.Happened.{Happened}
 use Rattle.sf_engine.specs.declared.event.Happened.TheVariants as happened
 use Rattle.sf_engine.specs.declared.event.EngineFault.{EngineFault}
 use Rattle.sf_engine.specs.declared.event.EngineFault.TheVariants as fault
-use Rattle.sf_engine.specs.Worlds.{Entry, transcript, Phase, Resting, Told, new_told, World, output_of, is_here, with_told}
+use Rattle.sf_engine.specs.Worlds.{TraceEntry, transcript, Phase, Resting, SessionState, new_state, World, unsent, is_here, with_state}
 use Rattle.sf_engine.specs.Traces.{IsSession, MayRefuse, Leads, fed, sent_more}
 use Rattle.sf_engine.specs.Views.{EngineView}
-use Rattle.sf_engine.specs.Fits.{Fits, GoesOnTrace, IsSentBy, IsUnknown, WantsBytes, WantsBytesBy, entry_of}
+use Rattle.sf_engine.specs.Fits.{Fits, GoesOnTrace, IsSentBy, IsUnknownSession, WantsBytes, WantsBytesBy, trace_entry}
 use Rattle.sf_engine.specs.Laws.{IsRead}
 use Rattle.sf_engine.proofs.Laws.{told_of_none, told_sessions}
 use Rattle.sf_serving.specs.Hosts.{IsOpen, HasSent, IsFurther, Waits, WentTo, with_sent, ended}
 use Rattle.sf_serving.specs.declared.host.Went.{Went}
 use Rattle.sf_serving.specs.declared.host.Went.TheVariants as went
-use Rattle.sf_serving.specs.Serving.{LineView, Progress, Served, Serves, IsStopped, IsStop}
-use Rattle.sf_serving.specs.OnEngine.{moment_of, may_begin_after, AreTimed, IsLow, IsLowAt, RunsLow, Since, since_at, Scene, IsTold, IsToldBy, Turns, Feeds, Applies, HasOutput, HasStoppedAt, open_refusal, MayNotOpen, IsOpenFault, IsServeFault}
+use Rattle.sf_serving.specs.Serving.{LineView, Progress, ServedSoFar, Serves, IsStopped, IsStop}
+use Rattle.sf_serving.specs.OnEngine.{moment_of, may_begin_after, AreTimed, IsLow, IsLowAt, RunsLow, Since, since_at, IoState, IsTold, IsToldBy, Turns, Feeds, Applies, HasOutput, HasStoppedAt, open_refusal, MayNotOpen, IsOpenFault, IsServeFault}
 use Rattle.sf_serving.proofs.Following.{Leading, tells_on, same_told, told_now}
 use Rattle.sf_serving.proofs.Sessions.{whole_left}
 use Rattle.sf_serving.proofs.Turning.{Turned, HasTurn, HasTurned, turned_more, since_first, turns_on}
 
 -- ---- it opens
 
-last_get : (xs : List Told) (v : Told) → slice_get (xs ++ v ∷ []) (length xs) ≡ Some v
+last_get : (xs : List SessionState) (v : SessionState) → slice_get (xs ++ v ∷ []) (length xs) ≡ Some v
 last_get [] v = refl
 last_get (x ∷ xs) v = last_get xs v
 
-opens_low : (session : ℕ) (w : World) (e : Entry) (w' : World) → IsLowAt w session e.event → Leads w e w' → RunsLow session w (e ∷ []) w'
+opens_low : (session : ℕ) (w : World) (e : TraceEntry) (w' : World) → IsLowAt w session e.event → Leads w e w' → RunsLow session w (e ∷ []) w'
 unfolding RunsLow
 opens_low session w e w' low leads = (w', low, leads, refl)
 
-opens_timed : (e : Entry) → moment_of e.event ≡ [] → AreTimed (e ∷ []) []
+opens_timed : (e : TraceEntry) → moment_of e.event ≡ [] → AreTimed (e ∷ []) []
 unfolding AreTimed
 opens_timed e none = ([], [], refl, inl (sym none), refl)
 
-pub opened : (start : Since) (e' : EngineView) (s : ℕ) → GoesOnTrace start.engine event.Open (Ok (happened.Opened s)) e' → IsToldBy 0 start s e' start.told new_told
+pub opened : (start : Since) (e' : EngineView) (s : ℕ) → GoesOnTrace start.engine event.Open (Ok (happened.Opened s)) e' → IsToldBy 0 start s e' start.told new_state
 opened start e' s goes =
     let g = goes start.trace start.fits in
     let n = length start.fits.world.sessions in
     let eq : happened.Opened s ≡ happened.Opened (n + 1) = g.2.0 in
     let num : s ≡ n + 1 = cc in
     let num' : s - 1 ≡ n = omega (arith, num) in
-    let en = entry_of event.Open (Ok (happened.Opened s)) g.0 in
-    let P : World → Type 0 = λ z. IsSession z s new_told in (
+    let en = trace_entry event.Open (Ok (happened.Opened s)) g.0 in
+    let P : World → Type 0 = λ z. IsSession z s new_state in (
       record {
         entries = en ∷ [];
         fit = g.1;
         own = (refl, tt);
         low = opens_low s start.fits.world en g.1.world tt g.2;
-        is_session = subst P (sym g.2.3) (omega (arith, num), ap (λ (k : ℕ). slice_get (start.fits.world.sessions ++ new_told ∷ []) k) num' ∙ last_get start.fits.world.sessions new_told);
+        is_session = subst P (sym g.2.3) (omega (arith, num), ap (λ (k : ℕ). slice_get (start.fits.world.sessions ++ new_state ∷ []) k) num' ∙ last_get start.fits.world.sessions new_state);
         moments = [];
         timed = opens_timed en refl;
         clock = Appends-nil start.told;
@@ -63,7 +63,7 @@ opened start e' s goes =
     )
 
 -- an event that opens a session opened one
-pub opened_only : (e e' : EngineView) (k : Happened) → ((session : ℕ) → k ≡ happened.Opened session → ⊥) → GoesOnTrace e event.Open (Ok k) e' → (trace : List Entry) → Fits e trace → ⊥
+pub opened_only : (e e' : EngineView) (k : Happened) → ((session : ℕ) → k ≡ happened.Opened session → ⊥) → GoesOnTrace e event.Open (Ok k) e' → (trace : List TraceEntry) → Fits e trace → ⊥
 opened_only e e' k other goes trace fits = let g = goes trace fits in other (length fits.world.sessions + 1) g.2.0
 
 -- why none opened
@@ -75,7 +75,7 @@ refused_open e e' fault.Ended goes = tt
 refused_open e e' fault.NumbersSpent goes = λ trace fits. (goes trace fits).2.0.1
 refused_open e e' fault.NotSent goes = tt
 
-pub not_opened : (e : EngineView) (f : ServeFault) → IsOpenFault e f → (trace : List Entry) → (fits : Fits e trace) → MayNotOpen fits.world f
+pub not_opened : (e : EngineView) (f : ServeFault) → IsOpenFault e f → (trace : List TraceEntry) → (fits : Fits e trace) → MayNotOpen fits.world f
 not_opened e serve.Line h = absurd h
 not_opened e serve.OutOfMemory h = λ trace fits. tt
 not_opened e serve.Sessions h = h
@@ -91,28 +91,28 @@ open_fault e serve.NumbersSpent old new h = tt
 
 -- ---- it is fed
 
-fed_leads : (s : ℕ) (t : Told) (bytes : Vec ℕ) (r : Happened) → Leading s t (event.Feed s bytes) (Ok r) (λ t'. t' ≡ fed t bytes.items)
+fed_leads : (s : ℕ) (t : SessionState) (bytes : Vec ℕ) (r : Happened) → Leading s t (event.Feed s bytes) (Ok r) (λ t'. t' ≡ fed t bytes.items)
 fed_leads s t bytes r w w' added session leads =
     let u = leads.2.0 in
     let same : u ≡ t = same_told w s u t leads.2.1 session in
-    let now : w' ≡ with_told w s (fed t bytes.items) [] 0 = leads.2.3 ∙ ap (λ (z : Told). with_told w s (fed z bytes.items) [] 0) same in
+    let now : w' ≡ with_state w s (fed t bytes.items) [] 0 = leads.2.3 ∙ ap (λ (z : SessionState). with_state w s (fed z bytes.items) [] 0) same in
     (fed t bytes.items, subst (λ (z : World). IsSession z s (fed t bytes.items)) (sym now) (told_now w s t (fed t bytes.items) [] 0 session), refl)
 
 -- one event that is no turn
-event_on : (turns : ℕ) (start : Since) (s : ℕ) (e e' : EngineView) (tl : Option (List ℕ)) (t t' : Told) → (T : IsTold start s e tl t) → turns ≤ length T.entries
-    → (u : Told) × (U : IsTold start s e' tl u) × (length U.entries ≡ length T.entries + 1) × (u ≡ t') → IsToldBy turns start s e' tl t'
+event_on : (turns : ℕ) (start : Since) (s : ℕ) (e e' : EngineView) (tl : Option (List ℕ)) (t t' : SessionState) → (T : IsTold start s e tl t) → turns ≤ length T.entries
+    → (u : SessionState) × (U : IsTold start s e' tl u) × (length U.entries ≡ length T.entries + 1) × (u ≡ t') → IsToldBy turns start s e' tl t'
 event_on turns start s e e' tl t t' T few g =
-    let by : IsToldBy turns start s e' tl g.0 = (g.1, omega (arith, few, g.2)) in subst (λ (z : Told). IsToldBy turns start s e' tl z) g.3 by
+    let by : IsToldBy turns start s e' tl g.0 = (g.1, omega (arith, few, g.2)) in subst (λ (z : SessionState). IsToldBy turns start s e' tl z) g.3 by
 
-pub fed_on : (turns : ℕ) (start : Since) (s : ℕ) (e e' : EngineView) (tl : Option (List ℕ)) (t : Told) (bytes : List ℕ) → IsToldBy turns start s e tl t → Feeds e s bytes e' → IsToldBy turns start s e' tl (fed t bytes)
+pub fed_on : (turns : ℕ) (start : Since) (s : ℕ) (e e' : EngineView) (tl : Option (List ℕ)) (t : SessionState) (bytes : List ℕ) → IsToldBy turns start s e tl t → Feeds e s bytes e' → IsToldBy turns start s e' tl (fed t bytes)
 fed_on turns start s e e' tl t bytes T feeds =
-    let to : (u : Told) → u ≡ fed t feeds.0.items → u ≡ fed t bytes = λ u same. same ∙ ap (λ (b : List ℕ). fed t b) feeds.1 in
+    let to : (u : SessionState) → u ≡ fed t feeds.0.items → u ≡ fed t bytes = λ u same. same ∙ ap (λ (b : List ℕ). fed t b) feeds.1 in
     let g = tells_on start s e e' tl tl t (event.Feed s feeds.0) (Ok feeds.2) (λ u. u ≡ fed t feeds.0.items) [] T.0 feeds.3 refl (Appends-nil tl) (λ w w' added is leads. inl refl) (λ w is. tt) (fed_leads s t feeds.0 feeds.2) in
     event_on turns start s e e' tl t (fed t bytes) T.0 T.1 (g.0, g.1, g.2, to g.0 g.3)
 
 -- ---- it is closed
 
-close_not_refused : (w : World) (s : ℕ) (t : Told) (f : EngineFault) → IsSession w s t → MayRefuse w (event.Close s) f → ⊥
+close_not_refused : (w : World) (s : ℕ) (t : SessionState) (f : EngineFault) → IsSession w s t → MayRefuse w (event.Close s) f → ⊥
 close_not_refused w s t fault.OutOfMemory session h = h
 close_not_refused w s t fault.NoSuchSession session h = told_of_none w s t h session
 close_not_refused w s t fault.Sessions session h = h
@@ -120,15 +120,15 @@ close_not_refused w s t fault.Ended session h = h
 close_not_refused w s t fault.NumbersSpent session h = h
 close_not_refused w s t fault.NotSent session h = h
 
-close_leads : (s : ℕ) (t : Told) (r : Result Happened EngineFault) → Leading s t (event.Close s) r (λ t'. t' ≡ ended t)
+close_leads : (s : ℕ) (t : SessionState) (r : Result Happened EngineFault) → Leading s t (event.Close s) r (λ t'. t' ≡ ended t)
 close_leads s t (Ok r) w w' added session leads =
     let u = leads.1.0 in
     let same : u ≡ t = same_told w s u t leads.1.1 session in
-    let now : w' ≡ with_told w s (ended t) added 0 = leads.1.3 ∙ ap (λ (z : Told). with_told w s (ended z) added 0) same in
+    let now : w' ≡ with_state w s (ended t) added 0 = leads.1.3 ∙ ap (λ (z : SessionState). with_state w s (ended z) added 0) same in
     (ended t, subst (λ (z : World). IsSession z s (ended t)) (sym now) (told_now w s t (ended t) added 0 session), refl)
 close_leads s t (Err f) w w' added session leads = absurd (close_not_refused w s t f session leads.0)
 
-pub closed_on : (turns : ℕ) (start : Since) (s : ℕ) (e e' : EngineView) (tl : Option (List ℕ)) (t : Told) → IsToldBy turns start s e tl t → Applies e (event.Close s) e' → IsToldBy turns start s e' tl (ended t)
+pub closed_on : (turns : ℕ) (start : Since) (s : ℕ) (e e' : EngineView) (tl : Option (List ℕ)) (t : SessionState) → IsToldBy turns start s e tl t → Applies e (event.Close s) e' → IsToldBy turns start s e' tl (ended t)
 closed_on turns start s e e' tl t T applies =
     event_on turns start s e e' tl t (ended t) T.0 T.1
     (tells_on start s e e' tl tl t (event.Close s) applies.0 (λ u. u ≡ ended t) [] T.0 applies.1 refl (Appends-nil tl) (λ w w' added is leads. inl refl) (λ w is. tt) (close_leads s t applies.0))
@@ -138,23 +138,23 @@ closed_on turns start s e e' tl t T applies =
 pub output_sent : (e : EngineView) (s : ℕ) (output : List ℕ) → IsSentBy e s output → HasOutput e s output
 output_sent e s output is trace fits t session =
     let h = is trace fits in
-    subst (λ (z : Told). transcript z.answers ≡ z.sent ++ output) (same_told fits.world s h.0 t h.1 session) h.2
+    subst (λ (z : SessionState). transcript z.answers ≡ z.sent ++ output) (same_told fits.world s h.0 t h.1 session) h.2
 
-pub output_unknown : (e : EngineView) (s : ℕ) (output : List ℕ) → IsUnknown e s → HasOutput e s output
+pub output_unknown : (e : EngineView) (s : ℕ) (output : List ℕ) → IsUnknownSession e s → HasOutput e s output
 output_unknown e s output unknown trace fits t session = absurd (told_of_none fits.world s t (unknown trace fits) session)
 
 -- what waits of a session that is served
-pub output_here : (turns : ℕ) (start : Since) (s : ℕ) (e : EngineView) (tl : Option (List ℕ)) (t : Told) (output : List ℕ) → IsToldBy turns start s e tl t → HasOutput e s output → transcript t.answers ≡ t.sent ++ output
+pub output_here : (turns : ℕ) (start : Since) (s : ℕ) (e : EngineView) (tl : Option (List ℕ)) (t : SessionState) (output : List ℕ) → IsToldBy turns start s e tl t → HasOutput e s output → transcript t.answers ≡ t.sent ++ output
 output_here turns start s e tl t output T waits = waits (start.trace ++ T.0.entries) T.0.fit t T.0.is_session
 
 drop_front : (a b : List ℕ) → drop (length a) (a ++ b) ≡ b
 drop_front [] b = refl
 drop_front (x ∷ a) b = drop_front a b
 
-output_is : (t : Told) (output : List ℕ) → transcript t.answers ≡ t.sent ++ output → output_of t ≡ output
+output_is : (t : SessionState) (output : List ℕ) → transcript t.answers ≡ t.sent ++ output → unsent t ≡ output
 output_is t output waits = ap (λ (b : List ℕ). drop (length t.sent) b) waits ∙ drop_front t.sent output
 
-sent_not_refused : (w : World) (s n : ℕ) (t : Told) (f : EngineFault) → IsSession w s t → length (output_of t) ≡ n → MayRefuse w (event.Sent s n) f → ⊥
+sent_not_refused : (w : World) (s n : ℕ) (t : SessionState) (f : EngineFault) → IsSession w s t → length (unsent t) ≡ n → MayRefuse w (event.Sent s n) f → ⊥
 sent_not_refused w s n t fault.OutOfMemory session all h = h
 sent_not_refused w s n t fault.NoSuchSession session all h = told_of_none w s t h session
 sent_not_refused w s n t fault.Sessions session all h = h
@@ -162,26 +162,26 @@ sent_not_refused w s n t fault.Ended session all h = h
 sent_not_refused w s n t fault.NumbersSpent session all h = h
 sent_not_refused w s n t fault.NotSent session all h =
     let same : h.0 ≡ t = same_told w s h.0 t h.1 session in
-    let count : length (output_of h.0) ≡ length (output_of t) = ap (λ (z : Told). length (output_of z)) same in
+    let count : length (unsent h.0) ≡ length (unsent t) = ap (λ (z : SessionState). length (unsent z)) same in
     omega (arith, count, all, h.2)
 
-sent_leads : (s n : ℕ) (t : Told) (output : List ℕ) (r : Result Happened EngineFault) → transcript t.answers ≡ t.sent ++ output → n ≡ length output → Leading s t (event.Sent s n) r (λ t'. t' ≡ with_sent t)
+sent_leads : (s n : ℕ) (t : SessionState) (output : List ℕ) (r : Result Happened EngineFault) → transcript t.answers ≡ t.sent ++ output → n ≡ length output → Leading s t (event.Sent s n) r (λ t'. t' ≡ with_sent t)
 sent_leads s n t output (Ok r) waits count w w' added session leads =
     let u = leads.2.0 in
     let same : u ≡ t = same_told w s u t leads.2.1 session in
     let enough : length output ≤ n = omega (arith, count) in
-    let cut : take n (output_of t) ≡ output = ap (λ (b : List ℕ). take n b) (output_is t output waits) ∙ take_all n output enough in
-    let all : t.sent ++ take n (output_of t) ≡ transcript t.answers = ap (λ (b : List ℕ). t.sent ++ b) cut ∙ sym waits in
-    let now : w' ≡ with_told w s (sent_more t n) [] 0 = leads.2.3 ∙ ap (λ (z : Told). with_told w s (sent_more z n) [] 0) same in (
+    let cut : take n (unsent t) ≡ output = ap (λ (b : List ℕ). take n b) (output_is t output waits) ∙ take_all n output enough in
+    let all : t.sent ++ take n (unsent t) ≡ transcript t.answers = ap (λ (b : List ℕ). t.sent ++ b) cut ∙ sym waits in
+    let now : w' ≡ with_state w s (sent_more t n) [] 0 = leads.2.3 ∙ ap (λ (z : SessionState). with_state w s (sent_more z n) [] 0) same in (
       sent_more t n,
       subst (λ (z : World). IsSession z s (sent_more t n)) (sym now) (told_now w s t (sent_more t n) [] 0 session),
       ap (λ (b : List ℕ). record t { sent = b }) all,
     )
 sent_leads s n t output (Err f) waits count w w' added session leads =
-    let all : length (output_of t) ≡ n = ap (λ (b : List ℕ). length b) (output_is t output waits) ∙ sym count in
+    let all : length (unsent t) ≡ n = ap (λ (b : List ℕ). length b) (output_is t output waits) ∙ sym count in
     absurd (sent_not_refused w s n t f session all leads.0)
 
-pub sent_on : (turns : ℕ) (start : Since) (s n : ℕ) (e e' : EngineView) (tl : Option (List ℕ)) (t : Told) (output : List ℕ) → IsToldBy turns start s e tl t → HasOutput e s output → n ≡ length output → Applies e (event.Sent s n) e'
+pub sent_on : (turns : ℕ) (start : Since) (s n : ℕ) (e e' : EngineView) (tl : Option (List ℕ)) (t : SessionState) (output : List ℕ) → IsToldBy turns start s e tl t → HasOutput e s output → n ≡ length output → Applies e (event.Sent s n) e'
     → IsToldBy turns start s e' tl (with_sent t)
 sent_on turns start s n e e' tl t output T waits count applies =
     event_on turns start s e e' tl t (with_sent t) T.0 T.1
@@ -195,48 +195,48 @@ drop_whole [] = refl
 drop_whole (x ∷ a) = drop_whole a
 
 -- where all was sent, nothing waits
-low_sent : (t : Told) → HasSent t → IsLow t
+low_sent : (t : SessionState) → HasSent t → IsLow t
 low_sent t e =
-    let none : output_of t ≡ [] = ap (λ (b : List ℕ). drop (length t.sent) b) (sym e) ∙ drop_whole t.sent in
-    let zero : length (output_of t) ≡ 0 = ap (λ (b : List ℕ). length b) none in
+    let none : unsent t ≡ [] = ap (λ (b : List ℕ). drop (length t.sent) b) (sym e) ∙ drop_whole t.sent in
+    let zero : length (unsent t) ≡ 0 = ap (λ (b : List ℕ). length b) none in
     omega (arith, zero)
 
-pub low_output : (t : Told) (output : List ℕ) → transcript t.answers ≡ t.sent ++ output → length output < 65536 → IsLow t
-low_output t output waits few = let count : length (output_of t) ≡ length output = ap (λ (b : List ℕ). length b) (output_is t output waits) in omega (arith, count, few)
+pub low_output : (t : SessionState) (output : List ℕ) → transcript t.answers ≡ t.sent ++ output → length output < 65536 → IsLow t
+low_output t output waits few = let count : length (unsent t) ≡ length output = ap (λ (b : List ℕ). length b) (output_is t output waits) in omega (arith, count, few)
 
-here_at : (t : Told) → t.phase ≡ Resting → is_here t ≡ true
+here_at : (t : SessionState) → t.phase ≡ Resting → is_here t ≡ true
 here_at t at = ap (λ (f : Phase). is_here (record t { phase = f })) at
 
-pub open_turn : (t : Told) → IsOpen t → IsLow t → HasTurn true t
+pub open_turn : (t : SessionState) → IsOpen t → IsLow t → HasTurn true t
 open_turn t is_open low = record { takes = (is_open.closed, here_at t is_open.rests); low = low; may = tt }
 
-pub first_turn : (t : Told) → IsOpen t → HasSent t → HasTurn true t
+pub first_turn : (t : SessionState) → IsOpen t → HasSent t → HasTurn true t
 first_turn t is_open sent = open_turn t is_open (low_sent t sent)
 
 -- what is read of a session that is served
-pub read_of : (turns : ℕ) (start : Since) (s : ℕ) (e : EngineView) (tl : Option (List ℕ)) (t : Told) → IsToldBy turns start s e tl t → IsRead t
+pub read_of : (turns : ℕ) (start : Since) (s : ℕ) (e : EngineView) (tl : Option (List ℕ)) (t : SessionState) → IsToldBy turns start s e tl t → IsRead t
 read_of turns start s e tl t T = (told_sessions (start.trace ++ T.0.entries) T.0.fit.world T.0.fit.tells s t T.0.is_session).0
 
-pub further : (turns : ℕ) (start : Since) (s : ℕ) (e : EngineView) (tl : Option (List ℕ)) (t t' : Told) → IsToldBy turns start s e tl t' → Turned t t' → IsFurther t t'
+pub further : (turns : ℕ) (start : Since) (s : ℕ) (e : EngineView) (tl : Option (List ℕ)) (t t' : SessionState) → IsToldBy turns start s e tl t' → Turned t t' → IsFurther t t'
 further turns start s e tl t t' T h = record { stream = h.stream; sent = h.sent; bodies = h.bodies; answers = h.answers; read = read_of turns start s e tl t' T }
 
 -- after a reply nothing is unread but the beginning of a packet
-pub wants_more : (turns : ℕ) (start : Since) (s : ℕ) (e : EngineView) (tl : Option (List ℕ)) (t : Told) → IsToldBy turns start s e tl t → WantsBytesBy e s true → t.closed ≡ false → Waits t
+pub wants_more : (turns : ℕ) (start : Since) (s : ℕ) (e : EngineView) (tl : Option (List ℕ)) (t : SessionState) → IsToldBy turns start s e tl t → WantsBytesBy e s true → t.closed ≡ false → Waits t
 wants_more turns start s e tl t T wants closed =
     let seen = (wants (start.trace ++ T.0.entries) T.0.fit).0 refl in
     let now : WantsBytes t = subst WantsBytes (same_told T.0.fit.world s seen.0 t seen.1 T.0.is_session) seen.2 in
     (record { rests = now.0; closed = closed }, now.1)
 
 -- a turn more
-pub goes_turn : (turns : ℕ) (start : Since) (s s0 : ℕ) (e e' : EngineView) (tl tl' : Option (List ℕ)) (t t1 : Told) (begin : Bool) (r : Result Happened EngineFault) → s ≡ s0 → IsToldBy turns start s0 e tl t1 → Turned t t1 → HasTurn begin t1
-    → Turns s begin tl tl' e r e' → (t2 : Told) × IsToldBy (turns + 1) start s0 e' tl' t2 × Turned t t2 × HasTurned r t t2
+pub goes_turn : (turns : ℕ) (start : Since) (s s0 : ℕ) (e e' : EngineView) (tl tl' : Option (List ℕ)) (t t1 : SessionState) (begin : Bool) (r : Result Happened EngineFault) → s ≡ s0 → IsToldBy turns start s0 e tl t1 → Turned t t1 → HasTurn begin t1
+    → Turns s begin tl tl' e r e' → (t2 : SessionState) × IsToldBy (turns + 1) start s0 e' tl' t2 × Turned t t2 × HasTurned r t t2
 goes_turn turns start s s0 e e' tl tl' t t1 begin r same T turned has by =
     let mine : Turns s0 begin tl tl' e r e' = subst (λ (k : ℕ). Turns k begin tl tl' e r e') same by in
     let g = turns_on start s0 e e' tl tl' t1 begin r T.0 has mine in
     (g.now, (g.tells, omega (arith, T.1, g.more)), turned_more t t1 g.now turned g.turned, since_first r t t1 g.now turned g.has_turned)
 
 -- a session that neither waits for bytes nor has left, and that no reply was written of, may have its next turn
-pub still_turns : (r : Happened) (t t' : Told) → (r ≡ happened.Idle → ⊥) → ((cause : Cause) → r ≡ happened.Ended cause → ⊥) → (r ≡ happened.Wrote → ⊥) → HasTurned (Ok r) t t' → HasTurn (may_begin_after r) t'
+pub still_turns : (r : Happened) (t t' : SessionState) → (r ≡ happened.Idle → ⊥) → ((cause : Cause) → r ≡ happened.Ended cause → ⊥) → (r ≡ happened.Wrote → ⊥) → HasTurned (Ok r) t t' → HasTurn (may_begin_after r) t'
 still_turns happened.Idle t t' idle ended wrote h = absurd (idle refl)
 still_turns (happened.Ended cause) t t' idle ended wrote h = absurd (ended cause refl)
 still_turns happened.Wrote t t' idle ended wrote h = absurd (wrote refl)
@@ -250,40 +250,40 @@ still_turns happened.Closed t t' idle ended wrote h = h
 still_turns happened.Sent t t' idle ended wrote h = h
 
 -- having gone on, it has what its host's contract asks
-abbrev pub Gone : (turns : ℕ) → Since → ℕ → EngineView → Option (List ℕ) → Result Went ServeFault → Told → Type 0
-Gone turns start s e tl r t = (t' : Told) × IsToldBy turns start s e tl t' × IsFurther t t' × WentTo r t t'
+abbrev pub Gone : (turns : ℕ) → Since → ℕ → EngineView → Option (List ℕ) → Result Went ServeFault → SessionState → Type 0
+Gone turns start s e tl r t = (t' : SessionState) × IsToldBy turns start s e tl t' × IsFurther t t' × WentTo r t t'
 
-gone_at : (turns : ℕ) (start : Since) (s s0 : ℕ) (e : EngineView) (tl : Option (List ℕ)) (r : Result Went ServeFault) (t : Told) → s ≡ s0 → (t' : Told) → IsToldBy turns start s0 e tl t' → Turned t t' → WentTo r t t' → Gone turns start s e tl r t
+gone_at : (turns : ℕ) (start : Since) (s s0 : ℕ) (e : EngineView) (tl : Option (List ℕ)) (r : Result Went ServeFault) (t : SessionState) → s ≡ s0 → (t' : SessionState) → IsToldBy turns start s0 e tl t' → Turned t t' → WentTo r t t' → Gone turns start s e tl r t
 gone_at turns start s s0 e tl r t same t' T turned to =
     (t', subst (λ (k : ℕ). IsToldBy turns start k e tl t') (sym same) T, further turns start s0 e tl t t' T turned, to)
 
 -- what a last turn came to
-abbrev pub TurnedBy : (turns : ℕ) → Since → ℕ → EngineView → Option (List ℕ) → Result Happened EngineFault → Told → Type 0
-TurnedBy turns start s e tl r t = (t' : Told) × IsToldBy turns start s e tl t' × Turned t t' × HasTurned r t t'
+abbrev pub TurnedBy : (turns : ℕ) → Since → ℕ → EngineView → Option (List ℕ) → Result Happened EngineFault → SessionState → Type 0
+TurnedBy turns start s e tl r t = (t' : SessionState) × IsToldBy turns start s e tl t' × Turned t t' × HasTurned r t t'
 
-pub gone_refused : (turns : ℕ) (start : Since) (s s0 : ℕ) (e : EngineView) (tl : Option (List ℕ)) (f : EngineFault) (g : ServeFault) (t : Told) → s ≡ s0 → TurnedBy turns start s0 e tl (Err f) t → Gone turns start s e tl (Err g) t
+pub gone_refused : (turns : ℕ) (start : Since) (s s0 : ℕ) (e : EngineView) (tl : Option (List ℕ)) (f : EngineFault) (g : ServeFault) (t : SessionState) → s ≡ s0 → TurnedBy turns start s0 e tl (Err f) t → Gone turns start s e tl (Err g) t
 gone_refused turns start s s0 e tl f g t same h = gone_at turns start s s0 e tl (Err g) t same h.0 h.1 h.2 tt
 
-pub gone_idle : (turns : ℕ) (start : Since) (s s0 : ℕ) (e : EngineView) (tl : Option (List ℕ)) (t : Told) → s ≡ s0 → TurnedBy turns start s0 e tl (Ok happened.Idle) t → Gone turns start s e tl (Ok went.Waits) t
+pub gone_idle : (turns : ℕ) (start : Since) (s s0 : ℕ) (e : EngineView) (tl : Option (List ℕ)) (t : SessionState) → s ≡ s0 → TurnedBy turns start s0 e tl (Ok happened.Idle) t → Gone turns start s e tl (Ok went.Waits) t
 gone_idle turns start s s0 e tl t same h = gone_at turns start s s0 e tl (Ok went.Waits) t same h.0 h.1 h.2 (record { rests = h.3.1; closed = h.3.0.0 }, h.3.2)
 
-pub gone_ended : (turns : ℕ) (start : Since) (s s0 : ℕ) (e : EngineView) (tl : Option (List ℕ)) (cause : Cause) (t : Told) → s ≡ s0 → TurnedBy turns start s0 e tl (Ok (happened.Ended cause)) t → Gone turns start s e tl (Ok (went.Ended cause)) t
+pub gone_ended : (turns : ℕ) (start : Since) (s s0 : ℕ) (e : EngineView) (tl : Option (List ℕ)) (cause : Cause) (t : SessionState) → s ≡ s0 → TurnedBy turns start s0 e tl (Ok (happened.Ended cause)) t → Gone turns start s e tl (Ok (went.Ended cause)) t
 gone_ended turns start s s0 e tl cause t same h =
     gone_at turns start s s0 e tl (Ok (went.Ended cause)) t same h.0 h.1 h.2 (whole_left h.0 cause (read_of turns start s0 e tl h.0 h.1) h.3.0 h.3.1, h.3.1)
 
-pub gone_wants : (turns : ℕ) (start : Since) (s s0 : ℕ) (e : EngineView) (tl : Option (List ℕ)) (t : Told) → s ≡ s0 → WantsBytesBy e s true → TurnedBy turns start s0 e tl (Ok happened.Wrote) t → Gone turns start s e tl (Ok went.Waits) t
+pub gone_wants : (turns : ℕ) (start : Since) (s s0 : ℕ) (e : EngineView) (tl : Option (List ℕ)) (t : SessionState) → s ≡ s0 → WantsBytesBy e s true → TurnedBy turns start s0 e tl (Ok happened.Wrote) t → Gone turns start s e tl (Ok went.Waits) t
 gone_wants turns start s s0 e tl t same wants h =
     gone_at turns start s s0 e tl (Ok went.Waits) t same h.0 h.1 h.2 (wants_more turns start s0 e tl h.0 h.1 (subst (λ (k : ℕ). WantsBytesBy e k true) same wants) h.3.1)
 
-pub gone_wrote : (turns : ℕ) (start : Since) (s s0 : ℕ) (e : EngineView) (tl : Option (List ℕ)) (t : Told) → s ≡ s0 → TurnedBy turns start s0 e tl (Ok happened.Wrote) t → Gone turns start s e tl (Ok went.Answered) t
+pub gone_wrote : (turns : ℕ) (start : Since) (s s0 : ℕ) (e : EngineView) (tl : Option (List ℕ)) (t : SessionState) → s ≡ s0 → TurnedBy turns start s0 e tl (Ok happened.Wrote) t → Gone turns start s e tl (Ok went.Answered) t
 gone_wrote turns start s s0 e tl t same h = gone_at turns start s s0 e tl (Ok went.Answered) t same h.0 h.1 h.2 (record { rests = h.3.0; closed = h.3.1 }, h.3.2)
 
 -- so many turns
-pub gone_spent : (turns : ℕ) (start : Since) (s s0 : ℕ) (e : EngineView) (tl : Option (List ℕ)) (g : ServeFault) (t t' : Told) → s ≡ s0 → IsToldBy turns start s0 e tl t' → Turned t t' → Gone turns start s e tl (Err g) t
+pub gone_spent : (turns : ℕ) (start : Since) (s s0 : ℕ) (e : EngineView) (tl : Option (List ℕ)) (g : ServeFault) (t t' : SessionState) → s ≡ s0 → IsToldBy turns start s0 e tl t' → Turned t t' → Gone turns start s e tl (Err g) t
 gone_spent turns start s s0 e tl g t t' same T turned = gone_at turns start s s0 e tl (Err g) t same t' T turned tt
 
 -- a reply was written, and little waits
-pub low_turn : (turns : ℕ) (start : Since) (s s0 : ℕ) (e : EngineView) (tl : Option (List ℕ)) (t t' : Told) (output : List ℕ) → s ≡ s0 → IsToldBy turns start s0 e tl t' → HasOutput e s output → length output < 65536 → HasTurned (Ok happened.Wrote) t t' → HasTurn true t'
+pub low_turn : (turns : ℕ) (start : Since) (s s0 : ℕ) (e : EngineView) (tl : Option (List ℕ)) (t t' : SessionState) (output : List ℕ) → s ≡ s0 → IsToldBy turns start s0 e tl t' → HasOutput e s output → length output < 65536 → HasTurned (Ok happened.Wrote) t t' → HasTurn true t'
 low_turn turns start s s0 e tl t t' output same T waits few h =
     let mine : HasOutput e s0 output = subst (λ (k : ℕ). HasOutput e k output) same waits in
     open_turn t' (record { rests = h.0; closed = h.1 }) (low_output t' output (output_here turns start s0 e tl t' output T mine) few)
@@ -294,15 +294,15 @@ low_turn turns start s s0 e tl t t' output same T waits few h =
 pub told_alone : (turns : ℕ) (start : Since) (s : ℕ) (e : EngineView) (tl : Option (List ℕ)) (from now : LineView) (P : Progress → Type 0) → Serves (IsToldBy turns start s e tl) from now P → Serves (IsTold start s e tl) from now P
 told_alone turns start s e tl from now P serves = (serves.0, serves.1.0, serves.2, serves.3)
 
-stopped_at : (f : ServeFault) (failed failed' turns : ℕ) (p : Progress) (entries : List Entry) → turns ≤ length entries → IsStop f failed failed' ⊥ → IsStopped f failed failed' turns p → HasStoppedAt f entries p
+stopped_at : (f : ServeFault) (failed failed' turns : ℕ) (p : Progress) (entries : List TraceEntry) → turns ≤ length entries → IsStop f failed failed' ⊥ → IsStopped f failed failed' turns p → HasStoppedAt f entries p
 stopped_at serve.Line failed failed' turns p entries few why h = h.closed
 stopped_at serve.OutOfMemory failed failed' turns p entries few why h = (h.written, h.closed)
 stopped_at serve.Sessions failed failed' turns p entries few why h = absurd why
 stopped_at serve.Stranger failed failed' turns p entries few why h = absurd why
 stopped_at serve.NumbersSpent failed failed' turns p entries few why h = ((h.written, h.closed), elim h.spent [ inl most ↦ inl most | inr most ↦ inr (omega (arith, most, few)) ])
 
-pub stops_so : (start now : Scene) (trace : List Entry) (fits : Fits start.engine trace) (f : ServeFault) (failed failed' turns s : ℕ) → IsStop f failed failed' ⊥ → Serves (IsToldBy turns (since_at start trace fits) s now.engine now.told) start.line now.line (IsStopped f failed failed' turns)
-    → (session : ℕ) × (p : Progress) × (tells : IsTold (since_at start trace fits) session now.engine now.told p.told) × Served start.line now.line p × HasStoppedAt f tells.entries p
+pub stops_so : (start now : IoState) (trace : List TraceEntry) (fits : Fits start.engine trace) (f : ServeFault) (failed failed' turns s : ℕ) → IsStop f failed failed' ⊥ → Serves (IsToldBy turns (since_at start trace fits) s now.engine now.told) start.line now.line (IsStopped f failed failed' turns)
+    → (session : ℕ) × (p : Progress) × (tells : IsTold (since_at start trace fits) session now.engine now.told p.told) × ServedSoFar start.line now.line p × HasStoppedAt f tells.entries p
 stops_so start now trace fits f failed failed' turns s why serves =
     (s, serves.0, serves.1.0, serves.2, stopped_at f failed failed' turns serves.0 serves.1.0.entries serves.1.1 why serves.3)
 

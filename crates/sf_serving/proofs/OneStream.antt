@@ -18,7 +18,7 @@ use Rattle.sf_session.specs.declared.asking.Ask.TheVariants as ask
 use Rattle.sf_session.specs.declared.cause.Cause.{Cause}
 use Rattle.sf_session.specs.Asking.{AsksFor, ask_in}
 use Rattle.sf_session.specs.Sessions.{Begins, BeginsWrong, EndsBy}
-use Rattle.sf_engine.specs.Worlds.{Answered, Version, Locally, ByCall, Refused, asked_by}
+use Rattle.sf_engine.specs.Worlds.{Response, Version, Locally, ByCall, Refused, ask_behind}
 use Rattle.sf_engine.specs.Laws.{AreAsked}
 use Rattle.sf_engine.proofs.Laws.{begun_after, begun_stays, whole_bytes, rest_bytes}
 use Rattle.sf_serving.specs.Ends.{IsEnd}
@@ -103,7 +103,7 @@ same_ask begun bytes body rest body' rest' a b are x y h k =
     (same.0, same.1, one_ask begun body' a b of_body (subst (λ (z : List ℕ). AsksFor begun z a) same.0 h) k)
 
 -- what was answered was no end
-no_end : (a : Answered) (cause : Cause) → asked_by a ≡ ask.End cause → ⊥
+no_end : (a : Response) (cause : Cause) → ask_behind a ≡ ask.End cause → ⊥
 no_end Version cause e = absurd cc
 no_end (Locally id given) cause e = absurd cc
 no_end (ByCall id n q given) cause e = absurd cc
@@ -132,32 +132,32 @@ module _ (begun : Bool) (bytes : List ℕ) (are : AreBytes bytes) where
   one_end a b (inr x) (inr y) = one_end_by a b x y
 
   -- no end stands where a body was answered
-  end_begins : (cause : Cause) (body rest : List ℕ) (a : Answered) → IsEnd begun bytes cause → Begins bytes body rest → AsksFor begun body (asked_by a) → ⊥
+  end_begins : (cause : Cause) (body rest : List ℕ) (a : Response) → IsEnd begun bytes cause → Begins bytes body rest → AsksFor begun body (ask_behind a) → ⊥
   end_begins cause body rest a (inl x) b k = more_begins bytes body rest x.1 b
   end_begins cause body rest a (inr (inl x)) b k = wrong_begins bytes body rest cause x b
-  end_begins cause body rest a (inr (inr x)) b k = no_end a cause (sym (same_ask begun bytes x.0 x.1 body rest (ask.End cause) (asked_by a) are x.2 b x.3 k).2)
+  end_begins cause body rest a (inr (inr x)) b k = no_end a cause (sym (same_ask begun bytes x.0 x.1 body rest (ask.End cause) (ask_behind a) are x.2 b x.3 k).2)
 
 -- ---- one reading
 
 -- The bytes are the packets of these bodies, each answered as it asks for, and an end.
-pub record Reads (begun : Bool) (bytes : List ℕ) (bodies : List (List ℕ)) (answers : List Answered) (cause : Cause) : Type 0 where
+pub record Reads (begun : Bool) (bytes : List ℕ) (bodies : List (List ℕ)) (answers : List Response) (cause : Cause) : Type 0 where
   pub rest : List ℕ
   pub are_bodies : AllByRecursion IsBody bodies
   pub stream : bytes ≡ flat_map packet bodies ++ rest
   pub end : IsEnd (begun_after begun bodies) rest cause
-  pub asked : AreAsked begun bodies (map asked_by answers)
+  pub asked : AreAsked begun bodies (map ask_behind answers)
 
 -- the first body of a reading, and the reading after it
-record First (begun : Bool) (bytes body : List ℕ) (bodies : List (List ℕ)) (answers : List Answered) (cause : Cause) : Type 0 where
+record First (begun : Bool) (bytes body : List ℕ) (bodies : List (List ℕ)) (answers : List Response) (cause : Cause) : Type 0 where
   pub rest : List ℕ
   pub begins : Begins bytes body rest
-  pub answer : Answered
-  pub later : List Answered
+  pub answer : Response
+  pub later : List Response
   pub answers_are : answers ≡ answer ∷ later
-  pub asks : AsksFor begun body (asked_by answer)
+  pub asks : AsksFor begun body (ask_behind answer)
   pub reads : Reads true rest bodies later cause
 
-first_of : (begun : Bool) (bytes body : List ℕ) (bodies : List (List ℕ)) (answers : List Answered) (cause : Cause) → Reads begun bytes (body ∷ bodies) answers cause → First begun bytes body bodies answers cause
+first_of : (begun : Bool) (bytes body : List ℕ) (bodies : List (List ℕ)) (answers : List Response) (cause : Cause) → Reads begun bytes (body ∷ bodies) answers cause → First begun bytes body bodies answers cause
 unfolding AreAsked
 first_of begun bytes body bodies [] cause r = absurd r.asked
 first_of begun bytes body bodies (a ∷ answers) cause r = record {
@@ -177,20 +177,20 @@ first_of begun bytes body bodies (a ∷ answers) cause r = record {
 }
 
 -- a reading of nothing but an end
-end_of : (begun : Bool) (bytes : List ℕ) (answers : List Answered) (cause : Cause) → Reads begun bytes [] answers cause → IsEnd begun bytes cause × (answers ≡ [])
+end_of : (begun : Bool) (bytes : List ℕ) (answers : List Response) (cause : Cause) → Reads begun bytes [] answers cause → IsEnd begun bytes cause × (answers ≡ [])
 unfolding AreAsked
 end_of begun bytes [] cause r = (subst (λ (b : List ℕ). IsEnd begun b cause) (sym r.stream) r.end, refl)
 end_of begun bytes (a ∷ answers) cause r = absurd r.asked
 
-abbrev pub AreOne : (bodies bodies' : List (List ℕ)) → (answers answers' : List Answered) → (cause cause' : Cause) → Type 0
-AreOne bodies bodies' answers answers' cause cause' = (bodies ≡ bodies') × (map asked_by answers ≡ map asked_by answers') × (cause ≡ cause')
+abbrev pub AreOne : (bodies bodies' : List (List ℕ)) → (answers answers' : List Response) → (cause cause' : Cause) → Type 0
+AreOne bodies bodies' answers answers' cause cause' = (bodies ≡ bodies') × (map ask_behind answers ≡ map ask_behind answers') × (cause ≡ cause')
 
-pub one_reading : (begun : Bool) (bytes : List ℕ) (bodies bodies' : List (List ℕ)) (answers answers' : List Answered) (cause cause' : Cause) → AreBytes bytes
+pub one_reading : (begun : Bool) (bytes : List ℕ) (bodies bodies' : List (List ℕ)) (answers answers' : List Response) (cause cause' : Cause) → AreBytes bytes
     → Reads begun bytes bodies answers cause → Reads begun bytes bodies' answers' cause' → AreOne bodies bodies' answers answers' cause cause'
 one_reading begun bytes [] [] answers answers' cause cause' are r s =
     let x = end_of begun bytes answers cause r in
     let y = end_of begun bytes answers' cause' s in
-    (refl, ap (λ (xs : List Answered). map asked_by xs) (x.1 ∙ sym y.1), one_end begun bytes are cause cause' x.0 y.0)
+    (refl, ap (λ (xs : List Response). map ask_behind xs) (x.1 ∙ sym y.1), one_end begun bytes are cause cause' x.0 y.0)
 one_reading begun bytes [] (body' ∷ bodies') answers answers' cause cause' are r s =
     let x = end_of begun bytes answers cause r in
     let y = first_of begun bytes body' bodies' answers' cause' s in
@@ -202,11 +202,11 @@ one_reading begun bytes (body ∷ bodies) [] answers answers' cause cause' are r
 one_reading begun bytes (body ∷ bodies) (body' ∷ bodies') answers answers' cause cause' are r s =
     let x = first_of begun bytes body bodies answers cause r in
     let y = first_of begun bytes body' bodies' answers' cause' s in
-    let same = same_ask begun bytes body x.rest body' y.rest (asked_by x.answer) (asked_by y.answer) are x.begins y.begins x.asks y.asks in
+    let same = same_ask begun bytes body x.rest body' y.rest (ask_behind x.answer) (ask_behind y.answer) are x.begins y.begins x.asks y.asks in
     let later : AreBytes y.rest = rest_bytes body' y.rest (subst AreBytes y.begins.whole are) in
     let rest = one_reading true y.rest bodies bodies' x.later y.later cause cause' later (subst (λ (b : List ℕ). Reads true b bodies x.later cause) same.1 x.reads) y.reads in (
       ap (λ (b : List ℕ). b ∷ bodies) same.0 ∙ ap (λ (bs : List (List ℕ)). body' ∷ bs) rest.0,
-      ap (λ (xs : List Answered). map asked_by xs) x.answers_are ∙ ap (λ (a : Ask). a ∷ map asked_by x.later) same.2
-          ∙ ap (λ (asks : List Ask). asked_by y.answer ∷ asks) rest.1 ∙ ap (λ (xs : List Answered). map asked_by xs) (sym y.answers_are),
+      ap (λ (xs : List Response). map ask_behind xs) x.answers_are ∙ ap (λ (a : Ask). a ∷ map ask_behind x.later) same.2
+          ∙ ap (λ (asks : List Ask). ask_behind y.answer ∷ asks) rest.1 ∙ ap (λ (xs : List Response). map ask_behind xs) (sym y.answers_are),
       rest.2,
     )

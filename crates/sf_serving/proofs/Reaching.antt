@@ -8,10 +8,10 @@ use Rattle.sf_engine.specs.declared.event.Event.TheVariants as event
 use Rattle.sf_engine.specs.declared.event.Happened.{Happened}
 use Rattle.sf_engine.specs.declared.event.Happened.TheVariants as happened
 use Rattle.sf_engine.specs.declared.event.EngineFault.{EngineFault}
-use Rattle.sf_engine.specs.Worlds.{Entry, Answered, asked_by, Phase, Resting, UnderWay, Decided, Gone, Told, new_told, World, start}
-use Rattle.sf_engine.specs.Traces.{IsSession, Happens, LeadsBy, Runs, Tells, order}
+use Rattle.sf_engine.specs.Worlds.{TraceEntry, Response, ask_behind, Phase, Resting, UnderWay, Decided, Gone, SessionState, new_state, World, start}
+use Rattle.sf_engine.specs.Traces.{IsSession, Happens, LeadsBy, Runs, ReachesWorld, order}
 use Rattle.sf_serving.specs.OnEngine.{IsOf, IsEntryOf}
-use Rattle.sf_serving.specs.Alone.{answers_alone, moment_begun, moments_begun, HadMemoryFor, HadMemoryAt, HadMemory, TellsAlone}
+use Rattle.sf_serving.specs.Alone.{answers_alone, moment_begun, moments_begun, HadMemoryFor, HadMemoryAt, HadMemoryThroughout, TellsAlone}
 use Rattle.sf_serving.proofs.Standing.{lone, Stands, Owes, Reaches, from_nothing, leads_on}
 
 all_front : {A : Type 0} (P : A → Type 0) (xs ys : List A) → AllByRecursion P (xs ++ ys) → AllByRecursion P xs
@@ -32,16 +32,16 @@ owes_none h begun (UnderWay id n m q moves) k = elim k.3 [
 owes_none h begun (Decided id n q given) k = inl refl
 owes_none h begun (Gone cause) k = refl
 
-told_last : (h : List Record) (begun : ℕ) (t t' : Told) (w' : World) → w' ≡ lone h begun t → IsSession w' 1 t' → t' ≡ t
+told_last : (h : List Record) (begun : ℕ) (t t' : SessionState) (w' : World) → w' ≡ lone h begun t → IsSession w' 1 t' → t' ≡ t
 told_last h begun t t' w' e is = let same : Some t ≡ Some t' = (subst (λ (z : World). IsSession z 1 t') e is).1 in cc
 
 -- where the session is there, it comes to what it is answered at the end
-pub reaches : (entries : List Entry) (h : List Record) (begun : ℕ) (t : Told) (w' : World) (t' : Told) → Runs (lone h begun t) entries w' → AllByRecursion (IsEntryOf 1) entries
+pub reaches : (entries : List TraceEntry) (h : List Record) (begun : ℕ) (t : SessionState) (w' : World) (t' : SessionState) → Runs (lone h begun t) entries w' → AllByRecursion (IsEntryOf 1) entries
     → Stands t.phase h begun → IsLegal (h ++ order entries) → AllByRecursion HadMemoryFor (order entries) → IsSession w' 1 t' → AllByRecursion HadMemoryAt t'.answers
     → Reaches h begun t (moments_begun entries) t'.answers
 unfolding Runs
 reaches [] h begun t w' t' runs own stands legal heard is had =
-    ([], ap (λ (z : Told). z.answers) (told_last h begun t t' w' runs is) ∙ sym (append-nil t.answers), owes_none h begun t.phase stands)
+    ([], ap (λ (z : SessionState). z.answers) (told_last h begun t t' w' runs is) ∙ sym (append-nil t.answers), owes_none h begun t.phase stands)
 reaches (e ∷ entries) h begun t w' t' runs own stands legal heard is had =
     let on = leads_on h e.added (order entries) begun t runs.0 e.event e.result stands legal (all_front HadMemoryFor e.added (order entries) heard) own.0 runs.1 in
     let runs' : Runs (lone (h ++ e.added) on.count on.told) entries w' = subst (λ (z : World). Runs z entries w') on.world runs.2 in
@@ -51,12 +51,12 @@ reaches (e ∷ entries) h begun t w' t' runs own stands legal heard is had =
 
 -- ---- from the beginning
 
-no_session : (s : ℕ) (t : Told) → IsSession start s t → ⊥
+no_session : (s : ℕ) (t : SessionState) → IsSession start s t → ⊥
 no_session s t is = absurd cc
 
 -- the first session opens, and its number is 1
 opens : (s : ℕ) (w' : World) (added : List Record) (ev : Event) (r : Happened) → IsOf s ev (Ok r) → Happens start ev r added w'
-    → (s ≡ 1) × (w' ≡ lone [] 0 new_told) × (added ≡ []) × (moment_begun ev (Ok r) ≡ [])
+    → (s ≡ 1) × (w' ≡ lone [] 0 new_state) × (added ≡ []) × (moment_begun ev (Ok r) ≡ [])
 opens s w' added event.Open r own g =
     let mine : Ok r ≡ Ok (happened.Opened s) = own in
     let same : r ≡ happened.Opened s = cc in
@@ -68,27 +68,27 @@ opens s w' added (event.Close x) r own g = absurd (no_session x g.1.0 g.1.1)
 opens s w' added (event.Sent x n) r own g = absurd (no_session x g.2.0 g.2.1)
 
 first : (s : ℕ) (w' : World) (added : List Record) (ev : Event) (result : Result Happened EngineFault) → IsOf s ev result → LeadsBy start ev result added w'
-    → ((w' ≡ start) × (added ≡ []) × (moment_begun ev result ≡ [])) ⊎ ((s ≡ 1) × (w' ≡ lone [] 0 new_told) × (added ≡ []) × (moment_begun ev result ≡ []))
+    → ((w' ≡ start) × (added ≡ []) × (moment_begun ev result ≡ [])) ⊎ ((s ≡ 1) × (w' ≡ lone [] 0 new_state) × (added ≡ []) × (moment_begun ev result ≡ []))
 first s w' added ev (Ok r) own g = inr (opens s w' added ev r own g)
 first s w' added ev (Err fault) own g = inl (g.2, g.1, refl)
 
 -- what is so of a session alone at the end
-abbrev pub Comes : ℕ → List ℕ → Told → Type 0
-Comes s moments t = (s ≡ 1) × (t.answers ≡ answers_alone moments (map asked_by t.answers))
+abbrev pub Comes : ℕ → List ℕ → SessionState → Type 0
+Comes s moments t = (s ≡ 1) × (t.answers ≡ answers_alone moments (map ask_behind t.answers))
 
-module _ (s : ℕ) (w' : World) (t' : Told) (is : IsSession w' s t') (had : AllByRecursion HadMemoryAt t'.answers) where
-  opened : (w : World) (added : List Record) (entries : List Entry) (now : List ℕ) → (s ≡ 1) × (w ≡ lone [] 0 new_told) × (added ≡ []) × (now ≡ [])
+module _ (s : ℕ) (w' : World) (t' : SessionState) (is : IsSession w' s t') (had : AllByRecursion HadMemoryAt t'.answers) where
+  opened : (w : World) (added : List Record) (entries : List TraceEntry) (now : List ℕ) → (s ≡ 1) × (w ≡ lone [] 0 new_state) × (added ≡ []) × (now ≡ [])
       → Runs w entries w' → AllByRecursion (IsEntryOf s) entries → IsLegal (added ++ order entries) → AllByRecursion HadMemoryFor (added ++ order entries) → Comes s (now ++ moments_begun entries) t'
   unfolding replay
   opened w added entries now new runs own legal heard =
-      let r = reaches entries [] 0 new_told w' t' (subst (λ (z : World). Runs z entries w') new.1 runs) (subst (λ (n : ℕ). AllByRecursion (IsEntryOf n) entries) new.0 own) tt
+      let r = reaches entries [] 0 new_state w' t' (subst (λ (z : World). Runs z entries w') new.1 runs) (subst (λ (n : ℕ). AllByRecursion (IsEntryOf n) entries) new.0 own) tt
       (subst (λ (xs : List Record). IsLegal (xs ++ order entries)) new.2 legal) (subst (λ (xs : List Record). AllByRecursion HadMemoryFor (xs ++ order entries)) new.2 heard)
       (subst (λ (n : ℕ). IsSession w' n t') new.0 is) had in
-      let answers : t'.answers ≡ answers_alone (moments_begun entries) (map asked_by t'.answers) =
-      subst (λ (xs : List Answered). xs ≡ answers_alone (moments_begun entries) (map asked_by xs)) (sym r.1) r.2 in
-      (new.0, subst (λ (m : List ℕ). t'.answers ≡ answers_alone (m ++ moments_begun entries) (map asked_by t'.answers)) (sym new.3) answers)
+      let answers : t'.answers ≡ answers_alone (moments_begun entries) (map ask_behind t'.answers) =
+      subst (λ (xs : List Response). xs ≡ answers_alone (moments_begun entries) (map ask_behind xs)) (sym r.1) r.2 in
+      (new.0, subst (λ (m : List ℕ). t'.answers ≡ answers_alone (m ++ moments_begun entries) (map ask_behind t'.answers)) (sym new.3) answers)
 
-  comes : (entries : List Entry) → Runs start entries w' → AllByRecursion (IsEntryOf s) entries → IsLegal (order entries) → AllByRecursion HadMemoryFor (order entries) → Comes s (moments_begun entries) t'
+  comes : (entries : List TraceEntry) → Runs start entries w' → AllByRecursion (IsEntryOf s) entries → IsLegal (order entries) → AllByRecursion HadMemoryFor (order entries) → Comes s (moments_begun entries) t'
   unfolding Runs
   comes [] runs own legal heard = absurd (no_session s t' (subst (λ (z : World). IsSession z s t') runs is))
   comes (e ∷ entries) runs own legal heard = elim (first s runs.0 e.added e.event e.result own.0 runs.1) [
@@ -101,9 +101,9 @@ module _ (s : ℕ) (w' : World) (t' : Told) (is : IsSession w' s t') (had : AllB
   ]
 
 -- the session that is alone is the first, and one tree answers it
-pub one_session : (trace : List Entry) (w : World) (s : ℕ) (t : Told) → Tells trace w → IsLegal (order trace) → AllByRecursion (IsEntryOf s) trace → IsSession w s t → HadMemory trace t
+pub one_session : (trace : List TraceEntry) (w : World) (s : ℕ) (t : SessionState) → ReachesWorld trace w → IsLegal (order trace) → AllByRecursion (IsEntryOf s) trace → IsSession w s t → HadMemoryThroughout trace t
     → Comes s (moments_begun trace) t
 one_session trace w s t tells legal own is had = comes s w t is had.1 trace tells own legal had.0
 
-pub answered_alone : (trace : List Entry) (w : World) (t : Told) → TellsAlone trace w t → t.answers ≡ answers_alone (moments_begun trace) (map asked_by t.answers)
+pub answered_alone : (trace : List TraceEntry) (w : World) (t : SessionState) → TellsAlone trace w t → t.answers ≡ answers_alone (moments_begun trace) (map ask_behind t.answers)
 answered_alone trace w t a = (one_session trace w 1 t a.tells a.legal a.alone a.is_session a.memory).1

@@ -12,26 +12,26 @@ use Rattle.sf_session.specs.declared.cause.Cause.{Cause}
 use Rattle.sf_session.specs.declared.cause.Cause.TheVariants.{Closed}
 use Rattle.sf_session.specs.declared.fault.ServeFault.{ServeFault}
 use Rattle.sf_session.specs.declared.fault.ServeFault.TheVariants as serve
-use Rattle.sf_engine.specs.Worlds.{transcript, Told, new_told}
+use Rattle.sf_engine.specs.Worlds.{transcript, SessionState, new_state}
 use Rattle.sf_engine.specs.Traces.{fed}
 use Rattle.sf_engine.specs.Laws.{IsRead}
 use Rattle.sf_serving.specs.declared.host.Went.{Went}
 use Rattle.sf_serving.specs.declared.host.Went.TheVariants as went
 use Rattle.sf_serving.specs.Ends.{IsWhole}
 use Rattle.sf_serving.specs.Hosts.{most_counted, IsOpen, HasSent, Waits, IsFurther, WentTo, with_sent, ended, IsHostFault}
-use Rattle.sf_serving.specs.Serving.{LineView, line_view, Progress, progress, Served, Serves, IsInStep, GoesOn, Rests, IsServed, HasWritten, HasWrittenFor, IsSpentFor, IsStopped, IsStop}
-use Rattle.sf_serving.specs.Rounds.{IsPieceWritten, Writes, all_sent, SendsAll, SendsSome, Ends, Stops, HasStopped}
+use Rattle.sf_serving.specs.Serving.{LineView, line_view, Progress, progress, ServedSoFar, Serves, IsInStep, GoesOn, Rests, IsServed, HasWritten, HasWrittenFor, IsSpentFor, IsStopped, IsStop}
+use Rattle.sf_serving.specs.Rounds.{IsPieceWritten, WritesByPieces, all_sent, SendsAll, SendsSome, EndsByCause, Stops, HasStopped}
 use Rattle.sf_serving.proofs.Fronts.{none_written, taken_more, all_more}
 use Rattle.sf_serving.proofs.Sessions.{newly, further_serves, fed_serves, read_serves, still_serves, ended_serves, ended_same, ended_none, closed_whole, gone_whole, sent_whole, long_answers}
 
 -- ---- writes
 
-pub writes_none : (l : LineView) → Writes l l []
+pub writes_none : (l : LineView) → WritesByPieces l l []
 writes_none l = record { incoming = refl; appended = Appends-nil l.outgoing; writes = []; logged = logs_none l.calls; pieces = tt; took = refl }
 
 -- a piece more
-pub writes_some : (a b : LineView) (i' o' : Option (List ℕ)) (c' : Option (List LineCall)) (n : ℕ) (sent rest : List ℕ) → Writes a b sent → i' ≡ b.incoming → Appends b.outgoing o' (take n rest) → Logs b.calls c' (Write n ∷ []) → n ≤ 65536 → n ≤ length rest
-    → Writes a (line_view i' o' c') (sent ++ take n rest)
+pub writes_some : (a b : LineView) (i' o' : Option (List ℕ)) (c' : Option (List LineCall)) (n : ℕ) (sent rest : List ℕ) → WritesByPieces a b sent → i' ≡ b.incoming → Appends b.outgoing o' (take n rest) → Logs b.calls c' (Write n ∷ []) → n ≤ 65536 → n ≤ length rest
+    → WritesByPieces a (line_view i' o' c') (sent ++ take n rest)
 writes_some a b i' o' c' n sent rest w same appends logs short within =
     let one : taken (Write n ∷ []) ≡ n = omega arith in
     record {
@@ -44,7 +44,7 @@ writes_some a b i' o' c' n sent rest w same appends logs short within =
     }
 
 -- a write that failed
-pub writes_still : (a b : LineView) (i' o' : Option (List ℕ)) (c' : Option (List LineCall)) (sent : List ℕ) → Writes a b sent → i' ≡ b.incoming → Keeps b.outgoing o' → Logs b.calls c' [] → Writes a (line_view i' o' c') sent
+pub writes_still : (a b : LineView) (i' o' : Option (List ℕ)) (c' : Option (List LineCall)) (sent : List ℕ) → WritesByPieces a b sent → i' ≡ b.incoming → Keeps b.outgoing o' → Logs b.calls c' [] → WritesByPieces a (line_view i' o' c') sent
 writes_still a b i' o' c' sent w same kept logs = record {
   incoming = same ∙ w.incoming;
   appended = Appends-kept a.outgoing b.outgoing o' sent w.appended kept;
@@ -72,10 +72,10 @@ empty_of : (xs : List ℕ) → length xs ≡ 0 → xs ≡ []
 empty_of [] e = refl
 empty_of (x ∷ xs) e = absurd (omega (arith, e))
 
-pub writes_all : (a b : LineView) (bytes sent rest : List ℕ) → bytes ≡ sent ++ rest → length rest ≡ 0 → Writes a b sent → Writes a b bytes
+pub writes_all : (a b : LineView) (bytes sent rest : List ℕ) → bytes ≡ sent ++ rest → length rest ≡ 0 → WritesByPieces a b sent → WritesByPieces a b bytes
 writes_all a b bytes sent rest whole none w =
     let same : sent ≡ bytes = sym (whole ∙ ap (λ (xs : List ℕ). sent ++ xs) (empty_of rest none) ∙ append-nil sent) in
-    subst (λ (xs : List ℕ). Writes a b xs) same w
+    subst (λ (xs : List ℕ). WritesByPieces a b xs) same w
 
 -- ---- faults
 
@@ -133,11 +133,11 @@ host_spent serve.NumbersSpent w s p h = inr h
 -- ---- the session goes on
 
 -- what its host makes of what it was told, having gone on
-abbrev pub Goes : (T T' : Told → Type 0) → Result Went ServeFault → Type 0
-Goes T T' r = (t : Told) → T t → IsOpen t → IsRead t → HasSent t → (t' : Told) × T' t' × IsFurther t t' × WentTo r t t'
+abbrev pub Goes : (T T' : SessionState → Type 0) → Result Went ServeFault → Type 0
+Goes T T' r = (t : SessionState) → T t → IsOpen t → IsRead t → HasSent t → (t' : SessionState) × T' t' × IsFurther t t' × WentTo r t t'
 
 -- so many answers were there before
-abbrev pub GoneTo : ℕ → Result Went ServeFault → Told → Type 0
+abbrev pub GoneTo : ℕ → Result Went ServeFault → SessionState → Type 0
 GoneTo k (Ok went.Waits) t = Waits t
 GoneTo k (Ok went.Answered) t = IsOpen t × (k < length t.answers)
 GoneTo k (Ok (went.Ended cause)) t = IsWhole t cause × (cause ≢ Closed)
@@ -153,13 +153,13 @@ pub record HasGone (n k : ℕ) (r : Result Went ServeFault) (p : Progress) : Typ
 abbrev pub GoesOnBy : ℕ → ℕ → Progress → Type 0
 GoesOnBy n k p = GoesOn n p × (k ≤ length p.told.answers)
 
-gone_to : (k : ℕ) (r : Result Went ServeFault) (t t' : Told) → k ≤ length t.answers → WentTo r t t' → GoneTo k r t'
+gone_to : (k : ℕ) (r : Result Went ServeFault) (t t' : SessionState) → k ≤ length t.answers → WentTo r t t' → GoneTo k r t'
 gone_to k (Ok went.Waits) t t' few to = to
 gone_to k (Ok went.Answered) t t' few to = (to.0, omega (arith, few, to.1))
 gone_to k (Ok (went.Ended cause)) t t' few to = to
 gone_to k (Err f) t t' few to = tt
 
-pub gone : (T T' : Told → Type 0) (from now : LineView) (n k : ℕ) (r : Result Went ServeFault) → Goes T T' r → Serves T from now (GoesOnBy n k) → Serves T' from now (HasGone n k r)
+pub gone : (T T' : SessionState → Type 0) (from now : LineView) (n k : ℕ) (r : Result Went ServeFault) → Goes T T' r → Serves T from now (GoesOnBy n k) → Serves T' from now (HasGone n k r)
 gone T T' from now n k r goes serves =
     let p = serves.0 in
     let on = serves.3.0 in
@@ -176,16 +176,16 @@ gone T T' from now n k r goes serves =
       },
     )
 
-pub gone_stops : (T : Told → Type 0) (from now : LineView) (n k w : ℕ) (s : Type 0) (f : ServeFault) → IsHostFault f w s → Serves T from now (HasGone n k (Err f)) → Serves T from now (Stops f w)
+pub gone_stops : (T : SessionState → Type 0) (from now : LineView) (n k w : ℕ) (s : Type 0) (f : ServeFault) → IsHostFault f w s → Serves T from now (HasGone n k (Err f)) → Serves T from now (Stops f w)
 gone_stops T from now n k w s f why serves = (serves.0, serves.1, serves.2, ((λ no. serves.3.in_step), host_spent f w s serves.0 why))
 
 -- what waited was sent
 abbrev pub SentGone : ℕ → ℕ → Option (List ℕ) → Went → Progress → Type 0
 SentGone n k incoming went.Waits p = Rests n p
 SentGone n k incoming went.Answered p = GoesOnBy n (k + 1) p
-SentGone n k incoming (went.Ended cause) p = Ends incoming cause p
+SentGone n k incoming (went.Ended cause) p = EndsByCause incoming cause p
 
-open_sent : (t : Told) → IsOpen t → IsOpen (with_sent t)
+open_sent : (t : SessionState) → IsOpen t → IsOpen (with_sent t)
 open_sent t h = record { rests = h.rests; closed = h.closed }
 
 goes_sent : (n : ℕ) (p : Progress) → p.unfed ≡ [] → n ≤ length p.told.stream → IsOpen p.told → GoesOn n (all_sent p)
@@ -202,21 +202,21 @@ sent_gone n k incoming (went.Ended cause) p h = record {
   at_end = λ e. absurd (h.to.1 e);
 }
 
-pub gone_sent : (T T' : Told → Type 0) (from old new : LineView) (n k : ℕ) (incoming : Option (List ℕ)) (r : Went) → SendsAll T T' old new → Serves T from old (HasGone n k (Ok r)) → Serves T' from new (SentGone n k incoming r)
+pub gone_sent : (T T' : SessionState → Type 0) (from old new : LineView) (n k : ℕ) (incoming : Option (List ℕ)) (r : Went) → SendsAll T T' old new → Serves T from old (HasGone n k (Ok r)) → Serves T' from new (SentGone n k incoming r)
 gone_sent T T' from old new n k incoming r sends serves =
     let p = serves.0 in
     let s = sends from p serves.1 serves.2 serves.3.in_step in
     (all_sent p, s.0, s.1, sent_gone n k incoming r p serves.3)
 
 -- the line failed
-pub gone_fails : (T T' : Told → Type 0) (from old new : LineView) (n k w : ℕ) (r : Result Went ServeFault) → ((t : Told) → T t → T' t) → SendsSome T old new → Serves T from old (HasGone n k r) → Serves T' from new (Stops serve.Line w)
+pub gone_fails : (T T' : SessionState → Type 0) (from old new : LineView) (n k w : ℕ) (r : Result Went ServeFault) → ((t : SessionState) → T t → T' t) → SendsSome T old new → Serves T from old (HasGone n k r) → Serves T' from new (Stops serve.Line w)
 gone_fails T T' from old new n k w r to sends serves =
     let p = serves.0 in
     let s = sends from p serves.1 serves.2 serves.3.in_step in
     (progress p.told p.unfed s.0, to p.told serves.1, s.1, ((λ no. absurd (no refl)), tt))
 
 -- so many answers that as many bytes were read
-pub goes_spent : (T : Told → Type 0) (from now : LineView) (n k w : ℕ) → most_counted ≤ k → Serves T from now (GoesOnBy n k) → Serves T from now (Stops serve.NumbersSpent w)
+pub goes_spent : (T : SessionState → Type 0) (from now : LineView) (n k w : ℕ) → most_counted ≤ k → Serves T from now (GoesOnBy n k) → Serves T from now (Stops serve.NumbersSpent w)
 goes_spent T from now n k w most serves =
     let p = serves.0 in
     let long : length p.told.answers ≤ length p.told.stream = long_answers p.told serves.3.0.is_open.rests serves.2.bodies in
@@ -232,7 +232,7 @@ pub record HasRead (n : ℕ) (bytes : List ℕ) (p : Progress) : Type 0 where
   pub in_step : IsInStep p
   pub long : n ≤ length p.told.stream
 
-pub has_read : (T : Told → Type 0) (from now : LineView) (i' o' : Option (List ℕ)) (c' : Option (List LineCall)) (n k : ℕ) (bytes : List ℕ) → Serves T from now (Rests n) → Consumes now.incoming i' bytes → length bytes ≡ k → k ≤ 65536 → o' ≡ now.outgoing
+pub has_read : (T : SessionState → Type 0) (from now : LineView) (i' o' : Option (List ℕ)) (c' : Option (List LineCall)) (n k : ℕ) (bytes : List ℕ) → Serves T from now (Rests n) → Consumes now.incoming i' bytes → length bytes ≡ k → k ≤ 65536 → o' ≡ now.outgoing
     → Logs now.calls c' (Read k ∷ []) → Serves T from (line_view i' o' c') (HasRead n bytes)
 has_read T from now i' o' c' n k bytes serves consumes count short same logs =
     let p = serves.0 in
@@ -243,11 +243,11 @@ has_read T from now i' o' c' n k bytes serves consumes count short same logs =
       record { is_open = on.is_open; unfed = refl; sent = on.sent; in_step = on.in_step; long = on.long },
     )
 
-pub has_fed : (T T' : Told → Type 0) (from now : LineView) (n : ℕ) (bytes : List ℕ) → 0 < length bytes → ((t : Told) → T t → IsOpen t → T' (fed t bytes)) → Serves T from now (HasRead n bytes) → Serves T' from now (GoesOn (n + 1))
+pub has_fed : (T T' : SessionState → Type 0) (from now : LineView) (n : ℕ) (bytes : List ℕ) → 0 < length bytes → ((t : SessionState) → T t → IsOpen t → T' (fed t bytes)) → Serves T from now (HasRead n bytes) → Serves T' from now (GoesOn (n + 1))
 has_fed T T' from now n bytes some feeds serves =
     let p = serves.0 in
     let read = serves.3 in
-    let S : Served from now (progress p.told bytes p.written) = subst (λ (b : List ℕ). Served from now (progress p.told b p.written)) read.unfed serves.2 in (
+    let S : ServedSoFar from now (progress p.told bytes p.written) = subst (λ (b : List ℕ). ServedSoFar from now (progress p.told b p.written)) read.unfed serves.2 in (
       progress (fed p.told bytes) [] p.written,
       feeds p.told serves.1 read.is_open,
       fed_serves from now p.told bytes p.written S read.is_open,
@@ -260,16 +260,16 @@ has_fed T T' from now n bytes some feeds serves =
       },
     )
 
-pub read_stops : (T T' : Told → Type 0) (from now : LineView) (n w : ℕ) (bytes : List ℕ) → ((t : Told) → T t → T' t) → Serves T from now (HasRead n bytes) → Serves T' from now (Stops serve.OutOfMemory w)
+pub read_stops : (T T' : SessionState → Type 0) (from now : LineView) (n w : ℕ) (bytes : List ℕ) → ((t : SessionState) → T t → T' t) → Serves T from now (HasRead n bytes) → Serves T' from now (Stops serve.OutOfMemory w)
 read_stops T T' from now n w bytes to serves = (serves.0, to serves.0.told serves.1, serves.2, ((λ no. serves.3.in_step), tt))
 
-pub rest_stops : (T : Told → Type 0) (from now : LineView) (n w : ℕ) (i' o' : Option (List ℕ)) (c' : Option (List LineCall)) → Serves T from now (Rests n) → Keeps now.incoming i' → o' ≡ now.outgoing → Logs now.calls c' [] → Serves T from (line_view i' o' c') (Stops serve.Line w)
+pub rest_stops : (T : SessionState → Type 0) (from now : LineView) (n w : ℕ) (i' o' : Option (List ℕ)) (c' : Option (List LineCall)) → Serves T from now (Rests n) → Keeps now.incoming i' → o' ≡ now.outgoing → Logs now.calls c' [] → Serves T from (line_view i' o' c') (Stops serve.Line w)
 rest_stops T from now n w i' o' c' serves kept same logs =
     (serves.0, serves.1, still_serves from now i' o' c' serves.0 serves.2 kept same logs, ((λ no. absurd (no refl)), tt))
 
 -- the end of the input
-pub read_none : (T : Told → Type 0) (from now : LineView) (i' o' : Option (List ℕ)) (c' : Option (List LineCall)) (n k : ℕ) (buffer : List ℕ) → Serves T from now (Rests n) → k ≡ 0 → Consumes now.incoming i' (take k buffer) → o' ≡ now.outgoing
-    → Logs now.calls c' (Read k ∷ []) → IsAtEnd i' → Serves T from (line_view i' o' c') (Ends i' Closed)
+pub read_none : (T : SessionState → Type 0) (from now : LineView) (i' o' : Option (List ℕ)) (c' : Option (List LineCall)) (n k : ℕ) (buffer : List ℕ) → Serves T from now (Rests n) → k ≡ 0 → Consumes now.incoming i' (take k buffer) → o' ≡ now.outgoing
+    → Logs now.calls c' (Read k ∷ []) → IsAtEnd i' → Serves T from (line_view i' o' c') (EndsByCause i' Closed)
 read_none T from now i' o' c' n k buffer serves none consumes same logs at_end =
     let empty : take k buffer ≡ [] = ap (λ (x : ℕ). take x buffer) none in
     let nothing : Consumes now.incoming i' [] = subst (λ (b : List ℕ). Consumes now.incoming i' b) empty consumes in
@@ -281,22 +281,22 @@ read_none T from now i' o' c' n k buffer serves none consumes same logs at_end =
       record { fed = refl; whole = closed_whole p.told serves.2.bodies serves.3.1; sent = serves.3.0.sent; in_step = serves.3.0.in_step; at_end = λ e. at_end },
     )
 
-pub rounds_spent : (T : Told → Type 0) (from now : LineView) (n w : ℕ) → most_counted ≤ n → Serves T from now (Rests n) → Serves T from now (Stops serve.NumbersSpent w)
+pub rounds_spent : (T : SessionState → Type 0) (from now : LineView) (n w : ℕ) → most_counted ≤ n → Serves T from now (Rests n) → Serves T from now (Stops serve.NumbersSpent w)
 rounds_spent T from now n w most serves =
     (serves.0, serves.1, serves.2, ((λ no. serves.3.0.in_step), inl (omega (arith, most, serves.3.0.long))))
 
 -- ---- serving stops
 
-pub last_line : (T : Told → Type 0) (from now : LineView) (w : ℕ) → Serves T from now (Stops serve.Line w) → Serves T from now (HasStopped serve.Line w)
+pub last_line : (T : SessionState → Type 0) (from now : LineView) (w : ℕ) → Serves T from now (Stops serve.Line w) → Serves T from now (HasStopped serve.Line w)
 last_line T from now w serves = (serves.0, serves.1, serves.2, ((λ no. absurd (no refl)), tt))
 
-pub last_sent : (T T' : Told → Type 0) (from old new : LineView) (f : ServeFault) (w w' : ℕ) → f ≢ serve.Line → SendsAll T T' old new → w' ≡ w → Serves T from old (Stops f w) → Serves T' from new (HasStopped f w')
+pub last_sent : (T T' : SessionState → Type 0) (from old new : LineView) (f : ServeFault) (w w' : ℕ) → f ≢ serve.Line → SendsAll T T' old new → w' ≡ w → Serves T from old (Stops f w) → Serves T' from new (HasStopped f w')
 last_sent T T' from old new f w w' other sends same serves =
     let p = serves.0 in
     let s = sends from p serves.1 serves.2 (serves.3.0 other) in
     (all_sent p, s.0, s.1, ((λ no. (refl, refl)), spent_for f w w' p (all_sent p) same refl serves.3.1))
 
-pub last_fails : (T T' : Told → Type 0) (from old new : LineView) (f : ServeFault) (w w' : ℕ) → f ≢ serve.Line → ((t : Told) → T t → T' t) → SendsSome T old new → Serves T from old (Stops f w) → Serves T' from new (HasStopped serve.Line w')
+pub last_fails : (T T' : SessionState → Type 0) (from old new : LineView) (f : ServeFault) (w w' : ℕ) → f ≢ serve.Line → ((t : SessionState) → T t → T' t) → SendsSome T old new → Serves T from old (Stops f w) → Serves T' from new (HasStopped serve.Line w')
 last_fails T T' from old new f w w' other to sends serves =
     let p = serves.0 in
     let s = sends from p serves.1 serves.2 (serves.3.0 other) in
@@ -324,7 +324,7 @@ strange_for serve.Sessions failed failed' s p why h = absurd why
 strange_for serve.Stranger failed failed' s p why h = inr (h (λ e. let no : serve.Stranger ≡ serve.Line = e in cc))
 strange_for serve.NumbersSpent failed failed' s p why h = inr (h (λ e. let no : serve.NumbersSpent ≡ serve.Line = e in cc))
 
-pub stops_ended : (T T' : Told → Type 0) (from now : LineView) (f : ServeFault) (failed failed' w w' : ℕ) (s : Type 0) → ((t : Told) → T t → T' (ended t)) → w' ≡ w → IsStop f failed failed' s → Serves T from now (HasStopped f w)
+pub stops_ended : (T T' : SessionState → Type 0) (from now : LineView) (f : ServeFault) (failed failed' w w' : ℕ) (s : Type 0) → ((t : SessionState) → T t → T' (ended t)) → w' ≡ w → IsStop f failed failed' s → Serves T from now (HasStopped f w)
     → Serves T' from now (IsStopped f failed failed' w')
 stops_ended T T' from now f failed failed' w w' s ends same why serves =
     let p = serves.0 in
@@ -336,7 +336,7 @@ stops_ended T T' from now f failed failed' w w' s ends same why serves =
     )
 
 -- the core doesn't know the session
-pub stops_strange : (T T' : Told → Type 0) (from now : LineView) (f g : ServeFault) (failed failed' w w' : ℕ) (s : Type 0) → g ≡ serve.Stranger → ((t : Told) → T t → T' (ended t)) → IsStop f failed failed' s → Serves T from now (HasStopped f w)
+pub stops_strange : (T T' : SessionState → Type 0) (from now : LineView) (f g : ServeFault) (failed failed' w w' : ℕ) (s : Type 0) → g ≡ serve.Stranger → ((t : SessionState) → T t → T' (ended t)) → IsStop f failed failed' s → Serves T from now (HasStopped f w)
     → Serves T' from now (IsStopped g failed failed' w')
 stops_strange T T' from now f g failed failed' w w' s is ends why serves =
     let p = serves.0 in
@@ -348,7 +348,7 @@ stops_strange T T' from now f g failed failed' w w' s is ends why serves =
       subst (λ (x : ServeFault). IsStopped x failed failed' w' p') (sym is) stopped,
     )
 
-pub ends_served : (T T' : Told → Type 0) (from now : LineView) (incoming : Option (List ℕ)) (cause : Cause) → ((t : Told) → T t → T' (ended t)) → Serves T from now (Ends incoming cause) → Serves T' from now (IsServed incoming cause)
+pub ends_served : (T T' : SessionState → Type 0) (from now : LineView) (incoming : Option (List ℕ)) (cause : Cause) → ((t : SessionState) → T t → T' (ended t)) → Serves T from now (EndsByCause incoming cause) → Serves T' from now (IsServed incoming cause)
 ends_served T T' from now incoming cause ends serves =
     let p = serves.0 in
     let h = serves.3 in
@@ -359,7 +359,7 @@ ends_served T T' from now incoming cause ends serves =
       record { fed = h.fed; whole = h.whole; sent = w.0; in_step = w.1; at_end = h.at_end },
     )
 
-pub ends_strange : (T T' : Told → Type 0) (from now : LineView) (incoming : Option (List ℕ)) (cause : Cause) (g : ServeFault) (failed failed' w : ℕ) → g ≡ serve.Stranger → ((t : Told) → T t → T' (ended t)) → Serves T from now (Ends incoming cause)
+pub ends_strange : (T T' : SessionState → Type 0) (from now : LineView) (incoming : Option (List ℕ)) (cause : Cause) (g : ServeFault) (failed failed' w : ℕ) → g ≡ serve.Stranger → ((t : SessionState) → T t → T' (ended t)) → Serves T from now (EndsByCause incoming cause)
     → Serves T' from now (IsStopped g failed failed' w)
 ends_strange T T' from now incoming cause g failed failed' w is ends serves =
     let p = serves.0 in
@@ -373,9 +373,9 @@ ends_strange T T' from now incoming cause g failed failed' w is ends serves =
 
 -- ---- it begins
 
-waits_new : Waits new_told
+waits_new : Waits new_state
 waits_new = let few : 0 < 4 = omega arith in (record { rests = refl; closed = refl }, inl few)
 
-pub rests_new : (T : Told → Type 0) (l : LineView) → T new_told → Serves T l l (Rests 0)
+pub rests_new : (T : SessionState → Type 0) (l : LineView) → T new_state → Serves T l l (Rests 0)
 rests_new T l tells =
-    (progress new_told [] [], tells, newly l, (record { is_open = waits_new.0; fed = refl; sent = sym none_written; in_step = refl; long = omega arith }, waits_new))
+    (progress new_state [] [], tells, newly l, (record { is_open = waits_new.0; fed = refl; sent = sym none_written; in_step = refl; long = omega arith }, waits_new))

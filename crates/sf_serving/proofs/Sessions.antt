@@ -14,31 +14,31 @@ use Rattle.sf_line.proofs.Laws.{logs_none, logs_more}
 use Rattle.sf_session.specs.declared.asking.Ask.{Ask}
 use Rattle.sf_session.specs.declared.cause.Cause.{Cause}
 use Rattle.sf_session.specs.declared.cause.Cause.TheVariants.{Closed}
-use Rattle.sf_engine.specs.Worlds.{Answered, asked_by, transcript, Phase, Resting, UnderWay, Decided, Gone, Told, new_told, is_here}
+use Rattle.sf_engine.specs.Worlds.{Response, ask_behind, transcript, Phase, Resting, UnderWay, Decided, Gone, SessionState, new_state, is_here}
 use Rattle.sf_engine.specs.Traces.{TakesNone, has_begun, fed, closed_now, left_for}
 use Rattle.sf_engine.specs.Laws.{pending, asks_of, AreAsked, IsRest, IsRead}
 use Rattle.sf_engine.proofs.Laws.{asked_each}
 use Rattle.sf_serving.specs.Ends.{IsEnd, IsWhole}
 use Rattle.sf_serving.specs.Hosts.{IsFront, IsOpen, Waits, IsFurther, with_sent, ended}
-use Rattle.sf_serving.specs.Serving.{LineView, line_view, Progress, progress, IsPromptAt, Served, IsInStep, Rests}
-use Rattle.sf_serving.specs.Rounds.{Writes}
+use Rattle.sf_serving.specs.Serving.{LineView, line_view, Progress, progress, IsPromptAt, ServedSoFar, IsInStep, Rests}
+use Rattle.sf_serving.specs.Rounds.{WritesByPieces}
 use Rattle.sf_serving.proofs.Fronts.{none_written, front_all, front_same, begun_more, prompt_further, nothing_prompt, prompt_push, prompt_writes, given_more, taken_more, writes_give_none, written_pieces, all_more}
 
 -- ---- a session at rest
 
 -- nothing is pending
-settled : (bodies : List (List ℕ)) (answers : List Answered) (phase : Phase) → pending phase ≡ [] → AreAsked false bodies (asks_of answers phase) → AreAsked false bodies (map asked_by answers)
+settled : (bodies : List (List ℕ)) (answers : List Response) (phase : Phase) → pending phase ≡ [] → AreAsked false bodies (asks_of answers phase) → AreAsked false bodies (map ask_behind answers)
 settled bodies answers phase none asked =
-    subst (λ (asks : List Ask). AreAsked false bodies asks) (ap (λ (more : List Ask). map asked_by answers ++ more) none ∙ append-nil (map asked_by answers)) asked
+    subst (λ (asks : List Ask). AreAsked false bodies asks) (ap (λ (more : List Ask). map ask_behind answers ++ more) none ∙ append-nil (map ask_behind answers)) asked
 
-pub rest_asked : (t : Told) → t.phase ≡ Resting → IsRead t → AreAsked false t.bodies (map asked_by t.answers)
+pub rest_asked : (t : SessionState) → t.phase ≡ Resting → IsRead t → AreAsked false t.bodies (map ask_behind t.answers)
 rest_asked t at read = settled t.bodies t.answers t.phase (ap pending at) read.asked
 
 -- its stream is the packets of its bodies and what is unread
-pub rest_left : (t : Told) → t.phase ≡ Resting → (read : IsRead t) → t.unread ≡ read.rest
+pub rest_left : (t : SessionState) → t.phase ≡ Resting → (read : IsRead t) → t.unread ≡ read.rest
 rest_left t at read = subst (λ (f : Phase). IsRest (has_begun t.bodies) f t.unread read.rest) at read.left
 
-pub rest_stream : (t : Told) → t.phase ≡ Resting → (read : IsRead t) → t.stream ≡ flat_map packet t.bodies ++ t.unread
+pub rest_stream : (t : SessionState) → t.phase ≡ Resting → (read : IsRead t) → t.stream ≡ flat_map packet t.bodies ++ t.unread
 rest_stream t at read = read.stream ∙ ap (λ (b : List ℕ). flat_map packet t.bodies ++ b) (sym (rest_left t at read))
 
 cuts_of : (bodies : List (List ℕ)) (rest : List ℕ) → AllByRecursion IsBody bodies → IsCut rest cut.More → Cuts (flat_map packet bodies ++ rest) bodies (More rest)
@@ -46,11 +46,11 @@ cuts_of [] rest bs c = (refl, c)
 cuts_of (body ∷ bodies) rest bs c = (flat_map packet bodies ++ rest, bs.0, append_assoc (packet body) (flat_map packet bodies) rest, cuts_of bodies rest bs.1 c)
 
 -- before a read all is prompt
-prompt_now : (from now : LineView) (n : ℕ) (p : Progress) → (S : Served from now p) → Rests n p → IsPromptAt p S.log
+prompt_now : (from now : LineView) (n : ℕ) (p : Progress) → (S : ServedSoFar from now p) → Rests n p → IsPromptAt p S.log
 prompt_now from now n p S rests =
     let t = p.told in
     let at : t.phase ≡ Resting = rests.1.0.rests in
-    let asked : AreAsked false t.bodies (map asked_by t.answers) = rest_asked t at S.bodies in
+    let asked : AreAsked false t.bodies (map ask_behind t.answers) = rest_asked t at S.bodies in
     let all : p.written ≡ transcript t.answers = rests.0.in_step ∙ rests.0.sent in
     let none : t.stream ++ p.unfed ≡ t.stream = ap (λ (b : List ℕ). t.stream ++ b) rests.0.fed ∙ append-nil t.stream in
     record {
@@ -63,18 +63,18 @@ prompt_now from now n p S rests =
       cut = subst (λ (b : List ℕ). Cuts b t.bodies (More t.unread)) (sym (rest_stream t at S.bodies)) (cuts_of t.bodies t.unread S.bodies.are_bodies rests.1.1);
       were_asked = front_all t.bodies;
       were_answered = front_all t.answers;
-      each = sym (length-map t.answers asked_by) ∙ asked_each false t.bodies (map asked_by t.answers) asked;
+      each = sym (length-map t.answers ask_behind) ∙ asked_each false t.bodies (map ask_behind t.answers) asked;
       were_written = front_same (transcript t.answers) p.written all;
       wrote = ap (λ (b : List ℕ). length b) (sym all) ∙ sym S.took;
     }
 
 -- ---- what was read of it, as it goes on
 
-pub read_new : IsRead new_told
+pub read_new : IsRead new_state
 unfolding AreAsked
 read_new = record { rest = []; are_bodies = tt; stream = refl; left = refl; asked = tt }
 
-read_fed : (t : Told) (bytes : List ℕ) → t.phase ≡ Resting → IsRead t → IsRead (fed t bytes)
+read_fed : (t : SessionState) (bytes : List ℕ) → t.phase ≡ Resting → IsRead t → IsRead (fed t bytes)
 read_fed t bytes at read =
     let P : Phase → Type 0 = λ f. IsRest (has_begun t.bodies) f (t.unread ++ bytes) (read.rest ++ bytes) in
     record {
@@ -85,45 +85,45 @@ read_fed t bytes at read =
       asked = read.asked;
     }
 
-read_sent : (t : Told) → IsRead t → IsRead (with_sent t)
+read_sent : (t : SessionState) → IsRead t → IsRead (with_sent t)
 read_sent t read = record { rest = read.rest; are_bodies = read.are_bodies; stream = read.stream; left = read.left; asked = read.asked }
 
-read_closed : (t : Told) (f : Phase) → t.phase ≡ f → IsRead t → IsRead (closed_now t f)
+read_closed : (t : SessionState) (f : Phase) → t.phase ≡ f → IsRead t → IsRead (closed_now t f)
 read_closed t Resting at read = record {
   rest = read.rest;
   are_bodies = read.are_bodies;
   stream = read.stream;
   left = (refl, inl refl);
-  asked = subst (λ (asks : List Ask). AreAsked false t.bodies asks) (sym (append-nil (map asked_by t.answers))) (rest_asked t at read);
+  asked = subst (λ (asks : List Ask). AreAsked false t.bodies asks) (sym (append-nil (map ask_behind t.answers))) (rest_asked t at read);
 }
 read_closed t (UnderWay id n m q moves) at read = record { rest = read.rest; are_bodies = read.are_bodies; stream = read.stream; left = read.left; asked = read.asked }
 read_closed t (Decided id n q given) at read = record { rest = read.rest; are_bodies = read.are_bodies; stream = read.stream; left = read.left; asked = read.asked }
 read_closed t (Gone cause) at read = read
 
 -- ending changes nothing of what was fed, read, answered and sent
-pub record IsSame (t t' : Told) : Type 0 where
+pub record IsSame (t t' : SessionState) : Type 0 where
   pub stream : t'.stream ≡ t.stream
   pub bodies : t'.bodies ≡ t.bodies
   pub answers : t'.answers ≡ t.answers
   pub sent : t'.sent ≡ t.sent
 
-closed_same : (t : Told) (f : Phase) → IsSame t (closed_now t f)
+closed_same : (t : SessionState) (f : Phase) → IsSame t (closed_now t f)
 closed_same t Resting = record { stream = refl; bodies = refl; answers = refl; sent = refl }
 closed_same t (UnderWay id n m q moves) = record { stream = refl; bodies = refl; answers = refl; sent = refl }
 closed_same t (Decided id n q given) = record { stream = refl; bodies = refl; answers = refl; sent = refl }
 closed_same t (Gone cause) = record { stream = refl; bodies = refl; answers = refl; sent = refl }
 
-pub ended_same : (t : Told) → IsSame t (ended t)
+pub ended_same : (t : SessionState) → IsSame t (ended t)
 ended_same t = closed_same t t.phase
 
 -- a session that has ended takes no more bytes
-takes_none : (t : Told) (f : Phase) → t.phase ≡ f → TakesNone (closed_now t f)
+takes_none : (t : SessionState) (f : Phase) → t.phase ≡ f → TakesNone (closed_now t f)
 takes_none t Resting at = inr refl
 takes_none t (UnderWay id n m q moves) at = inl refl
 takes_none t (Decided id n q given) at = inl refl
 takes_none t (Gone cause) at = inr (ap (λ (f : Phase). is_here (record t { phase = f })) at)
 
-pub ended_none : (t : Told) → TakesNone (ended t)
+pub ended_none : (t : SessionState) → TakesNone (ended t)
 ended_none t = takes_none t t.phase refl
 
 -- ---- how it ends
@@ -134,7 +134,7 @@ ends_by begun phase unread rest cause at other left =
     let gone : IsRest begun (Gone cause) unread rest = subst (λ (f : Phase). IsRest begun f unread rest) at left in
     elim gone.1 [ inl e ↦ absurd (other e) | inr h ↦ inr h ]
 
-pub whole_left : (t : Told) (cause : Cause) → IsRead t → t.phase ≡ Gone cause → cause ≢ Closed → IsWhole t cause
+pub whole_left : (t : SessionState) (cause : Cause) → IsRead t → t.phase ≡ Gone cause → cause ≢ Closed → IsWhole t cause
 whole_left t cause read at other = record {
   left = at;
   rest = read.rest;
@@ -145,7 +145,7 @@ whole_left t cause read at other = record {
 }
 
 -- a session that was closed at rest
-whole_closed : (t : Told) → IsRead t → t.phase ≡ Resting → IsCut t.unread cut.More → IsWhole (left_for t Closed) Closed
+whole_closed : (t : SessionState) → IsRead t → t.phase ≡ Resting → IsCut t.unread cut.More → IsWhole (left_for t Closed) Closed
 whole_closed t read at no_more = record {
   left = refl;
   rest = read.rest;
@@ -155,14 +155,14 @@ whole_closed t read at no_more = record {
   asked = rest_asked t at read;
 }
 
-pub closed_whole : (t : Told) → IsRead t → Waits t → IsWhole (ended t) Closed
+pub closed_whole : (t : SessionState) → IsRead t → Waits t → IsWhole (ended t) Closed
 closed_whole t read waits = subst (λ (f : Phase). IsWhole (closed_now t f) Closed) (sym waits.0.rests) (whole_closed t read waits.0.rests waits.1)
 
 -- one that has left is left as it is
-pub gone_whole : (t : Told) (cause : Cause) → IsWhole t cause → IsWhole (ended t) cause
+pub gone_whole : (t : SessionState) (cause : Cause) → IsWhole t cause → IsWhole (ended t) cause
 gone_whole t cause whole = subst (λ (f : Phase). IsWhole (closed_now t f) cause) (sym whole.left) whole
 
-pub sent_whole : (t : Told) (cause : Cause) → IsWhole t cause → IsWhole (with_sent t) cause
+pub sent_whole : (t : SessionState) (cause : Cause) → IsWhole t cause → IsWhole (with_sent t) cause
 sent_whole t cause h = record { left = h.left; rest = h.rest; are_bodies = h.are_bodies; stream = h.stream; end = h.end; asked = h.asked }
 
 -- ---- each body has bytes, so no more were answered than were fed
@@ -176,17 +176,17 @@ long_bodies (body ∷ bodies) =
     let four : length (be32 (length body)) ≡ 4 = refl in
     omega (arith, long_bodies bodies, length-append (packet body) (flat_map packet bodies), parts, four)
 
-pub long_answers : (t : Told) → t.phase ≡ Resting → IsRead t → length t.answers ≤ length t.stream
+pub long_answers : (t : SessionState) → t.phase ≡ Resting → IsRead t → length t.answers ≤ length t.stream
 long_answers t at read =
-    let each : length (map asked_by t.answers) ≡ length t.bodies = asked_each false t.bodies (map asked_by t.answers) (rest_asked t at read) in
-    let count : length (map asked_by t.answers) ≡ length t.answers = length-map t.answers asked_by in
+    let each : length (map ask_behind t.answers) ≡ length t.bodies = asked_each false t.bodies (map ask_behind t.answers) (rest_asked t at read) in
+    let count : length (map ask_behind t.answers) ≡ length t.answers = length-map t.answers ask_behind in
     let whole : length t.stream ≡ length (flat_map packet t.bodies ++ read.rest) = ap (λ (b : List ℕ). length b) read.stream in
     omega (arith, each, count, whole, length-append (flat_map packet t.bodies) read.rest, long_bodies t.bodies)
 
 -- ---- one thing more that happens to it
 
 -- a new session
-pub newly : (l : LineView) → Served l l (progress new_told [] [])
+pub newly : (l : LineView) → ServedSoFar l l (progress new_state [] [])
 newly l = record {
   bodies = read_new;
   read = Consumes-nil l.incoming;
@@ -197,12 +197,12 @@ newly l = record {
   gave = refl;
   took = refl;
   pieces = tt;
-  prompt = nothing_prompt (progress new_told [] []);
+  prompt = nothing_prompt (progress new_state [] []);
 }
 
 -- more was fed, read or answered, and nothing moved on the line
-retold : (from now : LineView) (t t' : Told) (unfed unfed' written : List ℕ) → Served from now (progress t unfed written) → IsRead t' → t'.stream ++ unfed' ≡ t.stream ++ unfed → IsFront t.stream t'.stream → IsFront t.bodies t'.bodies
-    → IsFront t.answers t'.answers → Served from now (progress t' unfed' written)
+retold : (from now : LineView) (t t' : SessionState) (unfed unfed' written : List ℕ) → ServedSoFar from now (progress t unfed written) → IsRead t' → t'.stream ++ unfed' ≡ t.stream ++ unfed → IsFront t.stream t'.stream → IsFront t.bodies t'.bodies
+    → IsFront t.answers t'.answers → ServedSoFar from now (progress t' unfed' written)
 retold from now t t' unfed unfed' written S read same stream bodies answers = record {
   bodies = read;
   read = subst (λ (b : List ℕ). Consumes from.incoming now.incoming b) (sym same) S.read;
@@ -216,25 +216,25 @@ retold from now t t' unfed unfed' written S read same stream bodies answers = re
   prompt = prompt_further (progress t unfed written) (progress t' unfed' written) S.log (record { stream = stream; bodies = bodies; answers = answers; written = front_all written }) S.prompt;
 }
 
-pub fed_serves : (from now : LineView) (t : Told) (bytes written : List ℕ) → Served from now (progress t bytes written) → IsOpen t → Served from now (progress (fed t bytes) [] written)
+pub fed_serves : (from now : LineView) (t : SessionState) (bytes written : List ℕ) → ServedSoFar from now (progress t bytes written) → IsOpen t → ServedSoFar from now (progress (fed t bytes) [] written)
 fed_serves from now t bytes written S is_open =
     retold from now t (fed t bytes) bytes [] written S (read_fed t bytes is_open.rests S.bodies) (append-nil (t.stream ++ bytes)) (bytes, refl) (front_all t.bodies) (front_all t.answers)
 
-pub further_serves : (from now : LineView) (t t' : Told) (unfed written : List ℕ) → Served from now (progress t unfed written) → IsFurther t t' → Served from now (progress t' unfed written)
+pub further_serves : (from now : LineView) (t t' : SessionState) (unfed written : List ℕ) → ServedSoFar from now (progress t unfed written) → IsFurther t t' → ServedSoFar from now (progress t' unfed written)
 further_serves from now t t' unfed written S further =
     retold from now t t' unfed unfed written S further.read (ap (λ (b : List ℕ). b ++ unfed) further.stream) (front_same t.stream t'.stream further.stream) further.bodies further.answers
 
-sent_serves : (from now : LineView) (t : Told) (unfed written : List ℕ) → Served from now (progress t unfed written) → Served from now (progress (with_sent t) unfed written)
+sent_serves : (from now : LineView) (t : SessionState) (unfed written : List ℕ) → ServedSoFar from now (progress t unfed written) → ServedSoFar from now (progress (with_sent t) unfed written)
 sent_serves from now t unfed written S = retold from now t (with_sent t) unfed unfed written S (read_sent t S.bodies) refl (front_all t.stream) (front_all t.bodies) (front_all t.answers)
 
-pub ended_serves : (from now : LineView) (t : Told) (unfed written : List ℕ) → Served from now (progress t unfed written) → Served from now (progress (ended t) unfed written)
+pub ended_serves : (from now : LineView) (t : SessionState) (unfed written : List ℕ) → ServedSoFar from now (progress t unfed written) → ServedSoFar from now (progress (ended t) unfed written)
 ended_serves from now t unfed written S =
     let same = ended_same t in
     retold from now t (ended t) unfed unfed written S (read_closed t t.phase refl S.bodies) (ap (λ (b : List ℕ). b ++ unfed) same.stream) (front_same t.stream (ended t).stream same.stream) (front_same t.bodies (ended t).bodies same.bodies) (front_same t.answers (ended t).answers same.answers)
 
 -- bytes were read, and are not fed yet
-pub read_serves : (from now : LineView) (i' o' : Option (List ℕ)) (c' : Option (List LineCall)) (k n : ℕ) (t : Told) (unfed written bytes : List ℕ) → Served from now (progress t unfed written) → Rests k (progress t unfed written)
-    → Consumes now.incoming i' bytes → length bytes ≡ n → n ≤ 65536 → o' ≡ now.outgoing → Logs now.calls c' (Read n ∷ []) → Served from (line_view i' o' c') (progress t bytes written)
+pub read_serves : (from now : LineView) (i' o' : Option (List ℕ)) (c' : Option (List LineCall)) (k n : ℕ) (t : SessionState) (unfed written bytes : List ℕ) → ServedSoFar from now (progress t unfed written) → Rests k (progress t unfed written)
+    → Consumes now.incoming i' bytes → length bytes ≡ n → n ≤ 65536 → o' ≡ now.outgoing → Logs now.calls c' (Read n ∷ []) → ServedSoFar from (line_view i' o' c') (progress t bytes written)
 read_serves from now i' o' c' k n t unfed written bytes S rests consumes count short same logs =
     let p = progress t unfed written in
     let p' = progress t bytes written in
@@ -258,7 +258,7 @@ read_serves from now i' o' c' k n t unfed written bytes S rests consumes count s
     }
 
 -- a line that moved no byte and told no call
-pub still_serves : (from now : LineView) (i' o' : Option (List ℕ)) (c' : Option (List LineCall)) (p : Progress) → Served from now p → Keeps now.incoming i' → o' ≡ now.outgoing → Logs now.calls c' [] → Served from (line_view i' o' c') p
+pub still_serves : (from now : LineView) (i' o' : Option (List ℕ)) (c' : Option (List LineCall)) (p : Progress) → ServedSoFar from now p → Keeps now.incoming i' → o' ≡ now.outgoing → Logs now.calls c' [] → ServedSoFar from (line_view i' o' c') p
 still_serves from now i' o' c' p S kept same logs = record {
   bodies = S.bodies;
   read = Consumes-kept from.incoming now.incoming i' (p.told.stream ++ p.unfed) S.read kept;
@@ -273,8 +273,8 @@ still_serves from now i' o' c' p S kept same logs = record {
 }
 
 -- the line took a front of what waits
-pub wrote_serves : (from now now' : LineView) (p : Progress) (output sent rest : List ℕ) → Served from now p → IsInStep p → transcript p.told.answers ≡ p.told.sent ++ output → output ≡ sent ++ rest → Writes now now' sent
-    → Served from now' (progress p.told p.unfed (p.written ++ sent))
+pub wrote_serves : (from now now' : LineView) (p : Progress) (output sent rest : List ℕ) → ServedSoFar from now p → IsInStep p → transcript p.told.answers ≡ p.told.sent ++ output → output ≡ sent ++ rest → WritesByPieces now now' sent
+    → ServedSoFar from now' (progress p.told p.unfed (p.written ++ sent))
 wrote_serves from now now' p output sent rest S step waits whole w =
     let p' = progress p.told p.unfed (p.written ++ sent) in
     let none : given w.writes ≡ 0 = writes_give_none w.writes w.pieces in
@@ -295,9 +295,9 @@ wrote_serves from now now' p output sent rest S step waits whole w =
     }
 
 -- all that waited was written, and told as sent
-pub sent_all_serves : (from now now' : LineView) (p : Progress) (output : List ℕ) → Served from now p → IsInStep p → transcript p.told.answers ≡ p.told.sent ++ output → Writes now now' output
-    → Served from now' (progress (with_sent p.told) p.unfed (transcript p.told.answers))
+pub sent_all_serves : (from now now' : LineView) (p : Progress) (output : List ℕ) → ServedSoFar from now p → IsInStep p → transcript p.told.answers ≡ p.told.sent ++ output → WritesByPieces now now' output
+    → ServedSoFar from now' (progress (with_sent p.told) p.unfed (transcript p.told.answers))
 sent_all_serves from now now' p output S step waits w =
     let all : p.written ++ output ≡ transcript p.told.answers = ap (λ (b : List ℕ). b ++ output) step ∙ sym waits in
     let wrote = wrote_serves from now now' p output output [] S step waits (sym (append-nil output)) w in
-    sent_serves from now' p.told p.unfed (transcript p.told.answers) (subst (λ (b : List ℕ). Served from now' (progress p.told p.unfed b)) all wrote)
+    sent_serves from now' p.told p.unfed (transcript p.told.answers) (subst (λ (b : List ℕ). ServedSoFar from now' (progress p.told p.unfed b)) all wrote)

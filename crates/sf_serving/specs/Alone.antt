@@ -18,18 +18,18 @@ use Rattle.sf_engine.specs.declared.event.Event.{Event}
 use Rattle.sf_engine.specs.declared.event.Happened.{Happened}
 use Rattle.sf_engine.specs.declared.event.Happened.TheVariants as happened
 use Rattle.sf_engine.specs.declared.event.EngineFault.{EngineFault}
-use Rattle.sf_engine.specs.Worlds.{Entry, Answered, Version, Locally, ByCall, Refused, Told, World}
-use Rattle.sf_engine.specs.Traces.{IsSession, Tells, order}
+use Rattle.sf_engine.specs.Worlds.{TraceEntry, Response, Version, Locally, ByCall, Refused, SessionState, World}
+use Rattle.sf_engine.specs.Traces.{IsSession, ReachesWorld, order}
 use Rattle.sf_engine.specs.Fits.{Fits}
 use Rattle.sf_serving.specs.Ends.{IsWhole}
 use Rattle.sf_serving.specs.Hosts.{IsFront}
-use Rattle.sf_serving.specs.Serving.{Progress, Served, IsServed}
-use Rattle.sf_serving.specs.OnEngine.{Scene, moment_of, IsEntryOf, IsTold, since_at}
+use Rattle.sf_serving.specs.Serving.{Progress, ServedSoFar, IsServed}
+use Rattle.sf_serving.specs.OnEngine.{IoState, moment_of, IsEntryOf, IsTold, since_at}
 
 -- What one tree answers to what session 1 asks for, when so many calls have begun. Each call takes
 -- the next number and the next moment, and the tree that it leaves answers what comes after it.
 -- Where no number is left, a call is refused; where no moment is left, there are no more answers.
-unfoldable pub answers_from : Tree → (begun : ℕ) → (moments : List ℕ) → List Ask → List Answered
+unfoldable pub answers_from : Tree → (begun : ℕ) → (moments : List ℕ) → List Ask → List Response
 answers_from tree begun moments [] = []
 answers_from tree begun moments (ask.Version ∷ asks) =
     Version ∷ answers_from tree begun moments asks
@@ -46,7 +46,7 @@ answers_from tree begun (moment ∷ moments) (ask.Call id request ∷ asks) =
     ByCall id (begun + 1) request call.reply ∷ answers_from call.tree (begun + 1) moments asks
 
 -- from the empty tree
-abbrev pub answers_alone : (moments : List ℕ) → List Ask → List Answered
+abbrev pub answers_alone : (moments : List ℕ) → List Ask → List Response
 answers_alone moments asks = answers_from empty_tree 0 moments asks
 
 -- the moment of a turn at which a call began
@@ -55,7 +55,7 @@ moment_begun ev (Ok happened.Begun) = moment_of ev
 moment_begun ev _ = []
 
 -- the moments at which calls began, in order
-abbrev pub moments_begun : List Entry → List ℕ
+abbrev pub moments_begun : List TraceEntry → List ℕ
 moments_begun entries = flat_map (λ e. moment_begun e.event e.result) entries
 
 -- the record doesn't tell want of memory
@@ -64,7 +64,7 @@ HadMemoryFor (Did number session moment request given) = given ≢ reply.NoMemor
 HadMemoryFor (Left session) = Unit {0}
 
 -- no call was refused for want of memory
-abbrev pub HadMemoryAt : Answered → Type 0
+abbrev pub HadMemoryAt : Response → Type 0
 HadMemoryAt Version = Unit {0}
 HadMemoryAt (Locally id reply) = Unit {0}
 HadMemoryAt (ByCall id number request reply) = Unit {0}
@@ -72,20 +72,20 @@ HadMemoryAt (Refused id request fault) = fault ≢ core.OutOfMemory
 
 -- Memory was never wanting: no record tells it, and no call was refused for it. An event that was
 -- refused for it changed nothing.
-abbrev pub HadMemory : List Entry → Told → Type 0
-HadMemory trace t = AllByRecursion HadMemoryFor (order trace) × AllByRecursion HadMemoryAt t.answers
+abbrev pub HadMemoryThroughout : List TraceEntry → SessionState → Type 0
+HadMemoryThroughout trace t = AllByRecursion HadMemoryFor (order trace) × AllByRecursion HadMemoryAt t.answers
 
 -- all entries are of session 1
-abbrev pub IsAlone : List Entry → Type 0
+abbrev pub IsAlone : List TraceEntry → Type 0
 IsAlone trace = AllByRecursion (IsEntryOf 1) trace
 
 -- A lawful trace tells this of one session alone, for which memory was never wanting.
-pub record TellsAlone (trace : List Entry) (w : World) (t : Told) : Type 0 where
-  pub tells : Tells trace w
+pub record TellsAlone (trace : List TraceEntry) (w : World) (t : SessionState) : Type 0 where
+  pub tells : ReachesWorld trace w
   pub legal : IsLegal (order trace)
   pub alone : IsAlone trace
   pub is_session : IsSession w 1 t
-  pub memory : HadMemory trace t
+  pub memory : HadMemoryThroughout trace t
 
 -- what a session is given: its bytes, and the moments at which its calls began
 pub record Supply : Type 0 where
@@ -97,7 +97,7 @@ supply input moments = record { input = input; moments = moments }
 
 -- Of the input so much was fed that the session has left for this cause: all of it where the
 -- session was closed. Its calls began at these moments.
-pub record EndsAlone (trace : List Entry) (w : World) (t : Told) (s : Supply) (cause : Cause) : Type 0 where
+pub record EndsAlone (trace : List TraceEntry) (w : World) (t : SessionState) (s : Supply) (cause : Cause) : Type 0 where
   pub tells : TellsAlone trace w t
   pub begun : moments_begun trace ≡ s.moments
   pub whole : IsWhole t cause
@@ -106,12 +106,12 @@ pub record EndsAlone (trace : List Entry) (w : World) (t : Told) (s : Supply) (c
 
 -- A new engine served a line whose bytes are this input, and nothing else, until the session left
 -- for this cause. Its calls began at these moments, and memory was never wanting for them.
-pub record ServesAlone (start now : Scene) (s : Supply) (cause : Cause) (p : Progress) : Type 0 where
+pub record ServesAlone (start now : IoState) (s : Supply) (cause : Cause) (p : Progress) : Type 0 where
   pub fits : Fits start.engine []
   pub session : ℕ
   pub tells : IsTold (since_at start [] fits) session now.engine now.told p.told
-  pub served : Served start.line now.line p
+  pub served : ServedSoFar start.line now.line p
   pub incoming : start.line.incoming ≡ Some s.input
   pub ends : IsServed now.line.incoming cause p
   pub begun : moments_begun tells.entries ≡ s.moments
-  pub memory : HadMemory tells.entries p.told
+  pub memory : HadMemoryThroughout tells.entries p.told

@@ -7,7 +7,7 @@ use Rattle.sf_wire.specs.Packets.{IsBody, IsCut}
 use Rattle.sf_session.specs.declared.cause.Cause.{Cause}
 use Rattle.sf_session.specs.declared.cause.Cause.TheVariants.{Closed}
 use Rattle.sf_session.specs.Sessions.{EndsBy}
-use Rattle.sf_engine.specs.Worlds.{asked_by, Gone, Told}
+use Rattle.sf_engine.specs.Worlds.{ask_behind, Gone, SessionState}
 use Rattle.sf_engine.specs.Traces.{has_begun}
 use Rattle.sf_engine.specs.Laws.{AreAsked}
 
@@ -16,10 +16,10 @@ abbrev pub IsEnd : Bool → List ℕ → Cause → Type 0
 IsEnd begun rest cause = ((cause ≡ Closed) × IsCut rest cut.More) ⊎ EndsBy begun rest cause
 
 -- The session has left for this cause. Its stream is packets, each answered as it asks for, and a rest that is the end.
-pub record IsWhole (t : Told) (cause : Cause) : Type 0 where
+pub record IsWhole (t : SessionState) (cause : Cause) : Type 0 where
   pub left : t.phase ≡ Gone cause
   pub rest : List ℕ
   pub are_bodies : AllByRecursion IsBody t.bodies
   pub stream : t.stream ≡ flat_map packet t.bodies ++ rest
   pub end : IsEnd (has_begun t.bodies) rest cause
-  pub asked : AreAsked false t.bodies (map asked_by t.answers)
+  pub asked : AreAsked false t.bodies (map ask_behind t.answers)

@@ -5,7 +5,7 @@ use Rattle.sf_wire.specs.Packets.{IsCut}
 use Rattle.sf_session.specs.declared.cause.Cause.TheVariants.{Closed}
 use Rattle.sf_session.specs.declared.fault.ServeFault.{ServeFault}
 use Rattle.sf_session.specs.declared.fault.ServeFault.TheVariants as fault
-use Rattle.sf_engine.specs.Worlds.{transcript, Resting, Told}
+use Rattle.sf_engine.specs.Worlds.{transcript, Resting, SessionState}
 use Rattle.sf_engine.specs.Traces.{closed_now}
 use Rattle.sf_engine.specs.Laws.{IsRead}
 use Rattle.sf_serving.specs.declared.host.Went.{Went}
@@ -20,20 +20,20 @@ abbrev pub most_counted : ℕ
 most_counted = 2 ^ 64 - 1
 
 -- The session rests, and takes bytes.
-pub record IsOpen (t : Told) : Type 0 where
+pub record IsOpen (t : SessionState) : Type 0 where
   pub rests : t.phase ≡ Resting
   pub closed : t.closed ≡ false
 
 -- all that it was answered was sent
-abbrev pub HasSent : Told → Type 0
+abbrev pub HasSent : SessionState → Type 0
 HasSent t = t.sent ≡ transcript t.answers
 
 -- it waits for bytes: no whole packet is unread
-abbrev pub Waits : Told → Type 0
+abbrev pub Waits : SessionState → Type 0
 Waits t = IsOpen t × IsCut t.unread cut.More
 
 -- More bodies were read and answered, and nothing was fed or sent.
-pub record IsFurther (t t' : Told) : Type 0 where
+pub record IsFurther (t t' : SessionState) : Type 0 where
   pub stream : t'.stream ≡ t.stream
   pub sent : t'.sent ≡ t.sent
   pub bodies : IsFront t.bodies t'.bodies
@@ -42,18 +42,18 @@ pub record IsFurther (t t' : Told) : Type 0 where
 
 -- Having gone on, the session waits for bytes; it was answered more; or it has left, and all of its
 -- stream was answered.
-abbrev pub WentTo : Result Went ServeFault → Told → Told → Type 0
+abbrev pub WentTo : Result Went ServeFault → SessionState → SessionState → Type 0
 WentTo (Ok went.Waits) t t' = Waits t'
 WentTo (Ok went.Answered) t t' = IsOpen t' × (length t.answers < length t'.answers)
 WentTo (Ok (went.Ended cause)) t t' = IsWhole t' cause × (cause ≢ Closed)
 WentTo (Err f) t t' = Unit {0}
 
 -- all that waited was sent
-abbrev pub with_sent : Told → Told
+abbrev pub with_sent : SessionState → SessionState
 with_sent t = record t { sent = transcript t.answers }
 
 -- the session takes no more bytes
-abbrev pub ended : Told → Told
+abbrev pub ended : SessionState → SessionState
 ended t = closed_now t t.phase
 
 -- Why a host stops: memory was wanting; it did so much that no number is left to count it; or what

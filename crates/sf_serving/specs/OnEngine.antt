@@ -14,12 +14,12 @@ use Rattle.sf_engine.specs.declared.event.Happened.{Happened}
 use Rattle.sf_engine.specs.declared.event.Happened.TheVariants as happened
 use Rattle.sf_engine.specs.declared.event.EngineFault.{EngineFault}
 use Rattle.sf_engine.specs.declared.event.EngineFault.TheVariants as refused
-use Rattle.sf_engine.specs.Worlds.{Entry, Phase, Resting, UnderWay, Decided, Gone, Told, World, transcript, output_of, here}
+use Rattle.sf_engine.specs.Worlds.{TraceEntry, Phase, Resting, UnderWay, Decided, Gone, SessionState, World, transcript, unsent, here}
 use Rattle.sf_engine.specs.Traces.{IsSession, TakesNone, Leads}
 use Rattle.sf_engine.specs.Views.{EngineView}
 use Rattle.sf_engine.specs.Fits.{Fits, GoesOnTrace, HasTurns}
 use Rattle.sf_serving.specs.Hosts.{most_counted}
-use Rattle.sf_serving.specs.Serving.{LineView, Progress, Served, Serves, HasWritten, IsServed}
+use Rattle.sf_serving.specs.Serving.{LineView, Progress, ServedSoFar, Serves, HasWritten, IsServed}
 
 -- the entry is of the session: it opens, is fed, has a turn, is closed, or is told what was sent
 abbrev pub IsOf : ℕ → Event → Result Happened EngineFault → Type 0
@@ -29,7 +29,7 @@ IsOf session (event.Turn s moment) result = s ≡ session
 IsOf session (event.Close s) result = s ≡ session
 IsOf session (event.Sent s n) result = s ≡ session
 
-abbrev pub IsEntryOf : ℕ → Entry → Type 0
+abbrev pub IsEntryOf : ℕ → TraceEntry → Type 0
 IsEntryOf session e = IsOf session e.event e.result
 
 -- the moments of the turns
@@ -47,7 +47,7 @@ IsTimed ev result moments =
 
 -- The clock told these moments for the entries, in their order: so a call that began has a moment
 -- of its own.
-unfoldable pub AreTimed : List Entry → List ℕ → Type 0
+unfoldable pub AreTimed : List TraceEntry → List ℕ → Type 0
 AreTimed [] moments = moments ≡ []
 AreTimed (e ∷ entries) moments = (now : List ℕ) × (later : List ℕ) × (moments ≡ now ++ later)
     × IsTimed e.event e.result now × AreTimed entries later
@@ -69,17 +69,17 @@ may_begin_after happened.Decided = false
 may_begin_after _ = true
 
 -- less than 64 KiB wait to be sent
-abbrev pub IsLow : Told → Type 0
-IsLow t = length (output_of t) < 65536
+abbrev pub IsLow : SessionState → Type 0
+IsLow t = length (unsent t) < 65536
 
 -- so it is where the session has a turn
 abbrev pub IsLowAt : World → ℕ → Event → Type 0
-IsLowAt w session (event.Turn s moment) = (t : Told) → IsSession w session t → IsLow t
+IsLowAt w session (event.Turn s moment) = (t : SessionState) → IsSession w session t → IsLow t
 IsLowAt w session _ = Unit {0}
 
 -- The entries lead from the world w to the world w', each from where those before it lead. Before
 -- each turn less than 64 KiB wait to be sent, so no more than these and one reply wait at any time.
-unfoldable pub RunsLow : ℕ → World → List Entry → World → Type 0
+unfoldable pub RunsLow : ℕ → World → List TraceEntry → World → Type 0
 RunsLow session w [] w' = w' ≡ w
 RunsLow session w (e ∷ entries) w' =
     (mid : World) × IsLowAt w session e.event × Leads w e mid × RunsLow session mid entries w'
@@ -87,11 +87,11 @@ RunsLow session w (e ∷ entries) w' =
 -- An engine that fits a trace, and the moments that a clock has told.
 pub record Since : Type 0 where
   pub engine : EngineView
-  pub trace : List Entry
+  pub trace : List TraceEntry
   pub fits : Fits engine trace
   pub told : Option (List ℕ)
 
-abbrev pub since : (engine : EngineView) (trace : List Entry) → Fits engine trace → Option (List ℕ)
+abbrev pub since : (engine : EngineView) (trace : List TraceEntry) → Fits engine trace → Option (List ℕ)
     → Since
 since engine trace fits told =
     record { engine = engine; trace = trace; fits = fits; told = told }
@@ -99,8 +99,8 @@ since engine trace fits told =
 -- Since then a session was told this. Each entry since then is the session's, and before its turns
 -- less than 64 KiB waited; and its calls began at the moments that the clock told.
 pub record IsTold (start : Since) (session : ℕ) (engine : EngineView) (told : Option (List ℕ))
-    (t : Told) : Type 0 where
-  pub entries : List Entry
+    (t : SessionState) : Type 0 where
+  pub entries : List TraceEntry
   pub fit : Fits engine (start.trace ++ entries)
   pub own : AllByRecursion (IsEntryOf session) entries
   pub low : RunsLow session start.fits.world entries fit.world
@@ -110,28 +110,28 @@ pub record IsTold (start : Since) (session : ℕ) (engine : EngineView) (told : 
   pub clock : Appends start.told told moments
 
 -- and there were so many entries at least
-abbrev pub IsToldBy : (turns : ℕ) → Since → ℕ → EngineView → Option (List ℕ) → Told → Type 0
+abbrev pub IsToldBy : (turns : ℕ) → Since → ℕ → EngineView → Option (List ℕ) → SessionState → Type 0
 IsToldBy turns start session engine told t =
     (tells : IsTold start session engine told t) × (turns ≤ length tells.entries)
 
 -- a line, the moments that a clock told, where it tells them, and an engine
-pub record Scene : Type 0 where
+pub record IoState : Type 0 where
   pub line : LineView
   pub told : Option (List ℕ)
   pub engine : EngineView
 
-abbrev pub scene : LineView → Option (List ℕ) → EngineView → Scene
-scene line told engine = record { line = line; told = told; engine = engine }
+abbrev pub io_state : LineView → Option (List ℕ) → EngineView → IoState
+io_state line told engine = record { line = line; told = told; engine = engine }
 
 -- since the engine fitted this trace
-abbrev pub since_at : (start : Scene) (trace : List Entry) → Fits start.engine trace → Since
+abbrev pub since_at : (start : IoState) (trace : List TraceEntry) → Fits start.engine trace → Since
 since_at start trace fits = since start.engine trace fits start.told
 
 -- What serving a line did, when it ended so, whatever trace the engine fitted: a session of its own
 -- was fed all that was read, was sent its whole transcript, and has left. At the end of the input
 -- it is closed.
-abbrev pub ServesLine : Scene → Scene → Cause → Type 0
-ServesLine start now cause = (trace : List Entry) → (fits : Fits start.engine trace)
+abbrev pub ServesLine : IoState → IoState → Cause → Type 0
+ServesLine start now cause = (trace : List TraceEntry) → (fits : Fits start.engine trace)
     → (session : ℕ) × Serves (IsTold (since_at start trace fits) session now.engine now.told)
     start.line now.line (IsServed now.line.incoming cause)
 
@@ -146,7 +146,7 @@ MayNotOpen w fault.NumbersSpent = length w.sessions ≡ last_number
 
 -- Serving has stopped: unless the line failed, all that was answered was written. The session is
 -- closed. Numbers are spent only where so many bytes were read, or there were so many events.
-abbrev pub HasStoppedAt : ServeFault → List Entry → Progress → Type 0
+abbrev pub HasStoppedAt : ServeFault → List TraceEntry → Progress → Type 0
 HasStoppedAt fault.Line entries p = TakesNone p.told
 HasStoppedAt fault.OutOfMemory entries p = HasWritten p × TakesNone p.told
 HasStoppedAt fault.Sessions entries p = ⊥
@@ -156,16 +156,16 @@ HasStoppedAt fault.NumbersSpent entries p = (HasWritten p × TakesNone p.told)
 
 -- What serving a line did, when it stopped so: nothing, where no session could open; or a session
 -- of its own was served so far.
-abbrev pub StopsEarly : Scene → Scene → ServeFault → Type 0
-StopsEarly start now f = (trace : List Entry) → (fits : Fits start.engine trace)
+abbrev pub StopsEarly : IoState → IoState → ServeFault → Type 0
+StopsEarly start now f = (trace : List TraceEntry) → (fits : Fits start.engine trace)
     → ((now ≡ start) × MayNotOpen fits.world f)
     ⊎ ((session : ℕ) × (p : Progress)
     × (tells : IsTold (since_at start trace fits) session now.engine now.told p.told)
-    × Served start.line now.line p × HasStoppedAt f tells.entries p)
+    × ServedSoFar start.line now.line p × HasStoppedAt f tells.entries p)
 
 -- whatever trace the engine fitted, it is as it was
 abbrev pub IsUnchanged : EngineView → EngineView → Type 0
-IsUnchanged e e' = (trace : List Entry) → Fits e trace → e' ≡ e
+IsUnchanged e e' = (trace : List TraceEntry) → Fits e trace → e' ≡ e
 
 -- why no session opened
 abbrev pub open_refusal : EngineFault → ServeFault
@@ -178,10 +178,10 @@ abbrev pub IsOpenFault : EngineView → ServeFault → Type 0
 IsOpenFault e fault.Line = ⊥
 IsOpenFault e fault.OutOfMemory = Unit {0}
 IsOpenFault e fault.Sessions =
-    (trace : List Entry) → (fits : Fits e trace) → MayNotOpen fits.world fault.Sessions
+    (trace : List TraceEntry) → (fits : Fits e trace) → MayNotOpen fits.world fault.Sessions
 IsOpenFault e fault.Stranger = ⊥
 IsOpenFault e fault.NumbersSpent =
-    (trace : List Entry) → (fits : Fits e trace) → MayNotOpen fits.world fault.NumbersSpent
+    (trace : List TraceEntry) → (fits : Fits e trace) → MayNotOpen fits.world fault.NumbersSpent
 
 -- why serving stops early: the line's failures rose, where it failed
 abbrev pub IsServeFault : ServeFault → ℕ → ℕ → Type 0
@@ -202,7 +202,7 @@ Applies e ev e' = (r : Result Happened EngineFault) × GoesOnTrace e ev r e'
 
 -- what waits to be sent
 abbrev pub HasOutput : EngineView → ℕ → List ℕ → Type 0
-HasOutput e session output = (trace : List Entry) → (fits : Fits e trace) → (t : Told)
+HasOutput e session output = (trace : List TraceEntry) → (fits : Fits e trace) → (t : SessionState)
     → IsSession fits.world session t → transcript t.answers ≡ t.sent ++ output
 
 -- Turns of the session, all but the last of which go on. The clock told the moment of the first, if

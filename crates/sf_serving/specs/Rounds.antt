@@ -10,17 +10,17 @@ use Rattle.sf_session.specs.declared.cause.Cause.{Cause}
 use Rattle.sf_session.specs.declared.cause.Cause.TheVariants.{Closed}
 use Rattle.sf_session.specs.declared.fault.ServeFault.{ServeFault}
 use Rattle.sf_session.specs.declared.fault.ServeFault.TheVariants as fault
-use Rattle.sf_engine.specs.Worlds.{Told}
+use Rattle.sf_engine.specs.Worlds.{SessionState}
 use Rattle.sf_serving.specs.Ends.{IsWhole}
 use Rattle.sf_serving.specs.Hosts.{HasSent, with_sent, ended}
-use Rattle.sf_serving.specs.Serving.{LineView, Progress, progress, Served, IsInStep, Rests, HasWritten, IsSpentFor}
+use Rattle.sf_serving.specs.Serving.{LineView, Progress, progress, ServedSoFar, IsInStep, Rests, HasWritten, IsSpentFor}
 
 abbrev pub IsPieceWritten : LineCall → Type 0
 IsPieceWritten (Read n) = ⊥
 IsPieceWritten (Write n) = n ≤ 65536
 
 -- The line took these bytes, by writes of pieces alone.
-pub record Writes (start now : LineView) (sent : List ℕ) : Type 0 where
+pub record WritesByPieces (start now : LineView) (sent : List ℕ) : Type 0 where
   pub incoming : now.incoming ≡ start.incoming
   pub appended : Appends start.outgoing now.outgoing sent
   pub writes : List LineCall
@@ -31,23 +31,23 @@ pub record Writes (start now : LineView) (sent : List ℕ) : Type 0 where
 -- it took the front of the bytes
 abbrev pub WritesFront : LineView → LineView → List ℕ → Type 0
 WritesFront start now bytes =
-    (sent : List ℕ) × (rest : List ℕ) × (bytes ≡ sent ++ rest) × Writes start now sent
+    (sent : List ℕ) × (rest : List ℕ) × (bytes ≡ sent ++ rest) × WritesByPieces start now sent
 
 -- after what waited was written, and told as sent
 abbrev pub all_sent : Progress → Progress
 all_sent p = progress (with_sent p.told) p.unfed (with_sent p.told).sent
 
-abbrev pub SendsAll : (Tells Tells' : Told → Type 0) → LineView → LineView → Type 0
-SendsAll Tells Tells' old new = (from : LineView) (p : Progress) → Tells p.told → Served from old p
-    → IsInStep p → Tells' (with_sent p.told) × Served from new (all_sent p)
+abbrev pub SendsAll : (Tells Tells' : SessionState → Type 0) → LineView → LineView → Type 0
+SendsAll Tells Tells' old new = (from : LineView) (p : Progress) → Tells p.told → ServedSoFar from old p
+    → IsInStep p → Tells' (with_sent p.told) × ServedSoFar from new (all_sent p)
 
 -- after a beginning of it was written, and not told
-abbrev pub SendsSome : (Told → Type 0) → LineView → LineView → Type 0
-SendsSome Tells old new = (from : LineView) (p : Progress) → Tells p.told → Served from old p
-    → IsInStep p → (written : List ℕ) × Served from new (progress p.told p.unfed written)
+abbrev pub SendsSome : (SessionState → Type 0) → LineView → LineView → Type 0
+SendsSome Tells old new = (from : LineView) (p : Progress) → Tells p.told → ServedSoFar from old p
+    → IsInStep p → (written : List ℕ) × ServedSoFar from new (progress p.told p.unfed written)
 
 -- It ends by this cause, once it ends.
-pub record Ends (incoming : Option (List ℕ)) (cause : Cause) (p : Progress) : Type 0 where
+pub record EndsByCause (incoming : Option (List ℕ)) (cause : Cause) (p : Progress) : Type 0 where
   pub fed : p.unfed ≡ []
   pub whole : IsWhole (ended p.told) cause
   pub sent : HasSent p.told
@@ -57,7 +57,7 @@ pub record Ends (incoming : Option (List ℕ)) (cause : Cause) (p : Progress) : 
 -- after the packets that were unread
 abbrev pub IsRounded : ℕ → Option (List ℕ) → Option Cause → Progress → Type 0
 IsRounded n incoming None p = Rests n p
-IsRounded n incoming (Some cause) p = Ends incoming cause p
+IsRounded n incoming (Some cause) p = EndsByCause incoming cause p
 
 -- serving stops: unless the line failed, all that was written was told as sent
 abbrev pub Stops : ServeFault → (work : ℕ) → Progress → Type 0

@@ -10,7 +10,7 @@ use Rattle.sf_session.specs.declared.cause.Cause.{Cause}
 use Rattle.sf_session.specs.declared.cause.Cause.TheVariants.{Closed}
 use Rattle.sf_session.specs.declared.fault.ServeFault.{ServeFault}
 use Rattle.sf_session.specs.declared.fault.ServeFault.TheVariants as fault
-use Rattle.sf_engine.specs.Worlds.{Answered, transcript, Told}
+use Rattle.sf_engine.specs.Worlds.{Response, transcript, SessionState}
 use Rattle.sf_engine.specs.Traces.{TakesNone}
 use Rattle.sf_engine.specs.Laws.{IsRead}
 use Rattle.sf_serving.specs.Ends.{IsWhole}
@@ -28,11 +28,11 @@ line_view incoming outgoing calls =
 
 -- what a session was told, what was read and has not been fed, and what was written
 pub record Progress : Type 0 where
-  pub told : Told
+  pub told : SessionState
   pub unfed : List ℕ
   pub written : List ℕ
 
-abbrev pub progress : Told → List ℕ → List ℕ → Progress
+abbrev pub progress : SessionState → List ℕ → List ℕ → Progress
 progress told unfed written = record { told = told; unfed = unfed; written = written }
 
 -- By these calls whole packets were read, and less than one more; the packets' replies were
@@ -41,7 +41,7 @@ pub record IsPromptAt (p : Progress) (calls : List LineCall) : Type 0 where
   pub read : List ℕ
   pub rest : List ℕ
   pub bodies : List (List ℕ)
-  pub answers : List Answered
+  pub answers : List Response
   pub was_read : IsFront read p.told.stream
   pub count : length read ≡ given calls
   pub cut : Cuts read bodies (More rest)
@@ -64,7 +64,7 @@ IsPiece (Write n) = n ≤ 65536
 -- A session was served over a line so far. Its stream, and what is not fed yet, is what was read;
 -- what was written is a beginning of its transcript, and was written promptly, both in pieces of at
 -- most 65536 bytes.
-pub record Served (start now : LineView) (p : Progress) : Type 0 where
+pub record ServedSoFar (start now : LineView) (p : Progress) : Type 0 where
   pub bodies : IsRead p.told
   pub read : Consumes start.incoming now.incoming (p.told.stream ++ p.unfed)
   pub wrote : Appends start.outgoing now.outgoing p.written
@@ -77,8 +77,8 @@ pub record Served (start now : LineView) (p : Progress) : Type 0 where
   pub prompt : IsPrompt p log
 
 -- a session was served so far, and was told by its host what it was told
-abbrev pub Serves : (Told → Type 0) → LineView → LineView → (Progress → Type 0) → Type 0
-Serves Tells start now P = (p : Progress) × Tells p.told × Served start now p × P p
+abbrev pub Serves : (SessionState → Type 0) → LineView → LineView → (Progress → Type 0) → Type 0
+Serves Tells start now P = (p : Progress) × Tells p.told × ServedSoFar start now p × P p
 
 -- all that was written was told to the host as sent
 abbrev pub IsInStep : Progress → Type 0

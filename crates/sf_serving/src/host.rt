@@ -3,7 +3,7 @@
 ghost use Rattle.std.specs.Prelude.{◌≡◌, ◌<◌, ◌≤◌, ◌++◌, ◌^◌, ℕ, List, Option, Some, None, length, take, vec_len, IfErr, OnOk, OnErr};
 ghost use Rattle.sf_session.specs.declared.fault.ServeFault.{ServeFault};
 ghost use Rattle.sf_session.specs.declared.fault.ServeFault.TheVariants.{Stranger};
-ghost use Rattle.sf_engine.specs.Worlds.{Told, transcript};
+ghost use Rattle.sf_engine.specs.Worlds.{SessionState, transcript};
 ghost use Rattle.sf_engine.specs.Traces.{fed};
 ghost use Rattle.sf_engine.specs.Laws.{IsRead};
 ghost use Rattle.sf_serving.specs.Hosts.{IsOpen, HasSent, IsFurther, WentTo, with_sent, ended, IsHostFault};
@@ -28,7 +28,7 @@ pub trait Host<P> {
     ghost Start: { Type 0 };
 
     /// Since the start, after the clock's tellings, the session was told this.
-    ghost serves: { Start → Self → P → Option (List ℕ) → Told → Type 0 };
+    ghost serves: { Start → Self → P → Option (List ℕ) → SessionState → Type 0 };
 
     /// The host agrees with the place.
     ghost sound: { Self → P → Type 0 };
@@ -47,19 +47,19 @@ pub trait Host<P> {
         requires sound { sound self.old place.old }
         requires within { n ≤ vec_len piece.now }
         ensures sound { sound self.new place.new }
-        ensures fed { OnOk result ((start : Start) (told : Option (List ℕ)) (t : Told)
+        ensures fed { OnOk result ((start : Start) (told : Option (List ℕ)) (t : SessionState)
             → serves start self.old place.old told t → IsOpen t
             → serves start self.new place.new told (fed t (take n piece.now.items))) }
-        ensures err { OnErr result ((start : Start) (told : Option (List ℕ)) (t : Told)
+        ensures err { OnErr result ((start : Start) (told : Option (List ℕ)) (t : SessionState)
             → serves start self.old place.old told t → serves start self.new place.new told t) };
 
     /// Answers packets that are unread: none, one, or as many as it likes.
     fn go_on<C: Clock>(&mut self, place: &mut P, clock: &mut C) -> Result<Went, ServeFault>
         requires { sound self.old place.old }
         ensures sound { sound self.new place.new }
-        ensures went { (start : Start) (t : Told)
+        ensures went { (start : Start) (t : SessionState)
             → serves start self.old place.old (C.told clock.old) t
-            → IsOpen t → IsRead t → HasSent t → (t' : Told)
+            → IsOpen t → IsRead t → HasSent t → (t' : SessionState)
             × serves start self.new place.new (C.told clock.new) t'
             × IsFurther t t' × WentTo result t t' }
         ensures fault { IfErr result (λ fault. IsHostFault fault (work self.new place.new)
@@ -67,14 +67,14 @@ pub trait Host<P> {
 
     /// What waits to be sent.
     fn output<'a>(&'a self, place: &'a P) -> &'a [u8]
-        ensures { (start : Start) (told : Option (List ℕ)) (t : Told)
+        ensures { (start : Start) (told : Option (List ℕ)) (t : SessionState)
             → serves start self.now place.now told t → transcript t.answers ≡ t.sent ++ result.now };
 
     /// All that waits was sent.
     fn sent(&mut self, place: &mut P)
         requires { sound self.old place.old }
         ensures sound { sound self.new place.new }
-        ensures sent { (start : Start) (told : Option (List ℕ)) (t : Told)
+        ensures sent { (start : Start) (told : Option (List ℕ)) (t : SessionState)
             → serves start self.old place.old told t
             → serves start self.new place.new told (with_sent t) }
         ensures work { work self.new place.new ≡ work self.old place.old }
@@ -84,7 +84,7 @@ pub trait Host<P> {
     fn end(&mut self, place: &mut P) -> Result<(), ServeFault>
         requires { sound self.old place.old }
         ensures left { OnOk result (left self.new place.new None) }
-        ensures ended { (start : Start) (told : Option (List ℕ)) (t : Told)
+        ensures ended { (start : Start) (told : Option (List ℕ)) (t : SessionState)
             → serves start self.old place.old told t → serves start self.new place.new told (ended t) }
         ensures fault { IfErr result (λ fault. (fault ≡ Stranger) × strange self.new place.new
             × left self.new place.new (Some fault)) }

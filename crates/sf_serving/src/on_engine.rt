@@ -5,13 +5,13 @@ ghost use Rattle.std.specs.Io.KnownBytes.{Appends};
 ghost use Rattle.sf_session.specs.declared.fault.ServeFault.{ServeFault};
 ghost use Rattle.sf_engine.specs.declared.event.Event.TheVariants.{Open};
 ghost use Rattle.sf_engine.specs.declared.event.Happened.TheVariants.{Opened};
-ghost use Rattle.sf_engine.specs.Worlds.{Told, transcript};
+ghost use Rattle.sf_engine.specs.Worlds.{SessionState, transcript};
 ghost use Rattle.sf_engine.specs.Traces.{fed};
 ghost use Rattle.sf_engine.specs.Laws.{IsRead};
 ghost use Rattle.sf_engine.specs.Fits.{GoesOnTrace};
 ghost use Rattle.sf_serving.specs.Hosts.{IsOpen, HasSent, IsFurther, WentTo, with_sent, ended, IsHostFault};
 ghost use Rattle.sf_serving.specs.Serving.{line_view};
-ghost use Rattle.sf_serving.specs.OnEngine.{Since, IsToldBy, scene, may_begin_after, Turns, Feeds, Applies, HasOutput, ServesLine, StopsEarly, IsUnchanged, open_refusal, IsOpenFault, IsServeFault};
+ghost use Rattle.sf_serving.specs.OnEngine.{Since, IsToldBy, io_state, may_begin_after, Turns, Feeds, Applies, HasOutput, ServesLine, StopsEarly, IsUnchanged, open_refusal, IsOpenFault, IsServeFault};
 
 use crate::host::{Host, Went};
 use crate::serving::{new_piece, serve_session};
@@ -191,14 +191,14 @@ pub fn serve_one<L: Line, C: Clock>(
     clock: &mut C,
 ) -> Result<Cause, ServeFault>
     ensures served { IfOk result (λ cause. ServesLine
-        (scene (line_view (L.incoming line.old) (L.outgoing line.old) (L.calls line.old))
+        (io_state (line_view (L.incoming line.old) (L.outgoing line.old) (L.calls line.old))
         (C.told clock.old) engine.old)
-        (scene (line_view (L.incoming line.new) (L.outgoing line.new) (L.calls line.new))
+        (io_state (line_view (L.incoming line.new) (L.outgoing line.new) (L.calls line.new))
         (C.told clock.new) engine.new) cause) }
     ensures stopped { IfErr result (λ fault. StopsEarly
-        (scene (line_view (L.incoming line.old) (L.outgoing line.old) (L.calls line.old))
+        (io_state (line_view (L.incoming line.old) (L.outgoing line.old) (L.calls line.old))
         (C.told clock.old) engine.old)
-        (scene (line_view (L.incoming line.new) (L.outgoing line.new) (L.calls line.new))
+        (io_state (line_view (L.incoming line.new) (L.outgoing line.new) (L.calls line.new))
         (C.told clock.new) engine.new) fault) }
     ensures fault { IfErr result (λ fault. IsServeFault fault (L.failed line.old)
         (L.failed line.new)) }

@@ -2,10 +2,10 @@
 
 ghost use Rattle.std.specs.Prelude.{◌≡◌, ◌<◌, ◌≤◌, ◌+◌, ◌∷◌, ℕ, List, [], length, take, Option, None, Result, Ok, IfOk, IfErr, OnOk, OnErr, vec_len};
 ghost use Rattle.sf_line.specs.Lines.{Rose};
-ghost use Rattle.sf_engine.specs.Worlds.{Told};
+ghost use Rattle.sf_engine.specs.Worlds.{SessionState};
 ghost use Rattle.sf_serving.specs.Hosts.{IsLeftFor};
-ghost use Rattle.sf_serving.specs.Serving.{LineView, line_view, Progress, Served, Serves, GoesOn, Rests, IsServed, IsStopped, IsStop};
-ghost use Rattle.sf_serving.specs.Rounds.{Writes, WritesFront, SendsAll, SendsSome, IsRounded, Ends, Stops, HasStopped};
+ghost use Rattle.sf_serving.specs.Serving.{LineView, line_view, Progress, ServedSoFar, Serves, GoesOn, Rests, IsServed, IsStopped, IsStop};
+ghost use Rattle.sf_serving.specs.Rounds.{WritesByPieces, WritesFront, SendsAll, SendsSome, IsRounded, EndsByCause, Stops, HasStopped};
 
 use crate::host::{Host, Went};
 use sf_line::{Line, LineFault};
@@ -24,7 +24,7 @@ pub fn new_piece(alloc: Global) -> Result<Vec<u8>, AllocError>
 
 /// Writes all of the bytes, in pieces. A fault leaves any beginning of them written.
 fn write_pieces<L: Line>(line: &mut L, bytes: &[u8]) -> Result<(), LineFault>
-    ensures all { OnOk result (Writes
+    ensures all { OnOk result (WritesByPieces
         (line_view (L.incoming line.old) (L.outgoing line.old) (L.calls line.old))
         (line_view (L.incoming line.new) (L.outgoing line.new) (L.calls line.new)) bytes.now) }
     ensures front { WritesFront
@@ -154,7 +154,7 @@ fn rounds<P, H: Host<P>, L: Line, C: Clock>(
         (line_view (L.incoming line.old) (L.outgoing line.old) (L.calls line.old)) (Rests 0)
         → Serves (H.serves start host.new place.new (C.told clock.new)) from
         (line_view (L.incoming line.new) (L.outgoing line.new) (L.calls line.new))
-        (Ends (L.incoming line.new) cause)) }
+        (EndsByCause (L.incoming line.new) cause)) }
     ensures stops { IfErr result (λ fault. (start : H.Start) (from : LineView)
         → Serves (H.serves start host.old place.old (C.told clock.old)) from
         (line_view (L.incoming line.old) (L.outgoing line.old) (L.calls line.old)) (Rests 0)

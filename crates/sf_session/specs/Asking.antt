@@ -41,8 +41,8 @@ abbrev pub path_at : List ℕ → Option Path
 path_at text = path_unless (fault_of text) (norm text)
 
 -- a handle is the 8 bytes of a number, big-endian
-abbrev pub handle_at : List ℕ → Option ℕ
-handle_at bytes = if nat_eq (length bytes) 8 then Some (from_be_bytes w64 bytes) else None
+abbrev pub handle_number : List ℕ → Option ℕ
+handle_number bytes = if nat_eq (length bytes) 8 then Some (from_be_bytes w64 bytes) else None
 
 -- the paths of a rename
 abbrev pub paths_at : List ℕ → List ℕ → Option (Path × Path)
@@ -51,15 +51,15 @@ paths_at old new =
 
 -- the call by a handle, if it is a number
 abbrev pub handle_call : WireRequest → Option Request
-handle_call (wire.Close handle) = option_map call.Close (handle_at handle)
+handle_call (wire.Close handle) = option_map call.Close (handle_number handle)
 handle_call (wire.Read handle offset len) =
-    option_map (λ number. call.Read number offset len) (handle_at handle)
+    option_map (λ number. call.Read number offset len) (handle_number handle)
 handle_call (wire.Write handle offset bytes) =
-    option_map (λ number. call.Write number offset bytes) (handle_at handle)
-handle_call (wire.FStat handle) = option_map call.FStat (handle_at handle)
+    option_map (λ number. call.Write number offset bytes) (handle_number handle)
+handle_call (wire.FStat handle) = option_map call.FStat (handle_number handle)
 handle_call (wire.FSetStat handle attrs) =
-    option_map (λ number. call.FSetStat number attrs) (handle_at handle)
-handle_call (wire.ReadDir handle) = option_map call.ReadDir (handle_at handle)
+    option_map (λ number. call.FSetStat number attrs) (handle_number handle)
+handle_call (wire.ReadDir handle) = option_map call.ReadDir (handle_number handle)
 handle_call request = None
 
 -- The call that a request asks for, if its paths have no fault and its handle is a number. LSTAT is STAT: there are no

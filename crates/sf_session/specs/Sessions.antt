@@ -79,7 +79,7 @@ pub record AnswersLocally (v w : SessionView) : Type 0 where
   }
 
 -- a body asked for a call
-pub record Calls (v : SessionView) (request : Request) (w : SessionView) : Type 0 where
+pub record AsksCall (v : SessionView) (request : Request) (w : SessionView) : Type 0 where
   pub body : List ℕ
   pub rest : List ℕ
   pub id : ℕ
@@ -103,7 +103,7 @@ EndsBy begun bytes cause = BeginsWrong bytes cause
 abbrev pub NextGives : SessionView → Next → SessionView → Type 0
 NextGives v next.More w = (v.ended ≡ None) × IsCut v.unread cut.More × (w ≡ v)
 NextGives v next.Local w = (v.ended ≡ None) × AnswersLocally v w
-NextGives v (next.Call request) w = (v.ended ≡ None) × Calls v request w
+NextGives v (next.Call request) w = (v.ended ≡ None) × AsksCall v request w
 NextGives v (next.Ended cause) w = ((v.ended ≡ Some cause) × (w ≡ v))
     ⊎ ((v.ended ≡ None) × EndsBy v.begun v.unread cause
     × (w ≡ record {

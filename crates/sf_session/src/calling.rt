@@ -3,7 +3,7 @@
 ghost use Rattle.std.specs.Prelude.{◌≡◌, ◌≤◌, length, IfOk, IfSome};
 ghost use Rattle.sf_path.specs.Names.{text_of};
 ghost use Rattle.sf_request.specs.declared.request.WireRequest.TheVariants.{Write};
-ghost use Rattle.sf_session.specs.Asking.{path_at, handle_at, paths_at, call_of, handle_call};
+ghost use Rattle.sf_session.specs.Asking.{path_at, handle_number, paths_at, call_of, handle_call};
 
 use sf_call::Request;
 use sf_path::{Path, PathFault};
@@ -24,7 +24,7 @@ pub(crate) fn path_of(alloc: Global, text: &[u8]) -> Result<Option<Path>, AllocE
 
 /// The number of a handle, if it has the 8 bytes of one.
 fn handle_of(bytes: &[u8]) -> Option<u64>
-    ensures { result ≡ handle_at bytes.now }
+    ensures { result ≡ handle_number bytes.now }
 {
     let bytes: [u8; 8] = bytes.try_into().ok()?;
     Some(u64::from_be_bytes(bytes))

@@ -2,7 +2,7 @@
 use Rattle.std.proofs.Common.{◌≡◌, inl, inr, ℕ, List, [], ◌∷◌, ◌++◌, Result, Ok, Err, refl, sym, append-nil}
 use Rattle.sf_trees.specs.declared.fault.TreeFault.{TreeFault}
 use Rattle.sf_trees.specs.declared.fault.Refused.{Refused}
-use Rattle.sf_trees.specs.Deeds.{Deed, Begins, Ends, Does, IsNothing, Then, BySession, refused, at_place}
+use Rattle.sf_trees.specs.Deeds.{Deed, Begins, Ends, Does, IsNothing, Then, BySession, refused_at, request_place}
 
 -- the first one was refused
 pub refused_first : {V : Type 0} {A : Type 0} {R : Type 0} {E : Type 0} (reaches : V → List Deed → V → Type 0) (a b : V)
@@ -47,7 +47,7 @@ done_already reaches none a = ([], none a, (refl, refl))
 -- no session begins
 pub no_session : {V : Type 0} {R : Type 0} (reaches : V → List Deed → V → Type 0) (a b : V)
     (P : ℕ → List Deed → Result R Refused → Type 0) (why : TreeFault) → reaches a (Begins (Err why) ∷ []) b
-    → Does reaches a b (BySession P) (Err (refused (at_place 1 0) why))
+    → Does reaches a b (BySession P) (Err (refused_at (request_place 1 0) why))
 no_session reaches a b P why begun = (Begins (Err why) ∷ [], begun, inr (why, refl, refl))
 
 -- a session began, this was done by it, and it ended

@@ -7,8 +7,8 @@ use Rattle.sf_reply.specs.declared.reply.Entry.{Entry}
 use Rattle.sf_reply.specs.declared.reply.Reply.TheVariants as reply
 use Rattle.sf_trees.specs.Deeds.{Deed, Asks}
 use Rattle.sf_trees.specs.Makings.{piece}
-use Rattle.sf_trees.specs.declared.found.Name.{Name}
-use Rattle.sf_trees.specs.Walks.{reads_from, join_all, listings, Seen, seen, seen_at, HasReadSoFar, AddsPiece, HasListedSoFar, AddsNames, ListsOn, Waits}
+use Rattle.sf_trees.specs.declared.found.FoundName.{FoundName}
+use Rattle.sf_trees.specs.Walks.{reads_from, join_all, listing_deeds, Seen, seen, seen_at, HasReadSoFar, AddsPiece, HasListedSoFar, AddsNames, ListsRest, WaitBehind}
 
 pub ap2 : (a b c d : List Deed) → a ≡ c → b ≡ d → a ++ b ≡ c ++ d
 ap2 a b c d e f = ap (λ (x : List Deed). x ++ b) e ∙ ap (λ (x : List Deed). c ++ x) f
@@ -37,8 +37,8 @@ join_append (p ∷ pieces) bytes =
     ap (λ (x : List ℕ). p ++ x) (join_append pieces bytes) ∙ sym (append_assoc p (join_all pieces) bytes)
 
 pub listings_append : (session handle : ℕ) (pieces : List (List Entry)) (entries : List Entry)
-    → listings session handle (pieces ++ entries ∷ [])
-    ≡ listings session handle pieces ++ Asks session (request.ReadDir (be64 handle)) (Ok (reply.Names entries)) ∷ []
+    → listing_deeds session handle (pieces ++ entries ∷ [])
+    ≡ listing_deeds session handle pieces ++ Asks session (request.ReadDir (be64 handle)) (Ok (reply.Names entries)) ∷ []
 listings_append session handle [] entries = refl
 listings_append session handle (p ∷ pieces) entries =
     let first = Asks session (request.ReadDir (be64 handle)) (Ok (reply.Names p)) in
@@ -73,7 +73,7 @@ reads_further session handle first second old new h a =
     )
 
 -- one piece more of a listing
-pub names_further : (session handle : ℕ) (path : List ℕ) (first second : List Deed) (begun old new : List Name)
+pub names_further : (session handle : ℕ) (path : List ℕ) (first second : List Deed) (begun old new : List FoundName)
     → HasListedSoFar session handle path begun first old → AddsNames session handle path old second true new
     → HasListedSoFar session handle path begun (first ++ second) new
 names_further session handle path first second begun old new h a =
@@ -87,9 +87,9 @@ names_further session handle path first second begun old new h a =
     )
 
 -- the end of a listing
-pub names_ended : (session handle : ℕ) (path : List ℕ) (first second : List Deed) (begun old new : List Name)
+pub names_ended : (session handle : ℕ) (path : List ℕ) (first second : List Deed) (begun old new : List FoundName)
     → HasListedSoFar session handle path begun first old → AddsNames session handle path old second false new
-    → ((below : List Seen) × ListsOn session handle path (first ++ second) below × Waits begun below new)
+    → ((below : List Seen) × ListsRest session handle path (first ++ second) below × WaitBehind begun below new)
 names_ended session handle path first second begun old new h a = (
   map (seen_at path) (flat_map (λ (es : List Entry). es) h.0),
   record { pieces = h.0; asked = ap2 first second _ _ h.1 a.0; whole = refl },

@@ -13,8 +13,8 @@ use Rattle.sf_trees.specs.declared.fault.TreeFault.{TreeFault}
 use Rattle.sf_trees.specs.declared.fault.TreeFault.TheVariants as fault
 use Rattle.sf_trees.specs.declared.fault.Place.{Place}
 use Rattle.sf_trees.specs.declared.fault.Refused.{Refused}
-use Rattle.sf_trees.specs.Deeds.{Deed, Asks, Does, IsAsked, done_by, handle_by, data_by, attrs_by, names_by, refused}
-use Rattle.sf_trees.specs.Walks.{IsLookRequest, AreLooks, IsCame, IsLast, IsWhy, Halts, IsLookedFor, Looking, opened}
+use Rattle.sf_trees.specs.Deeds.{Deed, Asks, Does, IsAsked, done_by, handle_by, data_by, attrs_by, names_by, refused_at}
+use Rattle.sf_trees.specs.Walks.{IsLookRequest, AreLooks, IsCame, IsLast, IsWhy, Halts, IsLookedFor, Looking, opening_then}
 use Rattle.sf_trees.proofs.Gathering.{ap2}
 
 -- the fault of a result
@@ -22,7 +22,7 @@ abbrev fault_of : {R : Type 0} → TreeFault → Result R Refused → TreeFault
 fault_of d (Ok x) = d
 fault_of d (Err why) = why.fault
 
-same_fault : {R : Type 0} (why : Refused) (f : TreeFault) (place : Place) → ◌≡◌ {A = Result R Refused} (Err why) (Err (refused place f)) → why.fault ≡ f
+same_fault : {R : Type 0} (why : Refused) (f : TreeFault) (place : Place) → ◌≡◌ {A = Result R Refused} (Err why) (Err (refused_at place f)) → why.fault ≡ f
 same_fault why f place e = ap (fault_of f) e
 
 pub data_fails : (place : Place) (why : Refused) (came : Result Reply TreeFault) → Err why ≡ data_by place came → IsCame why came
@@ -256,7 +256,7 @@ pub opened_looks : {V : Type 0} {R : Type 0} (reaches : V → List Deed → V �
     → IsLookRequest q → Does reaches a b (IsAsked session q (handle_by place)) (Ok handle)
     → Does reaches b c (Looking session P) (Ok x)
     → Does reaches c d (IsAsked session (request.Close (be64 handle)) (done_by other)) (Ok tt)
-    → Does reaches a d (λ deeds y. AreLooks session deeds × ((inner : List Deed) × (deeds ≡ opened session q handle inner) × P inner y)) x
+    → Does reaches a d (λ deeds y. AreLooks session deeds × ((inner : List Deed) × (deeds ≡ opening_then session q handle inner) × P inner y)) x
 opened_looks reaches on a b c d session q place other handle P x look opening more closing =
     let close = request.Close (be64 handle) in
     let o = look_done reaches a b session q (handle_by place) handle (Ok (reply.Handle handle)) look (handle_gives place handle) opening in

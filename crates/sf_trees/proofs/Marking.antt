@@ -4,7 +4,7 @@ use Rattle.std.specs.Global.{Vec}
 use Rattle.sf_trees.specs.declared.fault.Refused.{Refused}
 use Rattle.sf_trees.specs.declared.found.Found.{Found}
 use Rattle.sf_trees.specs.Deeds.{Deed, Does}
-use Rattle.sf_trees.specs.Numbers.{Marks, MarksTo, Restores, RestoresTo, first_refusal, is_linked, IsMarkIf, IsMark, AreMarks, items_of, both}
+use Rattle.sf_trees.specs.Numbers.{Marks, MarksTo, Restores, RestoresTo, first_refusal, is_linked, IsMarkIf, IsMark, AreMarks, mark_items, both}
 use Rattle.sf_trees.proofs.Doing.{refused_first, both_done}
 
 pub marks_begun : {V : Type 0} (reaches : V → List Deed → V → Type 0) (none : (a : V) → reaches a [] a) (a : V)
@@ -84,7 +84,7 @@ mark_own session all one at o there alone =
     subst (λ (x : Option Found). IsMark session all x at [] at) (sym there)
     (subst (λ (b : Bool). IsMarkIf b session all one at [] at) (sym alone) (refl, refl))
 
-pub both_items : (came : Result (Vec ℕ) Refused) (back : Result (Unit {0}) Refused) → items_of (both came back) ≡ both (items_of came) back
+pub both_items : (came : Result (Vec ℕ) Refused) (back : Result (Unit {0}) Refused) → mark_items (both came back) ≡ both (mark_items came) back
 both_items (Ok marks) (Ok done) = refl
 both_items (Ok marks) (Err why) = refl
 both_items (Err why) back = refl

@@ -6,7 +6,7 @@ use Rattle.std.proofs.Math.Seq.{get_or-append_seam}
 use Rattle.std.proofs.lemmas.List.{get_or-set_same, get_or-set_other}
 use Rattle.std.specs.List.{slice_get}
 use Rattle.sf_trees.specs.declared.found.Found.{Found}
-use Rattle.sf_trees.specs.Numbers.{is_file_at, AreNumbers, IsNumberBy}
+use Rattle.sf_trees.specs.Numbers.{is_found_file, AreNumbers, IsNumberBy}
 
 -- The files before a place have the numbers that their marks were given, of which no two are the same.
 pub record Numbered (found : List Found) (marks given numbers : List ℕ) (next at : ℕ) : Type 0 where
@@ -15,9 +15,9 @@ pub record Numbered (found : List Found) (marks given numbers : List ℕ) (next 
   pub count : length numbers ≡ at
   pub below : (m : ℕ) → get_or given m 0 < next
   pub apart : (m n : ℕ) → 0 < get_or given m 0 → get_or given m 0 ≡ get_or given n 0 → m ≡ n
-  pub files : (i : ℕ) → i < at → is_file_at (slice_get found i) ≡ true
+  pub files : (i : ℕ) → i < at → is_found_file (slice_get found i) ≡ true
       → (0 < get_or given (get_or marks i 0) 0) × (get_or numbers i 0 ≡ get_or given (get_or marks i 0) 0)
-  pub others : (i : ℕ) → i < at → is_file_at (slice_get found i) ≡ false → get_or numbers i 0 ≡ 0
+  pub others : (i : ℕ) → i < at → is_found_file (slice_get found i) ≡ false → get_or numbers i 0 ≡ 0
 
 pub none_numbered : (found : List Found) (marks given : List ℕ) → ((m : ℕ) → get_or given m 0 ≡ 0) → Numbered found marks given [] 1 0
 none_numbered found marks given none = record {
@@ -48,7 +48,7 @@ contrary : {R : Type 0} (b : Bool) → b ≡ true → b ≡ false → R
 contrary b t f = absurd (subst (λ (x : Bool). IsYes x) (sym t ∙ f) tt)
 
 pub numbered_other : (found : List Found) (marks given numbers : List ℕ) (next at : ℕ) → Numbered found marks given numbers next at
-    → is_file_at (slice_get found at) ≡ false → Numbered found marks given (numbers ++ 0 ∷ []) next (at + 1)
+    → is_found_file (slice_get found at) ≡ false → Numbered found marks given (numbers ++ 0 ∷ []) next (at + 1)
 numbered_other found marks given numbers next at h other = record {
   few = omega (arith, h.few);
   some = h.some;
@@ -57,7 +57,7 @@ numbered_other found marks given numbers next at h other = record {
   apart = h.apart;
   files = λ i l f. elim (last_or_before i at l) [
     | inl b ↦ let old = h.files i b f in (old.0, old_number numbers 0 i (omega (arith, b, h.count)) ∙ old.1)
-    | inr e ↦ contrary _ f (ap (λ (j : ℕ). is_file_at (slice_get found j)) e ∙ other)
+    | inr e ↦ contrary _ f (ap (λ (j : ℕ). is_found_file (slice_get found j)) e ∙ other)
   ];
   others = λ i l f. elim (last_or_before i at l) [
     | inl b ↦ old_number numbers 0 i (omega (arith, b, h.count)) ∙ h.others i b f
@@ -66,7 +66,7 @@ numbered_other found marks given numbers next at h other = record {
 }
 
 pub numbered_again : (found : List Found) (marks given numbers : List ℕ) (next at n : ℕ) → Numbered found marks given numbers next at
-    → is_file_at (slice_get found at) ≡ true → 0 < get_or given (get_or marks at 0) 0 → n ≡ get_or given (get_or marks at 0) 0
+    → is_found_file (slice_get found at) ≡ true → 0 < get_or given (get_or marks at 0) 0 → n ≡ get_or given (get_or marks at 0) 0
     → Numbered found marks given (numbers ++ n ∷ []) next (at + 1)
 numbered_again found marks given numbers next at n h file had is = record {
   few = omega (arith, h.few);
@@ -82,7 +82,7 @@ numbered_again found marks given numbers next at n h file had is = record {
   ];
   others = λ i l f. elim (last_or_before i at l) [
     | inl b ↦ old_number numbers n i (omega (arith, b, h.count)) ∙ h.others i b f
-    | inr e ↦ contrary _ (ap (λ (j : ℕ). is_file_at (slice_get found j)) e ∙ file) f
+    | inr e ↦ contrary _ (ap (λ (j : ℕ). is_found_file (slice_get found j)) e ∙ file) f
   ];
 }
 
@@ -99,7 +99,7 @@ given_cases given m next k within = elim (cases_eq k m) [
 ]
 
 pub numbered_new : (found : List Found) (marks given numbers : List ℕ) (next at : ℕ) → Numbered found marks given numbers next at
-    → is_file_at (slice_get found at) ≡ true → get_or marks at 0 < length given → get_or given (get_or marks at 0) 0 ≡ 0
+    → is_found_file (slice_get found at) ≡ true → get_or marks at 0 < length given → get_or given (get_or marks at 0) 0 ≡ 0
     → Numbered found marks (set given (get_or marks at 0) next) (numbers ++ next ∷ []) (next + 1) (at + 1)
 numbered_new found marks given numbers next at h file within none =
     let m = get_or marks at 0 in
@@ -132,7 +132,7 @@ numbered_new found marks given numbers next at h file within none =
       ];
       others = λ i l f. elim (last_or_before i at l) [
         | inl b ↦ old_number numbers next i (omega (arith, b, h.count)) ∙ h.others i b f
-        | inr e ↦ contrary _ (ap (λ (j : ℕ). is_file_at (slice_get found j)) e ∙ file) f
+        | inr e ↦ contrary _ (ap (λ (j : ℕ). is_found_file (slice_get found j)) e ∙ file) f
       ];
     }
 
@@ -152,7 +152,7 @@ all_numbered found marks given numbers next h = record {
 
 -- one step, by whether a file is there
 pub numbered_on : (found : List Found) (marks given given' numbers : List ℕ) (next next' at n : ℕ) (file : Bool)
-    → is_file_at (slice_get found at) ≡ file → Numbered found marks given numbers next at
+    → is_found_file (slice_get found at) ≡ file → Numbered found marks given numbers next at
     → IsNumberBy file given (get_or marks at 0) next (Some n) given' next'
     → Numbered found marks given' (numbers ++ n ∷ []) next' (at + 1)
 numbered_on found marks given given' numbers next next' at n false is h s =

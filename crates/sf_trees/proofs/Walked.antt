@@ -3,7 +3,7 @@ use Rattle.std.proofs.Common.{◌≡◌, ◌∙◌, ℕ, List, [], ◌∷◌, �
 use Rattle.sf_field.specs.declared.attrs.Attrs.{Attrs}
 use Rattle.sf_request.specs.declared.request.WireRequest.TheVariants as request
 use Rattle.sf_reply.specs.declared.reply.Reply.TheVariants as reply
-use Rattle.sf_trees.specs.declared.found.Name.{Name}
+use Rattle.sf_trees.specs.declared.found.FoundName.{FoundName}
 use Rattle.sf_trees.specs.declared.found.Found.{Found}
 use Rattle.sf_trees.specs.Deeds.{Deed, Asks}
 use Rattle.sf_trees.specs.Walks.{Seen, seen, LooksAt, AreLookedAt, Visits, WalksSoFar, WalksOn, IsTree, root_path, root_seen}
@@ -36,8 +36,8 @@ names_behind : (more : List Found) (one : Found) (rest : List Seen) → map name
 names_behind [] one rest = refl
 names_behind (f ∷ more) one rest = ap (λ (l : List Seen). name_of f ∷ l) (names_behind more one rest)
 
-pub walked_further : (session : ℕ) (old : List Found) (waited : List Name) (first second : List Deed) (found found' : List Found)
-    (waiting rest waiting' : List Name) (name : Name)
+pub walked_further : (session : ℕ) (old : List Found) (waited : List FoundName) (first second : List Deed) (found found' : List Found)
+    (waiting rest waiting' : List FoundName) (name : FoundName)
     → WalksSoFar session old waited first found waiting → waiting ≡ name ∷ rest → Visits session found rest name second found' waiting'
     → WalksSoFar session old waited (first ++ second) found' waiting'
 walked_further session old waited first second found found' waiting rest waiting' name h e v =
@@ -47,18 +47,18 @@ walked_further session old waited first second found found' waiting rest waiting
     let near = v.1 in
     let items = (v.3 ∙ ap (λ (l : List Found). l ++ one ∷ []) h.2) ∙ append_assoc old more (one ∷ []) in
     let left = sym (append_assoc (map seen waited) below near) ∙ ap (λ (l : List Seen). l ++ near) h.4 in
-    let taken = ap (λ (l : List Name). (map name_of more ++ map seen l) ++ near) e in
+    let taken = ap (λ (l : List FoundName). (map name_of more ++ map seen l) ++ near) e in
     let turned = append_assoc (map name_of more) (seen name ∷ map seen rest) near in
     let same = ap (λ (s : Seen). map name_of more ++ s ∷ (map seen rest ++ near)) (sym v.2) in
     let waits = ap (λ (l : List Seen). map name_of more ++ seen one.name ∷ l) (sym v.5) in
     let whole = ((left ∙ taken) ∙ turned) ∙ ((same ∙ waits) ∙ sym (names_behind more one (map seen waiting'))) in
     (more ++ one ∷ [], below ++ near, items, looked_append session more one first second below near h.3 v.4, whole)
 
-pub walk_begun : (session : ℕ) (old : List Found) (waited : List Name) → WalksSoFar session old waited [] old waited
+pub walk_begun : (session : ℕ) (old : List Found) (waited : List FoundName) → WalksSoFar session old waited [] old waited
 unfolding AreLookedAt
 walk_begun session old waited = ([], [], sym (append-nil old), (refl, refl), append-nil (map seen waited))
 
-pub tree_walked : (session : ℕ) (attrs : Attrs) (root : Name) (first second : List Deed) (found : List Found) (waited : List Name)
+pub tree_walked : (session : ℕ) (attrs : Attrs) (root : FoundName) (first second : List Deed) (found : List Found) (waited : List FoundName)
     → seen root ≡ root_seen attrs → waited ≡ root ∷ []
     → first ≡ Asks session (request.Stat root_path) (Ok (reply.Attrs attrs)) ∷ [] → WalksOn session [] waited second found
     → IsTree session (first ++ second) found
@@ -68,6 +68,6 @@ tree_walked session attrs root first second found waited is one asked w = record
   below = w.1;
   asked = ap (λ (l : List Deed). l ++ second) asked;
   looked_at = subst (λ (l : List Found). AreLookedAt session l second w.1) (sym w.2) w.3;
-  all = (ap (λ (s : Seen). s ∷ w.1) (sym is) ∙ ap (λ (l : List Name). map seen l ++ w.1) (sym one))
+  all = (ap (λ (s : Seen). s ∷ w.1) (sym is) ∙ ap (λ (l : List FoundName). map seen l ++ w.1) (sym one))
       ∙ (w.4 ∙ ap (map name_of) (sym w.2));
 }

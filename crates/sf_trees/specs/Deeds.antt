@@ -29,42 +29,42 @@ IsAsked session q told deeds result = (came : Result Reply TreeFault)
     × (deeds ≡ Asks session q came ∷ []) × (result ≡ told came)
 
 -- why a reply isn't the one that is due
-abbrev pub refusal_of : Reply → TreeFault
-refusal_of (reply.Status code) = fault.Status code
-refusal_of reply.NoMemory = fault.OutOfMemory
-refusal_of (reply.Handle number) = fault.Reply
-refusal_of (reply.Data bytes) = fault.Reply
-refusal_of (reply.Names entries) = fault.Reply
-refusal_of (reply.Attrs attrs) = fault.Reply
+abbrev pub fault_in_reply : Reply → TreeFault
+fault_in_reply (reply.Status code) = fault.Status code
+fault_in_reply reply.NoMemory = fault.OutOfMemory
+fault_in_reply (reply.Handle number) = fault.Reply
+fault_in_reply (reply.Data bytes) = fault.Reply
+fault_in_reply (reply.Names entries) = fault.Reply
+fault_in_reply (reply.Attrs attrs) = fault.Reply
 
-abbrev pub refused : Place → TreeFault → Refused
-refused place why = record { fault = why; place = place }
+abbrev pub refused_at : Place → TreeFault → Refused
+refused_at place why = record { fault = why; place = place }
 
 -- whether a request was done
 abbrev pub done_by : Place → Result Reply TreeFault → Result (Unit {0}) Refused
 done_by place (Ok (reply.Status status.Success)) = Ok tt
-done_by place (Ok other) = Err (refused place (refusal_of other))
-done_by place (Err why) = Err (refused place why)
+done_by place (Ok other) = Err (refused_at place (fault_in_reply other))
+done_by place (Err why) = Err (refused_at place why)
 
 -- the number of a handle that was opened
 abbrev pub handle_by : Place → Result Reply TreeFault → Result ℕ Refused
 handle_by place (Ok (reply.Handle number)) = Ok number
-handle_by place (Ok other) = Err (refused place (refusal_of other))
-handle_by place (Err why) = Err (refused place why)
+handle_by place (Ok other) = Err (refused_at place (fault_in_reply other))
+handle_by place (Err why) = Err (refused_at place why)
 
 -- the type of a request's packet, 202 for a link, and how many bytes of the path it is on
-abbrev pub at_place : ℕ → ℕ → Place
-at_place kind len = record { kind = kind; length = len }
+abbrev pub request_place : ℕ → ℕ → Place
+request_place kind len = record { kind = kind; length = len }
 
 -- nothing was done
 abbrev pub IsNothing : {E : Type 0} → List Deed → Result (Unit {0}) E → Type 0
 IsNothing deeds result = (deeds ≡ []) × (result ≡ Ok tt)
 
 -- what came of it leads on to this, or ends it
-abbrev pub GoesOn : {A : Type 0} → {R : Type 0} → {E : Type 0}
+abbrev pub ContinuesWith : {A : Type 0} → {R : Type 0} → {E : Type 0}
     → (A → List Deed → Result R E → Type 0) → Result A E → List Deed → Result R E → Type 0
-GoesOn Q (Ok x) deeds result = Q x deeds result
-GoesOn Q (Err why) deeds result = (deeds ≡ []) × (result ≡ Err why)
+ContinuesWith Q (Ok x) deeds result = Q x deeds result
+ContinuesWith Q (Err why) deeds result = (deeds ≡ []) × (result ≡ Err why)
 
 -- one thing after another, unless the first one is refused
 pub record Then {A : Type 0} {R : Type 0} {E : Type 0} (P : List Deed → Result A E → Type 0)
@@ -74,7 +74,7 @@ pub record Then {A : Type 0} {R : Type 0} {E : Type 0} (P : List Deed → Result
   pub came : Result A E
   pub parts : deeds ≡ first ++ second
   pub begins : P first came
-  pub goes_on : GoesOn Q came second result
+  pub goes_on : ContinuesWith Q came second result
 
 -- A session begins, this is done by it, and it ends.
 pub record HasSession {R : Type 0} (P : ℕ → List Deed → Result R Refused → Type 0)
@@ -89,23 +89,23 @@ abbrev pub BySession : {R : Type 0} → (ℕ → List Deed → Result R Refused 
     → Result R Refused → Type 0
 BySession P deeds result = HasSession P deeds result
     ⊎ ((why : TreeFault) × (deeds ≡ Begins (Err why) ∷ [])
-    × (result ≡ Err (refused (at_place 1 0) why)))
+    × (result ≡ Err (refused_at (request_place 1 0) why)))
 
 -- what READ gave
 abbrev pub data_by : Place → Result Reply TreeFault → Result (List ℕ) Refused
 data_by place (Ok (reply.Data bytes)) = Ok bytes
-data_by place (Ok other) = Err (refused place (refusal_of other))
-data_by place (Err why) = Err (refused place why)
+data_by place (Ok other) = Err (refused_at place (fault_in_reply other))
+data_by place (Err why) = Err (refused_at place why)
 
 -- what STAT told
 abbrev pub attrs_by : Place → Result Reply TreeFault → Result Attrs Refused
 attrs_by place (Ok (reply.Attrs attrs)) = Ok attrs
-attrs_by place (Ok other) = Err (refused place (refusal_of other))
-attrs_by place (Err why) = Err (refused place why)
+attrs_by place (Ok other) = Err (refused_at place (fault_in_reply other))
+attrs_by place (Err why) = Err (refused_at place why)
 
 -- the names of a piece of a listing, or its end
 abbrev pub names_by : Place → Result Reply TreeFault → Result (Option (List Entry)) Refused
 names_by place (Ok (reply.Names entries)) = Ok (Some entries)
 names_by place (Ok (reply.Status status.EndOfFile)) = Ok None
-names_by place (Ok other) = Err (refused place (refusal_of other))
-names_by place (Err why) = Err (refused place why)
+names_by place (Ok other) = Err (refused_at place (fault_in_reply other))
+names_by place (Err why) = Err (refused_at place why)

@@ -11,7 +11,7 @@ use Rattle.sf_reply.specs.declared.reply.StatusCode.TheVariants as status
 use Rattle.sf_trees.specs.declared.fault.TreeFault.{TreeFault}
 use Rattle.sf_trees.specs.declared.fault.Place.{Place}
 use Rattle.sf_trees.specs.declared.fault.Refused.{Refused}
-use Rattle.sf_trees.specs.Deeds.{Deed, IsAsked, refusal_of, refused, done_by, handle_by, at_place, IsNothing, Then, BySession}
+use Rattle.sf_trees.specs.Deeds.{Deed, IsAsked, fault_in_reply, refused_at, done_by, handle_by, request_place, IsNothing, Then, BySession}
 
 -- a byte of a name, and no slash
 abbrev pub is_of_name : Option ℕ → Bool
@@ -32,19 +32,19 @@ abbrev pub is_directory_mode : Option ℕ → Bool
 is_directory_mode (Some mode) = mode / 4096 == 4
 is_directory_mode None = false
 
-abbrev pub is_directory : Attrs → Bool
-is_directory attrs = is_directory_mode attrs.permissions
+abbrev pub is_directory_attrs : Attrs → Bool
+is_directory_attrs attrs = is_directory_mode attrs.permissions
 
 -- whether a directory was told
 abbrev pub finds_by : Place → Result Reply TreeFault → Result Bool Refused
-finds_by place (Ok (reply.Attrs attrs)) = Ok (is_directory attrs)
+finds_by place (Ok (reply.Attrs attrs)) = Ok (is_directory_attrs attrs)
 finds_by place (Ok (reply.Status status.NoSuchFile)) = Ok false
-finds_by place (Ok other) = Err (refused place (refusal_of other))
-finds_by place (Err why) = Err (refused place why)
+finds_by place (Ok other) = Err (refused_at place (fault_in_reply other))
+finds_by place (Err why) = Err (refused_at place why)
 
 abbrev pub Mkdirs : ℕ → List ℕ → List Deed → Result (Unit {0}) Refused → Type 0
 Mkdirs session path deeds result =
-    IsAsked session (request.Mkdir path no_attrs) (done_by (at_place 14 (length path))) deeds result
+    IsAsked session (request.Mkdir path no_attrs) (done_by (request_place 14 (length path))) deeds result
 
 -- a directory is made, unless it was found
 abbrev pub MakesUnless : ℕ → List ℕ → Bool → List Deed → Result (Unit {0}) Refused → Type 0
@@ -54,7 +54,7 @@ MakesUnless session path false deeds result = Mkdirs session path deeds result
 -- One directory is looked for, and made where it isn't found.
 abbrev pub MakesOne : ℕ → List ℕ → List Deed → Result (Unit {0}) Refused → Type 0
 MakesOne session path deeds result =
-    Then (IsAsked session (request.Stat path) (finds_by (at_place 17 (length path))))
+    Then (IsAsked session (request.Stat path) (finds_by (request_place 17 (length path))))
     (MakesUnless session path) deeds result
 
 abbrev pub MakesIf : ℕ → List ℕ → Bool → List Deed → Result (Unit {0}) Refused → Type 0
@@ -102,16 +102,16 @@ WritesTo session handle place contents (suc n) deeds result =
 
 abbrev pub WritesPieces : ℕ → ℕ → ℕ → List ℕ → List Deed → Result (Unit {0}) Refused → Type 0
 WritesPieces session handle len contents deeds result =
-    WritesTo session handle (at_place 6 len) contents (pieces_in (length contents)) deeds result
+    WritesTo session handle (request_place 6 len) contents (pieces_in (length contents)) deeds result
 
-abbrev pub Closes : ℕ → ℕ → ℕ → List Deed → Result (Unit {0}) Refused → Type 0
-Closes session handle len deeds result =
-    IsAsked session (request.Close (be64 handle)) (done_by (at_place 4 len)) deeds result
+abbrev pub ClosesHandle : ℕ → ℕ → ℕ → List Deed → Result (Unit {0}) Refused → Type 0
+ClosesHandle session handle len deeds result =
+    IsAsked session (request.Close (be64 handle)) (done_by (request_place 4 len)) deeds result
 
 -- All of these contents are written, and the handle is closed.
-abbrev pub WritesAll : ℕ → ℕ → List ℕ → ℕ → List Deed → Result (Unit {0}) Refused → Type 0
-WritesAll session len contents handle deeds result =
-    Then (WritesPieces session handle len contents) (λ done. Closes session handle len) deeds result
+abbrev pub WritesContents : ℕ → ℕ → List ℕ → ℕ → List Deed → Result (Unit {0}) Refused → Type 0
+WritesContents session len contents handle deeds result =
+    Then (WritesPieces session handle len contents) (λ done. ClosesHandle session handle len) deeds result
 
 -- WRITE, CREAT and TRUNC
 abbrev pub to_write : OpenFlags
@@ -126,31 +126,31 @@ to_write = record {
 
 abbrev pub OpensFile : ℕ → List ℕ → OpenFlags → ℕ → List Deed → Result ℕ Refused → Type 0
 OpensFile session path flags len deeds result =
-    IsAsked session (request.Open path flags no_attrs) (handle_by (at_place 3 len)) deeds result
+    IsAsked session (request.Open path flags no_attrs) (handle_by (request_place 3 len)) deeds result
 
 -- A file is opened to be written anew, written and closed.
 abbrev pub Fills : ℕ → List ℕ → List ℕ → List Deed → Result (Unit {0}) Refused → Type 0
 Fills session path contents deeds result =
     Then (OpensFile session path to_write (length path))
-    (WritesAll session (length path) contents) deeds result
+    (WritesContents session (length path) contents) deeds result
 
 -- the directory of a path, and those on its way
 abbrev pub MakesDirectory : List ℕ → List Deed → Result (Unit {0}) Refused → Type 0
 MakesDirectory path deeds result =
     BySession (λ session. MakesWay session true path) deeds result
 
-abbrev pub WritesOn : List ℕ → List ℕ → ℕ → List Deed → Result (Unit {0}) Refused → Type 0
-WritesOn path contents session deeds result =
+abbrev pub WritesMore : List ℕ → List ℕ → ℕ → List Deed → Result (Unit {0}) Refused → Type 0
+WritesMore path contents session deeds result =
     Then (MakesWay session false path) (λ done. Fills session path contents) deeds result
 
 -- a file, and the directories on its way
 abbrev pub WritesFile : List ℕ → List ℕ → List Deed → Result (Unit {0}) Refused → Type 0
 WritesFile path contents deeds result =
-    BySession (WritesOn path contents) deeds result
+    BySession (WritesMore path contents) deeds result
 
 abbrev pub LinksAlone : ℕ → List ℕ → List ℕ → List Deed → Result (Unit {0}) Refused → Type 0
 LinksAlone session old new deeds result =
-    IsAsked session (request.Link old new) (done_by (at_place 202 (length new))) deeds result
+    IsAsked session (request.Link old new) (done_by (request_place 202 (length new))) deeds result
 
 abbrev pub LinksOn : List ℕ → List ℕ → ℕ → List Deed → Result (Unit {0}) Refused → Type 0
 LinksOn old new session deeds result = Then (MakesWay session false new)

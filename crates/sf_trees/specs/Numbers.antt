@@ -8,13 +8,13 @@ use Rattle.sf_reply.specs.declared.reply.Reply.TheVariants as reply
 use Rattle.sf_trees.specs.declared.fault.TreeFault.{TreeFault}
 use Rattle.sf_trees.specs.declared.fault.Refused.{Refused}
 use Rattle.sf_trees.specs.declared.found.Found.{Found}
-use Rattle.sf_trees.specs.Deeds.{Deed, Begins, Asks, Ends, IsAsked, done_by, at_place, refused, IsNothing, Then}
-use Rattle.sf_trees.specs.Makings.{is_directory}
+use Rattle.sf_trees.specs.Deeds.{Deed, Begins, Asks, Ends, IsAsked, done_by, request_place, refused_at, IsNothing, Then}
+use Rattle.sf_trees.specs.Makings.{is_directory_attrs}
 use Rattle.sf_trees.specs.Walks.{Halts, Looking}
 
 -- a file that has several names
 abbrev pub is_linked : Found → Bool
-is_linked found = not (is_directory found.name.attrs) && nat_lt 1 found.name.links
+is_linked found = not (is_directory_attrs found.name.attrs) && nat_lt 1 found.name.links
 
 -- the times alone
 abbrev pub times_alone : Times → Attrs
@@ -35,7 +35,7 @@ marked found mark = record { atime = mark; mtime = (told_times found).mtime }
 abbrev pub SetsTimes : ℕ → Found → Times → List Deed → Result (Unit {0}) Refused → Type 0
 SetsTimes session found times deeds result =
     IsAsked session (request.SetStat found.name.path.items (times_alone times))
-    (done_by (at_place 9 (length found.name.path.items))) deeds result
+    (done_by (request_place 9 (length found.name.path.items))) deeds result
 
 -- of a file that has several names
 abbrev pub SetsIf : Bool → ℕ → Found → Times → List Deed → Result (Unit {0}) Refused → Type 0
@@ -104,9 +104,9 @@ HasTried marking found deeds (Err why) = MarksTo marking found (length found) de
     × MarksTo marking found (length found) first (Ok tt) × Halts marking second why)
 
 -- the items of marks
-abbrev pub items_of : Result (Vec ℕ) Refused → Result (List ℕ) Refused
-items_of (Ok marks) = Ok marks.items
-items_of (Err why) = Err why
+abbrev pub mark_items : Result (Vec ℕ) Refused → Result (List ℕ) Refused
+mark_items (Ok marks) = Ok marks.items
+mark_items (Err why) = Err why
 
 -- what was tried, unless the times weren't set back
 abbrev pub both : {R : Type 0} → Result R Refused → Result (Unit {0}) Refused → Result R Refused
@@ -133,33 +133,33 @@ HasNoLinks found = (at : ℕ) → is_linked_at (slice_get found at) ≡ false
 abbrev pub MarksAll : ℕ → List Found → List Deed → Result (List ℕ) Refused → Type 0
 MarksAll session found deeds result = HasMarked session found deeds result
     ⊎ (((why : TreeFault) × (deeds ≡ Begins (Err why) ∷ [])
-    × (result ≡ Err (refused (at_place 1 0) why)))
+    × (result ≡ Err (refused_at (request_place 1 0) why)))
     ⊎ (HasNoLinks found × Looking session (AreMarks session found (length found)) deeds result))
 
 -- whether a file is at a place
-abbrev pub is_file_at : Option Found → Bool
-is_file_at (Some found) = not (is_directory found.name.attrs)
-is_file_at None = false
+abbrev pub is_found_file : Option Found → Bool
+is_found_file (Some found) = not (is_directory_attrs found.name.attrs)
+is_found_file None = false
 
 -- A directory has 0, a file more, and of files just those with the same mark have the same number.
 pub record AreNumbers (found : List Found) (marks numbers : List ℕ) : Type 0 where
   pub length_is : length numbers ≡ length found
-  pub directories : (i : ℕ) → i < length found → is_file_at (slice_get found i) ≡ false → get_or numbers i 0 ≡ 0
-  pub files : (i : ℕ) → i < length found → is_file_at (slice_get found i) ≡ true → 0 < get_or numbers i 0
-  pub by_marks : (i j : ℕ) → i < length found → j < length found → is_file_at (slice_get found i) ≡ true
-      → is_file_at (slice_get found j) ≡ true
+  pub directories : (i : ℕ) → i < length found → is_found_file (slice_get found i) ≡ false → get_or numbers i 0 ≡ 0
+  pub files : (i : ℕ) → i < length found → is_found_file (slice_get found i) ≡ true → 0 < get_or numbers i 0
+  pub by_marks : (i j : ℕ) → i < length found → j < length found → is_found_file (slice_get found i) ≡ true
+      → is_found_file (slice_get found j) ≡ true
       → (get_or numbers i 0 ≡ get_or numbers j 0) ↔ (get_or marks i 0 ≡ get_or marks j 0)
 
 -- A mark has the number that it was given before, or is given the next one.
-abbrev pub IsGiven : List ℕ → ℕ → ℕ → Option ℕ → List ℕ → ℕ → Type 0
-IsGiven old mark next None new next' = Unit {0}
-IsGiven old mark next (Some n) new next' =
+abbrev pub IsNumbered : List ℕ → ℕ → ℕ → Option ℕ → List ℕ → ℕ → Type 0
+IsNumbered old mark next None new next' = Unit {0}
+IsNumbered old mark next (Some n) new next' =
     ((0 < get_or old mark 0) × (n ≡ get_or old mark 0) × (new ≡ old) × (next' ≡ next))
     ⊎ ((mark < length old) × (get_or old mark 0 ≡ 0) × (n ≡ next) × (new ≡ set old mark next)
     × (next' ≡ next + 1))
 
 -- so if it is a file's
 abbrev pub IsNumberBy : Bool → List ℕ → ℕ → ℕ → Option ℕ → List ℕ → ℕ → Type 0
-IsNumberBy true old mark next result new next' = IsGiven old mark next result new next'
+IsNumberBy true old mark next result new next' = IsNumbered old mark next result new next'
 IsNumberBy false old mark next None new next' = Unit {0}
 IsNumberBy false old mark next (Some n) new next' = (n ≡ 0) × (new ≡ old) × (next' ≡ next)

@@ -14,10 +14,10 @@ use Rattle.sf_reply.specs.declared.reply.StatusCode.TheVariants as status
 use Rattle.sf_trees.specs.declared.fault.TreeFault.{TreeFault}
 use Rattle.sf_trees.specs.declared.fault.TreeFault.TheVariants as fault
 use Rattle.sf_trees.specs.declared.fault.Refused.{Refused}
-use Rattle.sf_trees.specs.declared.found.Name.{Name}
+use Rattle.sf_trees.specs.declared.found.FoundName.{FoundName}
 use Rattle.sf_trees.specs.declared.found.Found.{Found}
-use Rattle.sf_trees.specs.Deeds.{Deed, Begins, Asks, Ends, refusal_of}
-use Rattle.sf_trees.specs.Makings.{is_directory, piece}
+use Rattle.sf_trees.specs.Deeds.{Deed, Begins, Asks, Ends, fault_in_reply}
+use Rattle.sf_trees.specs.Makings.{is_directory_attrs, piece}
 
 -- READ alone
 abbrev pub to_read : OpenFlags
@@ -54,7 +54,7 @@ most_contents = 1073741824
 
 -- why a request wasn't done
 abbrev pub IsCame : Refused → Result Reply TreeFault → Type 0
-IsCame why (Ok r) = why.fault ≡ refusal_of r
+IsCame why (Ok r) = why.fault ≡ fault_in_reply r
 IsCame why (Err f) = why.fault ≡ f
 
 -- the last deed came to that
@@ -113,7 +113,7 @@ pub record Seen : Type 0 where
   pub links : ℕ
   pub attrs : Attrs
 
-abbrev pub seen : Name → Seen
+abbrev pub seen : FoundName → Seen
 seen name = record { path = name.path.items; links = name.links; attrs = name.attrs }
 
 abbrev pub seen_at : List ℕ → Entry → Seen
@@ -134,15 +134,15 @@ abbrev pub join_all : List (List ℕ) → List ℕ
 join_all pieces = flat_map (λ bytes. bytes) pieces
 
 -- the READDIRs that gave these pieces of a listing
-abbrev pub listings : ℕ → ℕ → List (List Entry) → List Deed
-listings session handle [] = []
-listings session handle (entries ∷ pieces) =
+abbrev pub listing_deeds : ℕ → ℕ → List (List Entry) → List Deed
+listing_deeds session handle [] = []
+listing_deeds session handle (entries ∷ pieces) =
     Asks session (request.ReadDir (be64 handle)) (Ok (reply.Names entries))
-    ∷ listings session handle pieces
+    ∷ listing_deeds session handle pieces
 
 -- what a handle gave is between these
-abbrev pub opened : ℕ → WireRequest → ℕ → List Deed → List Deed
-opened session q handle deeds = Asks session q (Ok (reply.Handle handle)) ∷ deeds
+abbrev pub opening_then : ℕ → WireRequest → ℕ → List Deed → List Deed
+opening_then session q handle deeds = Asks session q (Ok (reply.Handle handle)) ∷ deeds
     ++ Asks session (request.Close (be64 handle)) (Ok (reply.Status status.Success)) ∷ []
 
 -- one READ more, which gave some bytes
@@ -156,7 +156,7 @@ HasReadSoFar session handle deeds contents = (pieces : List (List ℕ))
     × (deeds ≡ reads_from session handle 0 pieces) × (contents ≡ join_all pieces)
 
 -- A handle is read: pieces one behind another, up to the size.
-pub record ReadsOn (session handle size : ℕ) (deeds : List Deed) (contents : List ℕ) : Type 0 where
+pub record ReadsRest (session handle size : ℕ) (deeds : List Deed) (contents : List ℕ) : Type 0 where
   pub pieces : List (List ℕ)
   pub asked : deeds ≡ reads_from session handle 0 pieces
   pub whole : contents ≡ join_all pieces
@@ -166,58 +166,58 @@ pub record ReadsOn (session handle size : ℕ) (deeds : List Deed) (contents : L
 pub record HasRead (session : ℕ) (path : List ℕ) (size : ℕ) (deeds : List Deed) (contents : List ℕ) : Type 0 where
   pub handle : ℕ
   pub inner : List Deed
-  pub asked : deeds ≡ opened session (request.Open path to_read no_attrs) handle inner
-  pub reads : ReadsOn session handle size inner contents
+  pub asked : deeds ≡ opening_then session (request.Open path to_read no_attrs) handle inner
+  pub reads : ReadsRest session handle size inner contents
 
 abbrev pub listing_end : ℕ → ℕ → List Deed
 listing_end session handle =
     Asks session (request.ReadDir (be64 handle)) (Ok (reply.Status status.EndOfFile)) ∷ []
 
 -- one READDIR more, which gave names or ended the listing
-abbrev pub AddsNames : ℕ → ℕ → List ℕ → List Name → List Deed → Bool → List Name → Type 0
+abbrev pub AddsNames : ℕ → ℕ → List ℕ → List FoundName → List Deed → Bool → List FoundName → Type 0
 AddsNames session handle path old deeds true new = (entries : List Entry)
     × (deeds ≡ Asks session (request.ReadDir (be64 handle)) (Ok (reply.Names entries)) ∷ [])
     × (map seen new ≡ map seen old ++ map (seen_at path) entries)
 AddsNames session handle path old deeds false new =
     (deeds ≡ listing_end session handle) × (new ≡ old)
 
-abbrev pub HasListedSoFar : ℕ → ℕ → List ℕ → List Name → List Deed → List Name → Type 0
+abbrev pub HasListedSoFar : ℕ → ℕ → List ℕ → List FoundName → List Deed → List FoundName → Type 0
 HasListedSoFar session handle path old deeds new = (pieces : List (List Entry))
-    × (deeds ≡ listings session handle pieces)
+    × (deeds ≡ listing_deeds session handle pieces)
     × (map seen new ≡ map seen old ++ map (seen_at path) (flat_map (λ entries. entries) pieces))
 
 -- These names wait behind the others.
-abbrev pub Waits : List Name → List Seen → List Name → Type 0
-Waits old below new = map seen new ≡ map seen old ++ below
+abbrev pub WaitBehind : List FoundName → List Seen → List FoundName → Type 0
+WaitBehind old below new = map seen new ≡ map seen old ++ below
 
 -- A handle is listed, up to the end.
-pub record ListsOn (session handle : ℕ) (path : List ℕ) (deeds : List Deed) (names : List Seen) : Type 0 where
+pub record ListsRest (session handle : ℕ) (path : List ℕ) (deeds : List Deed) (names : List Seen) : Type 0 where
   pub pieces : List (List Entry)
-  pub asked : deeds ≡ listings session handle pieces ++ listing_end session handle
+  pub asked : deeds ≡ listing_deeds session handle pieces ++ listing_end session handle
   pub whole : names ≡ map (seen_at path) (flat_map (λ entries. entries) pieces)
 
 -- A directory is listed.
 pub record HasListed (session : ℕ) (path : List ℕ) (deeds : List Deed) (names : List Seen) : Type 0 where
   pub handle : ℕ
   pub inner : List Deed
-  pub asked : deeds ≡ opened session (request.OpenDir path) handle inner
-  pub lists : ListsOn session handle path inner names
+  pub asked : deeds ≡ opening_then session (request.OpenDir path) handle inner
+  pub lists : ListsRest session handle path inner names
 
 -- the size, where one is told
-abbrev pub size_of : Option ℕ → ℕ
-size_of (Some size) = size
-size_of None = 0
+abbrev pub size_or_zero : Option ℕ → ℕ
+size_or_zero (Some size) = size
+size_or_zero None = 0
 
 -- what is below a directory, or a file's contents
-abbrev pub IsLookedAt : Bool → ℕ → Name → List Deed → List ℕ → List Seen → Type 0
+abbrev pub IsLookedAt : Bool → ℕ → FoundName → List Deed → List ℕ → List Seen → Type 0
 IsLookedAt true session name deeds contents below =
     HasListed session name.path.items deeds below × (contents ≡ [])
 IsLookedAt false session name deeds contents below =
-    HasRead session name.path.items (size_of name.attrs.size) deeds contents × (below ≡ [])
+    HasRead session name.path.items (size_or_zero name.attrs.size) deeds contents × (below ≡ [])
 
-abbrev pub LooksAt : ℕ → Name → List Deed → List ℕ → List Seen → Type 0
+abbrev pub LooksAt : ℕ → FoundName → List Deed → List ℕ → List Seen → Type 0
 LooksAt session name deeds contents below =
-    IsLookedAt (is_directory name.attrs) session name deeds contents below
+    IsLookedAt (is_directory_attrs name.attrs) session name deeds contents below
 
 -- Each that was found was looked at, in order, and this is below them.
 unfoldable pub AreLookedAt : ℕ → List Found → List Deed → List Seen → Type 0
@@ -228,10 +228,10 @@ AreLookedAt session (found ∷ others) deeds below = (first second : List Deed)
     × AreLookedAt session others second far
 
 -- One more was looked at, and what is below it waits.
-abbrev pub Visits : ℕ → List Found → List Name → Name → List Deed → List Found → List Name → Type 0
+abbrev pub Visits : ℕ → List Found → List FoundName → FoundName → List Deed → List Found → List FoundName → Type 0
 Visits session old waited name deeds new waiting = (one : Found) × (below : List Seen)
     × (seen one.name ≡ seen name) × (new ≡ old ++ one ∷ [])
-    × LooksAt session one.name deeds one.contents.items below × Waits waited below waiting
+    × LooksAt session one.name deeds one.contents.items below × WaitBehind waited below waiting
 
 abbrev pub root_path : List ℕ
 root_path = 47 ∷ []
@@ -240,13 +240,13 @@ abbrev pub root_seen : Attrs → Seen
 root_seen attrs = record { path = root_path; links = 1; attrs = attrs }
 
 -- Some that waited were looked at, and these wait now.
-abbrev pub WalksSoFar : ℕ → List Found → List Name → List Deed → List Found → List Name → Type 0
+abbrev pub WalksSoFar : ℕ → List Found → List FoundName → List Deed → List Found → List FoundName → Type 0
 WalksSoFar session old waited deeds new waiting = (more : List Found) × (below : List Seen)
     × (new ≡ old ++ more) × AreLookedAt session more deeds below
     × (map seen waited ++ below ≡ map (λ f. seen f.name) more ++ map seen waiting)
 
 -- All that waited was looked at, and all that was found by that.
-abbrev pub WalksOn : ℕ → List Found → List Name → List Deed → List Found → Type 0
+abbrev pub WalksOn : ℕ → List Found → List FoundName → List Deed → List Found → Type 0
 WalksOn session old waited deeds new = (more : List Found) × (below : List Seen)
     × (new ≡ old ++ more) × AreLookedAt session more deeds below
     × (map seen waited ++ below ≡ map (λ f. seen f.name) more)

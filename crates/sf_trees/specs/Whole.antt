@@ -7,17 +7,17 @@ use Rattle.std.specs.Ordering.{nat_cmp}
 use Rattle.sf_trees.specs.declared.fault.TreeFault.TheVariants as fault
 use Rattle.sf_trees.specs.declared.fault.Refused.{Refused}
 use Rattle.sf_trees.specs.declared.found.Found.{Found}
-use Rattle.sf_trees.specs.declared.found.Tree.{Tree}
+use Rattle.sf_trees.specs.declared.found.FoundTree.{FoundTree}
 use Rattle.sf_trees.specs.Deeds.{Deed}
 use Rattle.sf_trees.specs.Walks.{Halts, IsTree}
 use Rattle.sf_trees.specs.Numbers.{MarksAll, AreNumbers}
 
 -- in the order of the bytes of their paths: none is less than the one before it
-abbrev pub path_of : Found → List ℕ
-path_of found = found.name.path.items
+abbrev pub leaf_path : Found → List ℕ
+leaf_path found = found.name.path.items
 
 abbrev pub AreInOrder : List Found → Type 0
-AreInOrder found = IsSortedByKey path_of (slice_cmp nat_cmp) found
+AreInOrder found = IsSortedByKey leaf_path (slice_cmp nat_cmp) found
 
 -- The tree was walked; these are what was found, in the order of their paths, and then marks told which names are of one
 -- file.
@@ -44,6 +44,6 @@ FindsAll session found deeds (Err why) = Halts session deeds why
     ⊎ ((marks : List ℕ) × HasWalked session all deeds (Ok marks) × MayLack why)))
 
 -- so of a tree that is kept
-abbrev pub FindsTree : ℕ → Tree → List Deed → Result (Unit {0}) Refused → Type 0
+abbrev pub FindsTree : ℕ → FoundTree → List Deed → Result (Unit {0}) Refused → Type 0
 FindsTree session tree deeds (Ok done) = FindsAll session tree.found.items deeds (Ok tree.numbers)
 FindsTree session tree deeds (Err why) = (found : List Found) × FindsAll session found deeds (Err why)

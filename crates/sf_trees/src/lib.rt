@@ -14,7 +14,7 @@ mod tree;
 mod walking;
 
 pub use fault::{Place, Refused, TreeFault};
-pub use found::{Found, Name, Tree};
+pub use found::{Found, FoundName, FoundTree};
 pub use making::{link, make_directory, write_file};
 pub use server::Server;
 pub use tree::walk;

@@ -3,7 +3,7 @@
 ghost use Rattle.std.specs.Prelude.{◌≡◌, ◌++◌, ◌<◌, ◌^◌, map, IfOk, IfSome};
 ghost use Rattle.sf_trees.specs.Walks.{number_on, number_from, links_told, join, seen, seen_at};
 
-use crate::found::Name;
+use crate::found::FoundName;
 use sf_reply::Entry;
 use std::alloc::{AllocError, Global};
 use std::collections::VecDeque;
@@ -61,10 +61,10 @@ fn join(alloc: Global, path: &[u8], name: &[u8]) -> Result<Vec<u8>, AllocError>
 }
 
 /// A name as its directory's listing tells it.
-fn name_at(alloc: Global, path: &[u8], entry: &Entry) -> Result<Name, AllocError>
+fn name_at(alloc: Global, path: &[u8], entry: &Entry) -> Result<FoundName, AllocError>
     ensures { IfOk result (λ name. seen name ≡ seen_at path.now entry.now) }
 {
-    Ok(Name {
+    Ok(FoundName {
         path: join(alloc, path, entry.filename.as_slice())?,
         links: links_told(entry.longname.as_slice()),
         attrs: entry.attrs,
@@ -76,7 +76,7 @@ pub(crate) fn append_names(
     alloc: Global,
     path: &[u8],
     entries: &[Entry],
-    waiting: &mut VecDeque<Name>,
+    waiting: &mut VecDeque<FoundName>,
 ) -> Result<(), AllocError>
     ensures { IfOk result (λ done. map seen waiting.new.items
         ≡ map seen waiting.old.items ++ map (seen_at path.now) entries.now) }

@@ -2,8 +2,8 @@
 
 ghost use Rattle.std.specs.Prelude.{◌≡◌, ◌≤◌, ◌<◌, ◌+◌, ◌*◌, ◌^◌, length};
 ghost use Rattle.sf_request.specs.declared.request.WireRequest.TheVariants as request;
-ghost use Rattle.sf_trees.specs.Deeds.{Does, IsAsked, at_place};
-ghost use Rattle.sf_trees.specs.Makings.{is_of_name, goes_on_by, ends_name, is_directory, finds_by, Mkdirs, MakesOne, MakesAt, MakesWay, piece, pieces_in, piece_at, WritesPiece, WritesPieces, Closes, WritesAll, OpensFile, Fills, MakesDirectory, WritesOn, WritesFile, LinksAlone, LinksOn, Links};
+ghost use Rattle.sf_trees.specs.Deeds.{Does, IsAsked, request_place};
+ghost use Rattle.sf_trees.specs.Makings.{is_of_name, goes_on_by, ends_name, is_directory_attrs, finds_by, Mkdirs, MakesOne, MakesAt, MakesWay, piece, pieces_in, piece_at, WritesPiece, WritesPieces, ClosesHandle, WritesContents, OpensFile, Fills, MakesDirectory, WritesMore, WritesFile, LinksAlone, LinksOn, Links};
 
 use crate::fault::{Place, Refused, TreeFault};
 use crate::server::{Server, begin, open, refusal_of, succeed};
@@ -55,7 +55,7 @@ fn ends_name(whole: bool, path: &[u8], at: usize) -> bool
 
 /// Whether these are the permissions of a directory.
 pub(crate) fn is_directory(attrs: &Attrs) -> bool
-    ensures { result ≡ is_directory attrs.now }
+    ensures { result ≡ is_directory_attrs attrs.now }
 {
     match attrs.permissions {
         Some(mode) => mode / 0o10000 == 4,
@@ -84,7 +84,7 @@ fn finds_by(place: Place, came: &Result<Reply, TreeFault>) -> Result<bool, Refus
 /// Looks for a directory at a path.
 fn finds<S: Server>(server: &mut S, session: u64, path: &[u8]) -> Result<bool, Refused>
     ensures { Does S.reaches server.old server.new
-        (IsAsked session (request.Stat path.now) (finds_by (at_place 17 (length path.now)))) result }
+        (IsAsked session (request.Stat path.now) (finds_by (request_place 17 (length path.now)))) result }
 {
     let length = path.len();
     let came = server.ask(
@@ -172,7 +172,7 @@ fn write_piece<S: Server>(
 ) -> Result<(), Refused>
     requires { at * piece ≤ length contents.now }
     ensures { Does S.reaches server.old server.new
-        (WritesPiece session handle (at_place 6 named) contents.now at) result }
+        (WritesPiece session handle (request_place 6 named) contents.now at) result }
 {
     let text = handle.to_be_bytes();
     let request = WireRequest::Write {
@@ -224,7 +224,7 @@ pub(crate) fn close<S: Server>(
     named: usize,
     handle: u64,
 ) -> Result<(), Refused>
-    ensures { Does S.reaches server.old server.new (Closes session handle named) result }
+    ensures { Does S.reaches server.old server.new (ClosesHandle session handle named) result }
 {
     let text = handle.to_be_bytes();
     let request = WireRequest::Close {
@@ -251,7 +251,7 @@ fn write_all<S: Server>(
 ) -> Result<(), Refused>
     requires { length contents.now < 2 ^ 63 }
     ensures { Does S.reaches server.old server.new
-        (WritesAll session named contents.now handle) result }
+        (WritesContents session named contents.now handle) result }
 {
     write_pieces(server, session, named, contents, handle)?;
     close(server, session, named, handle)
@@ -307,7 +307,7 @@ fn write_on<S: Server>(
     contents: &[u8],
 ) -> Result<(), Refused>
     requires { length contents.now < 2 ^ 63 }
-    ensures { Does S.reaches server.old server.new (WritesOn path.now contents.now session) result }
+    ensures { Does S.reaches server.old server.new (WritesMore path.now contents.now session) result }
 {
     make_way(server, session, false, path)?;
     fill(server, session, path, contents)

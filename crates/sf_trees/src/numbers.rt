@@ -7,7 +7,7 @@
 ghost use Rattle.std.specs.Prelude.{◌≡◌, ◌<◌, ◌^◌, ◌++◌, ◌∷◌, ℕ, [], length, slice_get, true, false, IfErr, OnOk};
 ghost use Rattle.sf_trees.specs.Deeds.{Does};
 ghost use Rattle.sf_trees.specs.Walks.{Looking};
-ghost use Rattle.sf_trees.specs.Numbers.{is_linked, is_linked_at, times_alone, times_of, told_times, SetsTimes, SetsIf, Marks, MarksTo, Restores, RestoresTo, first_refusal, IsMarkIf, IsMark, AreMarks, HasTried, items_of, both, HasNoLinks, MarksAll};
+ghost use Rattle.sf_trees.specs.Numbers.{is_linked, is_linked_at, times_alone, times_of, told_times, SetsTimes, SetsIf, Marks, MarksTo, Restores, RestoresTo, first_refusal, IsMarkIf, IsMark, AreMarks, HasTried, mark_items, both, HasNoLinks, MarksAll};
 
 use crate::fault::{Place, Refused, TreeFault};
 use crate::found::Found;
@@ -246,7 +246,7 @@ fn try_marks<S: Server>(
 ) -> Result<Vec<usize>, Refused>
     requires { length found.now < 2 ^ 32 }
     ensures { Does S.reaches server.old server.new
-        (λ deeds r. HasTried marking found.now deeds (items_of r)) result }
+        (λ deeds r. HasTried marking found.now deeds (mark_items r)) result }
 {
     mark_all(server, marking, found)?;
     let marks = marks_of(server, marking, alloc, found)?;
@@ -285,7 +285,7 @@ fn mark_by_session<S: Server>(
 ) -> Result<Vec<usize>, Refused>
     requires { length found.now < 2 ^ 32 }
     ensures { Does S.reaches server.old server.new
-        (λ deeds r. MarksAll session found.now deeds (items_of r)) result }
+        (λ deeds r. MarksAll session found.now deeds (mark_items r)) result }
 {
     let marking = begin(server)?;
     let came = try_marks(server, marking, alloc, found);
@@ -303,7 +303,7 @@ pub(crate) fn mark_files<S: Server>(
 ) -> Result<Vec<usize>, Refused>
     requires { length found.now < 2 ^ 32 }
     ensures { Does S.reaches server.old server.new
-        (λ deeds r. MarksAll session found.now deeds (items_of r)) result }
+        (λ deeds r. MarksAll session found.now deeds (mark_items r)) result }
 {
     if has_links(found) {
         return mark_by_session(server, session, alloc, found);

@@ -2,7 +2,7 @@
 
 ghost use Rattle.std.specs.Prelude.{◌≡◌, ℕ, List, [], ◌∷◌, ◌++◌, Ok, Err, IfOk, IfErr};
 ghost use Rattle.sf_trees.specs.declared.fault.TreeFault.{TreeFault};
-ghost use Rattle.sf_trees.specs.Deeds.{Deed, Begins, Asks, Ends, Does, IsAsked, refusal_of, done_by, handle_by, refused, at_place};
+ghost use Rattle.sf_trees.specs.Deeds.{Deed, Begins, Asks, Ends, Does, IsAsked, fault_in_reply, done_by, handle_by, refused_at, request_place};
 
 use crate::fault::{Place, Refused, TreeFault};
 use sf_reply::{Reply, StatusCode};
@@ -33,7 +33,7 @@ pub trait Server {
 
 /// Why a reply isn't the one that is due.
 pub(crate) fn refusal_of(reply: &Reply) -> TreeFault
-    ensures { result ≡ refusal_of reply.now }
+    ensures { result ≡ fault_in_reply reply.now }
 {
     match reply {
         Reply::Status(code) => TreeFault::Status(*code),
@@ -108,7 +108,7 @@ pub(crate) fn open<S: Server>(
 pub(crate) fn begin<S: Server>(server: &mut S) -> Result<u64, Refused>
     ensures ok { IfOk result (λ session. S.reaches server.old (Begins (Ok session) ∷ []) server.new) }
     ensures err { IfErr result (λ r. (why : TreeFault)
-        × S.reaches server.old (Begins (Err why) ∷ []) server.new × (r ≡ refused (at_place 1 0) why)) }
+        × S.reaches server.old (Begins (Err why) ∷ []) server.new × (r ≡ refused_at (request_place 1 0) why)) }
 {
     match server.begin() {
         Ok(session) => Ok(session),

@@ -3,12 +3,12 @@
 ghost use Rattle.std.specs.Prelude.{◌≡◌, ◌<◌, ◌-◌, ◌^◌, ◌++◌, ◌∷◌, ℕ, [], get_or, not, IfOk, IfErr, OnOk};
 ghost use Rattle.std.specs.List.Sorted.{IsPermutation};
 ghost use Rattle.sf_trees.specs.Deeds.{Does, BySession};
-ghost use Rattle.sf_trees.specs.Makings.{is_directory};
-ghost use Rattle.sf_trees.specs.Numbers.{IsGiven, IsNumberBy, AreNumbers};
+ghost use Rattle.sf_trees.specs.Makings.{is_directory_attrs};
+ghost use Rattle.sf_trees.specs.Numbers.{IsNumbered, IsNumberBy, AreNumbers};
 ghost use Rattle.sf_trees.specs.Whole.{AreInOrder, MayLack, FindsAll, FindsTree};
 
 use crate::fault::{Place, Refused, TreeFault};
-use crate::found::{Found, Name, Tree, Walk};
+use crate::found::{Found, FoundName, FoundTree, TreeWalk};
 use crate::making::is_directory;
 use crate::numbers::mark_files;
 use crate::server::{Server, begin};
@@ -40,7 +40,7 @@ fn none_given(alloc: Global, count: usize) -> Result<Vec<u64>, AllocError>
 /// The number that a mark was given, or the next one, which it is given then.
 fn number_of(given: &mut Vec<u64>, mark: usize, next: &mut u64) -> Option<u64>
     requires { next.old < 2 ^ 64 - 1 }
-    ensures { IsGiven given.old.items mark next.old result given.new.items next.new }
+    ensures { IsNumbered given.old.items mark next.old result given.new.items next.new }
 {
     if mark >= given.len() {
         return None;
@@ -58,7 +58,7 @@ fn number_of(given: &mut Vec<u64>, mark: usize, next: &mut u64) -> Option<u64>
 /// The number of one with this mark.
 fn number_at(one: &Found, mark: usize, given: &mut Vec<u64>, next: &mut u64) -> Option<u64>
     requires { next.old < 2 ^ 64 - 1 }
-    ensures { IsNumberBy (not (is_directory one.now.name.attrs)) given.old.items mark next.old result
+    ensures { IsNumberBy (not (is_directory_attrs one.now.name.attrs)) given.old.items mark next.old result
         given.new.items next.new }
 {
     if is_directory(&one.name.attrs) {
@@ -105,7 +105,7 @@ fn walk_in<S: Server>(
     server: &mut S,
     session: u64,
     alloc: Global,
-    walk: &mut Walk,
+    walk: &mut TreeWalk,
 ) -> Result<Vec<u64>, Refused>
     requires { (walk.old.found.items ≡ []) × (walk.old.waiting.items ≡ []) }
     ensures { Does S.reaches server.old server.new
@@ -122,7 +122,7 @@ fn walk_in<S: Server>(
 }
 
 /// What a walk that stopped is told as: the name that it stopped at, if memory is there for it.
-fn stopped(tree: &mut Tree, alloc: Global, name: Option<Name>) {
+fn stopped(tree: &mut FoundTree, alloc: Global, name: Option<FoundName>) {
     if let Some(name) = name {
         let one = Found {
             name,
@@ -136,7 +136,7 @@ fn stopped(tree: &mut Tree, alloc: Global, name: Option<Name>) {
 fn walk_by_session<S: Server>(
     server: &mut S,
     alloc: Global,
-    walk: &mut Walk,
+    walk: &mut TreeWalk,
 ) -> Result<Vec<u64>, Refused>
     requires { (walk.old.found.items ≡ []) × (walk.old.waiting.items ≡ []) }
     ensures { Does S.reaches server.old server.new
@@ -150,11 +150,11 @@ fn walk_by_session<S: Server>(
 
 /// Walks the whole tree of a server. The tree that is given is empty; where the walk stops, it has the name at
 /// which that was, or none.
-pub fn walk<S: Server>(server: &mut S, alloc: Global, tree: &mut Tree) -> Result<(), Refused>
+pub fn walk<S: Server>(server: &mut S, alloc: Global, tree: &mut FoundTree) -> Result<(), Refused>
     ensures { Does S.reaches server.old server.new
         (BySession (λ session. FindsTree session tree.new)) result }
 {
-    let mut walk = Walk {
+    let mut walk = TreeWalk {
         found: Vec::new(alloc),
         waiting: VecDeque::new(alloc),
         stopped: None,

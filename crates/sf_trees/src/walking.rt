@@ -3,12 +3,12 @@
 ghost use Rattle.std.specs.Prelude.{◌≡◌, ◌++◌, ◌∷◌, List, [], length, IfOk, IfErr, OnOk};
 ghost use Rattle.sf_field.specs.Fields.{be64};
 ghost use Rattle.sf_request.specs.declared.request.WireRequest.TheVariants as request;
-ghost use Rattle.sf_trees.specs.Deeds.{Does, IsAsked, at_place, handle_by, data_by, attrs_by, names_by};
+ghost use Rattle.sf_trees.specs.Deeds.{Does, IsAsked, request_place, handle_by, data_by, attrs_by, names_by};
 ghost use Rattle.sf_trees.specs.Makings.{piece};
-ghost use Rattle.sf_trees.specs.Walks.{Looking, HasRead, HasListed, ReadsOn, ListsOn, AddsPiece, AddsNames, Seen, seen, Waits, LooksAt, Visits, WalksOn, IsTree, root_seen};
+ghost use Rattle.sf_trees.specs.Walks.{Looking, HasRead, HasListed, ReadsRest, ListsRest, AddsPiece, AddsNames, Seen, seen, WaitBehind, LooksAt, Visits, WalksOn, IsTree, root_seen};
 
 use crate::fault::{Place, Refused, TreeFault};
-use crate::found::{Found, Name, Walk};
+use crate::found::{Found, FoundName, TreeWalk};
 use crate::listing::append_names;
 use crate::making::{close, is_directory, open_file};
 use crate::server::{Server, open, refusal_of};
@@ -89,7 +89,7 @@ fn names_by(place: Place, came: Result<Reply, TreeFault>) -> Result<Option<Listi
 /// Asks for what is at a path.
 pub(crate) fn stat<S: Server>(server: &mut S, session: u64, path: &[u8]) -> Result<Attrs, Refused>
     ensures { Does S.reaches server.old server.new
-        (IsAsked session (request.Stat path.now) (attrs_by (at_place 17 (length path.now)))) result }
+        (IsAsked session (request.Stat path.now) (attrs_by (request_place 17 (length path.now)))) result }
 {
     let length = path.len();
     let came = server.ask(
@@ -110,7 +110,7 @@ fn read_piece<S: Server>(
     at: u64,
 ) -> Result<ByteString, Refused>
     ensures { Does S.reaches server.old server.new
-        (IsAsked session (request.Read (be64 handle) at piece) (data_by (at_place 5 named))) result }
+        (IsAsked session (request.Read (be64 handle) at piece) (data_by (request_place 5 named))) result }
 {
     let text = handle.to_be_bytes();
     let came = server.ask(
@@ -138,7 +138,7 @@ fn list_piece<S: Server>(
     handle: u64,
 ) -> Result<Option<Listing>, Refused>
     ensures { Does S.reaches server.old server.new
-        (IsAsked session (request.ReadDir (be64 handle)) (names_by (at_place 12 named))) result }
+        (IsAsked session (request.ReadDir (be64 handle)) (names_by (request_place 12 named))) result }
 {
     let text = handle.to_be_bytes();
     let came = server.ask(
@@ -159,7 +159,7 @@ fn list_piece<S: Server>(
 /// Opens a directory.
 fn open_directory<S: Server>(server: &mut S, session: u64, path: &[u8]) -> Result<u64, Refused>
     ensures { Does S.reaches server.old server.new
-        (IsAsked session (request.OpenDir path.now) (handle_by (at_place 11 (length path.now)))) result }
+        (IsAsked session (request.OpenDir path.now) (handle_by (request_place 11 (length path.now)))) result }
 {
     let length = path.len();
     let request = WireRequest::OpenDir {
@@ -206,7 +206,7 @@ fn read_on<S: Server>(
     size: u64,
 ) -> Result<Vec<u8>, Refused>
     ensures { Does S.reaches server.old server.new
-        (Looking session (λ deeds contents. ReadsOn session handle size deeds contents.items)) result }
+        (Looking session (λ deeds contents. ReadsRest session handle size deeds contents.items)) result }
 {
     let mut contents = Vec::new(alloc);
     'pieces: while (contents.len() as u64) < size {
@@ -249,7 +249,7 @@ fn list_more<S: Server>(
     alloc: Global,
     path: &[u8],
     handle: u64,
-    waiting: &mut VecDeque<Name>,
+    waiting: &mut VecDeque<FoundName>,
 ) -> Result<bool, Refused>
     ensures { Does S.reaches server.old server.new
         (Looking session (λ deeds more. AddsNames session handle path.now waiting.old.items deeds more
@@ -271,11 +271,11 @@ fn list_on<S: Server>(
     alloc: Global,
     path: &[u8],
     handle: u64,
-    waiting: &mut VecDeque<Name>,
+    waiting: &mut VecDeque<FoundName>,
 ) -> Result<(), Refused>
     ensures { Does S.reaches server.old server.new
-        (Looking session (λ deeds done. (below : List Seen) × ListsOn session handle path.now deeds below
-        × Waits waiting.old.items below waiting.new.items)) result }
+        (Looking session (λ deeds done. (below : List Seen) × ListsRest session handle path.now deeds below
+        × WaitBehind waiting.old.items below waiting.new.items)) result }
 {
     'pieces: for _ in 0..u64::MAX {
         if !list_more(server, session, alloc, path, handle, waiting)? {
@@ -291,11 +291,11 @@ fn list_directory<S: Server>(
     session: u64,
     alloc: Global,
     path: &[u8],
-    waiting: &mut VecDeque<Name>,
+    waiting: &mut VecDeque<FoundName>,
 ) -> Result<(), Refused>
     ensures { Does S.reaches server.old server.new
         (Looking session (λ deeds done. (below : List Seen) × HasListed session path.now deeds below
-        × Waits waiting.old.items below waiting.new.items)) result }
+        × WaitBehind waiting.old.items below waiting.new.items)) result }
 {
     let handle = open_directory(server, session, path)?;
     list_on(server, session, alloc, path, handle, waiting)?;
@@ -308,13 +308,13 @@ fn look_at<S: Server>(
     server: &mut S,
     session: u64,
     alloc: Global,
-    name: &Name,
-    waiting: &mut VecDeque<Name>,
+    name: &FoundName,
+    waiting: &mut VecDeque<FoundName>,
 ) -> Result<Vec<u8>, Refused>
     ensures { Does S.reaches server.old server.new
         (Looking session (λ deeds contents. (below : List Seen)
         × LooksAt session name.now deeds contents.items below
-        × Waits waiting.old.items below waiting.new.items)) result }
+        × WaitBehind waiting.old.items below waiting.new.items)) result }
 {
     if is_directory(&name.attrs) {
         list_directory(server, session, alloc, &name.path, waiting)?;
@@ -340,8 +340,8 @@ fn visit<S: Server>(
     server: &mut S,
     session: u64,
     alloc: Global,
-    walk: &mut Walk,
-    name: Name,
+    walk: &mut TreeWalk,
+    name: FoundName,
 ) -> Result<(), Refused>
     ensures { Does S.reaches server.old server.new
         (Looking session (λ deeds done. Visits session walk.old.found.items walk.old.waiting.items name
@@ -364,7 +364,7 @@ fn walk_on<S: Server>(
     server: &mut S,
     session: u64,
     alloc: Global,
-    walk: &mut Walk,
+    walk: &mut TreeWalk,
 ) -> Result<(), Refused>
     ensures { Does S.reaches server.old server.new
         (Looking session (λ deeds done. WalksOn session walk.old.found.items walk.old.waiting.items
@@ -380,10 +380,10 @@ fn walk_on<S: Server>(
 }
 
 /// The name of the root.
-fn root_name(alloc: Global, attrs: Attrs) -> Result<Name, AllocError>
+fn root_name(alloc: Global, attrs: Attrs) -> Result<FoundName, AllocError>
     ensures { IfOk result (λ name. seen name ≡ root_seen attrs) }
 {
-    Ok(Name {
+    Ok(FoundName {
         path: Vec::from_slice(alloc, b"/")?,
         links: 1,
         attrs,
@@ -391,7 +391,7 @@ fn root_name(alloc: Global, attrs: Attrs) -> Result<Name, AllocError>
 }
 
 /// One more name waits.
-fn wait(waiting: &mut VecDeque<Name>, name: Name) -> Result<(), Refused>
+fn wait(waiting: &mut VecDeque<FoundName>, name: FoundName) -> Result<(), Refused>
     ensures ok { OnOk result (waiting.new.items ≡ waiting.old.items ++ name ∷ []) }
     ensures err { IfErr result (λ why. why.fault ≡ TreeFault.OutOfMemory) }
 {
@@ -402,8 +402,12 @@ fn wait(waiting: &mut VecDeque<Name>, name: Name) -> Result<(), Refused>
 }
 
 /// The root waits behind the others.
-fn wait_for_root(alloc: Global, attrs: Attrs, waiting: &mut VecDeque<Name>) -> Result<(), Refused>
-    ensures ok { OnOk result ((root : Name) × (seen root ≡ root_seen attrs)
+fn wait_for_root(
+    alloc: Global,
+    attrs: Attrs,
+    waiting: &mut VecDeque<FoundName>,
+) -> Result<(), Refused>
+    ensures ok { OnOk result ((root : FoundName) × (seen root ≡ root_seen attrs)
         × (waiting.new.items ≡ waiting.old.items ++ root ∷ [])) }
     ensures err { IfErr result (λ why. why.fault ≡ TreeFault.OutOfMemory) }
 {
@@ -418,7 +422,7 @@ pub(crate) fn walk_by<S: Server>(
     server: &mut S,
     session: u64,
     alloc: Global,
-    walk: &mut Walk,
+    walk: &mut TreeWalk,
 ) -> Result<(), Refused>
     requires { (walk.old.found.items ≡ []) × (walk.old.waiting.items ≡ []) }
     ensures { Does S.reaches server.old server.new

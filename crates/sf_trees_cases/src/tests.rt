@@ -5,7 +5,9 @@ use sf_engine::Engine;
 use sf_field::{Attrs, NO_ATTRS, Times};
 use sf_reply::{Reply, StatusCode};
 use sf_request::{ByteStr, WireRequest};
-use sf_trees::{Place, Refused, Server, Tree, TreeFault, link, make_directory, walk, write_file};
+use sf_trees::{
+    FoundTree, Place, Refused, Server, TreeFault, link, make_directory, walk, write_file,
+};
 use std::alloc::Global;
 use std::process::Abort;
 use std::test::*;
@@ -42,15 +44,15 @@ fn links(rt: &impl Abort, asker: &mut Asker, old: &[u8], new: &[u8]) {
 }
 
 /// The whole tree.
-fn tree_of(rt: &impl Abort, alloc: Global, asker: &mut Asker) -> Tree {
-    let mut tree = Tree::new(alloc);
+fn tree_of(rt: &impl Abort, alloc: Global, asker: &mut Asker) -> FoundTree {
+    let mut tree = FoundTree::new(alloc);
     let walked = walk(asker, alloc, &mut tree);
     assert!(rt; walked == Ok(()), "{walked:?}");
     tree
 }
 
 /// The tree has these paths, in this order, with these numbers.
-fn has(rt: &impl Abort, tree: &Tree, wanted: &[(&str, u64)]) {
+fn has(rt: &impl Abort, tree: &FoundTree, wanted: &[(&str, u64)]) {
     assert!(rt;
         tree.found.len() == wanted.len(),
         "{} entries",
@@ -63,7 +65,7 @@ fn has(rt: &impl Abort, tree: &Tree, wanted: &[(&str, u64)]) {
 }
 
 /// The entry at a place has these contents.
-fn has_contents(rt: &impl Abort, tree: &Tree, at: usize, wanted: &[u8]) {
+fn has_contents(rt: &impl Abort, tree: &FoundTree, at: usize, wanted: &[u8]) {
     match tree.found.get(at) {
         Some(one) => assert!(rt; one.contents.as_slice() == wanted, "other contents at {at}"),
         None => panic!(rt; "no entry at {at}"),

@@ -12,8 +12,8 @@ use Rattle.sf_call.specs.Changes.Change.{SetObject}
 use Rattle.sf_inode.specs.declared.node.Node.{Node}
 use Rattle.sf_inode.specs.declared.node.Content.{Content}
 use Rattle.sf_inode.specs.declared.node.Content.TheVariants as content
-use Rattle.sf_inode.specs.Nodes.{object_in, left_in, is_file_content, with_file, with_left, with_content, with_metadata}
-use Rattle.sf_inode.specs.Stores.{StoreState, node_in, bytes_of, is_file_at, left_at, holder_of, file_set, left_set, shown_of, shown_node, edited}
+use Rattle.sf_inode.specs.Nodes.{object_in, blocks_left_in, is_file_content, with_file, with_left, with_content, with_metadata}
+use Rattle.sf_inode.specs.Stores.{StoreState, node_in, bytes_of, is_file_at, blocks_left_at, holder_of, file_set, left_set, shown_of, shown_node, edited}
 use Rattle.sf_keeps.specs.Keeps.{Keeps}
 use Rattle.sf_keeps.proofs.Laws.{keeps_contents, keeps_file, keeps_left, object_again, edited_itself, edited_apart}
 use Rattle.sf_inode.specs.declared.handle.OpenHandle.{OpenHandle}
@@ -25,21 +25,21 @@ some_blocks start [] some = absurd (omega (arith, some))
 some_blocks start (b ∷ bytes) some = omega arith
 
 -- a store that stays has as much left as before
-pub none_left : (s : StoreState) (h : OpenHandle) (offset : ℕ) (bytes : List ℕ) → left_at s.nodes h.node ≡ 0 → HasBlocksLeft s s h offset bytes
+pub none_left : (s : StoreState) (h : OpenHandle) (offset : ℕ) (bytes : List ℕ) → blocks_left_at s.nodes h.node ≡ 0 → HasBlocksLeft s s h offset bytes
 none_left s h offset bytes none = inl none
 
 -- ---- what is left of a file
 left_filed : (f : FileBytes) (o : Option Node) → option_map_or (λ (node : Node). is_file_content node.content) o false ≡ true
-    → option_map_or (λ (node : Node). left_in node.content) (option_map (with_content (with_file f)) o) 0 ≡ f.left
+    → option_map_or (λ (node : Node). blocks_left_in node.content) (option_map (with_content (with_file f)) o) 0 ≡ f.left
 left_filed f None file = absurd (let x : ⊥ = cc in x)
-left_filed f (Some node) file = elim node.content as (λ c. is_file_content c ≡ true → left_in (with_file f c) ≡ f.left) [
+left_filed f (Some node) file = elim node.content as (λ c. is_file_content c ≡ true → blocks_left_in (with_file f c) ≡ f.left) [
   | content.Directory es ↦ λ e. absurd (let x : ⊥ = cc in x)
   | content.File contents ↦ λ e. refl
 ] file
 
-pub left_begun : (f : FileBytes) (s : StoreState) (id : ℕ) → is_file_at s.nodes id ≡ true → left_at (file_set s id f).nodes id ≡ f.left
+pub left_begun : (f : FileBytes) (s : StoreState) (id : ℕ) → is_file_at s.nodes id ≡ true → blocks_left_at (file_set s id f).nodes id ≡ f.left
 left_begun f s id file =
-    ap (λ (o : Option Node). option_map_or (λ (node : Node). left_in node.content) o 0) (edited_itself (with_content (with_file f)) s id)
+    ap (λ (o : Option Node). option_map_or (λ (node : Node). blocks_left_in node.content) o 0) (edited_itself (with_content (with_file f)) s id)
     ∙ left_filed f (node_in s.nodes id) file
 
 file_filed : (f : FileBytes) (o : Option Node) → option_map_or (λ (node : Node). is_file_content node.content) (option_map (with_content (with_file f)) o) false ≡ option_map_or (λ (node : Node). is_file_content node.content) o false
@@ -51,14 +51,14 @@ file_begun f s id =
     ap (λ (o : Option Node). option_map_or (λ (node : Node). is_file_content node.content) o false) (edited_itself (with_content (with_file f)) s id)
     ∙ file_filed f (node_in s.nodes id)
 
-left_by : (k : ℕ) (o : Option Node) → option_map_or (λ (node : Node). is_file_content node.content) o false ≡ true → option_map_or (λ (node : Node). left_in node.content) (option_map (with_content (with_left k)) o) 0 ≡ k
+left_by : (k : ℕ) (o : Option Node) → option_map_or (λ (node : Node). is_file_content node.content) o false ≡ true → option_map_or (λ (node : Node). blocks_left_in node.content) (option_map (with_content (with_left k)) o) 0 ≡ k
 left_by k None file = absurd (let x : ⊥ = cc in x)
-left_by k (Some node) file = elim node.content as (λ c. is_file_content c ≡ true → left_in (with_left k c) ≡ k) [
+left_by k (Some node) file = elim node.content as (λ c. is_file_content c ≡ true → blocks_left_in (with_left k c) ≡ k) [
   | content.Directory es ↦ λ e. absurd (let x : ⊥ = cc in x)
   | content.File contents ↦ λ e. refl
 ] file
 
-left_marked : (f : Metadata → Metadata) (o : Option Node) → option_map_or (λ (node : Node). left_in node.content) (option_map (with_metadata f) o) 0 ≡ option_map_or (λ (node : Node). left_in node.content) o 0
+left_marked : (f : Metadata → Metadata) (o : Option Node) → option_map_or (λ (node : Node). blocks_left_in node.content) (option_map (with_metadata f) o) 0 ≡ option_map_or (λ (node : Node). blocks_left_in node.content) o 0
 left_marked f None = refl
 left_marked f (Some node) = refl
 
@@ -95,9 +95,9 @@ module _ (s first second new : StoreState) (id moment k : ℕ) (f : FileBytes) (
   pub label_now : node_label new.nodes id ≡ node_label s.nodes id
   label_now = ap (option_map (λ (node : Node). node.label)) node_now ∙ label_marked (modified_at moment) (with_left k) (with_file f) (node_in s.nodes id)
 
-  pub left_now : is_file_at s.nodes id ≡ true → left_at new.nodes id ≡ k
+  pub left_now : is_file_at s.nodes id ≡ true → blocks_left_at new.nodes id ≡ k
   left_now file =
-      ap (λ (o : Option Node). option_map_or (λ (node : Node). left_in node.content) o 0) node_now
+      ap (λ (o : Option Node). option_map_or (λ (node : Node). blocks_left_in node.content) o 0) node_now
       ∙ left_marked (modified_at moment) (option_map (with_content (with_left k)) (option_map (with_content (with_file f)) (node_in s.nodes id)))
       ∙ left_by k (option_map (with_content (with_file f)) (node_in s.nodes id)) (file_filed f (node_in s.nodes id) ∙ file)
 
@@ -146,12 +146,12 @@ start_keeps s first second new t id label moment start k m old bytes keeps shows
 -- ---- how much is left
 -- the handle is the one that was found, so a write starts where it tells
 pub has_all : (s new : StoreState) (o : Option OpenHandle) (h k : OpenHandle) (offset size start : ℕ) (bytes : List ℕ) → Some k ≡ o → o ≡ Some h
-    → size ≡ length (bytes_of s.nodes k.node) → start ≡ (if k.marks.append then size else offset) → left_at new.nodes k.node + 1 ≡ blocks_of start bytes → HasAllButOne s new h offset bytes
+    → size ≡ length (bytes_of s.nodes k.node) → start ≡ (if k.marks.append then size else offset) → blocks_left_at new.nodes k.node + 1 ≡ blocks_of start bytes → HasAllButOne s new h offset bytes
 has_all s new o h k offset size start bytes found at sized starts left =
     let one : k ≡ h = let e = found ∙ at in cc in
     let begins : start ≡ start_by s k offset = starts ∙ ap (λ (n : ℕ). if k.marks.append then n else offset) sized in
     subst (λ (x : OpenHandle). HasAllButOne s new x offset bytes) one (left ∙ ap (λ (n : ℕ). blocks_of n bytes) begins)
 
 pub has_left : (s new : StoreState) (o : Option OpenHandle) (h k : OpenHandle) (offset size start : ℕ) (bytes : List ℕ) → Some k ≡ o → o ≡ Some h
-    → size ≡ length (bytes_of s.nodes k.node) → start ≡ (if k.marks.append then size else offset) → left_at new.nodes k.node + 1 ≡ blocks_of start bytes → HasBlocksLeft s new h offset bytes
+    → size ≡ length (bytes_of s.nodes k.node) → start ≡ (if k.marks.append then size else offset) → blocks_left_at new.nodes k.node + 1 ≡ blocks_of start bytes → HasBlocksLeft s new h offset bytes
 has_left s new o h k offset size start bytes found at sized starts left = inr (has_all s new o h k offset size start bytes found at sized starts left)

@@ -6,17 +6,17 @@ use Rattle.sf_path.specs.Names.{Name, Path}
 use Rattle.sf_path.specs.Order.{same_path}
 use Rattle.sf_reply.specs.declared.reply.StatusCode.TheVariants.{NoSuchFile, Failure}
 use Rattle.sf_call.specs.declared.metadata.Metadata.{Metadata}
-use Rattle.sf_call.specs.declared.place.Place.{Place}
-use Rattle.sf_call.specs.declared.place.Place.TheVariants as place
+use Rattle.sf_call.specs.declared.lookup.Lookup.{Lookup}
+use Rattle.sf_call.specs.declared.lookup.Lookup.TheVariants as lookup
 use Rattle.sf_walk.specs.Routes.{are_nested, is_rooted, route_between}
 use Rattle.sf_walk.specs.Routes.Route.{NoPath, Along, Between}
-use Rattle.sf_call.specs.Tree.{Tree, Found, after_front, place_at, found_at, is_directory, is_empty}
-use Rattle.sf_call.specs.Calls.{Answer, refuses, succeeds, moves, unless_nested, unless_root, rename_to, rename, replace_by, posix_rename}
+use Rattle.sf_call.specs.Tree.{Tree, FoundObject, after_front, look_up, found_at, is_directory, is_empty}
+use Rattle.sf_call.specs.Calls.{Outcome, refuses, succeeds, moves, unless_nested, unless_root, rename_to, rename, replace_by, posix_rename}
 use Rattle.sf_inode.specs.declared.node.Node.{Node}
 use Rattle.sf_inode.specs.declared.node.Content.{Content}
 use Rattle.sf_inode.specs.declared.node.Content.TheVariants as content
 use Rattle.sf_inode.specs.Nodes.{is_directory_content}
-use Rattle.sf_inode.specs.Stores.{StoreState, node_in, entry_of, is_directory_at, is_bare_at}
+use Rattle.sf_inode.specs.Stores.{StoreState, node_in, child_of, is_directory_at, is_bare_at}
 use Rattle.sf_keeps.specs.Steps.{walk}
 use Rattle.sf_keeps.specs.Keeps.{Keeps}
 use Rattle.sf_call.proofs.Laws.{front_itself as is_front}
@@ -65,7 +65,7 @@ module _ (s : StoreState) (old new : Path) (ways : Ways) (are : AreWays s (route
   pub new_found : are_nested old new ≡ false → (from node : ℕ) → ways.path ≡ located.At from node → (found : Located) → ways.new ≡ found → way_from s.nodes s.root s.root new ≡ found
   new_found apart from node there found e = sym (new_by (is_rooted old new) (are_nested old new) (not_rooted_apart old new apart) apart are (subst IsThere (sym there) tt)) ∙ e
 
-no_root : (p : Path) (a : Answer) → (p ≡ [] → ⊥) → unless_root p a ≡ a
+no_root : (p : Path) (a : Outcome) → (p ≡ [] → ⊥) → unless_root p a ≡ a
 no_root [] a ne = absurd (ne refl)
 no_root (n ∷ p) a ne = refl
 
@@ -73,55 +73,55 @@ none_first : (o : Option Path) (b : Bool) → (is_some o || b) ≡ false → o �
 none_first None b e = refl
 none_first (Some p) b e = cc
 
-either : (b : Bool) (this that : Answer) → cond b this that ≡ cond (not b) that this
+either : (b : Bool) (this that : Outcome) → cond b this that ≡ cond (not b) that this
 either true this that = refl
 either false this that = refl
 
 last_known : (nodes : List (Option Node)) (root : ℕ) (p : Path) (above y : ℕ) → (p ≡ [] → ⊥) → Known nodes root p above y
-    → (r : Path) × (n : Name) × (p ≡ r ++ n ∷ []) × (walk (entry_of nodes) root r ≡ Some above) × (entry_of nodes above n ≡ Some y)
+    → (r : Path) × (n : Name) × (p ≡ r ++ n ∷ []) × (walk (child_of nodes) root r ≡ Some above) × (child_of nodes above n ≡ Some y)
 last_known nodes root p above y ne (inl e) = absurd (ne e)
 last_known nodes root p above y ne (inr h) = h
 
 module _ (s : StoreState) (t : Tree) (k : Keeps s t) (moment : ℕ) (old new : Path) (ne : AreNoRoots old new) where
-  pub past_roots : (a : Answer) → unless_root old (unless_root new a) ≡ a
+  pub past_roots : (a : Outcome) → unless_root old (unless_root new a) ≡ a
   past_roots a = no_root old (unless_root new a) ne.0 ∙ no_root new a ne.1
 
   -- ---- old isn't there
-  pub old_no_way : (f : Place → Answer) → f place.NoWay ≡ refuses NoSuchFile → way_from s.nodes s.root s.root old ≡ located.NoWay → unless_root old (unless_root new (f (place_at t old))) ≡ refuses NoSuchFile
-  old_no_way f at e = past_roots (f (place_at t old)) ∙ ap f (no_way s t k old e) ∙ at
+  pub old_no_way : (f : Lookup → Outcome) → f lookup.NoWay ≡ refuses NoSuchFile → way_from s.nodes s.root s.root old ≡ located.NoWay → unless_root old (unless_root new (f (look_up t old))) ≡ refuses NoSuchFile
+  old_no_way f at e = past_roots (f (look_up t old)) ∙ ap f (no_way s t k old e) ∙ at
 
-  pub old_missing : (f : Place → Answer) → f place.Absent ≡ refuses NoSuchFile → (d : ℕ) → way_from s.nodes s.root s.root old ≡ located.Missing d → unless_root old (unless_root new (f (place_at t old))) ≡ refuses NoSuchFile
-  old_missing f at d e = past_roots (f (place_at t old)) ∙ ap f (name_missing s t k old d e).0 ∙ at
+  pub old_missing : (f : Lookup → Outcome) → f lookup.Absent ≡ refuses NoSuchFile → (d : ℕ) → way_from s.nodes s.root s.root old ≡ located.Missing d → unless_root old (unless_root new (f (look_up t old))) ≡ refuses NoSuchFile
+  old_missing f at d e = past_roots (f (look_up t old)) ∙ ap f (name_missing s t k old d e).0 ∙ at
 
   -- ---- old is there
   module _ (from node : ℕ) (at : way_from s.nodes s.root s.root old ≡ located.At from node) where
     abbrev label : ℕ
     label = (node_at s t k old from node at).2.0.label
 
-    there : (f : Place → Answer) → unless_root old (unless_root new (f (place_at t old))) ≡ f (place.At label)
-    there f = past_roots (f (place_at t old)) ∙ ap f (node_at s t k old from node at).2.2
+    there : (f : Lookup → Outcome) → unless_root old (unless_root new (f (look_up t old))) ≡ f (lookup.At label)
+    there f = past_roots (f (look_up t old)) ∙ ap f (node_at s t k old from node at).2.2
 
-    pub rename_nested : are_nested old new ≡ true → unless_root old (unless_root new (rename t moment old new (place_at t old))) ≡ refuses Failure
-    rename_nested nested = there (rename t moment old new) ∙ ap (λ b. cond {A = Answer} b (refuses Failure) (rename_to t moment old new (place_at t new))) nested
+    pub rename_nested : are_nested old new ≡ true → unless_root old (unless_root new (rename t moment old new (look_up t old))) ≡ refuses Failure
+    rename_nested nested = there (rename t moment old new) ∙ ap (λ b. cond {A = Outcome} b (refuses Failure) (rename_to t moment old new (look_up t new))) nested
 
-    pub posix_same : same_path old new ≡ true → unless_root old (unless_root new (posix_rename t moment old new (place_at t old))) ≡ succeeds []
-    posix_same same = there (posix_rename t moment old new) ∙ ap (λ b. cond {A = Answer} b (succeeds []) (unless_nested old new (replace_by t moment old new label (found_at t new)))) same
+    pub posix_same : same_path old new ≡ true → unless_root old (unless_root new (posix_rename t moment old new (look_up t old))) ≡ succeeds []
+    posix_same same = there (posix_rename t moment old new) ∙ ap (λ b. cond {A = Outcome} b (succeeds []) (unless_nested old new (replace_by t moment old new label (found_at t new)))) same
 
-    posix_other : same_path old new ≡ false → unless_root old (unless_root new (posix_rename t moment old new (place_at t old))) ≡ unless_nested old new (replace_by t moment old new label (found_at t new))
-    posix_other other = there (posix_rename t moment old new) ∙ ap (λ b. cond {A = Answer} b (succeeds []) (unless_nested old new (replace_by t moment old new label (found_at t new)))) other
+    posix_other : same_path old new ≡ false → unless_root old (unless_root new (posix_rename t moment old new (look_up t old))) ≡ unless_nested old new (replace_by t moment old new label (found_at t new))
+    posix_other other = there (posix_rename t moment old new) ∙ ap (λ b. cond {A = Outcome} b (succeeds []) (unless_nested old new (replace_by t moment old new label (found_at t new)))) other
 
-    pub posix_nested : same_path old new ≡ false → are_nested old new ≡ true → unless_root old (unless_root new (posix_rename t moment old new (place_at t old))) ≡ refuses Failure
-    posix_nested other nested = posix_other other ∙ ap (λ b. cond {A = Answer} b (refuses Failure) (replace_by t moment old new label (found_at t new))) nested
+    pub posix_nested : same_path old new ≡ false → are_nested old new ≡ true → unless_root old (unless_root new (posix_rename t moment old new (look_up t old))) ≡ refuses Failure
+    posix_nested other nested = posix_other other ∙ ap (λ b. cond {A = Outcome} b (refuses Failure) (replace_by t moment old new label (found_at t new))) nested
 
     module _ (apart : are_nested old new ≡ false) where
-      rename_is : (place : Place) → place_at t new ≡ place → unless_root old (unless_root new (rename t moment old new (place_at t old))) ≡ rename_to t moment old new place
+      rename_is : (place : Lookup) → look_up t new ≡ place → unless_root old (unless_root new (rename t moment old new (look_up t old))) ≡ rename_to t moment old new place
       rename_is place e =
-          there (rename t moment old new) ∙ ap (λ b. cond {A = Answer} b (refuses Failure) (rename_to t moment old new (place_at t new))) apart ∙ ap (rename_to t moment old new) e
+          there (rename t moment old new) ∙ ap (λ b. cond {A = Outcome} b (refuses Failure) (rename_to t moment old new (look_up t new))) apart ∙ ap (rename_to t moment old new) e
 
       -- ---- the entry moves
-      may_move : (beside : Path) (last : Name) (into : ℕ) → new ≡ beside ++ last ∷ [] → walk (entry_of s.nodes) s.root beside ≡ Some into → is_directory_at s.nodes into ≡ true
-          → ((target : ℕ) → entry_of s.nodes into last ≡ Some target → is_bare_at s.nodes target ≡ true)
-          → ((target : ℕ) → entry_of s.nodes into last ≡ Some target → node ≢ target) → MayMove s old new from into
+      may_move : (beside : Path) (last : Name) (into : ℕ) → new ≡ beside ++ last ∷ [] → walk (child_of s.nodes) s.root beside ≡ Some into → is_directory_at s.nodes into ≡ true
+          → ((target : ℕ) → child_of s.nodes into last ≡ Some target → is_bare_at s.nodes target ≡ true)
+          → ((target : ℕ) → child_of s.nodes into last ≡ Some target → node ≢ target) → MayMove s old new from into
       may_move beside last into is leads dir bare another =
           let f = last_known s.nodes s.root old from node ne.0 (node_at s t k old from node at).1 in
           record {
@@ -155,32 +155,32 @@ module _ (s : StoreState) (t : Tree) (k : Keeps s t) (moment : ℕ) (old new : P
           (λ other some is. let h : Some target ≡ Some other = sym f.4 ∙ some in let same : target ≡ other = cc in another (is ∙ sym same))
 
       -- ---- RENAME
-      pub rename_no_way : way_from s.nodes s.root s.root new ≡ located.NoWay → unless_root old (unless_root new (rename t moment old new (place_at t old))) ≡ refuses NoSuchFile
-      rename_no_way e = rename_is place.NoWay (no_way s t k new e)
+      pub rename_no_way : way_from s.nodes s.root s.root new ≡ located.NoWay → unless_root old (unless_root new (rename t moment old new (look_up t old))) ≡ refuses NoSuchFile
+      rename_no_way e = rename_is lookup.NoWay (no_way s t k new e)
 
-      pub rename_taken : (d y : ℕ) → way_from s.nodes s.root s.root new ≡ located.At d y → unless_root old (unless_root new (rename t moment old new (place_at t old))) ≡ refuses Failure
-      rename_taken d y e = rename_is (place.At (node_at s t k new d y e).2.0.label) (node_at s t k new d y e).2.2
+      pub rename_taken : (d y : ℕ) → way_from s.nodes s.root s.root new ≡ located.At d y → unless_root old (unless_root new (rename t moment old new (look_up t old))) ≡ refuses Failure
+      rename_taken d y e = rename_is (lookup.At (node_at s t k new d y e).2.0.label) (node_at s t k new d y e).2.2
 
       pub rename_moves : (into : ℕ) → way_from s.nodes s.root s.root new ≡ located.Missing into
-          → (unless_root old (unless_root new (rename t moment old new (place_at t old))) ≡ moves t moment old new) × MayMove s old new from into
-      rename_moves into e = (rename_is place.Absent (name_missing s t k new into e).0, may_move_free into e)
+          → (unless_root old (unless_root new (rename t moment old new (look_up t old))) ≡ moves t moment old new) × MayMove s old new from into
+      rename_moves into e = (rename_is lookup.Absent (name_missing s t k new into e).0, may_move_free into e)
 
       -- ---- the extension
       module _ (other : same_path old new ≡ false) where
-        posix_is : (found : Found) → found_at t new ≡ found → unless_root old (unless_root new (posix_rename t moment old new (place_at t old))) ≡ replace_by t moment old new label found
+        posix_is : (found : FoundObject) → found_at t new ≡ found → unless_root old (unless_root new (posix_rename t moment old new (look_up t old))) ≡ replace_by t moment old new label found
         posix_is found e =
-            posix_other other ∙ ap (λ b. cond {A = Answer} b (refuses Failure) (replace_by t moment old new label (found_at t new))) apart ∙ ap (replace_by t moment old new label) e
+            posix_other other ∙ ap (λ b. cond {A = Outcome} b (refuses Failure) (replace_by t moment old new label (found_at t new))) apart ∙ ap (replace_by t moment old new label) e
 
-        pub posix_no_way : way_from s.nodes s.root s.root new ≡ located.NoWay → unless_root old (unless_root new (posix_rename t moment old new (place_at t old))) ≡ refuses NoSuchFile
+        pub posix_no_way : way_from s.nodes s.root s.root new ≡ located.NoWay → unless_root old (unless_root new (posix_rename t moment old new (look_up t old))) ≡ refuses NoSuchFile
         posix_no_way e = posix_is _ (found_no_way s t new k e)
 
         pub posix_moves : (into : ℕ) → way_from s.nodes s.root s.root new ≡ located.Missing into
-            → (unless_root old (unless_root new (posix_rename t moment old new (place_at t old))) ≡ moves t moment old new) × MayMove s old new from into
+            → (unless_root old (unless_root new (posix_rename t moment old new (look_up t old))) ≡ moves t moment old new) × MayMove s old new from into
         posix_moves into e = (posix_is _ (found_missing s t new k into e), may_move_free into e)
 
         -- both paths lead to one node, which then is a file: its paths are apart
         pub posix_one : (into target : ℕ) → way_from s.nodes s.root s.root new ≡ located.At into target → node ≡ target
-            → unless_root old (unless_root new (posix_rename t moment old new (place_at t old))) ≡ succeeds []
+            → unless_root old (unless_root new (posix_rename t moment old new (look_up t old))) ≡ succeeds []
         posix_one into target e one =
             let w = node_at s t k new into target e in
             let o = node_at s t k old from node at in
@@ -193,7 +193,7 @@ module _ (s : StoreState) (t : Tree) (k : Keeps s t) (moment : ℕ) (old new : P
             front_itself : (p : Path) → is_some (after_front p p) ≡ true
             front_itself p = ap (λ (x : Option Path). is_some x) (is_front p)
 
-            no_directory : (d : ℕ) → walk (entry_of s.nodes) s.root old ≡ Some d → walk (entry_of s.nodes) s.root new ≡ Some d → is_directory_at s.nodes d ≡ true → ⊥
+            no_directory : (d : ℕ) → walk (child_of s.nodes) s.root old ≡ Some d → walk (child_of s.nodes) s.root new ≡ Some d → is_directory_at s.nodes d ≡ true → ⊥
             no_directory d to_old to_new directory =
                 let paths : old ≡ new = one_way s t k old new d to_old to_new directory in
                 let nested : are_nested old new ≡ true = ap (λ (p : Path). is_some (after_front old p) || is_some (after_front p old)) (sym paths) ∙ ap (λ b. b || is_some (after_front old old)) (front_itself old) in
@@ -201,7 +201,7 @@ module _ (s : StoreState) (t : Tree) (k : Keeps s t) (moment : ℕ) (old new : P
 
             one_content : (l : ℕ) (m : Metadata) (c : Content) → label ≡ l → (is_directory_content c ≡ true → ⊥) → replace_by t moment old new label (found_content l m c) ≡ succeeds []
             one_content l m (content.Directory es) labels never = absurd (never refl)
-            one_content l m (content.File contents) labels never = ap (λ b. cond {A = Answer} b (succeeds []) (cond (is_directory t old) (refuses Failure) (moves t moment old new))) (eq-eqb label l labels)
+            one_content l m (content.File contents) labels never = ap (λ b. cond {A = Outcome} b (succeeds []) (cond (is_directory t old) (refuses Failure) (moves t moment old new))) (eq-eqb label l labels)
 
         -- they lead to two nodes
         module _ (into target : ℕ) (e : way_from s.nodes s.root s.root new ≡ located.At into target) (two : node ≢ target) where
@@ -209,7 +209,7 @@ module _ (s : StoreState) (t : Tree) (k : Keeps s t) (moment : ℕ) (old new : P
               ≡ cond (cond (is_directory_content c) (is_directory t old && is_empty t.names new) (not (is_directory t old))) (moves t moment old new) (refuses Failure)
           replace_content l m (content.Directory es) ne = refl
           replace_content l m (content.File contents) ne =
-              ap (λ b. cond {A = Answer} b (succeeds []) (cond (is_directory t old) (refuses Failure) (moves t moment old new))) ne
+              ap (λ b. cond {A = Outcome} b (succeeds []) (cond (is_directory t old) (refuses Failure) (moves t moment old new))) ne
               ∙ either (is_directory t old) (refuses Failure) (moves t moment old new)
 
           labels_differ : nat_eq label (node_at s t k new into target e).2.0.label ≡ false
@@ -221,20 +221,20 @@ module _ (s : StoreState) (t : Tree) (k : Keeps s t) (moment : ℕ) (old new : P
                 | false ↦ λ f. refl
               ] refl
 
-          replaces : unless_root old (unless_root new (posix_rename t moment old new (place_at t old))) ≡ cond (may_replace s.nodes node target) (moves t moment old new) (refuses Failure)
+          replaces : unless_root old (unless_root new (posix_rename t moment old new (look_up t old))) ≡ cond (may_replace s.nodes node target) (moves t moment old new) (refuses Failure)
           replaces =
               let w = node_at s t k new into target e in
               let it = w.2.0 in
               posix_is (found_node it) w.2.3 ∙ replace_content it.label it.metadata it.content labels_differ
-              ∙ ap (λ b. cond {A = Answer} (cond b (is_directory t old && is_empty t.names new) (not (is_directory t old))) (moves t moment old new) (refuses Failure))
+              ∙ ap (λ b. cond {A = Outcome} (cond b (is_directory t old && is_empty t.names new) (not (is_directory t old))) (moves t moment old new) (refuses Failure))
               (sym (ap (λ (o : Option Node). option_map_or (λ (x : Node). is_directory_content x.content) o false) w.2.1))
-              ∙ ap (λ d. cond {A = Answer} (cond (is_directory_at s.nodes target) (d && is_empty t.names new) (not d)) (moves t moment old new) (refuses Failure))
+              ∙ ap (λ d. cond {A = Outcome} (cond (is_directory_at s.nodes target) (d && is_empty t.names new) (not d)) (moves t moment old new) (refuses Failure))
               (directory_says s t k old node (node_at s t k old from node at).0)
-              ∙ ap (λ b. cond {A = Answer} (cond (is_directory_at s.nodes target) (is_directory_at s.nodes node && b) (not (is_directory_at s.nodes node))) (moves t moment old new) (refuses Failure))
+              ∙ ap (λ b. cond {A = Outcome} (cond (is_directory_at s.nodes target) (is_directory_at s.nodes node && b) (not (is_directory_at s.nodes node))) (moves t moment old new) (refuses Failure))
               (bare_found s t k new target w.0)
 
-          pub posix_refused : may_replace s.nodes node target ≡ false → unless_root old (unless_root new (posix_rename t moment old new (place_at t old))) ≡ refuses Failure
-          posix_refused may = replaces ∙ ap (λ b. cond {A = Answer} b (moves t moment old new) (refuses Failure)) may
+          pub posix_refused : may_replace s.nodes node target ≡ false → unless_root old (unless_root new (posix_rename t moment old new (look_up t old))) ≡ refuses Failure
+          posix_refused may = replaces ∙ ap (λ b. cond {A = Outcome} b (moves t moment old new) (refuses Failure)) may
 
           second : (a b : Bool) → (a && b) ≡ true → b ≡ true
           second true b e = e
@@ -249,7 +249,7 @@ module _ (s : StoreState) (t : Tree) (k : Keeps s t) (moment : ℕ) (old new : P
               ] refl
 
           pub posix_replaces : may_replace s.nodes node target ≡ true
-              → (unless_root old (unless_root new (posix_rename t moment old new (place_at t old))) ≡ moves t moment old new) × MayMove s old new from into
+              → (unless_root old (unless_root new (posix_rename t moment old new (look_up t old))) ≡ moves t moment old new) × MayMove s old new from into
           posix_replaces may =
               let w = node_at s t k new into target e in
-              (replaces ∙ ap (λ b. cond {A = Answer} b (moves t moment old new) (refuses Failure)) may, may_move_over into target e (bare w.2.0 w.2.1 may) two)
+              (replaces ∙ ap (λ b. cond {A = Outcome} b (moves t moment old new) (refuses Failure)) may, may_move_over into target e (bare w.2.0 w.2.1 may) two)

@@ -9,13 +9,13 @@ use Rattle.sf_call.specs.declared.metadata.Metadata.{Metadata}
 use Rattle.sf_call.specs.declared.limits.TheConstants.{MAX_FILE_SIZE}
 use Rattle.sf_call.specs.Attributes.{Object, modified_at}
 use Rattle.sf_call.specs.Attributes.Object.{File}
-use Rattle.sf_block.specs.Contents.{whole, written}
+use Rattle.sf_block.specs.Contents.{complete, written}
 use Rattle.sf_call.specs.Tree.{Tree, is_nil}
 use Rattle.sf_call.specs.Handles.{Opened, opened, opened_object}
 use Rattle.sf_call.specs.Handles.Opened.{OpenDirectory, OpenFile}
 use Rattle.sf_call.specs.Changes.{changed}
 use Rattle.sf_call.specs.Changes.Change.{SetObject}
-use Rattle.sf_call.specs.Calls.{Answer, refuses, succeeds, write, start_of}
+use Rattle.sf_call.specs.Calls.{Outcome, refuses, succeeds, write, start_of}
 use Rattle.sf_inode.specs.declared.node.Node.{Node}
 use Rattle.sf_inode.specs.declared.node.Content.{Content}
 use Rattle.sf_inode.specs.declared.node.Content.TheVariants as content
@@ -25,11 +25,11 @@ use Rattle.sf_inode.specs.Stores.{StoreState, node_in, bytes_of, bytes_set, file
 use Rattle.sf_keeps.specs.Keeps.{Keeps}
 use Rattle.sf_keeps.proofs.Laws.{keeps_contents, keeps_file, object_again, edited_itself}
 use Rattle.sf_walk.specs.Served.{IsCarriedOut, is_success}
-use Rattle.sf_walk.proofs.Told.{tells_served}
+use Rattle.sf_walk.proofs.ReplyOnly.{tells_served}
 use Rattle.sf_walk.proofs.SetNodes.{shown_stored, stored_bytes}
 use Rattle.sf_walk.proofs.OpenHandles.{IsOpen, file_is}
 
-no_file : (f : Opened → Answer) → ((handle : Handle) (m : Metadata) → f (OpenDirectory handle m) ≡ refuses Failure) → (handle : Handle) (m : Metadata) (c : Content) → is_file_content c ≡ false
+no_file : (f : Opened → Outcome) → ((handle : Handle) (m : Metadata) → f (OpenDirectory handle m) ≡ refuses Failure) → (handle : Handle) (m : Metadata) (c : Content) → is_file_content c ≡ false
     → f (opened_object handle (Some (object_in m c))) ≡ refuses Failure
 no_file f law handle m (content.Directory es) e = law handle m
 no_file f law handle m (content.File contents) e = cc
@@ -98,10 +98,10 @@ module _ (s : StoreState) (t : Tree) (session number : ℕ) (h : OpenHandle) (o 
       file_content s.nodes h.node o.node.label h.label (shown_handle session h) (opened t session number) o.node.metadata o.node.content (ap (option_map shown_node) o.there)
       (ap (λ (o : Option Node). (option_map_or (λ (node : Node). bytes_in node.content) o [])) o.there) o.label o.opens (sym (file_is s t session number h o) ∙ f)
 
-  no_file_open : (f : Opened → Answer) → ((handle : Handle) (m : Metadata) → f (OpenDirectory handle m) ≡ refuses Failure) → is_file_at s.nodes h.node ≡ false → f (opened t session number) ≡ refuses Failure
+  no_file_open : (f : Opened → Outcome) → ((handle : Handle) (m : Metadata) → f (OpenDirectory handle m) ≡ refuses Failure) → is_file_at s.nodes h.node ≡ false → f (opened t session number) ≡ refuses Failure
   no_file_open f law none = ap f o.opens ∙ no_file f law (shown_handle session h) o.node.metadata o.node.content (sym (file_is s t session number h o) ∙ none)
 
-  pub refused_served : (f : Opened → Answer) → ((handle : Handle) (m : Metadata) → f (OpenDirectory handle m) ≡ refuses Failure) → None ≡ file_size s.nodes h.node → IsCarriedOut s t (f (opened t session number)) (reply.Status Failure)
+  pub refused_served : (f : Opened → Outcome) → ((handle : Handle) (m : Metadata) → f (OpenDirectory handle m) ≡ refuses Failure) → None ≡ file_size s.nodes h.node → IsCarriedOut s t (f (opened t session number)) (reply.Status Failure)
   refused_served f law none = tells_served s t (f (opened t session number)) (reply.Status Failure) (no_file_open f law (no_size s.nodes h.node none)) o.keeps
 
   pub write_unmarked : (moment offset size : ℕ) (bytes : List ℕ) → Some size ≡ file_size s.nodes h.node → h.marks.write ≡ false → IsCarriedOut s t (write moment offset bytes (opened t session number)) (reply.Status PermissionDenied)
@@ -129,7 +129,7 @@ module _ (s : StoreState) (t : Tree) (session number : ℕ) (h : OpenHandle) (o 
     pub write_wants : (moment : ℕ) → false ≡ nat_lt MAX_FILE_SIZE (start + length bytes) → is_success (write moment offset bytes (opened t session number)).reply ≡ true
     write_wants moment past =
         let f = open_file (size_is s.nodes h.node size e).0 in
-        ap (λ (a : Answer). is_success a.reply)
+        ap (λ (a : Outcome). is_success a.reply)
         (ap (write moment offset bytes) f.1.1 ∙ write_within moment offset start bytes (shown_handle session h) f.0 (bytes_of s.nodes h.node) marked some starts (sym past))
 
     pub write_served : (new : StoreState) (moment : ℕ) → false ≡ nat_lt MAX_FILE_SIZE (start + length bytes)
@@ -137,7 +137,7 @@ module _ (s : StoreState) (t : Tree) (session number : ℕ) (h : OpenHandle) (o 
         → IsCarriedOut new t (write moment offset bytes (opened t session number)) (reply.Status Success)
     write_served new moment past law =
         let f = open_file (size_is s.nodes h.node size e).0 in
-        subst (λ (a : Answer). IsCarriedOut new t a (reply.Status Success))
+        subst (λ (a : Outcome). IsCarriedOut new t a (reply.Status Success))
         (sym (ap (write moment offset bytes) f.1.1 ∙ write_within moment offset start bytes (shown_handle session h) f.0 (bytes_of s.nodes h.node) marked some starts (sym past)))
         (record { told = refl; tree = law t h.label f.0 (bytes_of s.nodes h.node) o.keeps f.1.0 })
 
@@ -154,7 +154,7 @@ put_keeps s first new t id label moment start m old bytes keeps shows put marked
     let after : now ≡ written old start bytes = ap (λ (b : List ℕ). written b start bytes) (stored_bytes (node_in s.nodes id) label m old shows) in
     let one = changed t (SetObject label (File m now)) in
     let last : Object = File (modified_at moment m) now in
-    let keeps_first : Keeps first one = subst (λ (x : StoreState). Keeps x one) (sym put) (keeps_contents (whole now) s t id label m old keeps shows) in
+    let keeps_first : Keeps first one = subst (λ (x : StoreState). Keeps x one) (sym put) (keeps_contents (complete now) s t id label m old keeps shows) in
     let shows_first : shown_of first.nodes id ≡ Some (label, File m now) = shows_bytes s first id label m old now shows put in
     let keeps_new : Keeps new (changed one (SetObject label last)) =
     subst (λ (x : StoreState). Keeps x (changed one (SetObject label last))) (sym marked) (keeps_file (modified_at moment) first one id label m now keeps_first shows_first) in

@@ -4,7 +4,7 @@ use Rattle.std.proofs.lemmas.Option.{get_or_from_slice_get}
 use Rattle.std.proofs.Common.{sym, ap, ◌∙◌, arith, length-append}
 use Rattle.sf_path.specs.Names.{Name, Path}
 use Rattle.sf_path.specs.Order.{parent}
-use Rattle.sf_walk.specs.Ways.{last_of}
+use Rattle.sf_walk.specs.Ways.{last_name_of}
 
 at_end : (r : Path) (n : Name) → slice_index_or (r ++ n ∷ []) (length r) [] ≡ n
 at_end [] n = refl
@@ -13,10 +13,10 @@ at_end (m ∷ r) n = at_end r n
 less_one : (r : Path) (n : Name) → length (r ++ n ∷ []) - 1 ≡ length r
 less_one r n = omega (arith, length-append r (n ∷ []))
 
-pub last_is : (r : Path) (n : Name) → last_of (r ++ n ∷ []) ≡ n
+pub last_is : (r : Path) (n : Name) → last_name_of (r ++ n ∷ []) ≡ n
 last_is r n = ap (λ k. slice_index_or (r ++ n ∷ []) k []) (less_one r n) ∙ at_end r n
 
-pub last_name : (p : Path) (i : ℕ) (n : Name) → slice_get p (i - 1) ≡ Some n → i ≡ length p → n ≡ last_of p
+pub last_name : (p : Path) (i : ℕ) (n : Name) → slice_get p (i - 1) ≡ Some n → i ≡ length p → n ≡ last_name_of p
 last_name p i n at e = sym (get_or_from_slice_get p (i - 1) n [] at) ∙ ap (λ k. slice_index_or p (k - 1) []) e
 
 take_front : (r : Path) (n : Name) → take (length r) (r ++ n ∷ []) ≡ r

@@ -5,7 +5,7 @@ pub mod Laws
 pub mod Holders
 pub mod Looked
 pub mod LastNames
-pub mod Told
+pub mod ReplyOnly
 pub mod SetNodes
 pub mod Parents
 pub mod PathCalls

@@ -9,7 +9,7 @@ use Rattle.sf_keeps.specs.Keeps.{Keeps}
 use Rattle.sf_keeps.proofs.Laws.{keeps_looked}
 use Rattle.sf_walk.specs.declared.finding.Located.{Located}
 use Rattle.sf_walk.specs.Ways.{way_from}
-use Rattle.sf_walk.specs.Served.{LookedUp, IsAlike, IsAsBefore, Stays, after_look_ups}
+use Rattle.sf_walk.specs.Served.{LookedUp, IsAlike, IsAsBefore, KeepsRest, after_look_ups}
 use Rattle.sf_walk.proofs.LookUps.{looked_nodes, looked_root}
 use Rattle.sf_walk.proofs.Holders.{alike_looked}
 
@@ -30,5 +30,5 @@ way_looked old new p most l looked e =
 pub alike_after : (old mid new : StoreState) (most : ℕ) → LookedUp old mid most → new ≡ mid → IsAlike old new
 alike_after old mid new most looked e = subst (λ (x : StoreState). IsAlike old x) (sym e) (alike_looked old mid most looked)
 
-pub stays_after : {N : Option ℕ → ℕ → Type 0} (old mid new : StoreState) (most : ℕ) → LookedUp old mid most → Stays N mid new → Stays N old new
+pub stays_after : {N : Option ℕ → ℕ → Type 0} (old mid new : StoreState) (most : ℕ) → LookedUp old mid most → KeepsRest N mid new → KeepsRest N old new
 stays_after {N} old mid new most looked h = record { node = λ id node at. subst (λ (ns : List (Option Node)). IsAsBefore N (node_in ns id) node) (looked_nodes old mid most looked) (h.node id node at) }

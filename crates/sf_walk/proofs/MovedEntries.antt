@@ -16,10 +16,10 @@ use Rattle.sf_inode.specs.declared.node.Node.{Node}
 use Rattle.sf_inode.specs.declared.node.Content.{Content}
 use Rattle.sf_inode.specs.declared.node.Content.TheVariants as content
 use Rattle.sf_inode.specs.Nodes.{object_in, with_metadata}
-use Rattle.sf_inode.specs.Stores.{StoreState, node_in, entry_of, is_directory_at, shown_of, shown_node, edited, relinked}
+use Rattle.sf_inode.specs.Stores.{StoreState, node_in, child_of, is_directory_at, shown_of, shown_node, edited, relinked}
 use Rattle.sf_keeps.specs.Keeps.{Keeps}
 use Rattle.sf_keeps.proofs.Laws.{directory_found, keeps_directory, keeps_moved, keeps_replaced, relinked_alike, edited_apart, edited_itself}
-use Rattle.sf_walk.specs.Ways.{last_of}
+use Rattle.sf_walk.specs.Ways.{last_name_of}
 use Rattle.sf_walk.specs.Served.{IsCarriedOut}
 use Rattle.sf_walk.specs.Renames.{MayMove}
 use Rattle.sf_walk.proofs.Holders.{apart}
@@ -63,16 +63,16 @@ module _ (s : StoreState) (t : Tree) (k : Keeps s t) (moment : ℕ) (old new : P
   not_inside = sym (λ i. after_front (m.is_old i) (m.is_new i)) ∙ m.not_inside
 
   moved : Keeps mid (changed t (Move Old New))
-  moved = elim (entry_of s.nodes into m.last) as (λ o. entry_of s.nodes into m.last ≡ o → Keeps mid (changed t (Move Old New))) [
+  moved = elim (child_of s.nodes into m.last) as (λ o. child_of s.nodes into m.last ≡ o → Keeps mid (changed t (Move Old New))) [
     | None ↦ λ e. keeps_moved s t m.above from m.name m.node m.beside into m.last k m.leads m.there m.leads_new m.directory not_inside e
     | Some target ↦ λ e. keeps_replaced s t m.above from m.name m.node m.beside into m.last k m.leads m.there m.leads_new m.directory not_inside target e (m.bare target e) (m.other target e)
   ] refl
 
   -- neither directory is what is replaced
-  other_from : entry_of s.nodes into m.last ≢ Some from
+  other_from : child_of s.nodes into m.last ≢ Some from
   other_from e = let none = bare_above s.nodes from m.name (m.bare from e) in let some = m.there in let x : ⊥ = cc in x
 
-  other_into : entry_of s.nodes into m.last ≢ Some into
+  other_into : child_of s.nodes into m.last ≢ Some into
   other_into e = let none = bare_above s.nodes into m.last (m.bare into e) in let x : ⊥ = cc in x
 
   abbrev touched_old : StoreState
@@ -107,11 +107,11 @@ module _ (s : StoreState) (t : Tree) (k : Keeps s t) (moment : ℕ) (old new : P
         (keeps_directory (modified_at moment) touched_old tree_old into w.0 (modified_at moment w.1.0) old_touched shown)
   ] refl
 
-  pub moves_served : (after : StoreState) → after ≡ edited (with_metadata (modified_at moment)) (edited (with_metadata (modified_at moment)) (relinked s from (last_of old) into (last_of new)) from) into
+  pub moves_served : (after : StoreState) → after ≡ edited (with_metadata (modified_at moment)) (edited (with_metadata (modified_at moment)) (relinked s from (last_name_of old) into (last_name_of new)) from) into
       → IsCarriedOut after t (moves t moment old new) (reply.Status Success)
   moves_served after state =
-      let names : relinked s from (last_of old) into (last_of new) ≡ mid =
-      λ i. relinked s from ((ap last_of m.is_old ∙ last_is m.above m.name) i) into ((ap last_of m.is_new ∙ last_is m.beside m.last) i) in
+      let names : relinked s from (last_name_of old) into (last_name_of new) ≡ mid =
+      λ i. relinked s from ((ap last_name_of m.is_old ∙ last_is m.above m.name) i) into ((ap last_name_of m.is_new ∙ last_is m.beside m.last) i) in
       let whole : Keeps (edited (with_metadata (modified_at moment)) touched_old into) (done t (Move Old New ∷ (touched t moment (parent Old) ++ touched t moment (parent New)))) =
       subst (λ (u : Tree). Keeps (edited (with_metadata (modified_at moment)) touched_old into) u) (sym (done-append (changed t (Move Old New)) (touched t moment (parent Old)) (touched t moment (parent New)))) into_touched in
       record {

@@ -10,32 +10,32 @@ use Rattle.sf_call.specs.declared.limits.TheConstants.{MAX_FILE_SIZE}
 use Rattle.sf_call.specs.declared.metadata.Metadata.{Metadata}
 use Rattle.sf_call.specs.declared.request.Request.{Request}
 use Rattle.sf_call.specs.declared.request.Request.TheVariants as request
-use Rattle.sf_call.specs.declared.place.Place.{Place}
-use Rattle.sf_call.specs.declared.place.Place.TheVariants as place
+use Rattle.sf_call.specs.declared.lookup.Lookup.{Lookup}
+use Rattle.sf_call.specs.declared.lookup.Lookup.TheVariants as lookup
 use Rattle.sf_call.specs.Attributes.{Object}
 use Rattle.sf_call.specs.Attributes.Object.{Directory, File}
 use Rattle.sf_call.specs.declared.handle.Handle.{Handle}
-use Rattle.sf_call.specs.Tree.{Tree, Found, place_at, found_at, found_object, object_of, directory_at, is_empty, is_nil}
-use Rattle.sf_call.specs.Tree.Found.{Nowhere, Nothing, DirectoryAt, FileAt}
+use Rattle.sf_call.specs.Tree.{Tree, FoundObject, look_up, found_at, found_object, object_of, directory_at, is_empty, is_nil}
+use Rattle.sf_call.specs.Tree.FoundObject.{Nowhere, Nothing, DirectoryAt, FileAt}
 use Rattle.sf_call.specs.Handles.{Opened, handle_in, opened}
 use Rattle.sf_call.specs.Handles.Opened.{NotOpen, OpenDirectory, OpenFile}
 use Rattle.sf_call.specs.Listings.{path_of, listing_of}
 use Rattle.sf_call.specs.Changes.{touch, moved_by}
-use Rattle.sf_call.specs.Calls.{Answer, answer_to, stat, set_stat, sets, refuses_size, make_directory, remove_directory, remove_file, open_directory, open_present, open_file, has_all_handles, close, stat_opened, set_opened, read, write, start_of, read_directory, lists, unless_root, opening, stamp}
+use Rattle.sf_call.specs.Calls.{Outcome, answer_to, stat, set_stat, sets, refuses_size, make_directory, remove_directory, remove_file, open_directory, open_present, open_file, has_all_handles, close, stat_opened, set_opened, read, write, start_of, read_directory, lists, unless_root, opening, stamp}
 use Rattle.sf_call.proofs.Laws.{link_cases, link_to_cases}
 use Rattle.sf_inode.specs.Stores.{StoreState}
 use Rattle.sf_walk.specs.declared.renames.Course.{Course}
 use Rattle.sf_walk.specs.declared.renames.Course.TheVariants.{Told, Moves}
 use Rattle.sf_walk.specs.Renames.{IsCourse, does_move, renaming}
 
-abbrev pub Stays : Answer → Type 0
+abbrev pub Stays : Outcome → Type 0
 Stays answer = moved_by answer.changes ≡ None
 
-either : (b : Bool) (this that : Answer) → Stays this → Stays that → Stays (cond b this that)
+either : (b : Bool) (this that : Outcome) → Stays this → Stays that → Stays (cond b this that)
 either true this that a b = a
 either false this that a b = b
 
-pub rooted : (p : Path) (answer : Answer) → Stays answer → Stays (unless_root p answer)
+pub rooted : (p : Path) (answer : Outcome) → Stays answer → Stays (unless_root p answer)
 rooted [] answer h = refl
 rooted (n ∷ p) answer h = h
 
@@ -43,7 +43,7 @@ touches : (moment : ℕ) (o : Option (ℕ × Metadata)) → moved_by (touch mome
 touches moment None = refl
 touches moment (Some e) = refl
 
-stat_stays : (found : Found) → Stays (stat found)
+stat_stays : (found : FoundObject) → Stays (stat found)
 stat_stays Nowhere = refl
 stat_stays Nothing = refl
 stat_stays (DirectoryAt label m) = refl
@@ -52,46 +52,46 @@ stat_stays (FileAt label m contents) = refl
 sets_stays : (moment label : ℕ) (attrs : Attrs) (object : Object) → Stays (sets moment label attrs object)
 sets_stays moment label attrs object = either (refuses_size object attrs.size) _ _ refl refl
 
-set_stat_stays : (moment : ℕ) (attrs : Attrs) (found : Found) → Stays (set_stat moment attrs found)
+set_stat_stays : (moment : ℕ) (attrs : Attrs) (found : FoundObject) → Stays (set_stat moment attrs found)
 set_stat_stays moment attrs Nowhere = refl
 set_stat_stays moment attrs Nothing = refl
 set_stat_stays moment attrs (DirectoryAt label m) = sets_stays moment label attrs (Directory m)
 set_stat_stays moment attrs (FileAt label m contents) = sets_stays moment label attrs (File m contents)
 
 module _ (t : Tree) (session number moment : ℕ) where
-  make_stays : (p : Path) (attrs : Attrs) (at : Place) → Stays (make_directory t (stamp number moment) p attrs at)
-  make_stays p attrs place.NoWay = refl
-  make_stays p attrs (place.At label) = refl
-  make_stays p attrs place.Absent = touches moment (directory_at t (parent p))
+  make_stays : (p : Path) (attrs : Attrs) (at : Lookup) → Stays (make_directory t (stamp number moment) p attrs at)
+  make_stays p attrs lookup.NoWay = refl
+  make_stays p attrs (lookup.At label) = refl
+  make_stays p attrs lookup.Absent = touches moment (directory_at t (parent p))
 
-  remove_directory_stays : (p : Path) (found : Found) → Stays (remove_directory t moment p found)
+  remove_directory_stays : (p : Path) (found : FoundObject) → Stays (remove_directory t moment p found)
   remove_directory_stays p Nowhere = refl
   remove_directory_stays p Nothing = refl
   remove_directory_stays p (DirectoryAt label m) = either (is_empty t.names p) _ _ (touches moment (directory_at t (parent p))) refl
   remove_directory_stays p (FileAt label m contents) = refl
 
-  remove_stays : (p : Path) (found : Found) → Stays (remove_file t moment p found)
+  remove_stays : (p : Path) (found : FoundObject) → Stays (remove_file t moment p found)
   remove_stays p Nowhere = refl
   remove_stays p Nothing = refl
   remove_stays p (DirectoryAt label m) = refl
   remove_stays p (FileAt label m contents) = touches moment (directory_at t (parent p))
 
-  open_directory_stays : (found : Found) → Stays (open_directory t session number found)
+  open_directory_stays : (found : FoundObject) → Stays (open_directory t session number found)
   open_directory_stays Nowhere = refl
   open_directory_stays Nothing = refl
   open_directory_stays (DirectoryAt label m) = either (has_all_handles t session) _ _ refl refl
   open_directory_stays (FileAt label m contents) = refl
 
-  present_stays : (flags : OpenFlags) (found : Found) → Stays (open_present t session (stamp number moment) flags found)
+  present_stays : (flags : OpenFlags) (found : FoundObject) → Stays (open_present t session (stamp number moment) flags found)
   present_stays flags Nowhere = refl
   present_stays flags Nothing = refl
   present_stays flags (DirectoryAt label m) = refl
   present_stays flags (FileAt label m contents) = either (has_all_handles t session) _ _ refl (either (flags.truncate && flags.write) _ _ refl refl)
 
-  open_stays : (p : Path) (flags : OpenFlags) (attrs : Attrs) (at : Place) → Stays (open_file t session (stamp number moment) (opening p flags attrs) at)
-  open_stays p flags attrs place.NoWay = refl
-  open_stays p flags attrs (place.At label) = either (flags.create && flags.exclusive) _ _ refl (present_stays flags (found_object label (object_of t.objects label)))
-  open_stays p flags attrs place.Absent = either (not flags.create) _ _ refl (either (has_all_handles t session) _ _ refl (touches moment (directory_at t (parent p))))
+  open_stays : (p : Path) (flags : OpenFlags) (attrs : Attrs) (at : Lookup) → Stays (open_file t session (stamp number moment) (opening p flags attrs) at)
+  open_stays p flags attrs lookup.NoWay = refl
+  open_stays p flags attrs (lookup.At label) = either (flags.create && flags.exclusive) _ _ refl (present_stays flags (found_object label (object_of t.objects label)))
+  open_stays p flags attrs lookup.Absent = either (not flags.create) _ _ refl (either (has_all_handles t session) _ _ refl (touches moment (directory_at t (parent p))))
 
   close_stays : (o : Option Handle) → Stays (close number o)
   close_stays None = refl
@@ -130,11 +130,11 @@ module _ (t : Tree) (session number moment : ℕ) where
 pub others_stay : (t : Tree) (session number moment : ℕ) (r : Request) → ((old new : Path) → r ≡ request.Rename old new → ⊥) → ((old new : Path) → r ≡ request.PosixRename old new → ⊥) → moved_by (answer_to t session number moment r).changes ≡ None
 others_stay t session number moment (request.Stat p) a b = stat_stays (found_at t p)
 others_stay t session number moment (request.SetStat p attrs) a b = rooted p _ (set_stat_stays moment attrs (found_at t p))
-others_stay t session number moment (request.Mkdir p attrs) a b = rooted p _ (make_stays t session number moment p attrs (place_at t p))
+others_stay t session number moment (request.Mkdir p attrs) a b = rooted p _ (make_stays t session number moment p attrs (look_up t p))
 others_stay t session number moment (request.Rmdir p) a b = rooted p _ (remove_directory_stays t session number moment p (found_at t p))
 others_stay t session number moment (request.Remove p) a b = rooted p _ (remove_stays t session number moment p (found_at t p))
 others_stay t session number moment (request.OpenDir p) a b = open_directory_stays t session number moment (found_at t p)
-others_stay t session number moment (request.Open p flags attrs) a b = rooted p _ (open_stays t session number moment p flags attrs (place_at t p))
+others_stay t session number moment (request.Open p flags attrs) a b = rooted p _ (open_stays t session number moment p flags attrs (look_up t p))
 others_stay t session number moment (request.Close handle) a b = close_stays t session handle moment (handle_in t session handle)
 others_stay t session number moment (request.FStat handle) a b = stat_opened_stays t session number moment (opened t session handle)
 others_stay t session number moment (request.FSetStat handle attrs) a b = set_opened_stays t session number moment attrs (opened t session handle)
@@ -145,9 +145,9 @@ others_stay t session number moment (request.Rename old new) a b = absurd (a old
 others_stay t session number moment (request.PosixRename old new) a b = absurd (b old new refl)
 others_stay t session number moment (request.Link old new) a b =
     link_cases Stays (λ code. refl) t moment old new
-    (λ label _ _ _. link_to_cases Stays (λ code. refl) t moment new label (place_at t new) refl (λ _ _. touches moment (directory_at t (parent new)))) session number
+    (λ label _ _ _. link_to_cases Stays (λ code. refl) t moment new label (look_up t new) refl (λ _ _. touches moment (directory_at t (parent new)))) session number
 
 -- what a rename comes to tells whether it moves
-pub course_moves : (s : StoreState) (t : Tree) (moment : ℕ) (old new : Path) (answer : Answer) (course : Course) → IsCourse s t (renaming old new moment) answer course → does_move course ≡ is_some (moved_by answer.changes)
-course_moves s t moment old new answer (Told code) e = sym (ap (λ (a : Answer). is_some (moved_by a.changes)) e)
-course_moves s t moment old new answer (Moves from into) e = sym (ap (λ (a : Answer). is_some (moved_by a.changes)) e.0)
+pub course_moves : (s : StoreState) (t : Tree) (moment : ℕ) (old new : Path) (answer : Outcome) (course : Course) → IsCourse s t (renaming old new moment) answer course → does_move course ≡ is_some (moved_by answer.changes)
+course_moves s t moment old new answer (Told code) e = sym (ap (λ (a : Outcome). is_some (moved_by a.changes)) e)
+course_moves s t moment old new answer (Moves from into) e = sym (ap (λ (a : Outcome). is_some (moved_by a.changes)) e.0)

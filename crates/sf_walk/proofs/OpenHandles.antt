@@ -11,7 +11,7 @@ use Rattle.sf_call.specs.Calls.{close}
 use Rattle.sf_inode.specs.declared.node.Node.{Node}
 use Rattle.sf_inode.specs.declared.handle.OpenHandle.{OpenHandle}
 use Rattle.sf_inode.specs.Nodes.{object_in, is_directory_content, is_file_content}
-use Rattle.sf_inode.specs.Stores.{StoreState, node_in, is_directory_at, is_file_at, handle_at, shown_handle, closed}
+use Rattle.sf_inode.specs.Stores.{StoreState, node_in, is_directory_at, is_file_at, open_handle_at, shown_handle, closed}
 use Rattle.sf_keeps.specs.Keeps.{Keeps}
 use Rattle.sf_keeps.proofs.Laws.{found_node, keeps_closed}
 use Rattle.sf_walk.specs.Served.{IsCarriedOut}
@@ -19,14 +19,14 @@ use Rattle.sf_walk.specs.Served.{IsCarriedOut}
 -- A session's handle, whose node is there. The tree has the handle too, and the node's object.
 pub record IsOpen (s : StoreState) (t : Tree) (session number : ℕ) (h : OpenHandle) : Type 0 where
   pub keeps : Keeps s t
-  pub at : handle_at s session number ≡ Some h
+  pub at : open_handle_at s session number ≡ Some h
   pub handle : handle_in t session number ≡ Some (shown_handle session h)
   pub node : Node
   pub there : node_in s.nodes h.node ≡ Some node
   pub label : node.label ≡ h.label
   pub opens : opened t session number ≡ opened_object (shown_handle session h) (Some (object_in node.metadata node.content))
 
-pub is_open : (s : StoreState) (t : Tree) (session number : ℕ) (h : OpenHandle) → Keeps s t → Some h ≡ handle_at s session number → IsOpen s t session number h
+pub is_open : (s : StoreState) (t : Tree) (session number : ℕ) (h : OpenHandle) → Keeps s t → Some h ≡ open_handle_at s session number → IsOpen s t session number h
 is_open s t session number h keeps at =
     let found = found_node s t keeps session number h (sym at) in
     let handle : handle_in t session number ≡ Some (shown_handle session h) = keeps.shows.by.handles session number ∙ ap (option_map (shown_handle session)) (sym at) in

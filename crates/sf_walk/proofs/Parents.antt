@@ -11,21 +11,21 @@ use Rattle.sf_reply.specs.declared.reply.StatusCode.TheVariants.{Success}
 use Rattle.sf_call.specs.declared.metadata.Metadata.{Metadata}
 use Rattle.sf_call.specs.Attributes.{Object, modified_at, new_metadata}
 use Rattle.sf_call.specs.Attributes.Object.{Directory}
-use Rattle.sf_call.specs.Tree.{Tree, place_at, directory_at, object_of}
+use Rattle.sf_call.specs.Tree.{Tree, look_up, directory_at, object_of}
 use Rattle.sf_call.specs.Changes.{changed, done, touch, touched}
 use Rattle.sf_call.specs.Changes.Change.{NewPath, GonePath}
-use Rattle.sf_call.specs.Calls.{Answer, make_directory, goes, stamp}
+use Rattle.sf_call.specs.Calls.{Outcome, make_directory, goes, stamp}
 use Rattle.sf_inode.specs.declared.node.Node.{Node}
 use Rattle.sf_inode.specs.declared.node.NewNode.{NewNode}
 use Rattle.sf_inode.specs.declared.node.Content.{Content}
 use Rattle.sf_inode.specs.declared.node.Content.TheVariants as content
-use Rattle.sf_inode.specs.Nodes.{object_in, new_content, new_node, entry_in, is_directory_content, is_bare_content, with_metadata}
+use Rattle.sf_inode.specs.Nodes.{object_in, new_content, new_node, child_in, is_directory_content, is_bare_content, with_metadata}
 use Rattle.sf_keeps.specs.Steps.{walk}
-use Rattle.sf_inode.specs.Stores.{StoreState, Inserted, node_in, entry_of, is_directory_at, is_bare_at, shown_of, shown_node, edited, unlinked, new_entry}
+use Rattle.sf_inode.specs.Stores.{StoreState, Inserted, node_in, child_of, is_directory_at, is_bare_at, shown_of, shown_node, edited, unlinked, new_entry}
 use Rattle.sf_keeps.specs.Keeps.{Keeps}
 use Rattle.sf_keeps.proofs.Laws.{directory_found, keeps_directory, keeps_inserted, keeps_unlinked, inserted_alike, unlinked_alike}
 use Rattle.sf_walk.specs.declared.finding.Located.TheVariants as located
-use Rattle.sf_walk.specs.Ways.{way_from, last_of}
+use Rattle.sf_walk.specs.Ways.{way_from, last_name_of}
 use Rattle.sf_walk.specs.Served.{LookedUp, IsCarriedOut}
 use Rattle.sf_walk.proofs.Fits.{name_missing, node_at}
 use Rattle.sf_walk.proofs.Looked.{keeps_counted, way_looked}
@@ -48,21 +48,21 @@ shown_directory nodes id d =
           (sym (ap (λ (o : Option Node). option_map_or (λ (it : Node). is_directory_content it.content) o false) e) ∙ d)
     ] refl
 
-content_bare : (c : Content) (n : Name) → is_bare_content c ≡ true → entry_in c n ≡ None
+content_bare : (c : Content) (n : Name) → is_bare_content c ≡ true → child_in c n ≡ None
 content_bare (content.Directory []) n e = refl
 content_bare (content.Directory (x ∷ es)) n e = cc
 content_bare (content.File contents) n e = refl
 
 -- what has no entries has no entry of its own
-pub bare_above : (nodes : List (Option Node)) (d : ℕ) (n : Name) → is_bare_at nodes d ≡ true → entry_of nodes d n ≡ None
+pub bare_above : (nodes : List (Option Node)) (d : ℕ) (n : Name) → is_bare_at nodes d ≡ true → child_of nodes d n ≡ None
 bare_above nodes d n =
-    elim (node_in nodes d) as (λ o. option_map_or (λ (node : Node). is_bare_content node.content) o false ≡ true → option_and_then (λ (node : Node). entry_in node.content n) o ≡ None) [
+    elim (node_in nodes d) as (λ o. option_map_or (λ (node : Node). is_bare_content node.content) o false ≡ true → option_and_then (λ (node : Node). child_in node.content n) o ≡ None) [
       | None ↦ λ e. refl
       | Some node ↦ λ e. content_bare node.content n e
     ]
 
 -- a directory that a path's last name stands in is modified, in the store and in the tree
-pub touches : (s new : StoreState) (t u : Tree) (r : Path) (n : Name) (dir moment : ℕ) → Keeps s t → walk (entry_of s.nodes) s.root r ≡ Some dir → is_directory_at s.nodes dir ≡ true
+pub touches : (s new : StoreState) (t u : Tree) (r : Path) (n : Name) (dir moment : ℕ) → Keeps s t → walk (child_of s.nodes) s.root r ≡ Some dir → is_directory_at s.nodes dir ≡ true
     → Keeps new u → shown_of new.nodes dir ≡ shown_of s.nodes dir → Keeps (edited (with_metadata (modified_at moment)) new dir) (done u (touched t moment (parent (r ++ n ∷ []))))
 touches s new t u r n dir moment h at d kept same =
     let w = shown_directory s.nodes dir d in
@@ -73,16 +73,16 @@ touches s new t u r n dir moment h at d kept same =
 -- ---- MKDIR of a missing name
 pub make_served : (old mid made new : StoreState) (t : Tree) (p : Path) (most number moment : ℕ) (attrs : Attrs) (dir id : ℕ) (it : NewNode)
     → LookedUp old mid most → Keeps old t → object_of t.objects number ≡ None → located.Missing dir ≡ way_from old.nodes old.root old.root p
-    → Inserted mid made (new_entry dir (last_of p) id) (new_node it) → it.label ≡ number → object_in it.metadata (new_content it.file_type) ≡ Directory (new_metadata 0o755 moment attrs)
+    → Inserted mid made (new_entry dir (last_name_of p) id) (new_node it) → it.label ≡ number → object_in it.metadata (new_content it.file_type) ≡ Directory (new_metadata 0o755 moment attrs)
     → new ≡ edited (with_metadata (modified_at moment)) made dir
-    → IsCarriedOut new t (make_directory t (stamp number moment) p attrs (place_at t p)) (reply.Status Success)
+    → IsCarriedOut new t (make_directory t (stamp number moment) p attrs (look_up t p)) (reply.Status Success)
 make_served old mid made new t p most number moment attrs dir id it looked h fresh e did label object state =
     let k = keeps_counted old mid t most looked h in
     let f = name_missing mid t k p dir (way_looked old mid p most (located.Missing dir) looked e) in
     let r = f.1.0 in
     let n = f.1.1 in
     let is : p ≡ r ++ n ∷ [] = f.1.2 in
-    let put = subst (λ (m : Name). Inserted mid made (new_entry dir m id) (new_node it)) (ap last_of is ∙ last_is r n) did in
+    let put = subst (λ (m : Name). Inserted mid made (new_entry dir m id) (new_node it)) (ap last_name_of is ∙ last_is r n) did in
     let u = changed t (NewPath (r ++ n ∷ []) it.label (object_in it.metadata (new_content it.file_type))) in
     let kept : Keeps made u = keeps_inserted mid made t r dir n id it k put f.1.3 f.1.5 f.1.4 (ap (object_of t.objects) label ∙ fresh) in
     let other : dir ≢ id = λ same. (let w = shown_directory mid.nodes dir f.1.5 in let gone = ap (node_in mid.nodes) same ∙ put.fresh in let none = ap (option_map shown_node) gone in let x : ⊥ = cc (w.1.1) in x) in
@@ -93,11 +93,11 @@ make_served old mid made new t p most number moment attrs dir id it looked h fre
     (subst (λ (q : Path). Keeps (edited (with_metadata (modified_at moment)) made dir) (done t (NewPath q number (Directory (new_metadata 0o755 moment attrs)) ∷ touched t moment (parent q)))) (sym is)
     (subst (λ (o : Object). Keeps (edited (with_metadata (modified_at moment)) made dir) (done t (NewPath (r ++ n ∷ []) number o ∷ touched t moment (parent (r ++ n ∷ []))))) object
     (subst (λ (l : ℕ). Keeps (edited (with_metadata (modified_at moment)) made dir) (done t (NewPath (r ++ n ∷ []) l (object_in it.metadata (new_content it.file_type)) ∷ touched t moment (parent (r ++ n ∷ []))))) label after))) in
-    subst (λ (a : Answer). IsCarriedOut new t a (reply.Status Success)) (sym (ap (make_directory t (stamp number moment) p attrs) f.0)) (record { told = refl; tree = whole })
+    subst (λ (a : Outcome). IsCarriedOut new t a (reply.Status Success)) (sym (ap (make_directory t (stamp number moment) p attrs) f.0)) (record { told = refl; tree = whole })
 
 -- ---- a path less
 pub goes_served : (s new : StoreState) (t : Tree) (p : Path) (moment dir y : ℕ)
-    → Keeps s t → 0 < length p → way_from s.nodes s.root s.root p ≡ located.At dir y → is_bare_at s.nodes y ≡ true → new ≡ edited (with_metadata (modified_at moment)) (unlinked s dir (last_of p)) dir
+    → Keeps s t → 0 < length p → way_from s.nodes s.root s.root p ≡ located.At dir y → is_bare_at s.nodes y ≡ true → new ≡ edited (with_metadata (modified_at moment)) (unlinked s dir (last_name_of p)) dir
     → IsCarriedOut new t (goes t moment p) (reply.Status Success)
 goes_served s new t p moment dir y h some e bare state = elim (node_at s t h p dir y e).1 [
   | inl root ↦ let z = ap (λ (q : Path). length q) root in absurd (omega arith)
@@ -106,12 +106,12 @@ goes_served s new t p moment dir y h some e bare state = elim (node_at s t h p d
       let n = f.1 in
       let is : p ≡ r ++ n ∷ [] = f.2 in
       let kept : Keeps (unlinked s dir n) (changed t (GonePath (r ++ n ∷ []))) = keeps_unlinked s t r dir n y h f.3 f.4 bare in
-      let other : entry_of s.nodes dir n ≢ Some dir = λ own. (let same : dir ≡ y = (let g = f.4 in cc) in let none = bare_above s.nodes dir n (ap (is_bare_at s.nodes) same ∙ bare) in let x : ⊥ = cc in x) in
+      let other : child_of s.nodes dir n ≢ Some dir = λ own. (let same : dir ≡ y = (let g = f.4 in cc) in let none = bare_above s.nodes dir n (ap (is_bare_at s.nodes) same ∙ bare) in let x : ⊥ = cc in x) in
       let after : Keeps (edited (with_metadata (modified_at moment)) (unlinked s dir n) dir) (done (changed t (GonePath (r ++ n ∷ []))) (touched t moment (parent (r ++ n ∷ [])))) =
       touches s (unlinked s dir n) t (changed t (GonePath (r ++ n ∷ []))) r n dir moment h f.3 (has_entry s.nodes dir n y f.4) kept (unlinked_alike s dir n dir other).0 in
       let whole : Keeps new (done t (GonePath p ∷ touched t moment (parent p))) =
       subst (λ (x : StoreState). Keeps x (done t (GonePath p ∷ touched t moment (parent p)))) (sym state)
-      (subst (λ (x : Name). Keeps (edited (with_metadata (modified_at moment)) (unlinked s dir x) dir) (done t (GonePath p ∷ touched t moment (parent p)))) (sym (ap last_of is ∙ last_is r n))
+      (subst (λ (x : Name). Keeps (edited (with_metadata (modified_at moment)) (unlinked s dir x) dir) (done t (GonePath p ∷ touched t moment (parent p)))) (sym (ap last_name_of is ∙ last_is r n))
       (subst (λ (q : Path). Keeps (edited (with_metadata (modified_at moment)) (unlinked s dir n) dir) (done t (GonePath q ∷ touched t moment (parent q)))) (sym is) after)) in
       record { told = refl; tree = whole }
 ]

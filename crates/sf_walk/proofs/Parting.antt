@@ -8,7 +8,7 @@ use Rattle.sf_call.specs.declared.call.Stage.TheVariants as stage
 use Rattle.sf_call.specs.Tree.{after_front}
 use Rattle.sf_call.proofs.Laws.{same_name_is, same_name_itself}
 use Rattle.sf_walk.specs.Routes.{are_nested, PartAt}
-use Rattle.sf_walk.specs.Further.{Comes, PartLater}
+use Rattle.sf_walk.specs.Further.{ComesToBoth, PartLater}
 
 get_take : (n : ℕ) (p : Path) (i : ℕ) → i < n → slice_get (take n p) i ≡ slice_get p i
 get_take zero p i h = absurd (omega arith)
@@ -60,10 +60,10 @@ pub part_at_first : (old new : Path) → are_nested old new ≡ false → PartLa
 part_at_first old new h = let w = parts old new h in record { count = w.0; part = w.1; later = omega arith }
 
 module _ (old new : Path) (to : Reached) (common : ℕ) (later : PartLater old new to.walked) (is : common ≡ later.count) where
-  pub comes_apart : common ≡ to.walked → Comes old new to (stage.Ends to to to)
+  pub comes_apart : common ≡ to.walked → ComesToBoth old new to (stage.Ends to to to)
   comes_apart e = inr (subst (λ k. PartAt old new k) (sym is ∙ e) later.part, refl)
 
-  pub comes_before : common ≢ to.walked → Comes old new to (stage.At to.walked to.node)
+  pub comes_before : common ≢ to.walked → ComesToBoth old new to (stage.At to.walked to.node)
   comes_before ne = let l = later.later in inl (later.count, later.part, omega (arith, l, is, ne), refl)
 
 pub not_nothing : (p : Path) → (p ≡ [] → ⊥) → 0 < length p

@@ -11,20 +11,20 @@ use Rattle.sf_path.specs.Order.{name_cmp}
 use Rattle.sf_call.specs.Tree.{Tree}
 use Rattle.sf_inode.specs.declared.handle.OpenHandle.{OpenHandle}
 use Rattle.sf_inode.specs.declared.node.Node.{Node}
-use Rattle.sf_inode.specs.Nodes.{entry_in, entries_in}
+use Rattle.sf_inode.specs.Nodes.{child_in, entries_in}
 use Rattle.sf_keeps.specs.Shows.{View, Shows}
-use Rattle.sf_inode.specs.Stores.{StoreState, entry_of, shown_node, shown_handle, handles_of, handle_at}
+use Rattle.sf_inode.specs.Stores.{StoreState, child_of, shown_node, shown_handle, handles_of, open_handle_at}
 use Rattle.sf_keeps.specs.Keeps.{view_of, Keeps}
 use Rattle.sf_walk.specs.Served.{IsAlike}
 
 module _ (old new : StoreState) (t : Tree) (same : IsAlike old new) (kept : Keeps old t) where
-  step_same : (x : ℕ) (n : Name) → entry_of new.nodes x n ≡ entry_of old.nodes x n
-  step_same x n i = option_and_then (λ node. entry_in node.content n) (same.nodes x i)
+  step_same : (x : ℕ) (n : Name) → child_of new.nodes x n ≡ child_of old.nodes x n
+  step_same x n i = option_and_then (λ node. child_in node.content n) (same.nodes x i)
 
   handles_same : (session : ℕ) → handles_of new session ≡ handles_of old session
   handles_same session = ap (lookup (is_at (nat_cmp session))) same.sessions
 
-  handle_same : (session number : ℕ) → handle_at new session number ≡ handle_at old session number
+  handle_same : (session number : ℕ) → open_handle_at new session number ≡ open_handle_at old session number
   handle_same session number = ap (option_and_then (λ handles. lookup (is_at (nat_cmp number)) handles)) (handles_same session)
 
   view_same : view_of new ≡ view_of old

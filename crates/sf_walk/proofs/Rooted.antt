@@ -8,7 +8,7 @@ use Rattle.sf_reply.specs.declared.reply.Reply.{Reply}
 use Rattle.sf_walk.specs.Routes.{Route}
 use Rattle.sf_walk.specs.Routes.Route.{NoPath, Along, Between}
 use Rattle.sf_call.specs.Tree.{Tree}
-use Rattle.sf_call.specs.Calls.{Answer}
+use Rattle.sf_call.specs.Calls.{Outcome}
 use Rattle.sf_inode.specs.Stores.{StoreState}
 use Rattle.sf_walk.specs.declared.finding.Ways.{Ways}
 use Rattle.sf_walk.specs.declared.finding.Located.{Located}
@@ -32,7 +32,7 @@ alike_trans old mid new a b = record { nodes = λ id. b.nodes id ∙ a.nodes id;
 pub refused_after : (old mid new : StoreState) (most : ℕ) (t : Tree) (given : Reply) → LookedUp old mid most → IsRefused mid new t given → IsRefused old new t given
 refused_after old mid new most t given looked h = record { told = h.told; alike = alike_trans old mid new (alike_looked old mid most looked) h.alike; tree = h.tree }
 
-pub served_after : (old mid new : StoreState) (most : ℕ) (t : Tree) (answer : Answer) (given : Reply) → LookedUp old mid most
+pub served_after : (old mid new : StoreState) (most : ℕ) (t : Tree) (answer : Outcome) (given : Reply) → LookedUp old mid most
     → IsRefused mid new t given ⊎ IsCarriedOut new t answer given → IsRefused old new t given ⊎ IsCarriedOut new t answer given
 served_after old mid new most t answer given looked (inl h) = inl (refused_after old mid new most t given looked h)
 served_after old mid new most t answer given looked (inr h) = inr h

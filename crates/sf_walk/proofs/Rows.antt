@@ -13,16 +13,16 @@ use Rattle.sf_call.specs.Tree.{Tree}
 use Rattle.sf_call.specs.Handles.{opened, opened_object, with_listed}
 use Rattle.sf_call.specs.Listings.{listing_of, path_of, last_name}
 use Rattle.sf_call.specs.Changes.Change.{SetHandle}
-use Rattle.sf_call.specs.Calls.{Answer, refuses, lists, read_directory}
+use Rattle.sf_call.specs.Calls.{Outcome, refuses, lists, read_directory}
 use Rattle.sf_inode.specs.declared.node.Content.{Content}
 use Rattle.sf_inode.specs.declared.node.Content.TheVariants as content
 use Rattle.sf_inode.specs.declared.handle.OpenHandle.{OpenHandle}
 use Rattle.sf_inode.specs.Nodes.{object_in, entries_past, is_directory_content}
-use Rattle.sf_keeps.specs.Listed.{listed_entry}
-use Rattle.sf_inode.specs.Stores.{StoreState, entries_at, is_directory_at, shown_handle, handle_listed}
+use Rattle.sf_keeps.specs.Listed.{node_entry}
+use Rattle.sf_inode.specs.Stores.{StoreState, node_entries, is_directory_at, shown_handle, handle_listed}
 use Rattle.sf_keeps.proofs.Laws.{label_listed, names_listed, keeps_listed}
 use Rattle.sf_walk.specs.Served.{IsCarriedOut, is_success}
-use Rattle.sf_walk.proofs.Told.{tells_served}
+use Rattle.sf_walk.proofs.ReplyOnly.{tells_served}
 use Rattle.sf_walk.proofs.OpenHandles.{IsOpen, directory_is}
 
 -- ---- a node's entry
@@ -76,34 +76,34 @@ module _ (s : StoreState) (t : Tree) (session number : ℕ) (h : OpenHandle) (o 
       (ap (read_directory t number) o.opens
       ∙ refuse_content t number (shown_handle session h) o.node.metadata o.node.content (sym (d ∙ directory_is s t session number h o))) o.keeps
 
-  module _ (d : true ≡ is_directory_at s.nodes h.node) (rows : List (Name × ℕ)) (are : rows ≡ take MAX_ENTRIES (entries_past h.listed (entries_at s.nodes h.node))) where
-    answer_is : read_directory t number (opened t session number) ≡ lists number (shown_handle session h) (filter_map (listed_entry s.nodes) rows)
+  module _ (d : true ≡ is_directory_at s.nodes h.node) (rows : List (Name × ℕ)) (are : rows ≡ take MAX_ENTRIES (entries_past h.listed (node_entries s.nodes h.node))) where
+    answer_is : read_directory t number (opened t session number) ≡ lists number (shown_handle session h) (filter_map (node_entry s.nodes) rows)
     answer_is =
         ap (read_directory t number) o.opens
         ∙ list_content t number (shown_handle session h) o.node.metadata o.node.content (sym (d ∙ directory_is s t session number h o))
         ∙ ap (λ l. lists number (shown_handle session h) (listing_of t h.listed (path_of t.names l))) (sym o.label)
-        ∙ ap (lists number (shown_handle session h)) (label_listed s t o.keeps h.node h.listed o.node o.there (sym (d ∙ directory_is s t session number h o)) ∙ ap (λ (es : List (Name × ℕ)). filter_map (listed_entry s.nodes) es) (sym are))
+        ∙ ap (lists number (shown_handle session h)) (label_listed s t o.keeps h.node h.listed o.node o.there (sym (d ∙ directory_is s t session number h o)) ∙ ap (λ (es : List (Name × ℕ)). filter_map (node_entry s.nodes) es) (sym are))
 
     pub list_ended : rows ≡ [] → IsCarriedOut s t (read_directory t number (opened t session number)) (reply.Status EndOfFile)
     list_ended none =
         tells_served s t (read_directory t number (opened t session number)) (reply.Status EndOfFile)
-        (answer_is ∙ ap (λ (es : List (Name × ℕ)). lists number (shown_handle session h) (filter_map (listed_entry s.nodes) es)) none) o.keeps
+        (answer_is ∙ ap (λ (es : List (Name × ℕ)). lists number (shown_handle session h) (filter_map (node_entry s.nodes) es)) none) o.keeps
 
-    last_named : (last : Name) (id : ℕ) → slice_get rows (length rows - 1) ≡ Some (last, id) → last_name (filter_map (listed_entry s.nodes) rows) ≡ Some last
+    last_named : (last : Name) (id : ℕ) → slice_get rows (length rows - 1) ≡ Some (last, id) → last_name (filter_map (node_entry s.nodes) rows) ≡ Some last
     last_named last id end =
-        ap (λ (es : List (Name × ℕ)). last_name (filter_map (listed_entry s.nodes) es)) are ∙ ap (last_or None) (names_listed s t o.keeps h.node h.listed)
+        ap (λ (es : List (Name × ℕ)). last_name (filter_map (node_entry s.nodes) es)) are ∙ ap (last_or None) (names_listed s t o.keeps h.node h.listed)
         ∙ ap (λ (es : List (Name × ℕ)). last_or None (map (λ (e : Name × ℕ). e.0) es)) (sym are) ∙ last_of_rows rows last id end
 
     pub list_wants : (last : Name) (id : ℕ) → slice_get rows (length rows - 1) ≡ Some (last, id) → is_success (read_directory t number (opened t session number)).reply ≡ true
     list_wants last id end =
-        ap (λ (a : Answer). is_success a.reply)
-        (answer_is ∙ lists_last number (shown_handle session h) (filter_map (listed_entry s.nodes) rows) last (last_named last id end))
+        ap (λ (a : Outcome). is_success a.reply)
+        (answer_is ∙ lists_last number (shown_handle session h) (filter_map (node_entry s.nodes) rows) last (last_named last id end))
 
-    pub list_served : (new : StoreState) (last : Name) (id : ℕ) (entries : List Entry) → slice_get rows (length rows - 1) ≡ Some (last, id) → entries ≡ filter_map (listed_entry s.nodes) rows
+    pub list_served : (new : StoreState) (last : Name) (id : ℕ) (entries : List Entry) → slice_get rows (length rows - 1) ≡ Some (last, id) → entries ≡ filter_map (node_entry s.nodes) rows
         → new ≡ handle_listed s session number last → IsCarriedOut new t (read_directory t number (opened t session number)) (reply.Names entries)
     list_served new last id entries end listed state =
         let named : last_name entries ≡ Some last = ap last_name listed ∙ last_named last id end in
         subst (λ (x : StoreState). IsCarriedOut x t (read_directory t number (opened t session number)) (reply.Names entries)) (sym state)
-        (subst (λ (a : Answer). IsCarriedOut (handle_listed s session number last) t a (reply.Names entries))
+        (subst (λ (a : Outcome). IsCarriedOut (handle_listed s session number last) t a (reply.Names entries))
         (sym (answer_is ∙ ap (lists number (shown_handle session h)) (sym listed) ∙ lists_last number (shown_handle session h) entries last named))
         (record { told = refl; tree = keeps_listed s t o.keeps session number h o.at last }))

@@ -10,11 +10,11 @@ use Rattle.sf_call.specs.declared.metadata.Metadata.{Metadata}
 use Rattle.sf_call.specs.declared.limits.TheConstants.{MAX_FILE_SIZE}
 use Rattle.sf_call.specs.Attributes.{Object, modified_at, with_parts}
 use Rattle.sf_call.specs.Attributes.Object.{Directory, File}
-use Rattle.sf_block.specs.Contents.{whole, resized}
+use Rattle.sf_block.specs.Contents.{complete, resized}
 use Rattle.sf_call.specs.Tree.{Tree}
 use Rattle.sf_call.specs.Changes.{changed}
 use Rattle.sf_call.specs.Changes.Change.{SetObject}
-use Rattle.sf_call.specs.Calls.{Answer, refuses, succeeds, sets, refuses_size, with_size}
+use Rattle.sf_call.specs.Calls.{Outcome, refuses, succeeds, sets, refuses_size, with_size}
 use Rattle.sf_inode.specs.declared.node.Node.{Node}
 use Rattle.sf_inode.specs.declared.node.Content.{Content}
 use Rattle.sf_inode.specs.declared.node.Content.TheVariants as content
@@ -80,7 +80,7 @@ pub set_plain : (s new : StoreState) (t : Tree) (id moment : ℕ) (attrs : Attrs
     → new ≡ edited (with_metadata (λ m. with_parts m attrs)) s id → IsCarriedOut new t (sets moment it.label attrs (object_in it.metadata it.content)) (reply.Status Success)
 set_plain s new t id moment attrs it h at none state =
     subst (λ (x : StoreState). IsCarriedOut x t (sets moment it.label attrs (object_in it.metadata it.content)) (reply.Status Success)) (sym state)
-    (subst (λ (a : Answer). IsCarriedOut (edited (with_metadata (λ m. with_parts m attrs)) s id) t a (reply.Status Success)) (sym (sets_plain moment it.label attrs it.metadata it.content none))
+    (subst (λ (a : Outcome). IsCarriedOut (edited (with_metadata (λ m. with_parts m attrs)) s id) t a (reply.Status Success)) (sym (sets_plain moment it.label attrs it.metadata it.content none))
     (record { told = refl; tree = keeps_metadata (λ m. with_parts m attrs) s t id it h at }))
 
 set_cut : (s first second new : StoreState) (t : Tree) (id label moment size : ℕ) (attrs : Attrs) (m : Metadata) (old : List ℕ) (cut_to : List ℕ) → cut_to ≡ resized old size → Keeps s t → shown_of s.nodes id ≡ Some (label, File m old)
@@ -90,7 +90,7 @@ set_cut : (s first second new : StoreState) (t : Tree) (id label moment size : �
 set_cut s first second new t id label moment size attrs m old cut_to is_cut h shows some fits cut marked set =
     let bytes = cut_to in
     let one = changed t (SetObject label (File m bytes)) in
-    let keeps_one : Keeps first one = subst (λ (x : StoreState). Keeps x one) (sym cut) (keeps_contents (whole cut_to) s t id label m old h shows) in
+    let keeps_one : Keeps first one = subst (λ (x : StoreState). Keeps x one) (sym cut) (keeps_contents (complete cut_to) s t id label m old h shows) in
     let shows_one : shown_of first.nodes id ≡ Some (label, File m bytes) =
     ap (λ (x : StoreState). shown_of x.nodes id) cut ∙ ap (option_map shown_node) (edited_itself (with_content (with_bytes cut_to)) s id)
     ∙ shown_stored (node_in s.nodes id) label m old cut_to shows in
@@ -102,7 +102,7 @@ set_cut s first second new t id label moment size attrs m old cut_to is_cut h sh
     let keeps_new : Keeps new (changed two (SetObject label last)) =
     subst (λ (x : StoreState). Keeps x (changed two (SetObject label last))) (sym set) (keeps_file (λ k. with_parts k attrs) second two id label (modified_at moment m) bytes keeps_two shows_two) in
     let folded : changed two (SetObject label last) ≡ changed t (SetObject label last) = object_again one label (File (modified_at moment m) bytes) last ∙ object_again t label (File m bytes) last in
-    subst (λ (a : Answer). IsCarriedOut new t a (reply.Status Success)) (sym (sets_cut moment label attrs m old size some fits))
+    subst (λ (a : Outcome). IsCarriedOut new t a (reply.Status Success)) (sym (sets_cut moment label attrs m old size some fits))
     (record { told = refl; tree = subst (λ (b : List ℕ). Keeps new (changed t (SetObject label (File (with_parts (modified_at moment m) attrs) b)))) is_cut (subst (λ (u : Tree). Keeps new u) folded keeps_new) })
 
 set_content_cut : (s first second new : StoreState) (t : Tree) (id label moment size : ℕ) (attrs : Attrs) (m : Metadata) (c : Content) → Keeps s t → shown_of s.nodes id ≡ Some (label, object_in m c) → is_directory_content c ≡ false

@@ -10,7 +10,7 @@ use Rattle.sf_call.specs.declared.handle.Handle.{Handle}
 use Rattle.sf_call.specs.declared.metadata.Metadata.{Metadata}
 use Rattle.sf_call.specs.Tree.{Tree}
 use Rattle.sf_call.specs.Handles.{opened, opened_object}
-use Rattle.sf_call.specs.Calls.{Answer, refuses, sets, set_opened}
+use Rattle.sf_call.specs.Calls.{Outcome, refuses, sets, set_opened}
 use Rattle.sf_inode.specs.declared.node.Node.{Node}
 use Rattle.sf_inode.specs.declared.node.Content.{Content}
 use Rattle.sf_inode.specs.declared.node.Content.TheVariants as content
@@ -19,7 +19,7 @@ use Rattle.sf_inode.specs.Nodes.{object_in, is_directory_content}
 use Rattle.sf_inode.specs.Stores.{StoreState, node_in, is_directory_at, shown_handle}
 use Rattle.sf_keeps.specs.Keeps.{Keeps}
 use Rattle.sf_walk.specs.Served.{IsCarriedOut}
-use Rattle.sf_walk.proofs.Told.{tells_served}
+use Rattle.sf_walk.proofs.ReplyOnly.{tells_served}
 use Rattle.sf_walk.proofs.OpenHandles.{IsOpen, directory_is}
 
 not_zero : (k : ℕ) → k ≢ 0 → nat_eq k 0 ≡ false
@@ -44,14 +44,14 @@ module _ (s : StoreState) (t : Tree) (session number : ℕ) (h : OpenHandle) (o 
       (if is_some attrs.size && not h.marks.write then refuses PermissionDenied else sets moment h.label attrs (object_in o.node.metadata o.node.content))
   set_is moment attrs =
       ap (set_opened moment attrs) o.opens ∙ set_content moment attrs (shown_handle session h) o.node.metadata o.node.content
-      ∙ (λ i. cond {A = Answer} (sym (directory_is s t session number h o) i) (if nat_eq h.label 0 then refuses Failure else sets moment h.label attrs (object_in o.node.metadata o.node.content))
+      ∙ (λ i. cond {A = Outcome} (sym (directory_is s t session number h o) i) (if nat_eq h.label 0 then refuses Failure else sets moment h.label attrs (object_in o.node.metadata o.node.content))
       (if is_some attrs.size && not h.marks.write then refuses PermissionDenied else sets moment h.label attrs (object_in o.node.metadata o.node.content)))
 
   pub set_root : (moment : ℕ) (attrs : Attrs) → true ≡ is_directory_at s.nodes h.node → h.label ≡ 0 → IsCarriedOut s t (set_opened moment attrs (opened t session number)) (reply.Status Failure)
   set_root moment attrs d zero =
       let set = sets moment h.label attrs (object_in o.node.metadata o.node.content) in
       tells_served s t (set_opened moment attrs (opened t session number)) (reply.Status Failure)
-      (set_is moment attrs ∙ (λ i. cond {A = Answer} (sym d i) (if nat_eq h.label 0 then refuses Failure else set) (if is_some attrs.size && not h.marks.write then refuses PermissionDenied else set))
+      (set_is moment attrs ∙ (λ i. cond {A = Outcome} (sym d i) (if nat_eq h.label 0 then refuses Failure else set) (if is_some attrs.size && not h.marks.write then refuses PermissionDenied else set))
       ∙ (λ i. if nat_eq (zero i) 0 then refuses Failure else set)) o.keeps
 
   pub set_unmarked : (moment : ℕ) (attrs : Attrs) → false ≡ is_directory_at s.nodes h.node → is_some attrs.size ≡ true → h.marks.write ≡ false
@@ -59,23 +59,23 @@ module _ (s : StoreState) (t : Tree) (session number : ℕ) (h : OpenHandle) (o 
   set_unmarked moment attrs d some off =
       let set = sets moment h.label attrs (object_in o.node.metadata o.node.content) in
       tells_served s t (set_opened moment attrs (opened t session number)) (reply.Status PermissionDenied)
-      (set_is moment attrs ∙ (λ i. cond {A = Answer} (sym d i) (if nat_eq h.label 0 then refuses Failure else set) (if is_some attrs.size && not h.marks.write then refuses PermissionDenied else set))
+      (set_is moment attrs ∙ (λ i. cond {A = Outcome} (sym d i) (if nat_eq h.label 0 then refuses Failure else set) (if is_some attrs.size && not h.marks.write then refuses PermissionDenied else set))
       ∙ (λ i. if some i && not (off i) then refuses PermissionDenied else set)) o.keeps
 
   module _ (new : StoreState) (moment : ℕ) (attrs : Attrs) (result : Reply)
       (served : (u : Tree) (it : Node) → Keeps s u → node_in s.nodes h.node ≡ Some it → IsCarriedOut new u (sets moment it.label attrs (object_in it.metadata it.content)) result) where
     set_as : set_opened moment attrs (opened t session number) ≡ sets moment h.label attrs (object_in o.node.metadata o.node.content) → IsCarriedOut new t (set_opened moment attrs (opened t session number)) result
     set_as e =
-        subst (λ (a : Answer). IsCarriedOut new t a result) (ap (λ l. sets moment l attrs (object_in o.node.metadata o.node.content)) o.label ∙ sym e) (served t o.node o.keeps o.there)
+        subst (λ (a : Outcome). IsCarriedOut new t a result) (ap (λ l. sets moment l attrs (object_in o.node.metadata o.node.content)) o.label ∙ sym e) (served t o.node o.keeps o.there)
 
     pub set_directory : true ≡ is_directory_at s.nodes h.node → h.label ≢ 0 → IsCarriedOut new t (set_opened moment attrs (opened t session number)) result
     set_directory d other =
         let set = sets moment h.label attrs (object_in o.node.metadata o.node.content) in
-        set_as (set_is moment attrs ∙ (λ i. cond {A = Answer} (sym d i) (if nat_eq h.label 0 then refuses Failure else set) (if is_some attrs.size && not h.marks.write then refuses PermissionDenied else set))
+        set_as (set_is moment attrs ∙ (λ i. cond {A = Outcome} (sym d i) (if nat_eq h.label 0 then refuses Failure else set) (if is_some attrs.size && not h.marks.write then refuses PermissionDenied else set))
         ∙ (λ i. if not_zero h.label other i then refuses Failure else set))
 
     pub set_file : false ≡ is_directory_at s.nodes h.node → (is_some attrs.size && not h.marks.write) ≡ false → IsCarriedOut new t (set_opened moment attrs (opened t session number)) result
     set_file d free =
         let set = sets moment h.label attrs (object_in o.node.metadata o.node.content) in
-        set_as (set_is moment attrs ∙ (λ i. cond {A = Answer} (sym d i) (if nat_eq h.label 0 then refuses Failure else set) (if is_some attrs.size && not h.marks.write then refuses PermissionDenied else set))
+        set_as (set_is moment attrs ∙ (λ i. cond {A = Outcome} (sym d i) (if nat_eq h.label 0 then refuses Failure else set) (if is_some attrs.size && not h.marks.write then refuses PermissionDenied else set))
         ∙ (λ i. if free i then refuses PermissionDenied else set))

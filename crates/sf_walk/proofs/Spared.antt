@@ -6,15 +6,15 @@ use Rattle.sf_call.specs.Tree.{Tree, object_of}
 use Rattle.sf_call.specs.Handles.{handle_in}
 use Rattle.sf_inode.specs.declared.node.Node.{Node}
 use Rattle.sf_inode.specs.declared.handle.OpenHandle.{OpenHandle}
-use Rattle.sf_inode.specs.Nodes.{left_in}
-use Rattle.sf_inode.specs.Stores.{StoreState, node_in, handle_at, shown_of, shown_node, shown_handle}
+use Rattle.sf_inode.specs.Nodes.{blocks_left_in}
+use Rattle.sf_inode.specs.Stores.{StoreState, node_in, open_handle_at, shown_of, shown_node, shown_handle}
 use Rattle.sf_keeps.specs.Keeps.{Keeps}
 use Rattle.sf_walk.specs.Served.{IsAsBefore, NodesStay}
 
 -- what a session's handle opens: the handle, and the node that it leads to
 record Opens (s : StoreState) (session number : ℕ) (node : ℕ) (it : Node) : Type 0 where
   handle : OpenHandle
-  open' : handle_at s session number ≡ Some handle
+  open' : open_handle_at s session number ≡ Some handle
   leads : handle.node ≡ node
   there : node_in s.nodes node ≡ Some it
   label : it.label ≡ handle.label
@@ -29,7 +29,7 @@ is_there : (o : Option OpenHandle) (p : Option OpenHandle) (session : ℕ) (h : 
 is_there None p session h e b = let x : None ≡ Some (shown_handle session h) = e ∙ ap (option_map (shown_handle session)) b in absurd (let y : ⊥ = cc in y)
 is_there (Some k) p session h e b = (k, refl)
 
-found_before : (o : Option Node) (node : Node) (N : Option ℕ → ℕ → Type 0) → IsAsBefore N o node → ((N node.holder node.label) → ⊥) → (was : Node) × (o ≡ Some was) × (node.holder ≡ was.holder) × (node.label ≡ was.label) × (left_in node.content ≡ left_in was.content)
+found_before : (o : Option Node) (node : Node) (N : Option ℕ → ℕ → Type 0) → IsAsBefore N o node → ((N node.holder node.label) → ⊥) → (was : Node) × (o ≡ Some was) × (node.holder ≡ was.holder) × (node.label ≡ was.label) × (blocks_left_in node.content ≡ blocks_left_in was.content)
 found_before None node N h other = absurd (other h.0)
 found_before (Some was) node N h other = (was, refl, h.0, h.1, h.2)
 
@@ -39,15 +39,15 @@ shown_there s id it at = ap (option_map shown_node) at
 module _ (s new : StoreState) (t t' : Tree) (number : ℕ) (keeps : Keeps s t) (after : Keeps new t') (stays : NodesStay number s new) (unused : object_of t.objects number ≡ None) where
   -- a file that another session's handle opens is there still, with its holder, and as much of it is left to be copied
   pub file_spared : (session handle : ℕ) (h : OpenHandle) (it : Node) → handle_in t' session handle ≡ handle_in t session handle
-      → handle_at s session handle ≡ Some h → node_in s.nodes h.node ≡ Some it → it.label ≡ h.label
-      → (k : OpenHandle) × (node : Node) × (handle_at new session handle ≡ Some k) × (k.node ≡ h.node) × (node_in new.nodes h.node ≡ Some node)
-      × (node.holder ≡ it.holder) × (left_in node.content ≡ left_in it.content)
+      → open_handle_at s session handle ≡ Some h → node_in s.nodes h.node ≡ Some it → it.label ≡ h.label
+      → (k : OpenHandle) × (node : Node) × (open_handle_at new session handle ≡ Some k) × (k.node ≡ h.node) × (node_in new.nodes h.node ≡ Some node)
+      × (node.holder ≡ it.holder) × (blocks_left_in node.content ≡ blocks_left_in it.content)
   file_spared session handle h it same at there labelled =
-      let seen : option_map (shown_handle session) (handle_at new session handle) ≡ option_map (shown_handle session) (handle_at s session handle) =
+      let seen : option_map (shown_handle session) (open_handle_at new session handle) ≡ option_map (shown_handle session) (open_handle_at s session handle) =
       sym (after.shows.by.handles session handle) ∙ (same ∙ keeps.shows.by.handles session handle) in
-      let w = is_there (handle_at new session handle) (handle_at s session handle) session h seen at in
+      let w = is_there (open_handle_at new session handle) (open_handle_at s session handle) session h seen at in
       let k : OpenHandle = w.0 in
-      let label : k.label ≡ h.label = same_label (handle_at new session handle) (handle_at s session handle) session k h seen w.1 at in
+      let label : k.label ≡ h.label = same_label (open_handle_at new session handle) (open_handle_at s session handle) session k h seen w.1 at in
       let led = after.led session handle k w.1 in
       let node : Node = led.0 in
       let own : node.label ≡ it.label = led.1.1 ∙ (label ∙ sym labelled) in
@@ -58,4 +58,4 @@ module _ (s new : StoreState) (t t' : Tree) (number : ℕ) (keeps : Keeps s t) (
       let one : k.node ≡ h.node = keeps.shows.by.sound.labels k.node h.node it.label (shown_node was.0).1 (shown_node it).1
       (shown_there s k.node was.0 was.1 ∙ (λ i. Some (alike i, (shown_node was.0).1))) (shown_there s h.node it there) in
       let is : was.0 ≡ it = let a = was.1 in let b = ap (node_in s.nodes) one ∙ there in let c : Some was.0 ≡ Some it = sym a ∙ b in cc in
-      (k, node, w.1, one, sym (ap (node_in new.nodes) one) ∙ led.1.0, was.2 ∙ ap (λ (x : Node). x.holder) is, was.4 ∙ ap (λ (x : Node). left_in x.content) is)
+      (k, node, w.1, one, sym (ap (node_in new.nodes) one) ∙ led.1.0, was.2 ∙ ap (λ (x : Node). x.holder) is, was.4 ∙ ap (λ (x : Node). blocks_left_in x.content) is)

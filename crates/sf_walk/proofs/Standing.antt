@@ -9,8 +9,8 @@ use Rattle.sf_call.specs.declared.request.Request.{Request}
 use Rattle.sf_call.specs.Requests.{Target, target_of}
 use Rattle.sf_call.specs.Requests.Target.{ByHandle, OnPath, OnPaths}
 use Rattle.sf_inode.specs.declared.node.Node.{Node}
-use Rattle.sf_inode.specs.Nodes.{entry_in, is_directory_content, with_holder}
-use Rattle.sf_inode.specs.Stores.{StoreState, node_in, entry_of, is_directory_at, looked_up, edited}
+use Rattle.sf_inode.specs.Nodes.{child_in, is_directory_content, with_holder}
+use Rattle.sf_inode.specs.Stores.{StoreState, node_in, child_of, is_directory_at, looked_up, edited}
 use Rattle.sf_keeps.specs.Steps.{walk}
 use Rattle.sf_keeps.proofs.Laws.{edited_apart, edited_itself}
 use Rattle.sf_coupling.specs.Walks.{Spot, LeadsTo}
@@ -18,10 +18,10 @@ use Rattle.sf_coupling.proofs.Laws.{same_or_not, takes_held}
 use Rattle.sf_walk.specs.declared.walking.Walk.{Walk}
 use Rattle.sf_walk.specs.declared.walking.Walk.TheVariants.{Moved, Blocked, Ready}
 use Rattle.sf_walk.specs.Served.{LookedUp, after_look_ups}
-use Rattle.sf_walk.specs.Routes.{Route, IsRoute, IsPosition, route_at, route_of, is_rooted, are_nested, spots_of, nodes_of, terrain, Stands}
+use Rattle.sf_walk.specs.Routes.{Route, IsRoute, IsPosition, route_at, route_of, is_rooted, are_nested, spots_of, nodes_of, terrain, HoldsWay}
 use Rattle.sf_walk.specs.Routes.Route.{NoPath, Along, Between}
 use Rattle.sf_walk.specs.Routes.IsPosition.{Starts}
-use Rattle.sf_walk.specs.Steps.{Walker, is_one_of, free_unless, let_go, entered, handed_over, Moves, Advances}
+use Rattle.sf_walk.specs.Steps.{Walker, is_one_of, free_unless, let_go, entered, handed_over, AdvancesTo, Advances}
 
 -- every request's route is one
 route_is : (g : Target) → IsRoute (route_at g)
@@ -38,12 +38,12 @@ pub starts : (r : Request) → IsPosition (route_of r) stage.Fresh
 starts r = Starts (route_of r) (route_is (target_of r))
 
 -- and a call that starts stands there
-pub stands_fresh : (s : StoreState) (r : Request) → Stands s (route_of r) stage.Fresh
+pub stands_fresh : (s : StoreState) (r : Request) → HoldsWay s (route_of r) stage.Fresh
 stands_fresh s r = record { position = starts r; leads = λ spot held. absurd held }
 
 -- entries, the root, and what is a directory are the same
 pub record IsSameGround (s new : StoreState) : Type 0 where
-  pub step : (x : ℕ) (n : Name) → entry_of new.nodes x n ≡ entry_of s.nodes x n
+  pub step : (x : ℕ) (n : Name) → child_of new.nodes x n ≡ child_of s.nodes x n
   pub root : new.root ≡ s.root
   pub directory : (x : ℕ) → is_directory_at new.nodes x ≡ is_directory_at s.nodes x
 
@@ -57,7 +57,7 @@ pub same_trans : (s mid new : StoreState) → IsSameGround s mid → IsSameGroun
 same_trans s mid new a b = record { step = λ x n. b.step x n ∙ a.step x n; root = b.root ∙ a.root; directory = λ x. b.directory x ∙ a.directory x }
 
 module _ (holder : Option ℕ) (s : StoreState) (id : ℕ) where
-  entry_here : (n : Name) (o : Option Node) → option_and_then (λ (node : Node). entry_in node.content n) (option_map (with_holder holder) o) ≡ option_and_then (λ (node : Node). entry_in node.content n) o
+  entry_here : (n : Name) (o : Option Node) → option_and_then (λ (node : Node). child_in node.content n) (option_map (with_holder holder) o) ≡ option_and_then (λ (node : Node). child_in node.content n) o
   entry_here n None = refl
   entry_here n (Some node) = refl
 
@@ -69,10 +69,10 @@ module _ (holder : Option ℕ) (s : StoreState) (id : ℕ) where
   same_held = record {
     step = λ x n. elim (same_or_not x id) [
       | inl e ↦
-          ap (λ y. entry_of (edited (with_holder holder) s id).nodes y n) e
-          ∙ ap (option_and_then (λ (node : Node). entry_in node.content n)) (edited_itself (with_holder holder) s id) ∙ entry_here n (node_in s.nodes id)
-          ∙ ap (λ y. entry_of s.nodes y n) (sym e)
-      | inr ne ↦ ap (option_and_then (λ (node : Node). entry_in node.content n)) (edited_apart (with_holder holder) s id x ne)
+          ap (λ y. child_of (edited (with_holder holder) s id).nodes y n) e
+          ∙ ap (option_and_then (λ (node : Node). child_in node.content n)) (edited_itself (with_holder holder) s id) ∙ entry_here n (node_in s.nodes id)
+          ∙ ap (λ y. child_of s.nodes y n) (sym e)
+      | inr ne ↦ ap (option_and_then (λ (node : Node). child_in node.content n)) (edited_apart (with_holder holder) s id x ne)
     ];
     root = refl;
     directory = λ x. elim (same_or_not x id) [
@@ -102,19 +102,19 @@ same_let_go kept (node ∷ nodes) s =
     same_trans s mid (let_go kept nodes mid) (same_free (is_one_of node kept) node s) (same_let_go kept nodes mid)
 
 module _ (old new : StoreState) (same : IsSameGround old new) where
-  pub walk_same : (p : Path) → walk (entry_of new.nodes) new.root p ≡ walk (entry_of old.nodes) old.root p
+  pub walk_same : (p : Path) → walk (child_of new.nodes) new.root p ≡ walk (child_of old.nodes) old.root p
   walk_same p = λ i. walk (λ x n. same.step x n i) (same.root i) p
 
   pub leads_same : (spot : Spot) → LeadsTo (terrain old) spot → LeadsTo (terrain new) spot
   leads_same spot h = record { names = walk_same spot.path ∙ h.names; directory = same.directory spot.node ∙ h.directory }
 
-  pub stands_same : (r : Route) (at : Stage) → Stands old r at → Stands new r at
+  pub stands_same : (r : Route) (at : Stage) → HoldsWay old r at → HoldsWay new r at
   stands_same r at h = record { position = h.position; leads = λ spot held. leads_same spot (h.leads spot held) }
 
   root_same : is_directory_at old.nodes old.root ≡ true → is_directory_at new.nodes new.root ≡ true
   root_same dir = ap (is_directory_at new.nodes) same.root ∙ same.directory old.root ∙ dir
 
-same_moved : (old new : StoreState) (w : Walker) (after : Stage) → Moves old new w after → IsSameGround old new
+same_moved : (old new : StoreState) (w : Walker) (after : Stage) → AdvancesTo old new w after → IsSameGround old new
 same_moved old new w after m =
     let held = edited (with_holder (Some w.number)) (entered w.at old) m.spot.node in
     subst (λ (s : StoreState). IsSameGround old s) (sym m.state)
@@ -122,7 +122,7 @@ same_moved old new w after m =
     (same_let_go (nodes_of after) (nodes_of w.at) held))
 
 -- a call that took a step stands where it led
-pub stands_on : (old new : StoreState) (w : Walker) (after : Stage) → Stands old w.route w.at → Moves old new w after → Stands new w.route after
+pub stands_on : (old new : StoreState) (w : Walker) (after : Stage) → HoldsWay old w.route w.at → AdvancesTo old new w after → HoldsWay new w.route after
 stands_on old new w after h m = record {
   position = m.position;
   leads = λ spot held. leads_same old new (same_moved old new w after m) spot (elim (takes_held m.spot (spots_of w.route w.at) (spots_of w.route after) spot m.takes held) [
@@ -139,7 +139,7 @@ same_look_ups (suc count) s = same_trans s (after_look_ups count s) (looked_up (
 ground_looked : (old new : StoreState) (most : ℕ) → LookedUp old new most → IsSameGround old new
 ground_looked old new most looked = subst (λ (s : StoreState). IsSameGround old s) (sym looked.state) (same_look_ups looked.count old)
 
-pub stands_still : (old new : StoreState) (most : ℕ) (r : Route) (at : Stage) → LookedUp old new most → Stands old r at → Stands new r at
+pub stands_still : (old new : StoreState) (most : ℕ) (r : Route) (at : Stage) → LookedUp old new most → HoldsWay old r at → HoldsWay new r at
 stands_still old new most r at looked = stands_same old new (ground_looked old new most looked) r at
 
 -- a step leaves entries, the root and what is a directory
@@ -149,7 +149,7 @@ ground_stays old new w (Blocked holder) waits = ground_looked old new 1 waits.lo
 ground_stays old new w (Ready ways) decides = ground_looked old new 2 decides.looked
 
 -- a call that waits or decides stands as before
-pub stands_unmoved : (old new : StoreState) (w : Walker) (walk : Walk) → Advances old new w walk → Stands old w.route w.at → Stands new w.route w.at
+pub stands_unmoved : (old new : StoreState) (w : Walker) (walk : Walk) → Advances old new w walk → HoldsWay old w.route w.at → HoldsWay new w.route w.at
 stands_unmoved old new w walk a = stands_same old new (ground_stays old new w walk a) w.route w.at
 
 pub root_stands : (old new : StoreState) (w : Walker) (walk : Walk) → Advances old new w walk → is_directory_at old.nodes old.root ≡ true → is_directory_at new.nodes new.root ≡ true

@@ -12,8 +12,8 @@ use Rattle.sf_path.specs.Order.{same_name, name_cmp, name_total}
 use Rattle.sf_inode.specs.declared.node.Node.{Node}
 use Rattle.sf_inode.specs.declared.node.Content.{Content}
 use Rattle.sf_inode.specs.declared.node.Content.TheVariants as content
-use Rattle.sf_inode.specs.Nodes.{entry_in, is_directory_content, less_content, more_content, with_content, without_name}
-use Rattle.sf_inode.specs.Stores.{StoreState, node_in, entry_of, is_directory_at, with_nodes, edited_by, edited, entry_taken, released_if, unlinked_from, unlinked, Inserted, new_entry}
+use Rattle.sf_inode.specs.Nodes.{child_in, is_directory_content, less_content, more_content, with_content, without_name}
+use Rattle.sf_inode.specs.Stores.{StoreState, node_in, child_of, is_directory_at, with_nodes, edited_by, edited, entry_taken, released_if, unlinked_from, unlinked, Inserted, new_entry}
 use Rattle.sf_keeps.proofs.Laws.{node_in-set}
 use Rattle.sf_walk.specs.Served.{IsAlike}
 use Rattle.sf_walk.proofs.Holders.{apart}
@@ -41,11 +41,11 @@ taken_out n id (e ∷ es) =
       | Greater ↦ λ p h. ap (λ r. cond (is_eq r) (insert_entry name_cmp es n id) (e ∷ remove_entry (same_name n) (insert_entry name_cmp es n id))) p ∙ ap (λ (rest : List (Name × ℕ)). e ∷ rest) (taken_out n id es h)
     ] refl
 
-entry_made : (n : Name) (id : ℕ) (c : Content) → is_directory_content c ≡ true → entry_in c n ≡ None → entry_in (more_content n id c) n ≡ Some id
+entry_made : (n : Name) (id : ℕ) (c : Content) → is_directory_content c ≡ true → child_in c n ≡ None → child_in (more_content n id c) n ≡ Some id
 entry_made n id (content.Directory es) d h = put_here n id es
 entry_made n id (content.File contents) d h = cc
 
-entry_out : (n : Name) (id : ℕ) (c : Content) → entry_in c n ≡ None → less_content n (more_content n id c) ≡ c
+entry_out : (n : Name) (id : ℕ) (c : Content) → child_in c n ≡ None → less_content n (more_content n id c) ≡ c
 entry_out n id (content.Directory es) h = ap content.Directory (taken_out n id es h)
 entry_out n id (content.File contents) h = refl
 
@@ -79,7 +79,7 @@ pub edited_apart : (f : Node → Node) (s : StoreState) (id i : ℕ) → id ≢ 
 edited_apart f s id i h = edited_node f s id i ∙ ap (λ b. cond b (option_map f (node_in s.nodes id)) (node_in s.nodes i)) (other_number id i h)
 
 module _ (old mid : StoreState) (dir : ℕ) (n : Name) (id : ℕ) (node above : Node)
-    (at : node_in old.nodes dir ≡ Some above) (isdir : is_directory_content above.content ≡ true) (none : entry_in above.content n ≡ None)
+    (at : node_in old.nodes dir ≡ Some above) (isdir : is_directory_content above.content ≡ true) (none : child_in above.content n ≡ None)
     (closed : node.opens ≡ 0) (one : node.names ≡ 1) (did : Inserted old mid (new_entry dir n id) node) where
   other : dir ≢ id
   other e = let f = did.fresh in let h = ap (node_in old.nodes) e in cc
@@ -87,8 +87,8 @@ module _ (old mid : StoreState) (dir : ℕ) (n : Name) (id : ℕ) (node above : 
   here : node_in mid.nodes dir ≡ Some (with_content (more_content n id) above)
   here = did.others dir other ∙ edited_here (with_content (more_content n id)) old dir above at
 
-  found : entry_of mid.nodes dir n ≡ Some id
-  found = ap (option_and_then (λ (it : Node). entry_in it.content n)) here ∙ entry_made n id above.content isdir none
+  found : child_of mid.nodes dir n ≡ Some id
+  found = ap (option_and_then (λ (it : Node). child_in it.content n)) here ∙ entry_made n id above.content isdir none
 
   abbrev taken : StoreState
   taken = entry_taken mid dir n
@@ -122,13 +122,13 @@ module _ (old mid : StoreState) (dir : ℕ) (n : Name) (id : ℕ) (node above : 
   alike_again : (new : StoreState) → new ≡ unlinked mid dir n → IsAlike old new
   alike_again new state = subst (λ (s : StoreState). IsAlike old s) (sym (state ∙ gone)) (record { nodes = node_back; root = did.root; sessions = did.sessions })
 
-pub undone : (old mid new : StoreState) (dir : ℕ) (n : Name) (id : ℕ) (node : Node) → is_directory_at old.nodes dir ≡ true → entry_of old.nodes dir n ≡ None
+pub undone : (old mid new : StoreState) (dir : ℕ) (n : Name) (id : ℕ) (node : Node) → is_directory_at old.nodes dir ≡ true → child_of old.nodes dir n ≡ None
     → node.opens ≡ 0 → node.names ≡ 1 → Inserted old mid (new_entry dir n id) node → new ≡ unlinked mid dir n → IsAlike old new
 undone old mid new dir n id node d none closed one did state =
     elim (node_in old.nodes dir) as (λ o. node_in old.nodes dir ≡ o → IsAlike old new) [
       | None ↦ λ e. let off = ap (λ (o : Option Node). option_map_or (λ (it : Node). is_directory_content it.content) o false) e in absurd (let x : ⊥ = cc in x)
       | Some above ↦ λ e. alike_again old mid dir n id node above e
           (sym (ap (λ (o : Option Node). option_map_or (λ (it : Node). is_directory_content it.content) o false) e) ∙ d)
-          (sym (ap (option_and_then (λ (it : Node). entry_in it.content n)) e) ∙ none)
+          (sym (ap (option_and_then (λ (it : Node). child_in it.content n)) e) ∙ none)
           closed one did new state
     ] refl

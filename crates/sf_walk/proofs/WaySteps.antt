@@ -8,26 +8,26 @@ use Rattle.std.proofs.lemmas.List.{drop_all}
 use Rattle.sf_inode.specs.declared.node.Node.{Node}
 use Rattle.sf_walk.specs.declared.finding.Located.TheVariants as located
 use Rattle.sf_path.specs.Names.{Name, Path}
-use Rattle.sf_inode.specs.Stores.{entry_of, is_directory_at}
+use Rattle.sf_inode.specs.Stores.{child_of, is_directory_at}
 use Rattle.sf_walk.specs.Ways.{way_from, missing}
 
 way_at : (nodes : List (Option Node)) (above x : ℕ) (p : Path) (i : ℕ) → i < length p
-    → way_from nodes above x (drop i p) ≡ cond (is_directory_at nodes x) (option_map_or (λ y. way_from nodes x y (drop (i + 1) p)) (entry_of nodes x (get_or p i [])) (missing x (drop (i + 1) p))) located.NoWay
+    → way_from nodes above x (drop i p) ≡ cond (is_directory_at nodes x) (option_map_or (λ y. way_from nodes x y (drop (i + 1) p)) (child_of nodes x (get_or p i [])) (missing x (drop (i + 1) p))) located.NoWay
 way_at nodes above x p i h = ap (way_from nodes above x) (drop-cons p i [] h ∙ ap (λ j. get_or p i [] ∷ drop j p) (sym (add-one i)))
 
 pub way_stops : (nodes : List (Option Node)) (above x : ℕ) (p : Path) (i : ℕ) → i < length p → is_directory_at nodes x ≡ false → way_from nodes above x (drop i p) ≡ located.NoWay
-way_stops nodes above x p i h d = way_at nodes above x p i h ∙ ap (λ b. cond b (option_map_or (λ y. way_from nodes x y (drop (i + 1) p)) (entry_of nodes x (get_or p i [])) (missing x (drop (i + 1) p))) located.NoWay) d
+way_stops nodes above x p i h d = way_at nodes above x p i h ∙ ap (λ b. cond b (option_map_or (λ y. way_from nodes x y (drop (i + 1) p)) (child_of nodes x (get_or p i [])) (missing x (drop (i + 1) p))) located.NoWay) d
 
-pub way_lacks : (nodes : List (Option Node)) (above x : ℕ) (p : Path) (i : ℕ) (n : Name) → i < length p → slice_get p i ≡ Some n → is_directory_at nodes x ≡ true → entry_of nodes x n ≡ None → way_from nodes above x (drop i p) ≡ missing x (drop (i + 1) p)
+pub way_lacks : (nodes : List (Option Node)) (above x : ℕ) (p : Path) (i : ℕ) (n : Name) → i < length p → slice_get p i ≡ Some n → is_directory_at nodes x ≡ true → child_of nodes x n ≡ None → way_from nodes above x (drop i p) ≡ missing x (drop (i + 1) p)
 way_lacks nodes above x p i n h g d f =
-    let e : entry_of nodes x (get_or p i []) ≡ None = ap (entry_of nodes x) (get_or_from_slice_get p i n [] g) ∙ f in
-    way_at nodes above x p i h ∙ ap (λ b. cond b (option_map_or (λ y. way_from nodes x y (drop (i + 1) p)) (entry_of nodes x (get_or p i [])) (missing x (drop (i + 1) p))) located.NoWay) d
+    let e : child_of nodes x (get_or p i []) ≡ None = ap (child_of nodes x) (get_or_from_slice_get p i n [] g) ∙ f in
+    way_at nodes above x p i h ∙ ap (λ b. cond b (option_map_or (λ y. way_from nodes x y (drop (i + 1) p)) (child_of nodes x (get_or p i [])) (missing x (drop (i + 1) p))) located.NoWay) d
     ∙ ap (λ o. option_map_or (λ y. way_from nodes x y (drop (i + 1) p)) o (missing x (drop (i + 1) p))) e
 
-pub way_goes : (nodes : List (Option Node)) (above x y : ℕ) (p : Path) (i : ℕ) (n : Name) → i < length p → slice_get p i ≡ Some n → is_directory_at nodes x ≡ true → entry_of nodes x n ≡ Some y → way_from nodes x y (drop (i + 1) p) ≡ way_from nodes above x (drop i p)
+pub way_goes : (nodes : List (Option Node)) (above x y : ℕ) (p : Path) (i : ℕ) (n : Name) → i < length p → slice_get p i ≡ Some n → is_directory_at nodes x ≡ true → child_of nodes x n ≡ Some y → way_from nodes x y (drop (i + 1) p) ≡ way_from nodes above x (drop i p)
 way_goes nodes above x y p i n h g d f =
-    let e : entry_of nodes x (get_or p i []) ≡ Some y = ap (entry_of nodes x) (get_or_from_slice_get p i n [] g) ∙ f in
-    sym (way_at nodes above x p i h ∙ ap (λ b. cond b (option_map_or (λ y. way_from nodes x y (drop (i + 1) p)) (entry_of nodes x (get_or p i [])) (missing x (drop (i + 1) p))) located.NoWay) d
+    let e : child_of nodes x (get_or p i []) ≡ Some y = ap (child_of nodes x) (get_or_from_slice_get p i n [] g) ∙ f in
+    sym (way_at nodes above x p i h ∙ ap (λ b. cond b (option_map_or (λ y. way_from nodes x y (drop (i + 1) p)) (child_of nodes x (get_or p i [])) (missing x (drop (i + 1) p))) located.NoWay) d
     ∙ ap (λ o. option_map_or (λ y. way_from nodes x y (drop (i + 1) p)) o (missing x (drop (i + 1) p))) e)
 
 pub missing_last : (x : ℕ) (p : Path) (i : ℕ) → length p ≤ i → missing x (drop i p) ≡ located.Missing x

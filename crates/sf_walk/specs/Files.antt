@@ -7,7 +7,7 @@ use Rattle.sf_call.specs.declared.request.Request.{Request}
 use Rattle.sf_call.specs.declared.request.Request.TheVariants as request
 use Rattle.sf_inode.specs.declared.handle.OpenHandle.{OpenHandle}
 use Rattle.sf_inode.specs.declared.node.Node.{Node}
-use Rattle.sf_inode.specs.Stores.{StoreState, node_in, handle_at, holder_of, bytes_of, left_at, is_file_at}
+use Rattle.sf_inode.specs.Stores.{StoreState, node_in, open_handle_at, holder_of, bytes_of, blocks_left_at, is_file_at}
 use Rattle.sf_coupling.specs.Walks.{IsFree}
 use Rattle.sf_walk.specs.declared.finding.Located.{Located}
 use Rattle.sf_walk.specs.declared.finding.Located.TheVariants as located
@@ -22,9 +22,9 @@ file_handle (request.FSetStat handle attrs) = Some handle
 file_handle other = None
 
 -- a WRITE
-abbrev pub IsWrite : Request → Type 0
-IsWrite (request.Write handle offset bytes) = Unit {0}
-IsWrite other = ⊥
+abbrev pub IsWriteRequest : Request → Type 0
+IsWriteRequest (request.Write handle offset bytes) = Unit {0}
+IsWriteRequest other = ⊥
 
 -- whether a call cuts the file that its path leads to, or fills it up
 abbrev pub cuts_file : Request → Bool
@@ -37,9 +37,9 @@ cuts_file other = false
 pub record IsSettled (s : StoreState) (session : ℕ) (request : Request)
     (found : Located) : Type 0 where
   pub by_handle : (number : ℕ) (h : OpenHandle) → file_handle request ≡ Some number
-      → handle_at s session number ≡ Some h → left_at s.nodes h.node ≡ 0
+      → open_handle_at s session number ≡ Some h → blocks_left_at s.nodes h.node ≡ 0
   pub on_path : (parent node : ℕ) → cuts_file request ≡ true → found ≡ located.At parent node
-      → left_at s.nodes node ≡ 0
+      → blocks_left_at s.nodes node ≡ 0
 
 -- the call that holds a node, where it is a file
 abbrev pub file_holder_of : List (Option Node) → Option OpenHandle → Option ℕ
@@ -51,14 +51,14 @@ file_holder_of nodes (Some h) =
 -- sets that file
 abbrev pub holder_by : StoreState → ℕ → Request → Option ℕ
 holder_by s session request = option_and_then (λ number. file_holder_of s.nodes
-    (handle_at s session number)) (file_handle request)
+    (open_handle_at s session number)) (file_handle request)
 
 -- another call holds the file that the call's handle opens
 pub record WaitsForFile (s : StoreState) (call : Call) (holder : ℕ) : Type 0 where
   pub number : ℕ
   pub handle : OpenHandle
   pub by_handle : file_handle call.request ≡ Some number
-  pub opens : handle_at s call.session number ≡ Some handle
+  pub opens : open_handle_at s call.session number ≡ Some handle
   pub file : is_file_at s.nodes handle.node ≡ true
   pub held : holder_of s.nodes handle.node ≡ Some holder
   pub other : call.number ≢ holder
@@ -66,7 +66,7 @@ pub record WaitsForFile (s : StoreState) (call : Call) (holder : ℕ) : Type 0 w
 -- no other call holds the file that the call's handle opens
 pub record IsFileFree (s : StoreState) (call : Call) : Type 0 where
   pub free : (number : ℕ) (h : OpenHandle) → file_handle call.request ≡ Some number
-      → handle_at s call.session number ≡ Some h → is_file_at s.nodes h.node ≡ true
+      → open_handle_at s call.session number ≡ Some h → is_file_at s.nodes h.node ≡ true
       → IsFree (holder_of s.nodes) call.number h.node
 
 -- where a write by this handle starts
@@ -76,12 +76,12 @@ start_by s h offset = if h.marks.append then length (bytes_of s.nodes h.node) el
 -- all blocks that a write by this handle writes but one are left to be copied into its file
 abbrev pub HasAllButOne : StoreState → StoreState → OpenHandle → ℕ → List ℕ → Type 0
 HasAllButOne old new h offset bytes =
-    left_at new.nodes h.node + 1 ≡ blocks_of (start_by old h offset) bytes
+    blocks_left_at new.nodes h.node + 1 ≡ blocks_of (start_by old h offset) bytes
 
 -- After the first step of a WRITE nothing is left to be copied into its file, or all blocks that it
 -- writes but one.
 abbrev pub HasBlocksLeft : StoreState → StoreState → OpenHandle → ℕ → List ℕ → Type 0
-HasBlocksLeft old new h offset bytes = (left_at new.nodes h.node ≡ 0)
+HasBlocksLeft old new h offset bytes = (blocks_left_at new.nodes h.node ≡ 0)
     ⊎ HasAllButOne old new h offset bytes
 
 -- the label of a node, if it is there
@@ -90,7 +90,7 @@ node_label nodes id = option_map (λ (node : Node). node.label) (node_in nodes i
 
 -- The first step of a WRITE by this handle: no other node changes, its file keeps its holder and its
 -- label, and so much is left to be copied into it.
-pub record Starts (old new : StoreState) (h : OpenHandle) (offset : ℕ)
+pub record StartsWriting (old new : StoreState) (h : OpenHandle) (offset : ℕ)
     (bytes : List ℕ) : Type 0 where
   pub others : (i : ℕ) → i ≢ h.node → node_in new.nodes i ≡ node_in old.nodes i
   pub holder : holder_of new.nodes h.node ≡ holder_of old.nodes h.node
@@ -98,13 +98,13 @@ pub record Starts (old new : StoreState) (h : OpenHandle) (offset : ℕ)
   pub left : HasBlocksLeft old new h offset bytes
 
 -- what a call by handle copies into, where blocks are left
-pub record IsCopied (s : StoreState) (call : Call) (c : Copying) : Type 0 where
+pub record CopiesIntoFile (s : StoreState) (call : Call) (c : Copying) : Type 0 where
   pub number : ℕ
   pub handle : OpenHandle
   pub by_handle : file_handle call.request ≡ Some number
-  pub opens : handle_at s call.session number ≡ Some handle
+  pub opens : open_handle_at s call.session number ≡ Some handle
   pub node : c.node ≡ handle.node
-  pub left : left_at s.nodes handle.node ≡ c.left
+  pub left : blocks_left_at s.nodes handle.node ≡ c.left
   pub some : 0 < c.left
 
 -- a call holds the file that another one cuts or fills up by its path

@@ -5,7 +5,7 @@ use Rattle.sf_path.specs.Names.{Path}
 use Rattle.sf_call.specs.declared.call.Reached.{Reached}
 use Rattle.sf_call.specs.declared.call.Stage.{Stage}
 use Rattle.sf_call.specs.declared.call.Stage.TheVariants as stage
-use Rattle.sf_inode.specs.Stores.{StoreState, entry_of, holder_of, is_directory_at, looked_up}
+use Rattle.sf_inode.specs.Stores.{StoreState, child_of, holder_of, is_directory_at, looked_up}
 use Rattle.sf_keeps.specs.Steps.{walk}
 use Rattle.sf_coupling.specs.Walks.{IsFree}
 use Rattle.sf_walk.specs.declared.finding.Located.{Located}
@@ -16,9 +16,9 @@ use Rattle.sf_walk.specs.Routes.{PartAt}
 use Rattle.sf_walk.specs.Steps.{LeadsNowhere}
 
 -- a proper front of the path, of so many names, leads to the directory
-pub record IsOnWay (s : StoreState) (path : Path) (walked node : ℕ) : Type 0 where
+pub record LeadsOnWay (s : StoreState) (path : Path) (walked node : ℕ) : Type 0 where
   pub short : walked < length path
-  pub leads : walk (entry_of s.nodes) s.root (take walked path) ≡ Some node
+  pub leads : walk (child_of s.nodes) s.root (take walked path) ≡ Some node
   pub directory : is_directory_at s.nodes node ≡ true
 
 -- two paths part after so many names, or later
@@ -29,8 +29,8 @@ pub record PartLater (old new : Path) (walked : ℕ) : Type 0 where
 
 -- a call on two paths has come to a directory of both: where they part it stands there with both
 -- ends
-abbrev pub Comes : Path → Path → Reached → Stage → Type 0
-Comes old new to after = ((count : ℕ) × PartAt old new count × (to.walked < count)
+abbrev pub ComesToBoth : Path → Path → Reached → Stage → Type 0
+ComesToBoth old new to after = ((count : ℕ) × PartAt old new count × (to.walked < count)
     × (after ≡ stage.At to.walked to.node))
     ⊎ (PartAt old new to.walked × (after ≡ stage.Ends to to to))
 
@@ -46,14 +46,14 @@ pub record IsHeldThere (s : StoreState) (number : ℕ) (found : Located) (holder
 pub record IsHeldOnWay (s : StoreState) (number : ℕ) (path : Path)
     (walked holder : ℕ) : Type 0 where
   pub node : ℕ
-  pub leads : walk (entry_of s.nodes) s.root (take walked path) ≡ Some node
+  pub leads : walk (child_of s.nodes) s.root (take walked path) ≡ Some node
   pub held : holder_of s.nodes node ≡ Some holder
   pub other : number ≢ holder
 
 -- the directory is on the way after one name more, and no other call holds it
 pub record IsNextFree (s : StoreState) (number : ℕ) (path : Path) (at to : Reached) : Type 0 where
   pub walked : to.walked ≡ at.walked + 1
-  pub on_way : IsOnWay s path (at.walked + 1) to.node
+  pub on_way : LeadsOnWay s path (at.walked + 1) to.node
   pub free : IsFree (holder_of s.nodes) number to.node
 
 -- what the next name of the path leads to

@@ -1,6 +1,6 @@
 pub mod Routes
 pub mod Ways
-pub mod Slots
+pub mod LastEntries
 pub mod Opening
 pub mod Served
 pub mod Steps

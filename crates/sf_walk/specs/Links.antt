@@ -9,9 +9,9 @@ use Rattle.sf_reply.specs.declared.reply.StatusCode.TheVariants.{NoSuchFile, Fai
 use Rattle.sf_call.specs.Tree.{Tree}
 use Rattle.sf_call.specs.Changes.{touched}
 use Rattle.sf_call.specs.Changes.Change.{NewName}
-use Rattle.sf_call.specs.Calls.{Answer, tells, succeeds}
+use Rattle.sf_call.specs.Calls.{Outcome, tells, succeeds}
 use Rattle.sf_inode.specs.declared.node.Node.{Node}
-use Rattle.sf_inode.specs.Stores.{StoreState, node_in, entry_of, is_directory_at, is_file_at}
+use Rattle.sf_inode.specs.Stores.{StoreState, node_in, child_of, is_directory_at, is_file_at}
 use Rattle.sf_keeps.specs.Steps.{walk}
 use Rattle.sf_walk.specs.declared.links.LinkCourse.{LinkCourse}
 use Rattle.sf_walk.specs.declared.links.LinkCourse.TheVariants.{Told, Names}
@@ -29,20 +29,20 @@ pub record MayName (s : StoreState) (new : Path) (node into : ℕ) : Type 0 wher
   pub beside : Path
   pub last : Name
   pub is_new : new ≡ beside ++ last ∷ []
-  pub leads : walk (entry_of s.nodes) s.root beside ≡ Some into
+  pub leads : walk (child_of s.nodes) s.root beside ≡ Some into
   pub directory : is_directory_at s.nodes into ≡ true
-  pub free : entry_of s.nodes into last ≡ None
+  pub free : child_of s.nodes into last ≡ None
 
 -- The answer is the link, and it may be made.
-pub record IsMade (s : StoreState) (t : Tree) (moment : ℕ) (new : Path) (answer : Answer)
+pub record MakesLink (s : StoreState) (t : Tree) (moment : ℕ) (new : Path) (answer : Outcome)
     (node into : ℕ) : Type 0 where
   pub may : MayName s new node into
   pub is : answer ≡ succeeds (NewName new may.it.label ∷ touched t moment (parent new))
 
 -- what is told is the tree's answer, and what isn't told is a link
-abbrev pub IsLinking : StoreState → Tree → ℕ → Path → Answer → LinkCourse → Type 0
+abbrev pub IsLinking : StoreState → Tree → ℕ → Path → Outcome → LinkCourse → Type 0
 IsLinking s t moment new answer (Told code) = answer ≡ tells (reply.Status code)
-IsLinking s t moment new answer (Names node into) = IsMade s t moment new answer node into
+IsLinking s t moment new answer (Names node into) = MakesLink s t moment new answer node into
 
 -- the new path of a link that is made has a last name
 abbrev pub IsNamed : Path → LinkCourse → Type 0

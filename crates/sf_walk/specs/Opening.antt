@@ -6,7 +6,7 @@ use Rattle.sf_field.specs.declared.open_flags.OpenFlags.{OpenFlags}
 use Rattle.sf_inode.specs.declared.handle.Marks.{Marks}
 use Rattle.sf_inode.specs.declared.node.NewNode.{NewNode}
 use Rattle.sf_inode.specs.Nodes.{new_node}
-use Rattle.sf_inode.specs.Stores.{StoreState, Inserted, opened, new_entry}
+use Rattle.sf_inode.specs.Stores.{StoreState, Inserted, after_open, new_entry}
 
 -- with neither READ nor WRITE a handle reads
 abbrev pub marks_of : OpenFlags → Marks
@@ -31,4 +31,4 @@ pub record OpenedNew (old new : StoreState) (o : ToOpen) (made : NewNode) : Type
   pub mid : StoreState
   pub id : ℕ
   pub inserted : Inserted old mid (new_entry o.dir o.name id) (new_node made)
-  pub state : new ≡ opened mid o.session o.number id o.marks
+  pub state : new ≡ after_open mid o.session o.number id o.marks

@@ -4,9 +4,9 @@ use Rattle.std.specs.Prelude.{◌≡◌, ◌≢◌, ◌<◌, ℕ, Bool, true, fa
 use Rattle.sf_path.specs.Names.{Name, Path}
 use Rattle.sf_reply.specs.declared.reply.Reply.TheVariants as reply
 use Rattle.sf_call.specs.Tree.{Tree, after_front}
-use Rattle.sf_call.specs.Calls.{Answer, tells, moves}
+use Rattle.sf_call.specs.Calls.{Outcome, tells, moves}
 use Rattle.sf_inode.specs.declared.node.Node.{Node}
-use Rattle.sf_inode.specs.Stores.{StoreState, entry_of, is_directory_at, is_bare_at}
+use Rattle.sf_inode.specs.Stores.{StoreState, child_of, is_directory_at, is_bare_at}
 use Rattle.sf_keeps.specs.Steps.{walk}
 use Rattle.sf_walk.specs.declared.renames.Course.{Course}
 use Rattle.sf_walk.specs.declared.renames.Course.TheVariants.{Told, Moves}
@@ -24,17 +24,17 @@ pub record MayMove (s : StoreState) (old new : Path) (from into : ℕ) : Type 0 
   pub name : Name
   pub node : ℕ
   pub is_old : old ≡ above ++ name ∷ []
-  pub leads : walk (entry_of s.nodes) s.root above ≡ Some from
-  pub there : entry_of s.nodes from name ≡ Some node
+  pub leads : walk (child_of s.nodes) s.root above ≡ Some from
+  pub there : child_of s.nodes from name ≡ Some node
   pub beside : Path
   pub last : Name
   pub is_new : new ≡ beside ++ last ∷ []
-  pub leads_new : walk (entry_of s.nodes) s.root beside ≡ Some into
+  pub leads_new : walk (child_of s.nodes) s.root beside ≡ Some into
   pub directory : is_directory_at s.nodes into ≡ true
   pub not_inside : after_front old new ≡ None
-  pub bare : (target : ℕ) → entry_of s.nodes into last ≡ Some target
+  pub bare : (target : ℕ) → child_of s.nodes into last ≡ Some target
       → is_bare_at s.nodes target ≡ true
-  pub other : (target : ℕ) → entry_of s.nodes into last ≡ Some target → node ≢ target
+  pub other : (target : ℕ) → child_of s.nodes into last ≡ Some target → node ≢ target
 
 -- What a rename asks for, and its moment.
 pub record Renaming : Type 0 where
@@ -46,7 +46,7 @@ abbrev pub renaming : Path → Path → ℕ → Renaming
 renaming old new moment = record { old = old; new = new; moment = moment }
 
 -- what is told is the tree's answer, or the answer is the move and it may be done
-abbrev pub IsCourse : StoreState → Tree → Renaming → Answer → Course → Type 0
+abbrev pub IsCourse : StoreState → Tree → Renaming → Outcome → Course → Type 0
 IsCourse s t asked answer (Told code) = answer ≡ tells (reply.Status code)
 IsCourse s t asked answer (Moves from into) =
     (answer ≡ moves t asked.moment asked.old asked.new) × MayMove s asked.old asked.new from into
@@ -62,6 +62,6 @@ does_move (Told code) = false
 does_move (Moves from into) = true
 
 -- nothing moves
-abbrev pub IsTold : Course → Type 0
-IsTold (Told code) = Unit {0}
-IsTold (Moves from into) = ⊥
+abbrev pub MovesNothing : Course → Type 0
+MovesNothing (Told code) = Unit {0}
+MovesNothing (Moves from into) = ⊥

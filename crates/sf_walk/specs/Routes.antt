@@ -8,7 +8,7 @@ use Rattle.sf_call.specs.declared.request.Request.{Request}
 use Rattle.sf_call.specs.Requests.{Target, target_of}
 use Rattle.sf_call.specs.Requests.Target.{ByHandle, OnPath, OnPaths}
 use Rattle.sf_call.specs.Tree.{after_front, is_nil}
-use Rattle.sf_inode.specs.Stores.{StoreState, entry_of, is_directory_at}
+use Rattle.sf_inode.specs.Stores.{StoreState, child_of, is_directory_at}
 use Rattle.sf_keeps.specs.Steps.{walk}
 use Rattle.sf_coupling.specs.Walks.{Terrain, Spot, Holds, LeadsTo}
 use Rattle.sf_walk.specs.declared.routes.Route.{Route as Borrowed}
@@ -122,11 +122,11 @@ nodes_of at = nodes_in (reached_at at)
 -- where paths lead in a store
 abbrev pub terrain : StoreState → Terrain
 terrain s = record {
-  leads = λ path. walk (entry_of s.nodes) s.root path;
+  leads = λ path. walk (child_of s.nodes) s.root path;
   is_directory = is_directory_at s.nodes;
 }
 
 -- A call stands on its route: what it has walked leads to the directories that it holds.
-pub record Stands (s : StoreState) (route : Route) (at : Stage) : Type 0 where
+pub record HoldsWay (s : StoreState) (route : Route) (at : Stage) : Type 0 where
   pub position : IsPosition route at
   pub leads : (spot : Spot) → Holds (spots_of route at) spot → LeadsTo (terrain s) spot

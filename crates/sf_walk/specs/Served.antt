@@ -12,9 +12,9 @@ use Rattle.sf_call.specs.Requests.{Wanted, wanted_by}
 use Rattle.sf_call.specs.Requests.Wanted.{StatusAlone, Attributes, NewHandle, Bytes, Entries}
 use Rattle.sf_call.specs.Tree.{Tree, object_of, handle_of, is_nil}
 use Rattle.sf_call.specs.Changes.{done}
-use Rattle.sf_call.specs.Calls.{Answer}
+use Rattle.sf_call.specs.Calls.{Outcome}
 use Rattle.sf_inode.specs.declared.node.Node.{Node}
-use Rattle.sf_inode.specs.Nodes.{left_in}
+use Rattle.sf_inode.specs.Nodes.{blocks_left_in}
 use Rattle.sf_inode.specs.Stores.{StoreState, node_in, looked_up}
 use Rattle.sf_keeps.specs.Keeps.{Keeps}
 
@@ -30,7 +30,7 @@ pub record LookedUp (old new : StoreState) (most : ℕ) : Type 0 where
   pub state : new ≡ after_look_ups count old
 
 -- so many look-ups were made at most
-pub record LooksUp (old new : StoreState) (most : ℕ) : Type 0 where
+pub record MakesLookUps (old new : StoreState) (most : ℕ) : Type 0 where
   pub count : ℕ
   pub few : count ≤ most
   pub look_ups : new.look_ups ≡ (after_look_ups count old).look_ups
@@ -44,22 +44,22 @@ pub record IsAlike (old new : StoreState) : Type 0 where
 -- a node that was there has the holder and the label that it had, and as many blocks are left to be
 -- copied into it; a new one has such as are told, and none is left
 abbrev pub IsAsBefore : (Option ℕ → ℕ → Type 0) → Option Node → Node → Type 0
-IsAsBefore new None node = new node.holder node.label × (left_in node.content ≡ 0)
+IsAsBefore new None node = new node.holder node.label × (blocks_left_in node.content ≡ 0)
 IsAsBefore new (Some was) node = (node.holder ≡ was.holder) × (node.label ≡ was.label)
-    × (left_in node.content ≡ left_in was.content)
+    × (blocks_left_in node.content ≡ blocks_left_in was.content)
 
-pub record Stays (told : Option ℕ → ℕ → Type 0) (old new : StoreState) : Type 0 where
+pub record KeepsRest (told : Option ℕ → ℕ → Type 0) (old new : StoreState) : Type 0 where
   pub node : (id : ℕ) (node : Node) → node_in new.nodes id ≡ Some node
       → IsAsBefore told (node_in old.nodes id) node
 
 -- each node has the holder and the label that it had, and as much is left to be copied; none is new
 abbrev pub HoldersStay : StoreState → StoreState → Type 0
-HoldersStay old new = Stays (λ holder label. ⊥) old new
+HoldersStay old new = KeepsRest (λ holder label. ⊥) old new
 
 -- each node has the holder and the label that it had, and as much is left to be copied; what is new
 -- has no holder, and the number as its label
 abbrev pub NodesStay : ℕ → StoreState → StoreState → Type 0
-NodesStay number old new = Stays (λ holder label. (holder ≡ None) × (label ≡ number)) old new
+NodesStay number old new = KeepsRest (λ holder label. (holder ≡ None) × (label ≡ number)) old new
 
 -- the number is above 0, and no label and no handle of the tree has it
 pub record IsUnused (t : Tree) (number : ℕ) : Type 0 where
@@ -68,7 +68,7 @@ pub record IsUnused (t : Tree) (number : ℕ) : Type 0 where
   pub handle : handle_of t.handles number ≡ None
 
 -- the reply is the tree's, and the store keeps the tree after the call
-pub record IsCarriedOut (new : StoreState) (t : Tree) (answer : Answer)
+pub record IsCarriedOut (new : StoreState) (t : Tree) (answer : Outcome)
     (given : Reply) : Type 0 where
   pub told : given ≡ answer.reply
   pub tree : Keeps new (done t answer.changes)
@@ -90,9 +90,9 @@ is_success (reply.Status code) = is_good code
 is_success other = true
 
 -- what a call is served; want of memory stands in place of success alone
-abbrev pub Gives : {E : Type 0} → StoreState → Tree → Answer → Result Reply E → Type 0
-Gives new t answer (Ok given) = IsCarriedOut new t answer given
-Gives new t answer (Err error) = is_success answer.reply ≡ true
+abbrev pub ServesOutcome : {E : Type 0} → StoreState → Tree → Outcome → Result Reply E → Type 0
+ServesOutcome new t answer (Ok given) = IsCarriedOut new t answer given
+ServesOutcome new t answer (Err error) = is_success answer.reply ≡ true
 
 -- The requests that take memory where they succeed: what is told takes it, but for a status and
 -- attributes, and so does what is made, a file's bytes, and another name.

@@ -6,10 +6,10 @@ use Rattle.sf_call.specs.declared.call.Stage.{Stage}
 use Rattle.sf_call.specs.declared.call.Stage.TheVariants as stage
 use Rattle.sf_inode.specs.declared.node.Node.{Node}
 use Rattle.sf_inode.specs.Nodes.{with_holder}
-use Rattle.sf_inode.specs.Stores.{StoreState, entry_of, holder_of, is_directory_at, looked_up, edited}
+use Rattle.sf_inode.specs.Stores.{StoreState, child_of, holder_of, is_directory_at, looked_up, edited}
 use Rattle.sf_keeps.specs.Steps.{walk}
 use Rattle.sf_coupling.specs.Walks.{Spot, IsFree, LeadsTo}
-use Rattle.sf_coupling.specs.Stepping.{Takes}
+use Rattle.sf_coupling.specs.Stepping.{TakesSpot}
 use Rattle.sf_walk.specs.declared.finding.Ways.{Ways}
 use Rattle.sf_walk.specs.declared.finding.Located.{Located}
 use Rattle.sf_walk.specs.declared.finding.Located.TheVariants as located
@@ -42,25 +42,25 @@ pub data GoesFrom : Route → Stage → Path → Reached → Type 0 where
       → GoesFrom (Between old new) (stage.Ends common from to) new to
 
 -- the names that a call with a path looks up next: none for the root, or one more
-pub data LooksAt : Route → Stage → Path → Type 0 where
+pub data LooksUp : Route → Stage → Path → Type 0 where
   Root : (r : Route) (path : Path) (rest : List Path) → paths_on r ≡ path ∷ rest
-      → LooksAt r stage.Fresh []
+      → LooksUp r stage.Fresh []
   Next : (r : Route) (at : Stage) (path : Path) (from : Reached) → GoesFrom r at path from
-      → LooksAt r at (take (from.walked + 1) path)
+      → LooksUp r at (take (from.walked + 1) path)
 
 -- A step walks one name further: it takes the root, or goes on from the directory that it holds, or
 -- with one of its two ends; where two paths part, both ends stand there.
-pub data WalksOn : Stage → Stage → Type 0 where
-  TakesRoot : (node : ℕ) → WalksOn stage.Fresh (stage.At 0 node)
-  PartsAtRoot : (to : Reached) → to.walked ≡ 0 → WalksOn stage.Fresh (stage.Ends to to to)
+pub data AdvancesOne : Stage → Stage → Type 0 where
+  TakesRoot : (node : ℕ) → AdvancesOne stage.Fresh (stage.At 0 node)
+  PartsAtRoot : (to : Reached) → to.walked ≡ 0 → AdvancesOne stage.Fresh (stage.Ends to to to)
   GoesOn : (walked node : ℕ) (to : Reached) → to.walked ≡ walked + 1
-      → WalksOn (stage.At walked node) (stage.At to.walked to.node)
+      → AdvancesOne (stage.At walked node) (stage.At to.walked to.node)
   Parts : (walked node : ℕ) (to : Reached) → to.walked ≡ walked + 1
-      → WalksOn (stage.At walked node) (stage.Ends to to to)
+      → AdvancesOne (stage.At walked node) (stage.Ends to to to)
   OldGoesOn : (common old new to : Reached) → to.walked ≡ old.walked + 1
-      → WalksOn (stage.Ends common old new) (stage.Ends common to new)
+      → AdvancesOne (stage.Ends common old new) (stage.Ends common to new)
   NewGoesOn : (common old new to : Reached) → to.walked ≡ new.walked + 1
-      → WalksOn (stage.Ends common old new) (stage.Ends common old to)
+      → AdvancesOne (stage.Ends common old new) (stage.Ends common old to)
 
 -- ---- the store
 abbrev pub is_one_of : ℕ → List ℕ → Bool
@@ -86,21 +86,21 @@ handed_over number was now node s =
     let_go (nodes_of now) (nodes_of was) (edited (with_holder (Some number)) s node)
 
 -- the call came to a further directory, which no other call held
-pub record Moves (old new : StoreState) (w : Walker) (after : Stage) : Type 0 where
+pub record AdvancesTo (old new : StoreState) (w : Walker) (after : Stage) : Type 0 where
   pub spot : Spot
-  pub takes : Takes spot (spots_of w.route w.at) (spots_of w.route after)
+  pub takes : TakesSpot spot (spots_of w.route w.at) (spots_of w.route after)
   pub leads : LeadsTo (terrain old) spot
   pub free : IsFree (holder_of old.nodes) w.number spot.node
   pub position : IsPosition w.route after
-  pub walks : WalksOn w.at after
+  pub walks : AdvancesOne w.at after
   pub state : new ≡ handed_over w.number w.at after spot.node (entered w.at old)
 
 -- another call holds the node that the next name leads to
-pub record Waits (old new : StoreState) (w : Walker) (holder : ℕ) : Type 0 where
+pub record WaitsFor (old new : StoreState) (w : Walker) (holder : ℕ) : Type 0 where
   pub to : Path
   pub node : ℕ
-  pub looks : LooksAt w.route w.at to
-  pub leads : walk (entry_of old.nodes) old.root to ≡ Some node
+  pub looks : LooksUp w.route w.at to
+  pub leads : walk (child_of old.nodes) old.root to ≡ Some node
   pub held : holder_of old.nodes node ≡ Some holder
   pub other : w.number ≢ holder
   pub looked : LookedUp old new 1
@@ -109,7 +109,7 @@ pub record Waits (old new : StoreState) (w : Walker) (holder : ℕ) : Type 0 whe
 abbrev pub LeadsNowhere : List (Option Node) → ℕ → Option Name → Type 0
 LeadsNowhere nodes node None = Unit {0}
 LeadsNowhere nodes node (Some name) =
-    (child : ℕ) → entry_of nodes node name ≡ Some child → is_directory_at nodes child ≡ false
+    (child : ℕ) → child_of nodes node name ≡ Some child → is_directory_at nodes child ≡ false
 
 -- a walk ends where all names but the last are walked, or the next name is no directory's
 abbrev pub EndsAt : List (Option Node) → Path → Reached → Type 0
@@ -144,7 +144,7 @@ HoldsParent (Between old new) at ways = IsThere ways.path
 HoldsParent other at ways = Unit {0}
 
 -- the call decides now, where its paths were found to lead
-pub record Decides (old new : StoreState) (w : Walker) (ways : Ways) : Type 0 where
+pub record DecidesNow (old new : StoreState) (w : Walker) (ways : Ways) : Type 0 where
   pub may : MayDecideAt old.nodes w.route w.at
   pub located : AreWays new w.route ways
   pub free : AreFree (holder_of old.nodes) w.number w.route ways
@@ -152,6 +152,6 @@ pub record Decides (old new : StoreState) (w : Walker) (ways : Ways) : Type 0 wh
   pub looked : LookedUp old new 2
 
 abbrev pub Advances : StoreState → StoreState → Walker → Walk → Type 0
-Advances old new w (Moved after) = Moves old new w after
-Advances old new w (Blocked holder) = Waits old new w holder
-Advances old new w (Ready ways) = Decides old new w ways
+Advances old new w (Moved after) = AdvancesTo old new w after
+Advances old new w (Blocked holder) = WaitsFor old new w holder
+Advances old new w (Ready ways) = DecidesNow old new w ways

@@ -6,12 +6,12 @@ use Rattle.sf_call.specs.declared.metadata.Metadata.{Metadata}
 use Rattle.sf_call.specs.declared.request.Request.{Request}
 use Rattle.sf_call.specs.Requests.{Target, target_of}
 use Rattle.sf_call.specs.Requests.Target.{ByHandle, OnPath, OnPaths}
-use Rattle.sf_call.specs.Tree.{Found}
-use Rattle.sf_call.specs.Tree.Found.{DirectoryAt, FileAt}
+use Rattle.sf_call.specs.Tree.{FoundObject}
+use Rattle.sf_call.specs.Tree.FoundObject.{DirectoryAt, FileAt}
 use Rattle.sf_inode.specs.declared.node.Node.{Node}
 use Rattle.sf_inode.specs.declared.node.Content.{Content}
 use Rattle.sf_inode.specs.declared.node.Content.TheVariants as content
-use Rattle.sf_inode.specs.Stores.{StoreState, entry_of, is_directory_at}
+use Rattle.sf_inode.specs.Stores.{StoreState, child_of, is_directory_at}
 use Rattle.sf_walk.specs.Routes.{Route, route_of}
 use Rattle.sf_walk.specs.Routes.Route.{NoPath, Along, Between}
 use Rattle.sf_walk.specs.declared.finding.Ways.{Ways}
@@ -27,26 +27,26 @@ missing x (m ∷ p) = located.NoWay
 abbrev pub way_from : List (Option Node) → ℕ → ℕ → Path → Located
 way_from nodes above x [] = located.At above x
 way_from nodes above x (n ∷ p) =
-    if is_directory_at nodes x then option_map_or (λ y. way_from nodes x y p) (entry_of nodes x n)
+    if is_directory_at nodes x then option_map_or (λ y. way_from nodes x y p) (child_of nodes x n)
     (missing x p) else located.NoWay
 
 -- the last name of a path
-abbrev pub last_of : Path → Name
-last_of path = slice_index_or path (length path - 1) []
+abbrev pub last_name_of : Path → Name
+last_name_of path = slice_index_or path (length path - 1) []
 
 -- what is found where a node is
-abbrev pub found_content : ℕ → Metadata → Content → Found
+abbrev pub found_content : ℕ → Metadata → Content → FoundObject
 found_content label m (content.Directory entries) = DirectoryAt label m
 found_content label m (content.File contents) = FileAt label m contents.bytes
 
-abbrev pub found_node : Node → Found
+abbrev pub found_node : Node → FoundObject
 found_node node = found_content node.label node.metadata node.content
 
 -- how many names the paths have
-abbrev pub names_at : Target → ℕ
-names_at (ByHandle handle) = 0
-names_at (OnPath path) = length path
-names_at (OnPaths old new) = length old + length new
+abbrev pub target_names : Target → ℕ
+target_names (ByHandle handle) = 0
+target_names (OnPath path) = length path
+target_names (OnPaths old new) = length old + length new
 
 -- and those of a route
 abbrev pub names_on : Route → ℕ
@@ -54,8 +54,8 @@ names_on NoPath = 0
 names_on (Along path) = length path
 names_on (Between old new) = length old + length new
 
-abbrev pub names_of : Request → ℕ
-names_of request = names_at (target_of request)
+abbrev pub request_names : Request → ℕ
+request_names request = target_names (target_of request)
 
 -- where one path leads
 abbrev pub along : Located → Ways

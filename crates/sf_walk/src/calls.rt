@@ -7,12 +7,12 @@ ghost use Rattle.sf_call.specs.Tree.{Tree};
 ghost use Rattle.sf_call.specs.Handles.{opened};
 ghost use Rattle.sf_call.specs.Calls.{answer_to, read};
 ghost use Rattle.sf_inode.specs.declared.handle.OpenHandle.{OpenHandle};
-ghost use Rattle.sf_inode.specs.Stores.{handle_at, left_at};
+ghost use Rattle.sf_inode.specs.Stores.{open_handle_at, blocks_left_at};
 ghost use Rattle.sf_walk.specs.declared.finding.Ways.{Ways};
 ghost use Rattle.sf_keeps.specs.Keeps.{Keeps};
-ghost use Rattle.sf_walk.specs.Ways.{names_of, IsLocated};
+ghost use Rattle.sf_walk.specs.Ways.{request_names, IsLocated};
 ghost use Rattle.sf_walk.specs.Files.{IsSettled};
-ghost use Rattle.sf_walk.specs.Served.{IsCarriedOut, IsRefused, IsAlike, LooksUp, NodesStay, IsUnused, is_success, takes_memory, may_want_memory};
+ghost use Rattle.sf_walk.specs.Served.{IsCarriedOut, IsRefused, IsAlike, MakesLookUps, NodesStay, IsUnused, is_success, takes_memory, may_want_memory};
 
 use crate::finding::{Ways, locate_all};
 use crate::handle_calls::{close, read, set_stat_handle, stat_handle, write};
@@ -44,7 +44,7 @@ pub fn from_root(store: &mut Store, call: &Call) -> Reply
         call.now.moment call.now.request).reply ≡ false
         → IsCarriedOut store.new t
         (answer_to t call.now.session call.now.number call.now.moment call.now.request) result }
-    ensures look_ups { LooksUp store.old store.new (names_of call.now.request) }
+    ensures look_ups { MakesLookUps store.old store.new (request_names call.now.request) }
     ensures nodes { NodesStay call.now.number store.old store.new }
 {
     let (reply, _) = from_root_twice(store, call);
@@ -65,7 +65,7 @@ pub fn from_root_twice(store: &mut Store, call: &Call) -> (Reply, Reply)
         call.now.moment call.now.request).reply ≡ false
         → IsCarriedOut store.new t (answer_to t call.now.session call.now.number call.now.moment
         call.now.request) result.0 }
-    ensures look_ups { LooksUp store.old store.new (names_of call.now.request) }
+    ensures look_ups { MakesLookUps store.old store.new (request_names call.now.request) }
     ensures nodes { NodesStay call.now.number store.old store.new }
 {
     let ways = locate_all(store, route_of(&call.request));
@@ -190,8 +190,8 @@ fn read_twice(
     offset: u64,
     len: u32,
 ) -> Result<(Reply, Reply), AllocError>
-    requires { (h : OpenHandle) → handle_at store.now session number ≡ Some h
-        → left_at store.now.nodes h.node ≡ 0 }
+    requires { (h : OpenHandle) → open_handle_at store.now session number ≡ Some h
+        → blocks_left_at store.now.nodes h.node ≡ 0 }
     ensures served { (t : Tree) → Keeps store.now t
         → IfOk result (λ replies. replies.0 ≡ (read offset len (opened t session number)).reply) }
     ensures wants { (t : Tree) → Keeps store.now t

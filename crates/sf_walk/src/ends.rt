@@ -2,7 +2,7 @@
 
 ghost use Rattle.std.specs.Prelude.{◌≡◌, ◌+◌, length};
 ghost use Rattle.sf_call.specs.declared.call.Stage.TheVariants as stage;
-ghost use Rattle.sf_walk.specs.Routes.{Stands};
+ghost use Rattle.sf_walk.specs.Routes.{HoldsWay};
 ghost use Rattle.sf_walk.specs.Routes.Route.{Between};
 ghost use Rattle.sf_walk.specs.Steps.{Advances, walker, handed_over};
 ghost use Rattle.sf_walk.specs.declared.walking.Walk.TheVariants.{Moved};
@@ -25,7 +25,7 @@ pub(crate) struct Ends {
 
 /// Goes one name further with the end of the old path, and with the other once it is at its parent.
 pub(crate) fn at_ends(store: &mut Store, number: u64, path: &Path, other: &Path, ends: Ends) -> Walk
-    requires { Stands store.old (Between path.now other.now)
+    requires { HoldsWay store.old (Between path.now other.now)
         (stage.Ends ends.common ends.old ends.new) }
     ensures { Advances store.old store.new (walker number (Between path.now other.now)
         (stage.Ends ends.common ends.old ends.new)) result }
@@ -52,7 +52,7 @@ pub(crate) fn at_ends(store: &mut Store, number: u64, path: &Path, other: &Path,
 
 /// Goes one name further with the end of the new path; the other is at its parent.
 fn new_end(store: &mut Store, number: u64, path: &Path, other: &Path, ends: Ends) -> Walk
-    requires stands { Stands store.old (Between path.now other.now)
+    requires stands { HoldsWay store.old (Between path.now other.now)
         (stage.Ends ends.common ends.old ends.new) }
     requires parent { ends.old.walked + 1 ≡ length path.now }
     ensures { Advances store.old store.new (walker number (Between path.now other.now)
@@ -84,7 +84,7 @@ fn new_end(store: &mut Store, number: u64, path: &Path, other: &Path, ends: Ends
 /// Decides with the parents of both paths held, unless another call holds what the new one leads
 /// to.
 fn at_parents(store: &mut Store, number: u64, path: &Path, other: &Path, ends: Ends) -> Walk
-    requires stands { Stands store.old (Between path.now other.now)
+    requires stands { HoldsWay store.old (Between path.now other.now)
         (stage.Ends ends.common ends.old ends.new) }
     requires parent { ends.old.walked + 1 ≡ length path.now }
     requires parent_new { ends.new.walked + 1 ≡ length other.now }

@@ -7,11 +7,11 @@ ghost use Rattle.sf_reply.specs.declared.reply.StatusCode.TheVariants.{Success};
 ghost use Rattle.sf_call.specs.Calls.{answer_to};
 ghost use Rattle.sf_call.specs.Tree.{Tree, is_nil};
 ghost use Rattle.sf_inode.specs.declared.handle.OpenHandle.{OpenHandle};
-ghost use Rattle.sf_inode.specs.Stores.{handle_at, left_at};
+ghost use Rattle.sf_inode.specs.Stores.{open_handle_at, blocks_left_at};
 ghost use Rattle.sf_keeps.specs.Keeps.{Keeps};
 ghost use Rattle.sf_walk.specs.declared.finding.Located.TheVariants.{NoWay};
 ghost use Rattle.sf_walk.specs.Served.{IsCarriedOut, IsRefused, may_want_memory};
-ghost use Rattle.sf_walk.specs.Files.{HasAllButOne, HasNoWriter, IsCopied, IsFileFree, IsSettled, IsWrite, IsWriter, Starts, WaitsForFile, cuts_file, file_handle, holder_by};
+ghost use Rattle.sf_walk.specs.Files.{HasAllButOne, HasNoWriter, CopiesIntoFile, IsFileFree, IsSettled, IsWriteRequest, IsWriter, StartsWriting, WaitsForFile, cuts_file, file_handle, holder_by};
 
 use crate::calls::twice;
 use crate::finding::Located;
@@ -71,7 +71,7 @@ fn file_handle(request: &Request) -> Option<u64>
 /// one are still to be copied into its file. No look-up is made.
 #[tactic(auto, using(crate::proofs::Refused::keeps_alike))]
 pub fn start(store: &mut Store, call: &Call) -> (Reply, Reply)
-    requires write { IsWrite call.now.request }
+    requires write { IsWriteRequest call.now.request }
     requires settled { IsSettled store.old call.now.session call.now.request NoWay }
     ensures served { (t : Tree) → Keeps store.old t
         → IsRefused store.old store.new t result.0
@@ -86,15 +86,15 @@ pub fn start(store: &mut Store, call: &Call) -> (Reply, Reply)
     ensures look_ups { store.new.look_ups ≡ store.old.look_ups }
     ensures starts { (number : ℕ) (offset : ℕ) (bytes : List ℕ) (h : OpenHandle)
         → call.now.request ≡ request.Write number offset bytes
-        → handle_at store.old call.now.session number ≡ Some h
-        → Starts store.old store.new h offset bytes }
+        → open_handle_at store.old call.now.session number ≡ Some h
+        → StartsWriting store.old store.new h offset bytes }
     ensures copied { (number : ℕ) (offset : ℕ) (bytes : List ℕ) (h : OpenHandle)
         → call.now.request ≡ request.Write number offset bytes
-        → handle_at store.old call.now.session number ≡ Some h → is_nil bytes ≡ false
+        → open_handle_at store.old call.now.session number ≡ Some h → is_nil bytes ≡ false
         → result.0 ≡ reply.Status Success → HasAllButOne store.old store.new h offset bytes }
     ensures none { (number : ℕ) (offset : ℕ) (bytes : List ℕ)
         → call.now.request ≡ request.Write number offset bytes
-        → handle_at store.old call.now.session number ≡ None → store.new ≡ store.old }
+        → open_handle_at store.old call.now.session number ≡ None → store.new ≡ store.old }
     ensures sessions { store.new.sessions ≡ store.old.sessions }
 {
     let Request::Write {
@@ -113,11 +113,11 @@ pub fn start(store: &mut Store, call: &Call) -> (Reply, Reply)
 
 /// What a call copies into after its first step, where blocks are left.
 pub fn left_to_copy(store: &Store, call: &Call) -> Option<Copying>
-    ensures some { IfSome result (λ c. IsCopied store.now call.now c) }
+    ensures some { IfSome result (λ c. CopiesIntoFile store.now call.now c) }
     ensures none { IfNone result ((number : ℕ) (h : OpenHandle)
         → file_handle call.now.request ≡ Some number
-        → handle_at store.now call.now.session number ≡ Some h
-        → left_at store.now.nodes h.node ≡ 0) }
+        → open_handle_at store.now call.now.session number ≡ Some h
+        → blocks_left_at store.now.nodes h.node ≡ 0) }
 {
     let node = store
         .handle(call.session, file_handle(&call.request)?)?

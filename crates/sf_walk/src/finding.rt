@@ -5,7 +5,7 @@ ghost use Rattle.sf_reply.specs.declared.reply.StatusCode.TheVariants.{NoSuchFil
 ghost use Rattle.sf_walk.specs.declared.finding.Located.TheVariants.{NoWay, At};
 ghost use Rattle.sf_walk.specs.Routes.{route_in};
 ghost use Rattle.sf_walk.specs.Ways.{AreWays, IsThere, along, names_on, way_from};
-ghost use Rattle.sf_walk.specs.Slots.{IsSlot};
+ghost use Rattle.sf_walk.specs.LastEntries.{IsLastEntry};
 ghost use Rattle.sf_walk.specs.Served.{LookedUp};
 
 use crate::routes::Route;
@@ -24,39 +24,39 @@ pub enum Located {
 
 /// A node that a path leads to, and the directory that has its entry.
 #[derive(Clone, Copy)]
-pub(crate) struct Found {
+pub(crate) struct FoundEntry {
     pub(crate) parent: NodeId,
     pub(crate) node: NodeId,
 }
 
 /// A path's last name, where its way is there: its directory lacks it, or it is a node's.
 #[derive(Clone, Copy)]
-pub(crate) enum Slot {
+pub(crate) enum LastEntry {
     Missing { parent: NodeId },
     Taken { node: NodeId },
 }
 
 impl Located {
     /// The node, or what a request of a node is answered where the path leads to none.
-    pub(crate) fn found(self) -> Result<Found, StatusCode>
+    pub(crate) fn found(self) -> Result<FoundEntry, StatusCode>
         ensures at { IfOk result (λ found. self ≡ At found.parent found.node) }
         ensures nowhere { IfErr result (λ code. (code ≡ NoSuchFile) × (IsThere self → ⊥)) }
     {
         match self {
-            Located::At { parent, node } => Ok(Found { parent, node }),
+            Located::At { parent, node } => Ok(FoundEntry { parent, node }),
             Located::NoWay => Err(StatusCode::NoSuchFile),
             Located::Missing { parent: _ } => Err(StatusCode::NoSuchFile),
         }
     }
 
     /// The last name, or what a request that may make it is answered where there is no way.
-    pub(crate) fn slot(self) -> Result<Slot, StatusCode>
-        ensures on_way { IfOk result (IsSlot self) }
+    pub(crate) fn slot(self) -> Result<LastEntry, StatusCode>
+        ensures on_way { IfOk result (IsLastEntry self) }
         ensures nowhere { IfErr result (λ code. (code ≡ NoSuchFile) × (self ≡ NoWay)) }
     {
         match self {
-            Located::Missing { parent } => Ok(Slot::Missing { parent }),
-            Located::At { parent: _, node } => Ok(Slot::Taken { node }),
+            Located::Missing { parent } => Ok(LastEntry::Missing { parent }),
+            Located::At { parent: _, node } => Ok(LastEntry::Taken { node }),
             Located::NoWay => Err(StatusCode::NoSuchFile),
         }
     }

@@ -14,10 +14,10 @@ ghost use Rattle.sf_call.specs.Changes.Change.{SetObject};
 ghost use Rattle.sf_call.specs.Handles.{handle_in, opened};
 ghost use Rattle.sf_call.specs.Calls.{close, stat_opened, set_opened, read, write};
 ghost use Rattle.sf_inode.specs.declared.handle.OpenHandle.{OpenHandle};
-ghost use Rattle.sf_inode.specs.Stores.{is_file_at, shown_of, handle_at, holder_of, node_in, left_at};
+ghost use Rattle.sf_inode.specs.Stores.{is_file_at, shown_of, open_handle_at, holder_of, node_in, blocks_left_at};
 ghost use Rattle.sf_keeps.specs.Keeps.{Keeps};
 ghost use Rattle.sf_walk.specs.Files.{HasAllButOne, HasBlocksLeft, node_label};
-ghost use Rattle.sf_walk.specs.Served.{IsCarriedOut, Gives, HoldersStay, is_success};
+ghost use Rattle.sf_walk.specs.Served.{IsCarriedOut, ServesOutcome, HoldersStay, is_success};
 
 use crate::path_calls::set_node;
 use sf_call::{MAX_FILE_SIZE, MAX_READ};
@@ -65,8 +65,8 @@ pub(crate) fn set_stat_handle(
     number: u64,
     attrs: &Attrs,
 ) -> Reply
-    requires { (h : OpenHandle) → handle_at store.old session number ≡ Some h
-        → left_at store.old.nodes h.node ≡ 0 }
+    requires { (h : OpenHandle) → open_handle_at store.old session number ≡ Some h
+        → blocks_left_at store.old.nodes h.node ≡ 0 }
     ensures served { (t : Tree) → Keeps store.old t
         → IsCarriedOut store.new t (set_opened moment attrs.now (opened t session number)) result }
     ensures plain { IsPlain result }
@@ -98,8 +98,8 @@ pub(crate) fn read(
     offset: u64,
     len: u32,
 ) -> Result<Reply, AllocError>
-    requires { (h : OpenHandle) → handle_at store.now session number ≡ Some h
-        → left_at store.now.nodes h.node ≡ 0 }
+    requires { (h : OpenHandle) → open_handle_at store.now session number ≡ Some h
+        → blocks_left_at store.now.nodes h.node ≡ 0 }
     ensures told { (t : Tree) → Keeps store.now t
         → IfOk result (λ reply. reply ≡ (read offset len (opened t session number)).reply) }
     ensures wants { (t : Tree) → Keeps store.now t
@@ -130,10 +130,10 @@ pub(crate) fn write(
     offset: u64,
     bytes: &ByteString,
 ) -> Result<Reply, AllocError>
-    requires { (h : OpenHandle) → handle_at store.old session number ≡ Some h
-        → left_at store.old.nodes h.node ≡ 0 }
+    requires { (h : OpenHandle) → open_handle_at store.old session number ≡ Some h
+        → blocks_left_at store.old.nodes h.node ≡ 0 }
     ensures served { (t : Tree) → Keeps store.old t
-        → Gives store.new t (write moment offset bytes.now (opened t session number)) result }
+        → ServesOutcome store.new t (write moment offset bytes.now (opened t session number)) result }
     ensures sure { is_nil bytes.now ≡ true → IsOk result }
     ensures err { OnErr result (store.new ≡ store.old) }
     ensures plain { IfOk result IsPlain }
@@ -171,25 +171,25 @@ pub(crate) fn start_write(
     offset: u64,
     bytes: &ByteString,
 ) -> Result<Reply, AllocError>
-    requires { (h : OpenHandle) → handle_at store.old session number ≡ Some h
-        → left_at store.old.nodes h.node ≡ 0 }
+    requires { (h : OpenHandle) → open_handle_at store.old session number ≡ Some h
+        → blocks_left_at store.old.nodes h.node ≡ 0 }
     ensures served { (t : Tree) → Keeps store.old t
-        → Gives store.new t (write moment offset bytes.now (opened t session number)) result }
+        → ServesOutcome store.new t (write moment offset bytes.now (opened t session number)) result }
     ensures sure { is_nil bytes.now ≡ true → IsOk result }
     ensures err { OnErr result (store.new ≡ store.old) }
     ensures plain { IfOk result IsPlain }
     ensures look_ups { store.new.look_ups ≡ store.old.look_ups }
-    ensures others { (h : OpenHandle) → handle_at store.old session number ≡ Some h → (i : ℕ)
+    ensures others { (h : OpenHandle) → open_handle_at store.old session number ≡ Some h → (i : ℕ)
         → i ≢ h.node → node_in store.new.nodes i ≡ node_in store.old.nodes i }
-    ensures holder { (h : OpenHandle) → handle_at store.old session number ≡ Some h
+    ensures holder { (h : OpenHandle) → open_handle_at store.old session number ≡ Some h
         → holder_of store.new.nodes h.node ≡ holder_of store.old.nodes h.node }
-    ensures label { (h : OpenHandle) → handle_at store.old session number ≡ Some h
+    ensures label { (h : OpenHandle) → open_handle_at store.old session number ≡ Some h
         → node_label store.new.nodes h.node ≡ node_label store.old.nodes h.node }
-    ensures none { handle_at store.old session number ≡ None → store.new ≡ store.old }
+    ensures none { open_handle_at store.old session number ≡ None → store.new ≡ store.old }
     ensures sessions { store.new.sessions ≡ store.old.sessions }
-    ensures left { (h : OpenHandle) → handle_at store.old session number ≡ Some h
+    ensures left { (h : OpenHandle) → open_handle_at store.old session number ≡ Some h
         → HasBlocksLeft store.old store.new h offset bytes.now }
-    ensures copied { (h : OpenHandle) → handle_at store.old session number ≡ Some h
+    ensures copied { (h : OpenHandle) → open_handle_at store.old session number ≡ Some h
         → is_nil bytes.now ≡ false → IfOk result (λ given. given ≡ reply.Status Success
         → HasAllButOne store.old store.new h offset bytes.now) }
 {
@@ -232,7 +232,7 @@ fn put_bytes(
     requires fits { start + length bytes.now < 2 ^ 64 }
     requires some { 0 < length bytes.now }
     requires file { is_file_at store.old.nodes node ≡ true }
-    requires settled { left_at store.old.nodes node ≡ 0 }
+    requires settled { blocks_left_at store.old.nodes node ≡ 0 }
     ensures tree { (t : Tree) (label : ℕ) (m : Metadata) (contents : List ℕ) → Keeps store.old t
         → shown_of store.old.nodes node ≡ Some (label, File m contents)
         → OnOk result (Keeps store.new (changed t
@@ -258,12 +258,12 @@ fn start_bytes(
     requires fits { start + length bytes.now < 2 ^ 64 }
     requires some { 0 < length bytes.now }
     requires file { is_file_at store.old.nodes node ≡ true }
-    requires settled { left_at store.old.nodes node ≡ 0 }
+    requires settled { blocks_left_at store.old.nodes node ≡ 0 }
     ensures tree { (t : Tree) (label : ℕ) (m : Metadata) (contents : List ℕ) → Keeps store.old t
         → shown_of store.old.nodes node ≡ Some (label, File m contents)
         → OnOk result (Keeps store.new (changed t
         (SetObject label (File (modified_at moment m) (written contents start bytes.now))))) }
-    ensures left { OnOk result (left_at store.new.nodes node + 1 ≡ blocks_of start bytes.now) }
+    ensures left { OnOk result (blocks_left_at store.new.nodes node + 1 ≡ blocks_of start bytes.now) }
     ensures others { (i : ℕ) → i ≢ node → node_in store.new.nodes i ≡ node_in store.old.nodes i }
     ensures holder { holder_of store.new.nodes node ≡ holder_of store.old.nodes node }
     ensures label { node_label store.new.nodes node ≡ node_label store.old.nodes node }

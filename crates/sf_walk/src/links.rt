@@ -3,12 +3,12 @@
 ghost use Rattle.std.specs.Prelude.{◌≡◌, ◌<◌, ℕ, length, OnOk, OnErr, IfOk};
 ghost use Rattle.sf_reply.specs.Replies.{IsPlain};
 ghost use Rattle.sf_call.specs.Tree.{Tree, found_at};
-ghost use Rattle.sf_call.specs.Calls.{Answer, link, unless_root};
+ghost use Rattle.sf_call.specs.Calls.{Outcome, link, unless_root};
 ghost use Rattle.sf_inode.specs.Stores.{linked};
 ghost use Rattle.sf_keeps.specs.Keeps.{Keeps};
 ghost use Rattle.sf_walk.specs.Routes.{are_nested, route_between};
-ghost use Rattle.sf_walk.specs.Ways.{last_of, AreWays};
-ghost use Rattle.sf_walk.specs.Served.{Gives, IsAlike, HoldersStay};
+ghost use Rattle.sf_walk.specs.Ways.{last_name_of, AreWays};
+ghost use Rattle.sf_walk.specs.Served.{ServesOutcome, IsAlike, HoldersStay};
 ghost use Rattle.sf_walk.specs.Links.{IsLinking, IsNamed, nested_code};
 
 use crate::finding::{Located, Ways};
@@ -38,7 +38,7 @@ pub(crate) fn link(
 ) -> Result<Reply, AllocError>
     requires { AreWays store.old (route_between old.now new.now) ways }
     ensures served { (t : Tree) → Keeps store.old t
-        → Gives store.new t (unless_root old.now
+        → ServesOutcome store.new t (unless_root old.now
         (unless_root new.now (link t moment new.now (found_at t old.now)))) result }
     ensures err { OnErr result (IsAlike store.old store.new) }
     ensures plain { IfOk result IsPlain }
@@ -107,8 +107,8 @@ fn name_anew(
     course: LinkCourse,
 ) -> Result<Reply, AllocError>
     requires { IsNamed new.now course }
-    ensures served { (t : Tree) (answer : Answer) → Keeps store.old t
-        → IsLinking store.old t moment new.now answer course → Gives store.new t answer result }
+    ensures served { (t : Tree) (answer : Outcome) → Keeps store.old t
+        → IsLinking store.old t moment new.now answer course → ServesOutcome store.new t answer result }
     ensures err { OnErr result (IsAlike store.old store.new) }
     ensures plain { IfOk result IsPlain }
     ensures look_ups { store.new.look_ups ≡ store.old.look_ups }
@@ -127,7 +127,7 @@ fn name_anew(
 /// A path's last name leads to a node, from a directory.
 fn link_last(store: &mut Store, new: &Path, into: NodeId, node: NodeId) -> Result<(), AllocError>
     requires { 0 < length new.now }
-    ensures ok { OnOk result (store.new ≡ linked store.old into (last_of new.now) node) }
+    ensures ok { OnOk result (store.new ≡ linked store.old into (last_name_of new.now) node) }
     ensures err { OnErr result (store.new ≡ store.old) }
 {
     let name = new.name(new.len() - 1).try_copy(store.alloc())?;

@@ -6,7 +6,7 @@ ghost use Rattle.sf_call.specs.ReplyKinds.{HasAllParts};
 ghost use Rattle.sf_call.specs.Tree.{Tree};
 ghost use Rattle.sf_call.specs.Handles.{opened};
 ghost use Rattle.sf_call.specs.Calls.{read_directory};
-ghost use Rattle.sf_keeps.specs.Listed.{listed_entry};
+ghost use Rattle.sf_keeps.specs.Listed.{node_entry};
 ghost use Rattle.sf_keeps.specs.Keeps.{Keeps};
 ghost use Rattle.sf_walk.specs.Served.{IsCarriedOut, HoldersStay, is_success};
 
@@ -62,7 +62,7 @@ pub(crate) fn read_directory(
 /// The entries as they are listed. A name that leads to no node is left out.
 fn entries_of(store: &Store, found: &[(Name, NodeId)]) -> Result<Listing, AllocError>
     ensures { IfOk result (λ listing. listing
-        ≡ filter_map (listed_entry store.now.nodes) found.now) }
+        ≡ filter_map (node_entry store.now.nodes) found.now) }
 {
     let mut entries = Vec::with_capacity(store.alloc(), found.len())?;
     'entries: for (name, node) in found {

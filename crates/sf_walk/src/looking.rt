@@ -5,7 +5,7 @@ ghost use Rattle.sf_inode.specs.Stores.{holder_of, looked_up};
 ghost use Rattle.sf_coupling.specs.Walks.{IsFree};
 ghost use Rattle.sf_walk.specs.Ways.{way_from};
 ghost use Rattle.sf_walk.specs.Steps.{IsFreeThere};
-ghost use Rattle.sf_walk.specs.Further.{IsOnWay, IsHeldThere, IsFound, Looks};
+ghost use Rattle.sf_walk.specs.Further.{LeadsOnWay, IsHeldThere, IsFound, Looks};
 
 use crate::finding::Located;
 use sf_call::Reached;
@@ -26,7 +26,7 @@ pub(crate) enum Further {
 
 /// Looks up the next name of a path, unless it is the last one.
 pub(crate) fn look(store: &mut Store, number: u64, path: &Path, at: Reached) -> Further
-    requires { IsOnWay store.old path.now at.walked at.node }
+    requires { LeadsOnWay store.old path.now at.walked at.node }
     ensures { Looks store.old store.new path.now at result
         × IsFound store.old number path.now at result }
 {
@@ -50,7 +50,7 @@ pub(crate) fn look(store: &mut Store, number: u64, path: &Path, at: Reached) -> 
 
 /// Looks up the last name of a path in its parent.
 pub(crate) fn find_last(store: &mut Store, path: &Path, at: Reached) -> Located
-    requires on_way { IsOnWay store.old path.now at.walked at.node }
+    requires on_way { LeadsOnWay store.old path.now at.walked at.node }
     requires last { at.walked + 1 ≡ length path.now }
     ensures found { result ≡ way_from store.old.nodes store.old.root store.old.root path.now }
     ensures looked { store.new ≡ looked_up store.old }

@@ -5,23 +5,23 @@ ghost use Rattle.sf_path.specs.Names.{Path};
 ghost use Rattle.sf_reply.specs.Replies.{IsPlain};
 ghost use Rattle.sf_call.specs.declared.metadata.FileType.TheVariants as file_type;
 ghost use Rattle.sf_call.specs.declared.metadata.Metadata.{Metadata};
-ghost use Rattle.sf_call.specs.declared.place.Place.TheVariants.{Absent};
+ghost use Rattle.sf_call.specs.declared.lookup.Lookup.TheVariants.{Absent};
 ghost use Rattle.sf_call.specs.Attributes.{modified_at};
 ghost use Rattle.sf_call.specs.Attributes.Object.{File};
 ghost use Rattle.sf_call.specs.Changes.{changed};
 ghost use Rattle.sf_call.specs.Changes.Change.{SetObject};
-ghost use Rattle.sf_call.specs.Tree.{Tree, found_at, place_at};
+ghost use Rattle.sf_call.specs.Tree.{Tree, found_at, look_up};
 ghost use Rattle.sf_call.specs.Calls.{has_all_handles, open_directory, open_present, open_file, unless_root, opening, stamp};
 ghost use Rattle.sf_inode.specs.declared.node.Node.{Node};
-ghost use Rattle.sf_inode.specs.Stores.{StoreState, node_in, entry_of, shown_of, is_directory_at, left_at, bytes_set};
+ghost use Rattle.sf_inode.specs.Stores.{StoreState, node_in, child_of, shown_of, is_directory_at, blocks_left_at, bytes_set};
 ghost use Rattle.sf_keeps.specs.Steps.{walk};
 ghost use Rattle.sf_keeps.specs.Keeps.{Keeps};
-ghost use Rattle.sf_walk.specs.Ways.{last_of, found_node, way_from};
+ghost use Rattle.sf_walk.specs.Ways.{last_name_of, found_node, way_from};
 ghost use Rattle.sf_walk.specs.declared.finding.Located.TheVariants.{At};
 ghost use Rattle.sf_walk.specs.Opening.{marks_of, OpenedNew, to_open};
-ghost use Rattle.sf_walk.specs.Served.{Gives, IsAlike, HoldersStay, NodesStay, IsUnused};
+ghost use Rattle.sf_walk.specs.Served.{ServesOutcome, IsAlike, HoldersStay, NodesStay, IsUnused};
 
-use crate::finding::{Located, Slot};
+use crate::finding::{LastEntry, Located};
 use crate::path_calls::insert_last;
 use sf_call::{FileType, MAX_HANDLES, Metadata};
 use sf_field::{Attrs, OpenFlags};
@@ -63,7 +63,7 @@ pub(crate) fn open_directory(
 ) -> Result<Reply, AllocError>
     ensures served { (t : Tree) (path : Path) → Keeps store.old t → IsUnused t number
         → located ≡ way_from store.old.nodes store.old.root store.old.root path
-        → Gives store.new t (open_directory t session number (found_at t path)) result }
+        → ServesOutcome store.new t (open_directory t session number (found_at t path)) result }
     ensures err { OnErr result (IsAlike store.old store.new) }
     ensures plain { IfOk result IsPlain }
     ensures look_ups { store.new.look_ups ≡ store.old.look_ups }
@@ -84,7 +84,7 @@ fn open_listing(
 ) -> Result<Reply, AllocError>
     ensures served { (t : Tree) (it : Node) → Keeps store.old t → IsUnused t number
         → node_in store.old.nodes node ≡ Some it
-        → Gives store.new t (open_directory t session number (found_node it)) result }
+        → ServesOutcome store.new t (open_directory t session number (found_node it)) result }
     ensures err { OnErr result (store.new ≡ store.old) }
     ensures plain { IfOk result IsPlain }
     ensures look_ups { store.new.look_ups ≡ store.old.look_ups }
@@ -113,10 +113,10 @@ pub(crate) fn open(
 ) -> Result<Reply, AllocError>
     requires way { located ≡ way_from store.old.nodes store.old.root store.old.root path.now }
     requires settled { (parent node : ℕ) → located ≡ At parent node
-        → (flags.truncate && flags.write) ≡ true → left_at store.old.nodes node ≡ 0 }
+        → (flags.truncate && flags.write) ≡ true → blocks_left_at store.old.nodes node ≡ 0 }
     ensures served { (t : Tree) → Keeps store.old t → IsUnused t number
-        → Gives store.new t (unless_root path.now (open_file t session (stamp number moment)
-        (opening path.now flags attrs.now) (place_at t path.now))) result }
+        → ServesOutcome store.new t (unless_root path.now (open_file t session (stamp number moment)
+        (opening path.now flags attrs.now) (look_up t path.now))) result }
     ensures err { OnErr result (IsAlike store.old store.new) }
     ensures plain { IfOk result IsPlain }
     ensures look_ups { store.new.look_ups ≡ store.old.look_ups }
@@ -127,10 +127,10 @@ pub(crate) fn open(
     }
     match located.slot() {
         Err(code) => Ok(Reply::Status(code)),
-        Ok(Slot::Missing { parent }) => {
+        Ok(LastEntry::Missing { parent }) => {
             open_absent(store, session, number, moment, parent, path, flags, attrs)
         }
-        Ok(Slot::Taken { node }) => {
+        Ok(LastEntry::Taken { node }) => {
             if flags.create && flags.exclusive {
                 return Ok(Reply::Status(StatusCode::Failure));
             }
@@ -148,10 +148,10 @@ fn open_present(
     node: NodeId,
     flags: OpenFlags,
 ) -> Result<Reply, AllocError>
-    requires { (flags.truncate && flags.write) ≡ true → left_at store.old.nodes node ≡ 0 }
+    requires { (flags.truncate && flags.write) ≡ true → blocks_left_at store.old.nodes node ≡ 0 }
     ensures served { (t : Tree) (it : Node) → Keeps store.old t → IsUnused t number
         → node_in store.old.nodes node ≡ Some it
-        → Gives store.new t (open_present t session (stamp number moment) flags (found_node it))
+        → ServesOutcome store.new t (open_present t session (stamp number moment) flags (found_node it))
         result }
     ensures err { OnErr result (store.new ≡ store.old) }
     ensures plain { IfOk result IsPlain }
@@ -173,7 +173,7 @@ fn open_present(
 
 /// Cuts a file at its start; it is modified at the moment.
 fn truncate(store: &mut Store, moment: u32, node: NodeId)
-    requires { left_at store.old.nodes node ≡ 0 }
+    requires { blocks_left_at store.old.nodes node ≡ 0 }
     ensures tree { (t : Tree) (label : ℕ) (m : Metadata) (bytes : List ℕ) → Keeps store.old t
         → shown_of store.old.nodes node ≡ Some (label, File m bytes)
         → Keeps store.new (changed t (SetObject label (File (modified_at moment m) []))) }
@@ -187,7 +187,7 @@ fn truncate(store: &mut Store, moment: u32, node: NodeId)
 
 /// Takes out a file's bytes, which takes no memory.
 fn cut(store: &mut Store, node: NodeId)
-    requires { left_at store.old.nodes node ≡ 0 }
+    requires { blocks_left_at store.old.nodes node ≡ 0 }
     ensures { store.new ≡ bytes_set store.old node [] }
 {
     store.set_len(node, 0);
@@ -206,11 +206,11 @@ fn open_absent(
 ) -> Result<Reply, AllocError>
     requires named { 0 < length path.now }
     requires directory { is_directory_at store.old.nodes parent ≡ true }
-    requires missing { entry_of store.old.nodes parent (last_of path.now) ≡ None }
+    requires missing { child_of store.old.nodes parent (last_name_of path.now) ≡ None }
     ensures served { (t : Tree) (front : Path) → Keeps store.old t → IsUnused t number
-        → path.now ≡ front ++ last_of path.now ∷ []
-        → walk (entry_of store.old.nodes) store.old.root front ≡ Some parent
-        → Gives store.new t (open_file t session (stamp number moment)
+        → path.now ≡ front ++ last_name_of path.now ∷ []
+        → walk (child_of store.old.nodes) store.old.root front ≡ Some parent
+        → ServesOutcome store.new t (open_file t session (stamp number moment)
         (opening path.now flags attrs.now) Absent) result }
     ensures err { OnErr result (IsAlike store.old store.new) }
     ensures plain { IfOk result IsPlain }
@@ -243,9 +243,9 @@ fn open_new(
 ) -> Result<(), AllocError>
     requires named { 0 < length path.now }
     requires directory { is_directory_at store.old.nodes parent ≡ true }
-    requires missing { entry_of store.old.nodes parent (last_of path.now) ≡ None }
+    requires missing { child_of store.old.nodes parent (last_name_of path.now) ≡ None }
     ensures ok { OnOk result (OpenedNew store.old store.new
-        (to_open session number parent (last_of path.now) (marks_of flags)) (record {
+        (to_open session number parent (last_name_of path.now) (marks_of flags)) (record {
           label = number;
           file_type = file_type.File;
           metadata = metadata;

@@ -4,19 +4,19 @@ ghost use Rattle.std.specs.Prelude.{◌≡◌, ◌<◌, ◌&&◌, ℕ, true, fal
 ghost use Rattle.sf_path.specs.Names.{Path};
 ghost use Rattle.sf_reply.specs.Replies.{IsPlain};
 ghost use Rattle.sf_call.specs.Attributes.{modified_at};
-ghost use Rattle.sf_call.specs.Tree.{Tree, found_at, place_at};
+ghost use Rattle.sf_call.specs.Tree.{Tree, found_at, look_up};
 ghost use Rattle.sf_call.specs.Calls.{stat, set_stat, sets, make_directory, remove_directory, remove_file, goes, unless_root, stamp};
 ghost use Rattle.sf_reply.specs.declared.reply.Reply.TheVariants.{Status};
 ghost use Rattle.sf_reply.specs.declared.reply.StatusCode.TheVariants.{Success};
 ghost use Rattle.sf_inode.specs.declared.node.Node.{Node};
 ghost use Rattle.sf_inode.specs.Nodes.{new_node, object_in, with_metadata};
-ghost use Rattle.sf_inode.specs.Stores.{Inserted, node_in, is_bare_at, is_directory_at, left_at, edited, unlinked, new_entry};
+ghost use Rattle.sf_inode.specs.Stores.{Inserted, node_in, is_bare_at, is_directory_at, blocks_left_at, edited, unlinked, new_entry};
 ghost use Rattle.sf_keeps.specs.Keeps.{Keeps};
 ghost use Rattle.sf_walk.specs.declared.finding.Located.TheVariants.{At};
-ghost use Rattle.sf_walk.specs.Ways.{last_of, way_from};
-ghost use Rattle.sf_walk.specs.Served.{IsCarriedOut, Gives, IsAlike, HoldersStay, NodesStay, IsUnused};
+ghost use Rattle.sf_walk.specs.Ways.{last_name_of, way_from};
+ghost use Rattle.sf_walk.specs.Served.{IsCarriedOut, ServesOutcome, IsAlike, HoldersStay, NodesStay, IsUnused};
 
-use crate::finding::{Located, Slot};
+use crate::finding::{LastEntry, Located};
 use sf_call::{FileType, MAX_FILE_SIZE, Metadata};
 use sf_field::Attrs;
 use sf_inode::{NewNode, NodeId, Store};
@@ -50,7 +50,7 @@ pub(crate) fn set_stat(
 ) -> Reply
     requires way { located ≡ way_from store.old.nodes store.old.root store.old.root path.now }
     requires settled { (parent node : ℕ) → located ≡ At parent node
-        → is_some attrs.now.size ≡ true → left_at store.old.nodes node ≡ 0 }
+        → is_some attrs.now.size ≡ true → blocks_left_at store.old.nodes node ≡ 0 }
     ensures served { (t : Tree) → Keeps store.old t
         → IsCarriedOut store.new t (unless_root path.now
         (set_stat moment attrs.now (found_at t path.now))) result }
@@ -70,7 +70,7 @@ pub(crate) fn set_stat(
 /// Sets a node's attributes. A file's size is set first, and the file is modified at the moment; a
 /// directory's size can't be set, nor a file's above the limit. It takes no memory.
 pub(crate) fn set_node(store: &mut Store, moment: u32, node: NodeId, attrs: &Attrs) -> Reply
-    requires { is_some attrs.now.size ≡ true → left_at store.old.nodes node ≡ 0 }
+    requires { is_some attrs.now.size ≡ true → blocks_left_at store.old.nodes node ≡ 0 }
     ensures served { (t : Tree) (it : Node) → Keeps store.old t
         → node_in store.old.nodes node ≡ Some it
         → IsCarriedOut store.new t (sets moment it.label attrs.now
@@ -107,8 +107,8 @@ pub(crate) fn mkdir(
 ) -> Result<Reply, AllocError>
     requires { located ≡ way_from store.old.nodes store.old.root store.old.root path.now }
     ensures served { (t : Tree) → Keeps store.old t → IsUnused t number
-        → Gives store.new t (unless_root path.now (make_directory t
-        (stamp number moment) path.now attrs.now (place_at t path.now))) result }
+        → ServesOutcome store.new t (unless_root path.now (make_directory t
+        (stamp number moment) path.now attrs.now (look_up t path.now))) result }
     ensures err { OnErr result (IsAlike store.old store.new) }
     ensures plain { IfOk result IsPlain }
     ensures look_ups { store.new.look_ups ≡ store.old.look_ups }
@@ -119,8 +119,8 @@ pub(crate) fn mkdir(
     }
     match located.slot() {
         Err(code) => Ok(Reply::Status(code)),
-        Ok(Slot::Taken { node: _ }) => Ok(Reply::Status(StatusCode::Failure)),
-        Ok(Slot::Missing { parent }) => {
+        Ok(LastEntry::Taken { node: _ }) => Ok(Reply::Status(StatusCode::Failure)),
+        Ok(LastEntry::Missing { parent }) => {
             let made = NewNode {
                 label: number,
                 file_type: FileType::Directory,
@@ -142,7 +142,7 @@ pub(crate) fn insert_last(
 ) -> Result<NodeId, AllocError>
     requires { 0 < length path.now }
     ensures ok { IfOk result (λ id. Inserted store.old store.new
-        (new_entry parent (last_of path.now) id)
+        (new_entry parent (last_name_of path.now) id)
         (new_node made)) }
     ensures err { OnErr result (store.new ≡ store.old) }
 {
@@ -212,7 +212,7 @@ fn remove_last(store: &mut Store, moment: u32, dir: NodeId, path: &Path)
     requires { 0 < length path.now }
     ensures state { store.new
         ≡ edited (with_metadata (modified_at moment))
-        (unlinked store.old dir (last_of path.now)) dir }
+        (unlinked store.old dir (last_name_of path.now)) dir }
     ensures served { (t : Tree) (node : ℕ) → Keeps store.old t
         → way_from store.old.nodes store.old.root store.old.root path.now ≡ At dir node
         → is_bare_at store.old.nodes node ≡ true

@@ -3,15 +3,15 @@
 ghost use Rattle.std.specs.Prelude.{◌≡◌, ◌≢◌, ◌⊎◌, ◌<◌, ℕ, true, false, [], length, is_some, OnOk, OnErr, IsOk, IfOk};
 ghost use Rattle.sf_path.specs.Order.{same_path};
 ghost use Rattle.sf_reply.specs.Replies.{IsPlain};
-ghost use Rattle.sf_call.specs.Tree.{Tree, place_at};
+ghost use Rattle.sf_call.specs.Tree.{Tree, look_up};
 ghost use Rattle.sf_call.specs.Changes.{moved_by};
-ghost use Rattle.sf_call.specs.Calls.{Answer, answer_to, rename, posix_rename, unless_root};
+ghost use Rattle.sf_call.specs.Calls.{Outcome, answer_to, rename, posix_rename, unless_root};
 ghost use Rattle.sf_inode.specs.Stores.{StoreState, relinked};
 ghost use Rattle.sf_keeps.specs.Keeps.{Keeps};
-ghost use Rattle.sf_walk.specs.Ways.{last_of, AreWays, IsLocated};
+ghost use Rattle.sf_walk.specs.Ways.{last_name_of, AreWays, IsLocated};
 ghost use Rattle.sf_walk.specs.Routes.{are_nested, route_between};
-ghost use Rattle.sf_walk.specs.Served.{Gives, IsAlike, HoldersStay};
-ghost use Rattle.sf_walk.specs.Renames.{does_move, may_replace, IsCourse, AreNamed, IsTold, renaming};
+ghost use Rattle.sf_walk.specs.Served.{ServesOutcome, IsAlike, HoldersStay};
+ghost use Rattle.sf_walk.specs.Renames.{does_move, may_replace, IsCourse, AreNamed, MovesNothing, renaming};
 
 use crate::finding::{Located, Ways};
 use sf_call::{Call, Request};
@@ -63,8 +63,8 @@ pub(crate) fn rename(
 ) -> Result<Reply, AllocError>
     requires { AreWays store.old (route_between old.now new.now) ways }
     ensures served { (t : Tree) → Keeps store.old t
-        → Gives store.new t (unless_root old.now
-        (unless_root new.now (rename t moment old.now new.now (place_at t old.now)))) result }
+        → ServesOutcome store.new t (unless_root old.now
+        (unless_root new.now (rename t moment old.now new.now (look_up t old.now)))) result }
     ensures err { OnErr result (IsAlike store.old store.new) }
     ensures plain { IfOk result IsPlain }
     ensures look_ups { store.new.look_ups ≡ store.old.look_ups }
@@ -84,8 +84,8 @@ pub(crate) fn posix_rename(
 ) -> Result<Reply, AllocError>
     requires { AreWays store.old (route_between old.now new.now) ways }
     ensures served { (t : Tree) → Keeps store.old t
-        → Gives store.new t (unless_root old.now (unless_root new.now
-        (posix_rename t moment old.now new.now (place_at t old.now)))) result }
+        → ServesOutcome store.new t (unless_root old.now (unless_root new.now
+        (posix_rename t moment old.now new.now (look_up t old.now)))) result }
     ensures sure { same_path old.now new.now ≡ true → IsOk result }
     ensures err { OnErr result (IsAlike store.old store.new) }
     ensures plain { IfOk result IsPlain }
@@ -101,7 +101,7 @@ fn rename_course(old: &Path, new: &Path, ways: Ways) -> Course
     ensures course { (s : StoreState) (t : Tree) (moment : ℕ) → Keeps s t
         → AreWays s (route_between old.now new.now) ways
         → IsCourse s t (renaming old.now new.now moment) (unless_root old.now
-        (unless_root new.now (rename t moment old.now new.now (place_at t old.now)))) result }
+        (unless_root new.now (rename t moment old.now new.now (look_up t old.now)))) result }
     ensures named { AreNamed old.now new.now result }
 {
     if has_root(old, new) {
@@ -130,9 +130,9 @@ fn posix_course(store: &Store, old: &Path, new: &Path, ways: Ways) -> Course
     ensures course { (t : Tree) (moment : ℕ) → Keeps store.now t
         → IsCourse store.now t (renaming old.now new.now moment)
         (unless_root old.now (unless_root new.now
-        (posix_rename t moment old.now new.now (place_at t old.now)))) result }
+        (posix_rename t moment old.now new.now (look_up t old.now)))) result }
     ensures named { AreNamed old.now new.now result }
-    ensures same { same_path old.now new.now ≡ true → IsTold result }
+    ensures same { same_path old.now new.now ≡ true → MovesNothing result }
 {
     if has_root(old, new) {
         return Course::Told(StatusCode::Failure);
@@ -202,10 +202,10 @@ fn carry_out(
     course: Course,
 ) -> Result<Reply, AllocError>
     requires { AreNamed old.now new.now course }
-    ensures served { (t : Tree) (answer : Answer) → Keeps store.old t
+    ensures served { (t : Tree) (answer : Outcome) → Keeps store.old t
         → IsCourse store.old t (renaming old.now new.now moment) answer course
-        → Gives store.new t answer result }
-    ensures sure { IsTold course → IsOk result }
+        → ServesOutcome store.new t answer result }
+    ensures sure { MovesNothing course → IsOk result }
     ensures err { OnErr result (IsAlike store.old store.new) }
     ensures plain { IfOk result IsPlain }
     ensures look_ups { store.new.look_ups ≡ store.old.look_ups }
@@ -233,7 +233,7 @@ fn relink_last(
     requires old { 0 < length old.now }
     requires new { 0 < length new.now }
     ensures ok { OnOk result (store.new
-        ≡ relinked store.old from (last_of old.now) into (last_of new.now)) }
+        ≡ relinked store.old from (last_name_of old.now) into (last_name_of new.now)) }
     ensures err { OnErr result (store.new ≡ store.old) }
 {
     let name = new.name(new.len() - 1).try_copy(store.alloc())?;

@@ -5,8 +5,8 @@ ghost use Rattle.sf_call.specs.Tree.{Tree, object_of};
 ghost use Rattle.sf_call.specs.Handles.{handle_in};
 ghost use Rattle.sf_inode.specs.declared.node.Node.{Node};
 ghost use Rattle.sf_inode.specs.declared.handle.OpenHandle.{OpenHandle};
-ghost use Rattle.sf_inode.specs.Nodes.{left_in};
-ghost use Rattle.sf_inode.specs.Stores.{StoreState, node_in, handle_at};
+ghost use Rattle.sf_inode.specs.Nodes.{blocks_left_in};
+ghost use Rattle.sf_inode.specs.Stores.{StoreState, node_in, open_handle_at};
 ghost use Rattle.sf_keeps.specs.Keeps.{Keeps};
 ghost use Rattle.sf_walk.specs.Served.{NodesStay};
 
@@ -18,9 +18,9 @@ pub fn spared_file()
         → NodesStay number s new → object_of t.objects number ≡ None
         → (session handle : ℕ) (h : OpenHandle) (it : Node)
         → handle_in after session handle ≡ handle_in t session handle
-        → handle_at s session handle ≡ Some h → node_in s.nodes h.node ≡ Some it
+        → open_handle_at s session handle ≡ Some h → node_in s.nodes h.node ≡ Some it
         → it.label ≡ h.label
-        → (k : OpenHandle) × (node : Node) × (handle_at new session handle ≡ Some k)
+        → (k : OpenHandle) × (node : Node) × (open_handle_at new session handle ≡ Some k)
         × (k.node ≡ h.node) × (node_in new.nodes h.node ≡ Some node)
-        × (node.holder ≡ it.holder) × (left_in node.content ≡ left_in it.content) }
+        × (node.holder ≡ it.holder) × (blocks_left_in node.content ≡ blocks_left_in it.content) }
 {}

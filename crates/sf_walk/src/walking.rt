@@ -4,10 +4,10 @@ ghost use Rattle.std.specs.Prelude.{◌≡◌, ◌+◌, ◌<◌, true, [], lengt
 ghost use Rattle.sf_call.specs.declared.call.Stage.TheVariants as stage;
 ghost use Rattle.sf_inode.specs.Nodes.{with_holder};
 ghost use Rattle.sf_inode.specs.Stores.{is_directory_at, edited};
-ghost use Rattle.sf_walk.specs.Routes.{Stands, route_in, reached, nodes_of};
+ghost use Rattle.sf_walk.specs.Routes.{HoldsWay, route_in, reached, nodes_of};
 ghost use Rattle.sf_walk.specs.Routes.Route.{Along, Between};
 ghost use Rattle.sf_walk.specs.Steps.{Advances, walker, is_one_of, free_unless, let_go};
-ghost use Rattle.sf_walk.specs.Further.{IsOnWay, Comes, PartLater};
+ghost use Rattle.sf_walk.specs.Further.{LeadsOnWay, ComesToBoth, PartLater};
 
 use crate::ends::{Ends, at_ends};
 use crate::finding::{Located, Ways};
@@ -41,7 +41,7 @@ pub enum Walk {
 /// The stage that it has come to is told beside it: who makes many steps notes the last one alone.
 pub fn advance(store: &mut Store, number: u64, route: Route<'_>, at: Stage) -> Walk
     requires root { is_directory_at store.old.nodes store.old.root ≡ true }
-    requires stands { Stands store.old (route_in route) at }
+    requires stands { HoldsWay store.old (route_in route) at }
     ensures { Advances store.old store.new (walker number (route_in route.entry) at) result }
 {
     match route {
@@ -119,7 +119,7 @@ fn first_of_two(store: &mut Store, number: u64, old: &Path, new: &Path) -> Walk
 
 /// Goes one name further from a directory.
 fn onward(store: &mut Store, number: u64, path: &Path, at: Reached) -> Walk
-    requires on_way { IsOnWay store.old path.now at.walked at.node }
+    requires on_way { LeadsOnWay store.old path.now at.walked at.node }
     ensures { Advances store.old store.new
         (walker number (Along path.now) (stage.At at.walked at.node)) result }
 {
@@ -141,7 +141,7 @@ fn onward(store: &mut Store, number: u64, path: &Path, at: Reached) -> Walk
 
 /// Decides at the parent of a path's last name, unless another call holds what it leads to.
 fn at_parent(store: &mut Store, number: u64, path: &Path, at: Reached) -> Walk
-    requires on_way { IsOnWay store.old path.now at.walked at.node }
+    requires on_way { LeadsOnWay store.old path.now at.walked at.node }
     requires last { at.walked + 1 ≡ length path.now }
     ensures { Advances store.old store.new
         (walker number (Along path.now) (stage.At at.walked at.node)) result }
@@ -155,7 +155,7 @@ fn at_parent(store: &mut Store, number: u64, path: &Path, at: Reached) -> Walk
 
 /// Goes one name further from a directory that two paths have in common.
 fn together(store: &mut Store, number: u64, old: &Path, new: &Path, at: Reached) -> Walk
-    requires on_way { IsOnWay store.old old.now at.walked at.node }
+    requires on_way { LeadsOnWay store.old old.now at.walked at.node }
     requires before { PartLater old.now new.now (at.walked + 1) }
     ensures { Advances store.old store.new
         (walker number (Between old.now new.now) (stage.At at.walked at.node)) result }
@@ -177,7 +177,7 @@ fn together(store: &mut Store, number: u64, old: &Path, new: &Path, at: Reached)
 /// stands there with both its ends.
 fn arrived(old: &Path, new: &Path, to: Reached) -> Stage
     requires { PartLater old.now new.now to.walked }
-    ensures { Comes old.now new.now (reached to.walked to.node) result }
+    ensures { ComesToBoth old.now new.now (reached to.walked to.node) result }
 {
     if old.common(new) == to.walked {
         return Stage::Ends {

@@ -9,7 +9,7 @@ use crossbeam_channel::Receiver;
 use sf_audit::Transcript;
 use sf_core::{Core, Share};
 use sf_line::Line;
-use sf_pool::{Gate, Hall, LockDesk, serve};
+use sf_pool::{Hall, LockDesk, StepObserver, serve};
 use sf_session::{Clock, ServeFault};
 use std::alloc::{AllocError, Global};
 use std::sync::{Mutex, Wait};
@@ -38,30 +38,30 @@ impl Served {
     }
 
     /// Serves a session over a line to its end, at a desk. A session that ends by a fault ends nothing else.
-    fn serve<R: Wait, L: Line, C: Clock, G: Gate>(
+    fn serve<R: Wait, L: Line, C: Clock, G: StepObserver>(
         &mut self,
         alloc: Global,
         desk: LockDesk<'_, R>,
         line: &mut L,
         clock: &mut C,
-        gate: &G,
+        observer: &G,
     )
         requires { desk.stay.place ≡ New }
         ensures { self.new.transcripts ≡ self.old.transcripts }
     {
         let mut desk = desk;
-        let _ = serve(alloc, &mut desk, line, clock, gate, &mut self.share);
+        let _ = serve(alloc, &mut desk, line, clock, observer, &mut self.share);
     }
 
     /// Serves a session over a line to its end, at a desk that keeps its calls, and keeps what it was told.
     /// Without room for that the line isn't served.
-    fn serve_and_keep<R: Wait, L: Line, C: Clock, G: Gate>(
+    fn serve_and_keep<R: Wait, L: Line, C: Clock, G: StepObserver>(
         &mut self,
         alloc: Global,
         desk: LockDesk<'_, R>,
         line: &mut L,
         clock: &mut C,
-        gate: &G,
+        observer: &G,
     )
         requires { desk.stay.place ≡ New }
         ensures { IsShareOf self.old.share self.old.transcripts.items
@@ -72,7 +72,7 @@ impl Served {
         }
         let mut desk = desk;
         let mut share = Share::zero();
-        match serve(alloc, &mut desk, line, clock, gate, &mut share) {
+        match serve(alloc, &mut desk, line, clock, observer, &mut share) {
             Err(ServeFault::Stranger) => {}
             _ => self.keep(share, desk.into_transcript()),
         }
@@ -95,14 +95,14 @@ impl Served {
 }
 
 /// Serves lines until the channel is closed and empty.
-fn work<R: Wait, L: Line + Drop, C: Clock + Drop, G: Gate>(
+fn work<R: Wait, L: Line + Drop, C: Clock + Drop, G: StepObserver>(
     rt: &R,
     alloc: Global,
     core: &Mutex<Core>,
     hall: &Hall,
     lines: &Receiver<L>,
     clock: C,
-    gate: &G,
+    observer: &G,
     keep: bool,
 ) -> Served
     ensures { keep ≡ true → IsShareOf result.share result.transcripts.items }
@@ -115,9 +115,9 @@ fn work<R: Wait, L: Line + Drop, C: Clock + Drop, G: Gate>(
         };
         let desk = LockDesk::new(rt, alloc, core, hall, keep);
         if keep {
-            served.serve_and_keep(alloc, desk, &mut line, &mut clock, gate);
+            served.serve_and_keep(alloc, desk, &mut line, &mut clock, observer);
         } else {
-            served.serve(alloc, desk, &mut line, &mut clock, gate);
+            served.serve(alloc, desk, &mut line, &mut clock, observer);
         }
     }
     served
@@ -132,7 +132,7 @@ pub fn serve_all<
     R: Threads + Wait + Sync,
     L: Line + Drop + Send,
     C: Clock + Drop + Send,
-    G: Gate + Sync,
+    G: StepObserver + Sync,
 >(
     rt: &R,
     alloc: Global,
@@ -140,7 +140,7 @@ pub fn serve_all<
     hall: &Hall,
     lines: &Receiver<L>,
     clocks: Vec<C>,
-    gate: &G,
+    observer: &G,
     keep: bool,
 ) -> Result<Vec<Served>, AllocError>
     ensures workers { IfOk result (λ all. vec_len all ≡ vec_len clocks) }
@@ -150,6 +150,6 @@ pub fn serve_all<
     thread::map_vec(
         rt,
         clocks,
-        &|clock| { work(rt, alloc, core, hall, lines, clock, gate, keep) },
+        &|clock| { work(rt, alloc, core, hall, lines, clock, observer, keep) },
     )
 }

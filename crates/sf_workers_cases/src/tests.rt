@@ -5,7 +5,7 @@ use sf_audit::{Transcript, audit, gather};
 use sf_cases::{FailingLine, StillClock, hex_packets};
 use sf_core::{Core, Share};
 use sf_line::{MemoryLine, Pieces};
-use sf_pool::{Gate, Hall, NoGate};
+use sf_pool::{Hall, NoObserver, StepObserver};
 use sf_workers::{Served, serve_all};
 use std::alloc::Global;
 use std::process::Abort;
@@ -125,7 +125,7 @@ impl TwoCalls {
     }
 }
 
-impl Gate for TwoCalls {
+impl StepObserver for TwoCalls {
     fn stops(&self, _session: u64, _number: u64, _steps: u64) -> bool {
         true
     }
@@ -172,7 +172,7 @@ impl InTheWay {
     }
 }
 
-impl Gate for InTheWay {
+impl StepObserver for InTheWay {
     fn stops(&self, _session: u64, _number: u64, _steps: u64) -> bool {
         true
     }
@@ -220,21 +220,21 @@ fn gate_two_calls(rt: HostRuntime) -> Result<(), Fail> {
     let two = hex_packets(alloc, &[INIT, MKDIR_B])?;
     let core = Mutex::new(Core::new(alloc)?);
     let hall = Hall::new();
-    let gate = TwoCalls::new();
+    let observer = TwoCalls::new();
     let clocks = clocks(alloc, 2)?;
     let (sender, lines) = unbounded(alloc)?;
     let first = line(alloc, &one);
     let second = line(alloc, &two);
     let (were_sent, all) = thread::join(
         &rt,
-        || send_two(&rt, sender, first, second, &gate.seen),
-        || serve_all(&rt, alloc, &core, &hall, &lines, clocks, &gate, true),
+        || send_two(&rt, sender, first, second, &observer.seen),
+        || serve_all(&rt, alloc, &core, &hall, &lines, clocks, &observer, true),
     );
     assert!(rt; were_sent);
     let (transcripts, shares) = parted(alloc, all?)?;
-    assert_eq!(rt; gate.held.load(Ordering::SeqCst), 1);
-    assert_eq!(rt; gate.answers.load(Ordering::SeqCst), 3);
-    assert_eq!(rt; gate.late.load(Ordering::SeqCst), 0);
+    assert_eq!(rt; observer.held.load(Ordering::SeqCst), 1);
+    assert_eq!(rt; observer.answers.load(Ordering::SeqCst), 3);
+    assert_eq!(rt; observer.late.load(Ordering::SeqCst), 0);
     let core = core.into_inner();
     assert_eq!(rt; transcripts.len(), 2);
     assert_eq!(rt; audit(&core, &transcripts), Ok(()));
@@ -251,7 +251,7 @@ fn waiting_call_is_woken(rt: HostRuntime) -> Result<(), Fail> {
     let two = hex_packets(alloc, &[INIT, MKDIR_B])?;
     let core = Mutex::new(Core::new(alloc)?);
     let hall = Hall::new();
-    let gate = InTheWay {
+    let observer = InTheWay {
         seen: AtomicU64::new(0),
         third: AtomicU64::new(0),
     };
@@ -261,8 +261,8 @@ fn waiting_call_is_woken(rt: HostRuntime) -> Result<(), Fail> {
     let second = line(alloc, &two);
     let (were_sent, all) = thread::join(
         &rt,
-        || send_two(&rt, sender, first, second, &gate.seen),
-        || serve_all(&rt, alloc, &core, &hall, &lines, clocks, &gate, true),
+        || send_two(&rt, sender, first, second, &observer.seen),
+        || serve_all(&rt, alloc, &core, &hall, &lines, clocks, &observer, true),
     );
     assert!(rt; were_sent);
     let (transcripts, shares) = parted(alloc, all?)?;
@@ -286,7 +286,7 @@ fn serve_inputs<R: Threads + Wait + Abort + Sync>(
     let hall = Hall::new();
     let lines = sent(rt, alloc, inputs)?;
     let clocks = clocks(alloc, workers)?;
-    let all = serve_all(rt, alloc, &core, &hall, &lines, clocks, &NoGate, keep)?;
+    let all = serve_all(rt, alloc, &core, &hall, &lines, clocks, &NoObserver, keep)?;
     if all.len() != workers {
         panic!(rt; "{} workers told what they served", all.len());
     }
@@ -409,7 +409,7 @@ fn serve_both<R: Threads + Wait + Abort + Sync>(
     }
     drop(sender);
     let clocks = clocks(alloc, 1)?;
-    let all = serve_all(rt, alloc, core, &hall, &lines, clocks, &NoGate, keep)?;
+    let all = serve_all(rt, alloc, core, &hall, &lines, clocks, &NoObserver, keep)?;
     parted(alloc, all)
 }
 

@@ -1,4 +1,1 @@
-pub mod Statuses
-pub mod Commands
-pub mod Carrying
-pub mod Totals
+pub mod Words

@@ -1,19 +1,20 @@
 //! What the words of a command line ask for.
 
 ghost use Rattle.std.specs.Prelude.{◌<◌, ◌^◌, IfOk};
-ghost use Rattle.sftpd.specs.Commands.{paths_len, CanBeDone};
+ghost use Rattle.sf_program.specs.Commands.{paths_len};
+ghost use Rattle.sftpd.specs.Words.{CanBeDone};
 
-use crate::client::run_client;
-use crate::clock::SystemClock;
-use crate::command::ClientCommand;
-use crate::connection::connect;
-use crate::descriptors::Descriptors;
-use crate::server::{Serving, serve};
-use crate::stdio::run_stdio;
 use clap::builder::ValueParser;
 use clap::{Arg, ArgAction, ArgMatches, Command, Error, error};
 use sf_ahead::AheadLine;
 use sf_line::StreamLine;
+use sf_program::client::run_client;
+use sf_program::clock::SystemClock;
+use sf_program::command::ClientCommand;
+use sf_program::connection::connect;
+use sf_program::descriptors::Descriptors;
+use sf_program::server::{Serving, serve};
+use sf_program::stdio::run_stdio;
 use std::alloc::{AllocError, Global};
 use std::env;
 use std::io::{self, ErrorKind, Input, Read};
@@ -36,22 +37,22 @@ pub(crate) enum Action<'a> {
 
 /// Words that ask for no action.
 #[derive(Debug, Drop)]
-pub(crate) enum Refused {
+pub(crate) enum RefusedWords {
     /// With the text of `clap`, or for want of memory.
     Words(Error),
     /// An unknown command, or another count of paths than it takes.
     Usage,
 }
 
-impl From<Error> for Refused {
-    fn from(error: Error) -> Refused {
-        Refused::Words(error)
+impl From<Error> for RefusedWords {
+    fn from(error: Error) -> RefusedWords {
+        RefusedWords::Words(error)
     }
 }
 
-impl From<AllocError> for Refused {
-    fn from(error: AllocError) -> Refused {
-        Refused::Words(Error::from(error))
+impl From<AllocError> for RefusedWords {
+    fn from(error: AllocError) -> RefusedWords {
+        RefusedWords::Words(Error::from(error))
     }
 }
 
@@ -143,7 +144,7 @@ fn client_words<'a>(alloc: Global) -> Result<Command<'a>, AllocError> {
 }
 
 /// What the words ask for, the program's own name first. The text of an error is `clap`'s.
-pub(crate) fn read_words<'a>(alloc: Global, words: &'a [String]) -> Result<Action<'a>, Refused>
+pub(crate) fn read_words<'a>(alloc: Global, words: &'a [String]) -> Result<Action<'a>, RefusedWords>
     ensures { IfOk result CanBeDone }
 {
     let program = Command::new(alloc, "sftpd")
@@ -184,7 +185,7 @@ fn serving<'a>(matches: &ArgMatches<'a>) -> Serving<'a>
 }
 
 /// What the words after `client` ask for.
-fn client_action<'a>(matches: &ArgMatches<'a>) -> Result<Action<'a>, Refused>
+fn client_action<'a>(matches: &ArgMatches<'a>) -> Result<Action<'a>, RefusedWords>
     ensures { IfOk result CanBeDone }
 {
     let socket = matches.get_str("socket").unwrap_or("");
@@ -192,7 +193,7 @@ fn client_action<'a>(matches: &ArgMatches<'a>) -> Result<Action<'a>, Refused>
     let paths = matches.get_strs("paths").unwrap_or(&[]);
     match ClientCommand::from_words(name, paths) {
         Some(command) => Ok(Action::Client(socket, command)),
-        None => Err(Refused::Usage),
+        None => Err(RefusedWords::Usage),
     }
 }
 
@@ -211,8 +212,8 @@ pub(crate) fn run<T: Threads + Wait + Sync>(rt: &HostRuntime, threads: &T) -> u8
         Ok(Action::Serve(serving)) => serve_sessions(rt, threads, serving),
         Ok(Action::Connect(socket)) => carry(rt, threads, socket),
         Ok(Action::Client(socket, command)) => client(rt, socket, command),
-        Err(Refused::Words(error)) => refuse(rt, &error),
-        Err(Refused::Usage) => usage(rt),
+        Err(RefusedWords::Words(error)) => refuse(rt, &error),
+        Err(RefusedWords::Usage) => usage(rt),
     }
 }
 

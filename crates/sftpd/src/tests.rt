@@ -1,81 +1,11 @@
-//! The words, the statuses and the clock.
+//! The words.
 
-use crate::clock::moment;
-use crate::command::ClientCommand;
-use crate::program::{Action, Refused, read_words};
-use crate::server::Serving;
-use crate::stdio::run_stdio;
-use sf_cases::{StillClock, hex_bytes};
-use sf_line::{MemoryLine, Pieces};
+use crate::program::{Action, RefusedWords, read_words};
+use sf_program::command::ClientCommand;
+use sf_program::server::Serving;
 use std::alloc::Global;
 use std::process::Abort;
 use std::test::*;
-use std::time::Duration;
-
-mod carrying;
-mod commands;
-mod serving;
-
-/// `run_stdio` on this input answers this status and writes this line.
-fn is_told(rt: &impl Abort, alloc: Global, input: &[u8], status: u8, told: &[u8]) {
-    let all = Pieces::new(usize::MAX, usize::MAX);
-    let mut line = MemoryLine::new(alloc, input, all, all);
-    let mut errors = MemoryLine::new(alloc, b"", all, all);
-    assert_eq!(rt;
-        run_stdio(alloc, 1, &mut line, &mut StillClock, &mut errors),
-        status
-    );
-    assert_eq!(rt; errors.output(), told);
-}
-
-#[test]
-fn endings_are_told(rt: HostRuntime) {
-    let alloc = rt.alloc();
-    is_told(&rt, alloc, b"", 0, b"");
-    is_told(&rt, alloc, b"\0\0\0\x05\x01\0\0\0\x03\0\0", 0, b"");
-    is_told(
-        &rt,
-        alloc,
-        b"\0\0\0\0",
-        1,
-        b"sftpd: session ended: length 0\n",
-    );
-    is_told(
-        &rt,
-        alloc,
-        b"\0\x04\0\x01",
-        1,
-        b"sftpd: session ended: length above 262144\n",
-    );
-    is_told(
-        &rt,
-        alloc,
-        b"\0\0\0\x01\x11",
-        1,
-        b"sftpd: session ended: first packet is not INIT\n",
-    );
-    is_told(
-        &rt,
-        alloc,
-        b"\0\0\0\x01\x01",
-        1,
-        b"sftpd: session ended: no room for an id\n",
-    );
-    is_told(
-        &rt,
-        alloc,
-        b"\0\0\0\x05\x01\0\0\0\x02",
-        1,
-        b"sftpd: session ended: client version below 3\n",
-    );
-    is_told(
-        &rt,
-        alloc,
-        b"\0\0\0\x05\x01\0\0\0\x03\0\0\0\x05\x01\0\0\0\x03",
-        1,
-        b"sftpd: session ended: second INIT\n",
-    );
-}
 
 fn texts(alloc: Global, words: &[&str]) -> Result<Vec<String>, Fail> {
     let mut texts = Vec::new(alloc);
@@ -88,7 +18,7 @@ fn texts(alloc: Global, words: &[&str]) -> Result<Vec<String>, Fail> {
 /// Words that ask for nothing: whether their text goes to standard error.
 fn is_refused(rt: &impl Abort, alloc: Global, words: &[&str], to_errors: bool) -> Result<(), Fail> {
     match read_words(alloc, &texts(alloc, words)?) {
-        Err(Refused::Words(error)) => assert_eq!(rt; error.use_stderr(), to_errors),
+        Err(RefusedWords::Words(error)) => assert_eq!(rt; error.use_stderr(), to_errors),
         _ => panic!(rt; "the words were taken"),
     }
     Ok(())
@@ -199,7 +129,7 @@ fn is_command(
     all.append(&mut texts(alloc, words)?)?;
     match (read_words(alloc, &all), want) {
         (Ok(action), Some(want)) => assert_eq!(rt; action, Action::Client("/s", want)),
-        (Err(Refused::Usage), None) => {}
+        (Err(RefusedWords::Usage), None) => {}
         _ => panic!(rt; "another action"),
     }
     Ok(())
@@ -249,12 +179,4 @@ fn client_words(rt: HostRuntime) -> Result<(), Fail> {
     }
     is_refused(&rt, alloc, &["sftpd", "client", "stat", "/a"], true)?;
     is_refused(&rt, alloc, &["sftpd", "client", "--socket", "/s"], true)
-}
-
-#[test]
-fn moments(rt: HostRuntime) {
-    assert_eq!(rt; moment(None), 0);
-    assert_eq!(rt; moment(Some(Duration::new(100, 999999999))), 100);
-    assert_eq!(rt; moment(Some(Duration::from_secs(4294967295))), 4294967295);
-    assert_eq!(rt; moment(Some(Duration::from_secs(4294967296))), 4294967295);
 }

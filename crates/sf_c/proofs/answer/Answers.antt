@@ -3,7 +3,7 @@ use mir.Syntax.{w64}
 use mir.Val.{SFits}
 use Rattle.std.proofs.lemmas.Int.{to_z-of_z}
 use Rattle.sf_engine.specs.Views.{EngineView}
-use Rattle.sf_c.specs.Numbers.{Leads}
+use Rattle.sf_c.specs.Numbers.{LeadsToNumber}
 use Rattle.sf_c.proofs.answer.Goals as goal
 
 pub returns : goal.returns
@@ -15,6 +15,6 @@ returns c =
       c.apply-number.new.engine,
       c.take-engine.ensures.engine,
       c.put.ensures,
-      subst (λ (m : ℤ). Leads c.take-engine.result.value event m c.apply-number.new.engine) (sym (to_z-of_z w64 n fits))
-          (subst (λ (e : EngineView). Leads e event n c.apply-number.new.engine) c.deref_mut.ensures.value c.apply-number.ensures),
+      subst (λ (m : ℤ). LeadsToNumber c.take-engine.result.value event m c.apply-number.new.engine) (sym (to_z-of_z w64 n fits))
+          (subst (λ (e : EngineView). LeadsToNumber e event n c.apply-number.new.engine) c.deref_mut.ensures.value c.apply-number.ensures),
     )

@@ -3,7 +3,7 @@ use mir.Syntax.{w64}
 use mir.Val.{SFits, to_z, of_z}
 use Rattle.std.proofs.lemmas.Int.{to_z-of_z}
 use Rattle.sf_engine.specs.Views.{EngineView}
-use Rattle.sf_c.specs.Records.{TellsOf}
+use Rattle.sf_c.specs.Records.{TellsRecord}
 use Rattle.sf_c.proofs.lucernetick_call.Goals as goal
 
 pub returns-clause-told : goal.returns-clause-told
@@ -15,6 +15,6 @@ returns-clause-told c =
     let new = c.copy_record-number.new.room in
     let shown = to_z w64 (of_z w64 n) in
     let fits : SFits w64 n = search rules in
-    subst (λ (o : Option EngineView). IfSome o (λ e. TellsOf e c.args.at before old shown told new)) (sym c.take-engine.ensures.engine)
-    (subst (λ (m : ℤ). TellsOf c.take-engine.result.value c.args.at before old m told new) (sym (to_z-of_z w64 n fits))
-    (subst (λ (e : EngineView). TellsOf e c.args.at before old n told new) c.deref.ensures c.copy_record-number.ensures))
+    subst (λ (o : Option EngineView). IfSome o (λ e. TellsRecord e c.args.at before old shown told new)) (sym c.take-engine.ensures.engine)
+    (subst (λ (m : ℤ). TellsRecord c.take-engine.result.value c.args.at before old m told new) (sym (to_z-of_z w64 n fits))
+    (subst (λ (e : EngineView). TellsRecord e c.args.at before old n told new) c.deref.ensures c.copy_record-number.ensures))

@@ -4,7 +4,7 @@ use mir.Val.{SFits}
 use Rattle.std.proofs.lemmas.Int.{to_z-of_z}
 use Rattle.sf_engine.specs.Views.{EngineView}
 use Rattle.sf_engine.specs.declared.event.Event.TheVariants as event
-use Rattle.sf_c.specs.Numbers.{Leads}
+use Rattle.sf_c.specs.Numbers.{LeadsToNumber}
 use Rattle.sf_c.proofs.lucernetick_feed.Goals as goal
 
 pub returns : goal.returns
@@ -16,6 +16,6 @@ returns c =
       new,
       c.take-engine.ensures.engine,
       c.put.ensures,
-      λ fed items. subst (λ (m : ℤ). Leads c.take-engine.result.value (event.Feed c.args.session fed) m new) (sym (to_z-of_z w64 n fits))
-          (subst (λ (e : EngineView). Leads e (event.Feed c.args.session fed) n new) c.deref_mut.ensures.value (c.feed-number.ensures fed items)),
+      λ fed items. subst (λ (m : ℤ). LeadsToNumber c.take-engine.result.value (event.Feed c.args.session fed) m new) (sym (to_z-of_z w64 n fits))
+          (subst (λ (e : EngineView). LeadsToNumber e (event.Feed c.args.session fed) n new) c.deref_mut.ensures.value (c.feed-number.ensures fed items)),
     )

@@ -2,13 +2,13 @@
 
 ghost use Rattle.std.specs.Prelude.{◌≡◌, nat_le, IfOk, OnOk, OnErr};
 ghost use Rattle.sf_call.specs.declared.limits.TheConstants.{MAX_LINKS};
-ghost use Rattle.sf_call.specs.Tree.{links, place_at, found_at};
+ghost use Rattle.sf_call.specs.Tree.{links, look_up, found_at};
 ghost use Rattle.sf_call.specs.Changes.{changed, done};
 ghost use Rattle.sf_call.specs.Changes.Change.{NewName};
 ghost use Rattle.sf_call.specs.Calls.{link, link_to, unless_root};
 
 use super::PlainTree;
-use sf_call::{MAX_LINKS, Place};
+use sf_call::{Lookup, MAX_LINKS};
 use sf_path::Path;
 use sf_reply::{Reply, StatusCode};
 use std::alloc::AllocError;
@@ -46,17 +46,17 @@ impl PlainTree {
     /// Links a file to a path where nothing stands; its parent is modified at the moment.
     fn link_to(&mut self, moment: u32, new: &Path, label: u64) -> Result<Reply, AllocError>
         ensures reply { IfOk result (λ reply. reply
-            ≡ (link_to self.old moment new.now label (place_at self.old new.now)).reply) }
+            ≡ (link_to self.old moment new.now label (look_up self.old new.now)).reply) }
         ensures tree { OnOk result (self.new
             ≡ done self.old
-            (link_to self.old moment new.now label (place_at self.old new.now)).changes) }
+            (link_to self.old moment new.now label (look_up self.old new.now)).changes) }
         ensures err { OnErr result (self.new ≡ self.old) }
     {
         match self.place_at(new)? {
-            Place::NoWay => Ok(Reply::Status(StatusCode::NoSuchFile)),
-            Place::At(_) => Ok(Reply::Status(StatusCode::Failure)),
-            Place::Absent if self.has_all_links(label) => Ok(Reply::Status(StatusCode::Failure)),
-            Place::Absent => {
+            Lookup::NoWay => Ok(Reply::Status(StatusCode::NoSuchFile)),
+            Lookup::At(_) => Ok(Reply::Status(StatusCode::Failure)),
+            Lookup::Absent if self.has_all_links(label) => Ok(Reply::Status(StatusCode::Failure)),
+            Lookup::Absent => {
                 let parent = self.directory_at(&new.parent(self.alloc)?);
                 self.name_anew(new, label)?;
                 self.touch(parent, moment);
@@ -79,7 +79,7 @@ impl PlainTree {
         if old.is_root() || new.is_root() {
             return Ok(Reply::Status(StatusCode::Failure));
         }
-        let Place::At(label) = self.place_at(old)? else {
+        let Lookup::At(label) = self.place_at(old)? else {
             return Ok(Reply::Status(StatusCode::NoSuchFile));
         };
         let Some(node) = self.objects.get(&label) else {

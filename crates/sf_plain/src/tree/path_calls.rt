@@ -4,15 +4,15 @@ ghost use Rattle.std.specs.Option.{is_some};
 ghost use Rattle.std.specs.Ordering.{nat_cmp};
 ghost use Rattle.std.specs.BTreeMap.{get, is_at, IsOrdered};
 ghost use Rattle.std.specs.Prelude.{◌≡◌, ◌&&◌, ℕ, true, cond, nat_eq, count_by, IfOk, OnOk, OnErr};
-ghost use Rattle.sf_call.specs.Tree.{place_at, found_at, found_object, object_of, is_empty, label_at};
+ghost use Rattle.sf_call.specs.Tree.{look_up, found_at, found_object, object_of, is_empty, label_at};
 ghost use Rattle.sf_call.specs.Changes.{changed, done};
 ghost use Rattle.sf_call.specs.Changes.Change.{GonePath, NewPath, OpenHandle};
-ghost use Rattle.sf_call.specs.Calls.{stat, set_stat, make_directory, remove_directory, remove_file, goes, has_all_handles, directory_handle, file_handle, open_directory, open_present, open_file, unless_root, opening, stamp};
+ghost use Rattle.sf_call.specs.Calls.{stat, set_stat, make_directory, remove_directory, remove_file, goes, has_all_handles, directory_handle, new_file_handle, open_directory, open_present, open_file, unless_root, opening, stamp};
 
 use super::PlainTree;
 use crate::node::{Node, Parts};
 use sf_block::WholeContents;
-use sf_call::{Handle, MAX_HANDLES, Metadata, Place};
+use sf_call::{Handle, Lookup, MAX_HANDLES, Metadata};
 use sf_field::{Attrs, OpenFlags};
 use sf_path::Path;
 use sf_reply::{Reply, StatusCode};
@@ -35,7 +35,7 @@ fn directory_handle(session: u64, label: u64) -> Handle
 
 /// With neither READ nor WRITE a handle reads.
 fn file_handle(session: u64, label: u64, flags: OpenFlags) -> Handle
-    ensures { result ≡ file_handle session label flags }
+    ensures { result ≡ new_file_handle session label flags }
 {
     Handle {
         session,
@@ -78,7 +78,7 @@ impl PlainTree {
     pub(super) fn stat(&self, path: &Path) -> Result<Reply, AllocError>
         ensures { IfOk result (λ reply. reply ≡ (stat (found_at self.now path.now)).reply) }
     {
-        let Place::At(label) = self.place_at(path)? else {
+        let Lookup::At(label) = self.place_at(path)? else {
             return Ok(Reply::Status(StatusCode::NoSuchFile));
         };
         match self.objects.get(&label) {
@@ -106,7 +106,7 @@ impl PlainTree {
         if path.is_root() {
             return Ok(Reply::Status(StatusCode::Failure));
         }
-        let Place::At(label) = self.place_at(path)? else {
+        let Lookup::At(label) = self.place_at(path)? else {
             return Ok(Reply::Status(StatusCode::NoSuchFile));
         };
         let Some(node) = self.objects.get(&label) else {
@@ -130,19 +130,19 @@ impl PlainTree {
     ) -> Result<Reply, AllocError>
         ensures reply { IfOk result (λ reply. reply
             ≡ (unless_root path.now (make_directory self.old
-            (stamp number moment) path.now attrs.now (place_at self.old path.now))).reply) }
+            (stamp number moment) path.now attrs.now (look_up self.old path.now))).reply) }
         ensures tree { OnOk result (self.new
             ≡ done self.old (unless_root path.now (make_directory self.old
-            (stamp number moment) path.now attrs.now (place_at self.old path.now))).changes) }
+            (stamp number moment) path.now attrs.now (look_up self.old path.now))).changes) }
         ensures err { OnErr result (self.new ≡ self.old) }
     {
         if path.is_root() {
             return Ok(Reply::Status(StatusCode::Failure));
         }
         match self.place_at(path)? {
-            Place::NoWay => Ok(Reply::Status(StatusCode::NoSuchFile)),
-            Place::At(_) => Ok(Reply::Status(StatusCode::Failure)),
-            Place::Absent => {
+            Lookup::NoWay => Ok(Reply::Status(StatusCode::NoSuchFile)),
+            Lookup::At(_) => Ok(Reply::Status(StatusCode::Failure)),
+            Lookup::Absent => {
                 let parent = self.directory_at(&path.parent(self.alloc)?);
                 let made = Metadata::new_object(0o755, moment, attrs);
                 self.add(path, number, Node::directory(made))?;
@@ -179,7 +179,7 @@ impl PlainTree {
         if path.is_root() {
             return Ok(Reply::Status(StatusCode::Failure));
         }
-        let Place::At(label) = self.place_at(path)? else {
+        let Lookup::At(label) = self.place_at(path)? else {
             return Ok(Reply::Status(StatusCode::NoSuchFile));
         };
         let Some(node) = self.objects.get(&label) else {
@@ -205,7 +205,7 @@ impl PlainTree {
         if path.is_root() {
             return Ok(Reply::Status(StatusCode::Failure));
         }
-        let Place::At(label) = self.place_at(path)? else {
+        let Lookup::At(label) = self.place_at(path)? else {
             return Ok(Reply::Status(StatusCode::NoSuchFile));
         };
         let Some(node) = self.objects.get(&label) else {
@@ -252,7 +252,7 @@ impl PlainTree {
             (found_at self.old path.now)).changes) }
         ensures err { OnErr result (self.new ≡ self.old) }
     {
-        let Place::At(label) = self.place_at(path)? else {
+        let Lookup::At(label) = self.place_at(path)? else {
             return Ok(Reply::Status(StatusCode::NoSuchFile));
         };
         let Some(node) = self.objects.get(&label) else {
@@ -312,26 +312,26 @@ impl PlainTree {
     ) -> Result<Reply, AllocError>
         ensures reply { IfOk result (λ reply. reply
             ≡ (unless_root path.now (open_file self.old session (stamp number moment)
-            (opening path.now flags attrs.now) (place_at self.old path.now))).reply) }
+            (opening path.now flags attrs.now) (look_up self.old path.now))).reply) }
         ensures tree { OnOk result (self.new
             ≡ done self.old (unless_root path.now (open_file self.old session (stamp number moment)
-            (opening path.now flags attrs.now) (place_at self.old path.now))).changes) }
+            (opening path.now flags attrs.now) (look_up self.old path.now))).changes) }
         ensures err { OnErr result (self.new ≡ self.old) }
     {
         if path.is_root() {
             return Ok(Reply::Status(StatusCode::Failure));
         }
         match self.place_at(path)? {
-            Place::NoWay => Ok(Reply::Status(StatusCode::NoSuchFile)),
-            Place::At(_) if flags.create && flags.exclusive => {
+            Lookup::NoWay => Ok(Reply::Status(StatusCode::NoSuchFile)),
+            Lookup::At(_) if flags.create && flags.exclusive => {
                 Ok(Reply::Status(StatusCode::Failure))
             }
-            Place::At(label) => self.open_present(session, number, moment, label, flags),
-            Place::Absent if !flags.create => Ok(Reply::Status(StatusCode::NoSuchFile)),
-            Place::Absent if self.has_all_handles(session) => {
+            Lookup::At(label) => self.open_present(session, number, moment, label, flags),
+            Lookup::Absent if !flags.create => Ok(Reply::Status(StatusCode::NoSuchFile)),
+            Lookup::Absent if self.has_all_handles(session) => {
                 Ok(Reply::Status(StatusCode::Failure))
             }
-            Place::Absent => {
+            Lookup::Absent => {
                 let parent = self.directory_at(&path.parent(self.alloc)?);
                 let made = Metadata::new_object(0o644, moment, attrs);
                 let file = Node::file(made, WholeContents::new(self.alloc));

@@ -3,7 +3,7 @@
 ghost use Rattle.std.specs.Option.{is_some, option_map};
 ghost use Rattle.std.specs.Prelude.{◌≡◌, ◌||◌, ◌++◌, ℕ, cond, false, filter, IfOk, OnOk, OnErr};
 ghost use Rattle.sf_reply.specs.declared.reply.StatusCode.TheVariants.{Failure};
-ghost use Rattle.sf_call.specs.Tree.{after_front, place_at, found_object, object_of};
+ghost use Rattle.sf_call.specs.Tree.{after_front, look_up, found_object, object_of};
 ghost use Rattle.sf_call.specs.Moves.{is_outside, moved};
 ghost use Rattle.sf_call.specs.Changes.{changed, done};
 ghost use Rattle.sf_call.specs.Changes.Change.{Move};
@@ -13,7 +13,7 @@ ghost use Rattle.sf_call.specs.Calls.{moves, rename, replace_by, posix_rename, r
 use super::PlainTree;
 use crate::copies::copy_of;
 use crate::sweep::sweep;
-use sf_call::Place;
+use sf_call::Lookup;
 use sf_path::Path;
 use sf_reply::{Reply, StatusCode};
 use std::alloc::{AllocError, Global};
@@ -118,25 +118,25 @@ impl PlainTree {
     ) -> Result<Reply, AllocError>
         ensures reply { IfOk result (λ reply. reply
             ≡ (unless_root old.now (unless_root new.now
-            (rename self.old moment old.now new.now (place_at self.old old.now)))).reply) }
+            (rename self.old moment old.now new.now (look_up self.old old.now)))).reply) }
         ensures tree { OnOk result (self.new
             ≡ done self.old (unless_root old.now (unless_root new.now
-            (rename self.old moment old.now new.now (place_at self.old old.now)))).changes) }
+            (rename self.old moment old.now new.now (look_up self.old old.now)))).changes) }
         ensures err { OnErr result (self.new ≡ self.old) }
     {
         if old.is_root() || new.is_root() {
             return Ok(Reply::Status(StatusCode::Failure));
         }
-        let Place::At(_) = self.place_at(old)? else {
+        let Lookup::At(_) = self.place_at(old)? else {
             return Ok(Reply::Status(StatusCode::NoSuchFile));
         };
         if are_nested(old, new) {
             return Ok(Reply::Status(StatusCode::Failure));
         }
         match self.place_at(new)? {
-            Place::NoWay => Ok(Reply::Status(StatusCode::NoSuchFile)),
-            Place::At(_) => Ok(Reply::Status(StatusCode::Failure)),
-            Place::Absent => self.move_path(moment, old, new),
+            Lookup::NoWay => Ok(Reply::Status(StatusCode::NoSuchFile)),
+            Lookup::At(_) => Ok(Reply::Status(StatusCode::Failure)),
+            Lookup::Absent => self.move_path(moment, old, new),
         }
     }
 
@@ -185,16 +185,16 @@ impl PlainTree {
     ) -> Result<Reply, AllocError>
         ensures reply { IfOk result (λ reply. reply
             ≡ (unless_root old.now (unless_root new.now
-            (posix_rename self.old moment old.now new.now (place_at self.old old.now)))).reply) }
+            (posix_rename self.old moment old.now new.now (look_up self.old old.now)))).reply) }
         ensures tree { OnOk result (self.new
             ≡ done self.old (unless_root old.now (unless_root new.now
-            (posix_rename self.old moment old.now new.now (place_at self.old old.now)))).changes) }
+            (posix_rename self.old moment old.now new.now (look_up self.old old.now)))).changes) }
         ensures err { OnErr result (self.new ≡ self.old) }
     {
         if old.is_root() || new.is_root() {
             return Ok(Reply::Status(StatusCode::Failure));
         }
-        let Place::At(label) = self.place_at(old)? else {
+        let Lookup::At(label) = self.place_at(old)? else {
             return Ok(Reply::Status(StatusCode::NoSuchFile));
         };
         if old == new {
@@ -204,14 +204,14 @@ impl PlainTree {
             return Ok(Reply::Status(StatusCode::Failure));
         }
         match self.place_at(new)? {
-            Place::NoWay => Ok(Reply::Status(StatusCode::NoSuchFile)),
-            Place::At(at) if self.is_same_file(label, at) => {
+            Lookup::NoWay => Ok(Reply::Status(StatusCode::NoSuchFile)),
+            Lookup::At(at) if self.is_same_file(label, at) => {
                 Ok(Reply::Status(StatusCode::Success))
             }
-            Place::At(at) if !self.gives_way(at, old, new) => {
+            Lookup::At(at) if !self.gives_way(at, old, new) => {
                 Ok(Reply::Status(StatusCode::Failure))
             }
-            Place::Absent | Place::At(_) => self.move_path(moment, old, new),
+            Lookup::Absent | Lookup::At(_) => self.move_path(moment, old, new),
         }
     }
 }

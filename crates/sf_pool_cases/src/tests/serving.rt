@@ -1,7 +1,7 @@
 //! Sessions served over lines in memory, at a desk on a core that is lent to it.
 
 ghost use Rattle.std.specs.Prelude.{◌≡◌, ◌++◌, ◌∷◌, [], Some, true, map, IfSome};
-ghost use Rattle.sf_audit.specs.Audits.{told};
+ghost use Rattle.sf_audit.specs.Audits.{call_record};
 ghost use Rattle.sf_pool.specs.Desks.{New, kept_calls};
 
 use super::*;
@@ -9,7 +9,7 @@ use sf_call::CoreFault;
 use sf_cases::requests::stat;
 use sf_cases::{RisingClock, StillClock, hex_packets};
 use sf_line::{LineCall, MemoryLine, Pieces};
-use sf_pool::{Begin, NoGate, Stay, serve};
+use sf_pool::{Begin, NoObserver, Stay, serve};
 use sf_session::ServeFault;
 
 mod failing;
@@ -74,7 +74,7 @@ impl Desk for OwnDesk<'_> {
         self.stay.begin(self.core, request, moment)
     }
 
-    fn step(&mut self) -> Told {
+    fn step(&mut self) -> StepResult {
         self.stay.step(self.core).told
     }
 
@@ -150,7 +150,7 @@ impl<R: Abort> Desk for TellingDesk<'_, R> {
         outcome
     }
 
-    fn step(&mut self) -> Told {
+    fn step(&mut self) -> StepResult {
         self.own.step()
     }
 
@@ -184,7 +184,7 @@ fn served(
         &mut desk,
         &mut line,
         &mut StillClock,
-        &NoGate,
+        &NoObserver,
         &mut share,
     );
     let written = Vec::from_slice(alloc, line.output())?;
@@ -242,7 +242,7 @@ fn prompt_replies(rt: HostRuntime) -> Result<(), Fail> {
         &mut desk,
         &mut line,
         &mut StillClock,
-        &NoGate,
+        &NoObserver,
         &mut share,
     )?;
     let want = [
@@ -271,7 +271,14 @@ fn begins_and_a_refusal(rt: HostRuntime) -> Result<(), Fail> {
     let mut line = MemoryLine::new(alloc, &input, whole, whole);
     let mut clock = RisingClock::new(100);
     let mut share = Share::zero();
-    serve(alloc, &mut desk, &mut line, &mut clock, &NoGate, &mut share)?;
+    serve(
+        alloc,
+        &mut desk,
+        &mut line,
+        &mut clock,
+        &NoObserver,
+        &mut share,
+    )?;
     assert_eq!(rt; line.output(), want.as_slice());
     assert_eq!(rt; share.calls(), 2);
     let begins = vec![in alloc;

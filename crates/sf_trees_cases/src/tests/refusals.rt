@@ -58,7 +58,7 @@ fn too_large(rt: HostRuntime) {
         ..NO_ATTRS
     };
     sets(&rt, &mut asker, b"/d/f", size);
-    let mut tree = Tree::new(alloc);
+    let mut tree = FoundTree::new(alloc);
     let walked = walk(&mut asker, alloc, &mut tree);
     assert!(&rt;
         walked == refused(TreeFault::TooLarge(1 << 40), 5, 4),

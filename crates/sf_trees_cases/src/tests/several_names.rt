@@ -55,7 +55,7 @@ fn no_session_for_marks(rt: HostRuntime) {
             Err(_) => panic!(&rt; "no session"),
         }
     }
-    let mut tree = Tree::new(alloc);
+    let mut tree = FoundTree::new(alloc);
     let walked = walk(&mut asker, alloc, &mut tree);
     assert!(&rt; walked == refused(TreeFault::Sessions, 1, 0), "{walked:?}");
     asker.finish(last);

@@ -4,7 +4,7 @@ ghost use Rattle.std.specs.Prelude.{◌≡◌, true};
 ghost use Rattle.sf_inode.specs.Stores.{StoreState, is_directory_at};
 ghost use Rattle.sf_walk.specs.declared.finding.Ways.{Ways};
 ghost use Rattle.sf_walk.specs.declared.walking.Walk.TheVariants.{Ready};
-ghost use Rattle.sf_walk.specs.Routes.{Stands, route_of};
+ghost use Rattle.sf_walk.specs.Routes.{HoldsWay, route_of};
 ghost use Rattle.sf_walk.specs.Ways.{IsLocated};
 
 use super::calls::located;
@@ -21,7 +21,7 @@ const OTHER: u64 = 9;
 
 /// A call at its beginning.
 pub(super) fn fresh(request: Request) -> Call
-    ensures { (s : StoreState) → Stands s (route_of result.request) result.stage }
+    ensures { (s : StoreState) → HoldsWay s (route_of result.request) result.stage }
 {
     Call {
         number: NUMBER,
@@ -37,9 +37,9 @@ pub(super) fn fresh(request: Request) -> Call
 /// Takes a call one step on, and notes where it then stands.
 pub(super) fn step(store: &mut Store, call: &mut Call) -> Walk
     requires root { is_directory_at store.old.nodes store.old.root ≡ true }
-    requires stands { Stands store.old (route_of call.old.request) call.old.stage }
+    requires stands { HoldsWay store.old (route_of call.old.request) call.old.stage }
     ensures root { is_directory_at store.new.nodes store.new.root ≡ true }
-    ensures stands { Stands store.new (route_of call.new.request) call.new.stage }
+    ensures stands { HoldsWay store.new (route_of call.new.request) call.new.stage }
     ensures located { (ways : Ways) → result ≡ Ready ways
         → IsLocated store.new call.new.request ways }
 {
@@ -53,7 +53,7 @@ pub(super) fn step(store: &mut Store, call: &mut Call) -> Walk
 /// Takes a call through these stages, and one step more.
 fn steps(rt: &impl Abort, store: &mut Store, call: &mut Call, stages: &[Stage]) -> Walk
     requires root { is_directory_at store.old.nodes store.old.root ≡ true }
-    requires stands { Stands store.old (route_of call.old.request) call.old.stage }
+    requires stands { HoldsWay store.old (route_of call.old.request) call.old.stage }
     ensures located { (ways : Ways) → result ≡ Ready ways
         → IsLocated store.new call.new.request ways }
 {

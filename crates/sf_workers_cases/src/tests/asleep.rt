@@ -70,7 +70,7 @@ impl Sleeper {
     }
 }
 
-impl Gate for Sleeper {
+impl StepObserver for Sleeper {
     fn stops(&self, _session: u64, _number: u64, _steps: u64) -> bool {
         true
     }
@@ -106,12 +106,12 @@ fn send_in_turn<'a>(
     first: MemoryLine<'a>,
     second: MemoryLine<'a>,
     third: Option<MemoryLine<'a>>,
-    gate: &Sleeper,
+    observer: &Sleeper,
 ) -> bool {
-    if sender.send(rt, first).is_err() || !wait_for(&gate.seen, 1) {
+    if sender.send(rt, first).is_err() || !wait_for(&observer.seen, 1) {
         return false;
     }
-    if sender.send(rt, second).is_err() || !wait_for(&gate.asleep, 1) {
+    if sender.send(rt, second).is_err() || !wait_for(&observer.asleep, 1) {
         return false;
     }
     let Some(third) = third else {
@@ -131,7 +131,7 @@ fn is_woken<R: Threads + Wait + Abort + Sync>(
 ) -> Result<(), Fail> {
     let core = Mutex::new(Core::new(alloc)?);
     let hall = Hall::new();
-    let gate = Sleeper::new(script);
+    let observer = Sleeper::new(script);
     let clocks = clocks(alloc, 3)?;
     let (sender, lines) = unbounded(alloc)?;
     let first = line(alloc, inputs.0);
@@ -142,12 +142,12 @@ fn is_woken<R: Threads + Wait + Abort + Sync>(
     };
     let (were_sent, all) = thread::join(
         rt,
-        || send_in_turn(rt, sender, first, second, third, &gate),
-        || serve_all(rt, alloc, &core, &hall, &lines, clocks, &gate, true),
+        || send_in_turn(rt, sender, first, second, third, &observer),
+        || serve_all(rt, alloc, &core, &hall, &lines, clocks, &observer, true),
     );
     assert!(rt; were_sent);
-    assert_eq!(rt; gate.done.load(Ordering::SeqCst), 1);
-    assert_eq!(rt; gate.late.load(Ordering::SeqCst), 0);
+    assert_eq!(rt; observer.done.load(Ordering::SeqCst), 1);
+    assert_eq!(rt; observer.late.load(Ordering::SeqCst), 0);
     let (transcripts, shares) = parted(alloc, all?)?;
     let core = core.into_inner();
     assert_eq!(rt; audit(&core, &transcripts), Ok(()));

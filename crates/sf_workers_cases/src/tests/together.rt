@@ -1,4 +1,4 @@
-//! Two sessions at once, as the running program serves them: no gate holds a call in mid-walk.
+//! Two sessions at once, as the running program serves them: no observer holds a call in mid-walk.
 
 ghost use Rattle.std.specs.Prelude.{◌≤◌, None};
 ghost use Rattle.sf_line.specs.Lines.{Rose};
@@ -154,7 +154,7 @@ impl InTheMidst<'_> {
     }
 }
 
-impl Gate for InTheMidst<'_> {
+impl StepObserver for InTheMidst<'_> {
     fn stops(&self, session: u64, number: u64, steps: u64) -> bool {
         session == 1 && number == 5 && steps == 0
     }
@@ -287,13 +287,13 @@ fn send_both<'a>(
 }
 
 /// Serves two sessions by two workers.
-fn serve_two<'a, R: Threads + Wait + Abort + Sync, G: Gate + Sync>(
+fn serve_two<'a, R: Threads + Wait + Abort + Sync, G: StepObserver + Sync>(
     rt: &R,
     alloc: Global,
     first: WaitingLine<'a>,
     second: WaitingLine<'a>,
     two: &'a Two,
-    gate: &G,
+    observer: &G,
 ) -> Result<Core, Fail> {
     let core = Mutex::new(Core::with_keep(alloc, 1)?);
     let hall = Hall::new();
@@ -302,7 +302,7 @@ fn serve_two<'a, R: Threads + Wait + Abort + Sync, G: Gate + Sync>(
     let (were_sent, all) = thread::join(
         rt,
         || send_both(rt, sender, first, second, two),
-        || serve_all(rt, alloc, &core, &hall, &lines, clocks, gate, false),
+        || serve_all(rt, alloc, &core, &hall, &lines, clocks, observer, false),
     );
     assert!(rt; were_sent);
     assert_eq!(rt; all?.len(), 2);
@@ -321,8 +321,8 @@ fn one_call_beside_many(rt: HostRuntime) -> Result<(), Fail> {
     let two = Two::new();
     let first = WaitingLine::new(alloc, &many, &two, Waits::Ending);
     let second = WaitingLine::new(alloc, &one, &two, Waits::Reading);
-    let gate = InTheMidst { two: &two };
-    serve_two(&rt, alloc, first, second, &two, &gate)?;
+    let observer = InTheMidst { two: &two };
+    serve_two(&rt, alloc, first, second, &two, &observer)?;
     let told_at = two.told_at.load(Ordering::SeqCst);
     assert!(rt; told_at >= BEGUN && told_at < SOON);
     Ok(())
@@ -334,7 +334,7 @@ struct Telling<'a> {
     two: &'a Two,
 }
 
-impl Gate for Telling<'_> {
+impl StepObserver for Telling<'_> {
     fn stops(&self, _session: u64, _number: u64, _steps: u64) -> bool {
         false
     }
@@ -379,7 +379,7 @@ fn overtakings(core: &Core) -> usize {
 }
 
 /// While one session walks down to a deep directory, over and over, another one's calls begin and
-/// are answered in mid-walk, with the program's own gate, which stops nobody.
+/// are answered in mid-walk, with the program's own observer, which stops nobody.
 #[test]
 fn walks_side_by_side(rt: HostRuntime) -> Result<(), Fail> {
     let alloc = rt.alloc();
@@ -402,7 +402,7 @@ fn walks_side_by_side(rt: HostRuntime) -> Result<(), Fail> {
     );
     drop(sender);
     let clocks = clocks(alloc, 2)?;
-    serve_all(&rt, alloc, &core, &hall, &lines, clocks, &NoGate, false)?;
+    serve_all(&rt, alloc, &core, &hall, &lines, clocks, &NoObserver, false)?;
     let core = core.into_inner();
     assert_eq!(rt; core.calls(), 16_010);
     assert!(rt; overtakings(&core) > 0);

@@ -3,14 +3,14 @@ use Rattle.sf_call.specs.declared.call.Stage.{Stage}
 use Rattle.sf_call.specs.Unanswered.{at_stage}
 use Rattle.sf_walk.specs.declared.walking.Walk.{Walk}
 use Rattle.sf_walk.specs.declared.walking.Walk.TheVariants as walk
-use Rattle.sf_walk.specs.Routes.{Route, Stands, route_in}
+use Rattle.sf_walk.specs.Routes.{Route, HoldsWay, route_in}
 use Rattle.sf_walk.specs.Steps.{Advances, walker}
-use Rattle.sf_core.specs.declared.parts.Outcome.TheVariants as outcome
+use Rattle.sf_core.specs.declared.parts.WalkOutcome.TheVariants as outcome
 use Rattle.sf_core.specs.Lanes.{LaneView}
 use Rattle.sf_core.specs.Parts.{PartsView}
 use Rattle.sf_core.specs.Sound.{IsCore}
-use Rattle.sf_core.specs.Stepping.{Stepped, Moved, come_to}
-use Rattle.sf_core.proofs.Making.{stands}
+use Rattle.sf_core.specs.Stepping.{CallStep, Moved, come_to}
+use Rattle.sf_core.proofs.Deciding.{stands}
 use Rattle.sf_core.proofs.Maps.{reply_is}
 use Rattle.sf_core.proofs.Walks.{moved_core, moved_more, moved_free, none_moved, rooted}
 use Rattle.sf_core.proofs.UnderWay.{staged_there, step_more, under_way, come_same, stage_stays}
@@ -39,7 +39,7 @@ advance-requires-clause-stands c =
     let p = c.requires.core.0 in
     let number = c.requires.core.1 in
     let it = c.loop.invariant.walks p number c.requires.core.2 in
-    subst (λ (r : Route). Stands c.loop.store r c.loop.stage) (sym c.requires.route)
+    subst (λ (r : Route). HoldsWay c.loop.store r c.loop.stage) (sym c.requires.route)
     (stands (come_to p number c.loop.store c.loop.stage) it.3.history it.3.sound number (at_stage c.loop.stage call)
     (under_way number call p c.args.store.now c.loop.store c.args.stage.now c.loop.stage c.requires.core.2 it.3 it.4).call
     (reply_is (at_stage c.loop.stage call) ∙ c.requires.core.2.undecided))
@@ -55,7 +55,7 @@ loop-preserved c =
           let it = c.loop.invariant.walks p number on in
           let q = come_to p number c.loop.store c.loop.stage in
           let q' = come_to p number to after in
-          let stepped : Stepped q call.session number (outcome.Walked (walk.Moved after)) q' =
+          let stepped : CallStep q call.session number (outcome.Walked (walk.Moved after)) q' =
           step_more number call p c.args.store.now c.loop.store to c.args.stage.now c.loop.stage (walk.Moved after) on it.3 it.4
           (subst (λ (k : ℕ). k < 2 ^ 64) c.look_ups-count.ensures c.look_ups-count.type_inv)
           (subst (λ (r : Route). Advances c.loop.store to (walker call.number r c.loop.stage) (walk.Moved after)) c.requires.route
@@ -84,7 +84,7 @@ returns-in_default c = λ p number on.
       mid = q;
       few = omega (arith, it.1, less);
       moved = it.2;
-      last = subst (λ (g : Stage). Stepped q call.session number (outcome.Walked result) (come_to p number to g)) (stage_stays result c.loop.stage c.in_default.not-Moved)
+      last = subst (λ (g : Stage). CallStep q call.session number (outcome.Walked result) (come_to p number to g)) (stage_stays result c.loop.stage c.in_default.not-Moved)
           (step_more number call p c.args.store.now c.loop.store to c.args.stage.now c.loop.stage result on it.3 it.4
           (subst (λ (k : ℕ). k < 2 ^ 64) c.look_ups-count.ensures c.look_ups-count.type_inv)
           (subst (λ (r : Route). Advances c.loop.store to (walker call.number r c.loop.stage) result) c.requires.route c.advance.ensures));
@@ -102,7 +102,7 @@ step-requires-clause-stands c =
     let p = c.requires.core.0 in
     let number = c.requires.core.1 in
     let it = c.loop.invariant.walks p number c.requires.core.2 in
-    subst (λ (r : Route). Stands c.loop.store r c.loop.stage) (sym c.requires.route)
+    subst (λ (r : Route). HoldsWay c.loop.store r c.loop.stage) (sym c.requires.route)
     (stands (come_to p number c.loop.store c.loop.stage) it.3.history it.3.sound number (at_stage c.loop.stage call)
     (under_way number call p c.args.store.now c.loop.store c.args.stage.now c.loop.stage c.requires.core.2 it.3 it.4).call
     (reply_is (at_stage c.loop.stage call) ∙ c.requires.core.2.undecided))
@@ -121,7 +121,7 @@ returns c = λ p number on.
       mid = q;
       few = let fits = all some in omega (arith, it.1, fits);
       moved = it.2;
-      last = subst (λ (g : Stage). Stepped q call.session number (outcome.Walked step.result) (come_to p number step.new.store g)) (sym step.ensures.stage)
+      last = subst (λ (g : Stage). CallStep q call.session number (outcome.Walked step.result) (come_to p number step.new.store g)) (sym step.ensures.stage)
           (step_more number call p c.args.store.now c.loop.store step.new.store c.args.stage.now c.loop.stage step.result on it.3 it.4 step.ensures.fits (subst (λ (r : Route). Advances c.loop.store step.new.store (walker call.number r c.loop.stage) step.result) c.requires.route step.ensures.advances));
       full = λ after e. let fits = all some in omega (arith, it.1, fits, done);
     }

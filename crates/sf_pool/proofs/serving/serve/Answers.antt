@@ -1,7 +1,7 @@
 use Rattle.std.proofs.Common.{refl, sym, subst, inl, inr}
 use Rattle.sf_session.specs.declared.fault.ServeFault.{ServeFault}
 use Rattle.sf_session.specs.declared.fault.ServeFault.TheVariants.{OutOfMemory}
-use Rattle.sf_engine.specs.Worlds.{new_told}
+use Rattle.sf_engine.specs.Worlds.{new_state}
 use Rattle.sf_serving.specs.Serving.{line_view}
 use Rattle.sf_serving.proofs.Laws.{if_err_at, rests_new}
 use Rattle.sf_pool.specs.declared.at_desk.Standing.{Standing}
@@ -29,7 +29,7 @@ returns-in-Ok-served-clause-served g c =
     let start = desk_scene (g.D.Desk.at c.args.desk.now) (g.D.Desk.begins c.args.desk.now) (g.C.Clock.told c.args.clock.now) in
     let joined = desk_scene (g.D.Desk.at c.join.new.self) (g.D.Desk.begins c.join.new.self) (g.C.Clock.told c.args.clock.now) in
     let host = c.new-host.result in
-    let begun : IsToldAt start host.standing host.session joined new_told = subst (λ (s : Standing). IsToldAt start s host.session joined new_told) (sym c.new-host.ensures.standing)
+    let begun : IsToldAt start host.standing host.session joined new_state = subst (λ (s : Standing). IsToldAt start s host.session joined new_state) (sym c.new-host.ensures.standing)
     (told_new start (g.D.Desk.at c.join.new.self) (g.D.Desk.begins c.join.new.self) host.session c.join.ensures.begins c.join.ensures.calls c.in-Ok.ensures.begun c.new-host.ensures.session) in
     let after = c.serve_session-served.new.host in
     let now = desk_scene (g.D.Desk.at c.serve_session-served.new.place) (g.D.Desk.begins c.serve_session-served.new.place) (g.C.Clock.told c.serve_session-served.new.clock) in
@@ -42,7 +42,7 @@ returns-clause-stopped g c =
     let start = desk_scene (g.D.Desk.at c.args.desk.now) (g.D.Desk.begins c.args.desk.now) (g.C.Clock.told c.args.clock.now) in
     let joined = desk_scene (g.D.Desk.at c.join.new.self) (g.D.Desk.begins c.join.new.self) (g.C.Clock.told c.args.clock.now) in
     let host = c.new-host.result in
-    let begun : IsToldAt start host.standing host.session joined new_told = subst (λ (s : Standing). IsToldAt start s host.session joined new_told) (sym c.new-host.ensures.standing)
+    let begun : IsToldAt start host.standing host.session joined new_state = subst (λ (s : Standing). IsToldAt start s host.session joined new_state) (sym c.new-host.ensures.standing)
     (told_new start (g.D.Desk.at c.join.new.self) (g.D.Desk.begins c.join.new.self) host.session c.join.ensures.begins c.join.ensures.calls c.in-Ok.ensures.begun c.new-host.ensures.session) in
     let after = c.serve_session-served.new.host in
     let now = desk_scene (g.D.Desk.at c.serve_session-served.new.place) (g.D.Desk.begins c.serve_session-served.new.place) (g.C.Clock.told c.serve_session-served.new.clock) in

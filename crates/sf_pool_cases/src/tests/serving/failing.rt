@@ -78,7 +78,7 @@ fn serve_over(alloc: Global, core: &mut Core, input: &[u8], fails: Fails) -> Res
     let mut line = line(alloc, input, fails);
     let mut share = Share::zero();
     let clock = &mut StillClock;
-    let ended = serve(alloc, &mut desk, &mut line, clock, &NoGate, &mut share);
+    let ended = serve(alloc, &mut desk, &mut line, clock, &NoObserver, &mut share);
     let written = Vec::from_slice(alloc, line.output())?;
     let OwnDesk { core: _, stay } = desk;
     Ok(Came {

@@ -28,7 +28,7 @@ fn writes(alloc: Global, input: &[u8]) -> Result<Vec<usize>, Fail> {
     let mut line = MemoryLine::new(alloc, input, whole, whole);
     let mut share = Share::zero();
     let clock = &mut StillClock;
-    serve(alloc, &mut desk, &mut line, clock, &NoGate, &mut share)?;
+    serve(alloc, &mut desk, &mut line, clock, &NoObserver, &mut share)?;
     let mut counts = Vec::new(alloc);
     for call in line.calls() {
         if let LineCall::Write(count) = call {

@@ -1,7 +1,7 @@
 use Rattle.std.proofs.Common.{inl, inr, refl, ap, ◌∙◌, Ok, [], ◌∷◌, ◌++◌}
 use Rattle.std.proofs.lemmas.Result.{err_from_is_err_and}
 use Rattle.sf_trees.specs.Deeds.{Begins, Ends}
-use Rattle.sf_trees.specs.Numbers.{items_of}
+use Rattle.sf_trees.specs.Numbers.{mark_items}
 use Rattle.sf_trees.proofs.Marking.{both_items}
 use Rattle.sf_trees.proofs.numbers.mark_by_session.Goals as goal
 
@@ -24,11 +24,11 @@ returns g c =
         marking = marking;
         tried = t.0;
         restored = r.0;
-        came = items_of c.try_marks-came.result;
+        came = mark_items c.try_marks-came.result;
         back = c.restore_all-back.result;
         parts = refl;
         tries = t.2;
         restores = r.2;
-        is = ap items_of c.both.ensures ∙ both_items c.try_marks-came.result c.restore_all-back.result;
+        is = ap mark_items c.both.ensures ∙ both_items c.try_marks-came.result c.restore_all-back.result;
       }),
     )

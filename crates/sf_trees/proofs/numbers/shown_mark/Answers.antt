@@ -2,7 +2,7 @@ use Rattle.std.proofs.Common.{List, ℕ, length, Ok, [], ◌∷◌, refl, sym, a
 use Rattle.std.proofs.lemmas.Result.{err_from_is_err_and}
 use Rattle.sf_request.specs.declared.request.WireRequest.TheVariants as request
 use Rattle.sf_reply.specs.declared.reply.Reply.TheVariants as reply
-use Rattle.sf_trees.specs.Deeds.{Asks, at_place, attrs_by}
+use Rattle.sf_trees.specs.Deeds.{Asks, request_place, attrs_by}
 use Rattle.sf_trees.proofs.Looks.{attrs_fails, attrs_gives, look_refused, look_done}
 use Rattle.sf_trees.proofs.numbers.shown_mark.Goals as goal
 
@@ -10,13 +10,13 @@ pub returns-in_err-attrs : goal.returns-in_err-attrs
 returns-in_err-attrs g c =
     let p = err_from_is_err_and c.from_residual.result c.from_residual.ensures.1 in
     let path = c.deref.result.now in
-    let place = at_place 17 (length path) in
+    let place = request_place 17 (length path) in
     rw (p.1, p.2) (look_refused g.S.Server.reaches _ _ c.args.session (request.Stat path) (attrs_by place) _ tt (attrs_fails place _) c.in_err-attrs.ensures)
 
 pub returns-then-is_linked_at : goal.returns-then-is_linked_at
 returns-then-is_linked_at g c =
     let path = c.deref.result.now in
-    let place = at_place 17 (length path) in
+    let place = request_place 17 (length path) in
     let due = Ok (reply.Attrs c.in_ok-attrs.attrs) in
     let d = look_done g.S.Server.reaches _ _ c.args.session (request.Stat path) (attrs_by place) _ due tt (attrs_gives place _) c.in_ok-attrs.ensures in
     let asked = d.2.1 ∙ ap (λ (p : List ℕ). Asks c.args.session (request.Stat p) due ∷ []) c.deref.ensures.value in
@@ -25,7 +25,7 @@ returns-then-is_linked_at g c =
 pub returns : goal.returns
 returns g c =
     let path = c.deref.result.now in
-    let place = at_place 17 (length path) in
+    let place = request_place 17 (length path) in
     let due = Ok (reply.Attrs c.in_ok-attrs.attrs) in
     let d = look_done g.S.Server.reaches _ _ c.args.session (request.Stat path) (attrs_by place) _ due tt (attrs_gives place _) c.in_ok-attrs.ensures in (
       d.0,

@@ -1,6 +1,6 @@
 use Rattle.std.proofs.Common.{◌≡◌, ◌+◌, ℕ, List, length, refl, sym, ap, subst, arith}
 use Rattle.std.proofs.lemmas.Option.{slice_get_read}
-use Rattle.sf_trees.specs.Numbers.{is_file_at}
+use Rattle.sf_trees.specs.Numbers.{is_found_file}
 use Rattle.sf_trees.proofs.Numbering.{Numbered, none_numbered, numbered_on, all_numbered}
 use Rattle.sf_trees.proofs.tree.number_files.Goals as goal
 
@@ -14,7 +14,7 @@ loop-at-preserved c =
     let found = c.args.found.now in
     let one = c.index-found-at in
     let there = slice_get_read found (length found) c.loop-at.at one.result refl c.loop-at-test.true one.is in
-    let step = numbered_on found c.args.marks.now c.loop-at.given.items c.number_at.new.given.items c.loop-at.numbers.items c.loop-at.next c.number_at.new.next c.loop-at.at c.in-Some.number _ (ap is_file_at there) c.loop-at.invariant c.in-Some.ensures in
+    let step = numbered_on found c.args.marks.now c.loop-at.given.items c.number_at.new.given.items c.loop-at.numbers.items c.loop-at.next c.number_at.new.next c.loop-at.at c.in-Some.number _ (ap is_found_file there) c.loop-at.invariant c.in-Some.ensures in
     subst (λ (l : List ℕ). Numbered found c.args.marks.now c.number_at.new.given.items l c.number_at.new.next (c.loop-at.at + 1)) (sym c.in_ok-keep_number.ensures.ok) step
 
 pub returns : goal.returns

@@ -3,7 +3,7 @@ use Rattle.std.proofs.lemmas.Result.{err_from_is_err_and}
 use Rattle.sf_field.specs.Fields.{be64}
 use Rattle.sf_request.specs.declared.request.WireRequest.TheVariants as request
 use Rattle.sf_reply.specs.declared.reply.Reply.TheVariants as reply
-use Rattle.sf_trees.specs.Deeds.{at_place, data_by}
+use Rattle.sf_trees.specs.Deeds.{request_place, data_by}
 use Rattle.sf_trees.specs.Makings.{piece}
 use Rattle.sf_trees.proofs.Looks.{data_fails, data_gives, look_refused, look_done}
 use Rattle.sf_trees.proofs.walking.read_more.Goals as goal
@@ -11,12 +11,12 @@ use Rattle.sf_trees.proofs.walking.read_more.Goals as goal
 pub returns-in_err-bytes : goal.returns-in_err-bytes
 returns-in_err-bytes g c =
     let p = err_from_is_err_and c.from_residual.result c.from_residual.ensures.1 in
-    let place = at_place 5 c.args.named in
+    let place = request_place 5 c.args.named in
     rw (p.1, p.2) (look_refused g.S.Server.reaches _ _ c.args.session (request.Read (be64 c.args.handle) c.len.result piece) (data_by place) _ tt (data_fails place _) c.in_err-bytes.ensures)
 
 pub returns-then-len-eq0 : goal.returns-then-len-eq0
 returns-then-len-eq0 g c =
-    let place = at_place 5 c.args.named in
+    let place = request_place 5 c.args.named in
     let q = request.Read (be64 c.args.handle) c.len.result piece in
     let due = Ok (reply.Data c.in_ok-bytes.bytes) in
     let d = look_done g.S.Server.reaches _ _ c.args.session q (data_by place) _ due tt (data_gives place _) c.in_ok-bytes.ensures in (

@@ -2,9 +2,9 @@ use Rattle.std.proofs.Common.{◌∙◌, Ok, List, [], ◌∷◌, ◌++◌, ap, 
 use Rattle.std.proofs.lemmas.Result.{err_from_is_err_and}
 use Rattle.sf_request.specs.declared.request.WireRequest.TheVariants as request
 use Rattle.sf_reply.specs.declared.reply.Reply.TheVariants as reply
-use Rattle.sf_trees.specs.declared.found.Name.{Name}
+use Rattle.sf_trees.specs.declared.found.FoundName.{FoundName}
 use Rattle.sf_trees.specs.declared.found.Found.{Found}
-use Rattle.sf_trees.specs.Deeds.{at_place, attrs_by}
+use Rattle.sf_trees.specs.Deeds.{request_place, attrs_by}
 use Rattle.sf_trees.specs.Walks.{root_path, WalksOn}
 use Rattle.sf_trees.proofs.Looks.{attrs_fails, attrs_gives, look_refused, look_done, looks_append, halts_behind}
 use Rattle.sf_trees.proofs.Walked.{tree_walked}
@@ -13,32 +13,32 @@ use Rattle.sf_trees.proofs.walking.walk_by.Goals as goal
 pub returns-in_err-attrs : goal.returns-in_err-attrs
 returns-in_err-attrs g c =
     let p = err_from_is_err_and c.from_residual.result c.from_residual.ensures.1 in
-    let place = at_place 17 1 in
+    let place = request_place 17 1 in
     rw (p.1, p.2) (look_refused g.S.Server.reaches _ _ c.args.session (request.Stat root_path) (attrs_by place) _ tt (attrs_fails place _) c.in_err-attrs.ensures)
 
 pub returns-in_err-wait_for_root : goal.returns-in_err-wait_for_root
 returns-in_err-wait_for_root g c =
     let p = err_from_is_err_and c.from_residual-in_err-wait_for_root.result c.from_residual-in_err-wait_for_root.ensures.1 in
-    let place = at_place 17 1 in
+    let place = request_place 17 1 in
     let d = look_done g.S.Server.reaches _ _ c.args.session (request.Stat root_path) (attrs_by place) _ (Ok (reply.Attrs c.in_ok-attrs.attrs)) tt (attrs_gives place _) c.in_ok-attrs.ensures in
     rw (p.1, p.2) (d.0, d.1, (d.2.0, inl c.in_err-wait_for_root.ensures.err))
 
 pub returns-in_err-walk_on : goal.returns-in_err-walk_on
 returns-in_err-walk_on g c =
     let p = err_from_is_err_and c.from_residual-in_err-walk_on.result c.from_residual-in_err-walk_on.ensures.1 in
-    let place = at_place 17 1 in
+    let place = request_place 17 1 in
     let d = look_done g.S.Server.reaches _ _ c.args.session (request.Stat root_path) (attrs_by place) _ (Ok (reply.Attrs c.in_ok-attrs.attrs)) tt (attrs_gives place _) c.in_ok-attrs.ensures in
     rw (p.1, p.2) (halts_behind g.S.Server.reaches g.met.S.Server.on _ _ _ c.args.session _ _ d.1 d.2.0 c.in_err-walk_on.ensures)
 
 pub returns : goal.returns
 returns g c =
-    let place = at_place 17 1 in
+    let place = request_place 17 1 in
     let d = look_done g.S.Server.reaches _ _ c.args.session (request.Stat root_path) (attrs_by place) _ (Ok (reply.Attrs c.in_ok-attrs.attrs)) tt (attrs_gives place _) c.in_ok-attrs.ensures in
     let e = c.in_ok-walk_on.ensures in
     let w = c.in_ok-wait_for_root.ensures.ok in
     let waited = c.wait_for_root.new.waiting.items in
     let found = c.walk_on.new.walk.found.items in
-    let one = w.2 ∙ ap (λ (l : List Name). l ++ w.0 ∷ []) c.requires.1 in
+    let one = w.2 ∙ ap (λ (l : List FoundName). l ++ w.0 ∷ []) c.requires.1 in
     let walked = subst (λ (l : List Found). WalksOn c.args.session l waited e.0 found) c.requires.0 e.2.1 in (
       _,
       g.met.S.Server.on _ _ _ _ _ d.1 e.1,

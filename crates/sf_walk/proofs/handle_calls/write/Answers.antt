@@ -1,7 +1,7 @@
 use Rattle.std.proofs.Common.{ap, ◌∙◌, ◌+◌, nat_lt, refl}
 use Rattle.sf_call.specs.declared.limits.TheConstants.{MAX_FILE_SIZE}
 use Rattle.sf_call.specs.Calls.{write}
-use Rattle.sf_walk.proofs.Told.{gives_none}
+use Rattle.sf_walk.proofs.ReplyOnly.{gives_none}
 use Rattle.sf_walk.proofs.OpenHandles.{is_open}
 use Rattle.sf_walk.proofs.FileBytes.{refused_served, write_unmarked, write_none, write_refused, write_wants, write_served, some_bytes}
 use Rattle.sf_walk.proofs.handle_calls.write.Goals as goal

@@ -2,7 +2,7 @@ use Rattle.std.proofs.Common.{sym, ap, ◌∙◌, arith}
 use Rattle.std.proofs.lemmas.Bool.{le-leb, lt-leb}
 use Rattle.sf_reply.specs.declared.reply.StatusCode.{StatusCode}
 use Rattle.sf_call.specs.Calls.{refuses}
-use Rattle.sf_inode.specs.Stores.{names_at}
+use Rattle.sf_inode.specs.Stores.{link_count_at}
 use Rattle.sf_walk.proofs.Courses.{old_found, new_found}
 use Rattle.sf_walk.proofs.Linking.{link_no_way, link_missing, link_directory, link_nested, link_new_no_way, link_taken, link_full, link_made}
 use Rattle.sf_walk.proofs.links.link_course.Goals as goal
@@ -33,8 +33,8 @@ returns-in-At-new-clause-course c = λ t moment k.
 
 pub returns-then-links-ge-MAX_LINKS-clause-course : goal.returns-then-links-ge-MAX_LINKS-clause-course
 returns-then-links-ge-MAX_LINKS-clause-course c = λ t moment k.
-    link_full c.args.store.now t k moment c.args.old.now c.args.new.now (c.has_root.ensures.no c.if-has_root.false) c.in-At.parent c.in-At.node (old_found c.args.store.now c.args.old.now c.args.new.now c.args.ways c.requires (c.has_root.ensures.no c.if-has_root.false) _ c.in-At.is) (sym c.is_directory.ensures ∙ c.if-is_directory.false) c.in-Missing-new.into (new_found c.args.store.now c.args.old.now c.args.new.now c.args.ways c.requires (sym c.are_nested.ensures ∙ c.if-are_nested.false) c.in-At.parent c.in-At.node c.in-At.is _ c.in-Missing-new.is) (le-leb 1024 (names_at c.args.store.now.nodes c.in-At.node) (omega (arith, c.if-links-ge-MAX_LINKS.true, c.links.ensures)))
+    link_full c.args.store.now t k moment c.args.old.now c.args.new.now (c.has_root.ensures.no c.if-has_root.false) c.in-At.parent c.in-At.node (old_found c.args.store.now c.args.old.now c.args.new.now c.args.ways c.requires (c.has_root.ensures.no c.if-has_root.false) _ c.in-At.is) (sym c.is_directory.ensures ∙ c.if-is_directory.false) c.in-Missing-new.into (new_found c.args.store.now c.args.old.now c.args.new.now c.args.ways c.requires (sym c.are_nested.ensures ∙ c.if-are_nested.false) c.in-At.parent c.in-At.node c.in-At.is _ c.in-Missing-new.is) (le-leb 1024 (link_count_at c.args.store.now.nodes c.in-At.node) (omega (arith, c.if-links-ge-MAX_LINKS.true, c.links.ensures)))
 
 pub returns-else-links-ge-MAX_LINKS-clause-course : goal.returns-else-links-ge-MAX_LINKS-clause-course
 returns-else-links-ge-MAX_LINKS-clause-course c = λ t moment k.
-    link_made c.args.store.now t k moment c.args.old.now c.args.new.now (c.has_root.ensures.no c.if-has_root.false) c.in-At.parent c.in-At.node (old_found c.args.store.now c.args.old.now c.args.new.now c.args.ways c.requires (c.has_root.ensures.no c.if-has_root.false) _ c.in-At.is) (sym c.is_directory.ensures ∙ c.if-is_directory.false) c.in-Missing-new.into (new_found c.args.store.now c.args.old.now c.args.new.now c.args.ways c.requires (sym c.are_nested.ensures ∙ c.if-are_nested.false) c.in-At.parent c.in-At.node c.in-At.is _ c.in-Missing-new.is) (lt-leb 1024 (names_at c.args.store.now.nodes c.in-At.node) (omega (arith, c.if-links-ge-MAX_LINKS.false, c.links.ensures)))
+    link_made c.args.store.now t k moment c.args.old.now c.args.new.now (c.has_root.ensures.no c.if-has_root.false) c.in-At.parent c.in-At.node (old_found c.args.store.now c.args.old.now c.args.new.now c.args.ways c.requires (c.has_root.ensures.no c.if-has_root.false) _ c.in-At.is) (sym c.is_directory.ensures ∙ c.if-is_directory.false) c.in-Missing-new.into (new_found c.args.store.now c.args.old.now c.args.new.now c.args.ways c.requires (sym c.are_nested.ensures ∙ c.if-are_nested.false) c.in-At.parent c.in-At.node c.in-At.is _ c.in-Missing-new.is) (lt-leb 1024 (link_count_at c.args.store.now.nodes c.in-At.node) (omega (arith, c.if-links-ge-MAX_LINKS.false, c.links.ensures)))

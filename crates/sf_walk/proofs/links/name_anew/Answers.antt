@@ -3,7 +3,7 @@ use Rattle.sf_call.specs.Attributes.{modified_at}
 use Rattle.sf_inode.specs.Nodes.{with_metadata, with_content, with_name, more_content}
 use Rattle.sf_inode.specs.Stores.{StoreState, edited}
 use Rattle.sf_walk.specs.declared.links.LinkCourse.{LinkCourse}
-use Rattle.sf_walk.specs.Ways.{last_of}
+use Rattle.sf_walk.specs.Ways.{last_name_of}
 use Rattle.sf_walk.specs.Served.{HoldersStay}
 use Rattle.sf_walk.specs.Links.{IsLinking}
 use Rattle.sf_walk.proofs.Holders.{more_left, stays_same, stays_edited}
@@ -22,4 +22,4 @@ returns-in_ok-link_last-in-Names-clause-holders c =
     (sym (c.touch.ensures ∙ ap (λ (x : StoreState). edited (with_metadata (modified_at c.args.moment)) x c.in-Names.into) c.in_ok-link_last-in-Names.ensures.ok))
     (stays_edited (with_metadata (modified_at c.args.moment)) (λ node. (refl, refl, refl)) c.args.store.now _ c.in-Names.into
     (stays_edited with_name (λ node. (refl, refl, refl)) c.args.store.now _ c.in-Names.node
-    (stays_edited (with_content (more_content (last_of c.args.new.now) c.in-Names.node)) (λ node. (refl, refl, more_left (last_of c.args.new.now) c.in-Names.node node.content)) c.args.store.now c.args.store.now c.in-Names.into (stays_same c.args.store.now c.args.store.now refl))))
+    (stays_edited (with_content (more_content (last_name_of c.args.new.now) c.in-Names.node)) (λ node. (refl, refl, more_left (last_name_of c.args.new.now) c.in-Names.node node.content)) c.args.store.now c.args.store.now c.in-Names.into (stays_same c.args.store.now c.args.store.now refl))))

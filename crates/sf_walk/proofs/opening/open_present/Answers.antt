@@ -1,5 +1,5 @@
 use Rattle.std.proofs.Common.{◌≡◌, false, refl, sym, ap, subst, ◌∙◌, ◌&&◌}
-use Rattle.sf_inode.specs.Stores.{opened}
+use Rattle.sf_inode.specs.Stores.{after_open}
 use Rattle.sf_walk.specs.Opening.{marks_of}
 use Rattle.sf_walk.specs.Served.{HoldersStay}
 use Rattle.sf_walk.proofs.Holders.{stays_opened, stays_same}
@@ -11,8 +11,8 @@ pub returns-clause-served : goal.returns-clause-served
 returns-clause-served c = λ t it k fresh at.
     let file = kind_there c.args.store.now.nodes c.args.node it _ at c.if-is_directory.ensures in
     let some = sym (c.if-has_all_handles.ensures t k) in
-    let opens : c.open.new.self ≡ opened c.args.store.now c.args.session c.args.number c.args.node (marks_of c.args.flags) =
-    c.in_ok-open.ensures.ok ∙ ap (opened c.args.store.now c.args.session c.args.number c.args.node) c.file_marks.ensures in
+    let opens : c.open.new.self ≡ after_open c.args.store.now c.args.session c.args.number c.args.node (marks_of c.args.flags) =
+    c.in_ok-open.ensures.ok ∙ ap (after_open c.args.store.now c.args.session c.args.number c.args.node) c.file_marks.ensures in
     let uncut = λ (not_both : (c.args.flags.truncate && c.args.flags.write) ≡ false).
     present_served t c.args.session c.args.number c.args.moment c.args.flags c.args.store.now c.open.new.self it c.args.node k fresh c.ranges.number.fits at file some not_both opens in
     elim c.if-flags.branch [

@@ -2,7 +2,7 @@ use Rattle.sf_walk.proofs.LookUps.{looked_none}
 use Rattle.std.proofs.Common.{◌∙◌, sym, refl}
 use Rattle.sf_call.specs.Calls.{remove_file}
 use Rattle.sf_walk.proofs.LastNames.{not_root}
-use Rattle.sf_walk.proofs.Told.{past_root}
+use Rattle.sf_walk.proofs.ReplyOnly.{past_root}
 use Rattle.sf_walk.proofs.PathCalls.{nowhere_served, remove_refused, remove_served, stays_gone}
 use Rattle.sf_walk.proofs.Holders.{stays_looked}
 use Rattle.sf_walk.proofs.path_calls.remove.Goals as goal

@@ -3,7 +3,7 @@ use Rattle.std.proofs.Common.{◌∙◌, sym, refl}
 use Rattle.sf_call.specs.Calls.{set_stat}
 use Rattle.sf_walk.proofs.Looked.{stays_after}
 use Rattle.sf_walk.proofs.LastNames.{not_root}
-use Rattle.sf_walk.proofs.Told.{past_root}
+use Rattle.sf_walk.proofs.ReplyOnly.{past_root}
 use Rattle.sf_walk.proofs.PathCalls.{nowhere_served, set_stat_at}
 use Rattle.sf_walk.proofs.Holders.{stays_looked}
 use Rattle.sf_walk.proofs.path_calls.set_stat.Goals as goal

@@ -3,7 +3,7 @@ use Rattle.sf_call.specs.declared.call.Stage.TheVariants as stage
 use Rattle.sf_walk.specs.declared.finding.Ways.{Ways}
 use Rattle.sf_walk.specs.Routes.{reached}
 use Rattle.sf_walk.specs.Routes.Route.{Along}
-use Rattle.sf_walk.specs.Steps.{walker, Decides}
+use Rattle.sf_walk.specs.Steps.{walker, DecidesNow}
 use Rattle.sf_walk.specs.Steps.GoesFrom.{OnOne}
 use Rattle.sf_walk.specs.Steps.MayDecideAt.{AtEnd}
 use Rattle.sf_walk.proofs.Advancing.{waits_there, decides_one, free_before}
@@ -18,7 +18,7 @@ returns-in-Some c =
 pub returns-in-None : goal.returns-in-None
 returns-in-None c =
     let at = c.args.at in
-    subst (λ (w : Ways). Decides c.args.store.now c.find_last-found.new.store (walker c.args.number (Along c.args.path.now) (stage.At at.walked at.node)) w) (sym c.along.ensures)
+    subst (λ (w : Ways). DecidesNow c.args.store.now c.find_last-found.new.store (walker c.args.number (Along c.args.path.now) (stage.At at.walked at.node)) w) (sym c.along.ensures)
     (decides_one c.args.store.now c.find_last-found.new.store c.find_last-found.ensures.looked c.args.number c.args.path.now (stage.At at.walked at.node)
     (AtEnd (Along c.args.path.now) (stage.At at.walked at.node) c.args.path.now (reached at.walked at.node) (OnOne c.args.path.now at.walked at.node) (inl c.requires.last))
     c.find_last-found.result c.find_last-found.ensures.found (free_before c.args.store.now c.find_last-found.new.store c.args.number c.find_last-found.result c.find_last-found.ensures.looked c.in-None.ensures.none))

@@ -4,7 +4,7 @@ use Rattle.sf_inode.specs.Stores.{StoreState}
 use Rattle.sf_walk.specs.declared.finding.Ways.{Ways}
 use Rattle.sf_walk.specs.Routes.{reached, nodes_of}
 use Rattle.sf_walk.specs.Routes.Route.{Along}
-use Rattle.sf_walk.specs.Steps.{walker, Decides, free_unless}
+use Rattle.sf_walk.specs.Steps.{walker, DecidesNow, free_unless}
 use Rattle.sf_walk.specs.Steps.GoesFrom.{OnOne}
 use Rattle.sf_walk.specs.Steps.MayDecideAt.{AtEnd}
 use Rattle.sf_walk.proofs.Onward.{no_way_on}
@@ -16,7 +16,7 @@ returns-in-NoDirectory c =
     let at = c.args.at in
     let path = c.args.path.now in
     let found = c.in-NoDirectory.ensures in
-    subst (λ (w : Ways). Decides c.args.store.now c.look.new.store (walker c.args.number (Along path) (stage.At at.walked at.node)) w) (sym c.along.ensures)
+    subst (λ (w : Ways). DecidesNow c.args.store.now c.look.new.store (walker c.args.number (Along path) (stage.At at.walked at.node)) w) (sym c.along.ensures)
     (decides_one c.args.store.now c.look.new.store found.0.0 c.args.number path (stage.At at.walked at.node)
     (AtEnd (Along path) (stage.At at.walked at.node) path (reached at.walked at.node) (OnOne path at.walked at.node) (inr (found.0.1, found.1)))
     _ (no_way_on c.args.store.now path at.walked at.node c.requires.on_way found.0.1 found.1) tt)

@@ -12,16 +12,16 @@ use Rattle.std.specs.Global.{Global}
 use Rattle.std.proofs.alloc.Global.TheSendSync as handle
 use Rattle.std.proofs.Crossing.{frees}
 use Rattle.std_alloc.proofs.SendSync.{lies, quiet}
-use Rattle.sf_trees.specs.declared.found.Tree.{Tree}
-use Rattle.sf_trees.specs.contracts.found.Tree as engine
-use Rattle.sf_trees.proofs.found.Tree.TheSendSync as crosses
+use Rattle.sf_trees.specs.declared.found.FoundTree.{FoundTree}
+use Rattle.sf_trees.specs.contracts.found.FoundTree as engine
+use Rattle.sf_trees.proofs.found.FoundTree.TheSendSync as crosses
 use Rattle.sf_c.specs.Owned.{tree_owned}
 use Rattle.sf_c.specs.contracts.kept.Kept as kept
 
 pointer : IsSend RawPtr
 pointer = search sendable
 
-owned : (alloc : Global) (at : Ptr) (tree : Option Tree) → Keyless (tree_owned alloc at tree)
+owned : (alloc : Global) (at : Ptr) (tree : Option FoundTree) → Keyless (tree_owned alloc at tree)
 owned alloc at None = tt
 owned alloc at (Some x) = (lies engine.the_row crosses.the_send at x, frees.frees alloc (raw (lone engine.the_row.mir)) at)
 

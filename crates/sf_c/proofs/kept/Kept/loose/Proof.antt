@@ -21,7 +21,7 @@ use Rattle.std.proofs.alloc.Global.TheLaws.{the_row_laws}
 use Rattle.std.proofs.raw_atomic.Walks.{proved_at, leaves}
 use Rattle.std.specs.contracts.alloc.Global as heap
 use Rattle.std.specs.contracts.impls.GlobalAllocator.TheImpl.{ghosts}
-use Rattle.sf_trees.specs.contracts.found.Tree as engine
+use Rattle.sf_trees.specs.contracts.found.FoundTree as engine
 use Rattle.sf_c.specs.contracts.kept.Kept as kept
 use Rattle.sf_c.proofs.TreeValues.{both, loose_good, kept_out, loose_in, some_out}
 use Rattle.sf_c.specs.contracts.kept.Kept.loose.{ended, clauses}

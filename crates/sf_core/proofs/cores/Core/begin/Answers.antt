@@ -3,8 +3,8 @@ use Rattle.sf_call.specs.declared.call.Call.{Call}
 use Rattle.sf_call.specs.declared.record.Record.{Record}
 use Rattle.sf_core.specs.Cores.{CoreView}
 use Rattle.sf_core.specs.Lanes.{LaneView}
-use Rattle.sf_core.specs.Parts.{seen}
-use Rattle.sf_core.specs.Events.{Begins}
+use Rattle.sf_core.specs.Parts.{core_of}
+use Rattle.sf_core.specs.Events.{CallBegins}
 use Rattle.sf_core.specs.Histories.{IsHistory}
 use Rattle.sf_core.specs.Progress.{undecided_in}
 use Rattle.sf_core.proofs.Starting.{undecided_few, begun_sound, begun_told}
@@ -38,14 +38,14 @@ invariant_of-self-2 c =
 pub returns-clause-ok : goal.returns-clause-ok
 returns-clause-ok c =
     let core = c.self.invariant.0 in
-    subst (λ (v : CoreView). Begins v (seen c.begin.new.self) c.args.lane.now c.args.request c.args.moment) c.self.view_is
-    (subst (λ (l : LaneView). Begins (seen c.self.inside.parts) (seen c.begin.new.self) l c.args.request c.args.moment) c.lane.view_is
+    subst (λ (v : CoreView). CallBegins v (core_of c.begin.new.self) c.args.lane.now c.args.request c.args.moment) c.self.view_is
+    (subst (λ (l : LaneView). CallBegins (core_of c.self.inside.parts) (core_of c.begin.new.self) l c.args.request c.args.moment) c.lane.view_is
     (begun_told c.self.inside.parts c.begin.new.self core.history core.sound c.lane.inside.session c.args.request c.args.moment c.in-Ok-begin.ensures.ok (c.if-not-is_idle.ensures.0 refl)
     (omega (arith, c.drawn.ensures, c.if-drawn-ge-LAST_NUMBER.false)) c.lane.inside.call c.lane.inside.begun))
 
 pub returns-clause-history : goal.returns-clause-history
 returns-clause-history c =
     let p = c.self.inside.parts in
-    subst (λ (v : CoreView). (h : List Record) → IsHistory v h → IsHistory (seen c.begin.new.self) h) c.self.view_is
+    subst (λ (v : CoreView). (h : List Record) → IsHistory v h → IsHistory (core_of c.begin.new.self) h) c.self.view_is
     (λ h is. (begun_sound p c.begin.new.self h (sound_of p c.self.invariant.0 h is) c.lane.inside.session c.args.request c.args.moment c.in-Ok-begin.ensures.ok (c.if-not-is_idle.ensures.0 refl)
     (omega (arith, c.drawn.ensures, c.if-drawn-ge-LAST_NUMBER.false))).history)

@@ -3,7 +3,7 @@ use Rattle.std.specs.Vec.{vec_capacity}
 use Rattle.sf_walk.specs.declared.finding.Located.TheVariants.{NoWay}
 use Rattle.sf_walk.specs.declared.walking.Walk.{Walk}
 use Rattle.sf_walk.specs.Ways.{along}
-use Rattle.sf_core.specs.declared.parts.Outcome.TheVariants as outcome
+use Rattle.sf_core.specs.declared.parts.WalkOutcome.TheVariants as outcome
 use Rattle.sf_core.specs.Lanes.{LaneView}
 use Rattle.sf_core.specs.Stepping.{WalkState, ending}
 use Rattle.sf_core.proofs.OneBlock.{no_block}

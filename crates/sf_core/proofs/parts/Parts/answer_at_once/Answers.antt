@@ -6,7 +6,7 @@ use Rattle.sf_book.specs.Books.{put}
 use Rattle.sf_inode.specs.Stores.{StoreState}
 use Rattle.sf_core.specs.Parts.{PartsView}
 use Rattle.sf_core.specs.Progress.{did, new_call}
-use Rattle.sf_core.specs.Stepping.{Serves, AtOnceState}
+use Rattle.sf_core.specs.Stepping.{ServesCall, AtOnceState}
 use Rattle.sf_walk.specs.declared.finding.Located.TheVariants.{NoWay}
 use Rattle.sf_walk.specs.declared.finding.Ways.{Ways}
 use Rattle.sf_walk.specs.Files.{IsSettled}
@@ -37,9 +37,9 @@ returns-clause-ok c =
     let store : c.self.inside.store ≡ p.store = ap (λ (q : PartsView). q.store) c.self.view_is ∙ same.store in
     let book : c.self.inside.book ≡ m.book = ap (λ (q : PartsView). q.book) c.self.view_is in
     let call = new_call (p.drawn + 1) c.args.session c.args.moment c.args.request in
-    let serves : Serves p.store c.decide-reply.new.store call first =
-    subst (λ k. Serves p.store c.decide-reply.new.store (new_call (k + 1) c.args.session c.args.moment c.args.request) first) drawn
-    (subst (λ (s : StoreState). Serves s c.decide-reply.new.store (new_call (c.self.inside.drawn + 1) c.args.session c.args.moment c.args.request) first) store
+    let serves : ServesCall p.store c.decide-reply.new.store call first =
+    subst (λ k. ServesCall p.store c.decide-reply.new.store (new_call (k + 1) c.args.session c.args.moment c.args.request) first) drawn
+    (subst (λ (s : StoreState). ServesCall s c.decide-reply.new.store (new_call (c.self.inside.drawn + 1) c.args.session c.args.moment c.args.request) first) store
     (record { served = c.decide-reply.ensures.served; sure = c.decide-reply.ensures.sure; nodes = c.decide-reply.ensures.nodes })) in
     let puts : c.put.new.self ≡ put m.book (did call first) =
     c.put.ensures ∙ ap (put c.self.inside.book) c.record_of.ensures ∙ (λ i. put (book i) (did (new_call (drawn i + 1) c.args.session c.args.moment c.args.request) first)) in

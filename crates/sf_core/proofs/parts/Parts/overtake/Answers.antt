@@ -13,8 +13,8 @@ use Rattle.sf_core.specs.Finishing.{AreOnPaths, IsSettledWhereFree}
 use Rattle.sf_core.specs.Stepping.{all_set_back, HelpsAll}
 use Rattle.sf_core.proofs.Helped.{overtaken_settled, overtaken_paths}
 use Rattle.sf_core.proofs.Maps.{some_eq}
-use Rattle.sf_core.proofs.Backing.{book_back}
-use Rattle.sf_core.proofs.Preparing.{moved_is, few_overtaken}
+use Rattle.sf_core.proofs.SettingBack.{book_back}
+use Rattle.sf_core.proofs.BeforeDeciding.{moved_is, few_overtaken}
 use Rattle.sf_core.proofs.parts.Parts.overtake.Goals as goal
 
 pub help_all-requires-clause-room : goal.help_all-requires-clause-room

@@ -2,17 +2,17 @@ use Rattle.std.proofs.Common.{◌≡◌, Some, sym, ap, subst, ◌∙◌, arith}
 use Rattle.sf_call.specs.declared.call.Call.{Call}
 use Rattle.sf_inode.specs.Stores.{StoreState}
 use Rattle.sf_walk.specs.Routes.{Route, route_of}
-use Rattle.sf_walk.specs.Ways.{AreWays, names_on, names_of}
+use Rattle.sf_walk.specs.Ways.{AreWays, names_on, request_names}
 use Rattle.sf_walk.specs.Served.{LookedUp}
 use Rattle.sf_core.specs.Cores.{call_at}
 use Rattle.sf_core.specs.Parts.{PartsView}
 use Rattle.sf_core.specs.Finishing.{IsSettledWhereFree, IsReadyToHelp}
 use Rattle.sf_core.proofs.Maps.{some_eq}
-use Rattle.sf_core.proofs.Told.{names_fit}
+use Rattle.sf_core.proofs.LaneStates.{names_fit}
 use Rattle.sf_core.proofs.Readying.{ready_alone, ready_finished}
 use Rattle.sf_core.proofs.parts.Parts.ways_to.Goals as goal
 
-looks_by : (s t : StoreState) (c : Call) (r : Route) → r ≡ route_of c.request → LookedUp s t (names_on r) → LookedUp s t (names_of c.request)
+looks_by : (s t : StoreState) (c : Call) (r : Route) → r ≡ route_of c.request → LookedUp s t (names_on r) → LookedUp s t (request_names c.request)
 looks_by s t c r e looks = let a = looks.few in let b = ap names_on e in let f = names_fit c.request in record { count = looks.count; few = omega (arith, a, b, f); state = looks.state }
 
 pub returns-in-Some-writer_to_finish-clause-ready : goal.returns-in-Some-writer_to_finish-clause-ready

@@ -7,7 +7,7 @@ use Rattle.sf_call.specs.declared.call.Stage.TheVariants as stage
 use Rattle.sf_call.specs.declared.record.Record.TheVariants.{Did}
 use Rattle.sf_call.specs.Unanswered.{answered, staged}
 use Rattle.sf_walk.specs.declared.finding.Located.TheVariants.{NoWay}
-use Rattle.sf_walk.specs.Files.{IsSettled, IsWrite, file_handle}
+use Rattle.sf_walk.specs.Files.{IsSettled, IsWriteRequest, file_handle}
 use Rattle.sf_core.specs.Cores.{call_at}
 use Rattle.sf_core.specs.Parts.{PartsView}
 use Rattle.sf_core.specs.Stepping.{FinishState, freed, gone}
@@ -48,7 +48,7 @@ returns-in-None-clause-decided c = λ d at.
           served = λ t kept _. c.start-reply.ensures.served t kept;
           sure = λ t kept _ may. c.start-reply.ensures.sure t kept may;
           nodes =
-              stays_written c.self.inside.store mid call (subst (λ (x : Call). IsWrite x.request) (sym same) ready.write)
+              stays_written c.self.inside.store mid call (subst (λ (x : Call). IsWriteRequest x.request) (sym same) ready.write)
               (subst (λ (v : PartsView). IsSettled v.store call.session call.request NoWay) (sym c.self.view_is) (subst (λ (x : Call). IsSettled c.args.self.now.store x.session x.request NoWay) (sym same) ready.settled))
               c.start-reply.ensures.starts c.start-reply.ensures.none c.start-reply.ensures.sessions c.in-None.ensures.none;
         };

@@ -6,7 +6,7 @@ use Rattle.sf_serving.specs.declared.host.Went.{Went}
 use Rattle.sf_serving.specs.declared.host.Went.TheVariants as went
 use Rattle.sf_pool.specs.declared.at_desk.Standing.TheVariants as standing
 use Rattle.sf_pool.specs.Scenes.{desk_scene}
-use Rattle.sf_pool.specs.AtDesks.{standing_after, fault_of}
+use Rattle.sf_pool.specs.AtDesks.{standing_after, stop_fault}
 use Rattle.sf_pool.proofs.Talking.{goes_ended, goes_local, goes_called, goes_stopped}
 use Rattle.sf_pool.proofs.Going.{joined, told_joined, goes_still}
 use Rattle.sf_pool.proofs.at_desk.DeskHostHost.go_on.Goals as goal
@@ -69,5 +69,5 @@ returns-in-Err-clause-went g c = λ start t tells is_open read sent.
     let tl1 = g.C.Clock.told c.make_call.new.clock in
     let why = c.in-Err.why in
     let N : Next → Type 0 = λ n. NextGives v n m in
-    goes_still start (standing_after why) c.stand_after.new.self.standing w c.stand_after.new.self.session d1 d1 b1 b1 tl1 (Err (fault_of why)) (Err c.stand_after.result) t c.stand_after.ensures.standing c.stand_after.ensures.session refl refl (ap (λ (x : ServeFault). Err x) c.stand_after.ensures.fault)
+    goes_still start (standing_after why) c.stand_after.new.self.standing w c.stand_after.new.self.session d1 d1 b1 b1 tl1 (Err (stop_fault why)) (Err c.stand_after.result) t c.stand_after.ensures.standing c.stand_after.ensures.session refl refl (ap (λ (x : ServeFault). Err x) c.stand_after.ensures.fault)
     (goes_stopped start d d1 b b1 tl tl1 v m w c.in-Call.request t why (told_joined start (desk_scene d b tl) at v t (sym c.in_default.ensures) tells) is_open read (subst N c.in-Call.is c.in-Ok.ensures.ok) c.in-Err.ensures.session c.in-Err.ensures.fails)

@@ -1,7 +1,7 @@
 use Rattle.std.proofs.Common.{subst}
 use Rattle.sf_walk.specs.declared.walking.Walk.{Walk}
 use Rattle.sf_walk.specs.Routes.{Route, route_of}
-use Rattle.sf_walk.specs.Steps.{walker, Moves, Advances}
+use Rattle.sf_walk.specs.Steps.{walker, AdvancesTo, Advances}
 use Rattle.sf_walk.proofs.Laws.{stands_on, stands_unmoved, root_stands}
 use Rattle.sf_walk_cases.proofs.tests.steps.step.Goals as goal
 
@@ -12,7 +12,7 @@ returns-in-Moved-clause-root c =
 pub returns-in-Moved-clause-stands : goal.returns-in-Moved-clause-stands
 returns-in-Moved-clause-stands c =
     stands_on c.args.store.now c.advance-walk.new.store (walker c.args.call.now.number (route_of c.args.call.now.request) c.args.call.now.stage) c.in-Moved.stage c.requires.stands
-    (subst (λ (r : Route). Moves c.args.store.now c.advance-walk.new.store (walker c.args.call.now.number r c.args.call.now.stage) c.in-Moved.stage) c.route_of.ensures c.in-Moved.ensures)
+    (subst (λ (r : Route). AdvancesTo c.args.store.now c.advance-walk.new.store (walker c.args.call.now.number r c.args.call.now.stage) c.in-Moved.stage) c.route_of.ensures c.in-Moved.ensures)
 
 pub returns-in_default : goal.returns-in_default
 returns-in_default c =

@@ -1,10 +1,10 @@
 use Rattle.std.proofs.Common.{◌≡◌, true}
 use Rattle.sf_inode.specs.Stores.{is_directory_at}
-use Rattle.sf_walk.specs.Routes.{Stands, route_of}
+use Rattle.sf_walk.specs.Routes.{HoldsWay, route_of}
 use Rattle.sf_walk_cases.proofs.tests.steps.steps.Given as goal
 
 abbrev pub invariant-loop-stage : goal.invariant-loop-stage
 invariant-loop-stage g l = record {
   root : is_directory_at l.store.nodes l.store.root ≡ true;
-  stands : Stands l.store (route_of l.call.request) l.call.stage;
+  stands : HoldsWay l.store (route_of l.call.request) l.call.stage;
 }

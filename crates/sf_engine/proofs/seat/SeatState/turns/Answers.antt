@@ -1,0 +1,19 @@
+use Rattle.std.proofs.Common.{Ok, sym, subst}
+use Rattle.sf_engine.specs.declared.event.Happened.TheVariants as happened
+use Rattle.sf_engine.specs.declared.seat.SeatState.{SeatState}
+use Rattle.sf_engine.specs.declared.seat.SeatState.TheVariants as state
+use Rattle.sf_engine.specs.Turns.{stand, GoesFar}
+use Rattle.sf_engine.proofs.Chains.{answer_far, left_far}
+use Rattle.sf_engine.proofs.seat.SeatState.turns.Goals as goal
+
+pub returns-in-Answered : goal.returns-in-Answered
+returns-in-Answered c =
+    let old = c.args in
+    let new = c.turn.new in
+    answer_far old.core.now new.core old.session.now new.session old.self.now new.self c.in-Answered.field-0 c.in-Answered.field-1 old.closed old.moment c.turn.result c.in-Answered.is c.requires c.turn.ensures.ok c.turn.ensures.err c.turn.ensures.fault
+
+pub returns-in-Left : goal.returns-in-Left
+returns-in-Left c =
+    let old = c.args in
+    let P : SeatState → Type 0 = λ p. GoesFar (stand old.core.now old.session.now p) old.closed old.moment (Ok (happened.Ended c.in-Left.cause)) (stand old.core.now old.session.now (state.Left c.in-Left.cause)) in
+    subst P (sym c.in-Left.is) (left_far old.core.now old.session.now c.in-Left.cause old.closed old.moment)

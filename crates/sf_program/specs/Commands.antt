@@ -1,0 +1,97 @@
+-- What the client's commands ask of a server, and print.
+use Rattle.std.specs.Prelude.{◌≡◌, ◌+◌, ◌<◌, ◌^◌, ℕ, List, [], ◌∷◌, ◌++◌, length, false, Option, Ok, unwrap_or}
+use Rattle.std.specs.List.{flat_map}
+use Rattle.std.specs.Fmt.{decimal, digits}
+use Rattle.sf_field.specs.Attributes.{no_attrs}
+use Rattle.sf_field.specs.declared.attrs.Attrs.{Attrs}
+use Rattle.sf_field.specs.declared.attrs.Owner.{Owner}
+use Rattle.sf_field.specs.declared.attrs.Times.{Times}
+use Rattle.sf_request.specs.declared.request.WireRequest.{WireRequest}
+use Rattle.sf_request.specs.declared.request.WireRequest.TheVariants as request
+use Rattle.sf_reply.specs.declared.reply.Entry.{Entry}
+use Rattle.sf_reply.specs.declared.reply.Reply.TheVariants as reply
+use Rattle.sf_reply.specs.declared.reply.StatusCode.TheVariants.{Success}
+use Rattle.sf_client.specs.Calls.{DoesCall, ByHandle, ReadsAll, WritesAll, ListsAll, to_read, to_write}
+use Rattle.sf_client.specs.Exchanges.{ClientView, Exchanged, IsStarted}
+use Rattle.sf_client.specs.Outcomes.{asked}
+use Rattle.sf_program.specs.declared.command.ClientCommand.{ClientCommand}
+use Rattle.sf_program.specs.declared.command.ClientCommand.TheVariants as command
+
+-- how many bytes the paths have together
+abbrev pub paths_len : ClientCommand → ℕ
+paths_len (command.Stat path) = length path.now
+paths_len (command.List path) = length path.now
+paths_len (command.Get path) = length path.now
+paths_len (command.Put path) = length path.now
+paths_len (command.Mkdir path) = length path.now
+paths_len (command.Rmdir path) = length path.now
+paths_len (command.Remove path) = length path.now
+paths_len (command.Rename old new) = length old.now + length new.now
+paths_len (command.PosixRename old new) = length old.now + length new.now
+paths_len (command.Link old new) = length old.now + length new.now
+
+-- the number, or 0 where the part wasn't sent
+abbrev pub or_zero : Option ℕ → ℕ
+or_zero part = unwrap_or part 0
+
+abbrev pub no_owner : Owner
+no_owner = record { uid = 0; gid = 0 }
+
+abbrev pub no_times : Times
+no_times = record { atime = 0; mtime = 0 }
+
+-- size, uid, gid, permissions in octal, atime and mtime, with single spaces between them and a newline after them
+abbrev pub stat_text : Attrs → List ℕ
+stat_text attrs =
+    decimal (or_zero attrs.size) ++ 32 ∷ decimal (unwrap_or attrs.owner no_owner).uid
+    ++ 32 ∷ decimal (unwrap_or attrs.owner no_owner).gid
+    ++ 32 ∷ digits 8 false (or_zero attrs.permissions)
+    ++ 32 ∷ decimal (unwrap_or attrs.times no_times).atime
+    ++ 32 ∷ decimal (unwrap_or attrs.times no_times).mtime
+    ++ 10 ∷ []
+
+-- each longname and a newline
+abbrev pub lines_of : List Entry → List ℕ
+lines_of entries = flat_map (λ (e : Entry). e.longname ++ 10 ∷ []) entries
+
+-- one request, which STATUS OK answered
+abbrev pub Succeeds : ClientView → WireRequest → ClientView → Type 0
+Succeeds v q w = Exchanged v (asked q (reply.Status Success) ∷ []) w
+
+-- the attributes of what the path names were told, and printed
+abbrev pub PrintsAttrs : List ℕ → List ℕ → ClientView → ClientView → Type 0
+PrintsAttrs path printed v w = (attrs : Attrs)
+    × Exchanged v (asked (request.Stat path) (reply.Attrs attrs) ∷ []) w
+    × (printed ≡ stat_text attrs)
+
+-- the directory was listed, and its lines printed
+abbrev pub Lists : List ℕ → List ℕ → ClientView → ClientView → Type 0
+Lists path printed v w = (entries : List Entry)
+    × DoesCall (ByHandle (request.OpenDir path) ListsAll) v (Ok entries) w
+    × (printed ≡ lines_of entries)
+
+-- A command was done by these requests and their replies, and printed these bytes.
+abbrev pub RunsCommand : ClientCommand → List ℕ → List ℕ → ClientView → ClientView → Type 0
+RunsCommand (command.Stat path) bytes printed v w = PrintsAttrs path.now printed v w
+RunsCommand (command.List path) bytes printed v w = Lists path.now printed v w
+RunsCommand (command.Get path) bytes printed v w =
+    DoesCall (ByHandle (request.Open path.now to_read no_attrs) ReadsAll) v (Ok printed) w
+RunsCommand (command.Put path) bytes printed v w = (printed ≡ [])
+    × DoesCall (ByHandle (request.Open path.now to_write no_attrs) (WritesAll bytes)) v (Ok tt) w
+RunsCommand (command.Mkdir path) bytes printed v w =
+    (printed ≡ []) × Succeeds v (request.Mkdir path.now no_attrs) w
+RunsCommand (command.Rmdir path) bytes printed v w =
+    (printed ≡ []) × Succeeds v (request.Rmdir path.now) w
+RunsCommand (command.Remove path) bytes printed v w =
+    (printed ≡ []) × Succeeds v (request.Remove path.now) w
+RunsCommand (command.Rename old new) bytes printed v w =
+    (printed ≡ []) × Succeeds v (request.Rename old.now new.now) w
+RunsCommand (command.PosixRename old new) bytes printed v w =
+    (printed ≡ []) × Succeeds v (request.PosixRename old.now new.now) w
+RunsCommand (command.Link old new) bytes printed v w =
+    (printed ≡ []) × Succeeds v (request.Link old.now new.now) w
+
+-- The same of a session that was opened over a line, by what the line gives and has taken.
+abbrev pub IsDoneOver : ClientCommand → List ℕ → List ℕ → Option (List ℕ) → Option (List ℕ) → Type 0
+IsDoneOver command bytes printed incoming outgoing =
+    (v w : ClientView) × IsStarted incoming outgoing v × RunsCommand command bytes printed v w

@@ -1,0 +1,4 @@
+pub mod Statuses
+pub mod Commands
+pub mod Carrying
+pub mod Totals

@@ -1,0 +1,61 @@
+-- Exit statuses, the lines of standard error, and how the session of `stdio` ends.
+use Rattle.std.specs.Prelude.{◌≡◌, ◌⊎◌, ℕ, List, [], ◌∷◌, ◌++◌, Some, Result, Ok, Err, codes}
+use Rattle.sf_session.specs.declared.cause.Cause.{Cause}
+use Rattle.sf_session.specs.declared.cause.Cause.TheVariants.{NotInit, OldVersion, SecondInit, ZeroLength, TooLong, NoId, Closed}
+use Rattle.sf_session.specs.Causes.{words_of}
+use Rattle.sf_session.specs.declared.fault.ServeFault.{ServeFault}
+use Rattle.sf_session.specs.declared.fault.ServeFault.TheVariants as fault
+use Rattle.sf_engine.specs.Views.{EngineView}
+use Rattle.sf_engine.specs.Fits.{Fits}
+use Rattle.sf_serving.specs.OnEngine.{IoState, ServesLine, StopsEarly, IsServeFault}
+
+-- the end of the input is no fault
+abbrev pub status_of_cause : Cause → ℕ
+status_of_cause Closed = 0
+status_of_cause NotInit = 1
+status_of_cause OldVersion = 1
+status_of_cause SecondInit = 1
+status_of_cause ZeroLength = 1
+status_of_cause TooLong = 1
+status_of_cause NoId = 1
+
+abbrev pub exit_status : Result Cause ServeFault → ℕ
+exit_status (Ok cause) = status_of_cause cause
+exit_status (Err fault) = 1
+
+-- the line of a session that ended early
+abbrev pub ending_line : Cause → List ℕ
+ending_line cause = codes "sftpd: session ended: " ++ (words_of cause ++ 10 ∷ [])
+
+abbrev pub line_of_cause : Cause → List ℕ
+line_of_cause Closed = []
+line_of_cause NotInit = ending_line NotInit
+line_of_cause OldVersion = ending_line OldVersion
+line_of_cause SecondInit = ending_line SecondInit
+line_of_cause ZeroLength = ending_line ZeroLength
+line_of_cause TooLong = ending_line TooLong
+line_of_cause NoId = ending_line NoId
+
+-- the line that the end of a session is told by: none at the end of the input
+abbrev pub line_of : Result Cause ServeFault → List ℕ
+line_of (Ok cause) = line_of_cause cause
+line_of (Err fault.OutOfMemory) = codes "sftpd: out of memory" ++ 10 ∷ []
+line_of (Err fault.Line) = codes "sftpd: stream" ++ 10 ∷ []
+line_of (Err fault.Sessions) = codes "sftpd: stream" ++ 10 ∷ []
+line_of (Err fault.Stranger) = codes "sftpd: stream" ++ 10 ∷ []
+line_of (Err fault.NumbersSpent) = codes "sftpd: stream" ++ 10 ∷ []
+
+-- serving a line on an engine came to this
+abbrev pub ServingComesTo : (start now : IoState) → (failed failed' : ℕ) → Result Cause ServeFault → Type 0
+ServingComesTo start now failed failed' (Ok cause) = ServesLine start now cause
+ServingComesTo start now failed failed' (Err fault) =
+    StopsEarly start now fault × IsServeFault fault failed failed'
+
+-- No engine could be made, and nothing was read or written; or a line was served on a new one, which keeps so many records, and
+-- that came to this.
+abbrev pub SessionEnds : (keep : ℕ) → (start now : EngineView → IoState) → (failed failed' : ℕ)
+    → Result Cause ServeFault → Type 0
+SessionEnds keep start now failed failed' outcome =
+    ((outcome ≡ Err fault.OutOfMemory) × ((e : EngineView) → now e ≡ start e))
+    ⊎ ((first last : EngineView) × Fits first [] × (first.core.keep ≡ Some keep)
+    × ServingComesTo (start first) (now last) failed failed' outcome)

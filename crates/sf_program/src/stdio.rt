@@ -1,0 +1,135 @@
+//! The command `sftpd stdio`.
+
+ghost use Rattle.std.specs.Prelude.{◌≡◌, ◌<◌, ◌≤◌, ◌⊎◌, OnOk, OnErr, Result};
+ghost use Rattle.std.specs.Io.KnownBytes.{Appends};
+ghost use Rattle.sf_line.specs.Lines.{Rose};
+ghost use Rattle.sf_session.specs.declared.cause.Cause.{Cause};
+ghost use Rattle.sf_session.specs.declared.fault.ServeFault.{ServeFault};
+ghost use Rattle.sf_engine.specs.Views.{EngineView};
+ghost use Rattle.sf_serving.specs.Serving.{line_view};
+ghost use Rattle.sf_serving.specs.OnEngine.{io_state};
+ghost use Rattle.sf_program.specs.Statuses.{exit_status, line_of_cause, line_of, ServingComesTo, SessionEnds};
+
+use sf_engine::Engine;
+use sf_line::{Line, LineFault, write_all};
+use sf_serving::serve_one;
+use sf_session::{Cause, Clock, ServeFault};
+use std::alloc::Global;
+
+/// Serves one session over a line, on an engine of its own that keeps the last `keep` records of its
+/// calls; writes the one line of an early end to `errors`; and answers the exit status: 0 at the end
+/// of the input, else 1.
+pub fn run_stdio<L: Line, C: Clock, E: Line>(
+    alloc: Global,
+    keep: usize,
+    line: &mut L,
+    clock: &mut C,
+    errors: &mut E,
+) -> u8
+    requires { 0 < keep }
+    ensures { (outcome : Result Cause ServeFault)
+        × SessionEnds keep
+        (io_state (line_view (L.incoming line.old) (L.outgoing line.old) (L.calls line.old))
+        (C.told clock.old))
+        (io_state (line_view (L.incoming line.new) (L.outgoing line.new) (L.calls line.new))
+        (C.told clock.new))
+        (L.failed line.old) (L.failed line.new) outcome
+        × (result ≡ exit_status outcome)
+        × (Appends (E.outgoing errors.old) (E.outgoing errors.new) (line_of outcome)
+        ⊎ Rose (E.failed errors.old) (E.failed errors.new)) }
+{
+    let outcome = serve(alloc, keep, line, clock);
+    // What can't be told on standard error is still told by the status.
+    let _ = report(errors, outcome);
+    status(outcome)
+}
+
+/// Serves the session on a new engine.
+fn serve<L: Line, C: Clock>(
+    alloc: Global,
+    keep: usize,
+    line: &mut L,
+    clock: &mut C,
+) -> Result<Cause, ServeFault>
+    requires { 0 < keep }
+    ensures { SessionEnds keep
+        (io_state (line_view (L.incoming line.old) (L.outgoing line.old) (L.calls line.old))
+        (C.told clock.old))
+        (io_state (line_view (L.incoming line.new) (L.outgoing line.new) (L.calls line.new))
+        (C.told clock.new))
+        (L.failed line.old) (L.failed line.new) result }
+{
+    match Engine::with_keep(alloc, keep) {
+        Ok(engine) => {
+            let mut engine = engine;
+            serve_on(alloc, &mut engine, line, clock)
+        }
+        Err(_) => Err(ServeFault::OutOfMemory),
+    }
+}
+
+/// Serves the session on this engine.
+fn serve_on<L: Line, C: Clock>(
+    alloc: Global,
+    engine: &mut Engine,
+    line: &mut L,
+    clock: &mut C,
+) -> Result<Cause, ServeFault>
+    ensures { ServingComesTo
+        (io_state (line_view (L.incoming line.old) (L.outgoing line.old) (L.calls line.old))
+        (C.told clock.old) engine.old)
+        (io_state (line_view (L.incoming line.new) (L.outgoing line.new) (L.calls line.new))
+        (C.told clock.new) engine.new) (L.failed line.old) (L.failed line.new) result }
+{
+    match serve_one(alloc, engine, line, clock) {
+        Ok(cause) => Ok(cause),
+        Err(fault) => Err(fault),
+    }
+}
+
+/// The exit status.
+fn status(outcome: Result<Cause, ServeFault>) -> u8
+    ensures { result ≡ exit_status outcome }
+{
+    match outcome {
+        Ok(Cause::Closed) => 0,
+        _ => 1,
+    }
+}
+
+/// Writes the line of a session that ended early.
+fn report<E: Line>(errors: &mut E, outcome: Result<Cause, ServeFault>) -> Result<(), LineFault>
+    ensures told { OnOk result (Appends (E.outgoing errors.old) (E.outgoing errors.new)
+        (line_of outcome)) }
+    ensures fault { OnErr result (Rose (E.failed errors.old) (E.failed errors.new)) }
+{
+    write_all(errors, line_bytes(outcome))
+}
+
+/// The line that the end of a session is told by.
+fn line_bytes(outcome: Result<Cause, ServeFault>) -> &'static [u8]
+    ensures { result.now ≡ line_of outcome }
+{
+    match outcome {
+        Ok(cause) => ending_bytes(cause),
+        Err(ServeFault::OutOfMemory) => b"sftpd: out of memory\n",
+        Err(ServeFault::Line) => b"sftpd: stream\n",
+        Err(ServeFault::Sessions) => b"sftpd: stream\n",
+        Err(ServeFault::Stranger) => b"sftpd: stream\n",
+        Err(ServeFault::NumbersSpent) => b"sftpd: stream\n",
+    }
+}
+
+fn ending_bytes(cause: Cause) -> &'static [u8]
+    ensures { result.now ≡ line_of_cause cause }
+{
+    match cause {
+        Cause::NotInit => b"sftpd: session ended: first packet is not INIT\n",
+        Cause::OldVersion => b"sftpd: session ended: client version below 3\n",
+        Cause::SecondInit => b"sftpd: session ended: second INIT\n",
+        Cause::ZeroLength => b"sftpd: session ended: length 0\n",
+        Cause::TooLong => b"sftpd: session ended: length above 262144\n",
+        Cause::NoId => b"sftpd: session ended: no room for an id\n",
+        Cause::Closed => b"",
+    }
+}

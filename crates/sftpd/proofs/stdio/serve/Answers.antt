@@ -1,5 +1,0 @@
-use Rattle.std.proofs.Common.{inr}
-use Rattle.sftpd.proofs.stdio.serve.Goals as goal
-
-pub returns-in-Ok : goal.returns-in-Ok
-returns-in-Ok g c = inr (_, _, c.in-Ok.ensures.fits, c.in-Ok.ensures.keep, c.serve_on.ensures)
