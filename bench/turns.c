@@ -9,7 +9,7 @@
 #include <string.h>
 #include <time.h>
 
-enum { MOMENT = 100, MOST = 261120, HEAD = 29, TURNS = 80, COUNT = 1000 };
+enum { MOMENT = 100, MOST = 261120, HEAD = 33, TURNS = 80, COUNT = 1000 };
 
 static lt_engine *engine;
 static uint64_t session;
@@ -55,13 +55,13 @@ static void ask(const uint8_t *bytes, size_t length, int64_t reply)
     drop(reply);
 }
 
-/* The file /f, opened to be written and made; its handle is the engine's first, of 4 bytes. */
+/* The file /f, opened to be written and made; its handle is the number of this first call. */
 static void open_file(void)
 {
     static const uint8_t init[] = {0, 0, 0, 5, 1, 0, 0, 0, 3};
     static const uint8_t open[] = {0, 0, 0, 19, 3, 0, 0, 0, 7, 0, 0, 0, 2, '/', 'f', 0, 0, 0, 10, 0, 0, 0, 0};
     ask(init, sizeof init, 71);
-    ask(open, sizeof open, 17);
+    ask(open, sizeof open, 21);
 }
 
 static int by_size(const void *one, const void *other)
@@ -88,7 +88,7 @@ static void measure(uint8_t *packet, uint32_t length)
 {
     static double reading[COUNT], first[COUNT], later[COUNT];
     int turns = 0;
-    put_u32(packet, length + HEAD - 4 - 4);
+    put_u32(packet, length + HEAD - 4);
     put_u32(packet + HEAD - 4, length);
     for (int i = 0; i < COUNT; i++) {
         int64_t did;
@@ -112,7 +112,7 @@ static void measure(uint8_t *packet, uint32_t length)
 int main(void)
 {
     static const uint32_t lengths[] = {4096, 32768, 65536, 131072, MOST};
-    static const uint8_t head[] = {0, 0, 0, 0, 6, 0, 0, 0, 7, 0, 0, 0, 4};
+    static const uint8_t head[] = {0, 0, 0, 0, 6, 0, 0, 0, 7, 0, 0, 0, 8, 0, 0, 0, 0, 0, 0, 0, 1};
     uint8_t *packet = calloc(1, HEAD + MOST);
     engine = lt_new();
     if (!packet || !engine)
