@@ -2,12 +2,17 @@
 use Rattle.std.proofs.Common.{◌≡◌, ◌<◌, ◌≤◌, ◌+◌, ◌*◌, ◌-◌, ◌/◌, ◌%◌, ◌∙◌, ℕ, min, max, List, length, get_or, take, drop, Some, inl, inr, sym, ap, subst, arith}
 use Rattle.std.specs.Prelude.{◌⊎◌}
 use Rattle.std.proofs.lemmas.List.{length-take, length-drop, get_or-take, get_or-drop}
-use Rattle.sf_block.specs.Blocks.{entry_in, byte_in, bytes_from, IsRun, AreRuns, IsNoted, IsHeld, IsRunOf, block_in}
+use Rattle.sf_block.specs.Blocks.{run_in, byte_in, bytes_from, IsRun, AreRuns, IsNoted, IsHeld, IsRunOf, block_in}
 use Rattle.sf_block.proofs.Places.{are_bytes}
 
 -- the same blocks
 pub runs_same : (runs : List (ℕ × List ℕ)) (f g : ℕ → List ℕ) (len : ℕ) → ((k : ℕ) → g k ≡ f k) → AreRuns runs f len → AreRuns runs g len
 runs_same runs f g len same are = λ k run at. subst (λ (b : ℕ → List ℕ). IsRun b len k run) (λ i j. sym (same j) i) (are k run at)
+
+-- runs went
+pub runs_fewer : (old new : List (ℕ × List ℕ)) (f : ℕ → List ℕ) (len : ℕ) → ((k : ℕ) (run : List ℕ) → run_in new k ≡ Some run → run_in old k ≡ Some run)
+    → AreRuns old f len → AreRuns new f len
+runs_fewer old new f len fewer are = λ k run at. are k run (fewer k run at)
 
 -- a longer file
 pub runs_longer : (runs : List (ℕ × List ℕ)) (f : ℕ → List ℕ) (len n : ℕ) → len ≤ n → AreRuns runs f len → AreRuns runs f n
@@ -15,7 +20,7 @@ runs_longer runs f len n le are = λ k run at. let r = are k run at in record { 
 
 -- a shorter file
 pub runs_cut : (old new : List (ℕ × List ℕ)) (f g : ℕ → List ℕ) (len n : ℕ) → AreRuns old f len → ((i : ℕ) → i < n → byte_in g i ≡ byte_in f i)
-    → ((k : ℕ) (run : List ℕ) → entry_in new k ≡ Some run → (k < n / 32768) × (entry_in old k ≡ Some run)) → AreRuns new g n
+    → ((k : ℕ) (run : List ℕ) → run_in new k ≡ Some run → (k < n / 32768) × (run_in old k ≡ Some run)) → AreRuns new g n
 runs_cut old new f g len n are same kept = λ k run at.
     let w = kept k run at in
     let r = are k run w.1 in
@@ -29,7 +34,7 @@ runs_cut old new f g len n are same kept = λ k run at.
 pub runs_noted : (old new : List (ℕ × List ℕ)) (f g : ℕ → List ℕ) (len start : ℕ) (bytes : List ℕ) → 0 < length bytes → AreRuns old f len
     → ((i : ℕ) → (i < start) ⊎ (start + length bytes ≤ i) → byte_in g i ≡ byte_in f i)
     → ((i : ℕ) → start ≤ i → i < start + length bytes → byte_in g i ≡ get_or bytes (i - start) 0)
-    → ((k : ℕ) (run : List ℕ) → entry_in new k ≡ Some run → IsNoted old start bytes k run) → AreRuns new g (max len (start + length bytes))
+    → ((k : ℕ) (run : List ℕ) → run_in new k ≡ Some run → IsNoted old start bytes k run) → AreRuns new g (max len (start + length bytes))
 runs_noted old new f g len start bytes some are kept laid noted = λ k run at. elim (noted k run at) [
   | inl w ↦
       let r = are k run w.0 in
@@ -52,7 +57,7 @@ runs_noted old new f g len start bytes some are kept laid noted = λ k run at. e
 -- a run was put in whose blocks are in their places
 pub runs_held : (old new : List (ℕ × List ℕ)) (blocks : List (ℕ × List (List ℕ))) (g : ℕ → List ℕ) (first : ℕ) (bytes : List ℕ) (len end : ℕ)
     → AreRuns old g len → IsHeld blocks first bytes → (0 < length bytes → first + length bytes / 4096 ≤ end) → ((k : ℕ) → k < end → g k ≡ block_in blocks k)
-    → ((k : ℕ) (run : List ℕ) → entry_in new k ≡ Some run → (entry_in old k ≡ Some run) ⊎ IsRunOf first bytes len k run) → AreRuns new g len
+    → ((k : ℕ) (run : List ℕ) → run_in new k ≡ Some run → (run_in old k ≡ Some run) ⊎ IsRunOf first bytes len k run) → AreRuns new g len
 runs_held old new blocks g first bytes len end are held ends same put = λ k run at. elim (put k run at) [
   | inl was ↦ are k run was
   | inr is ↦

@@ -1,7 +1,7 @@
 -- No public clause cites this module.
 -- Bytes in blocks of 4096, each under its number. A missing block is zeros, and so is what a
 -- shorter one lacks.
-use Rattle.std.specs.Prelude.{◌≡◌, ◌⊎◌, ◌≢◌, ◌<◌, ◌≤◌, ◌+◌, ◌-◌, ◌*◌, ◌/◌, ◌%◌, ℕ, max, min, nat_le, nat_lt, ◌&&◌, if◌then◌else◌, List, [], map, length, take, drop, Option, Some, slice_index_or}
+use Rattle.std.specs.Prelude.{◌≡◌, ◌⊎◌, ◌≢◌, ◌<◌, ◌≤◌, ◌+◌, ◌-◌, ◌*◌, ◌/◌, ◌%◌, ℕ, max, min, nat_le, nat_lt, ◌&&◌, if◌then◌else◌, List, [], ◌∷◌, map, length, take, drop, Option, Some, None, slice_index_or}
 use Rattle.std.specs.Option.{unwrap_or}
 use Rattle.std.specs.List.{range_with_len}
 use Rattle.std.specs.Ordering.{nat_cmp}
@@ -11,6 +11,16 @@ use Rattle.sf_block.specs.Contents.{written}
 
 abbrev pub entry_in : {X : Type 0} → List (ℕ × X) → ℕ → Option X
 entry_in entries k = lookup (is_at (nat_cmp k)) entries
+
+-- a run without bytes is missing
+abbrev pub unless_empty : Option (List ℕ) → Option (List ℕ)
+unless_empty None = None
+unless_empty (Some []) = None
+unless_empty (Some (b ∷ bytes)) = Some (b ∷ bytes)
+
+-- the run of a number
+abbrev pub run_in : List (ℕ × List ℕ) → ℕ → Option (List ℕ)
+run_in runs k = unless_empty (entry_in runs k)
 
 -- the row of a number, of eight blocks; a missing one has none
 abbrev pub row_in : List (ℕ × List (List ℕ)) → ℕ → List (List ℕ)
@@ -73,17 +83,17 @@ pub record IsRun (block : ℕ → List ℕ) (len k : ℕ) (run : List ℕ) : Typ
 -- the runs have the bytes of the blocks
 abbrev pub HasBytes : List (ℕ × List ℕ) → (ℕ → List ℕ) → Type 0
 HasBytes runs block =
-    (k : ℕ) (run : List ℕ) → entry_in runs k ≡ Some run → (i : ℕ) → i < 32768
+    (k : ℕ) (run : List ℕ) → run_in runs k ≡ Some run → (i : ℕ) → i < 32768
     → slice_index_or run i 0 ≡ byte_in block (k * 32768 + i)
 
 abbrev pub AreRuns : List (ℕ × List ℕ) → (ℕ → List ℕ) → ℕ → Type 0
 AreRuns runs block len =
-    (k : ℕ) (run : List ℕ) → entry_in runs k ≡ Some run → IsRun block len k run
+    (k : ℕ) (run : List ℕ) → run_in runs k ≡ Some run → IsRun block len k run
 
 -- after bytes were written a run was there before and has none of them, or it is these bytes
 abbrev pub IsNoted : List (ℕ × List ℕ) → ℕ → List ℕ → ℕ → List ℕ → Type 0
 IsNoted old offset bytes k run =
-    ((entry_in old k ≡ Some run)
+    ((run_in old k ≡ Some run)
     × ((k < offset / 32768) ⊎ ((offset + length bytes - 1) / 32768 < k)))
     ⊎ ((run ≡ bytes) × (length bytes ≡ 32768) × (offset ≡ k * 32768))
 

@@ -2,7 +2,7 @@
 
 ghost use Rattle.std.specs.Prelude.{◌≡◌, ◌⊎◌, ◌+◌, ◌++◌, ◌-◌, ◌*◌, ◌/◌, ◌%◌, ◌<◌, ◌≤◌, ◌^◌, ℕ, List, [], length, take, drop, slice_index_or, Some, IsSome, IfOk, OnOk, OnErr};
 ghost use Rattle.sf_block.specs.Contents.{complete, resized, written, writing, blocks_of};
-ghost use Rattle.sf_block.specs.Blocks.{entry_in, block_in, block_written, bytes_from, HasPlace, HasBytes, IsHeld, IsRunOf};
+ghost use Rattle.sf_block.specs.Blocks.{run_in, block_in, block_written, bytes_from, HasPlace, HasBytes, IsHeld, IsNoted, IsRunOf};
 
 use crate::blocks::Blocks;
 use crate::filling::Filling;
@@ -125,18 +125,15 @@ impl Contents {
     {
         let fresh = renewed(alloc, &self.blocks, offset, bytes)?;
         let filling = Filling::reserve(alloc, offset, bytes.len())?;
-        let first = offset / BLOCK;
-        self.blocks.make_places(alloc, first, fresh.len())?;
-        self.first = first;
+        make_places(alloc, &mut self.blocks, &mut self.runs, offset, bytes)?;
+        self.first = offset / BLOCK;
         self.fresh = VecDeque::from_vec(fresh);
         self.filling = filling;
         self.len = self.len.max(offset + bytes.len() as u64);
-        self.runs.note(offset, bytes);
         Ok(())
     }
 
-    /// Copies one block of a write, and puts it in place. It needs no memory: where the owners of a
-    /// run's copy can't be counted for want of it, its blocks go on sharing the write's bytes.
+    /// Copies one block of a write, and puts it in place. It takes no memory.
     pub fn copy_block(&mut self)
         requires { 0 < self.old.left }
         ensures { self.new ≡ record { bytes = self.old.bytes; left = self.old.left - 1 } }
@@ -157,7 +154,7 @@ impl Contents {
         }
     }
 
-    /// Copies all blocks that are left of a write. It needs no memory.
+    /// Copies all blocks that are left of a write. It takes no memory.
     pub fn copy_rest(&mut self)
         ensures { self.new ≡ complete self.old.bytes }
     {
@@ -216,6 +213,30 @@ impl Contents {
         }
         ByteString::from_vec(gather(alloc, &self.blocks, &self.runs, start, n as usize)?)
     }
+}
+
+/// Makes places for the blocks of a write, and for the runs that it writes whole.
+fn make_places(
+    alloc: Global,
+    blocks: &mut Blocks,
+    runs: &mut Runs,
+    offset: u64,
+    bytes: &ByteString,
+) -> Result<(), AllocError>
+    requires some { 0 < length bytes.now }
+    requires fits { offset + length bytes.now < 2 ^ 64 }
+    ensures same { (k : ℕ) → block_in blocks.new k ≡ block_in blocks.old k }
+    ensures there { OnOk result ((k : ℕ) → offset / 4096 ≤ k
+        → k < offset / 4096 + blocks_of offset bytes.now → HasPlace blocks.new k) }
+    ensures noted { OnOk result ((k : ℕ) (run : List ℕ) → run_in runs.new k ≡ Some run
+        → IsNoted runs.old offset bytes.now k run) }
+    ensures fewer { OnErr result ((k : ℕ) (run : List ℕ) → run_in runs.new k ≡ Some run
+        → run_in runs.old k ≡ Some run) }
+{
+    let first = offset / BLOCK;
+    let last = (offset + (bytes.len() as u64 - 1)) / BLOCK;
+    blocks.make_places(alloc, first, (last + 1 - first) as usize)?;
+    runs.note(offset, bytes)
 }
 
 /// The blocks that a write changes, as it leaves them: parts of its bytes, where these are all that
@@ -306,24 +327,22 @@ fn spliced(alloc: Global, old: &[u8], place: usize, bytes: &[u8]) -> Result<Byte
 }
 
 /// Puts blocks that were copied in the places of the same ones, which share a write's bytes, so that
-/// those go. A run is put in. Where there is no memory for the owners, all stays.
+/// those go. A run is put in. It takes no memory.
 fn settle(blocks: &mut Blocks, runs: &mut Runs, filling: &mut Filling, len: u64)
     requires held { IsHeld blocks.old filling.old.from filling.old.bytes }
     requires fits { filling.old.from + length filling.old.bytes / 4096 < 2 ^ 64 }
     ensures same { (k : ℕ) → block_in blocks.new k ≡ block_in blocks.old k }
     ensures kept { (k : ℕ) → HasPlace blocks.old k → HasPlace blocks.new k }
     ensures empty { filling.new.bytes ≡ [] }
-    ensures runs { (k : ℕ) (run : List ℕ) → entry_in runs.new k ≡ Some run
-        → (entry_in runs.old k ≡ Some run)
+    ensures runs { (k : ℕ) (run : List ℕ) → run_in runs.new k ≡ Some run
+        → (run_in runs.old k ≡ Some run)
         ⊎ IsRunOf filling.old.from filling.old.bytes len k run }
 {
-    if let Some((first, bytes)) = filling.take() {
-        if let Ok(run) = ByteString::from_vec(bytes) {
-            share(blocks, first, &run);
-            let number = first / ROW;
-            if first % ROW == 0 && run.len() as u64 == RUN && number < len / RUN {
-                runs.put(number, run);
-            }
+    if let Some((first, copies)) = filling.take() {
+        share(blocks, first, &copies);
+        let number = first / ROW;
+        if first % ROW == 0 && copies.len() as u64 == RUN && number < len / RUN {
+            runs.put(number, copies);
         }
     }
 }

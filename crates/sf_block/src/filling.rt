@@ -4,6 +4,7 @@ ghost use Rattle.std.specs.Prelude.{◌≡◌, ◌+◌, ◌++◌, ◌^◌, ◌<�
 ghost use Rattle.sf_block.specs.Blocks.{Filled};
 
 use crate::{BLOCK, MOST_SHARED, ROW};
+use sf_field::{ByteBuffer, ByteString};
 use std::alloc::{AllocError, Global};
 use std::marker::Model;
 use std::mem;
@@ -15,9 +16,9 @@ use std::mem;
 pub(crate) struct Filling {
     /// The number of the first block.
     from: u64,
-    bytes: Vec<u8>,
+    bytes: ByteBuffer,
     /// The buffers that are still unused, of which the last one is the next.
-    room: Vec<Vec<u8>>,
+    room: Vec<ByteBuffer>,
 }
 
 impl Model for Filling {
@@ -25,7 +26,7 @@ impl Model for Filling {
 
     ghost Value = { Filled };
 
-    ghost view = { λ f. record { from = f.from; bytes = f.bytes.items } };
+    ghost view = { λ f. record { from = f.from; bytes = f.bytes } };
 }
 
 impl Filling {
@@ -35,7 +36,7 @@ impl Filling {
     {
         Filling {
             from: 0,
-            bytes: Vec::new(alloc),
+            bytes: ByteBuffer::new(),
             room: Vec::new(alloc),
         }
     }
@@ -54,7 +55,7 @@ impl Filling {
         let end = (offset + len as u64) / BLOCK;
         for run in (first / ROW..end.div_ceil(ROW)).rev() {
             let blocks = end.min(run * ROW + ROW) - first.max(run * ROW);
-            let buffer = Vec::with_capacity(alloc, (blocks * BLOCK) as usize)?;
+            let buffer = ByteBuffer::with_capacity(alloc, (blocks * BLOCK) as usize)?;
             filling.room.push(buffer)?;
         }
         filling.bytes = filling.next();
@@ -73,37 +74,32 @@ impl Filling {
         if self.bytes.is_empty() {
             self.from = number;
         }
-        let room = self.bytes.capacity() - self.bytes.len();
-        block.len() == BLOCK as usize
-            && block.len() <= room
-            && self.bytes.extend_from_slice(block).is_ok()
+        block.len() == BLOCK as usize && self.bytes.append(block)
     }
 
     /// Gives the number of the first block and the copies, if there are any, and goes on with the
-    /// next buffer.
-    pub(crate) fn take(&mut self) -> Option<(u64, Vec<u8>)>
+    /// next buffer. It takes no memory.
+    pub(crate) fn take(&mut self) -> Option<(u64, ByteString)>
         ensures taken { IfSome result (λ taken. (taken.0 ≡ self.old.from)
-            × (taken.1.items ≡ self.old.bytes)) }
+            × (taken.1 ≡ self.old.bytes)) }
         ensures empty { self.new.bytes ≡ [] }
     {
         if self.bytes.is_empty() {
             return None;
         }
         let next = self.next();
-        Some((self.from, mem::replace(&mut self.bytes, next)))
+        let copies = mem::replace(&mut self.bytes, next);
+        Some((self.from, copies.into_string()))
     }
 
     /// The next buffer.
-    fn next(&mut self) -> Vec<u8>
-        ensures empty { result.items ≡ [] }
+    fn next(&mut self) -> ByteBuffer
+        ensures empty { result ≡ [] }
         ensures same { self.new ≡ self.old }
     {
-        let alloc = *self.room.allocator();
-        let mut buffer = match self.room.pop() {
-            Some(buffer) => buffer,
-            None => Vec::new(alloc),
-        };
-        buffer.clear();
-        buffer
+        match self.room.pop() {
+            Some(buffer) if buffer.is_empty() => buffer,
+            _ => ByteBuffer::new(),
+        }
     }
 }

@@ -1,8 +1,8 @@
 //! Runs of blocks that stand in one buffer each.
 
-ghost use Rattle.std.specs.Prelude.{◌≡◌, ◌⊎◌, ◌<◌, ◌≤◌, ◌+◌, ◌^◌, ℕ, List, length, Some, None, IsSome, IfOk, IfSome, IfNone};
+ghost use Rattle.std.specs.Prelude.{◌≡◌, ◌⊎◌, ◌<◌, ◌≤◌, ◌+◌, ◌^◌, ℕ, List, length, Some, None, IsSome, IfOk, IfSome, IfNone, OnOk, OnErr};
 ghost use Rattle.std.specs.Option.{option_copied};
-ghost use Rattle.sf_block.specs.Blocks.{entry_in, IsNoted};
+ghost use Rattle.sf_block.specs.Blocks.{run_in, entry_in, IsNoted};
 
 use crate::RUN;
 use crate::copies::copy_of;
@@ -29,7 +29,7 @@ impl Model for Runs {
 impl Runs {
     /// No runs, and memory for none.
     pub(crate) fn new(alloc: Global) -> Runs
-        ensures { (k : ℕ) → entry_in result k ≡ None }
+        ensures { (k : ℕ) → run_in result k ≡ None }
     {
         Runs {
             map: BTreeMap::new(alloc),
@@ -47,16 +47,19 @@ impl Runs {
 
     /// The bytes of the run of a number, if it isn't missing.
     pub(crate) fn get(&self, number: u64) -> Option<&ByteString>
-        ensures { option_copied result ≡ entry_in self.now number }
+        ensures { option_copied result ≡ run_in self.now number }
     {
-        self.map.get(&number)
+        match self.map.get(&number) {
+            Some(run) if !run.is_empty() => Some(run),
+            _ => None,
+        }
     }
 
     /// Takes out the runs from a number up to another.
-    pub(crate) fn forget(&mut self, first: u64, end: u64)
-        ensures gone { (k : ℕ) → first ≤ k → k < end → entry_in self.new k ≡ None }
-        ensures kept { (k : ℕ) (run : List ℕ) → entry_in self.new k ≡ Some run
-            → entry_in self.old k ≡ Some run }
+    fn forget(&mut self, first: u64, end: u64)
+        ensures gone { (k : ℕ) → first ≤ k → k < end → run_in self.new k ≡ None }
+        ensures kept { (k : ℕ) (run : List ℕ) → run_in self.new k ≡ Some run
+            → run_in self.old k ≡ Some run }
     {
         for number in first..end {
             self.take_out(number);
@@ -64,42 +67,68 @@ impl Runs {
     }
 
     fn take_out(&mut self, number: u64)
-        ensures gone { entry_in self.new number ≡ None }
-        ensures still { (k : ℕ) → entry_in self.old k ≡ None → entry_in self.new k ≡ None }
-        ensures kept { (k : ℕ) (run : List ℕ) → entry_in self.new k ≡ Some run
-            → entry_in self.old k ≡ Some run }
+        ensures gone { run_in self.new number ≡ None }
+        ensures still { (k : ℕ) → run_in self.old k ≡ None → run_in self.new k ≡ None }
+        ensures kept { (k : ℕ) (run : List ℕ) → run_in self.new k ≡ Some run
+            → run_in self.old k ≡ Some run }
     {
         self.map.remove(&number);
     }
 
-    /// Puts a run in, if there is memory for its place.
-    pub(crate) fn put(&mut self, number: u64, run: ByteString)
-        ensures { (k : ℕ) (other : List ℕ) → entry_in self.new k ≡ Some other
-            → ((k ≡ number) × (other ≡ run)) ⊎ (entry_in self.old k ≡ Some other) }
+    /// Makes a place for each run from a number up to another: what is there goes.
+    fn make_places(&mut self, first: u64, end: u64) -> Result<(), AllocError>
+        ensures { (k : ℕ) (run : List ℕ) → run_in self.new k ≡ Some run
+            → run_in self.old k ≡ Some run }
     {
-        if let Ok(_old) = self.map.insert(number, run) {}
+        for number in first..end {
+            self.make_place(number)?;
+        }
+        Ok(())
     }
 
-    /// Bytes were written: the runs that they touch go, and where they are one run, it is put in.
-    pub(crate) fn note(&mut self, offset: u64, bytes: &ByteString)
+    fn make_place(&mut self, number: u64) -> Result<(), AllocError>
+        ensures { (k : ℕ) (run : List ℕ) → run_in self.new k ≡ Some run
+            → run_in self.old k ≡ Some run }
+    {
+        self.map.insert(number, ByteString::new())?;
+        Ok(())
+    }
+
+    /// Puts a run in its place, if there is one. It takes no memory.
+    pub(crate) fn put(&mut self, number: u64, run: ByteString)
+        ensures { (k : ℕ) (other : List ℕ) → run_in self.new k ≡ Some other
+            → ((k ≡ number) × (other ≡ run)) ⊎ (run_in self.old k ≡ Some other) }
+    {
+        if let Some(place) = self.map.get_mut(&number) {
+            *place = run;
+        }
+    }
+
+    /// Bytes are about to be written: the runs that they touch go. Each run that is written whole
+    /// has a place then, and if the bytes are one run, it is put in.
+    pub(crate) fn note(&mut self, offset: u64, bytes: &ByteString) -> Result<(), AllocError>
         requires some { 0 < length bytes.now }
         requires fits { offset + length bytes.now < 2 ^ 64 }
-        ensures { (k : ℕ) (run : List ℕ) → entry_in self.new k ≡ Some run
-            → IsNoted self.old offset bytes.now k run }
+        ensures ok { OnOk result ((k : ℕ) (run : List ℕ) → run_in self.new k ≡ Some run
+            → IsNoted self.old offset bytes.now k run) }
+        ensures err { OnErr result ((k : ℕ) (run : List ℕ) → run_in self.new k ≡ Some run
+            → run_in self.old k ≡ Some run) }
     {
-        let last = offset + (bytes.len() as u64 - 1);
-        self.forget(offset / RUN, last / RUN + 1);
+        let end = offset + bytes.len() as u64;
+        self.forget(offset / RUN, (end - 1) / RUN + 1);
+        self.make_places(offset.div_ceil(RUN), end / RUN)?;
         if offset % RUN == 0 && bytes.len() as u64 == RUN {
             if let Ok(run) = bytes.share() {
                 self.put(offset / RUN, run);
             }
         }
+        Ok(())
     }
 
     /// Takes out the runs from a number on.
     pub(crate) fn cut(&mut self, end: u64)
-        ensures { (k : ℕ) (run : List ℕ) → entry_in self.new k ≡ Some run
-            → (k < end) × (entry_in self.old k ≡ Some run) }
+        ensures { (k : ℕ) (run : List ℕ) → run_in self.new k ≡ Some run
+            → (k < end) × (run_in self.old k ≡ Some run) }
     {
         while let Some(last) = self.last() {
             if last < end {

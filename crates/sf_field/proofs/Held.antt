@@ -5,10 +5,12 @@ use denote.Laws.{Is}
 use denote.RattleType.{RattleType}
 use mathlib.Core.Path.{subst}
 use mir.Val.{Val}
-use Rattle.std.specs.Prelude.{ℕ, List, Option, Some, None, ◌<◌, ◌^◌, IfSome}
+use Rattle.std.specs.Prelude.{ℕ, List, Option, Some, None, ◌<◌, ◌-◌, ◌^◌, drop, IfSome}
+use Rattle.std.proofs.lemmas.List.Elements.{All-take, All-drop}
 use Rattle.std.specs.contracts.option.Option as options
 use Rattle.sf_field.specs.Attributes.{AttrsFit, OwnerFits, TimesFit}
 use Rattle.sf_field.specs.Fields.{AreBytes}
+use Rattle.sf_field.specs.Strings.{owned}
 use Rattle.sf_field.specs.declared.attrs.Attrs.{Attrs}
 use Rattle.sf_field.specs.declared.attrs.Owner.{Owner}
 use Rattle.sf_field.specs.declared.attrs.Times.{Times}
@@ -36,4 +38,9 @@ held_attrs attrs vs is = record {
 }
 
 pub held_bytes : (bytes : List ℕ) (vs : List Val) → Is string_type.the_row bytes vs → AreBytes bytes
-held_bytes bytes vs is = subst AreBytes is.0.1.0 is.0.1.1
+held_bytes bytes vs is =
+    let string = is.0.0 in
+    let all : AreBytes (owned string.whole) = is.0.1.1.2 in
+    subst AreBytes is.0.1.0
+    (All-take (λ b. b < 256) (string.to - string.from) (drop string.from (owned string.whole))
+    (All-drop (λ b. b < 256) string.from (owned string.whole) all))

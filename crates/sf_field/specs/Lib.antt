@@ -2,3 +2,4 @@ pub mod Fields
 pub mod Attributes
 pub mod OpenFlags
 pub mod Reading
+pub mod Strings

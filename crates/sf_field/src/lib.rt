@@ -11,6 +11,7 @@
 pub const MAX_BODY: usize = 262144;
 
 mod attrs;
+mod byte_buffer;
 mod byte_string;
 mod field_laws;
 mod fields;
@@ -18,6 +19,7 @@ mod open_flags;
 mod writing;
 
 pub use attrs::{Attrs, NO_ATTRS, Owner, Times};
+pub use byte_buffer::ByteBuffer;
 pub use byte_string::ByteString;
 pub use field_laws::{bits_say_flags, field_is_read, read_field_is_there, sent_is_spelled};
 pub use fields::{attrs_of, bytes_at, sent_attrs_of, u32_at, u64_at};

@@ -5,7 +5,7 @@ use Rattle.sf_block.proofs.Places.{same_blocks, same_file}
 use Rattle.sf_block.proofs.Waiting.{now_none, now_same}
 use Rattle.sf_block.proofs.Laying.{last_block, now_small, now_kept, now_laid, lays, lays_ends}
 use Rattle.sf_block.proofs.Holding.{held_none}
-use Rattle.sf_block.proofs.Running.{runs_same, runs_noted}
+use Rattle.sf_block.proofs.Running.{runs_same, runs_fewer, runs_noted}
 use Rattle.sf_block.proofs.contents.Contents.start_write.Goals as goal
 
 pub invariant_of-self-2 : goal.invariant_of-self-2
@@ -14,7 +14,7 @@ invariant_of-self-2 c =
     let bytes : List ℕ = c.args.bytes.now in
     let start : ℕ = c.args.offset in
     let old : List (ℕ × List (List ℕ)) = inside.blocks in
-    let new : List (ℕ × List (List ℕ)) = c.make_places.new.self in
+    let new : List (ℕ × List (List ℕ)) = c.make_places.new.blocks in
     let fresh : List (List ℕ) = c.from_vec.result.items in
     let is : fresh ≡ c.in_ok-fresh.fresh.items = c.from_vec.ensures.items in
     let count : length fresh ≡ blocks_of start bytes = ap (λ (x : List (List ℕ)). length x) is ∙ c.in_ok-fresh.ensures.count in
@@ -24,20 +24,19 @@ invariant_of-self-2 c =
     let was = now_none inside.blocks inside.first inside.fresh.items none in
     let small : (k : ℕ) → length (block_in old k) ≤ 4096 = λ k. omega (arith, ap (λ (b : List ℕ). length b) (was k), c.self.invariant.0 k) in
     let ends : (i : ℕ) → inside.len ≤ i → byte_in (block_in old) i ≡ 0 = λ i le. ap (λ (f : ℕ → List ℕ). byte_in f i) (λ j k. sym (was k) j) ∙ c.self.invariant.1 i le in
-    let len : c.len-2.result ≡ length fresh = omega (arith, c.len-2.ensures, c.in_ok-fresh.fresh.ok.0, ap (λ (x : List (List ℕ)). length x) is) in
-    let most : c.max-self-inside.result ≡ max inside.len (start + length bytes) = omega (arith, c.max-self-inside.ensures, c.len-3.ensures) in
+    let most : c.max-self-inside.result ≡ max inside.len (start + length bytes) = omega (arith, c.max-self-inside.ensures, c.len-2.ensures) in
     let reach : length fresh ≡ (start + length bytes - 1) / 4096 + 1 - start / 4096 = count ∙ last_block start bytes c.requires.some in
     let nothing : length c.in_ok-filling.filling.bytes ≡ 0 = ap (λ (x : List ℕ). length x) c.in_ok-filling.ensures in (
       now_small new old start bytes fresh c.requires.some c.in_ok-make_places.ensures.same count laid small,
       λ i le. lays_ends new old start bytes fresh c.requires.some c.in_ok-make_places.ensures.same count laid inside.len ends i (omega (arith, most, le)),
-      λ k from to. c.in_ok-make_places.ensures.there k from (omega (arith, to, len)),
+      λ k from to. c.in_ok-make_places.ensures.there k from (omega (arith, to, count)),
       omega (arith, reach, c.requires.fits),
-      subst (λ n. AreRuns c.note.new.self (block_now new (start / 4096) fresh) n) (sym most)
-          (runs_noted inside.runs c.note.new.self (block_in old) (block_now new (start / 4096) fresh) inside.len start bytes c.requires.some
+      subst (λ n. AreRuns c.make_places.new.runs (block_now new (start / 4096) fresh) n) (sym most)
+          (runs_noted inside.runs c.make_places.new.runs (block_in old) (block_now new (start / 4096) fresh) inside.len start bytes c.requires.some
           (runs_same inside.runs (block_now old inside.first inside.fresh.items) (block_in old) inside.len (λ k. sym (was k)) c.self.invariant.4)
           (now_kept new old start bytes fresh c.requires.some c.in_ok-make_places.ensures.same count laid)
           (now_laid new old start bytes fresh c.requires.some c.in_ok-make_places.ensures.same count laid)
-          c.note.ensures),
+          c.in_ok-make_places.ensures.noted),
       held_none new c.in_ok-filling.filling.from c.in_ok-filling.filling.bytes nothing,
       λ some. absurd (omega (arith, some, nothing)),
       λ none. nothing,
@@ -49,7 +48,7 @@ returns-clause-ok c =
     let bytes : List ℕ = c.args.bytes.now in
     let start : ℕ = c.args.offset in
     let old : List (ℕ × List (List ℕ)) = inside.blocks in
-    let new : List (ℕ × List (List ℕ)) = c.make_places.new.self in
+    let new : List (ℕ × List (List ℕ)) = c.make_places.new.blocks in
     let fresh : List (List ℕ) = c.from_vec.result.items in
     let is : fresh ≡ c.in_ok-fresh.fresh.items = c.from_vec.ensures.items in
     let count : length fresh ≡ blocks_of start bytes = ap (λ (x : List (List ℕ)). length x) is ∙ c.in_ok-fresh.ensures.count in
@@ -60,7 +59,7 @@ returns-clause-ok c =
     let ends : (i : ℕ) → inside.len ≤ i → byte_in (block_in old) i ≡ 0 = λ i le. ap (λ (f : ℕ → List ℕ). byte_in f i) (λ j k. sym (was k) j) ∙ c.self.invariant.1 i le in
     let all : bytes_from (block_in old) 0 inside.len ≡ c.args.self.now.bytes =
     sym (same_blocks (block_now old inside.first inside.fresh.items) (block_in old) 0 inside.len was) ∙ ap (λ (v : FileBytes). v.bytes) c.self.view_is in
-    let most : c.max-self-inside.result ≡ max inside.len (start + length bytes) = omega (arith, c.max-self-inside.ensures, c.len-3.ensures) in
+    let most : c.max-self-inside.result ≡ max inside.len (start + length bytes) = omega (arith, c.max-self-inside.ensures, c.len-2.ensures) in
     same_file (bytes_from (block_now new (start / 4096) fresh) 0 c.max-self-inside.result) (written c.args.self.now.bytes start bytes) (length fresh) (blocks_of start bytes)
     (ap (bytes_from (block_now new (start / 4096) fresh) 0) most
     ∙ lays new old start bytes fresh c.requires.some c.in_ok-make_places.ensures.same count laid inside.len ends
@@ -72,7 +71,7 @@ pub invariant_of-self : goal.invariant_of-self
 invariant_of-self c =
     let inside = c.self.inside in
     let old : List (ℕ × List (List ℕ)) = inside.blocks in
-    let new : List (ℕ × List (List ℕ)) = c.make_places.new.self in
+    let new : List (ℕ × List (List ℕ)) = c.make_places.new.blocks in
     let none : length inside.fresh.items ≡ 0 = ap (λ (v : FileBytes). v.left) c.self.view_is ∙ c.requires.whole in
     let same : (k : ℕ) → block_now new inside.first inside.fresh.items k ≡ block_now old inside.first inside.fresh.items k = λ k.
     now_none new inside.first inside.fresh.items none k ∙ c.make_places.ensures.same k ∙ sym (now_none old inside.first inside.fresh.items none k) in (
@@ -80,7 +79,8 @@ invariant_of-self c =
       λ i le. ap (λ (b : List ℕ). get_or b (i % 4096) 0) (same (i / 4096)) ∙ c.self.invariant.1 i le,
       λ k from to. absurd (omega (arith, from, to, none)),
       c.self.invariant.3,
-      runs_same inside.runs (block_now old inside.first inside.fresh.items) (block_now new inside.first inside.fresh.items) inside.len same c.self.invariant.4,
+      runs_fewer inside.runs c.make_places.new.runs (block_now new inside.first inside.fresh.items) inside.len c.in_err-make_places.ensures.fewer
+          (runs_same inside.runs (block_now old inside.first inside.fresh.items) (block_now new inside.first inside.fresh.items) inside.len same c.self.invariant.4),
       held_none new inside.filling.from inside.filling.bytes (c.self.invariant.7 none),
       c.self.invariant.6,
       c.self.invariant.7,
@@ -90,8 +90,8 @@ pub returns-in_err-make_places-clause-err : goal.returns-in_err-make_places-clau
 returns-in_err-make_places-clause-err c =
     let inside = c.self.inside in
     let old : ℕ → List ℕ = block_now inside.blocks inside.first inside.fresh.items in
-    let new : ℕ → List ℕ = block_now c.make_places.new.self inside.first inside.fresh.items in
-    let same : (k : ℕ) → new k ≡ old k = now_same inside.blocks c.make_places.new.self inside.first inside.fresh.items c.make_places.ensures.same in
+    let new : ℕ → List ℕ = block_now c.make_places.new.blocks inside.first inside.fresh.items in
+    let same : (k : ℕ) → new k ≡ old k = now_same inside.blocks c.make_places.new.blocks inside.first inside.fresh.items c.make_places.ensures.same in
     let whole_is = same_file (bytes_from new 0 inside.len) c.args.self.now.bytes (length inside.fresh.items) c.args.self.now.left
     (same_blocks new old 0 inside.len same ∙ ap (λ (v : FileBytes). v.bytes) c.self.view_is)
     (ap (λ (v : FileBytes). v.left) c.self.view_is) in

@@ -1,9 +1,9 @@
 use Rattle.std.proofs.Common.{◌≡◌, ◌≤◌, ◌<◌, ℕ, List, Some, None}
-use Rattle.sf_block.specs.Blocks.{entry_in}
+use Rattle.sf_block.specs.Blocks.{run_in}
 use Rattle.sf_block.proofs.runs.Runs.forget.Given as goal
 
 abbrev pub invariant-loop-number : goal.invariant-loop-number
 invariant-loop-number l = record {
-  gone : (k : ℕ) → l.first ≤ k → k < l.number → entry_in l.self k ≡ None;
-  kept : (k : ℕ) (run : List ℕ) → entry_in l.self k ≡ Some run → entry_in l.fn.self k ≡ Some run;
+  gone : (k : ℕ) → l.first ≤ k → k < l.number → run_in l.self k ≡ None;
+  kept : (k : ℕ) (run : List ℕ) → run_in l.self k ≡ Some run → run_in l.fn.self k ≡ Some run;
 }
