@@ -5,7 +5,7 @@ ghost use Rattle.std.specs.List.{flat_map};
 ghost use Rattle.sf_reply.specs.Replies.{entry_text};
 
 use bytes::BytesMut;
-use sf_field::{Attrs, ByteString, NO_ATTRS, OpenFlags, Owner, Times};
+use sf_field::{Attrs, ByteBuffer, ByteString, NO_ATTRS, OpenFlags, Owner, Times};
 use sf_hex::hex_bytes;
 use sf_reply::{Entry, Listing, Reply, StatusCode};
 use std::alloc::{AllocError, Global};

@@ -46,6 +46,27 @@ fn parts_of_byte_strings(rt: HostRuntime) -> Result<(), Fail> {
     Ok(())
 }
 
+/// Asserts whether bytes are appended.
+fn is_appended(rt: &impl Abort, buffer: &mut ByteBuffer, bytes: &[u8], want: bool) {
+    assert!(rt; buffer.append(bytes) == want);
+}
+
+#[test]
+fn byte_buffers(rt: HostRuntime) -> Result<(), Fail> {
+    let mut buffer = ByteBuffer::with_capacity(rt.alloc(), 6)?;
+    assert!(rt; buffer.is_empty());
+    is_appended(&rt, &mut buffer, b"abc", true);
+    is_appended(&rt, &mut buffer, b"defg", false);
+    is_appended(&rt, &mut buffer, b"def", true);
+    is_appended(&rt, &mut buffer, b"g", false);
+    assert!(rt; !buffer.is_empty());
+    are(&rt, buffer.into_string().as_slice(), b"abcdef");
+    let mut nothing = ByteBuffer::new();
+    is_appended(&rt, &mut nothing, b"a", false);
+    assert!(rt; nothing.into_string().is_empty());
+    Ok(())
+}
+
 fn write_fields(out: &mut BytesMut) -> Result<(), Fail> {
     write_u32(out, 0x0102_0304)?;
     write_u64(out, 5)?;

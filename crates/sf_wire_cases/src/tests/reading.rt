@@ -52,7 +52,12 @@ fn handles_data_and_attributes(rt: HostRuntime) {
     let body = "66 00000001 00000008 0000000000000001";
     is_read(&rt, alloc, body, "1 Handle(1)");
     let body = "67 00000003 00000002 0078";
-    is_read(&rt, alloc, body, r#"3 Data(ByteString { bytes: b"\0x" })"#);
+    is_read(
+        &rt,
+        alloc,
+        body,
+        r#"3 Data(ByteString { bytes: b"\x00x" })"#,
+    );
     let body = "69 00000008 0000000f 0000000000000000 00000000 00000000 000041ed 00000064 00000065";
     is_read(
         &rt,
