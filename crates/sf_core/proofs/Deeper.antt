@@ -80,17 +80,26 @@ first_depth r at (IsApart old new c f g is) top ends e =
       | false ↦ omega (arith, a, b, x)
     ]
 
+-- a call that stands where its stage on its route is
+pub record WalkingCall (s : Walkers) : Type 0 where
+  pub number : ℕ
+  pub route : Route
+  pub stage : Stage
+  pub spots : s.spots number ≡ spots_of route stage
+  pub position : IsPosition route stage
+
 -- a call that wants what another holds looks less far down
-pub looks_deeper : (s : Walkers) → AreWalks s → (n m : ℕ) → n ≢ m → (r q : Route) (at there : Stage) → s.spots n ≡ spots_of r at → IsPosition r at → s.spots m ≡ spots_of q there → IsPosition q there
-    → (wanted : Spot) → LooksUp r at wanted.path → Holds (s.spots m) wanted → depth_at r at < depth_at q there
-looks_deeper s walks n m other r q at there own is its has wanted looks held =
-    by (spots_of q there) refl (subst (λ (x : List Spot). Holds x wanted) its held)
+pub looks_deeper : (s : Walkers) → AreWalks s → (c d : WalkingCall s) → c.number ≢ d.number → (wanted : Spot) → LooksUp c.route c.stage wanted.path → Holds (s.spots d.number) wanted
+    → depth_at c.route c.stage < depth_at d.route d.stage
+looks_deeper s walks c d other wanted looks held =
+    by (spots_of d.route d.stage) refl (subst (λ (x : List Spot). Holds x wanted) d.spots held)
   where
-    by : (spots : List Spot) → spots_of q there ≡ spots → Holds spots wanted → depth_at r at < depth_at q there
+    by : (spots : List Spot) → spots_of d.route d.stage ≡ spots → Holds spots wanted → depth_at c.route c.stage < depth_at d.route d.stage
     by [] e h = absurd h
     by (top ∷ ends) e h =
-        let a = looks_depth r at wanted.path looks is in
-        let b = first_depth q there has top ends e in
-        let same = waits_at_top s walks n m other wanted (subst (λ (x : List Spot). IsFrom x wanted) (sym own) (looks_from r at wanted.path looks is wanted refl)) top ends (its ∙ e) h in
+        let a = looks_depth c.route c.stage wanted.path looks c.position in
+        let b = first_depth d.route d.stage d.position top ends e in
+        let from = subst (λ (x : List Spot). IsFrom x wanted) (sym c.spots) (looks_from c.route c.stage wanted.path looks c.position wanted refl) in
+        let same = waits_at_top s walks c.number d.number other wanted from top ends (d.spots ∙ e) h in
         let d = ap (λ (p : Path). length p) same in
         omega (arith, a, b, d)

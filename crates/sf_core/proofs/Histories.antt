@@ -1,5 +1,5 @@
 -- The history grows by one record.
-use Rattle.std.specs.Prelude.{◌≡◌, ◌≢◌, ◌<◌, ◌≤◌, ◌+◌, ◌-◌, ◌^◌, ℕ, min, is_none, Bool, List, [], ◌∷◌, ◌++◌, length, Option, Some, None, refl}
+use Rattle.std.specs.Prelude.{◌≡◌, ◌≢◌, ◌<◌, ◌≤◌, ◌+◌, ◌^◌, ℕ, is_none, Bool, List, [], ◌∷◌, ◌++◌, length, Option, Some, None, refl}
 use Rattle.std.specs.List.{AllByRecursion, count_by}
 use Rattle.std.proofs.Common.{sym, ap, subst, ◌∙◌, inl, inr, arith}
 use Rattle.sf_reply.specs.declared.reply.Reply.{Reply}
@@ -38,9 +38,6 @@ among_last r [] = inl refl
 among_last r (x ∷ h) = inr (among_last r h)
 
 -- ---- the book
-few : (all folded gone now before rest total : ℕ) → folded ≡ gone → now ≡ before → gone + before ≡ all → all + rest ≡ total → total < 2 ^ 63 → min (folded + now) (2 ^ 64 - 1) ≡ all
-few all folded gone now before rest total a b c d e = omega (arith, a, b, c, d, e)
-
 -- the book has the history's last records, and counts those before
 pub record IsWritten (b : BookView) (h : List Record) : Type 0 where
   pub records : b.records ≡ kept_of b.keep h
@@ -52,9 +49,9 @@ written_put b h r w small = record {
   folded =
       let y : count_by is_call (gone_of b.keep (b.records ++ r ∷ [])) ≡ count_by is_call (gone_of b.keep (kept_of b.keep h ++ r ∷ [])) =
       ap (λ (rs : List Record). count_by is_call (gone_of b.keep (rs ++ r ∷ []))) w.records in
-      few (count_by is_call (gone_of b.keep (h ++ r ∷ []))) b.folded (count_by is_call (gone_of b.keep h)) (count_by is_call (gone_of b.keep (b.records ++ r ∷ [])))
-      (count_by is_call (gone_of b.keep (kept_of b.keep h ++ r ∷ []))) (count_by is_call (kept_of b.keep (h ++ r ∷ []))) (count_by is_call (h ++ r ∷ [])) w.folded y (gone-put b.keep h r)
-      (deeds-split (h ++ r ∷ []) (excess b.keep (h ++ r ∷ []))) small;
+      let put = gone-put b.keep h r in
+      let split = deeds-split (h ++ r ∷ []) (excess b.keep (h ++ r ∷ [])) in
+      omega (arith, w.folded, y, put, split, small);
 }
 
 -- ---- the history after an event of one call and of one session: g is the old one, with records or without

@@ -26,8 +26,8 @@ use Rattle.sf_core.specs.Writing.{CopiesOne}
 
 -- what a handle opens in the tree
 opens_file : (t : Tree) (session number : ℕ) (x : Handle) (meta : Metadata) (z : Content) → handle_in t session number ≡ Some x → object_of t.objects x.label ≡ Some (object_in meta z)
-    → (handle : Handle) (m : Metadata) (contents : List ℕ) → opened t session number ≡ OpenFile handle m contents → (handle ≡ x) × (contents ≡ bytes_in z)
-opens_file t session number x meta z here object handle m contents e =
+    → {handle : Handle} {m : Metadata} {contents : List ℕ} → opened t session number ≡ OpenFile handle m contents → (handle ≡ x) × (contents ≡ bytes_in z)
+opens_file t session number x meta z here object {handle = handle} {m = m} {contents = contents} e =
     elim z as (λ y. opened_object x (Some (object_in meta y)) ≡ OpenFile handle m contents → (handle ≡ x) × (contents ≡ bytes_in y)) [
       | content.Directory es ↦ λ f. absurd (let k : ⊥ = cc in k)
       | content.File f ↦ λ f. (cc, cc)
@@ -41,7 +41,7 @@ module _ (s : StoreState) (t : Tree) (keeps : Keeps s t) (session number : ℕ) 
       let node = keeps.led session number x at in
       let here : handle_in t session number ≡ Some (shown_handle session x) = keeps.shows.by.handles session number ∙ ap (option_map (shown_handle session)) at in
       let object : object_of t.objects x.label ≡ Some (object_in node.0.metadata node.0.content) = ap (object_of t.objects) (sym node.1.1) ∙ object_there s t keeps x.node node.0 node.1.0 in
-      let f = opens_file t session number (shown_handle session x) node.0.metadata node.0.content here object handle m contents opens in
+      let f = opens_file t session number (shown_handle session x) node.0.metadata node.0.content here object opens in
       let stored : contents ≡ bytes_of s.nodes x.node = f.1 ∙ sym (ap (λ (o : Option Node). option_map_or (λ (y : Node). bytes_in y.content) o []) node.1.0) in
       ap (λ (y : Handle). start_of y contents offset) f.0 ∙ ap (λ (b : List ℕ). if x.marks.append then length b else offset) stored
 
