@@ -4,7 +4,8 @@ use Rattle.sf_trees.specs.declared.fault.TreeFault.{TreeFault}
 use Rattle.sf_trees.specs.declared.fault.Refused.{Refused}
 use Rattle.sf_trees.specs.Deeds.{Deed, Begins, Ends, Does, IsNothing, Then, BySession, refused_at, request_place}
 
--- Deeds lead a server from one state to another: none leaves it as it is, and they follow one another.
+-- Deeds lead a server from one state to another: none leaves it as it is, and they follow one
+-- another.
 pub record DeedLaws (V : Type 0) : Type 1 where
   pub reaches : V → List Deed → V → Type 0
   pub none : (a : V) → reaches a [] a
