@@ -17,8 +17,8 @@ use Rattle.sf_client.specs.Outcomes.{asked}
 use Rattle.sf_client.specs.Ahead.{ClientAhead, sender, EndsCallBy, GathersNames, SendsOn, TakesOn}
 use Rattle.sf_client.specs.Calls.{DoesCall, EndsAtLast, IsListing, listings, all_entries, ListsAll, ended_by}
 use Rattle.sf_client.proofs.Exchanging.{all-append}
-use Rattle.sf_client.proofs.Runs.{Ends, eof_is}
-use Rattle.sf_client.proofs.Pipelines.{Phase, Going, Skipping, Stopped, Drops, Pipeline, Position, starts, HasRoom, sends_on, GathersWith, took_on, took_no_room, ended}
+use Rattle.sf_client.proofs.Runs.{CallEnded, eof_is}
+use Rattle.sf_client.proofs.Pipelines.{PipelinePhase, Going, Skipping, Stopped, Drops, Pipeline, Position, starts, HasRoom, sends_on, GathersWith, took_on, took_no_room, ended}
 
 -- ---- parts
 
@@ -40,7 +40,7 @@ pub record Parts (n : ℕ) (entries : List Entry) (made : List Exchange) : Type 
   pub made_are : made ≡ listings n parts
 
 -- After some parts this fault ended it, and the replies after that were dropped.
-pub record EndedBy (f : ClientFault) (n : ℕ) (entries : List Entry) (made : List Exchange) : Type 0 where
+pub record ListEndedBy (f : ClientFault) (n : ℕ) (entries : List Entry) (made : List Exchange) : Type 0 where
   pub parts : List (List Entry)
   pub last : List Exchange
   pub after : List Exchange
@@ -50,10 +50,10 @@ pub record EndedBy (f : ClientFault) (n : ℕ) (entries : List Entry) (made : Li
   pub made_are : made ≡ (listings n parts ++ last) ++ after
 
 -- no reply is dropped but after a fault
-abbrev pub GathersEntries : ℕ → List Entry → Phase → List Exchange → List WireRequest → Type 0
+abbrev pub GathersEntries : ℕ → List Entry → PipelinePhase → List Exchange → List WireRequest → Type 0
 GathersEntries n entries Going made coming = Parts n entries made
 GathersEntries n entries Skipping made coming = ⊥
-GathersEntries n entries (Stopped f) made coming = EndedBy f n entries made
+GathersEntries n entries (Stopped f) made coming = ListEndedBy f n entries made
 
 abbrev pub AsksNames : ℕ → WireRequest → Type 0
 AsksNames n q = q ≡ request.ReadDir (be64 n)
@@ -77,7 +77,7 @@ list_stops n entries made coming e f one ends h =
       made_are = ap (λ (t : List Exchange). t ++ e ∷ []) h.made_are ∙ ap (λ (q : WireRequest). listings n h.parts ++ asked q e.reply ∷ []) one ∙ sym (append-nil (listings n h.parts ++ last));
     }
 
-pub list_drops : (n : ℕ) (entries : List Entry) (phase : Phase) (made : List Exchange) (coming : List WireRequest) (e : Exchange) → Drops phase → AsksNames n e.request → GathersEntries n entries phase made (e.request ∷ coming)
+pub list_drops : (n : ℕ) (entries : List Entry) (phase : PipelinePhase) (made : List Exchange) (coming : List WireRequest) (e : Exchange) → Drops phase → AsksNames n e.request → GathersEntries n entries phase made (e.request ∷ coming)
     → GathersEntries n entries phase (made ++ e ∷ []) coming
 list_drops n entries Going made coming e drops one h = absurd drops
 list_drops n entries Skipping made coming e drops one h = h
@@ -133,7 +133,7 @@ list_gathered {v} {y} {z} n entries part now at some h (inl k) =
     subst (λ (b : Ahead). Position (listing n) v now (sender z.client b)) (sym k.1) (took_on at (reply.Names part) now some h (part_more n entries part now at.made k.0))
 list_gathered n entries part now at some h (inr k) = took_no_room at (reply.Names part) now some h k (part_lost n entries part now at.made)
 
-list_ends : (n : ℕ) (entries : List Entry) (f : ClientFault) (made : List Exchange) → GathersEntries n entries (Stopped f) made [] → Ends (ListsAll n) made entries f
+list_ends : (n : ℕ) (entries : List Entry) (f : ClientFault) (made : List Exchange) → GathersEntries n entries (Stopped f) made [] → CallEnded (ListsAll n) made entries f
 list_ends n entries f made h =
     let kept = listings n h.parts ++ h.last in
     let ends = h.ends in

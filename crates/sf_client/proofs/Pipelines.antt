@@ -16,23 +16,23 @@ use Rattle.sf_client.specs.Ahead.{ClientAhead, sender, EndsCallBy, SendsOn, Take
 use Rattle.sf_client.specs.Calls.{DoesCall, ended_by}
 use Rattle.sf_client.proofs.Exchanging.{exchanged_none, sent_more, took_one, last_id-append, requests-shift, all-append}
 use Rattle.sf_client.proofs.Steps.{broke_since, answer_due}
-use Rattle.sf_client.proofs.Runs.{Ends, ended_does}
+use Rattle.sf_client.proofs.Runs.{CallEnded, ended_does}
 
 -- ---- a pipeline, and where it stands
 
 -- A call gathers from the replies that come; or it drops those on their way, and goes on after
 -- them; or this fault stopped it, and it drops them.
-pub data Phase : Type 0 where
-  Going : Phase
-  Skipping : Phase
-  Stopped : ClientFault → Phase
+pub data PipelinePhase : Type 0 where
+  Going : PipelinePhase
+  Skipping : PipelinePhase
+  Stopped : ClientFault → PipelinePhase
 
-abbrev pub IsIn : Phase → Ahead → Type 0
+abbrev pub IsIn : PipelinePhase → Ahead → Type 0
 IsIn Going a = (a.stopped ≡ None) × (a.dropped ≡ 0)
 IsIn Skipping a = (a.stopped ≡ None) × (a.dropped ≡ a.waiting)
 IsIn (Stopped f) a = (a.stopped ≡ Some f) × (a.dropped ≡ a.waiting)
 
-abbrev pub Drops : Phase → Type 0
+abbrev pub Drops : PipelinePhase → Type 0
 Drops Going = ⊥
 Drops Skipping = Unit {0}
 Drops (Stopped f) = Unit {0}
@@ -44,7 +44,7 @@ pub record Pipeline : Type 1 where
   pub due : Due
   pub dues : (q : WireRequest) → IsOne q → due_of q ≡ due
   pub Gathered : Type 0
-  pub Gathers : Gathered → Phase → List Exchange → List WireRequest → Type 0
+  pub Gathers : Gathered → PipelinePhase → List Exchange → List WireRequest → Type 0
   -- nothing more is dropped
   pub skipped : (x : Gathered) (made : List Exchange) → Gathers x Skipping made [] → Gathers x Going made []
   -- there is no memory to send one more
@@ -53,11 +53,11 @@ pub record Pipeline : Type 1 where
   pub stops : (x : Gathered) (made : List Exchange) (coming : List WireRequest) (e : Exchange) (f : ClientFault) → IsOne e.request → EndsCallBy e.reply f → Gathers x Going made (e.request ∷ coming)
       → Gathers x (Stopped f) (made ++ e ∷ []) coming
   -- the reply of the oldest one is dropped
-  pub drops : (x : Gathered) (phase : Phase) (made : List Exchange) (coming : List WireRequest) (e : Exchange) → Drops phase → IsOne e.request → Gathers x phase made (e.request ∷ coming) → Gathers x phase (made ++ e ∷ []) coming
+  pub drops : (x : Gathered) (phase : PipelinePhase) (made : List Exchange) (coming : List WireRequest) (e : Exchange) → Drops phase → IsOne e.request → Gathers x phase made (e.request ∷ coming) → Gathers x phase (made ++ e ∷ []) coming
 
 -- Where a pipeline stands that a client began: what was made and gathered, and what is on its way.
 pub record Position (p : Pipeline) (began : ClientView) (x : p.Gathered) (now : ClientAhead) : Type 0 where
-  pub phase : Phase
+  pub phase : PipelinePhase
   pub made : List Exchange
   pub coming : List WireRequest
   pub few : now.ahead.waiting ≤ 64
@@ -91,7 +91,7 @@ nothing_coming {y = y} at none = nothing at.coming y.ahead.waiting at.waiting no
 -- it goes on where nothing stopped it and no reply is dropped
 pub goes_on : {p : Pipeline} {v : ClientView} {x : p.Gathered} {y : ClientAhead} (at : Position p v x y) → y.ahead.stopped ≡ None → y.ahead.dropped ≡ 0 → p.Gathers x Going at.made at.coming
 goes_on {p} {v} {x} {y} at none kept =
-    (elim at.phase as (λ (s : Phase). IsIn s y.ahead → p.Gathers x s at.made at.coming → p.Gathers x Going at.made at.coming) [
+    (elim at.phase as (λ (s : PipelinePhase). IsIn s y.ahead → p.Gathers x s at.made at.coming → p.Gathers x Going at.made at.coming) [
       | Going ↦ λ is h. h
       | Skipping ↦ λ is h. let nil = nothing_coming at (sym is.1 ∙ kept) in
           subst (p.Gathers x Going at.made) (sym nil) (p.skipped x at.made (subst (p.Gathers x Skipping at.made) nil h))
@@ -101,7 +101,7 @@ goes_on {p} {v} {x} {y} at none kept =
 -- the next reply counts where it isn't dropped
 counts : {p : Pipeline} {v : ClientView} {x : p.Gathered} {y : ClientAhead} (at : Position p v x y) → 0 < y.ahead.waiting → y.ahead.dropped ≡ 0 → (y.ahead.stopped ≡ None) × p.Gathers x Going at.made at.coming
 counts {p} {v} {x} {y} at some kept =
-    (elim at.phase as (λ (s : Phase). IsIn s y.ahead → p.Gathers x s at.made at.coming → (y.ahead.stopped ≡ None) × p.Gathers x Going at.made at.coming) [
+    (elim at.phase as (λ (s : PipelinePhase). IsIn s y.ahead → p.Gathers x s at.made at.coming → (y.ahead.stopped ≡ None) × p.Gathers x Going at.made at.coming) [
       | Going ↦ λ is h. (is.0, h)
       | Skipping ↦ λ is h. absurd (omega (arith, some, kept, is.1))
       | Stopped f ↦ λ is h. absurd (omega (arith, some, kept, is.1))
@@ -111,7 +111,7 @@ counts {p} {v} {x} {y} at some kept =
 drops_one : {p : Pipeline} {v : ClientView} {x : p.Gathered} {y : ClientAhead} (at : Position p v x y) → 0 < y.ahead.dropped
     → Drops at.phase × IsIn at.phase (record y.ahead { waiting = y.ahead.waiting - 1; dropped = y.ahead.dropped - 1 })
 drops_one {p} {v} {x} {y} at more =
-    (elim at.phase as (λ (s : Phase). IsIn s y.ahead → Drops s × IsIn s (record y.ahead { waiting = y.ahead.waiting - 1; dropped = y.ahead.dropped - 1 })) [
+    (elim at.phase as (λ (s : PipelinePhase). IsIn s y.ahead → Drops s × IsIn s (record y.ahead { waiting = y.ahead.waiting - 1; dropped = y.ahead.dropped - 1 })) [
       | Going ↦ λ is. absurd (omega (arith, more, is.1))
       | Skipping ↦ λ is. (tt, (is.0, ap (λ (n : ℕ). n - 1) is.1))
       | Stopped f ↦ λ is. (tt, (is.0, ap (λ (n : ℕ). n - 1) is.1))
@@ -120,12 +120,12 @@ drops_one {p} {v} {x} {y} at more =
 -- nothing is dropped where nothing is due
 pub none_dropped : {p : Pipeline} {v : ClientView} {x : p.Gathered} {y : ClientAhead} (at : Position p v x y) → y.ahead.waiting ≡ 0 → y.ahead.dropped ≡ 0
 none_dropped {p} {v} {x} {y} at none =
-    (elim at.phase as (λ (s : Phase). IsIn s y.ahead → y.ahead.dropped ≡ 0) [ Going ↦ λ is. is.1 | Skipping ↦ λ is. is.1 ∙ none | Stopped f ↦ λ is. is.1 ∙ none ]) at.is_in
+    (elim at.phase as (λ (s : PipelinePhase). IsIn s y.ahead → y.ahead.dropped ≡ 0) [ Going ↦ λ is. is.1 | Skipping ↦ λ is. is.1 ∙ none | Stopped f ↦ λ is. is.1 ∙ none ]) at.is_in
 
 pub stopped_by : {p : Pipeline} {v : ClientView} {x : p.Gathered} {y : ClientAhead} (at : Position p v x y) (f : ClientFault) → y.ahead.stopped ≡ Some f → y.ahead.waiting ≡ 0 → p.Gathers x (Stopped f) at.made []
 stopped_by {p} {v} {x} {y} at f stopped none =
     subst (p.Gathers x (Stopped f) at.made) (nothing_coming at none)
-    ((elim at.phase as (λ (s : Phase). IsIn s y.ahead → p.Gathers x s at.made at.coming → p.Gathers x (Stopped f) at.made at.coming) [
+    ((elim at.phase as (λ (s : PipelinePhase). IsIn s y.ahead → p.Gathers x s at.made at.coming → p.Gathers x (Stopped f) at.made at.coming) [
       | Going ↦ λ is h. let going = is.0 in absurd cc
       | Skipping ↦ λ is h. let going = is.0 in absurd cc
       | Stopped g ↦ λ is h. let by = is.0 in let same : g ≡ f = cc in subst (λ (k : ClientFault). p.Gathers x (Stopped k) at.made at.coming) same h
@@ -186,14 +186,14 @@ sends_on at q false room one h gathers = unsent at room h
 -- ---- one reply more
 
 -- A reply came for the oldest request.
-pub record Came (y : ClientAhead) (d : Due) (r : Reply) (z : ClientAhead) : Type 0 where
+pub record ReplyCame (y : ClientAhead) (d : Due) (r : Reply) (z : ClientAhead) : Type 0 where
   pub some : 0 < y.ahead.waiting
   pub due : is_due d r ≡ true
   pub took : Took y.client r z.client
   pub id : z.ahead.id ≡ y.ahead.id
   pub waiting : z.ahead.waiting ≡ y.ahead.waiting - 1
 
-came : {p : Pipeline} {v : ClientView} {x : p.Gathered} {y z : ClientAhead} {r : Reply} (at : Position p v x y) (phase : Phase) (now : p.Gathered) → Came y p.due r z → IsIn phase z.ahead
+came : {p : Pipeline} {v : ClientView} {x : p.Gathered} {y z : ClientAhead} {r : Reply} (at : Position p v x y) (phase : PipelinePhase) (now : p.Gathered) → ReplyCame y p.due r z → IsIn phase z.ahead
     → ((q : WireRequest) (others : List WireRequest) → p.IsOne q → p.Gathers x at.phase at.made (q ∷ others) → p.Gathers now phase (at.made ++ asked q r ∷ []) others) → Position p v now z
 came {p} {v} {x} {y} {z} {r} at phase now c is_in gathers =
     let old = something at.coming y.ahead.waiting at.waiting c.some in
@@ -212,14 +212,14 @@ came {p} {v} {x} {y} {z} {r} at phase now c is_in gathers =
     }
 
 -- the same, where the reply counts
-counted : {p : Pipeline} {v : ClientView} {x : p.Gathered} {y z : ClientAhead} {r : Reply} (at : Position p v x y) (phase : Phase) (now : p.Gathered) → Came y p.due r z → y.ahead.dropped ≡ 0
+counted : {p : Pipeline} {v : ClientView} {x : p.Gathered} {y z : ClientAhead} {r : Reply} (at : Position p v x y) (phase : PipelinePhase) (now : p.Gathered) → ReplyCame y p.due r z → y.ahead.dropped ≡ 0
     → (y.ahead.stopped ≡ None → IsIn phase z.ahead) → ((q : WireRequest) (others : List WireRequest) → p.IsOne q → p.Gathers x Going at.made (q ∷ others) → p.Gathers now phase (at.made ++ asked q r ∷ []) others) → Position p v now z
 counted {p} {v} {x} {y} {z} {r} at phase now c kept is_in gathers =
     let going = counts at c.some kept in
     let there : Position p v x y = record at { phase = Going; is_in = (going.0, kept); gathers = going.1 } in
     came there phase now c (is_in going.0) gathers
 
-answered : {d : Due} {y z : ClientAhead} {a : Ahead} (r : Reply) → 0 < y.ahead.waiting → TakesOn y d (Ok (Some r)) z → a.id ≡ z.ahead.id → a.waiting ≡ z.ahead.waiting → Came y d r (sender z.client a)
+answered : {d : Due} {y z : ClientAhead} {a : Ahead} (r : Reply) → 0 < y.ahead.waiting → TakesOn y d (Ok (Some r)) z → a.id ≡ z.ahead.id → a.waiting ≡ z.ahead.waiting → ReplyCame y d r (sender z.client a)
 answered {d} {y} {z} {a} r some h id waiting = record {
   some = some;
   due = answer_due d r h.0;
@@ -229,7 +229,7 @@ answered {d} {y} {z} {a} r some h id waiting = record {
 }
 
 -- what was gathered with this reply
-abbrev pub GathersWith : (p : Pipeline) → p.Gathered → List Exchange → Reply → p.Gathered → Phase → Type 0
+abbrev pub GathersWith : (p : Pipeline) → p.Gathered → List Exchange → Reply → p.Gathered → PipelinePhase → Type 0
 GathersWith p x made r now phase =
     (q : WireRequest) (others : List WireRequest) → p.IsOne q → p.Gathers x Going made (q ∷ others) → p.Gathers now phase (made ++ asked q r ∷ []) others
 
@@ -291,7 +291,7 @@ failed S at fault.Failed z some h = absurd h
 
 -- a fault stopped it, and all replies were taken
 pub ended : {p : Pipeline} {v : ClientView} {x : p.Gathered} {y : ClientAhead} (S : List Exchange → Result p.Gathered ClientFault → Type 0) (at : Position p v x y) → y.ahead.waiting ≡ 0 → y.ahead.stopped ≢ None
-    → ((f : ClientFault) → p.Gathers x (Stopped f) at.made [] → Ends S at.made x f) → DoesCall S v (ended_by y.ahead.stopped x) y.client
+    → ((f : ClientFault) → p.Gathers x (Stopped f) at.made [] → CallEnded S at.made x f) → DoesCall S v (ended_by y.ahead.stopped x) y.client
 ended {p} {v} {x} {y} S at none some ends =
     (elim y.ahead.stopped as (λ (s : Option ClientFault). y.ahead.stopped ≡ s → DoesCall S v (ended_by s x) y.client) [ None ↦ λ is. absurd (some is) | Some f ↦ λ is. ended_does (ends f (stopped_by at f is none)) (all_taken at none) ]) refl
 

@@ -20,8 +20,8 @@ use Rattle.sf_client.specs.Ahead.{ClientAhead, sender, EndsCallBy, GathersPiece,
 use Rattle.sf_client.specs.Calls.{DoesCall, EndsAtLast, IsReadOf, KeepsSome, read_from, reads, Reads, ReadsAll, AsksSize, size_of, most_gathered, ended_by}
 use Rattle.sf_client.proofs.Exchanging.{exchanged_none, exchanged_then, unanswered_then}
 use Rattle.sf_client.proofs.Steps.{broke_since}
-use Rattle.sf_client.proofs.Runs.{Ends, eof_is}
-use Rattle.sf_client.proofs.Pipelines.{Phase, Going, Skipping, Stopped, Drops, Pipeline, Position, starts, HasRoom, sends_on, GathersWith, took_on, took_short, took_no_room, ended}
+use Rattle.sf_client.proofs.Runs.{CallEnded, eof_is}
+use Rattle.sf_client.proofs.Pipelines.{PipelinePhase, Going, Skipping, Stopped, Drops, Pipeline, Position, starts, HasRoom, sends_on, GathersWith, took_on, took_short, took_no_room, ended}
 
 -- a refusal tells no size
 pub no_size : (r : Reply) (code : StatusCode) → Refuses r code → 0 ≡ size_of r
@@ -80,20 +80,20 @@ pub record Pieces (n : ℕ) (bytes : List ℕ) (kept : List Exchange) : Type 0 w
   pub kept_are : kept ≡ reads n 0 pieces
 
 -- After some pieces this fault ended it.
-pub record EndedBy (f : ClientFault) (n : ℕ) (bytes : List ℕ) (kept : List Exchange) : Type 0 where
+pub record ReadEndedBy (f : ClientFault) (n : ℕ) (bytes : List ℕ) (kept : List Exchange) : Type 0 where
   pub pieces : List (List ℕ)
   pub last : List Exchange
   pub bytes_are : f ≡ fault.Status status.EndOfFile → bytes ≡ concat pieces
   pub ends : EndsAtLast (read_from n (length (concat pieces))) last f
   pub kept_are : kept ≡ reads n 0 pieces ++ last
 
-abbrev pub KeptIn : Phase → ℕ → List ℕ → List Exchange → List WireRequest → Type 0
+abbrev pub KeptIn : PipelinePhase → ℕ → List ℕ → List Exchange → List WireRequest → Type 0
 KeptIn Going n bytes kept coming = Follows n (length bytes) coming × Pieces n bytes kept
 KeptIn Skipping n bytes kept coming = Pieces n bytes kept
-KeptIn (Stopped f) n bytes kept coming = EndedBy f n bytes kept
+KeptIn (Stopped f) n bytes kept coming = ReadEndedBy f n bytes kept
 
 -- of the replies that were taken these were kept
-abbrev pub GathersBytes : ℕ → List ℕ → Phase → List Exchange → List WireRequest → Type 0
+abbrev pub GathersBytes : ℕ → List ℕ → PipelinePhase → List Exchange → List WireRequest → Type 0
 GathersBytes n bytes phase made coming = (kept : List Exchange) × KeepsSome n made kept × KeptIn phase n bytes kept coming
 
 pub read_short : (n : ℕ) (bytes : List ℕ) (made : List Exchange) (coming : List WireRequest) → GathersBytes n bytes Going made coming → GathersBytes n bytes (Stopped fault.OutOfMemory) made coming
@@ -118,7 +118,7 @@ read_stops n bytes made coming e f one ends h =
       },
     )
 
-pub read_drops : (n : ℕ) (bytes : List ℕ) (phase : Phase) (made : List Exchange) (coming : List WireRequest) (e : Exchange) → Drops phase → IsReadOf n e.request → GathersBytes n bytes phase made (e.request ∷ coming)
+pub read_drops : (n : ℕ) (bytes : List ℕ) (phase : PipelinePhase) (made : List Exchange) (coming : List WireRequest) (e : Exchange) → Drops phase → IsReadOf n e.request → GathersBytes n bytes phase made (e.request ∷ coming)
     → GathersBytes n bytes phase (made ++ e ∷ []) coming
 read_drops n bytes Going made coming e drops one h = absurd drops
 read_drops n bytes Skipping made coming e drops one h = (h.0, drops_more n made h.0 e one h.1, h.2)
@@ -192,7 +192,7 @@ read_gathered {v} {y} {z} n bytes piece now at some h (inl (is, inr k)) =
     (took_on at (reply.Data piece) now some h (piece_whole n bytes piece now at.made is (let most = data_most piece h.0 in omega (arith, most, k.0))))
 read_gathered n bytes piece now at some h (inr k) = took_no_room at (reply.Data piece) now some h k (piece_lost n bytes piece now at.made)
 
-read_ends : (n : ℕ) (bytes : List ℕ) (f : ClientFault) (made : List Exchange) → GathersBytes n bytes (Stopped f) made [] → Ends (Reads n) made bytes f
+read_ends : (n : ℕ) (bytes : List ℕ) (f : ClientFault) (made : List Exchange) → GathersBytes n bytes (Stopped f) made [] → CallEnded (Reads n) made bytes f
 read_ends n bytes f made h =
     let k = h.2 in
     let ends = k.ends in

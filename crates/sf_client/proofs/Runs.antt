@@ -126,14 +126,14 @@ no_last q last f ends other (inl h) = other h.1
 no_last q last f ends other (inr h) = ends h.0 h.2
 
 -- How this fault ended a call, by the last of its requests that counts: EOF is a good end.
-pub record Ends {X : Type 0} (S : List Exchange → Result X ClientFault → Type 0) (xs : List Exchange) (x : X) (f : ClientFault) : Type 0 where
+pub record CallEnded {X : Type 0} (S : List Exchange → Result X ClientFault → Type 0) (xs : List Exchange) (x : X) (f : ClientFault) : Type 0 where
   pub request : WireRequest
   pub last : List Exchange
   pub ends : EndsAtLast request last f
   pub err : S xs (Err f)
   pub ok : f ≡ fault.Status EndOfFile → S xs (Ok x)
 
-pub ended_does : {X : Type 0} {S : List Exchange → Result X ClientFault → Type 0} {v u : ClientView} {xs : List Exchange} {x : X} {f : ClientFault} → Ends S xs x f → Exchanged v xs u → DoesCall S v (ended_by (Some f) x) u
+pub ended_does : {X : Type 0} {S : List Exchange → Result X ClientFault → Type 0} {v u : ClientView} {xs : List Exchange} {x : X} {f : ClientFault} → CallEnded S xs x f → Exchanged v xs u → DoesCall S v (ended_by (Some f) x) u
 ended_does {xs = xs} {f = fault.Stream} e ex = absurd (no_last e.request e.last fault.Stream (λ r h. h) (λ e. cc) e.ends)
 ended_does {xs = xs} {f = fault.Protocol} e ex = absurd (no_last e.request e.last fault.Protocol (λ r h. h) (λ e. cc) e.ends)
 ended_does {xs = xs} {f = fault.Status Success} e ex = (xs, e.err, ex)

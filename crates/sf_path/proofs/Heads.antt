@@ -102,16 +102,16 @@ solid_rest : (b : ℕ) (bytes : List ℕ) → Solid (b ∷ bytes) → Solid byte
 solid_rest b bytes h = All-tail (λ b. 0 < b) b bytes h
 
 -- Bytes of which none is 0, so many at most.
-record IsShort (most : ℕ) (a : List ℕ) : Type 0 where
+record IsShortText (most : ℕ) (a : List ℕ) : Type 0 where
   bytes : Bytes a
   solid : Solid a
   short : length a ≤ most
 
-short_rest : (most x : ℕ) (xs : List ℕ) → IsShort (suc most) (x ∷ xs) → IsShort most xs
+short_rest : (most x : ℕ) (xs : List ℕ) → IsShortText (suc most) (x ∷ xs) → IsShortText most xs
 short_rest most x xs a = record { bytes = rest_of x xs a.bytes; solid = solid_rest x xs a.solid; short = omega (arith, a.short) }
 
 -- what is short and has no zeros isn't spelled as anything else
-spelled_once : (more n : ℕ) (a b : List ℕ) → IsShort more a → IsShort more b → spelled more n a ≡ spelled more n b → a ≡ b
+spelled_once : (more n : ℕ) (a b : List ℕ) → IsShortText more a → IsShortText more b → spelled more n a ≡ spelled more n b → a ≡ b
 spelled_once zero n [] [] g h e = refl
 spelled_once zero n [] (y ∷ ys) g h e = absurd (omega (arith, h.short))
 spelled_once zero n (x ∷ xs) b g h e = absurd (omega (arith, g.short))
@@ -159,7 +159,7 @@ short_head a g e = elim (cases_lt (length a) 8) [ inl lt ↦ omega arith | inr l
 -- names are the same where their heads are, and end with a 0
 pub short_names : (a b : List ℕ) → IsPart a → IsPart b → head_of a ≡ head_of b → head_of a % 256 ≡ 0 → slice_cmp nat_cmp a b ≡ Equal
 short_names a b g h e short =
-    let one : IsShort 8 a = record { bytes = g.bytes; solid = solid_name a g.no_zero; short = short_head a g short } in
-    let other : IsShort 8 b = record { bytes = h.bytes; solid = solid_name b h.no_zero; short = short_head b h (ap (λ k. k % 256) (sym e) ∙ short) } in
+    let one : IsShortText 8 a = record { bytes = g.bytes; solid = solid_name a g.no_zero; short = short_head a g short } in
+    let other : IsShortText 8 b = record { bytes = h.bytes; solid = solid_name b h.no_zero; short = short_head b h (ap (λ k. k % 256) (sym e) ∙ short) } in
     let same = spelled_once 8 0 a b one other e in
     subst (λ z. slice_cmp nat_cmp a z ≡ Equal) same (tied_itself name_total a)

@@ -37,12 +37,12 @@ names_behind [] one rest = refl
 names_behind (f ∷ more) one rest = ap (λ (l : List Seen). name_of f ∷ l) (names_behind more one rest)
 
 -- Where a walk stands: what was found, and what waits.
-pub record WalkState : Type 0 where
+pub record WalkPoint : Type 0 where
   pub found : List Found
   pub waiting : List FoundName
 
 -- one more name was taken and visited
-pub walked_further : {name : FoundName} {rest : List FoundName} (session : ℕ) (begun old new : WalkState) (first second : List Deed)
+pub walked_further : {name : FoundName} {rest : List FoundName} (session : ℕ) (begun old new : WalkPoint) (first second : List Deed)
     → WalksSoFar session begun.found begun.waiting first old.found old.waiting → old.waiting ≡ name ∷ rest → Visits session old.found rest name second new.found new.waiting
     → WalksSoFar session begun.found begun.waiting (first ++ second) new.found new.waiting
 walked_further {name} {rest} session begun old new first second h e v =

@@ -2,7 +2,7 @@ use Rattle.std.proofs.Common.{[]}
 use Rattle.std.proofs.lemmas.Result.{err_from_is_err_and}
 use Rattle.sf_trees.proofs.Doing.{deed_laws}
 use Rattle.sf_trees.proofs.Looks.{looks_append, halts_behind, looked}
-use Rattle.sf_trees.proofs.Walked.{WalkState, walk_begun, walked_further}
+use Rattle.sf_trees.proofs.Walked.{WalkPoint, walk_begun, walked_further}
 use Rattle.sf_trees.proofs.walking.walk_on.Goals as goal
 
 pub names-init : goal.names-init
@@ -12,9 +12,9 @@ pub names-preserved : goal.names-preserved
 names-preserved g c =
     let d = c.names.invariant in
     let e = c.in_ok-visit.ensures in
-    let begun : WalkState = record { found = c.args.walk.now.found.items; waiting = c.args.walk.now.waiting.items } in
-    let old : WalkState = record { found = c.names.walk.found.items; waiting = c.names.walk.waiting.items } in
-    let new : WalkState = record { found = c.visit.new.walk.found.items; waiting = c.visit.new.walk.waiting.items } in (
+    let begun : WalkPoint = record { found = c.args.walk.now.found.items; waiting = c.args.walk.now.waiting.items } in
+    let old : WalkPoint = record { found = c.names.walk.found.items; waiting = c.names.walk.waiting.items } in
+    let new : WalkPoint = record { found = c.visit.new.walk.found.items; waiting = c.visit.new.walk.waiting.items } in (
       _,
       g.met.S.Server.on _ _ _ _ _ d.1 e.1,
       (
