@@ -85,10 +85,10 @@ unanswered_then u v w xs ys q later p h = (h.0, ahead_then u v h.0 xs ys (q ∷ 
 -- ---- one request more, and one reply more
 
 -- one more request was sent, under the next id
-pub sent_more : (v u w : ClientView) (xs : List Exchange) (qs : List WireRequest) (id : ℕ) (q : WireRequest) → SentAhead v xs qs u → id ≡ last_id v.next (requests_of xs ++ qs) → Sent u (packet (request_body id q)) w
+pub sent_more : {v u w : ClientView} {xs : List Exchange} {qs : List WireRequest} (id : ℕ) (q : WireRequest) → SentAhead v xs qs u → id ≡ last_id v.next (requests_of xs ++ qs) → Sent u (packet (request_body id q)) w
     → SentAhead v xs (qs ++ q ∷ []) w
 unfolding requests_from
-sent_more v u w xs qs id q ahead is sent =
+sent_more {v} {u} {w} {xs} {qs} id q ahead is sent =
     let next : w.next ≡ u.next = ap (λ (z : ClientView). z.next) sent.client in
     let failed : w.failed ≡ u.failed = ap (λ (z : ClientView). z.failed) sent.client in
     let incoming : w.incoming ≡ u.incoming = ap (λ (z : ClientView). z.incoming) sent.client in
@@ -107,10 +107,9 @@ sent_more v u w xs qs id q ahead is sent =
     }
 
 -- the first of the replies that are due was taken
-pub took_one : (v u w : ClientView) (xs : List Exchange) (q : WireRequest) (qs : List WireRequest) (r : Reply) → SentAhead v xs (q ∷ qs) u → is_due (due_of q) r ≡ true → Took u r w
-    → SentAhead v (xs ++ asked q r ∷ []) qs w
+pub took_one : {v u w : ClientView} {xs : List Exchange} {q : WireRequest} {qs : List WireRequest} {r : Reply} → SentAhead v xs (q ∷ qs) u → is_due (due_of q) r ≡ true → Took u r w → SentAhead v (xs ++ asked q r ∷ []) qs w
 unfolding replies_from last_id
-took_one v u w xs q qs r ahead due took =
+took_one {v} {u} {w} {xs} {q} {qs} {r} ahead due took =
     let one : packet (reply_body u.next r) ≡ replies_from (last_id v.next xs) (asked q r ∷ []) = ap (λ (n : ℕ). packet (reply_body n r)) ahead.next ∙ sym (append-nil (packet (reply_body (last_id v.next xs) r))) in
     let all : replies_from v.next xs ++ packet (reply_body u.next r) ≡ replies_from v.next (xs ++ asked q r ∷ []) = ap (λ (t : List ℕ). replies_from v.next xs ++ t) one ∙ sym (replies-append v.next xs (asked q r ∷ [])) in
     let wrote : Appends v.outgoing w.outgoing (requests_from v.next (requests_of xs ++ q ∷ qs)) = subst (λ (t : Option (List ℕ)). Appends v.outgoing t (requests_from v.next (requests_of xs ++ q ∷ qs))) (sym took.outgoing) ahead.wrote in

@@ -46,19 +46,24 @@ wrong_header (Some input) (Some left) header read len wrong = λ body rest is_bo
     let parts = header_is body rest header left len (sym e ∙ read) in
     wrong (length body) is_body.some is_body.short parts.0
 
+-- A header was read, which tells a body of this length.
+pub record HeaderRead (a b : Option (List ℕ)) (header : List ℕ) (n : ℕ) : Type 0 where
+  pub read : Consumes a b header
+  pub short : n ≤ 262144
+  pub tells : header ≡ be32 n
+
 -- the input ended in the body
-pub ends_in_body : (a b : Option (List ℕ)) (header : List ℕ) (n : ℕ) → Consumes a b header → n ≤ 262144 → header ≡ be32 n → (k : ℕ) → k ≡ n → RunsOut b k → HasNoPacket a
-ends_in_body None b header n read short is k same_k ends = tt
-ends_in_body (Some input) None header n read short is k same_k ends = absurd read
-ends_in_body (Some input) (Some left) header n read short is k same_k ends = λ body rest is_body e.
-    let parts = header_is body rest header left (ap length is) (sym e ∙ read) in
-    let same : n ≡ length body = same_number n (length body) (omega arith) (omega (arith, is_body.short)) (sym is ∙ parts.0) in
+pub ends_in_body : {header : List ℕ} (a b : Option (List ℕ)) (n k : ℕ) → HeaderRead a b header n → k ≡ n → RunsOut b k → HasNoPacket a
+ends_in_body None b n k h same_k ends = tt
+ends_in_body (Some input) None n k h same_k ends = absurd h.read
+ends_in_body {header} (Some input) (Some left) n k h same_k ends = λ body rest is_body e.
+    let parts = header_is body rest header left (ap length h.tells) (sym e ∙ h.read) in
+    let same : n ≡ length body = same_number n (length body) (omega (arith, h.short)) (omega (arith, is_body.short)) (sym h.tells ∙ parts.0) in
     omega (arith, ends, ap length parts.1, length-append body rest)
 
 -- a header and a body of its length are a packet
-pub whole_packet : (a b c : Option (List ℕ)) (header body buffer : List ℕ) (n : ℕ) → Consumes a b header → Consumes b c body → header ≡ be32 n → length body ≡ n
-    → Consumes a c (packet (take n (body ++ buffer)))
-whole_packet a b c header body buffer n first second is same =
+pub whole_packet : {a b : Option (List ℕ)} {header : List ℕ} {n : ℕ} (c : Option (List ℕ)) (body buffer : List ℕ) → HeaderRead a b header n → Consumes b c body → length body ≡ n → Consumes a c (packet (take n (body ++ buffer)))
+whole_packet {a} {b} {header} {n} c body buffer h second same =
     let taken : take n (body ++ buffer) ≡ body = take_at body buffer n same in
-    let parts : header ++ body ≡ packet (take n (body ++ buffer)) = rw (taken, is, same) refl in
-    subst (Consumes a c) parts (Consumes-trans a b c header body first second)
+    let parts : header ++ body ≡ packet (take n (body ++ buffer)) = rw (taken, h.tells, same) refl in
+    subst (Consumes a c) parts (Consumes-trans a b c header body h.read second)

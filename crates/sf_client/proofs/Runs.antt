@@ -5,7 +5,6 @@ use Rattle.sf_request.specs.declared.request.WireRequest.{WireRequest}
 use Rattle.sf_request.specs.declared.request.WireRequest.TheVariants as request
 use Rattle.sf_reply.specs.declared.reply.Reply.{Reply}
 use Rattle.sf_reply.specs.declared.reply.Reply.TheVariants as reply
-use Rattle.sf_reply.specs.declared.reply.StatusCode.{StatusCode}
 use Rattle.sf_reply.specs.declared.reply.StatusCode.TheVariants.{Success, EndOfFile, NoSuchFile, PermissionDenied, Failure, BadMessage, OpUnsupported}
 use Rattle.sf_client.specs.declared.fault.ClientFault.{ClientFault}
 use Rattle.sf_client.specs.declared.fault.ClientFault.TheVariants as fault
@@ -47,53 +46,62 @@ by_handle_unopened S opening v w fault.OutOfMemory h = unopened S opening v w h.
 by_handle_unopened S opening v w (fault.TooLarge size) h = absurd h
 by_handle_unopened S opening v w fault.Failed h = h
 
+-- A handle was opened.
+pub record HandleOpened (opening : WireRequest) (v : ClientView) : Type 0 where
+  pub number : ℕ
+  pub client : ClientView
+  pub went : Exchanged v (asked opening (reply.Handle number) ∷ []) client
+
+-- By these exchanges the client came to what a script says.
+pub record Went {X : Type 0} (Script : List Exchange → Result X ClientFault → Type 0) (v : ClientView) (r : Result X ClientFault) (w : ClientView) : Type 0 where
+  pub made : List Exchange
+  pub script : Script made r
+  pub went : Exchanged v made w
+
 -- all the exchanges of a call by a handle
-whole_call : (opening : WireRequest) (n : ℕ) (r : Reply) (v u m w : ClientView) (ys : List Exchange) → Exchanged v (asked opening (reply.Handle n) ∷ []) u → Exchanged u ys m → Exchanged m (asked (request.Close (be64 n)) r ∷ []) w
-    → Exchanged v (asked opening (reply.Handle n) ∷ (ys ++ asked (request.Close (be64 n)) r ∷ [])) w
-whole_call opening n r v u m w ys opened used closed = exchanged_then v u w (asked opening (reply.Handle n) ∷ []) (ys ++ asked (request.Close (be64 n)) r ∷ []) opened (exchanged_then u m w ys _ used closed)
+whole_call : {opening : WireRequest} {v m w : ClientView} {ys : List Exchange} (h : HandleOpened opening v) (r : Reply) → Exchanged h.client ys m → Exchanged m (asked (request.Close (be64 h.number)) r ∷ []) w
+    → Exchanged v (asked opening (reply.Handle h.number) ∷ (ys ++ asked (request.Close (be64 h.number)) r ∷ [])) w
+whole_call {opening} {v} {m} {w} {ys} h r used closed = exchanged_then v h.client w (asked opening (reply.Handle h.number) ∷ []) (ys ++ asked (request.Close (be64 h.number)) r ∷ []) h.went (exchanged_then h.client m w ys _ used closed)
 
 -- CLOSE after a success
-closed_badly : {X : Type 0} (S : ℕ → List Exchange → Result X ClientFault → Type 0) (opening : WireRequest) (n : ℕ) (v u m w : ClientView) (x : X) (f : ClientFault) → Exchanged v (asked opening (reply.Handle n) ∷ []) u
-    → DoesCall (S n) u (Ok x) m → SettlesRequest {X = Unit {0}} (λ _. reply.Status Success) m (request.Close (be64 n)) (Err f) w → DoesCall (ByHandle opening S) v (Err f) w
-closed_badly S opening n v u m w x fault.Stream opened used h = broke_since v m w (omega (arith, opened.failures, used.2.failures)) h
-closed_badly S opening n v u m w x fault.Protocol opened used h = (_, request.Close (be64 n), [], unanswered_then v m w _ [] (request.Close (be64 n)) [] (exchanged_then v u m (asked opening (reply.Handle n) ∷ []) used.0 opened used.2) h)
-closed_badly S opening n v u m w x (fault.Status code) opened used h =
-    (_, inr (n, used.0 ++ asked (request.Close (be64 n)) h.0 ∷ [], (used.0, h.0, inr (x, used.1, h.1), refl), refl), whole_call opening n h.0 v u m w used.0 opened used.2 h.2)
-closed_badly S opening n v u m w x fault.OutOfMemory opened used h =
-    (_, inr (n, used.0 ++ asked (request.Close (be64 n)) h.0 ∷ [], (used.0, h.0, inr (x, used.1, h.1), refl), refl), whole_call opening n h.0 v u m w used.0 opened used.2 h.2)
-closed_badly S opening n v u m w x (fault.TooLarge size) opened used h = absurd h
-closed_badly S opening n v u m w x fault.Failed opened used h = absurd h
+closed_badly : {X : Type 0} {opening : WireRequest} {v m : ClientView} {x : X} (S : ℕ → List Exchange → Result X ClientFault → Type 0) (h : HandleOpened opening v) (f : ClientFault) (w : ClientView) → Went (S h.number) h.client (Ok x) m
+    → SettlesRequest {X = Unit {0}} (λ _. reply.Status Success) m (request.Close (be64 h.number)) (Err f) w → DoesCall (ByHandle opening S) v (Err f) w
+closed_badly {v = v} {m = m} S h fault.Stream w used c = broke_since v m w (omega (arith, h.went.failures, used.went.failures)) c
+closed_badly {opening = opening} {v = v} {m = m} S h fault.Protocol w used c =
+    (_, request.Close (be64 h.number), [], unanswered_then v m w _ [] (request.Close (be64 h.number)) [] (exchanged_then v h.client m (asked opening (reply.Handle h.number) ∷ []) used.made h.went used.went) c)
+closed_badly {x = x} S h (fault.Status code) w used c = (_, inr (h.number, used.made ++ asked (request.Close (be64 h.number)) c.0 ∷ [], (used.made, c.0, inr (x, used.script, c.1), refl), refl), whole_call h c.0 used.went c.2)
+closed_badly {x = x} S h fault.OutOfMemory w used c = (_, inr (h.number, used.made ++ asked (request.Close (be64 h.number)) c.0 ∷ [], (used.made, c.0, inr (x, used.script, c.1), refl), refl), whole_call h c.0 used.went c.2)
+closed_badly S h (fault.TooLarge size) w used c = absurd c
+closed_badly S h fault.Failed w used c = absurd c
 
-spoilt_by : {X : Type 0} (S : ℕ → List Exchange → Result X ClientFault → Type 0) (opening : WireRequest) (v m w : ClientView) (xs : List Exchange) (q : WireRequest) (f : ClientFault) → Exchanged v xs m
-    → ((f ≡ fault.Stream) × Broke m w) ⊎ ((f ≡ fault.Protocol) × Unanswered m [] q [] w) → DoesCall (ByHandle opening S) v (Err f) w
-spoilt_by S opening v m w xs q f ex (inl h) = subst (λ (g : ClientFault). DoesCall (ByHandle opening S) v (Err g) w) (sym h.0) (broke_since v m w ex.failures h.1)
-spoilt_by S opening v m w xs q f ex (inr h) = subst (λ (g : ClientFault). DoesCall (ByHandle opening S) v (Err g) w) (sym h.0) (_, q, [], unanswered_then v m w xs [] q [] ex h.1)
+spoilt_by : {X : Type 0} {v m : ClientView} {xs : List Exchange} (S : List Exchange → Result X ClientFault → Type 0) (q : WireRequest) (f : ClientFault) (w : ClientView) → Exchanged v xs m
+    → ((f ≡ fault.Stream) × Broke m w) ⊎ ((f ≡ fault.Protocol) × Unanswered m [] q [] w) → DoesCall S v (Err f) w
+spoilt_by {v = v} {m = m} S q f w ex (inl h) = subst (λ (g : ClientFault). DoesCall S v (Err g) w) (sym h.0) (broke_since v m w ex.failures h.1)
+spoilt_by {v = v} {m = m} {xs = xs} S q f w ex (inr h) = subst (λ (g : ClientFault). DoesCall S v (Err g) w) (sym h.0) (_, q, [], unanswered_then v m w xs [] q [] ex h.1)
 
 -- CLOSE after a fault that leaves the client in step
-fault_then : {X : Type 0} (S : ℕ → List Exchange → Result X ClientFault → Type 0) (opening : WireRequest) (n : ℕ) (v u m w : ClientView) (first f : ClientFault) (ys : List Exchange) → Exchanged v (asked opening (reply.Handle n) ∷ []) u
-    → S n ys (Err first) → Exchanged u ys m → ((xs : List Exchange) → ByHandle opening S xs (Err first) → Exchanged v xs w → DoesCall (ByHandle opening S) v (Err first) w) → EndsAfter n first m f w → DoesCall (ByHandle opening S) v (Err f) w
-fault_then S opening n v u m w first f ys opened used ex does (inl h) = subst (λ (g : ClientFault). DoesCall (ByHandle opening S) v (Err g) w) (sym h.0)
-    (does _ (inr (n, ys ++ asked (request.Close (be64 n)) h.1.0 ∷ [], (ys, h.1.0, inl used, refl), refl)) (whole_call opening n h.1.0 v u m w ys opened ex h.1.1))
-fault_then S opening n v u m w first f ys opened used ex does (inr h) = spoilt_by S opening v m w _ (request.Close (be64 n)) f (exchanged_then v u m (asked opening (reply.Handle n) ∷ []) ys opened ex) h
+fault_then : {X : Type 0} {opening : WireRequest} {v m : ClientView} {first : ClientFault} (S : ℕ → List Exchange → Result X ClientFault → Type 0) (h : HandleOpened opening v) (f : ClientFault) (w : ClientView)
+    → Went (S h.number) h.client (Err first) m → (Went (ByHandle opening S) v (Err first) w → DoesCall (ByHandle opening S) v (Err first) w) → EndsAfter h.number first m f w → DoesCall (ByHandle opening S) v (Err f) w
+fault_then {opening = opening} {v = v} S h f w used does (inl c) = subst (λ (g : ClientFault). DoesCall (ByHandle opening S) v (Err g) w) (sym c.0)
+    (does (record { made = _; script = inr (h.number, used.made ++ asked (request.Close (be64 h.number)) c.1.0 ∷ [], (used.made, c.1.0, inl used.script, refl), refl); went = whole_call h c.1.0 used.went c.1.1 }))
+fault_then {opening = opening} {v = v} {m = m} S h f w used does (inr c) =
+    spoilt_by (ByHandle opening S) (request.Close (be64 h.number)) f w (exchanged_then v h.client m (asked opening (reply.Handle h.number) ∷ []) used.made h.went used.went) c
 
-pub by_handle_done : {X : Type 0} (S : ℕ → List Exchange → Result X ClientFault → Type 0) (opening : WireRequest) (n : ℕ) (v u m w : ClientView) (came result : Result X ClientFault) → Exchanged v (asked opening (reply.Handle n) ∷ []) u
-    → DoesCall (S n) u came m → ClosesAfter n came m result w → DoesCall (ByHandle opening S) v result w
-by_handle_done {X} S opening n v u m w (Ok x) (Ok y) opened used h =
-    (_, (n, used.0 ++ asked (request.Close (be64 n)) (reply.Status Success) ∷ [], (used.0, subst (λ (z : X). S n used.0 (Ok z)) (sym h.0) used.1, refl), refl), whole_call opening n (reply.Status Success) v u m w used.0 opened used.2 h.1)
-by_handle_done S opening n v u m w (Ok x) (Err f) opened used h = closed_badly S opening n v u m w x f opened used h
-by_handle_done S opening n v u m w (Err f) (Ok y) opened used h = absurd h
-by_handle_done S opening n v u m w (Err fault.Stream) (Err f) opened used h =
-    subst (λ (g : ClientFault). DoesCall (ByHandle opening S) v (Err g) w) (sym h.0) (subst (Broke v) (sym h.1) (broke_since v u m opened.failures used))
-by_handle_done S opening n v u m w (Err fault.Protocol) (Err f) opened used h =
-    subst (λ (g : ClientFault). DoesCall (ByHandle opening S) v (Err g) w) (sym h.0)
-    (_, used.1, used.2, unanswered_then v u w (asked opening (reply.Handle n) ∷ []) used.0 used.1 used.2 opened (subst (Unanswered u used.0 used.1 used.2) (sym h.1) used.3))
-by_handle_done S opening n v u m w (Err (fault.Status code)) (Err f) opened used h =
-    fault_then S opening n v u m w (fault.Status code) f used.0 opened used.1 used.2 (λ xs does ex. (xs, does, ex)) h
-by_handle_done S opening n v u m w (Err fault.OutOfMemory) (Err f) opened used h =
-    fault_then S opening n v u m w fault.OutOfMemory f used.0 opened used.1 used.2 (λ xs does ex. (xs, does, ex)) h
-by_handle_done S opening n v u m w (Err (fault.TooLarge size)) (Err f) opened used h =
-    fault_then S opening n v u m w (fault.TooLarge size) f used.0 opened used.1 used.2 (λ xs does ex. (xs, does, ex)) h
-by_handle_done S opening n v u m w (Err fault.Failed) (Err f) opened used h = let going = opened.going in let failed = used.0 in absurd cc
+pub by_handle_done : {X : Type 0} {opening : WireRequest} {v : ClientView} (S : ℕ → List Exchange → Result X ClientFault → Type 0) (h : HandleOpened opening v) (came : Result X ClientFault) (m : ClientView) (result : Result X ClientFault) (w : ClientView)
+    → DoesCall (S h.number) h.client came m → ClosesAfter h.number came m result w → DoesCall (ByHandle opening S) v result w
+by_handle_done {X = X} S h (Ok x) m (Ok y) w used c =
+    (_, (h.number, used.0 ++ asked (request.Close (be64 h.number)) (reply.Status Success) ∷ [], (used.0, subst (λ (z : X). S h.number used.0 (Ok z)) (sym c.0) used.1, refl), refl), whole_call h (reply.Status Success) used.2 c.1)
+by_handle_done S h (Ok x) m (Err f) w used c = closed_badly S h f w (record { made = used.0; script = used.1; went = used.2 }) c
+by_handle_done S h (Err f) m (Ok y) w used c = absurd c
+by_handle_done {opening = opening} {v = v} S h (Err fault.Stream) m (Err f) w used c =
+    subst (λ (g : ClientFault). DoesCall (ByHandle opening S) v (Err g) w) (sym c.0) (subst (Broke v) (sym c.1) (broke_since v h.client m h.went.failures used))
+by_handle_done {opening = opening} {v = v} S h (Err fault.Protocol) m (Err f) w used c =
+    subst (λ (g : ClientFault). DoesCall (ByHandle opening S) v (Err g) w) (sym c.0)
+    (_, used.1, used.2, unanswered_then v h.client w (asked opening (reply.Handle h.number) ∷ []) used.0 used.1 used.2 h.went (subst (Unanswered h.client used.0 used.1 used.2) (sym c.1) used.3))
+by_handle_done S h (Err (fault.Status code)) m (Err f) w used c = fault_then S h f w (record { made = used.0; script = used.1; went = used.2 }) (λ k. (k.made, k.script, k.went)) c
+by_handle_done S h (Err fault.OutOfMemory) m (Err f) w used c = fault_then S h f w (record { made = used.0; script = used.1; went = used.2 }) (λ k. (k.made, k.script, k.went)) c
+by_handle_done S h (Err (fault.TooLarge size)) m (Err f) w used c = fault_then S h f w (record { made = used.0; script = used.1; went = used.2 }) (λ k. (k.made, k.script, k.went)) c
+by_handle_done S h (Err fault.Failed) m (Err f) w used c = let going = h.went.going in let failed = used.0 in absurd cc
 
 -- ---- what is read to its end
 
@@ -117,17 +125,24 @@ no_last : (q : WireRequest) (last : List Exchange) (f : ClientFault) → ((r : R
 no_last q last f ends other (inl h) = other h.1
 no_last q last f ends other (inr h) = ends h.0 h.2
 
-pub ended_does : {X : Type 0} (S : List Exchange → Result X ClientFault → Type 0) (v u : ClientView) (xs : List Exchange) (x : X) (f : ClientFault) (q : WireRequest) (last : List Exchange) → Exchanged v xs u → EndsAtLast q last f
-    → S xs (Err f) → (f ≡ fault.Status EndOfFile → S xs (Ok x)) → DoesCall S v (ended_by (Some f) x) u
-ended_does S v u xs x fault.Stream q last ex is err ok = absurd (no_last q last fault.Stream (λ r h. h) (λ e. cc) is)
-ended_does S v u xs x fault.Protocol q last ex is err ok = absurd (no_last q last fault.Protocol (λ r h. h) (λ e. cc) is)
-ended_does S v u xs x (fault.Status Success) q last ex is err ok = (xs, err, ex)
-ended_does S v u xs x (fault.Status EndOfFile) q last ex is err ok = (xs, ok refl, ex)
-ended_does S v u xs x (fault.Status NoSuchFile) q last ex is err ok = (xs, err, ex)
-ended_does S v u xs x (fault.Status PermissionDenied) q last ex is err ok = (xs, err, ex)
-ended_does S v u xs x (fault.Status Failure) q last ex is err ok = (xs, err, ex)
-ended_does S v u xs x (fault.Status BadMessage) q last ex is err ok = (xs, err, ex)
-ended_does S v u xs x (fault.Status OpUnsupported) q last ex is err ok = (xs, err, ex)
-ended_does S v u xs x fault.OutOfMemory q last ex is err ok = (xs, err, ex)
-ended_does S v u xs x (fault.TooLarge size) q last ex is err ok = absurd (no_last q last (fault.TooLarge size) (λ r h. h) (λ e. cc) is)
-ended_does S v u xs x fault.Failed q last ex is err ok = absurd (no_last q last fault.Failed (λ r h. h) (λ e. cc) is)
+-- How this fault ended a call, by the last of its requests that counts: EOF is a good end.
+pub record CallEnded {X : Type 0} (S : List Exchange → Result X ClientFault → Type 0) (xs : List Exchange) (x : X) (f : ClientFault) : Type 0 where
+  pub request : WireRequest
+  pub last : List Exchange
+  pub ends : EndsAtLast request last f
+  pub err : S xs (Err f)
+  pub ok : f ≡ fault.Status EndOfFile → S xs (Ok x)
+
+pub ended_does : {X : Type 0} {S : List Exchange → Result X ClientFault → Type 0} {v u : ClientView} {xs : List Exchange} {x : X} {f : ClientFault} → CallEnded S xs x f → Exchanged v xs u → DoesCall S v (ended_by (Some f) x) u
+ended_does {xs = xs} {f = fault.Stream} e ex = absurd (no_last e.request e.last fault.Stream (λ r h. h) (λ e. cc) e.ends)
+ended_does {xs = xs} {f = fault.Protocol} e ex = absurd (no_last e.request e.last fault.Protocol (λ r h. h) (λ e. cc) e.ends)
+ended_does {xs = xs} {f = fault.Status Success} e ex = (xs, e.err, ex)
+ended_does {xs = xs} {f = fault.Status EndOfFile} e ex = (xs, e.ok refl, ex)
+ended_does {xs = xs} {f = fault.Status NoSuchFile} e ex = (xs, e.err, ex)
+ended_does {xs = xs} {f = fault.Status PermissionDenied} e ex = (xs, e.err, ex)
+ended_does {xs = xs} {f = fault.Status Failure} e ex = (xs, e.err, ex)
+ended_does {xs = xs} {f = fault.Status BadMessage} e ex = (xs, e.err, ex)
+ended_does {xs = xs} {f = fault.Status OpUnsupported} e ex = (xs, e.err, ex)
+ended_does {xs = xs} {f = fault.OutOfMemory} e ex = (xs, e.err, ex)
+ended_does {xs = xs} {f = fault.TooLarge size} e ex = absurd (no_last e.request e.last (fault.TooLarge size) (λ r h. h) (λ e. cc) e.ends)
+ended_does {xs = xs} {f = fault.Failed} e ex = absurd (no_last e.request e.last fault.Failed (λ r h. h) (λ e. cc) e.ends)

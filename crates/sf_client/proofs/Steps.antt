@@ -52,14 +52,18 @@ a_reply a b id body r read is = subst (λ (t : List ℕ). Consumes a b (packet t
 
 -- ---- one exchange
 
--- one request was sent
-pub sent_alone : (v u : ClientView) (bytes : List ℕ) (q : WireRequest) → v.failed ≡ false → Sent v bytes u → bytes ≡ packet (request_body v.next q) → SentAhead v [] (q ∷ []) u
-unfolding last_id
-sent_alone v u bytes q began sent is = sent_more v v u [] [] v.next q (exchanged_none v began) refl (subst (λ (t : List ℕ). Sent v t u) is sent)
+-- The packet of one request was sent, and nothing else is on its way.
+pub record OneSent (v : ClientView) (bytes : List ℕ) (u : ClientView) : Type 0 where
+  pub began : v.failed ≡ false
+  pub sent : Sent v bytes u
 
-pub one_exchanged : (v u w : ClientView) (bytes : List ℕ) (q : WireRequest) (r : Reply) → v.failed ≡ false → Sent v bytes u → bytes ≡ packet (request_body v.next q) → is_due (due_of q) r ≡ true → Took u r w
-    → Exchanged v (asked q r ∷ []) w
-one_exchanged v u w bytes q r began sent is due took = took_one v u w [] q [] r (sent_alone v u bytes q began sent is) due took
+-- the packet is this request's
+sent_alone : {v u : ClientView} {bytes : List ℕ} (q : WireRequest) → OneSent v bytes u → bytes ≡ packet (request_body v.next q) → SentAhead v [] (q ∷ []) u
+unfolding last_id
+sent_alone {v} {u} {bytes} q one is = sent_more v.next q (exchanged_none v one.began) refl (subst (λ (t : List ℕ). Sent v t u) is one.sent)
+
+one_exchanged : {v u w : ClientView} {bytes : List ℕ} (q : WireRequest) (r : Reply) → OneSent v bytes u → bytes ≡ packet (request_body v.next q) → is_due (due_of q) r ≡ true → Took u r w → Exchanged v (asked q r ∷ []) w
+one_exchanged q r one is due took = took_one (sent_alone q one is) due took
 
 rose_since : (a b c : ℕ) → a ≤ b → b ≤ c → Rose b c → Rose a c
 rose_since a b c le grew (inl more) = inl (omega arith)
@@ -69,18 +73,18 @@ pub broke_since : (u v w : ClientView) → u.failures ≤ v.failures → Broke v
 broke_since u v w le broke = record { failed = broke.failed; grew = omega (arith, broke.grew); rose = rose_since u.failures v.failures w.failures le broke.grew broke.rose }
 
 -- the reply didn't come, or found no memory
-pub settled_err : (v u w : ClientView) (bytes : List ℕ) (d : Due) (f : ClientFault) → v.failed ≡ false → Sent v bytes u → TakesReply u d (Err f) w
+pub settled_err : {v u : ClientView} {bytes : List ℕ} (w : ClientView) (d : Due) (f : ClientFault) → OneSent v bytes u → TakesReply u d (Err f) w
     → (q : WireRequest) → bytes ≡ packet (request_body v.next q) → d ≡ due_of q → SettlesRequest {X = Reply} (λ r. r) v q (Err f) w
-settled_err v u w bytes d fault.Stream began sent takes q is due = broke_since v u w sent.failures takes
-settled_err v u w bytes d fault.Protocol began sent takes q is due = (u, sent_alone v u bytes q began sent is, record { failed = takes.0; outgoing = takes.1; none = rw (← due) takes.2 })
-settled_err v u w bytes d (fault.Status code) began sent takes q is due = absurd takes
-settled_err v u w bytes d fault.OutOfMemory began sent takes q is due = (takes.0, takes.2, one_exchanged v u w bytes q takes.0 began sent is (rw (← due) takes.1) takes.3)
-settled_err v u w bytes d (fault.TooLarge size) began sent takes q is due = absurd takes
-settled_err v u w bytes d fault.Failed began sent takes q is due = absurd takes
+settled_err {v} {u} w d fault.Stream one takes q is due = broke_since v u w one.sent.failures takes
+settled_err {u = u} w d fault.Protocol one takes q is due = (u, sent_alone q one is, record { failed = takes.0; outgoing = takes.1; none = rw (← due) takes.2 })
+settled_err w d (fault.Status code) one takes q is due = absurd takes
+settled_err w d fault.OutOfMemory one takes q is due = (takes.0, takes.2, one_exchanged q takes.0 one is (rw (← due) takes.1) takes.3)
+settled_err w d (fault.TooLarge size) one takes q is due = absurd takes
+settled_err w d fault.Failed one takes q is due = absurd takes
 
-pub settled_ok : (v u w : ClientView) (bytes : List ℕ) (d : Due) (r : Reply) → v.failed ≡ false → Sent v bytes u → TakesReply u d (Ok r) w
+pub settled_ok : {v u : ClientView} {bytes : List ℕ} (w : ClientView) (d : Due) (r : Reply) → OneSent v bytes u → TakesReply u d (Ok r) w
     → (q : WireRequest) → bytes ≡ packet (request_body v.next q) → d ≡ due_of q → Exchanged v (asked q r ∷ []) w
-settled_ok v u w bytes d r began sent takes q is due = one_exchanged v u w bytes q r began sent is (rw (← due) takes.0) takes.1
+settled_ok w d r one takes q is due = one_exchanged q r one is (rw (← due) takes.0) takes.1
 
 pub answer_due : (d : Due) (r : Reply) → is_answer d r ≡ true → is_due d r ≡ true
 answer_due d r answer = rw answer refl

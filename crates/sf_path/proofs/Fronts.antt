@@ -16,23 +16,27 @@ true_not : (b : Bool) → true ≡ not b → b ≡ false
 true_not true e = absurd cc
 true_not false e = refl
 
--- a and b are the names at i
-pub differ_at : (xs ys : Path) (i : ℕ) (a b : Name) → a ≡ get_or xs i a → b ≡ get_or ys i b → true ≡ not (same_name a b)
-    → i < length xs → i < length ys → slice_get xs i ≢ slice_get ys i
-differ_at xs ys i a b mine theirs unlike lt lt' e =
-    let one : slice_get xs i ≡ Some a = slice_get-get_or xs i a lt ∙ ap Some (sym mine) in
-    let other : slice_get ys i ≡ Some b = slice_get-get_or ys i b lt' ∙ ap Some (sym theirs) in
+-- Both paths have a name at this place: these.
+pub record HaveNames (xs ys : Path) (i : ℕ) (a b : Name) : Type 0 where
+  pub mine : a ≡ get_or xs i a
+  pub theirs : b ≡ get_or ys i b
+  pub within : i < length xs
+  pub within_theirs : i < length ys
+
+pub differ_at : {xs ys : Path} {i : ℕ} {a b : Name} → HaveNames xs ys i a b → true ≡ not (same_name a b) → slice_get xs i ≢ slice_get ys i
+differ_at {xs} {ys} {i} {a} {b} at unlike e =
+    let one : slice_get xs i ≡ Some a = slice_get-get_or xs i a at.within ∙ ap Some (sym at.mine) in
+    let other : slice_get ys i ≡ Some b = slice_get-get_or ys i b at.within_theirs ∙ ap Some (sym at.theirs) in
     let both : Some a ≡ Some b = sym one ∙ e ∙ other in
     let same : a ≡ b = cc in
     let told = (same_name-Decides a b).1 same in
     let untold = true_not (same_name a b) unlike in
     absurd cc
 
-pub alike_more : (xs ys : Path) (i : ℕ) (a b : Name) → a ≡ get_or xs i a → b ≡ get_or ys i b → i < length xs → i < length ys → false ≡ not (same_name a b)
-    → take i xs ≡ take i ys → take (i + 1) xs ≡ take (i + 1) ys
-alike_more xs ys i a b mine theirs lt lt' alike front =
+pub alike_more : {xs ys : Path} {i : ℕ} {a b : Name} → HaveNames xs ys i a b → false ≡ not (same_name a b) → take i xs ≡ take i ys → take (i + 1) xs ≡ take (i + 1) ys
+alike_more {xs} {ys} {i} {a} {b} at alike front =
     let same = (same_name-Decides a b).0 (false_not (same_name a b) alike) in
-    take_more_same xs ys i a lt lt' front (sym mine ∙ same ∙ get_or_read ys i b lt' theirs a)
+    take_more_same xs ys i a at.within at.within_theirs front (sym at.mine ∙ same ∙ get_or_read ys i b at.within_theirs at.theirs a)
 
 pub whole_front : (xs ys : Path) (n : ℕ) → take n xs ≡ take n ys → eqb n (length ys) ≡ true → BeginsWith xs ys
 whole_front xs ys n front e =

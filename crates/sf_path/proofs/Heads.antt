@@ -51,22 +51,27 @@ below x y lt = sym (nat_cmp_is x y Less lt)
 above : (x y : ℕ) → y < x → nat_cmp x y ≡ Greater
 above x y lt = sym (nat_cmp_is x y Greater lt)
 
+-- Bytes that come behind others: where their spellings differ, they stand in the order of these.
+record StandsAsSpelled (more : ℕ) (xs ys : List ℕ) : Type 0 where
+  one : Bytes xs
+  other : Bytes ys
+  onward : (m : ℕ) → spelled more m xs ≢ spelled more m ys → nat_cmp (spelled more m xs) (spelled more m ys) ≡ slice_cmp nat_cmp xs ys
+
 -- where first bytes differ they decide, and else what comes behind
-decided : (more n x y : ℕ) (xs ys : List ℕ) → Bytes xs → Bytes ys → spelled more (n * 256 + x) xs ≢ spelled more (n * 256 + y) ys
-    → ((m : ℕ) → spelled more m xs ≢ spelled more m ys → nat_cmp (spelled more m xs) (spelled more m ys) ≡ slice_cmp nat_cmp xs ys)
+decided : {more : ℕ} {xs ys : List ℕ} (n x y : ℕ) → StandsAsSpelled more xs ys → spelled more (n * 256 + x) xs ≢ spelled more (n * 256 + y) ys
     → (r : Ordering) → nat_cmp x y ≡ r → MatchOrdering r (x < y) (x ≡ y) (y < x)
     → nat_cmp (spelled more (n * 256 + x) xs) (spelled more (n * 256 + y) ys) ≡ ordering_then (nat_cmp x y) (slice_cmp nat_cmp xs ys)
-decided more n x y xs ys g h apart onward Less e lt =
+decided {more} {xs} {ys} n x y behind apart Less e lt =
     let under : x < y = lt in
-    below _ _ (rises more (n * 256 + x) (n * 256 + y) xs ys g (omega arith)) ∙ sym (ap (λ r. ordering_then r (slice_cmp nat_cmp xs ys)) e)
-decided more n x y xs ys g h apart onward Greater e lt =
+    below _ _ (rises more (n * 256 + x) (n * 256 + y) xs ys behind.one (omega arith)) ∙ sym (ap (λ r. ordering_then r (slice_cmp nat_cmp xs ys)) e)
+decided {more} {xs} {ys} n x y behind apart Greater e lt =
     let over : y < x = lt in
-    above _ _ (rises more (n * 256 + y) (n * 256 + x) ys xs h (omega arith)) ∙ sym (ap (λ r. ordering_then r (slice_cmp nat_cmp xs ys)) e)
-decided more n x y xs ys g h apart onward Equal e same =
+    above _ _ (rises more (n * 256 + y) (n * 256 + x) ys xs behind.other (omega arith)) ∙ sym (ap (λ r. ordering_then r (slice_cmp nat_cmp xs ys)) e)
+decided {more} {xs} {ys} n x y behind apart Equal e same =
     let level : x ≡ y = same in
     let further : spelled more (n * 256 + x) xs ≢ spelled more (n * 256 + x) ys =
     subst (λ z. spelled more (n * 256 + x) xs ≢ spelled more (n * 256 + z) ys) (sym level) apart in
-    subst (λ z. nat_cmp (spelled more (n * 256 + x) xs) (spelled more (n * 256 + z) ys) ≡ slice_cmp nat_cmp xs ys) level (onward (n * 256 + x) further)
+    subst (λ z. nat_cmp (spelled more (n * 256 + x) xs) (spelled more (n * 256 + z) ys) ≡ slice_cmp nat_cmp xs ys) level (behind.onward (n * 256 + x) further)
     ∙ sym (ap (λ r. ordering_then r (slice_cmp nat_cmp xs ys)) e)
 
 spelled_order : (more n : ℕ) (a b : List ℕ) → Bytes a → Bytes b → spelled more n a ≢ spelled more n b
@@ -81,7 +86,8 @@ spelled_order (suc more) n (x ∷ xs) [] g h apart =
     above _ _ (elim (cases_lt (spelled more (n * 256) []) (spelled more (n * 256 + x) xs)) [ inl lt ↦ lt | inr over ↦ absurd (apart (omega arith)) ])
 spelled_order (suc more) n (x ∷ xs) (y ∷ ys) g h apart =
     let onward = λ (m : ℕ) (further : spelled more m xs ≢ spelled more m ys). spelled_order more m xs ys (rest_of x xs g) (rest_of y ys h) further in
-    decided more n x y xs ys (rest_of x xs g) (rest_of y ys h) apart onward (nat_cmp x y) refl (ranked x y (nat_cmp x y) refl)
+    let behind : StandsAsSpelled more xs ys = record { one = rest_of x xs g; other = rest_of y ys h; onward = onward } in
+    decided n x y behind apart (nat_cmp x y) refl (ranked x y (nat_cmp x y) refl)
 
 pub head_order : (a b : List ℕ) → Bytes a → Bytes b → head_of a ≢ head_of b → nat_cmp (head_of a) (head_of b) ≡ slice_cmp nat_cmp a b
 head_order a b g h apart = spelled_order 8 0 a b g h apart
@@ -95,33 +101,42 @@ first_of_solid b bytes h = All-head (λ b. 0 < b) b bytes h
 solid_rest : (b : ℕ) (bytes : List ℕ) → Solid (b ∷ bytes) → Solid bytes
 solid_rest b bytes h = All-tail (λ b. 0 < b) b bytes h
 
+-- Bytes of which none is 0, so many at most.
+record IsShortText (most : ℕ) (a : List ℕ) : Type 0 where
+  bytes : Bytes a
+  solid : Solid a
+  short : length a ≤ most
+
+short_rest : (most x : ℕ) (xs : List ℕ) → IsShortText (suc most) (x ∷ xs) → IsShortText most xs
+short_rest most x xs a = record { bytes = rest_of x xs a.bytes; solid = solid_rest x xs a.solid; short = omega (arith, a.short) }
+
 -- what is short and has no zeros isn't spelled as anything else
-spelled_once : (more n : ℕ) (a b : List ℕ) → Bytes a → Bytes b → Solid a → Solid b → length a ≤ more → length b ≤ more
-    → spelled more n a ≡ spelled more n b → a ≡ b
-spelled_once zero n [] [] g h s t la lb e = refl
-spelled_once zero n [] (y ∷ ys) g h s t la lb e = absurd (omega (arith, lb))
-spelled_once zero n (x ∷ xs) b g h s t la lb e = absurd (omega (arith, la))
-spelled_once (suc more) n [] [] g h s t la lb e = refl
-spelled_once (suc more) n [] (y ∷ ys) g h s t la lb e =
-    let some = first_of_solid y ys t in
+spelled_once : (more n : ℕ) (a b : List ℕ) → IsShortText more a → IsShortText more b → spelled more n a ≡ spelled more n b → a ≡ b
+spelled_once zero n [] [] g h e = refl
+spelled_once zero n [] (y ∷ ys) g h e = absurd (omega (arith, h.short))
+spelled_once zero n (x ∷ xs) b g h e = absurd (omega (arith, g.short))
+spelled_once (suc more) n [] [] g h e = refl
+spelled_once (suc more) n [] (y ∷ ys) g h e =
+    let some = first_of_solid y ys h.solid in
     let less = rises more (n * 256) (n * 256 + y) [] ys none (omega arith) in
     absurd (omega arith)
-spelled_once (suc more) n (x ∷ xs) [] g h s t la lb e =
-    let some = first_of_solid x xs s in
+spelled_once (suc more) n (x ∷ xs) [] g h e =
+    let some = first_of_solid x xs g.solid in
     let less = rises more (n * 256) (n * 256 + x) [] xs none (omega arith) in
     absurd (omega arith)
-spelled_once (suc more) n (x ∷ xs) (y ∷ ys) g h s t la lb e =
+spelled_once (suc more) n (x ∷ xs) (y ∷ ys) g h e =
+    let g' = short_rest more x xs g in
+    let h' = short_rest more y ys h in
     elim (cases_lt x y) [
-      | inl lt ↦ (let less = rises more (n * 256 + x) (n * 256 + y) xs ys (rest_of x xs g) (omega arith) in absurd (omega arith))
+      | inl lt ↦ (let less = rises more (n * 256 + x) (n * 256 + y) xs ys g'.bytes (omega arith) in absurd (omega arith))
       | inr over ↦
           elim (cases_lt y x) [
-            | inl lt ↦ (let less = rises more (n * 256 + y) (n * 256 + x) ys xs (rest_of y ys h) (omega arith) in absurd (omega arith))
+            | inl lt ↦ (let less = rises more (n * 256 + y) (n * 256 + x) ys xs h'.bytes (omega arith) in absurd (omega arith))
             | inr under ↦
                 (let level : x ≡ y = omega arith in
                 let again : spelled more (n * 256 + x) xs ≡ spelled more (n * 256 + x) ys =
                 subst (λ z. spelled more (n * 256 + x) xs ≡ spelled more (n * 256 + z) ys) (sym level) e in
-                let rest = spelled_once more (n * 256 + x) xs ys (rest_of x xs g) (rest_of y ys h) (solid_rest x xs s) (solid_rest y ys t)
-                (omega arith) (omega arith) again in
+                let rest = spelled_once more (n * 256 + x) xs ys g' h' again in
                 cc)
           ]
     ]
@@ -144,5 +159,7 @@ short_head a g e = elim (cases_lt (length a) 8) [ inl lt ↦ omega arith | inr l
 -- names are the same where their heads are, and end with a 0
 pub short_names : (a b : List ℕ) → IsPart a → IsPart b → head_of a ≡ head_of b → head_of a % 256 ≡ 0 → slice_cmp nat_cmp a b ≡ Equal
 short_names a b g h e short =
-    let same = spelled_once 8 0 a b g.bytes h.bytes (solid_name a g.no_zero) (solid_name b h.no_zero) (short_head a g short) (short_head b h (ap (λ k. k % 256) (sym e) ∙ short)) e in
+    let one : IsShortText 8 a = record { bytes = g.bytes; solid = solid_name a g.no_zero; short = short_head a g short } in
+    let other : IsShortText 8 b = record { bytes = h.bytes; solid = solid_name b h.no_zero; short = short_head b h (ap (λ k. k % 256) (sym e) ∙ short) } in
+    let same = spelled_once 8 0 a b one other e in
     subst (λ z. slice_cmp nat_cmp a z ≡ Equal) same (tied_itself name_total a)

@@ -58,17 +58,17 @@ are_parts text bytes e =
       no_zero = λ w. (all k d lt w.0 0 w.1).no_zero w.2;
     }
 
-step_kept : (path : Path) (part : List ℕ) (empty dot up : Bool) → bytes_eq part (codes "") ≡ empty → bytes_eq part (codes ".") ≡ dot → bytes_eq part (codes "..") ≡ up → IsPath path → IsPart part
+step_kept : {part : List ℕ} (path : Path) (empty dot up : Bool) → IsPath path → IsPart part → bytes_eq part (codes "") ≡ empty → bytes_eq part (codes ".") ≡ dot → bytes_eq part (codes "..") ≡ up
     → IsPath (cond (empty || dot) path (cond up (take (length path - 1) path) (path ++ part ∷ [])))
-step_kept path part true dot up e f g h p = h
-step_kept path part false true up e f g h p = h
-step_kept path part false false true e f g h p = All-take IsName (length path - 1) path h
-step_kept path part false false false e f g h p =
+step_kept path true dot up h p e f g = h
+step_kept path false true up h p e f g = h
+step_kept path false false true h p e f g = All-take IsName (length path - 1) path h
+step_kept {part} path false false false h p e f g =
     All-push IsName path part h (record { part = p; not_empty = other_text part [] (sym e); not_dot = other_text part (codes ".") (sym f); not_dot_dot = other_text part (codes "..") (sym g) })
 
 fold_kept : (path : Path) (ps : List (List ℕ)) → IsPath path → All IsPart ps → IsPath (fold with_part path ps)
 fold_kept path [] h all = h
-fold_kept path (p ∷ ps) h all = fold_kept (with_part path p) ps (step_kept path p _ _ _ refl refl refl h (All-head IsPart p ps all)) (All-tail IsPart p ps all)
+fold_kept path (p ∷ ps) h all = fold_kept (with_part path p) ps (step_kept path _ _ _ h (All-head IsPart p ps all) refl refl refl) (All-tail IsPart p ps all)
 
 pub norm_is_path : (text : List ℕ) → All (λ b. b < 256) text → fault_of text ≡ None → IsPath (norm text)
 norm_is_path text bytes e = fold_kept [] (parts text) (All-nil IsName) (are_parts text bytes e)

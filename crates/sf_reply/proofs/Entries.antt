@@ -46,9 +46,9 @@ pub count_short : (es : List Entry) → length es ≤ length (flat_map entry_tex
 count_short [] = omega arith
 count_short (e ∷ es) = omega (arith, length-append (entry_text e) (flat_map entry_text es), names_short e, count_short es)
 
-pub put_one : (old new after : Filled) (es : List Entry) (i : ℕ) (e : Entry) → e ≡ get_or es i e → i < length es → after.items ≡ new.items ++ entry_text e → after.spare + length (entry_text e) ≡ new.spare
-    → IsPartlyPut old new es i → IsPartlyPut old after es (i + 1)
-put_one old new after es i e is lt items spare so_far = record {
+pub put_one : {old new : Filled} {es : List Entry} {i : ℕ} (after : Filled) (e : Entry) → IsPartlyPut old new es i → e ≡ get_or es i e → i < length es → after.items ≡ new.items ++ entry_text e → after.spare + length (entry_text e) ≡ new.spare
+    → IsPartlyPut old after es (i + 1)
+put_one {new = new} {es = es} {i = i} after e so_far is lt items spare = record {
   items = ap (λ (t : List ℕ). t ++ left es (i + 1)) items ∙ append_assoc new.items (entry_text e) (left es (i + 1)) ∙ ap (λ (t : List ℕ). new.items ++ t) (sym (left_more es i e is lt)) ∙ so_far.items;
   spare = omega (arith, so_far.spare, spare, length-left es i e is lt);
 }

@@ -19,8 +19,8 @@ use Rattle.sf_field.proofs.Laws.{attrs_again}
 use Rattle.sf_field.proofs.Laws.{sent_is_spelled}
 
 -- what is read from the front of equal bytes is equal
-same_front : {A : Type 0} (read : List ℕ → Option (A × List ℕ)) (x y : A) (s t a b : List ℕ) → read s ≡ Some (x, a) → read t ≡ Some (y, b) → s ≡ t → (x ≡ y) × (a ≡ b)
-same_front read x y s t a b p q e = some_pair_parts _ _ _ _ (sym p ∙ ap read e ∙ q)
+same_front : {A : Type 0} {x y : A} {s t a b : List ℕ} (read : List ℕ → Option (A × List ℕ)) → read s ≡ Some (x, a) → read t ≡ Some (y, b) → s ≡ t → (x ≡ y) × (a ≡ b)
+same_front read p q e = some_pair_parts _ _ _ _ (sym p ∙ ap read e ∙ q)
 
 -- ---- attributes
 
@@ -28,7 +28,7 @@ attrs_back : (a : Attrs) (rest : List ℕ) → AttrsFit a → attrs_at (attrs_te
 attrs_back a rest fits = attrs_again (attrs_text a) a rest (sent_is_spelled a fits)
 
 same_attrs : (a b : Attrs) → AttrsFit a → AttrsFit b → attrs_text a ≡ attrs_text b → a ≡ b
-same_attrs a b p q e = (same_front attrs_at a b (attrs_text a ++ []) (attrs_text b ++ []) [] [] (attrs_back a [] p) (attrs_back b [] q) (ap (λ (t : List ℕ). t ++ []) e)).0
+same_attrs a b p q e = (same_front attrs_at (attrs_back a [] p) (attrs_back b [] q) (ap (λ (t : List ℕ). t ++ []) e)).0
 
 -- ---- names
 
@@ -44,9 +44,9 @@ entry_parts e rest = append_assoc (string e.filename ++ string e.longname) (attr
 
 same_entry : (e f : Entry) (x y : List ℕ) → EntryFits e → EntryFits f → entry_text e ++ x ≡ entry_text f ++ y → (e ≡ f) × (x ≡ y)
 same_entry e f x y p q h =
-    let a = same_front string_at e.filename f.filename _ _ _ _ (reads_string.again e.filename (string e.longname ++ (attrs_text e.attrs ++ x)) p.filename) (reads_string.again f.filename (string f.longname ++ (attrs_text f.attrs ++ y)) q.filename) (sym (entry_parts e x) ∙ h ∙ entry_parts f y) in
-    let b = same_front string_at e.longname f.longname _ _ _ _ (reads_string.again e.longname (attrs_text e.attrs ++ x) p.longname) (reads_string.again f.longname (attrs_text f.attrs ++ y) q.longname) a.1 in
-    let c = same_front attrs_at e.attrs f.attrs _ _ _ _ (attrs_back e.attrs x p.attrs) (attrs_back f.attrs y q.attrs) b.1 in
+    let a = same_front string_at (reads_string.again e.filename (string e.longname ++ (attrs_text e.attrs ++ x)) p.filename) (reads_string.again f.filename (string f.longname ++ (attrs_text f.attrs ++ y)) q.filename) (sym (entry_parts e x) ∙ h ∙ entry_parts f y) in
+    let b = same_front string_at (reads_string.again e.longname (attrs_text e.attrs ++ x) p.longname) (reads_string.again f.longname (attrs_text f.attrs ++ y) q.longname) a.1 in
+    let c = same_front attrs_at (attrs_back e.attrs x p.attrs) (attrs_back f.attrs y q.attrs) b.1 in
     (entry_is e f a.0 b.0 c.0, c.1)
 
 same_entries : (es fs : List Entry) → AllByRecursion EntryFits es → AllByRecursion EntryFits fs → length es ≡ length fs → flat_map entry_text es ≡ flat_map entry_text fs → es ≡ fs
@@ -97,10 +97,10 @@ same_reply (reply.Status c) (reply.Status d) p q k e = sym (status_back c) ∙ a
 same_reply (reply.Status c) reply.NoMemory p q k e = sym (status_back c) ∙ ap status_of e ∙ no_memory_back
 same_reply reply.NoMemory (reply.Status d) p q k e = sym no_memory_back ∙ ap status_of e ∙ status_back d
 same_reply reply.NoMemory reply.NoMemory p q k e = refl
-same_reply (reply.Handle m) (reply.Handle n) p q k e = ap reply.Handle (same_front (number_at w64) m n _ _ _ _ (reads_u64.again m [] p) (reads_u64.again n [] q) (ap (drop 4) e)).0
-same_reply (reply.Data a) (reply.Data b) p q k e = ap reply.Data (same_front string_at a b _ _ _ _ (reads_string.again a [] p) (reads_string.again b [] q) (ap (λ (t : List ℕ). t ++ []) e)).0
+same_reply (reply.Handle m) (reply.Handle n) p q k e = ap reply.Handle (same_front (number_at w64) (reads_u64.again m [] p) (reads_u64.again n [] q) (ap (drop 4) e)).0
+same_reply (reply.Data a) (reply.Data b) p q k e = ap reply.Data (same_front string_at (reads_string.again a [] p) (reads_string.again b [] q) (ap (λ (t : List ℕ). t ++ []) e)).0
 same_reply (reply.Names es) (reply.Names fs) p q k e =
-    let parts = same_front (number_at w32) (length es) (length fs) _ _ _ _ (reads_u32.again (length es) (flat_map entry_text es) p.0) (reads_u32.again (length fs) (flat_map entry_text fs) q.0) e in
+    let parts = same_front (number_at w32) (reads_u32.again (length es) (flat_map entry_text es) p.0) (reads_u32.again (length fs) (flat_map entry_text fs) q.0) e in
     ap reply.Names (same_entries es fs p.1 q.1 parts.0 parts.1)
 same_reply (reply.Attrs a) (reply.Attrs b) p q k e = ap reply.Attrs (same_attrs a b p q e)
 -- of two kinds
@@ -109,5 +109,5 @@ same_reply _ _ p q k e = absurd (omega arith)
 pub one_reply : (id other_id : ℕ) (r other : Reply) → id < 2 ^ 32 → other_id < 2 ^ 32 → ReplyFits r → ReplyFits other → reply_body id r ≡ reply_body other_id other → (id ≡ other_id) × (r ≡ other)
 one_reply id other_id r other p q fits other_fits e =
     let kinds : kind_of_reply r ≡ kind_of_reply other = ap (λ (t : List ℕ). get_or t 0 0) e in
-    let parts = same_front (number_at w32) id other_id _ _ _ _ (reads_u32.again id (fields_of r) p) (reads_u32.again other_id (fields_of other) q) (ap (drop 1) e) in
+    let parts = same_front (number_at w32) (reads_u32.again id (fields_of r) p) (reads_u32.again other_id (fields_of other) q) (ap (drop 1) e) in
     (parts.0, same_reply r other fits other_fits kinds parts.1)

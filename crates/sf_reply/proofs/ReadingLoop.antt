@@ -49,10 +49,10 @@ joined : (done : List Entry) (entry : Entry) (o : Option (List Entry × List ℕ
 joined done entry None = refl
 joined done entry (Some x) = ap (λ (es : List Entry). Some (es, x.1)) (append_assoc done (entry ∷ []) x.0)
 
-pub one_more : (count i : ℕ) (done now : List Entry) (entry : Entry) (bytes rest : List ℕ) (total : Option (List Entry × List ℕ)) → i < count → entry_at bytes ≡ Some (entry, rest) → now ≡ done ++ entry ∷ []
+pub one_more : {now : List Entry} {entry : Entry} {rest : List ℕ} {total : Option (List Entry × List ℕ)} (count i : ℕ) (done : List Entry) (bytes : List ℕ) → i < count → entry_at bytes ≡ Some (entry, rest) → now ≡ done ++ entry ∷ []
     → after done (entries_at (count - i) bytes) ≡ total → after now (entries_at (count - (i + 1)) rest) ≡ total
 unfolding entries_at
-one_more count i done now entry bytes rest total lt h is so_far =
+one_more {now} {entry} {rest} count i done bytes lt h is so_far =
     let k : count - i ≡ suc (count - (i + 1)) = omega arith in
     let one : after done (entries_at (count - i) bytes) ≡ after now (entries_at (count - (i + 1)) rest) = rw (k, h, is) (sym (joined done entry (entries_at (count - (i + 1)) rest))) in
     sym one ∙ so_far

@@ -147,20 +147,23 @@ reads_names = record { takes = names_take; again = names_again }
 
 -- ---- statuses
 
-code_by : (n : ℕ) (code : StatusCode) (b0 b1 b2 b3 b4 b5 b8 : Bool) → eqb n 0 ≡ b0 → eqb n 1 ≡ b1 → eqb n 2 ≡ b2 → eqb n 3 ≡ b3 → eqb n 4 ≡ b4 → eqb n 5 ≡ b5 → eqb n 8 ≡ b8
-    → cond b0 (Some status.Success) (cond b1 (Some status.EndOfFile) (cond b2 (Some status.NoSuchFile) (cond b3 (Some status.PermissionDenied) (cond b4 (Some status.Failure) (cond b5 (Some status.BadMessage) (cond b8 (Some status.OpUnsupported) None)))))) ≡ Some code
-    → n ≡ number_of code
-code_by n code true b1 b2 b3 b4 b5 b8 p0 p1 p2 p3 p4 p5 p8 e = subst (λ (c : StatusCode). n ≡ number_of c) (some_is status.Success code e) (eqb-true n 0 p0)
-code_by n code false true b2 b3 b4 b5 b8 p0 p1 p2 p3 p4 p5 p8 e = subst (λ (c : StatusCode). n ≡ number_of c) (some_is status.EndOfFile code e) (eqb-true n 1 p1)
-code_by n code false false true b3 b4 b5 b8 p0 p1 p2 p3 p4 p5 p8 e = subst (λ (c : StatusCode). n ≡ number_of c) (some_is status.NoSuchFile code e) (eqb-true n 2 p2)
-code_by n code false false false true b4 b5 b8 p0 p1 p2 p3 p4 p5 p8 e = subst (λ (c : StatusCode). n ≡ number_of c) (some_is status.PermissionDenied code e) (eqb-true n 3 p3)
-code_by n code false false false false true b5 b8 p0 p1 p2 p3 p4 p5 p8 e = subst (λ (c : StatusCode). n ≡ number_of c) (some_is status.Failure code e) (eqb-true n 4 p4)
-code_by n code false false false false false true b8 p0 p1 p2 p3 p4 p5 p8 e = subst (λ (c : StatusCode). n ≡ number_of c) (some_is status.BadMessage code e) (eqb-true n 5 p5)
-code_by n code false false false false false false true p0 p1 p2 p3 p4 p5 p8 e = subst (λ (c : StatusCode). n ≡ number_of c) (some_is status.OpUnsupported code e) (eqb-true n 8 p8)
-code_by n code false false false false false false false p0 p1 p2 p3 p4 p5 p8 e = absurd cc
+-- this code has the number, or a later one has it
+this_or_later : {later : Option StatusCode} {code : StatusCode} (n k : ℕ) (this : StatusCode) → k ≡ number_of this → (later ≡ Some code → n ≡ number_of code) → cond (eqb n k) (Some this) later ≡ Some code → n ≡ number_of code
+this_or_later {later} {code} n k this is others =
+    (elim (eqb n k) as (λ (b : Bool). eqb n k ≡ b → cond b (Some this) later ≡ Some code → n ≡ number_of code) [
+      | true ↦ λ p e. eqb-true n k p ∙ is ∙ ap number_of (some_is this code e)
+      | false ↦ λ p e. others e
+    ]) refl
 
 code_is : (n : ℕ) (code : StatusCode) → code_of n ≡ Some code → n ≡ number_of code
-code_is n code e = code_by n code (eqb n 0) (eqb n 1) (eqb n 2) (eqb n 3) (eqb n 4) (eqb n 5) (eqb n 8) refl refl refl refl refl refl refl e
+code_is n code e =
+    this_or_later n 0 status.Success refl
+    (this_or_later n 1 status.EndOfFile refl
+    (this_or_later n 2 status.NoSuchFile refl
+    (this_or_later n 3 status.PermissionDenied refl
+    (this_or_later n 4 status.Failure refl
+    (this_or_later n 5 status.BadMessage refl
+    (this_or_later n 8 status.OpUnsupported refl (λ none. cc))))))) e
 
 -- it is spelled so, and fits
 record IsSpelled (kind : ℕ) (text : List ℕ) (r : Reply) : Type 0 where
@@ -219,31 +222,48 @@ mapped_some : {X Y : Type 0} (f : X → Y) (o : Option X) (y : Y) → option_map
 mapped_some f (Some x) y e = (x, refl, some_is (f x) y e)
 mapped_some f None y e = absurd cc
 
-mapped : {A : Type 0} (read : List ℕ → Option A) (spell : A → List ℕ) (Fit : A → Type 0) → ReadsWhole read spell Fit → (make : A → Reply) (kind : ℕ)
-    → ((x : A) → kind ≡ kind_of_reply (make x)) → ((x : A) → spell x ≡ fields_of (make x)) → ((x : A) → Fit x → ReplyFits (make x))
-    → (bytes : List ℕ) (r : Reply) → IsBytes bytes → option_map make (read bytes) ≡ Some r → IsSpelled kind bytes r
-mapped read spell Fit reads make kind of_kind of_fields fit bytes r fits e =
-    let m = mapped_some make (read bytes) r e in
-    let t = reads.takes bytes m.0 fits m.1 in
-    subst (IsSpelled kind bytes) m.2 (record { kind_is = of_kind m.0; parts = t.0 ∙ of_fields m.0; fits = fit m.0 t.1 })
+-- Replies of a type are made of values that are read so.
+record MadeOf {A : Type 0} (read : List ℕ → Option A) (spell : A → List ℕ) (Fit : A → Type 0) (make : A → Reply) (kind : ℕ) : Type 0 where
+  reads : ReadsWhole read spell Fit
+  of_kind : (x : A) → kind ≡ kind_of_reply (make x)
+  of_fields : (x : A) → spell x ≡ fields_of (make x)
+  fit : (x : A) → Fit x → ReplyFits (make x)
 
-fields_by : (kind : ℕ) (bytes : List ℕ) (r : Reply) (b1 b2 b3 b4 b5 : Bool) → eqb kind 101 ≡ b1 → eqb kind 102 ≡ b2 → eqb kind 103 ≡ b3 → eqb kind 104 ≡ b4 → eqb kind 105 ≡ b5 → IsBytes bytes
-    → cond b1 (status_at bytes) (cond b2 (option_map reply.Handle (whole handle_at bytes)) (cond b3 (option_map reply.Data (whole string_at bytes)) (cond b4 (option_map reply.Names (whole names_at bytes)) (cond b5 (option_map reply.Attrs (whole sent_attrs_at bytes)) None)))) ≡ Some r
-    → IsSpelled kind bytes r
-fields_by kind bytes r true b2 b3 b4 b5 p1 p2 p3 p4 p5 fits e = subst (λ (k : ℕ). IsSpelled k bytes r) (sym (eqb-true kind 101 p1)) (status_takes bytes r fits e)
-fields_by kind bytes r false true b3 b4 b5 p1 p2 p3 p4 p5 fits e =
-    subst (λ (k : ℕ). IsSpelled k bytes r) (sym (eqb-true kind 102 p2)) (mapped (whole handle_at) handle_text (λ n. n < 2 ^ 64) (reads_whole handle_at handle_text (λ n. n < 2 ^ 64) reads_handle) reply.Handle 102 (λ x. refl) (λ x. refl) (λ x h. h) bytes r fits e)
-fields_by kind bytes r false false true b4 b5 p1 p2 p3 p4 p5 fits e =
-    subst (λ (k : ℕ). IsSpelled k bytes r) (sym (eqb-true kind 103 p3)) (mapped (whole string_at) string (λ (x : List ℕ). length x < 2 ^ 32) (reads_whole string_at string (λ (x : List ℕ). length x < 2 ^ 32) reads_string) reply.Data 103 (λ x. refl) (λ x. refl) (λ x h. h) bytes r fits e)
-fields_by kind bytes r false false false true b5 p1 p2 p3 p4 p5 fits e =
-    subst (λ (k : ℕ). IsSpelled k bytes r) (sym (eqb-true kind 104 p4)) (mapped (whole names_at) names_text NamesFit (reads_whole names_at names_text NamesFit reads_names) reply.Names 104 (λ x. refl) (λ x. refl) (λ x h. h) bytes r fits e)
-fields_by kind bytes r false false false false true p1 p2 p3 p4 p5 fits e =
-    subst (λ (k : ℕ). IsSpelled k bytes r) (sym (eqb-true kind 105 p5)) (mapped (whole sent_attrs_at) attrs_text AttrsFit (reads_whole sent_attrs_at attrs_text AttrsFit reads_sent_attrs) reply.Attrs 105 (λ x. refl) (λ x. refl) (λ x h. h) bytes r fits e)
-fields_by kind bytes r false false false false false p1 p2 p3 p4 p5 fits e = absurd cc
+mapped : {A : Type 0} {read : List ℕ → Option A} {spell : A → List ℕ} {Fit : A → Type 0} {make : A → Reply} {kind : ℕ} → MadeOf read spell Fit make kind
+    → (bytes : List ℕ) (r : Reply) → IsBytes bytes → option_map make (read bytes) ≡ Some r → IsSpelled kind bytes r
+mapped {read = read} {make = make} {kind = kind} made bytes r fits e =
+    let m = mapped_some make (read bytes) r e in
+    let t = made.reads.takes bytes m.0 fits m.1 in
+    subst (IsSpelled kind bytes) m.2 (record { kind_is = made.of_kind m.0; parts = t.0 ∙ made.of_fields m.0; fits = made.fit m.0 t.1 })
+
+of_handle : MadeOf (whole handle_at) handle_text (λ n. n < 2 ^ 64) reply.Handle 102
+of_handle = record { reads = reads_whole handle_at handle_text (λ n. n < 2 ^ 64) reads_handle; of_kind = λ x. refl; of_fields = λ x. refl; fit = λ x h. h }
+
+of_data : MadeOf (whole string_at) string (λ (x : List ℕ). length x < 2 ^ 32) reply.Data 103
+of_data = record { reads = reads_whole string_at string (λ (x : List ℕ). length x < 2 ^ 32) reads_string; of_kind = λ x. refl; of_fields = λ x. refl; fit = λ x h. h }
+
+of_names : MadeOf (whole names_at) names_text NamesFit reply.Names 104
+of_names = record { reads = reads_whole names_at names_text NamesFit reads_names; of_kind = λ x. refl; of_fields = λ x. refl; fit = λ x h. h }
+
+of_attrs : MadeOf (whole sent_attrs_at) attrs_text AttrsFit reply.Attrs 105
+of_attrs = record { reads = reads_whole sent_attrs_at attrs_text AttrsFit reads_sent_attrs; of_kind = λ x. refl; of_fields = λ x. refl; fit = λ x h. h }
+
+-- it is of this type, or of a later one
+this_kind_or_later : {this later : Option Reply} {bytes : List ℕ} {r : Reply} (kind n : ℕ) → (this ≡ Some r → IsSpelled n bytes r) → (later ≡ Some r → IsSpelled kind bytes r) → cond (eqb kind n) this later ≡ Some r → IsSpelled kind bytes r
+this_kind_or_later {this} {later} {bytes} {r} kind n here others =
+    (elim (eqb kind n) as (λ (b : Bool). eqb kind n ≡ b → cond b this later ≡ Some r → IsSpelled kind bytes r) [
+      | true ↦ λ p e. subst (λ (k : ℕ). IsSpelled k bytes r) (sym (eqb-true kind n p)) (here e)
+      | false ↦ λ p e. others e
+    ]) refl
 
 fields_take : (kind : ℕ) (bytes : List ℕ) (r : Reply) → IsBytes bytes → reply_fields_at kind bytes ≡ Some r → IsSpelled kind bytes r
 unfolding reply_fields_at
-fields_take kind bytes r fits e = fields_by kind bytes r (eqb kind 101) (eqb kind 102) (eqb kind 103) (eqb kind 104) (eqb kind 105) refl refl refl refl refl fits e
+fields_take kind bytes r fits e =
+    this_kind_or_later kind 101 (status_takes bytes r fits)
+    (this_kind_or_later kind 102 (mapped of_handle bytes r fits)
+    (this_kind_or_later kind 103 (mapped of_data bytes r fits)
+    (this_kind_or_later kind 104 (mapped of_names bytes r fits)
+    (this_kind_or_later kind 105 (mapped of_attrs bytes r fits) (λ none. absurd cc))))) e
 
 fields_again : (r : Reply) → ReplyFits r → reply_fields_at (kind_of_reply r) (fields_of r) ≡ Some r
 unfolding reply_fields_at

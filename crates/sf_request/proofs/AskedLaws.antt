@@ -100,11 +100,11 @@ answer_found body kind id rest (Some request) e not_unknown has fits =
     let t = request_takes kind rest request fits e in
     (t.text, t.more, subst (λ (k : ℕ). HasId body k id (t.text ++ t.more)) (sym t.kind_is) (subst (HasId body kind id) t.parts has), t.spelled)
 
-call_found : (body : List ℕ) (kind id : ℕ) (rest : List ℕ) (one unknown : Bool) → eqb kind 1 ≡ one → is_unknown kind rest ≡ unknown → HasId body kind id rest → IsBytes rest
+call_found : {body : List ℕ} {kind id : ℕ} {rest : List ℕ} (one unknown : Bool) → eqb kind 1 ≡ one → is_unknown kind rest ≡ unknown → HasId body kind id rest → IsBytes rest
     → Asks body (cond one (Init id) (cond unknown (Unknown id) (asked_by id (request_at kind rest))))
-call_found body kind id rest true unknown p q has fits = (rest, subst (λ (k : ℕ). HasId body k id rest) (eqb-true kind 1 p) has)
-call_found body kind id rest false false p q has fits = answer_found body kind id rest (request_at kind rest) refl q has fits
-call_found body kind id rest false true p q has fits = (kind, rest, has, unknown_found kind rest fits (eqb-false kind 1 p) q)
+call_found {body} {kind} {id} {rest} true unknown p q has fits = (rest, subst (λ (k : ℕ). HasId body k id rest) (eqb-true kind 1 p) has)
+call_found {body} {kind} {id} {rest} false false p q has fits = answer_found body kind id rest (request_at kind rest) refl q has fits
+call_found {kind = kind} {rest = rest} false true p q has fits = (kind, rest, has, unknown_found kind rest fits (eqb-false kind 1 p) q)
 
 head_is : (kind n : ℕ) (rest more : List ℕ) → kind ∷ rest ≡ n ∷ more → kind ≡ n
 head_is kind n rest more e = cc
@@ -118,7 +118,7 @@ unfolding asked_under
 number_found kind rest None e fits = short_found kind rest (eqb kind 1) refl (omega (arith, number_none w32 rest e))
 number_found kind rest (Some n) e fits =
     let t = reads_u32.takes rest n.0 n.1 fits e in
-    call_found (kind ∷ rest) kind n.0 n.1 (eqb kind 1) (is_unknown kind n.1) refl refl (record { fits = t.1; parts = ap (λ (t : List ℕ). kind ∷ t) t.0.parts }) t.0.rest_fits
+    call_found (eqb kind 1) (is_unknown kind n.1) refl refl (record { fits = t.1; parts = ap (λ (t : List ℕ). kind ∷ t) t.0.parts }) t.0.rest_fits
 
 pub asked_found : (body : List ℕ) → IsBytes body → Asks body (asked_of body)
 unfolding asked_of

@@ -31,48 +31,62 @@ mapped_some : {X Y : Type 0} (f : X → Y) (o : Option X) (y : Y) → option_map
 mapped_some f (Some x) y e = (x, refl, some_is (f x) y e)
 mapped_some f None y e = absurd cc
 
-finds_made : {X : Type 0} (read : List ℕ → Option (X × List ℕ)) (Is : X → List ℕ → Type 0) → ReadsAs read Is → (make : X → WireRequest) (kind : ℕ) → ((x : X) → kind_of (make x) ≡ kind)
-    → ((text : List ℕ) (x : X) → Is x text → SpellsFields text (make x)) → (bytes : List ℕ) (r : WireRequest) → IsBytes bytes → option_map make (fields read bytes) ≡ Some r → Found kind bytes r
-finds_made read Is reads make kind of_kind spells bytes r fits e =
-    let m = mapped_some make (fields read bytes) r e in
-    let t = fields_take read Is reads bytes m.0 fits m.1 in
-    subst (Found kind bytes) m.2 (record { text = t.0; more = t.1; parts = t.2; spelled = spells t.0 m.0 t.3; kind_is = of_kind m.0 })
+-- Requests of a type are made of fields that are read so.
+record MadeOf {X : Type 0} (read : List ℕ → Option (X × List ℕ)) (Is : X → List ℕ → Type 0) (make : X → WireRequest) (kind : ℕ) : Type 0 where
+  reads : ReadsAs read Is
+  of_kind : (x : X) → kind_of (make x) ≡ kind
+  spells : (text : List ℕ) (x : X) → Is x text → SpellsFields text (make x)
+
+finds_made : {X : Type 0} {read : List ℕ → Option (X × List ℕ)} {Is : X → List ℕ → Type 0} {make : X → WireRequest} {kind : ℕ} → MadeOf read Is make kind
+    → (bytes : List ℕ) (r : WireRequest) → IsBytes bytes → option_map make (fields read bytes) ≡ Some r → Found kind bytes r
+finds_made {read = read} {Is = Is} {make = make} {kind = kind} m bytes r fits e =
+    let found = mapped_some make (fields read bytes) r e in
+    let t = fields_take read Is m.reads bytes found.0 fits found.1 in
+    subst (Found kind bytes) found.2 (record { text = t.0; more = t.1; parts = t.2; spelled = m.spells t.0 found.0 t.3; kind_is = m.of_kind found.0 })
 
 as_two_strings : ReadsAs (both_at string_at string_at) (Both IsString IsString)
-as_two_strings = as_both string_at string_at IsString IsString as_string as_string
+as_two_strings = as_both as_string as_string
 
 as_string_and_attrs : ReadsAs (both_at string_at attrs_at) (Both IsString IsAttrs)
-as_string_and_attrs = as_both string_at attrs_at IsString IsAttrs as_string as_attrs
+as_string_and_attrs = as_both as_string as_attrs
 
 as_open : ReadsAs (both_at string_at (both_at flags_at attrs_at)) (Both IsString (Both IsFlags IsAttrs))
-as_open = as_both string_at (both_at flags_at attrs_at) IsString (Both IsFlags IsAttrs) as_string (as_both flags_at attrs_at IsFlags IsAttrs as_flags as_attrs)
+as_open = as_both as_string (as_both as_flags as_attrs)
 
 as_read : ReadsAs (both_at string_at (both_at (number_at w64) (number_at w32))) (Both IsString (Both IsU64 IsU32))
-as_read = as_both string_at (both_at (number_at w64) (number_at w32)) IsString (Both IsU64 IsU32) as_string (as_both (number_at w64) (number_at w32) IsU64 IsU32 as_u64 as_u32)
+as_read = as_both as_string (as_both as_u64 as_u32)
 
 as_write : ReadsAs (both_at string_at (both_at (number_at w64) string_at)) (Both IsString (Both IsU64 IsString))
-as_write = as_both string_at (both_at (number_at w64) string_at) IsString (Both IsU64 IsString) as_string (as_both (number_at w64) string_at IsU64 IsString as_u64 as_string)
+as_write = as_both as_string (as_both as_u64 as_string)
 
 one_string : (make : List ℕ → WireRequest) (kind : ℕ) → ((s : List ℕ) → kind_of (make s) ≡ kind) → ((text s : List ℕ) → IsString s text → SpellsFields text (make s)) → IsSound (kind, string_request_at make)
-one_string make kind of_kind spells = record { finds = finds_made string_at IsString as_string make kind of_kind spells }
+one_string make kind of_kind spells = record { finds = finds_made (record { reads = as_string; of_kind = of_kind; spells = spells }) }
 
 string_and_attrs : (make : List ℕ → Attrs → WireRequest) (kind : ℕ) → ((s : List ℕ) (a : Attrs) → kind_of (make s a) ≡ kind)
     → ((text s : List ℕ) (a : Attrs) → (IsString s ⨾ IsAttrs a) text → SpellsFields text (make s a)) → IsSound (kind, attrs_request_at make)
 string_and_attrs make kind of_kind spells =
-    record { finds = finds_made (both_at string_at attrs_at) (Both IsString IsAttrs) as_string_and_attrs (λ x. make x.0 x.1) kind (λ x. of_kind x.0 x.1) (λ text x h. spells text x.0 x.1 h) }
+    record { finds = finds_made {make = λ x. make x.0 x.1} (record { reads = as_string_and_attrs; of_kind = λ x. of_kind x.0 x.1; spells = λ text x h. spells text x.0 x.1 h }) }
 
 two_strings : (make : List ℕ → List ℕ → WireRequest) (kind : ℕ) → ((s t : List ℕ) → kind_of (make s t) ≡ kind)
     → ((text s t : List ℕ) → (IsString s ⨾ IsString t) text → SpellsFields text (make s t)) → IsSound (kind, rename_at make)
 two_strings make kind of_kind spells =
-    record { finds = finds_made (both_at string_at string_at) (Both IsString IsString) as_two_strings (λ x. make x.0 x.1) kind (λ x. of_kind x.0 x.1) (λ text x h. spells text x.0 x.1 h) }
+    record { finds = finds_made {make = λ x. make x.0 x.1} (record { reads = as_two_strings; of_kind = λ x. of_kind x.0 x.1; spells = λ text x h. spells text x.0 x.1 h }) }
 
 -- ---- the extensions
 
-named : (make : List ℕ → List ℕ → WireRequest) (known bytes name more : List ℕ) (r : WireRequest) → ((s t : List ℕ) → kind_of (make s t) ≡ 200)
-    → ((text s t : List ℕ) → (IsString known ⨾ IsString s ⨾ IsString t) text → SpellsFields text (make s t))
-    → IsBytes bytes → string_at bytes ≡ Some (name, more) → bytes_eq name known ≡ true → rename_at make more ≡ Some r → Found 200 bytes r
-named make known bytes name more r of_kind spells fits read same e =
-    let t = as_string.takes bytes name more fits read in
+-- An extension has this name, and makes requests of two strings.
+record IsExtension (known : List ℕ) (make : List ℕ → List ℕ → WireRequest) : Type 0 where
+  of_kind : (s t : List ℕ) → kind_of (make s t) ≡ 200
+  spells : (text s t : List ℕ) → (IsString known ⨾ IsString s ⨾ IsString t) text → SpellsFields text (make s t)
+
+-- A name stands at the front of the bytes.
+record NameRead (bytes name more : List ℕ) : Type 0 where
+  fits : IsBytes bytes
+  read : string_at bytes ≡ Some (name, more)
+
+named : {known : List ℕ} {make : List ℕ → List ℕ → WireRequest} {bytes name more : List ℕ} → IsExtension known make → NameRead bytes name more → (r : WireRequest) → bytes_eq name known ≡ true → rename_at make more ≡ Some r → Found 200 bytes r
+named {known} {make} {bytes} {name} {more} x n r same e =
+    let t = as_string.takes bytes name more n.fits n.read in
     let m = mapped_some (λ (x : List ℕ × List ℕ). make x.0 x.1) (two_strings_at more) r e in
     let u = fields_take (both_at string_at string_at) (Both IsString IsString) as_two_strings more m.0 t.1.rest_fits m.1 in
     let name_is : name ≡ known = (bytes_eq-Decides name known).0 same in
@@ -81,30 +95,36 @@ named make known bytes name more r of_kind spells fits read same e =
       text = t.0 ++ u.0;
       more = u.1;
       parts = t.1.parts ∙ ap (λ (x : List ℕ). t.0 ++ x) u.2 ∙ sym (append_assoc t.0 u.0 u.1);
-      spelled = spells (t.0 ++ u.0) m.0.0 m.0.1 (record { front = t.0; back = u.0; first = subst (λ (s : List ℕ). IsString s t.0) name_is t.2; second = u.3; parts = refl });
-      kind_is = of_kind m.0.0 m.0.1;
+      spelled = x.spells (t.0 ++ u.0) m.0.0 m.0.1 (record { front = t.0; back = u.0; first = subst (λ (s : List ℕ). IsString s t.0) name_is t.2; second = u.3; parts = refl });
+      kind_is = x.of_kind m.0.0 m.0.1;
     }
     )
 
-by_name : (posix link : Bool) (bytes name more : List ℕ) (r : WireRequest) → IsBytes bytes → string_at bytes ≡ Some (name, more) → bytes_eq name posix_rename_extension ≡ posix → bytes_eq name hardlink ≡ link
+is_posix_rename : IsExtension posix_rename_extension request.PosixRename
+is_posix_rename = record { of_kind = λ s t. refl; spells = λ text s t h. h }
+
+is_hardlink : IsExtension hardlink request.Link
+is_hardlink = record { of_kind = λ s t. refl; spells = λ text s t h. h }
+
+by_name : {bytes name more : List ℕ} (posix link : Bool) → NameRead bytes name more → (r : WireRequest) → bytes_eq name posix_rename_extension ≡ posix → bytes_eq name hardlink ≡ link
     → cond posix (rename_at request.PosixRename more) (cond link (rename_at request.Link more) None) ≡ Some r → Found 200 bytes r
-by_name true link bytes name more r fits read posix is_link e = named request.PosixRename posix_rename_extension bytes name more r (λ s t. refl) (λ text s t h. h) fits read posix e
-by_name false true bytes name more r fits read posix is_link e = named request.Link hardlink bytes name more r (λ s t. refl) (λ text s t h. h) fits read is_link e
-by_name false false bytes name more r fits read posix is_link e = absurd cc
+by_name true link n r is_posix is_link e = named is_posix_rename n r is_posix e
+by_name false true n r is_posix is_link e = named is_hardlink n r is_link e
+by_name false false n r is_posix is_link e = absurd cc
 
 extension : (o : Option (List ℕ × List ℕ)) (bytes : List ℕ) (r : WireRequest) → IsBytes bytes → string_at bytes ≡ o → extended_by o ≡ Some r → Found 200 bytes r
 extension None bytes r fits read e = absurd cc
-extension (Some name) bytes r fits read e = by_name (bytes_eq name.0 posix_rename_extension) (bytes_eq name.0 hardlink) bytes name.0 name.1 r fits read refl refl e
+extension (Some name) bytes r fits read e = by_name (bytes_eq name.0 posix_rename_extension) (bytes_eq name.0 hardlink) (record { fits = fits; read = read }) r refl refl e
 
 all_sound : AllByRecursion IsSound readers
 all_sound = (
-  record { finds = finds_made (both_at string_at (both_at flags_at attrs_at)) (Both IsString (Both IsFlags IsAttrs)) as_open (λ x. request.Open x.0 x.1.0 x.1.1) 3 (λ x. refl) (λ text x h. h) },
+  record { finds = finds_made {make = λ x. request.Open x.0 x.1.0 x.1.1} (record { reads = as_open; of_kind = λ x. refl; spells = λ text x h. h }) },
   (
     one_string request.Close 4 (λ s. refl) (λ text s h. h),
     (
-      record { finds = finds_made (both_at string_at (both_at (number_at w64) (number_at w32))) (Both IsString (Both IsU64 IsU32)) as_read (λ x. request.Read x.0 x.1.0 x.1.1) 5 (λ x. refl) (λ text x h. h) },
+      record { finds = finds_made {make = λ x. request.Read x.0 x.1.0 x.1.1} (record { reads = as_read; of_kind = λ x. refl; spells = λ text x h. h }) },
       (
-        record { finds = finds_made (both_at string_at (both_at (number_at w64) string_at)) (Both IsString (Both IsU64 IsString)) as_write (λ x. request.Write x.0 x.1.0 x.1.1) 6 (λ x. refl) (λ text x h. h) },
+        record { finds = finds_made {make = λ x. request.Write x.0 x.1.0 x.1.1} (record { reads = as_write; of_kind = λ x. refl; spells = λ text x h. h }) },
         (
           one_string request.LStat 7 (λ s. refl) (λ text s h. h),
           (
@@ -147,15 +167,15 @@ all_sound = (
   ),
 )
 
-kept : (kind : ℕ) (reader : ℕ × (List ℕ → Option WireRequest)) → IsSound reader → (same : Bool) → eqb kind reader.0 ≡ same → (bytes : List ℕ) (r : WireRequest) → IsBytes bytes → (o : Option WireRequest)
+kept : {kind : ℕ} {reader : ℕ × (List ℕ → Option WireRequest)} {bytes : List ℕ} {r : WireRequest} → IsSound reader → (same : Bool) → eqb kind reader.0 ≡ same → IsBytes bytes → (o : Option WireRequest)
     → (o ≡ Some r → Found kind bytes r) → cond same (reader.1 bytes) o ≡ Some r → Found kind bytes r
-kept kind reader sound true same bytes r fits o later e = subst (λ (k : ℕ). Found k bytes r) (sym (eqb-true kind reader.0 same)) (sound.finds bytes r fits e)
-kept kind reader sound false same bytes r fits o later e = later e
+kept {kind} {reader} {bytes} {r} sound true same fits o later e = subst (λ (k : ℕ). Found k bytes r) (sym (eqb-true kind reader.0 same)) (sound.finds bytes r fits e)
+kept sound false same fits o later e = later e
 
 picked : (rs : List (ℕ × (List ℕ → Option WireRequest))) → AllByRecursion IsSound rs → (kind : ℕ) (bytes : List ℕ) (r : WireRequest) → IsBytes bytes → by_kind rs kind bytes ≡ Some r → Found kind bytes r
 picked [] all kind bytes r fits e = absurd cc
 picked (reader ∷ rs) all kind bytes r fits e =
-    kept kind reader all.0 (eqb kind reader.0) refl bytes r fits (by_kind rs kind bytes) (λ later. picked rs all.1 kind bytes r fits later) e
+    kept all.0 (eqb kind reader.0) refl fits (by_kind rs kind bytes) (λ later. picked rs all.1 kind bytes r fits later) e
 
 pub request_takes : (kind : ℕ) (bytes : List ℕ) (r : WireRequest) → IsBytes bytes → request_at kind bytes ≡ Some r → Found kind bytes r
 unfolding request_at

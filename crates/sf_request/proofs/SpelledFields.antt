@@ -49,9 +49,9 @@ flags_again flags text rest is = rw (as_u32.again is.bits text rest is.spelled, 
 pub as_flags : ReadsAs flags_at IsFlags
 as_flags = record { takes = flags_take; again = flags_again }
 
-both_take : {A B : Type 0} (first : List ℕ → Option (A × List ℕ)) (second : List ℕ → Option (B × List ℕ)) (IsA : A → List ℕ → Type 0) (IsB : B → List ℕ → Type 0) → ReadsAs first IsA → ReadsAs second IsB
+both_take : {A B : Type 0} {first : List ℕ → Option (A × List ℕ)} {second : List ℕ → Option (B × List ℕ)} {IsA : A → List ℕ → Type 0} {IsB : B → List ℕ → Type 0} → ReadsAs first IsA → ReadsAs second IsB
     → (bytes : List ℕ) (x : A × B) (rest : List ℕ) → IsBytes bytes → both_at first second bytes ≡ Some (x, rest) → (text : List ℕ) × Takes bytes text rest × (IsA x.0 ⨾ IsB x.1) text
-both_take {A} {B} first second IsA IsB p q bytes x rest fits e =
+both_take {A} {B} {first} {second} {IsA} {IsB} p q bytes x rest fits e =
     let a = bind_some (first bytes) _ (x, rest) e in
     let b = bind_some (second a.0.1) _ (x, rest) a.2 in
     let t = p.takes bytes a.0.0 a.0.1 fits a.1 in
@@ -59,18 +59,18 @@ both_take {A} {B} first second IsA IsB p q bytes x rest fits e =
     subst (λ (r : (A × B) × List ℕ). (text : List ℕ) × Takes bytes text r.1 × (IsA r.0.0 ⨾ IsB r.0.1) text) (some_is ((a.0.0, b.0.0), b.0.1) (x, rest) b.2)
     (t.0 ++ u.0, Takes-then bytes t.0 a.0.1 u.0 b.0.1 t.1 u.1, record { front = t.0; back = u.0; first = t.2; second = u.2; parts = refl })
 
-both_again : {A B : Type 0} (first : List ℕ → Option (A × List ℕ)) (second : List ℕ → Option (B × List ℕ)) (IsA : A → List ℕ → Type 0) (IsB : B → List ℕ → Type 0) → ReadsAs first IsA → ReadsAs second IsB
+both_again : {A B : Type 0} {first : List ℕ → Option (A × List ℕ)} {second : List ℕ → Option (B × List ℕ)} {IsA : A → List ℕ → Type 0} {IsB : B → List ℕ → Type 0} → ReadsAs first IsA → ReadsAs second IsB
     → (x : A × B) (text rest : List ℕ) → (IsA x.0 ⨾ IsB x.1) text → both_at first second (text ++ rest) ≡ Some (x, rest)
-both_again first second IsA IsB p q x text rest is =
+both_again {first = first} {second = second} p q x text rest is =
     let parts : text ++ rest ≡ is.front ++ (is.back ++ rest) = ap (λ (t : List ℕ). t ++ rest) is.parts ∙ append_assoc is.front is.back rest in
     ap (both_at first second) parts ∙ rw (p.again x.0 is.front (is.back ++ rest) is.first, q.again x.1 is.back rest is.second) refl
 
 abbrev pub Both : {A B : Type 0} → (A → List ℕ → Type 0) → (B → List ℕ → Type 0) → A × B → List ℕ → Type 0
 Both IsA IsB x text = (IsA x.0 ⨾ IsB x.1) text
 
-pub as_both : {A B : Type 0} (first : List ℕ → Option (A × List ℕ)) (second : List ℕ → Option (B × List ℕ)) (IsA : A → List ℕ → Type 0) (IsB : B → List ℕ → Type 0) → ReadsAs first IsA → ReadsAs second IsB
+pub as_both : {A B : Type 0} {first : List ℕ → Option (A × List ℕ)} {second : List ℕ → Option (B × List ℕ)} {IsA : A → List ℕ → Type 0} {IsB : B → List ℕ → Type 0} → ReadsAs first IsA → ReadsAs second IsB
     → ReadsAs (both_at first second) (Both IsA IsB)
-as_both first second IsA IsB p q = record { takes = both_take first second IsA IsB p q; again = both_again first second IsA IsB p q }
+as_both p q = record { takes = both_take p q; again = both_again p q }
 
 -- ---- with what follows them left out
 

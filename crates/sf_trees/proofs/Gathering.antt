@@ -72,26 +72,33 @@ reads_further session handle first second old new h a =
       (a.2 ∙ ap (λ (x : List ℕ). x ++ bytes) h.2) ∙ sym (join_append h.0 bytes),
     )
 
+-- A directory that a session lists by a handle.
+pub record OpenDirectory : Type 0 where
+  pub session : ℕ
+  pub handle : ℕ
+  pub path : List ℕ
+
 -- one piece more of a listing
-pub names_further : (session handle : ℕ) (path : List ℕ) (first second : List Deed) (begun old new : List FoundName)
-    → HasListedSoFar session handle path begun first old → AddsNames session handle path old second true new
-    → HasListedSoFar session handle path begun (first ++ second) new
-names_further session handle path first second begun old new h a =
+pub names_further : (d : OpenDirectory) (first second : List Deed) (begun old new : List FoundName)
+    → HasListedSoFar d.session d.handle d.path begun first old → AddsNames d.session d.handle d.path old second true new
+    → HasListedSoFar d.session d.handle d.path begun (first ++ second) new
+names_further d first second begun old new h a =
+    let path = d.path in
     let entries = a.0 in
     let before = map (seen_at path) (flat_map (λ (es : List Entry). es) h.0) in (
       h.0 ++ entries ∷ [],
-      ap2 first second _ _ h.1 a.1 ∙ sym (listings_append session handle h.0 entries),
+      ap2 first second _ _ h.1 a.1 ∙ sym (listings_append d.session d.handle h.0 entries),
       (a.2 ∙ ap (λ (l : List Seen). l ++ map (seen_at path) entries) h.2)
           ∙ (append_assoc (map seen begun) before (map (seen_at path) entries)
           ∙ ap (λ (l : List Seen). map seen begun ++ l) (sym (names_append path h.0 entries))),
     )
 
 -- the end of a listing
-pub names_ended : (session handle : ℕ) (path : List ℕ) (first second : List Deed) (begun old new : List FoundName)
-    → HasListedSoFar session handle path begun first old → AddsNames session handle path old second false new
-    → ((below : List Seen) × ListsRest session handle path (first ++ second) below × WaitBehind begun below new)
-names_ended session handle path first second begun old new h a = (
-  map (seen_at path) (flat_map (λ (es : List Entry). es) h.0),
+pub names_ended : (d : OpenDirectory) (first second : List Deed) (begun old new : List FoundName)
+    → HasListedSoFar d.session d.handle d.path begun first old → AddsNames d.session d.handle d.path old second false new
+    → ((below : List Seen) × ListsRest d.session d.handle d.path (first ++ second) below × WaitBehind begun below new)
+names_ended d first second begun old new h a = (
+  map (seen_at d.path) (flat_map (λ (es : List Entry). es) h.0),
   record { pieces = h.0; asked = ap2 first second _ _ h.1 a.0; whole = refl },
   ap (map seen) a.1 ∙ h.2,
 )

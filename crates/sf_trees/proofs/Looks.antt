@@ -15,6 +15,7 @@ use Rattle.sf_trees.specs.declared.fault.Place.{Place}
 use Rattle.sf_trees.specs.declared.fault.Refused.{Refused}
 use Rattle.sf_trees.specs.Deeds.{Deed, Asks, Does, IsAsked, done_by, handle_by, data_by, attrs_by, names_by, refused_at}
 use Rattle.sf_trees.specs.Walks.{IsLookRequest, AreLooks, IsCame, IsLast, IsWhy, Halts, IsLookedFor, Looking, opening_then}
+use Rattle.sf_trees.proofs.Doing.{DeedLaws}
 use Rattle.sf_trees.proofs.Gathering.{ap2}
 
 -- the fault of a result
@@ -206,20 +207,27 @@ why_behind why first second (inl memory) = inl memory
 why_behind why first second (inr (inl large)) = inr (inl large)
 why_behind why first second (inr (inr l)) = inr (inr (last_behind why first second l))
 
+-- ---- looks of a server
+
+-- A look, and what its reply tells.
+pub record Look (A : Type 0) : Type 0 where
+  pub session : ℕ
+  pub request : WireRequest
+  pub told : Result Reply TreeFault → Result A Refused
+  pub is_look : IsLookRequest request
+
 -- a look that was refused
-pub look_refused : {V : Type 0} {A : Type 0} (reaches : V → List Deed → V → Type 0) (a b : V) (session : ℕ)
-    (q : WireRequest) (told : Result Reply TreeFault → Result A Refused) (why : Refused)
-    → IsLookRequest q → ((came : Result Reply TreeFault) → ◌≡◌ {A = Result A Refused} (Err why) (told came) → IsCame why came)
-    → Does reaches a b (IsAsked session q told) (Err why) → Does reaches a b (Halts session) why
-look_refused reaches a b session q told why look fails does = (
+pub look_refused : {V A : Type 0} {a b : V} (s : DeedLaws V) (l : Look A) (why : Refused) → ((came : Result Reply TreeFault) → ◌≡◌ {A = Result A Refused} (Err why) (l.told came) → IsCame why came)
+    → Does s.reaches a b (IsAsked l.session l.request l.told) (Err why) → Does s.reaches a b (Halts l.session) why
+look_refused s l why fails does = (
   does.0,
   does.1,
   (
-    one_look session q does.2.0 does.0 look does.2.1,
+    one_look l.session l.request does.2.0 does.0 l.is_look does.2.1,
     inr (inr (record {
       before = [];
-      session = session;
-      q = q;
+      session = l.session;
+      q = l.request;
       came = does.2.0;
       parts = does.2.1;
       is = fails does.2.0 does.2.2;
@@ -228,73 +236,74 @@ look_refused reaches a b session q told why look fails does = (
 )
 
 -- a look that was answered so
-pub look_done : {V : Type 0} {A : Type 0} (reaches : V → List Deed → V → Type 0) (a b : V) (session : ℕ)
-    (q : WireRequest) (told : Result Reply TreeFault → Result A Refused) (x : A)
-    (due : Result Reply TreeFault) → IsLookRequest q
-    → ((came : Result Reply TreeFault) → ◌≡◌ {A = Result A Refused} (Ok x) (told came) → came ≡ due)
-    → Does reaches a b (IsAsked session q told) (Ok x) → Does reaches a b (IsLookedFor session q) due
-look_done reaches a b session q told x due look gives does =
+pub look_done : {V A : Type 0} {a b : V} (s : DeedLaws V) (l : Look A) (x : A) (due : Result Reply TreeFault) → ((came : Result Reply TreeFault) → ◌≡◌ {A = Result A Refused} (Ok x) (l.told came) → came ≡ due)
+    → Does s.reaches a b (IsAsked l.session l.request l.told) (Ok x) → Does s.reaches a b (IsLookedFor l.session l.request) due
+look_done s l x due gives does =
     let came = gives does.2.0 does.2.2 in
-    let all = does.2.1 ∙ ap (λ (c : Result Reply TreeFault). Asks session q c ∷ []) came in
-    (does.0, does.1, (one_look session q due does.0 look all, all))
+    let all = does.2.1 ∙ ap (λ (c : Result Reply TreeFault). Asks l.session l.request c ∷ []) came in
+    (does.0, does.1, (one_look l.session l.request due does.0 l.is_look all, all))
+
+-- By these looks of a session the server came from one state to another.
+pub record Looked {V : Type 0} (s : DeedLaws V) (session : ℕ) (a b : V) : Type 0 where
+  pub deeds : List Deed
+  pub reached : s.reaches a deeds b
+  pub are_looks : AreLooks session deeds
+
+pub looked : {V : Type 0} {a b : V} {deeds : List Deed} (s : DeedLaws V) (session : ℕ) → s.reaches a deeds b → AreLooks session deeds → Looked s session a b
+looked {deeds = deeds} s session reached are_looks = record { deeds = deeds; reached = reached; are_looks = are_looks }
 
 -- looks, and then one that stops them
-pub halts_behind : {V : Type 0} (reaches : V → List Deed → V → Type 0)
-    (on : (a b c : V) (first second : List Deed) → reaches a first b → reaches b second c → reaches a (first ++ second) c)
-    (a b c : V) (session : ℕ) (first : List Deed) (why : Refused) → reaches a first b → AreLooks session first
-    → Does reaches b c (Halts session) why → Does reaches a c (Halts session) why
-halts_behind reaches on a b c session first why r looks more = (
-  first ++ more.0,
-  on a b c first more.0 r more.1,
-  (looks_append session first more.0 looks more.2.0, why_behind why first more.0 more.2.1),
+pub halts_behind : {V : Type 0} {s : DeedLaws V} {session : ℕ} {a b c : V} (l : Looked s session a b) (why : Refused) → Does s.reaches b c (Halts session) why → Does s.reaches a c (Halts session) why
+halts_behind {s = s} {session = session} {a = a} {b = b} {c = c} l why more = (
+  l.deeds ++ more.0,
+  s.on a b c l.deeds more.0 l.reached more.1,
+  (looks_append session l.deeds more.0 l.are_looks more.2.0, why_behind why l.deeds more.0 more.2.1),
 )
 
+-- A look that opened a handle.
+pub record HandleOpened {V : Type 0} (s : DeedLaws V) (a b : V) : Type 0 where
+  pub session : ℕ
+  pub request : WireRequest
+  pub is_look : IsLookRequest request
+  pub place : Place
+  pub handle : ℕ
+  pub asked : Does s.reaches a b (IsAsked session request (handle_by place)) (Ok handle)
+
+opens : {V : Type 0} {s : DeedLaws V} {a b : V} (h : HandleOpened s a b) → Does s.reaches a b (IsLookedFor h.session h.request) (Ok (reply.Handle h.handle))
+opens {s = s} h = look_done s (record { session = h.session; request = h.request; told = handle_by h.place; is_look = h.is_look }) h.handle (Ok (reply.Handle h.handle)) (handle_gives h.place h.handle) h.asked
+
+abbrev closing : ℕ → ℕ → Place → Look (Unit {0})
+closing session handle place = record { session = session; request = request.Close (be64 handle); told = done_by place; is_look = tt }
+
 -- a handle is opened, something is done by it, and it is closed
-pub opened_looks : {V : Type 0} {R : Type 0} (reaches : V → List Deed → V → Type 0)
-    (on : (a b c : V) (first second : List Deed) → reaches a first b → reaches b second c → reaches a (first ++ second) c)
-    (a b c d : V) (session : ℕ) (q : WireRequest) (place other : Place) (handle : ℕ) (P : List Deed → R → Type 0) (x : R)
-    → IsLookRequest q → Does reaches a b (IsAsked session q (handle_by place)) (Ok handle)
-    → Does reaches b c (Looking session P) (Ok x)
-    → Does reaches c d (IsAsked session (request.Close (be64 handle)) (done_by other)) (Ok tt)
-    → Does reaches a d (λ deeds y. AreLooks session deeds × ((inner : List Deed) × (deeds ≡ opening_then session q handle inner) × P inner y)) x
-opened_looks reaches on a b c d session q place other handle P x look opening more closing =
-    let close = request.Close (be64 handle) in
-    let o = look_done reaches a b session q (handle_by place) handle (Ok (reply.Handle handle)) look (handle_gives place handle) opening in
-    let e = look_done reaches c d session close (done_by other) tt (Ok (reply.Status status.Success)) tt (done_gives other) closing in
+pub opened_looks : {V R : Type 0} {s : DeedLaws V} {a b c d : V} (h : HandleOpened s a b) (other : Place) (P : List Deed → R → Type 0) (x : R) → Does s.reaches b c (Looking h.session P) (Ok x)
+    → Does s.reaches c d (IsAsked h.session (request.Close (be64 h.handle)) (done_by other)) (Ok tt)
+    → Does s.reaches a d (λ deeds y. AreLooks h.session deeds × ((inner : List Deed) × (deeds ≡ opening_then h.session h.request h.handle inner) × P inner y)) x
+opened_looks {s = s} {a = a} {b = b} {c = c} {d = d} h other P x more closed =
+    let close = request.Close (be64 h.handle) in
+    let o = opens h in
+    let e = look_done s (closing h.session h.handle other) tt (Ok (reply.Status status.Success)) (done_gives other) closed in
     let rest = ap (λ (l : List Deed). more.0 ++ l) e.2.1 in
-    let all = ap2 o.0 (more.0 ++ e.0) (Asks session q (Ok (reply.Handle handle)) ∷ []) (more.0 ++ Asks session close (Ok (reply.Status status.Success)) ∷ []) o.2.1 rest in (
+    let all = ap2 o.0 (more.0 ++ e.0) (Asks h.session h.request (Ok (reply.Handle h.handle)) ∷ []) (more.0 ++ Asks h.session close (Ok (reply.Status status.Success)) ∷ []) o.2.1 rest in (
       o.0 ++ (more.0 ++ e.0),
-      on a b d o.0 (more.0 ++ e.0) o.1 (on b c d more.0 e.0 more.1 e.1),
-      (looks_append session o.0 (more.0 ++ e.0) o.2.0 (looks_append session more.0 e.0 more.2.0 e.2.0), (more.0, all, more.2.1)),
+      s.on a b d o.0 (more.0 ++ e.0) o.1 (s.on b c d more.0 e.0 more.1 e.1),
+      (looks_append h.session o.0 (more.0 ++ e.0) o.2.0 (looks_append h.session more.0 e.0 more.2.0 e.2.0), (more.0, all, more.2.1)),
     )
 
--- a handle is opened, something is done by it, and it isn't closed
-pub opened_halts : {V : Type 0} {R : Type 0} (reaches : V → List Deed → V → Type 0)
-    (on : (a b c : V) (first second : List Deed) → reaches a first b → reaches b second c → reaches a (first ++ second) c)
-    (a b c d : V) (session : ℕ) (q : WireRequest) (place other : Place) (handle : ℕ) (P : List Deed → R → Type 0) (x : R) (why : Refused)
-    → IsLookRequest q → Does reaches a b (IsAsked session q (handle_by place)) (Ok handle)
-    → Does reaches b c (Looking session P) (Ok x)
-    → Does reaches c d (IsAsked session (request.Close (be64 handle)) (done_by other)) (Err why)
-    → Does reaches a d (Halts session) why
-opened_halts reaches on a b c d session q place other handle P x why look opening more closing =
-    let close = request.Close (be64 handle) in
-    let o = look_done reaches a b session q (handle_by place) handle (Ok (reply.Handle handle)) look (handle_gives place handle) opening in
-    let e = look_refused reaches c d session close (done_by other) why tt (done_fails other why) closing in
-    halts_behind reaches on a b d session o.0 why o.1 o.2.0 (halts_behind reaches on b c d session more.0 why more.1 more.2.0 e)
-
 -- a handle is opened, and what is done by it stops
-pub opened_stops : {V : Type 0} (reaches : V → List Deed → V → Type 0)
-    (on : (a b c : V) (first second : List Deed) → reaches a first b → reaches b second c → reaches a (first ++ second) c)
-    (a b c : V) (session : ℕ) (q : WireRequest) (place : Place) (handle : ℕ) (why : Refused)
-    → IsLookRequest q → Does reaches a b (IsAsked session q (handle_by place)) (Ok handle)
-    → Does reaches b c (Halts session) why → Does reaches a c (Halts session) why
-opened_stops reaches on a b c session q place handle why look opening more =
-    let o = look_done reaches a b session q (handle_by place) handle (Ok (reply.Handle handle)) look (handle_gives place handle) opening in
-    halts_behind reaches on a b c session o.0 why o.1 o.2.0 more
+pub opened_stops : {V : Type 0} {s : DeedLaws V} {a b c : V} (h : HandleOpened s a b) (why : Refused) → Does s.reaches b c (Halts h.session) why → Does s.reaches a c (Halts h.session) why
+opened_stops {s = s} {a = a} {b = b} h why more =
+    let o = opens h in
+    halts_behind (looked s h.session o.1 o.2.0) why more
+
+-- a handle is opened, something is done by it, and it isn't closed
+pub opened_halts : {V R : Type 0} {s : DeedLaws V} {a b c d : V} (h : HandleOpened s a b) (other : Place) (P : List Deed → R → Type 0) (x : R) (why : Refused) → Does s.reaches b c (Looking h.session P) (Ok x)
+    → Does s.reaches c d (IsAsked h.session (request.Close (be64 h.handle)) (done_by other)) (Err why) → Does s.reaches a d (Halts h.session) why
+opened_halts {s = s} {b = b} {c = c} h other P x why more closed =
+    opened_stops h why (halts_behind (looked s h.session more.1 more.2.0) why (look_refused s (closing h.session h.handle other) why (done_fails other why) closed))
 
 -- looks, by what they found in other words
-pub looking_as : {V : Type 0} {R : Type 0} (reaches : V → List Deed → V → Type 0) (a b : V) (session : ℕ)
-    (P Q : List Deed → R → Type 0) (r : Result R Refused) → ((deeds : List Deed) (x : R) → P deeds x → Q deeds x)
-    → Does reaches a b (Looking session P) r → Does reaches a b (Looking session Q) r
-looking_as reaches a b session P Q (Ok x) mean does = (does.0, does.1, (does.2.0, mean does.0 x does.2.1))
-looking_as reaches a b session P Q (Err why) mean does = does
+pub looking_as : {V R : Type 0} {a b : V} (s : DeedLaws V) (session : ℕ) (P Q : List Deed → R → Type 0) (r : Result R Refused) → ((deeds : List Deed) (x : R) → P deeds x → Q deeds x)
+    → Does s.reaches a b (Looking session P) r → Does s.reaches a b (Looking session Q) r
+looking_as s session P Q (Ok x) mean does = (does.0, does.1, (does.2.0, mean does.0 x does.2.1))
+looking_as s session P Q (Err why) mean does = does

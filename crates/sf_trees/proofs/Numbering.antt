@@ -47,9 +47,9 @@ IsYes false = ⊥
 contrary : {R : Type 0} (b : Bool) → b ≡ true → b ≡ false → R
 contrary b t f = absurd (subst (λ (x : Bool). IsYes x) (sym t ∙ f) tt)
 
-pub numbered_other : (found : List Found) (marks given numbers : List ℕ) (next at : ℕ) → Numbered found marks given numbers next at
+pub numbered_other : {found : List Found} {marks given numbers : List ℕ} {next at : ℕ} → Numbered found marks given numbers next at
     → is_found_file (slice_get found at) ≡ false → Numbered found marks given (numbers ++ 0 ∷ []) next (at + 1)
-numbered_other found marks given numbers next at h other = record {
+numbered_other {found} {marks} {given} {numbers} {next} {at} h other = record {
   few = omega (arith, h.few);
   some = h.some;
   count = length-append numbers (0 ∷ []) ∙ ap (λ (k : ℕ). k + 1) h.count;
@@ -65,10 +65,10 @@ numbered_other found marks given numbers next at h other = record {
   ];
 }
 
-pub numbered_again : (found : List Found) (marks given numbers : List ℕ) (next at n : ℕ) → Numbered found marks given numbers next at
+pub numbered_again : {found : List Found} {marks given numbers : List ℕ} {next at : ℕ} (n : ℕ) → Numbered found marks given numbers next at
     → is_found_file (slice_get found at) ≡ true → 0 < get_or given (get_or marks at 0) 0 → n ≡ get_or given (get_or marks at 0) 0
     → Numbered found marks given (numbers ++ n ∷ []) next (at + 1)
-numbered_again found marks given numbers next at n h file had is = record {
+numbered_again {found} {marks} {given} {numbers} {next} {at} n h file had is = record {
   few = omega (arith, h.few);
   some = h.some;
   count = length-append numbers (n ∷ []) ∙ ap (λ (k : ℕ). k + 1) h.count;
@@ -98,10 +98,10 @@ given_cases given m next k within = elim (cases_eq k m) [
   | inr d ↦ inr (d, get_or-set_other given m k next 0 d)
 ]
 
-pub numbered_new : (found : List Found) (marks given numbers : List ℕ) (next at : ℕ) → Numbered found marks given numbers next at
+pub numbered_new : {found : List Found} {marks given numbers : List ℕ} {next at : ℕ} → Numbered found marks given numbers next at
     → is_found_file (slice_get found at) ≡ true → get_or marks at 0 < length given → get_or given (get_or marks at 0) 0 ≡ 0
     → Numbered found marks (set given (get_or marks at 0) next) (numbers ++ next ∷ []) (next + 1) (at + 1)
-numbered_new found marks given numbers next at h file within none =
+numbered_new {found} {marks} {given} {numbers} {next} {at} h file within none =
     let m = get_or marks at 0 in
     record {
       few = omega (arith, h.few);
@@ -136,9 +136,8 @@ numbered_new found marks given numbers next at h file within none =
       ];
     }
 
-pub all_numbered : (found : List Found) (marks given numbers : List ℕ) (next : ℕ) → Numbered found marks given numbers next (length found)
-    → AreNumbers found marks numbers
-all_numbered found marks given numbers next h = record {
+pub all_numbered : {found : List Found} {marks given numbers : List ℕ} {next : ℕ} → Numbered found marks given numbers next (length found) → AreNumbers found marks numbers
+all_numbered {found} {marks} {given} {numbers} {next} h = record {
   length_is = h.count;
   directories = h.others;
   files = λ i l f. let a = h.files i l f in subst (λ (n : ℕ). 0 < n) (sym a.1) a.0;
@@ -151,21 +150,17 @@ all_numbered found marks given numbers next h = record {
 }
 
 -- one step, by whether a file is there
-pub numbered_on : (found : List Found) (marks given given' numbers : List ℕ) (next next' at n : ℕ) (file : Bool)
-    → is_found_file (slice_get found at) ≡ file → Numbered found marks given numbers next at
-    → IsNumberBy file given (get_or marks at 0) next (Some n) given' next'
+pub numbered_on : {found : List Found} {marks given numbers : List ℕ} {next at : ℕ} (given' : List ℕ) (next' n : ℕ) (file : Bool) → Numbered found marks given numbers next at
+    → is_found_file (slice_get found at) ≡ file → IsNumberBy file given (get_or marks at 0) next (Some n) given' next'
     → Numbered found marks given' (numbers ++ n ∷ []) next' (at + 1)
-numbered_on found marks given given' numbers next next' at n false is h s =
+numbered_on {found} {marks} {given} {numbers} {next} {at} given' next' n false h is s =
     subst (λ (k : ℕ). Numbered found marks given' (numbers ++ k ∷ []) next' (at + 1)) (sym s.0)
     (subst (λ (g : List ℕ). Numbered found marks g (numbers ++ 0 ∷ []) next' (at + 1)) (sym s.1)
-    (subst (λ (k : ℕ). Numbered found marks given (numbers ++ 0 ∷ []) k (at + 1)) (sym s.2)
-    (numbered_other found marks given numbers next at h is)))
-numbered_on found marks given given' numbers next next' at n true is h (inl s) =
+    (subst (λ (k : ℕ). Numbered found marks given (numbers ++ 0 ∷ []) k (at + 1)) (sym s.2) (numbered_other h is)))
+numbered_on {found} {marks} {given} {numbers} {next} {at} given' next' n true h is (inl s) =
     subst (λ (g : List ℕ). Numbered found marks g (numbers ++ n ∷ []) next' (at + 1)) (sym s.2)
-    (subst (λ (k : ℕ). Numbered found marks given (numbers ++ n ∷ []) k (at + 1)) (sym s.3)
-    (numbered_again found marks given numbers next at n h is s.0 s.1))
-numbered_on found marks given given' numbers next next' at n true is h (inr s) =
+    (subst (λ (k : ℕ). Numbered found marks given (numbers ++ n ∷ []) k (at + 1)) (sym s.3) (numbered_again n h is s.0 s.1))
+numbered_on {found} {marks} {given} {numbers} {next} {at} given' next' n true h is (inr s) =
     subst (λ (k : ℕ). Numbered found marks given' (numbers ++ k ∷ []) next' (at + 1)) (sym s.2)
     (subst (λ (g : List ℕ). Numbered found marks g (numbers ++ next ∷ []) next' (at + 1)) (sym s.3)
-    (subst (λ (k : ℕ). Numbered found marks (set given (get_or marks at 0) next) (numbers ++ next ∷ []) k (at + 1)) (sym s.4)
-    (numbered_new found marks given numbers next at h is s.0 s.1)))
+    (subst (λ (k : ℕ). Numbered found marks (set given (get_or marks at 0) next) (numbers ++ next ∷ []) k (at + 1)) (sym s.4) (numbered_new h is s.0 s.1)))

@@ -36,33 +36,38 @@ names_behind : (more : List Found) (one : Found) (rest : List Seen) → map name
 names_behind [] one rest = refl
 names_behind (f ∷ more) one rest = ap (λ (l : List Seen). name_of f ∷ l) (names_behind more one rest)
 
-pub walked_further : (session : ℕ) (old : List Found) (waited : List FoundName) (first second : List Deed) (found found' : List Found)
-    (waiting rest waiting' : List FoundName) (name : FoundName)
-    → WalksSoFar session old waited first found waiting → waiting ≡ name ∷ rest → Visits session found rest name second found' waiting'
-    → WalksSoFar session old waited (first ++ second) found' waiting'
-walked_further session old waited first second found found' waiting rest waiting' name h e v =
+-- Where a walk stands: what was found, and what waits.
+pub record WalkPoint : Type 0 where
+  pub found : List Found
+  pub waiting : List FoundName
+
+-- one more name was taken and visited
+pub walked_further : {name : FoundName} {rest : List FoundName} (session : ℕ) (begun old new : WalkPoint) (first second : List Deed)
+    → WalksSoFar session begun.found begun.waiting first old.found old.waiting → old.waiting ≡ name ∷ rest → Visits session old.found rest name second new.found new.waiting
+    → WalksSoFar session begun.found begun.waiting (first ++ second) new.found new.waiting
+walked_further {name} {rest} session begun old new first second h e v =
     let more = h.0 in
     let below = h.1 in
     let one = v.0 in
     let near = v.1 in
-    let items = (v.3 ∙ ap (λ (l : List Found). l ++ one ∷ []) h.2) ∙ append_assoc old more (one ∷ []) in
-    let left = sym (append_assoc (map seen waited) below near) ∙ ap (λ (l : List Seen). l ++ near) h.4 in
+    let items = (v.3 ∙ ap (λ (l : List Found). l ++ one ∷ []) h.2) ∙ append_assoc begun.found more (one ∷ []) in
+    let left = sym (append_assoc (map seen begun.waiting) below near) ∙ ap (λ (l : List Seen). l ++ near) h.4 in
     let taken = ap (λ (l : List FoundName). (map name_of more ++ map seen l) ++ near) e in
     let turned = append_assoc (map name_of more) (seen name ∷ map seen rest) near in
     let same = ap (λ (s : Seen). map name_of more ++ s ∷ (map seen rest ++ near)) (sym v.2) in
     let waits = ap (λ (l : List Seen). map name_of more ++ seen one.name ∷ l) (sym v.5) in
-    let whole = ((left ∙ taken) ∙ turned) ∙ ((same ∙ waits) ∙ sym (names_behind more one (map seen waiting'))) in
+    let whole = ((left ∙ taken) ∙ turned) ∙ ((same ∙ waits) ∙ sym (names_behind more one (map seen new.waiting))) in
     (more ++ one ∷ [], below ++ near, items, looked_append session more one first second below near h.3 v.4, whole)
 
 pub walk_begun : (session : ℕ) (old : List Found) (waited : List FoundName) → WalksSoFar session old waited [] old waited
 unfolding AreLookedAt
 walk_begun session old waited = ([], [], sym (append-nil old), (refl, refl), append-nil (map seen waited))
 
-pub tree_walked : (session : ℕ) (attrs : Attrs) (root : FoundName) (first second : List Deed) (found : List Found) (waited : List FoundName)
+pub tree_walked : {attrs : Attrs} {root : FoundName} {first : List Deed} {waited : List FoundName} (session : ℕ) (second : List Deed) (found : List Found)
     → seen root ≡ root_seen attrs → waited ≡ root ∷ []
     → first ≡ Asks session (request.Stat root_path) (Ok (reply.Attrs attrs)) ∷ [] → WalksOn session [] waited second found
     → IsTree session (first ++ second) found
-tree_walked session attrs root first second found waited is one asked w = record {
+tree_walked {attrs} {root} {first} {waited} session second found is one asked w = record {
   attrs = attrs;
   looks = second;
   below = w.1;

@@ -10,23 +10,23 @@ pub loop-rest-preserved : goal.loop-rest-preserved
 loop-rest-preserved g c =
     let wrote = c.in_ok-n.ensures in
     record {
-      sent = more_sent _ _ _ _ _ _ c.args.bytes.now c.loop-rest.rest.now c.in_ok-n.n c.loop-rest.invariant.sent wrote.within wrote.added wrote.calls;
+      sent = more_sent _ _ c.in_ok-n.n c.loop-rest.invariant.sent wrote.within wrote.added wrote.calls;
       incoming = wrote.incoming ∙ c.loop-rest.invariant.incoming;
       failures = omega (arith, wrote.failures, c.loop-rest.invariant.failures);
     }
 
 pub returns-in_err-n-clause-front : goal.returns-in_err-n-clause-front
-returns-in_err-n-clause-front g c = fault_sent _ _ _ _ _ _ _ _ c.loop-rest.invariant.sent c.in_err-n.ensures.err c.in_err-n.ensures.calls
+returns-in_err-n-clause-front g c = fault_sent _ _ c.loop-rest.invariant.sent c.in_err-n.ensures.err c.in_err-n.ensures.calls
 
 pub returns-clause-front : goal.returns-clause-front
-returns-clause-front g c = front_sent _ _ _ _ _ _ c.loop-rest.invariant.sent
+returns-clause-front g c = front_sent c.loop-rest.invariant.sent
 
 pub returns-clause-written : goal.returns-clause-written
 returns-clause-written g c =
     let none : length c.loop-rest.rest.now ≡ 0 = grind (arith, nat_tests, c.loop-rest-test.ensures) in
-    (all_sent _ _ _ _ _ _ c.loop-rest.invariant.sent none).0
+    (all_sent c.loop-rest.invariant.sent none).0
 
 pub returns-clause-calls : goal.returns-clause-calls
 returns-clause-calls g c =
     let none : length c.loop-rest.rest.now ≡ 0 = grind (arith, nat_tests, c.loop-rest-test.ensures) in
-    (all_sent _ _ _ _ _ _ c.loop-rest.invariant.sent none).1
+    (all_sent c.loop-rest.invariant.sent none).1

@@ -17,7 +17,7 @@ loop-preserved c =
     let q = c.in_ok-longname.ensures in
     let r = c.in-Some.ensures in
     let read : entry_at c.loop.rest.now ≡ Some (entry, c.in-Some.after.now) = rw (p, q) r in
-    one_more c.args.count c.loop.counter c.loop.entries.items _ entry c.loop.rest.now _ _ c.loop-test.true read c.in_ok-push.ensures.items c.loop.invariant
+    one_more c.args.count c.loop.counter c.loop.entries.items c.loop.rest.now c.loop-test.true read c.in_ok-push.ensures.items c.loop.invariant
 
 pub returns : goal.returns
 returns c = all_read c.args.count c.loop.counter c.loop.entries.items c.loop.rest.now _ c.loop-test.false c.loop.invariant

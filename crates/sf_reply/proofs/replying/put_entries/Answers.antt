@@ -14,7 +14,7 @@ put_entry-requires c =
     }
 
 pub loop-entry-preserved : goal.loop-entry-preserved
-loop-entry-preserved c = put_one c.args.out.now c.loop-entry.out c.put_entry.new.out c.args.entries.now c.loop-entry.entry-index c.entry-item.result c.entry-item.is c.loop-entry-test.true c.put_entry.ensures.items c.put_entry.ensures.spare c.loop-entry.invariant
+loop-entry-preserved c = put_one c.put_entry.new.out c.entry-item.result c.loop-entry.invariant c.entry-item.is c.loop-entry-test.true c.put_entry.ensures.items c.put_entry.ensures.spare
 
 pub returns : goal.returns
 returns c =

@@ -1,6 +1,7 @@
 use Rattle.std.proofs.Common.{[], ◌++◌, ◌+◌, inl, ℕ, List, sym, subst}
 use Rattle.std.proofs.lemmas.Result.{err_from_is_err_and}
-use Rattle.sf_trees.proofs.Looks.{looks_append, halts_behind}
+use Rattle.sf_trees.proofs.Doing.{deed_laws}
+use Rattle.sf_trees.proofs.Looks.{looks_append, halts_behind, looked}
 use Rattle.sf_trees.proofs.Marking.{none_told, marks_told}
 use Rattle.sf_trees.specs.Numbers.{AreMarks}
 use Rattle.sf_trees.proofs.numbers.marks_of.Goals as goal
@@ -25,7 +26,7 @@ pub returns-in_err-mark : goal.returns-in_err-mark
 returns-in_err-mark g c =
     let p = err_from_is_err_and c.from_residual.result c.from_residual.ensures.1 in
     let d = c.loop-at.invariant in
-    rw (p.1, p.2) (halts_behind g.S.Server.reaches g.met.S.Server.on _ _ _ c.args.session _ _ d.1 d.2.0 c.in_err-mark.ensures)
+    rw (p.1, p.2) (halts_behind (looked (deed_laws g.met.S.Server.none g.met.S.Server.on) c.args.session d.1 d.2.0) _ c.in_err-mark.ensures)
 
 pub returns-in_err-keep_mark : goal.returns-in_err-keep_mark
 returns-in_err-keep_mark g c =

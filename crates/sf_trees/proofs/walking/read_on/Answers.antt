@@ -1,5 +1,6 @@
 use Rattle.std.proofs.lemmas.Result.{err_from_is_err_and}
-use Rattle.sf_trees.proofs.Looks.{looks_append, halts_behind}
+use Rattle.sf_trees.proofs.Doing.{deed_laws}
+use Rattle.sf_trees.proofs.Looks.{looks_append, halts_behind, looked}
 use Rattle.sf_trees.proofs.Gathering.{reads_further}
 use Rattle.sf_trees.proofs.walking.read_on.Goals as goal
 
@@ -19,4 +20,4 @@ pub returns-in_err-read_more : goal.returns-in_err-read_more
 returns-in_err-read_more g c =
     let p = err_from_is_err_and c.from_residual.result c.from_residual.ensures.1 in
     let d = c.pieces.invariant in
-    rw (p.1, p.2) (halts_behind g.S.Server.reaches g.met.S.Server.on _ _ _ c.args.session _ _ d.1 d.2.0 c.in_err-read_more.ensures)
+    rw (p.1, p.2) (halts_behind (looked (deed_laws g.met.S.Server.none g.met.S.Server.on) c.args.session d.1 d.2.0) _ c.in_err-read_more.ensures)

@@ -1,35 +1,39 @@
 use Rattle.std.proofs.Common.{◌≡◌, ◌+◌, ◌*◌, length, arith}
-use Rattle.sf_client.proofs.Reading.{read_none, read_asked, read_gathered, read_missed, read_failed, read_ended, none_dropped}
+use Rattle.sf_client.specs.Ahead.{sender}
+use Rattle.sf_client.specs.Calls.{Reads}
+use Rattle.sf_client.proofs.Pipelines.{HasRoom, missed, failed, none_dropped}
+use Rattle.sf_client.proofs.Reading.{read_starts, read_asked, read_gathered, read_ended}
 use Rattle.sf_client.proofs.client.Client.read_pieces.Goals as goal
 
 pub pieces-init : goal.pieces-init
-pieces-init g c = read_none c.args.handle c.args.self.now c.new-bytes.result.items c.ahead-ahead.result c.requires c.new-bytes.ensures.items c.ahead-ahead.ensures
+pieces-init g c = read_starts c.args.handle c.args.self.now c.new-bytes.result.items c.ahead-ahead.result c.requires c.new-bytes.ensures.items c.ahead-ahead.ensures
 
 pub pieces-preserved-in-Ok : goal.pieces-preserved-in-Ok
 pieces-preserved-in-Ok g c =
     let at : c.len.result + c.from.result * 32768 ≡ length c.pieces.bytes.items + c.pieces.ahead.waiting * 32768 = omega (arith, c.len.ensures, c.pieces.bytes.ok.0, c.from.ensures) in
-    read_asked c.args.handle _ _ _ c.pieces.bytes.items _ _ _ c.in-Ok.field-0 c.pieces.invariant (c.has_room_at.ensures.going c.if-has_room_at.true) (c.has_room_at.ensures.kept c.if-has_room_at.true) (c.has_room_at.ensures.room c.if-has_room_at.true) at c.in-Ok.ensures
+    let room : HasRoom c.pieces.ahead = record { room = c.has_room_at.ensures.room c.if-has_room_at.true; kept = c.has_room_at.ensures.kept c.if-has_room_at.true; going = c.has_room_at.ensures.going c.if-has_room_at.true } in
+    read_asked {z = sender c.ask_piece.new.self c.ask_piece.new.ahead} c.args.handle c.pieces.bytes.items _ c.in-Ok.field-0 c.pieces.invariant room at c.in-Ok.ensures
 
 pub pieces-preserved-then-gather_piece : goal.pieces-preserved-then-gather_piece
 pieces-preserved-then-gather_piece g c =
     let h = rw c.in-Ok-Some.field-0-is at c.in-Ok-Some.ensures in
-    read_gathered c.args.handle _ _ _ c.pieces.bytes.items c.in-Ok-Some.piece _ _ _ _ c.pieces.invariant c.if-ahead-gt0.true h c.gather_piece.ensures.gathers
+    read_gathered c.args.handle c.pieces.bytes.items c.in-Ok-Some.piece _ c.pieces.invariant c.if-ahead-gt0.true h c.gather_piece.ensures.gathers
 
 pub pieces-preserved-else-gather_piece : goal.pieces-preserved-else-gather_piece
 pieces-preserved-else-gather_piece g c =
     let h = rw c.in-Ok-Some.field-0-is at c.in-Ok-Some.ensures in
-    read_gathered c.args.handle _ _ _ c.pieces.bytes.items c.in-Ok-Some.piece _ _ _ _ c.pieces.invariant c.if-ahead-gt0.true h c.gather_piece.ensures.gathers
+    read_gathered c.args.handle c.pieces.bytes.items c.in-Ok-Some.piece _ c.pieces.invariant c.if-ahead-gt0.true h c.gather_piece.ensures.gathers
 
 pub pieces-preserved : goal.pieces-preserved
 pieces-preserved g c =
     let h = rw c.in-Ok-None.field-0-is at c.in-Ok-None.ensures in
-    read_missed c.args.handle _ _ _ _ _ _ c.pieces.invariant c.if-ahead-gt0.true h
+    missed c.pieces.invariant c.if-ahead-gt0.true h
 
 pub returns-in-Err-take_piece : goal.returns-in-Err-take_piece
-returns-in-Err-take_piece g c = read_failed c.args.handle _ _ _ _ _ _ c.in-Err-take_piece.fault c.pieces.invariant c.if-ahead-gt0.true c.in-Err-take_piece.ensures
+returns-in-Err-take_piece g c = failed (Reads c.args.handle) c.pieces.invariant c.in-Err-take_piece.fault _ c.if-ahead-gt0.true c.in-Err-take_piece.ensures
 
 pub returns-else-ahead-gt0 : goal.returns-else-ahead-gt0
 returns-else-ahead-gt0 g c =
     let none : c.pieces.ahead.waiting ≡ 0 = omega (arith, c.if-ahead-gt0.false) in
-    let some = c.has_room_at.ensures.none c.if-has_room_at.false none (none_dropped c.args.handle _ _ c.pieces.bytes.items c.pieces.ahead c.pieces.invariant none) in
-    rw (c.ended.ensures, c.from_vec.ensures) (read_ended c.args.handle _ _ c.pieces.bytes.items c.pieces.ahead c.pieces.invariant none some)
+    let some = c.has_room_at.ensures.none c.if-has_room_at.false none (none_dropped c.pieces.invariant none) in
+    rw (c.ended.ensures, c.from_vec.ensures) (read_ended c.args.handle c.pieces.bytes.items c.pieces.invariant none some)
