@@ -67,13 +67,13 @@ pub record FeedsSeat (s : SeatChange) (bytes : List ℕ) (r : Result Happened En
   pub err : OnErr r (s.now ≡ s.was)
   pub fault : IfErr r (λ f. FeedFault s.was f)
 
-feed_fault : (w : World) (v : CoreView) (s : ℕ) (bytes : Vec ℕ Global) (p : Seat) (t : SessionState) (f : EngineFault) → IsSession w s t → SeatAgrees v s t p → FeedFault p f → MayRefuse w (event.Feed s bytes) f
-feed_fault w v s bytes p t fault.OutOfMemory session h why = (t, session, (sym h.closed ∙ why.0, here_if v s p.session t.phase p.place h.at why.1))
-feed_fault w v s bytes p t fault.Ended session h why = (t, session, elim why [ inl c ↦ inl (sym h.closed ∙ c) | inr e ↦ inr (gone_if v s p.session t.phase p.place h.at e) ])
-feed_fault w v s bytes p t fault.NoSuchSession session h why = absurd why
-feed_fault w v s bytes p t fault.Sessions session h why = absurd why
-feed_fault w v s bytes p t fault.NumbersSpent session h why = absurd why
-feed_fault w v s bytes p t fault.NotSent session h why = absurd why
+feed_fault : (s : SeatChange) (bytes : Vec ℕ Global) (w : World) (t : SessionState) (f : EngineFault) → IsSession w (number s) t → SeatAgrees s.old.core (number s) t s.was → FeedFault s.was f → MayRefuse w (event.Feed (number s) bytes) f
+feed_fault s bytes w t fault.OutOfMemory session h why = (t, session, (sym h.closed ∙ why.0, here_if s.old.core (number s) s.was.session t.phase s.was.place h.at why.1))
+feed_fault s bytes w t fault.Ended session h why = (t, session, elim why [ inl c ↦ inl (sym h.closed ∙ c) | inr e ↦ inr (gone_if s.old.core (number s) s.was.session t.phase s.was.place h.at e) ])
+feed_fault s bytes w t fault.NoSuchSession session h why = absurd why
+feed_fault s bytes w t fault.Sessions session h why = absurd why
+feed_fault s bytes w t fault.NumbersSpent session h why = absurd why
+feed_fault s bytes w t fault.NotSent session h why = absurd why
 
 -- a vector of these bytes, at the place of another one
 abbrev pub vec_of : {X : Type 0} → Vec X Global → (bytes : List ℕ) → length bytes < 2 ^ 63 → Vec ℕ Global
@@ -107,4 +107,4 @@ any_feed_steps s bytes (Ok r) gives w agrees =
 any_feed_steps s bytes (Err f) gives w agrees =
     let t = told_of s w [] agrees in
     by_number s (λ k. event.Feed k bytes) (Err f) w
-    (refused_seat s (event.Feed (number s) bytes) f gives.core gives.err w agrees (feed_fault w s.old.core (number s) bytes s.was t.0 f t.1.session t.1.seat gives.fault))
+    (refused_seat s (event.Feed (number s) bytes) f gives.core gives.err w agrees (feed_fault s bytes w t.0 f t.1.session t.1.seat gives.fault))

@@ -1,12 +1,15 @@
 -- A session of an engine, before and after an event on it.
 use Rattle.std.proofs.Common.{◌≡◌, ℕ, ◌+◌, List, Some, Bool, slice_get, slice_set}
+use Rattle.sf_reply.specs.declared.reply.Reply.{Reply}
+use Rattle.sf_call.specs.declared.request.Request.{Request}
 use Rattle.sf_call.specs.declared.record.Record.{Record}
+use Rattle.sf_call.specs.declared.record.Record.TheVariants.{Did}
 use Rattle.sf_session.specs.Sessions.{SessionView}
 use Rattle.sf_core.specs.Cores.{CoreView}
 use Rattle.sf_engine.specs.declared.seat.Seat.{Seat}
 use Rattle.sf_engine.specs.declared.seat.SeatState.{SeatState}
-use Rattle.sf_engine.specs.Worlds.{Phase, SessionState, World, with_phase}
-use Rattle.sf_engine.specs.Traces.{IsSession, Turn}
+use Rattle.sf_engine.specs.Worlds.{Phase, UnderWay, SessionState, World, with_phase}
+use Rattle.sf_engine.specs.Traces.{IsSession, Turn, Walking}
 use Rattle.sf_engine.specs.Turns.{Part, NewPart, part, new_part}
 use Rattle.sf_engine.specs.Views.{EngineView}
 use Rattle.sf_engine.specs.Fits.{SeatAgrees, Agrees}
@@ -39,6 +42,17 @@ changed s = engine s.core (slice_set s.old.seats s.at s.now)
 abbrev pub number : SeatChange → ℕ
 number s = s.at + 1
 
+-- A call as its record tells it.
+pub record CallTold : Type 0 where
+  pub number : ℕ
+  pub session : ℕ
+  pub moment : ℕ
+  pub request : Request
+
+-- its record, with this reply
+abbrev pub record_of : CallTold → Reply → Record
+record_of c given = Did c.number c.session c.moment c.request given
+
 -- An event on a session in a world: what is told of the session before it, the seat before and
 -- after it, and the records that it added.
 pub record SeatEvent : Type 0 where
@@ -50,6 +64,14 @@ pub record SeatEvent : Type 0 where
 -- the same of a session that is so far
 abbrev pub in_phase : SeatEvent → Phase → SeatEvent
 in_phase e f = record e { told = with_phase e.told f }
+
+-- a turn of a session that is so far
+abbrev pub turn_in : Turn → Phase → Turn
+turn_in x f = record x { told = with_phase x.told f }
+
+-- a session whose call is under way as is told
+abbrev pub under_way_as : Walking → Phase
+under_way_as k = UnderWay k.id k.number k.moment k.request k.moves
 
 -- the event as a turn of the law of results, after which this is told
 abbrev pub turn_to : SeatEvent → SessionState → Turn

@@ -29,13 +29,13 @@ pub record SendsSeat (s : SeatChange) (n : ℕ) (r : Result Happened EngineFault
   pub err : OnErr r (s.now ≡ s.was)
   pub fault : IfErr r (λ f. SentFault s.was n f)
 
-sent_fault : (w : World) (v : CoreView) (s n : ℕ) (p : Seat) (t : SessionState) (f : EngineFault) → IsSession w s t → SeatAgrees v s t p → SentFault p n f → MayRefuse w (event.Sent s n) f
-sent_fault w v s n p t fault.NotSent session h why = (t, session, subst (λ (b : List ℕ). length b < n) (sym (output_is v s t p h)) why)
-sent_fault w v s n p t fault.OutOfMemory session h why = absurd why
-sent_fault w v s n p t fault.NoSuchSession session h why = absurd why
-sent_fault w v s n p t fault.Sessions session h why = absurd why
-sent_fault w v s n p t fault.Ended session h why = absurd why
-sent_fault w v s n p t fault.NumbersSpent session h why = absurd why
+sent_fault : (s : SeatChange) (n : ℕ) (w : World) (t : SessionState) (f : EngineFault) → IsSession w (number s) t → SeatAgrees s.old.core (number s) t s.was → SentFault s.was n f → MayRefuse w (event.Sent (number s) n) f
+sent_fault s n w t fault.NotSent session h why = (t, session, subst (λ (b : List ℕ). length b < n) (sym (output_is s.old.core (number s) t s.was h)) why)
+sent_fault s n w t fault.OutOfMemory session h why = absurd why
+sent_fault s n w t fault.NoSuchSession session h why = absurd why
+sent_fault s n w t fault.Sessions session h why = absurd why
+sent_fault s n w t fault.Ended session h why = absurd why
+sent_fault s n w t fault.NumbersSpent session h why = absurd why
 
 take_drop_front : (sent output : List ℕ) (n : ℕ) → sent ++ output ≡ (sent ++ take n output) ++ drop n output
 take_drop_front sent output n = ap (λ (b : List ℕ). sent ++ b) (sym (take-append-drop n output)) ∙ sym (append_assoc sent (take n output) (drop n output))
@@ -73,4 +73,4 @@ any_send_steps s n (Ok r) gives w agrees =
 any_send_steps s n (Err f) gives w agrees =
     let t = told_of s w [] agrees in
     by_number s (λ i. event.Sent i n) (Err f) w
-    (refused_seat s (event.Sent (number s) n) f gives.core gives.err w agrees (sent_fault w s.old.core (number s) n s.was t.0 f t.1.session t.1.seat gives.fault))
+    (refused_seat s (event.Sent (number s) n) f gives.core gives.err w agrees (sent_fault s n w t.0 f t.1.session t.1.seat gives.fault))

@@ -34,7 +34,7 @@ use Rattle.sf_engine.specs.Turns.{StepGives, before, after_turn}
 use Rattle.sf_engine.specs.Deciding.{WalkHasStopped, WalkStops}
 use Rattle.sf_engine.specs.Fits.{IsStillWalking, HasMoved, IsGoing, PlaceAgrees, SeatAgrees, Agrees}
 use Rattle.sf_engine.proofs.MovesBy.{MovesBy, moves_by}
-use Rattle.sf_engine.proofs.Seats.{SeatEvent, IsTold, KeepsSession, seat, number, in_phase, turn_to}
+use Rattle.sf_engine.proofs.Seats.{SeatEvent, IsTold, KeepsSession, seat, number, in_phase, turn_to, under_way_as}
 use Rattle.sf_engine.proofs.Moving.{Moves, Turned, OtherStays, get_within}
 use Rattle.sf_engine.proofs.Deciding.{moved_on, stops, step_sure}
 
@@ -85,11 +85,7 @@ are_helped : (w : World) (v : CoreView) (seats : List Seat) (s : ℕ) (rs : List
 are_helped w v seats s [] agrees h = tt
 are_helped w v seats s (r ∷ rs) agrees h = (helped_one w v seats s r agrees h.0, are_helped w v seats s rs agrees h.1)
 
--- a session whose call is under way as is told
-abbrev pub under_way_as : Walking → Phase
-under_way_as k = UnderWay k.id k.number k.moment k.request k.moves
-
--- the record of such a call, given this reply
+-- the record of a call that is under way as is told, with this reply
 abbrev pub own_did : ℕ → Walking → Reply → Record
 own_did s k given = Did k.number s k.moment k.request given
 
