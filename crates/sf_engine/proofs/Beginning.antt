@@ -13,10 +13,11 @@ use Rattle.sf_engine.specs.declared.event.Event.TheVariants as event
 use Rattle.sf_engine.specs.declared.event.Happened.{Happened}
 use Rattle.sf_engine.specs.declared.event.Happened.TheVariants as happened
 use Rattle.sf_engine.specs.declared.event.EngineFault.{EngineFault}
-use Rattle.sf_engine.specs.Worlds.{TraceEntry, Phase, Resting, UnderWay, Decided, Gone, ByCall, SessionState, new_state, World, start, with_state}
-use Rattle.sf_engine.specs.Traces.{TurnLeads, RestLeads, IsCallUnderWay, IsHelpedRecord, DecidesCall, Happens, LeadsBy, Leads, Runs, ReachesWorld, order, IsSession, calls_begun, with_answer, left_if_closed, leaving, left_by_close, closed_now, fed, sent_more}
+use Rattle.sf_engine.specs.Worlds.{with_phase, TraceEntry, Phase, Resting, UnderWay, Decided, Gone, ByCall, SessionState, new_state, World, start, with_state}
+use Rattle.sf_engine.specs.Traces.{Turn, Walking, walking, StepLeads, TurnLeads, RestLeads, IsCallUnderWay, IsHelpedRecord, DecidesCall, Happens, LeadsBy, Leads, Runs, ReachesWorld, order, IsSession, calls_begun, with_answer, left_if_closed, leaving, left_by_close, closed_now, fed, sent_more}
 use Rattle.sf_engine.specs.Fits.{trace_entry}
 use Rattle.sf_engine.specs.Laws.{Began, begins_at, FollowsBeginning}
+use Rattle.sf_engine.proofs.Seats.{CallTold, record_of, turn_in, under_way_as}
 use Rattle.sf_engine.proofs.Moving.{get_set_same, get_set_other}
 use Rattle.sf_engine.proofs.Tracing.{Runs-push, runs_nil}
 use Rattle.sf_engine.proofs.Orders.{leads_records}
@@ -42,9 +43,9 @@ unfolding IsAmong
 among_one r own (inl e) = e
 among_one r own (inr k) = absurd k
 
-no_leaving : (n s m : ℕ) (q : Request) (given : Reply) (z : ℕ) (h : List Record) → h ≡ Left z ∷ [] → IsAmong (Did n s m q given) h → ⊥
-no_leaving n s m q given z h e k =
-    let w : Left z ≡ Did n s m q given = among_one (Did n s m q given) (Left z) (subst (λ (xs : List Record). IsAmong (Did n s m q given) xs) e k) in absurd cc
+no_leaving : (c : CallTold) (given : Reply) (z : ℕ) (h : List Record) → h ≡ Left z ∷ [] → IsAmong (record_of c given) h → ⊥
+no_leaving c given z h e k =
+    let w : Left z ≡ record_of c given = among_one (record_of c given) (Left z) (subst (λ (xs : List Record). IsAmong (record_of c given) xs) e k) in absurd cc
 
 among_all : (P : Record → Type 0) (r : Record) (h : List Record) → AllByRecursion P h → IsAmong r h → P r
 unfolding IsAmong
@@ -74,86 +75,112 @@ record HaveBegun (front : List TraceEntry) (w : World) : Type 0 where
   each : (i : ℕ) (t : SessionState) → slice_get w.sessions i ≡ Some t → (n m : ℕ) (q : Request) → IsCallUnderWay t.phase n m q → Began front n (i + 1) m q
   records : (r : Record) → IsAmong r w.records → FollowsBeginning front r
 
-of_session : (front : List TraceEntry) (w : World) → HaveBegun front w → (s : ℕ) (t : SessionState) → IsSession w s t → (n m : ℕ) (q : Request) → IsCallUnderWay t.phase n m q → Began front n s m q
-of_session front w h s t session n m q under =
-    let num : s - 1 + 1 ≡ s = omega (arith, session.0) in
-    subst (λ (k : ℕ). Began front n k m q) num (h.each (s - 1) t session.1 n m q under)
+-- a call that is under way in a world
+record IsCallIn (w : World) (c : CallTold) : Type 0 where
+  told : SessionState
+  is_session : IsSession w c.session told
+  under_way : IsCallUnderWay told.phase c.number c.moment c.request
+
+abbrev BeganIn : List TraceEntry → CallTold → Type 0
+BeganIn front c = Began front c.number c.session c.moment c.request
+
+of_session : (front : List TraceEntry) (w : World) → HaveBegun front w → (c : CallTold) → IsCallIn w c → BeganIn front c
+of_session front w h c is =
+    let num : c.session - 1 + 1 ≡ c.session = omega (arith, is.is_session.0) in
+    subst (λ (k : ℕ). Began front c.number k c.moment c.request) num (h.each (c.session - 1) is.told is.is_session.1 c.number c.moment c.request is.under_way)
 
 -- ---- the records that an entry adds
 
-decided_began : (front : List TraceEntry) (w : World) (s : ℕ) (t : SessionState) (moves n k : ℕ) (q : Request) (given : Reply) (added : List Record) → HaveBegun front w → IsSession w s t → IsCallUnderWay t.phase n k q
-    → DecidesCall w s moves (Did n s k q given) added → (n' s' m' : ℕ) (q' : Request) (given' : Reply) → IsAmong (Did n' s' m' q' given') added → Began front n' s' m' q'
-decided_began front w s t moves n k q given added h session under (inl d) n' s' m' q' given' among = absurd (among_none (Did n' s' m' q' given') added d.0 among)
-decided_began front w s t moves n k q given added h session under (inr d) n' s' m' q' given' among =
-    elim (among_either (Did n' s' m' q' given') d.helped (Did n s k q given ∷ []) (subst (λ (xs : List Record). IsAmong (Did n' s' m' q' given') xs) d.records among)) [
-      | inl a ↦
-          let o = among_all (IsHelpedRecord w s) (Did n' s' m' q' given') d.helped d.of_others a in
-          of_session front w h s' o.told o.is_session n' m' q' o.under_way
-      | inr b ↦
-          let is : Did n s k q given ≡ Did n' s' m' q' given' = among_one (Did n' s' m' q' given') (Did n s k q given) b in
-          let a : n ≡ n' = cc in
-          let b : s ≡ s' = cc in
-          let c : k ≡ m' = cc in
-          let d : q ≡ q' = cc in
-          subst (λ (z : ℕ). Began front z s' m' q') a (subst (λ (z : ℕ). Began front n z m' q') b (subst (λ (z : ℕ). Began front n s z q') c (subst (λ (z : Request). Began front n s k z) d
-          (of_session front w h s t session n k q under))))
-    ]
+-- a call that is decided in a world, with the records that this adds
+record Decision (w : World) (added : List Record) : Type 0 where
+  call : CallTold
+  is_in : IsCallIn w call
+  reply : Reply
+  moves : ℕ
+  decides : DecidesCall w call.session moves (record_of call reply) added
 
-module _ (n s m : ℕ) (q : Request) (given : Reply) where
-  rest_began : (w : World) (z k : ℕ) (t t' : SessionState) (r : Happened) (added : List Record) → RestLeads k (record { world = w; session = z; told = t; added = added; now = t' }) r → IsAmong (Did n s m q given) added → ⊥
-  rest_began w z k t t' happened.Idle added g a = among_none (Did n s m q given) added g.1 a
-  rest_began w z k t t' happened.Wrote added g a = among_none (Did n s m q given) added g.1 a
-  rest_began w z k t t' happened.Begun added g a = among_none (Did n s m q given) added g.1 a
-  rest_began w z k t t' (happened.Ended cause) added g a = no_leaving n s m q given z added g.1 a
-  rest_began w z k t t' (happened.Opened c) added g a = absurd g
-  rest_began w z k t t' happened.Fed added g a = absurd g
-  rest_began w z k t t' happened.Moved added g a = absurd g
-  rest_began w z k t t' (happened.Blocked c) added g a = absurd g
-  rest_began w z k t t' happened.Decided added g a = absurd g
-  rest_began w z k t t' happened.Closed added g a = absurd g
-  rest_began w z k t t' happened.Sent added g a = absurd g
-
-  leaving_began : (closed : Bool) (z : ℕ) (added : List Record) → added ≡ leaving closed z → IsAmong (Did n s m q given) added → ⊥
-  leaving_began true z added e a = no_leaving n s m q given z added e a
-  leaving_began false z added e a = among_none (Did n s m q given) added e a
-
-  close_began : (f : Phase) (z : ℕ) (added : List Record) → added ≡ left_by_close f z → IsAmong (Did n s m q given) added → ⊥
-  close_began Resting z added e a = no_leaving n s m q given z added e a
-  close_began (UnderWay id c k r moves) z added e a = among_none (Did n s m q given) added e a
-  close_began (Decided id c r reply) z added e a = among_none (Did n s m q given) added e a
-  close_began (Gone cause) z added e a = among_none (Did n s m q given) added e a
-
-  turn_began : (front : List TraceEntry) (w : World) (z k : ℕ) (t t' : SessionState) (f : Phase) (r : Happened) (added : List Record) → HaveBegun front w → IsSession w z t → t.phase ≡ f
-      → TurnLeads k (record { world = w; session = z; told = t; added = added; now = t' }) f r → IsAmong (Did n s m q given) added → Began front n s m q
-  turn_began front w z k t t' Resting r added h session e g a = absurd (rest_began w z k t t' r added g a)
-  turn_began front w z k t t' (UnderWay id c o p moves) happened.Moved added h session e g a = elim g.1 [
-    | inl none ↦ absurd (among_none (Did n s m q given) added none.0 a)
-    | inr writes ↦ decided_began front w z t 0 c o p writes.2.0 added h session (subst (λ (x : Phase). IsCallUnderWay x c o p) (sym e) (refl, refl, refl)) (inr writes.2.1) n s m q given a
+decided_began : (front : List TraceEntry) (w : World) (added : List Record) → HaveBegun front w → Decision w added → (c : CallTold) (given : Reply) → IsAmong (record_of c given) added → BeganIn front c
+decided_began front w added h d c given among = elim d.decides [
+  | inl was ↦ absurd (among_none (record_of c given) added was.0 among)
+  | inr now ↦ elim (among_either (record_of c given) now.helped (record_of d.call d.reply ∷ []) (subst (λ (xs : List Record). IsAmong (record_of c given) xs) now.records among)) [
+    | inl a ↦
+        let o = among_all (IsHelpedRecord w d.call.session) (record_of c given) now.helped now.of_others a in
+        of_session front w h c (record { told = o.told; is_session = o.is_session; under_way = o.under_way })
+    | inr b ↦
+        let is : record_of d.call d.reply ≡ record_of c given = among_one (record_of c given) (record_of d.call d.reply) b in
+        let number : d.call.number ≡ c.number = cc in
+        let session : d.call.session ≡ c.session = cc in
+        let moment : d.call.moment ≡ c.moment = cc in
+        let request : d.call.request ≡ c.request = cc in
+        let same : d.call ≡ c = λ i. record { number = number i; session = session i; moment = moment i; request = request i } in
+        subst (λ (z : CallTold). BeganIn front z) same (of_session front w h d.call d.is_in)
   ]
-  turn_began front w z k t t' (UnderWay id c o p moves) (happened.Blocked holder) added h session e g a = absurd (among_none (Did n s m q given) added g.1 a)
-  turn_began front w z k t t' (UnderWay id c o p moves) happened.Decided added h session e g a =
-      decided_began front w z t moves c o p g.0 added h session (subst (λ (x : Phase). IsCallUnderWay x c o p) (sym e) (refl, refl, refl)) g.1 n s m q given a
-  turn_began front w z k t t' (UnderWay id c o p moves) (happened.Opened x) added h session e g a = absurd g
-  turn_began front w z k t t' (UnderWay id c o p moves) happened.Fed added h session e g a = absurd g
-  turn_began front w z k t t' (UnderWay id c o p moves) happened.Wrote added h session e g a = absurd g
-  turn_began front w z k t t' (UnderWay id c o p moves) happened.Begun added h session e g a = absurd g
-  turn_began front w z k t t' (UnderWay id c o p moves) happened.Idle added h session e g a = absurd g
-  turn_began front w z k t t' (UnderWay id c o p moves) (happened.Ended x) added h session e g a = absurd g
-  turn_began front w z k t t' (UnderWay id c o p moves) happened.Closed added h session e g a = absurd g
-  turn_began front w z k t t' (UnderWay id c o p moves) happened.Sent added h session e g a = absurd g
-  turn_began front w z k t t' (Decided id c p reply) r added h session e g a = absurd (leaving_began t.closed z added g.1 a)
-  turn_began front w z k t t' (Gone cause) r added h session e g a = absurd (among_none (Did n s m q given) added g.1 a)
+]
 
-  happens_began : (front : List TraceEntry) (w w' : World) (ev : Event) (r : Happened) (added : List Record) → HaveBegun front w → Happens w ev r added w' → IsAmong (Did n s m q given) added → Began front n s m q
-  happens_began front w w' event.Open r added h g a = absurd (among_none (Did n s m q given) added g.2 a)
-  happens_began front w w' (event.Feed z bytes) r added h g a = absurd (among_none (Did n s m q given) added g.1 a)
-  happens_began front w w' (event.Turn z k) r added h g a = turn_began front w z k g.0 g.1 g.0.phase r added h g.2 refl g.3 a
+-- a record among those that are added
+module _ (c : CallTold) (given : Reply) where
+  rest_began : (k : ℕ) (r : Happened) (x : Turn) → RestLeads k x r → IsAmong (record_of c given) x.added → ⊥
+  rest_began k happened.Idle x g a = among_none (record_of c given) x.added g.1 a
+  rest_began k happened.Wrote x g a = among_none (record_of c given) x.added g.1 a
+  rest_began k happened.Begun x g a = among_none (record_of c given) x.added g.1 a
+  rest_began k (happened.Ended cause) x g a = no_leaving c given x.session x.added g.1 a
+  rest_began k (happened.Opened n) x g a = absurd g
+  rest_began k happened.Fed x g a = absurd g
+  rest_began k happened.Moved x g a = absurd g
+  rest_began k (happened.Blocked n) x g a = absurd g
+  rest_began k happened.Decided x g a = absurd g
+  rest_began k happened.Closed x g a = absurd g
+  rest_began k happened.Sent x g a = absurd g
+
+  leaving_began : (closed : Bool) (z : ℕ) (added : List Record) → added ≡ leaving closed z → IsAmong (record_of c given) added → ⊥
+  leaving_began true z added e a = no_leaving c given z added e a
+  leaving_began false z added e a = among_none (record_of c given) added e a
+
+  close_began : (f : Phase) (z : ℕ) (added : List Record) → added ≡ left_by_close f z → IsAmong (record_of c given) added → ⊥
+  close_began Resting z added e a = no_leaving c given z added e a
+  close_began (UnderWay id n k r moves) z added e a = among_none (record_of c given) added e a
+  close_began (Decided id n r reply) z added e a = among_none (record_of c given) added e a
+  close_began (Gone cause) z added e a = among_none (record_of c given) added e a
+
+  step_began : (front : List TraceEntry) (x : Turn) (k : Walking) (r : Happened) → HaveBegun front x.world → IsSession x.world x.session (with_phase x.told (under_way_as k)) → StepLeads (turn_in x (under_way_as k)) k r
+      → IsAmong (record_of c given) x.added → BeganIn front c
+  step_began front x k happened.Moved h session g a =
+      let own : CallTold = record { number = k.number; session = x.session; moment = k.moment; request = k.request } in
+      let is_in : IsCallIn x.world own = record { told = with_phase x.told (under_way_as k); is_session = session; under_way = (refl, refl, refl) } in
+      elim g.1 [
+        | inl none ↦ absurd (among_none (record_of c given) x.added none.0 a)
+        | inr writes ↦ decided_began front x.world x.added h (record { call = own; is_in = is_in; reply = writes.2.0; moves = 0; decides = inr writes.2.1 }) c given a
+      ]
+  step_began front x k (happened.Blocked holder) h session g a = absurd (among_none (record_of c given) x.added g.1 a)
+  step_began front x k happened.Decided h session g a =
+      let own : CallTold = record { number = k.number; session = x.session; moment = k.moment; request = k.request } in
+      let is_in : IsCallIn x.world own = record { told = with_phase x.told (under_way_as k); is_session = session; under_way = (refl, refl, refl) } in
+      decided_began front x.world x.added h (record { call = own; is_in = is_in; reply = g.0; moves = k.moves; decides = g.1 }) c given a
+  step_began front x k (happened.Opened n) h session g a = absurd g
+  step_began front x k happened.Fed h session g a = absurd g
+  step_began front x k happened.Wrote h session g a = absurd g
+  step_began front x k happened.Begun h session g a = absurd g
+  step_began front x k happened.Idle h session g a = absurd g
+  step_began front x k (happened.Ended n) h session g a = absurd g
+  step_began front x k happened.Closed h session g a = absurd g
+  step_began front x k happened.Sent h session g a = absurd g
+
+  turn_began : (front : List TraceEntry) (x : Turn) (m : ℕ) (f : Phase) (r : Happened) → HaveBegun front x.world → IsSession x.world x.session (with_phase x.told f) → TurnLeads m (turn_in x f) f r → IsAmong (record_of c given) x.added → BeganIn front c
+  turn_began front x m Resting r h session g a = absurd (rest_began m r (turn_in x Resting) g a)
+  turn_began front x m (UnderWay id n k q moves) r h session g a = step_began front x (walking id n k q moves) r h session g a
+  turn_began front x m (Decided id n q reply) r h session g a = absurd (leaving_began x.told.closed x.session x.added g.1 a)
+  turn_began front x m (Gone cause) r h session g a = absurd (among_none (record_of c given) x.added g.1 a)
+
+  happens_began : (front : List TraceEntry) (w w' : World) (ev : Event) (r : Happened) (added : List Record) → HaveBegun front w → Happens w ev r added w' → IsAmong (record_of c given) added → BeganIn front c
+  happens_began front w w' event.Open r added h g a = absurd (among_none (record_of c given) added g.2 a)
+  happens_began front w w' (event.Feed z bytes) r added h g a = absurd (among_none (record_of c given) added g.1 a)
+  happens_began front w w' (event.Turn z k) r added h g a = turn_began front (record { world = w; session = z; told = g.0; added = added; now = g.1 }) k g.0.phase r h g.2 g.3 a
   happens_began front w w' (event.Close z) r added h g a = absurd (close_began g.1.0.phase z added g.1.2 a)
-  happens_began front w w' (event.Sent z c) r added h g a = absurd (among_none (Did n s m q given) added g.1 a)
+  happens_began front w w' (event.Sent z n) r added h g a = absurd (among_none (record_of c given) added g.1 a)
 
-  added_began : (front : List TraceEntry) (w w' : World) (ev : Event) (r : Result Happened EngineFault) (added : List Record) → HaveBegun front w → LeadsBy w ev r added w' → IsAmong (Did n s m q given) added → Began front n s m q
+  added_began : (front : List TraceEntry) (w w' : World) (ev : Event) (r : Result Happened EngineFault) (added : List Record) → HaveBegun front w → LeadsBy w ev r added w' → IsAmong (record_of c given) added → BeganIn front c
   added_began front w w' ev (Ok r) added h g a = happens_began front w w' ev r added h g a
-  added_began front w w' ev (Err f) added h g a = absurd (among_none (Did n s m q given) added g.1 a)
+  added_began front w w' ev (Err f) added h g a = absurd (among_none (record_of c given) added g.1 a)
 
 follows_later : (front : List TraceEntry) (e : TraceEntry) (r : Record) → FollowsBeginning front r → FollowsBeginning (front ++ e ∷ []) r
 follows_later front e (Did n s m q given) h =
@@ -162,7 +189,7 @@ follows_later front e (Left s) h = tt
 
 follows_added : (front : List TraceEntry) (e : TraceEntry) (w w' : World) (r : Record) → HaveBegun front w → Leads w e w' → IsAmong r e.added → FollowsBeginning (front ++ e ∷ []) r
 follows_added front e w w' (Did n s m q given) h g a =
-    let b = added_began n s m q given front w w' e.event e.result e.added h g a in
+    let b = added_began (record { number = n; session = s; moment = m; request = q }) given front w w' e.event e.result e.added h g a in
     (later front e n s m q b, subst (λ (xs : List Record). IsAmong (Did n s m q given) xs) (order_push b.back e) (among_back (Did n s m q given) (order b.back) e.added a))
 follows_added front e w w' (Left s) h g a = tt
 
@@ -235,7 +262,7 @@ module _ (front : List TraceEntry) (w : World) (h : HaveBegun front w) where
 
   -- a session that goes on as it was
   goes_later : (e : TraceEntry) (s : ℕ) (t : SessionState) → IsSession w s t → (n k : ℕ) (q : Request) → IsCallUnderWay t.phase n k q → Began (front ++ e ∷ []) n s k q
-  goes_later e s t session n k q under = later front e n s k q (of_session front w h s t session n k q under)
+  goes_later e s t session n k q under = later front e n s k q (of_session front w h (record { number = n; session = s; moment = k; request = q }) (record { told = t; is_session = session; under_way = under }))
 
   begins_there : (s m : ℕ) (t t' : SessionState) (r : Happened) (added : List Record) (w' : World) → ReachesWorld front w → IsSession w s t → w' ≡ with_state w s t' added (calls_begun r) → Leads w (trace_entry (event.Turn s m) (Ok r) added) w'
       → (n k : ℕ) (q : Request) → BeginsNow m r added t'.phase n k q → Began (front ++ trace_entry (event.Turn s m) (Ok r) added ∷ []) n s k q

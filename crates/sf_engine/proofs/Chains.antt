@@ -22,30 +22,34 @@ use Rattle.sf_engine.specs.declared.event.EngineFault.{EngineFault}
 use Rattle.sf_engine.specs.declared.event.EngineFault.TheVariants as fault
 use Rattle.sf_engine.specs.Worlds.{Phase, Resting, UnderWay, Decided, Gone, World}
 use Rattle.sf_engine.specs.Traces.{goes_on, goes_on_at}
-use Rattle.sf_engine.specs.Turns.{AddsRecords, part, new_part, seated, RestsOrLeaves, IsLaneOf, PlaceGives, IsSeatState, MayRefuseTurn, is_resting, is_under_way, is_busy, Stand, stand, IsReady, TurnGives, TurnsGive, GoesFar, finding}
+use Rattle.sf_engine.specs.Turns.{AddsRecords, Seated, NewPart, part, new_part, seated, ReadGives, RestsOrLeaves, IsLaneOf, PlaceGives, IsSeatState, MayRefuseTurn, is_resting, is_under_way, is_busy, Stand, stand, IsReady, TurnGives, TurnsGive, GoesFar, Finding, finding}
 use Rattle.sf_engine.specs.Views.{EngineView}
 use Rattle.sf_engine.specs.Fits.{PlaceAgrees, Agrees, IsEngine, HasTurns}
 use Rattle.sf_engine.proofs.Tracing.{Steps, goes_on_trace, stays_engine}
 use Rattle.sf_engine.proofs.MovesBy.{moves_by}
 use Rattle.sf_engine.proofs.Moving.{get_set_same, set_twice}
-use Rattle.sf_engine.proofs.Resting.{seat}
-use Rattle.sf_engine.proofs.Turning.{engine, told_at, same_engine, any_turn_steps, is_placed}
+use Rattle.sf_engine.proofs.Seats.{SeatChange, engine, seat, changed}
+use Rattle.sf_engine.proofs.Turning.{told_at, same_engine, any_turn_steps, is_placed}
 
 -- a session whose call is under way
 abbrev pub going : CoreView → SessionView → LaneView → Stand
 going v x lane = stand v x (state.UnderWay lane)
 
+-- a session whose call waits to be answered
+abbrev pub answered : CoreView → SessionView → LaneView → Answer → Stand
+answered v x lane given = stand v x (state.Answered lane given)
+
 -- steps that moved come before further turns
-moves_give : (n : ℕ) (v w : CoreView) (lane : LaneView) (x : SessionView) (closed : Bool) (m k : ℕ) (r : Result Happened EngineFault) (b : Stand)
-    → TakesMoves n v lane w → TurnsGive k (going w x lane) (finding closed m) r b → TurnsGive (n + k) (going v x lane) (finding closed m) r b
+moves_give : (n : ℕ) (a : Seated) (w : CoreView) (f : Finding) (k : ℕ) (r : Result Happened EngineFault) (b : Stand)
+    → TakesMoves n a.core a.lane w → TurnsGive k (going w a.session a.lane) f r b → TurnsGive (n + k) (going a.core a.session a.lane) f r b
 unfolding TakesMoves TurnsGive
-moves_give zero v w lane x closed m k r b moved give =
-    let here = subst (λ (u : CoreView). TurnsGive k (going u x lane) (finding closed m) r b) moved give in
-    subst (λ (i : ℕ). TurnsGive i (going v x lane) (finding closed m) r b) (sym (zero-add k)) here
-moves_give (suc n) v w lane x closed m k r b moved give =
-    let turn : TurnGives (going moved.0 x lane) closed m happened.Moved (going w x lane) = λ h is. let s = moved.2 h is in (s.0, s.1, ((lane, (s.2, refl)), refl)) in
+moves_give zero a w f k r b moved give =
+    let here = subst (λ (u : CoreView). TurnsGive k (going u a.session a.lane) f r b) moved give in
+    subst (λ (i : ℕ). TurnsGive i (going a.core a.session a.lane) f r b) (sym (zero-add k)) here
+moves_give (suc n) a w f k r b moved give =
+    let turn : TurnGives (going moved.0 a.session a.lane) f.closed f.moment happened.Moved (going w a.session a.lane) = λ h is. let s = moved.2 h is in (s.0, s.1, ((a.lane, (s.2, refl)), refl)) in
     let num : n + suc k ≡ suc n + k = omega arith in
-    subst (λ (i : ℕ). TurnsGive i (going v x lane) (finding closed m) r b) num (moves_give n v moved.0 lane x closed m (suc k) r b moved.1 (happened.Moved, going w x lane, refl, turn, give))
+    subst (λ (i : ℕ). TurnsGive i (going a.core a.session a.lane) f r b) num (moves_give n a moved.0 f (suc k) r b moved.1 (happened.Moved, going w a.session a.lane, refl, turn, give))
 
 -- steps that moved leave the lane its call
 still_own : (n : ℕ) (v w : CoreView) (lane : LaneView) (x : SessionView) → TakesMoves n v lane w → IsSeatState v x (state.UnderWay lane) → IsSeatState w x (state.UnderWay lane)
@@ -66,74 +70,91 @@ still_own (suc n) v w lane x moved own =
     )
 
 -- one turn that doesn't go on
-one_turn : (a : Stand) (closed : Bool) (m : ℕ) (r : Happened) (b : Stand) → TurnGives a closed m r b → TurnsGive 0 a (finding closed m) (Ok r) b
+one_turn : (a : Stand) (f : Finding) (r : Happened) (b : Stand) → TurnGives a f.closed f.moment r b → TurnsGive 0 a f (Ok r) b
 unfolding TurnsGive
-one_turn a closed m r b turn = turn
+one_turn a f r b turn = turn
 
--- a turn before others
-turn_before : (n : ℕ) (a : Stand) (closed : Bool) (m : ℕ) (h : Happened) (mid : Stand) (r : Result Happened EngineFault) (b : Stand) → goes_on h ≡ true
-    → TurnGives a closed m h mid → TurnsGive n mid (finding closed m) r b → TurnsGive (suc n) a (finding closed m) r b
+-- a turn after which the call goes on
+record GoingTurn (a : Stand) (f : Finding) : Type 0 where
+  happened : Happened
+  mid : Stand
+  goes_on : goes_on happened ≡ true
+  gives : TurnGives a f.closed f.moment happened mid
+
+-- before other turns
+turn_before : (n : ℕ) (a : Stand) (f : Finding) (r : Result Happened EngineFault) (b : Stand) → (t : GoingTurn a f) → TurnsGive n t.mid f r b → TurnsGive (suc n) a f r b
 unfolding TurnsGive
-turn_before n a closed m h mid r b goes turn give = (h, mid, goes, turn, give)
+turn_before n a f r b t give = (t.happened, t.mid, t.goes_on, t.gives, give)
 
 -- a turn that was refused
-no_turn : (a : Stand) (closed : Bool) (m : ℕ) (f : EngineFault) (b : Stand) → b ≡ a → f ≡ fault.OutOfMemory → MayRefuseTurn a.place → TurnsGive 0 a (finding closed m) (Err f) b
+no_turn : (a : Stand) (f : Finding) (b : Stand) → b ≡ a → MayRefuseTurn a.place → TurnsGive 0 a f (Err fault.OutOfMemory) b
 unfolding TurnsGive
-no_turn a closed m f b same is may = (same, is, may)
+no_turn a f b same may = (same, refl, may)
 
 stand_eq : (a b : Stand) → b.core ≡ a.core → b.session ≡ a.session → b.place ≡ a.place → b ≡ a
 stand_eq a b c x p =
     ap (λ (z : CoreView). stand z b.session b.place) c ∙ ap (λ (z : SessionView). stand a.core z b.place) x ∙ ap (λ (z : SeatState). stand a.core a.session z) p
 
 -- a walk that was blocked
-pub blocked_walk : (v w : CoreView) (lane lane' : LaneView) (x : SessionView) (closed : Bool) (most holder m : ℕ) → Walks v lane most (came (step.Blocked holder) w lane')
-    → GoesFar (going v x lane) closed m (Ok (happened.Blocked holder)) (going w x lane')
-blocked_walk v w lane lane' x closed most holder m k =
-    let turn : TurnGives (going k.mid x lane) closed m (happened.Blocked holder) (going w x lane') = λ h is. let s = k.last h is in (s.0, s.1, ((lane', (s.2.0, s.2.1, refl)), refl)) in
+pub blocked_walk : (a : Seated) (f : Finding) (most holder : ℕ) (w : CoreView) (lane' : LaneView) → Walks a.core a.lane most (came (step.Blocked holder) w lane')
+    → GoesFar (going a.core a.session a.lane) f.closed f.moment (Ok (happened.Blocked holder)) (going w a.session lane')
+blocked_walk a f most holder w lane' k =
+    let mid = going k.mid a.session a.lane in
+    let end = going w a.session lane' in
+    let turn : TurnGives mid f.closed f.moment (happened.Blocked holder) end = λ h is. let s = k.last h is in (s.0, s.1, ((lane', (s.2.0, s.2.1, refl)), refl)) in
     record {
       turns = k.moves + 0;
-      give = moves_give k.moves v k.mid lane x closed m 0 (Ok (happened.Blocked holder)) (going w x lane') k.moved (one_turn (going k.mid x lane) closed m (happened.Blocked holder) (going w x lane') turn);
+      give = moves_give k.moves a k.mid f 0 (Ok (happened.Blocked holder)) end k.moved (one_turn mid f (happened.Blocked holder) end turn);
       far = λ e. absurd cc;
     }
 
 -- a walk that made all its steps
-pub moved_walk : (v w : CoreView) (lane lane' : LaneView) (x : SessionView) (closed : Bool) (most m : ℕ) → most ≡ 2 ^ 64 - 1 → Walks v lane most (came step.Moved w lane')
-    → GoesFar (going v x lane) closed m (Ok happened.Moved) (going w x lane')
-moved_walk v w lane lane' x closed most m many k =
-    let turn : TurnGives (going k.mid x lane) closed m happened.Moved (going w x lane') = λ h is. let s = k.last h is in (s.0, s.1, ((lane', (s.2, refl)), refl)) in
+pub moved_walk : (a : Seated) (f : Finding) (most : ℕ) (w : CoreView) (lane' : LaneView) → most ≡ 2 ^ 64 - 1 → Walks a.core a.lane most (came step.Moved w lane')
+    → GoesFar (going a.core a.session a.lane) f.closed f.moment (Ok happened.Moved) (going w a.session lane')
+moved_walk a f most w lane' many k =
+    let mid = going k.mid a.session a.lane in
+    let end = going w a.session lane' in
+    let turn : TurnGives mid f.closed f.moment happened.Moved end = λ h is. let s = k.last h is in (s.0, s.1, ((lane', (s.2, refl)), refl)) in
     let full : k.moves + 1 ≡ 2 ^ 64 - 1 = k.full refl ∙ many in
     record {
       turns = k.moves + 0;
-      give = moves_give k.moves v k.mid lane x closed m 0 (Ok happened.Moved) (going w x lane') k.moved (one_turn (going k.mid x lane) closed m happened.Moved (going w x lane') turn);
+      give = moves_give k.moves a k.mid f 0 (Ok happened.Moved) end k.moved (one_turn mid f happened.Moved end turn);
       far = λ e. omega (arith, full);
     }
 
+-- where a walk came to an answer: the core, the lane and the answer then
+pub record CameToAnswer : Type 0 where
+  pub core : CoreView
+  pub lane : LaneView
+  pub answer : Answer
+
 -- a walk that came to an answer, and the turn that is to write it
-pub answered_walk : (v w : CoreView) (lane lane' : LaneView) (x : SessionView) (closed : Bool) (most : ℕ) (given : Answer) (m : ℕ) (r : Result Happened EngineFault) (b : Stand)
-    → Walks v lane most (came (step.Answered given) w lane') → TurnsGive 0 (stand w x (state.Answered lane' given)) (finding closed m) r b → goes_on_at r ≡ false → GoesFar (going v x lane) closed m r b
-answered_walk v w lane lane' x closed most given m r b k give ends =
-    let answered = stand w x (state.Answered lane' given) in
-    let turn : TurnGives (going k.mid x lane) closed m happened.Decided answered = λ h is. let s = k.last h is in (s.0, s.1, ((lane', (given, s.2.0, s.2.1, refl)), refl)) in
+pub answered_walk : (a : Seated) (f : Finding) (most : ℕ) (c : CameToAnswer) (r : Result Happened EngineFault) (b : Stand)
+    → Walks a.core a.lane most (came (step.Answered c.answer) c.core c.lane) → TurnsGive 0 (answered c.core a.session c.lane c.answer) f r b × (goes_on_at r ≡ false) → GoesFar (going a.core a.session a.lane) f.closed f.moment r b
+answered_walk a f most c r b k last =
+    let mid = going k.mid a.session a.lane in
+    let waits = answered c.core a.session c.lane c.answer in
+    let turn : TurnGives mid f.closed f.moment happened.Decided waits = λ h is. let s = k.last h is in (s.0, s.1, ((c.lane, (c.answer, s.2.0, s.2.1, refl)), refl)) in
     record {
       turns = k.moves + 1;
-      give = moves_give k.moves v k.mid lane x closed m 1 r b k.moved (turn_before 0 (going k.mid x lane) closed m happened.Decided answered r b refl turn give);
-      far = λ e. absurd (let no : false ≡ true = sym ends ∙ e in cc);
+      give = moves_give k.moves a k.mid f 1 r b k.moved (turn_before 0 mid f r b (record { happened = happened.Decided; mid = waits; goes_on = refl; gives = turn }) last.0);
+      far = λ e. absurd (let no : false ≡ true = sym last.1 ∙ e in cc);
     }
 
 -- that turn, where the reply was written
-pub written_turn : (v w : CoreView) (x y z : SessionView) (lane : LaneView) (given : Answer) (q : SeatState) (closed : Bool) (m : ℕ)
-    → IfSome x.waiting (λ id. y ≡ record x { output = x.output ++ packet (reply_body id given.reply); waiting = None })
-    → AddsRecords v w (λ h added. RestsOrLeaves (seated v y lane) closed (new_part w added z q)) → TurnsGive 0 (stand v x (state.Answered lane given)) (finding closed m) (Ok happened.Wrote) (stand w z q)
-written_turn v w x y z lane given q closed m wrote settles =
-    one_turn (stand v x (state.Answered lane given)) closed m happened.Wrote (stand w z q) (λ h is. let g = settles h is in (g.0, g.1, (refl, (y, wrote, g.2))))
+pub written_turn : (a : Seated) (given : Answer) (f : Finding) (y : SessionView) (b : Stand)
+    → IfSome a.session.waiting (λ id. y ≡ record a.session { output = a.session.output ++ packet (reply_body id given.reply); waiting = None })
+    → AddsRecords a.core b.core (λ h added. RestsOrLeaves (seated a.core y a.lane) f.closed (new_part b.core added b.session b.place)) → TurnsGive 0 (answered a.core a.session a.lane given) f (Ok happened.Wrote) b
+written_turn a given f y b wrote settles =
+    one_turn (answered a.core a.session a.lane given) f happened.Wrote b (λ h is. let g = settles h is in (g.0, g.1, (refl, (y, wrote, g.2))))
 
 -- and where memory was wanting
-pub unwritten_turn : (v : CoreView) (x y : SessionView) (lane lane' : LaneView) (given : Answer) (closed : Bool) (m : ℕ) → lane' ≡ lane → y ≡ x
-    → TurnsGive 0 (stand v x (state.Answered lane given)) (finding closed m) (Err fault.OutOfMemory) (stand v y (state.Answered lane' given))
-unwritten_turn v x y lane lane' given closed m same kept =
-    let a = stand v x (state.Answered lane given) in
-    let b = stand v y (state.Answered lane' given) in
-    no_turn a closed m fault.OutOfMemory b (stand_eq a b refl kept (ap (λ (l : LaneView). state.Answered l given) same)) refl tt
+pub unwritten_turn : (a : Seated) (given : Answer) (f : Finding) (y : SessionView) (lane' : LaneView) → lane' ≡ a.lane → y ≡ a.session
+    → TurnsGive 0 (answered a.core a.session a.lane given) f (Err fault.OutOfMemory) (answered a.core y lane' given)
+unwritten_turn a given f y lane' same kept =
+    let was = answered a.core a.session a.lane given in
+    let now = answered a.core y lane' given in
+    no_turn was f now (stand_eq was now refl kept (ap (λ (l : LaneView). state.Answered l given) same)) tt
 
 -- a place has one lane
 pub lane_same : (p : SeatState) (lane other : LaneView) → IsLaneOf p lane → IsLaneOf p other → lane ≡ other
@@ -143,37 +164,42 @@ lane_same (state.Answered own given) lane other a b = a ∙ sym b
 lane_same (state.Left cause) lane other a b = absurd a
 
 -- and what this turn asks
-pub answered_placed : (v w : CoreView) (lane lane' : LaneView) (x : SessionView) (most : ℕ) (given : Answer)
-    → Walks v lane most (came (step.Answered given) w lane') → IsReady (going v x lane) → IsSeatState w x (state.Answered lane' given)
-answered_placed v w lane lane' x most given k ready =
-    let own = still_own k.moves v k.mid lane x k.moved ready.placed in
+pub answered_placed : (a : Seated) (most : ℕ) (c : CameToAnswer) → Walks a.core a.lane most (came (step.Answered c.answer) c.core c.lane) → IsReady (going a.core a.session a.lane) → IsSeatState c.core a.session (state.Answered c.lane c.answer)
+answered_placed a most c k ready =
+    let own = still_own k.moves a.core k.mid a.lane a.session k.moved ready.placed in
     let s = k.last own.0 own.2 in
     let rests = s.2.1.lane in
-    let slot : lane_state w lane.session ≡ Idle = elim s.2.0.1 [ inl f ↦ f.slot.own | inr d ↦ d.slot ] in
-    (ap (λ (l : LaneView). l.call) rests, ap (λ (l : LaneView). lane_state w l.session) rests ∙ slot, ready.waits refl)
+    let slot : lane_state c.core a.lane.session ≡ Idle = elim s.2.0.1 [ inl f ↦ f.slot.own | inr d ↦ d.slot ] in
+    (ap (λ (l : LaneView). l.call) rests, ap (λ (l : LaneView). lane_state c.core l.session) rests ∙ slot, ready.waits refl)
 
 -- the lane of a call under way is no stranger
-pub no_stranger : (v w : CoreView) (lane lane' : LaneView) (x : SessionView) (most : ℕ) → Walks v lane most (came step.Stranger w lane') → IsReady (going v x lane) → ⊥
-no_stranger v w lane lane' x most k ready =
-    let own = still_own k.moves v k.mid lane x k.moved ready.placed in
+pub no_stranger : (a : Seated) (most : ℕ) (w : CoreView) (lane' : LaneView) → Walks a.core a.lane most (came step.Stranger w lane') → IsReady (going a.core a.session a.lane) → ⊥
+no_stranger a most w lane' k ready =
+    let own = still_own k.moves a.core k.mid a.lane a.session k.moved ready.placed in
     (k.last own.0 own.2).2.0 own.1 own.3
 
--- what was read, as a turn
-read_turn : (v w : CoreView) (x y : SessionView) (p q : SeatState) (closed : Bool) (m : ℕ) (r : Happened) → is_resting p ≡ true
-    → AddsRecords v w (λ h added. PlaceGives (part v h x false) p m r (new_part w added y q)) → TurnGives (stand v x p) closed m r (stand w y q)
-read_turn v w x y (state.Resting lane) q closed m r rests give = give
-read_turn v w x y (state.UnderWay lane) q closed m r rests give = absurd cc
-read_turn v w x y (state.Answered lane given) q closed m r rests give = absurd cc
-read_turn v w x y (state.Left cause) q closed m r rests give = absurd cc
+-- a session that rests has its lane in its place
+resting_lane : (p : SeatState) → is_resting p ≡ true → (lane : LaneView) × (p ≡ state.Resting lane)
+resting_lane (state.Resting lane) rests = (lane, refl)
+resting_lane (state.UnderWay lane) rests = absurd cc
+resting_lane (state.Answered lane given) rests = absurd cc
+resting_lane (state.Left cause) rests = absurd cc
+
+-- what was read, as a turn, whether the session was closed or not
+read_turn : (a : Stand) (f : Finding) (r : Happened) (b : Stand) → is_resting a.place ≡ true → TurnGives a false f.moment r b → TurnGives a f.closed f.moment r b
+read_turn a f r b rests give =
+    let lane = resting_lane a.place rests in
+    let P : Bool → SeatState → Type 0 = λ closed p. AddsRecords a.core b.core (λ h added. PlaceGives (part a.core h a.session closed) p f.moment r (new_part b.core added b.session b.place)) in
+    subst (P f.closed) (sym lane.1) (subst (P false) lane.1 give)
 
 -- a call that has begun can go on
-pub begun_ready : (v w : CoreView) (x y : SessionView) (p q : SeatState) (m : ℕ) (r : Happened) → is_resting p ≡ true → IsReady (stand v x p)
-    → AddsRecords v w (λ h added. PlaceGives (part v h x false) p m r (new_part w added y q)) → r ≡ happened.Begun → (is_under_way q ≡ true) × IsReady (stand w y q)
-begun_ready v w x y (state.Resting lane) q m r rests ready give begins =
+pub begun_ready : (a : Stand) (m : ℕ) (b : Stand) → is_resting a.place ≡ true → IsReady a → TurnGives a false m happened.Begun b → (is_under_way b.place ≡ true) × IsReady b
+begun_ready a m b rests ready give =
+    let lane = resting_lane a.place rests in
     let g = give ready.history ready.is_history in
-    let t = subst (λ (k : Happened). PlaceGives (part v ready.history x false) (state.Resting lane) m k (new_part w g.0 y q)) begins g.2 in
-    let P : SeatState → Type 0 = λ z. (is_under_way z ≡ true) × IsReady (stand w y z) in
-    let waits : y.waiting ≡ Some t.1.1.id = ap (λ (z : SessionView). z.waiting) t.1.1.now in
+    let t = subst (λ (p : SeatState). PlaceGives (part a.core ready.history a.session false) p m happened.Begun (new_part b.core g.0 b.session b.place)) lane.1 g.2 in
+    let P : SeatState → Type 0 = λ z. (is_under_way z ≡ true) × IsReady (stand b.core b.session z) in
+    let waits : b.session.waiting ≡ Some t.1.1.id = ap (λ (z : SessionView). z.waiting) t.1.1.now in
     subst P (sym t.4) (
       refl,
       record {
@@ -183,114 +209,97 @@ begun_ready v w x y (state.Resting lane) q m r rests ready give begins =
         waits = λ e. subst IsSome (sym waits) refl;
       },
     )
-begun_ready v w x y (state.UnderWay lane) q m r rests ready give begins = absurd cc
-begun_ready v w x y (state.Answered lane given) q m r rests ready give begins = absurd cc
-begun_ready v w x y (state.Left cause) q m r rests ready give begins = absurd cc
 
 -- and its turns come after that one
-pub begun_far : (v w : CoreView) (x y : SessionView) (p q : SeatState) (closed : Bool) (m : ℕ) (r : Happened) (last : Result Happened EngineFault) (b : Stand) → is_resting p ≡ true
-    → AddsRecords v w (λ h added. PlaceGives (part v h x false) p m r (new_part w added y q)) → r ≡ happened.Begun → GoesFar (stand w y q) closed m last b → GoesFar (stand v x p) closed m last b
-begun_far v w x y p q closed m r last b rests give begins k =
-    let turn = read_turn v w x y p q closed m r rests give in
-    record {
-      turns = suc k.turns;
-      give = turn_before k.turns (stand v x p) closed m r (stand w y q) last b (ap goes_on begins) turn k.give;
-      far = λ e. omega (arith, k.far e);
-    }
+pub begun_far : (a : Stand) (f : Finding) (b : Stand) (last : Result Happened EngineFault) (end : Stand) → is_resting a.place ≡ true → TurnGives a false f.moment happened.Begun b
+    → GoesFar b f.closed f.moment last end → GoesFar a f.closed f.moment last end
+begun_far a f b last end rests give k = record {
+  turns = suc k.turns;
+  give = turn_before k.turns a f last end (record { happened = happened.Begun; mid = b; goes_on = refl; gives = read_turn a f happened.Begun b rests give }) k.give;
+  far = λ e. omega (arith, k.far e);
+}
 
 -- else the session's call doesn't go on
-read_ends : (v w : CoreView) (x y : SessionView) (lane : LaneView) (q : SeatState) (h added : List Record) (m : ℕ) (r : Happened) → PlaceGives (part v h x false) (state.Resting lane) m r (new_part w added y q)
-    → r ≢ happened.Begun → goes_on r ≡ true → ⊥
-read_ends v w x y lane q h added m happened.Begun g other e = other refl
-read_ends v w x y lane q h added m happened.Moved g other e = g
-read_ends v w x y lane q h added m happened.Decided g other e = g
-read_ends v w x y lane q h added m _ g other e = absurd cc
+read_ends : (b : Seated) (m : ℕ) (r : Happened) (a : NewPart) → ReadGives b m r a → r ≢ happened.Begun → goes_on r ≡ true → ⊥
+read_ends b m happened.Begun a g other e = other refl
+read_ends b m happened.Moved a g other e = g
+read_ends b m happened.Decided a g other e = g
+read_ends b m _ a g other e = absurd cc
 
 -- what else was read
-pub read_far : (v w : CoreView) (x y : SessionView) (p q : SeatState) (closed : Bool) (m : ℕ) (r : Happened) → is_resting p ≡ true → IsReady (stand v x p)
-    → AddsRecords v w (λ h added. PlaceGives (part v h x false) p m r (new_part w added y q)) → r ≢ happened.Begun → GoesFar (stand v x p) closed m (Ok r) (stand w y q)
-read_far v w x y (state.Resting lane) q closed m r rests ready ok other =
-    let g = ok ready.history ready.is_history in
-    record { turns = 0; give = one_turn (stand v x (state.Resting lane)) closed m r (stand w y q) ok; far = λ e. absurd (read_ends v w x y lane q ready.history g.0 m r g.2 other e) }
-read_far v w x y (state.UnderWay lane) q closed m r rests ready ok other = absurd cc
-read_far v w x y (state.Answered lane given) q closed m r rests ready ok other = absurd cc
-read_far v w x y (state.Left cause) q closed m r rests ready ok other = absurd cc
+pub read_far : (a : Stand) (f : Finding) (r : Happened) (b : Stand) → is_resting a.place ≡ true → IsReady a → TurnGives a false f.moment r b → r ≢ happened.Begun → GoesFar a f.closed f.moment (Ok r) b
+read_far a f r b rests ready give other =
+    let lane = resting_lane a.place rests in
+    let g = give ready.history ready.is_history in
+    let read = subst (λ (p : SeatState). PlaceGives (part a.core ready.history a.session false) p f.moment r (new_part b.core g.0 b.session b.place)) lane.1 g.2 in
+    record {
+      turns = 0;
+      give = one_turn a f r b (read_turn a f r b rests give);
+      far = λ e. absurd (read_ends (seated a.core a.session lane.0) f.moment r (new_part b.core g.0 b.session b.place) read other e);
+    }
 
 -- nothing was read, for want of memory
-pub unread_far : (v w : CoreView) (x y : SessionView) (p q : SeatState) (closed : Bool) (m : ℕ) (f : EngineFault) → is_resting p ≡ true → (q ≡ p) × (w ≡ v) × (y ≡ x) → f ≡ fault.OutOfMemory
-    → GoesFar (stand v x p) closed m (Err f) (stand w y q)
-unread_far v w x y p q closed m f rests same why =
-    record { turns = 0; give = no_turn (stand v x p) closed m f (stand w y q) (stand_eq (stand v x p) (stand w y q) same.1 same.2 same.0) why (may p rests); far = λ e. absurd cc }
-  where
-    may : (o : SeatState) → is_resting o ≡ true → MayRefuseTurn o
-    may (state.Resting lane) e = tt
-    may (state.UnderWay lane) e = absurd cc
-    may (state.Answered lane given) e = absurd cc
-    may (state.Left cause) e = absurd cc
+pub unread_far : (a : Stand) (f : Finding) (b : Stand) → is_resting a.place ≡ true → b ≡ a → GoesFar a f.closed f.moment (Err fault.OutOfMemory) b
+unread_far a f b rests same =
+    let lane = resting_lane a.place rests in
+    record { turns = 0; give = no_turn a f b same (subst MayRefuseTurn (sym lane.1) tt); far = λ e. absurd cc }
+
+-- what a turn of a session gives, or that memory was wanting
+pub record TurnAnswers (a : Stand) (f : Finding) (r : Result Happened EngineFault) (b : Stand) : Type 0 where
+  pub ok : IfOk r (λ k. TurnGives a f.closed f.moment k b)
+  pub err : OnErr r ((b.place ≡ a.place) × (b.core ≡ a.core) × (b.session ≡ a.session))
+  pub fault : IfErr r (λ f. (f ≡ fault.OutOfMemory) × MayRefuseTurn a.place)
 
 -- one turn of a session whose answer waits
-pub answer_far : (v w : CoreView) (x y : SessionView) (p q : SeatState) (lane : LaneView) (given : Answer) (closed : Bool) (m : ℕ) (r : Result Happened EngineFault) → p ≡ state.Answered lane given
-    → IsReady (stand v x p) → IfOk r (λ k. AddsRecords v w (λ h added. PlaceGives (part v h x closed) p m k (new_part w added y q))) → OnErr r ((q ≡ p) × (w ≡ v) × (y ≡ x))
-    → IfErr r (λ f. (f ≡ fault.OutOfMemory) × MayRefuseTurn p) → GoesFar (stand v x p) closed m r (stand w y q)
-answer_far v w x y p q lane given closed m (Ok r) answered ready ok err why =
-    let g = ok ready.history ready.is_history in
-    let wrote = (subst (λ (o : SeatState). PlaceGives (part v ready.history x closed) o m r (new_part w g.0 y q)) answered g.2).0 in
-    record { turns = 0; give = one_turn (stand v x p) closed m r (stand w y q) ok; far = λ e. absurd (let no : false ≡ true = ap goes_on (sym wrote) ∙ e in cc) }
-answer_far v w x y p q lane given closed m (Err f) answered ready ok err why =
-    record { turns = 0; give = no_turn (stand v x p) closed m f (stand w y q) (stand_eq (stand v x p) (stand w y q) err.1 err.2 err.0) why.0 why.1; far = λ e. absurd cc }
+pub answer_far : (a : Stand) (f : Finding) (r : Result Happened EngineFault) (b : Stand) (lane : LaneView) (given : Answer) → a.place ≡ state.Answered lane given → IsReady a → TurnAnswers a f r b → GoesFar a f.closed f.moment r b
+answer_far a f (Ok r) b lane given waits ready t =
+    let g = t.ok ready.history ready.is_history in
+    let wrote = (subst (λ (o : SeatState). PlaceGives (part a.core ready.history a.session f.closed) o f.moment r (new_part b.core g.0 b.session b.place)) waits g.2).0 in
+    record { turns = 0; give = one_turn a f r b t.ok; far = λ e. absurd (let no : false ≡ true = ap goes_on (sym wrote) ∙ e in cc) }
+answer_far a f (Err e) b lane given waits ready t =
+    let P : EngineFault → Type 0 = λ z. GoesFar a f.closed f.moment (Err z) b in
+    let why = t.fault in
+    subst P (sym why.0) (record { turns = 0; give = no_turn a f b (stand_eq a b t.err.1 t.err.2 t.err.0) why.1; far = λ e. absurd cc })
 
 -- one turn of a session that left
 pub left_far : (v : CoreView) (x : SessionView) (cause : Cause) (closed : Bool) (m : ℕ) → GoesFar (stand v x (state.Left cause)) closed m (Ok (happened.Ended cause)) (stand v x (state.Left cause))
 left_far v x cause closed m =
     let a = stand v x (state.Left cause) in
     let turn : TurnGives a closed m (happened.Ended cause) a = λ h is. ([], subst (λ (l : List Record). IsHistory v l) (sym (append-nil h)) is, (refl, refl, refl, refl, refl)) in
-    record { turns = 0; give = one_turn a closed m (happened.Ended cause) a turn; far = λ e. absurd cc }
+    record { turns = 0; give = one_turn a (finding closed m) (happened.Ended cause) a turn; far = λ e. absurd cc }
+
+-- the session before a change of its seat, and after it
+abbrev pub stand_before : SeatChange → Stand
+stand_before s = stand s.old.core s.was.session s.was.place
+
+abbrev pub stand_after : SeatChange → Stand
+stand_after s = stand s.core s.now.session s.now.place
 
 -- a turn of an engine for each of a session's, and an engine stays one
-pub turns_trace : (n : ℕ) (a : Stand) (seats : List Seat) (at s m : ℕ) (closed : Bool) (r : Result Happened EngineFault) (b : Stand) → at + 1 ≡ s → slice_get seats at ≡ Some (seat a.session a.place closed)
-    → TurnsGive n a (finding closed m) r b
-    → HasTurns n (engine a.core seats) (event.Turn s m) r (engine b.core (slice_set seats at (seat b.session b.place closed)))
-    × (IsEngine a.core seats → IsEngine b.core (slice_set seats at (seat b.session b.place closed)))
+pub turns_trace : (n : ℕ) (s : SeatChange) (m : ℕ) (r : Result Happened EngineFault) → s.now.closed ≡ s.was.closed → TurnsGive n (stand_before s) (finding s.was.closed m) r (stand_after s)
+    → HasTurns n s.old (event.Turn s.session m) r (changed s) × (IsEngine s.old.core s.old.seats → IsEngine s.core (slice_set s.old.seats s.at s.now))
 unfolding TurnsGive HasTurns
-turns_trace zero a seats at s m closed (Ok r) b num was give =
-    let p = seat a.session a.place closed in
-    let q = seat b.session b.place closed in
-    let new = engine b.core (slice_set seats at q) in
-    let does : (w : World) → Agrees w (engine a.core seats) → Steps (engine a.core seats) (event.Turn s m) (Ok r) new w =
-    any_turn_steps a.core b.core seats at s m p q (Ok r) num was (λ h is. let g = give h is in (g.0, g.1, (g.2, refl))) tt tt in
-    ((goes_on_trace (engine a.core seats) (event.Turn s m) (Ok r) new does, tt), stays_engine (engine a.core seats) (event.Turn s m) (Ok r) new does)
-turns_trace zero a seats at s m closed (Err f) b num was give =
-    let p = seat a.session a.place closed in
-    let q = seat b.session b.place closed in
-    let new = engine b.core (slice_set seats at q) in
-    let core : b.core ≡ a.core = ap (λ (z : Stand). z.core) give.0 in
-    let same : q ≡ p = ap (λ (z : Stand). seat z.session z.place closed) give.0 in
-    let does : (w : World) → Agrees w (engine a.core seats) → Steps (engine a.core seats) (event.Turn s m) (Err f) new w =
-    any_turn_steps a.core b.core seats at s m p q (Err f) num was tt (core, same) (give.1, give.2) in
-    ((goes_on_trace (engine a.core seats) (event.Turn s m) (Err f) new does, same_engine a.core b.core seats at p q was core same), stays_engine (engine a.core seats) (event.Turn s m) (Err f) new does)
-turns_trace (suc n) a seats at s m closed r b num was give =
+turns_trace zero s m (Ok r) closed give =
+    let does = any_turn_steps s m (Ok r) (record { ok = λ h is. let g = give h is in (g.0, g.1, (g.2, closed)); err = tt; fault = tt }) in
+    ((goes_on_trace s.old (event.Turn s.session m) (Ok r) (changed s) does, tt), stays_engine s.old (event.Turn s.session m) (Ok r) (changed s) does)
+turns_trace zero s m (Err f) closed give =
+    let core : s.core ≡ s.old.core = ap (λ (z : Stand). z.core) give.0 in
+    let same : s.now ≡ s.was = ap (λ (z : Stand). seat z.session z.place s.now.closed) give.0 ∙ ap (λ (b : Bool). seat s.was.session s.was.place b) closed in
+    let does = any_turn_steps s m (Err f) (record { ok = tt; err = (core, same); fault = (give.1, give.2) }) in
+    ((goes_on_trace s.old (event.Turn s.session m) (Err f) (changed s) does, same_engine s core same), stays_engine s.old (event.Turn s.session m) (Err f) (changed s) does)
+turns_trace (suc n) s m r closed give =
     let h : Happened = give.0 in
     let mid : Stand = give.1 in
-    let p = seat a.session a.place closed in
-    let o = seat mid.session mid.place closed in
-    let q = seat b.session b.place closed in
-    let between = engine mid.core (slice_set seats at o) in
-    let does : (w : World) → Agrees w (engine a.core seats) → Steps (engine a.core seats) (event.Turn s m) (Ok h) between w =
-    any_turn_steps a.core mid.core seats at s m p o (Ok h) num was (λ k is. let g = give.3 k is in (g.0, g.1, (g.2, refl))) tt tt in
-    let rest = turns_trace n mid (slice_set seats at o) at s m closed r b num (get_set_same seats at p o was) give.4 in
-    let once : slice_set (slice_set seats at o) at q ≡ slice_set seats at q = set_twice seats at o q in (
-      (between, h, goes_on_trace (engine a.core seats) (event.Turn s m) (Ok h) between does, give.2, subst (λ (z : List Seat). HasTurns n between (event.Turn s m) r (engine b.core z)) once rest.0),
-      λ is. subst (λ (z : List Seat). IsEngine b.core z) once (rest.1 (stays_engine (engine a.core seats) (event.Turn s m) (Ok h) between does is)),
+    let seats = s.old.seats in
+    let between : Seat = seat mid.session mid.place s.was.closed in
+    let first : SeatChange = record s { core = mid.core; now = between } in
+    let others : SeatChange = record { old = changed first; at = s.at; session = s.session; was = between; core = s.core; now = s.now; number = s.number; stood = get_set_same seats s.at s.was between s.stood } in
+    let does = any_turn_steps first m (Ok h) (record { ok = λ k is. let g = give.3 k is in (g.0, g.1, (g.2, refl)); err = tt; fault = tt }) in
+    let rest = turns_trace n others m r closed give.4 in
+    let once : slice_set (slice_set seats s.at between) s.at s.now ≡ slice_set seats s.at s.now = set_twice seats s.at between s.now in (
+      (changed first, h, goes_on_trace s.old (event.Turn s.session m) (Ok h) (changed first) does, give.2, subst (λ (z : List Seat). HasTurns n (changed first) (event.Turn s.session m) r (engine s.core z)) once rest.0),
+      λ is. subst (λ (z : List Seat). IsEngine s.core z) once (rest.1 (stays_engine s.old (event.Turn s.session m) (Ok h) (changed first) does is)),
     )
-
--- a seat's turns, as an engine's
-pub seat_turns : (v v' : CoreView) (seats : List Seat) (at s m : ℕ) (p q : Seat) (r : Result Happened EngineFault) → at + 1 ≡ s → slice_get seats at ≡ Some p
-    → (k : GoesFar (stand v p.session p.place) p.closed m r (stand v' q.session q.place)) → q.closed ≡ p.closed
-    → HasTurns k.turns (engine v seats) (event.Turn s m) r (engine v' (slice_set seats at q)) × (IsEngine v seats → IsEngine v' (slice_set seats at q))
-seat_turns v v' seats at s m p q r num was k closed =
-    let same : seat q.session q.place p.closed ≡ q = ap (λ (b : Bool). seat q.session q.place b) (sym closed) in
-    let P : Seat → Type 0 = λ z. HasTurns k.turns (engine v seats) (event.Turn s m) r (engine v' (slice_set seats at z)) × (IsEngine v seats → IsEngine v' (slice_set seats at z)) in
-    subst P same (turns_trace k.turns (stand v p.session p.place) seats at s m p.closed r (stand v' q.session q.place) num was k.give)
 
 -- turns of a session that there is not
 pub no_turns : (e : EngineView) (s m : ℕ) (f : EngineFault) → ((w : World) → Agrees w e → Steps e (event.Turn s m) (Err f) e w) → HasTurns 0 e (event.Turn s m) (Err f) e

@@ -1,9 +1,7 @@
 -- Bytes are fed to a session.
-use Rattle.std.proofs.Common.{◌≡◌, ◌≢◌, ℕ, ◌+◌, List, [], ◌++◌, Some, None, true, false, Result, Ok, Err, IfOk, IfErr, OnErr, slice_get, slice_set, length, ◌<◌, ◌^◌, arith, refl, ap, sym, ◌∙◌, subst, inl, inr, append-nil, Vec, Global}
-use Rattle.sf_call.specs.declared.record.Record.{Record}
+use Rattle.std.proofs.Common.{◌≡◌, ◌≢◌, ℕ, List, [], ◌++◌, None, true, false, Result, Ok, Err, IfOk, IfErr, OnErr, length, ◌<◌, ◌^◌, arith, refl, ap, sym, ◌∙◌, subst, inl, inr, Vec, Global}
 use Rattle.sf_session.specs.Sessions.{SessionView}
 use Rattle.sf_core.specs.Cores.{CoreView}
-use Rattle.sf_core.specs.Histories.{IsHistory}
 use Rattle.sf_engine.specs.declared.seat.Seat.{Seat}
 use Rattle.sf_engine.specs.declared.seat.SeatState.{SeatState}
 use Rattle.sf_engine.specs.declared.event.Event.TheVariants as event
@@ -13,11 +11,11 @@ use Rattle.sf_engine.specs.declared.event.EngineFault.TheVariants as fault
 use Rattle.sf_engine.specs.Worlds.{Phase, Resting, UnderWay, Decided, Gone, SessionState, World, with_state, is_here_in}
 use Rattle.sf_engine.specs.Traces.{IsSession, MayRefuse, fed}
 use Rattle.sf_engine.specs.Turns.{FeedGives, FeedFault}
-use Rattle.sf_engine.specs.Views.{EngineView}
 use Rattle.sf_engine.specs.Fits.{PlaceAgrees, SeatAgrees, Agrees}
 use Rattle.sf_engine.proofs.Tracing.{Steps}
-use Rattle.sf_engine.proofs.Moving.{moves_none, keeps_agrees}
-use Rattle.sf_engine.proofs.Turning.{engine, told_at, refused_steps, same_engine}
+use Rattle.sf_engine.proofs.Seats.{SeatChange, number, changed}
+use Rattle.sf_engine.proofs.Moving.{still_agrees}
+use Rattle.sf_engine.proofs.Turning.{told_of, by_number, refused_seat}
 
 -- a session's place doesn't look at what is unread, nor at its output
 pub place_stays : (v : CoreView) (s : ℕ) (x : SessionView) (unread output : List ℕ) (f : Phase) (p : SeatState) → PlaceAgrees v s x f p
@@ -62,44 +60,51 @@ gone_if v s x (UnderWay id n m q moves) p h e = absurd (e h.ended)
 gone_if v s x (Decided id n q given) p h e = absurd (e h.ended)
 gone_if v s x (Gone cause) p h e = refl
 
-feed_fault : (w : World) (v : CoreView) (at s : ℕ) (bytes : Vec ℕ Global) (p : Seat) (t : SessionState) (f : EngineFault) → IsSession w s t → SeatAgrees v (at + 1) t p → FeedFault p f → MayRefuse w (event.Feed s bytes) f
-feed_fault w v at s bytes p t fault.OutOfMemory session h why = (t, session, (sym h.closed ∙ why.0, here_if v (at + 1) p.session t.phase p.place h.at why.1))
-feed_fault w v at s bytes p t fault.Ended session h why = (t, session, elim why [ inl c ↦ inl (sym h.closed ∙ c) | inr e ↦ inr (gone_if v (at + 1) p.session t.phase p.place h.at e) ])
-feed_fault w v at s bytes p t fault.NoSuchSession session h why = absurd why
-feed_fault w v at s bytes p t fault.Sessions session h why = absurd why
-feed_fault w v at s bytes p t fault.NumbersSpent session h why = absurd why
-feed_fault w v at s bytes p t fault.NotSent session h why = absurd why
+-- what feeding a seat gives
+pub record FeedsSeat (s : SeatChange) (bytes : List ℕ) (r : Result Happened EngineFault) : Type 0 where
+  pub core : s.core ≡ s.old.core
+  pub ok : IfOk r (λ k. FeedGives s.was bytes k s.now)
+  pub err : OnErr r (s.now ≡ s.was)
+  pub fault : IfErr r (λ f. FeedFault s.was f)
+
+feed_fault : (s : SeatChange) (bytes : Vec ℕ Global) (w : World) (t : SessionState) (f : EngineFault) → IsSession w (number s) t → SeatAgrees s.old.core (number s) t s.was → FeedFault s.was f → MayRefuse w (event.Feed (number s) bytes) f
+feed_fault s bytes w t fault.OutOfMemory session h why = (t, session, (sym h.closed ∙ why.0, here_if s.old.core (number s) s.was.session t.phase s.was.place h.at why.1))
+feed_fault s bytes w t fault.Ended session h why = (t, session, elim why [ inl c ↦ inl (sym h.closed ∙ c) | inr e ↦ inr (gone_if s.old.core (number s) s.was.session t.phase s.was.place h.at e) ])
+feed_fault s bytes w t fault.NoSuchSession session h why = absurd why
+feed_fault s bytes w t fault.Sessions session h why = absurd why
+feed_fault s bytes w t fault.NumbersSpent session h why = absurd why
+feed_fault s bytes w t fault.NotSent session h why = absurd why
 
 -- a vector of these bytes, at the place of another one
 abbrev pub vec_of : {X : Type 0} → Vec X Global → (bytes : List ℕ) → length bytes < 2 ^ 63 → Vec ℕ Global
 vec_of v bytes fits = record { ptr = v.ptr; len = length bytes; cap = length bytes; alloc = v.alloc; items = bytes; ok = (refl, omega arith); small = fits }
 
-pub any_feed_steps : (v : CoreView) (seats : List Seat) (at s : ℕ) (bytes : Vec ℕ Global) (p q : Seat) (r : Result Happened EngineFault) → at + 1 ≡ s → slice_get seats at ≡ Some p
-    → IfOk r (λ k. FeedGives p bytes.items k q) → OnErr r (q ≡ p) → IfErr r (λ f. FeedFault p f)
-    → (w : World) → Agrees w (engine v seats) → Steps (engine v seats) (event.Feed s bytes) r (engine v (slice_set seats at q)) w
-any_feed_steps v seats at s bytes p q (Ok r) num was ok err why w agrees =
-    let t = told_at w v seats at p agrees was in
+pub any_feed_steps : (s : SeatChange) (bytes : Vec ℕ Global) (r : Result Happened EngineFault) → FeedsSeat s bytes.items r → (w : World) → Agrees w s.old → Steps s.old (event.Feed s.session bytes) r (changed s) w
+any_feed_steps s bytes (Ok r) gives w agrees =
+    let v = s.old.core in
+    let n = number s in
+    let x = s.was.session in
+    let t = told_of s w [] agrees in
+    let h = t.1.seat in
+    let ok = gives.ok in
     let told = fed t.0 bytes.items in
-    let now : SeatAgrees v (at + 1) told q = subst (λ (z : Seat). SeatAgrees v (at + 1) told z) (sym ok.now) (record {
-      unread = ap (λ (b : List ℕ). b ++ bytes.items) t.3.unread;
-      output = t.3.output;
-      begun = t.3.begun;
-      closed = t.3.closed;
-      at = place_stays v (at + 1) p.session (p.session.unread ++ bytes.items) p.session.output t.0.phase p.place t.3.at;
+    let now : SeatAgrees v n told s.now = subst (λ (z : Seat). SeatAgrees v n told z) (sym ok.now) (record {
+      unread = ap (λ (b : List ℕ). b ++ bytes.items) h.unread;
+      output = h.output;
+      begun = h.begun;
+      closed = h.closed;
+      at = place_stays v n x (x.unread ++ bytes.items) x.output t.0.phase s.was.place h.at;
     }) in
-    let P : List Record → Type 0 = λ h. IsHistory v h in
-    let steps : Steps (engine v seats) (event.Feed (at + 1) bytes) (Ok r) (engine v (slice_set seats at q)) w = record {
+    by_number s (λ k. event.Feed k bytes) (Ok r) w (record {
       added = [];
-      after = with_state w (at + 1) told [] 0;
-      leads = (ok.fed, refl, (t.0, t.2, (sym t.3.closed ∙ ok.unclosed, here_if v (at + 1) p.session t.0.phase p.place t.3.at ok.unended), refl));
+      after = with_state w n told [] 0;
+      leads = (ok.fed, refl, (t.0, t.1.session, (sym h.closed ∙ ok.unclosed, here_if v n x t.0.phase s.was.place h.at ok.unended), refl));
       records = refl;
-      agrees = keeps_agrees w v v seats at [] 0 p q t.0 told agrees t.1 was (subst P (sym (append-nil w.records)) agrees.history) (moves_none v (at + 1) t.0 told refl) now;
+      agrees = still_agrees s w t.0 told t.1 gives.core refl now;
       step = tt;
-      work = refl;
-    } in
-    subst (λ (k : ℕ). Steps (engine v seats) (event.Feed k bytes) (Ok r) (engine v (slice_set seats at q)) w) num steps
-any_feed_steps v seats at s bytes p q (Err f) num was ok err why w agrees =
-    let t = told_at w v seats at p agrees was in
-    let P : EngineView → Type 0 = λ e. Steps (engine v seats) (event.Feed s bytes) (Err f) e w in
-    subst P (sym (same_engine v v seats at p q was refl err))
-    (refused_steps (engine v seats) (event.Feed s bytes) f w agrees (feed_fault w v at s bytes p t.0 f (subst (λ (k : ℕ). IsSession w k t.0) num t.2) t.3 why))
+      work = ap (λ (z : CoreView). z.look_ups) gives.core;
+    })
+any_feed_steps s bytes (Err f) gives w agrees =
+    let t = told_of s w [] agrees in
+    by_number s (λ k. event.Feed k bytes) (Err f) w
+    (refused_seat s (event.Feed (number s) bytes) f gives.core gives.err w agrees (feed_fault s bytes w t.0 f t.1.session t.1.seat gives.fault))

@@ -1,5 +1,5 @@
 -- One session goes on, and the others stay as they are, but for calls that were carried out for them.
-use Rattle.std.proofs.Common.{◌≡◌, ◌≢◌, ℕ, zero, suc, ◌+◌, ◌-◌, ◌<◌, ◌≤◌, ◌⊎◌, List, [], ◌∷◌, ◌++◌, Some, cond, slice_get, slice_set, length, refl, ap, sym, ◌∙◌, subst, arith, inl, inr, get_or, length-set}
+use Rattle.std.proofs.Common.{◌≡◌, ◌≢◌, ℕ, zero, suc, ◌+◌, ◌-◌, ◌<◌, ◌≤◌, ◌⊎◌, List, [], ◌∷◌, ◌++◌, Some, cond, slice_get, slice_set, length, refl, ap, sym, ◌∙◌, subst, arith, inl, inr, get_or, length-set, append-nil}
 use Rattle.std.specs.List.{sum_by}
 use Rattle.std.proofs.lemmas.Bool.{cases_eq}
 use Rattle.std.proofs.lemmas.Option.{slice_get_within, get_or_from_slice_get}
@@ -15,6 +15,7 @@ use Rattle.sf_engine.specs.declared.seat.Seat.{Seat}
 use Rattle.sf_engine.specs.declared.seat.SeatState.{SeatState}
 use Rattle.sf_engine.specs.Worlds.{Phase, Resting, UnderWay, Decided, Gone, SessionState, World, with_state, is_here}
 use Rattle.sf_engine.specs.Fits.{IsStillWalking, PlaceAgrees, SeatAgrees, Agrees}
+use Rattle.sf_engine.proofs.Seats.{SeatChange, SeatEvent, IsTold, number, changed}
 
 pub get_set_same : {A : Type 0} (xs : List A) (i : ℕ) (x v : A) → slice_get xs i ≡ Some x → slice_get (slice_set xs i v) i ≡ Some v
 get_set_same [] i x v h = absurd cc
@@ -53,10 +54,19 @@ sum_by_write f xs i x v h =
 abbrev pub here_in : SessionState → ℕ
 here_in t = cond (is_here t) 1 0
 
+-- a session's call was carried out for another one
+pub record CarriedOut (v v' : CoreView) (s : ℕ) : Type 0 where
+  pub before : Call
+  pub after : Call
+  pub was : lane_state v s ≡ Busy before
+  pub now : lane_state v' s ≡ Busy after
+  pub same : SameCall before after
+  pub less : left_of after ≤ left_of before
+  pub done : IsStillWalking after → ⊥
+
 -- another session's lane state stays, or its call was carried out
 abbrev pub OtherStays : CoreView → CoreView → ℕ → Type 0
-OtherStays v v' s = (lane_state v' s ≡ lane_state v s)
-    ⊎ ((before : Call) × (after : Call) × (lane_state v s ≡ Busy before) × (lane_state v' s ≡ Busy after) × SameCall before after × (left_of after ≤ left_of before) × (IsStillWalking after → ⊥))
+OtherStays v v' s = (lane_state v' s ≡ lane_state v s) ⊎ CarriedOut v v' s
 
 -- what an event does to the core for one session, of which this is told before and after it
 pub record Moves (v v' : CoreView) (s : ℕ) (t t' : SessionState) (more : ℕ) : Type 0 where
@@ -98,30 +108,29 @@ agrees_same v v' s x (Decided id n q given) p e h = record {
 agrees_same v v' s x (Gone cause) p e h = (h.0, e ∙ h.1, h.2)
 
 -- a place whose call was carried out
-pub agrees_helped : (v v' : CoreView) (s : ℕ) (x : SessionView) (f : Phase) (p : SeatState) (c d : Call) → lane_state v s ≡ Busy c → lane_state v' s ≡ Busy d → SameCall c d → left_of d ≤ left_of c → (IsStillWalking d → ⊥)
-    → PlaceAgrees v s x f p → PlaceAgrees v' s x f p
-agrees_helped v v' s x Resting p c d was now same less done h = absurd (let w : Idle ≡ Busy c = sym h.slot ∙ was in cc)
-agrees_helped v v' s x (UnderWay id n m q moves) p c d was now same less done h =
-    let own : h.call ≡ c = let w : Busy h.call ≡ Busy c = sym h.slot ∙ was in cc in record {
+agrees_helped : (v v' : CoreView) (s : ℕ) (x : SessionView) (f : Phase) (p : SeatState) → CarriedOut v v' s → PlaceAgrees v s x f p → PlaceAgrees v' s x f p
+agrees_helped v v' s x Resting p b h = absurd (let w : Idle ≡ Busy b.before = sym h.slot ∙ b.was in cc)
+agrees_helped v v' s x (UnderWay id n m q moves) p b h =
+    let own : h.call ≡ b.before = let w : Busy h.call ≡ Busy b.before = sym h.slot ∙ b.was in cc in record {
       lane = h.lane;
-      call = d;
+      call = b.after;
       session = h.session;
       number_is = h.number_is;
       place_is = h.place_is;
-      slot = now;
+      slot = b.now;
       own = (
-        same.session ∙ ap (λ (y : Call). y.session) (sym own) ∙ h.own.0,
-        same.number ∙ ap (λ (y : Call). y.number) (sym own) ∙ h.own.1,
-        same.moment ∙ ap (λ (y : Call). y.moment) (sym own) ∙ h.own.2,
-        same.request ∙ ap (λ (y : Call). y.request) (sym own) ∙ h.own.3,
+        b.same.session ∙ ap (λ (y : Call). y.session) (sym own) ∙ h.own.0,
+        b.same.number ∙ ap (λ (y : Call). y.number) (sym own) ∙ h.own.1,
+        b.same.moment ∙ ap (λ (y : Call). y.moment) (sym own) ∙ h.own.2,
+        b.same.request ∙ ap (λ (y : Call). y.request) (sym own) ∙ h.own.3,
       );
-      few = omega (arith, h.few, less, ap left_of own);
-      walked = λ e. absurd (done e);
+      few = let less = b.less in omega (arith, h.few, less, ap left_of own);
+      walked = λ e. absurd (b.done e);
       waiting = h.waiting;
       ended = h.ended;
     }
-agrees_helped v v' s x (Decided id n q given) p c d was now same less done h = absurd (let w : Idle ≡ Busy c = sym h.slot ∙ was in cc)
-agrees_helped v v' s x (Gone cause) p c d was now same less done h = absurd (let w : nobody ≡ Busy c = sym h.1 ∙ was in cc)
+agrees_helped v v' s x (Decided id n q given) p b h = absurd (let w : Idle ≡ Busy b.before = sym h.slot ∙ b.was in cc)
+agrees_helped v v' s x (Gone cause) p b h = absurd (let w : nobody ≡ Busy b.before = sym h.1 ∙ b.was in cc)
 
 pub seat_stays : (v v' : CoreView) (s : ℕ) (t : SessionState) (p : Seat) → OtherStays v v' s → SeatAgrees v s t p → SeatAgrees v' s t p
 seat_stays v v' s t p stays h = record {
@@ -131,7 +140,7 @@ seat_stays v v' s t p stays h = record {
   closed = h.closed;
   at = elim stays [
     | inl e ↦ agrees_same v v' s p.session t.phase p.place e h.at
-    | inr b ↦ agrees_helped v v' s p.session t.phase p.place b.0 b.1 b.2 b.3 b.4 b.5 b.6 h.at
+    | inr b ↦ agrees_helped v v' s p.session t.phase p.place b h.at
   ];
 }
 
@@ -142,41 +151,68 @@ with_at w at t added more = record { sessions = slice_set w.sessions at t; recor
 pub with_at_is : (w : World) (at : ℕ) (t : SessionState) (added : List Record) (more : ℕ) → with_state w (at + 1) t added more ≡ with_at w at t added more
 with_at_is w at t added more = let num : at + 1 - 1 ≡ at = omega arith in ap (λ (n : ℕ). with_at w n t added more) num
 
-keeps_at : (w : World) (v v' : CoreView) (seats : List Seat) (at : ℕ) (added : List Record) (more : ℕ) (p q : Seat) (t t' : SessionState)
-    → Agrees w (record { core = v; seats = seats }) → slice_get w.sessions at ≡ Some t → slice_get seats at ≡ Some p
-    → IsHistory v' (w.records ++ added) → Moves v v' (at + 1) t t' more → SeatAgrees v' (at + 1) t' q
-    → Agrees (with_at w at t' added more) (record { core = v'; seats = slice_set seats at q })
-keeps_at w v v' seats at added more p q t t' agrees told was history moves now = record {
-  history = history;
-  begun = moves.drawn ∙ ap (λ (n : ℕ). n + more) agrees.begun;
-  opened = moves.joins ∙ agrees.opened ∙ sym (length-set w.sessions at t');
-  here = omega (arith, moves.joined, agrees.here, sum_by_write here_in w.sessions at t t' told);
-  count = length-set seats at q ∙ agrees.count ∙ sym (length-set w.sessions at t');
-  each = λ i u o hu ho. elim (cases_eq i at) [
-    | inl e ↦
-        let hu' : slice_get (slice_set w.sessions at t') at ≡ Some u = ap (λ (n : ℕ). slice_get (slice_set w.sessions at t') n) (sym e) ∙ hu in
-        let ho' : slice_get (slice_set seats at q) at ≡ Some o = ap (λ (n : ℕ). slice_get (slice_set seats at q) n) (sym e) ∙ ho in
-        let tu : t' ≡ u = let k : slice_get (slice_set w.sessions at t') at ≡ Some t' = get_set_same w.sessions at t t' told in cc in
-        let qo : q ≡ o = let k : slice_get (slice_set seats at q) at ≡ Some q = get_set_same seats at p q was in cc in
-        subst (λ (n : ℕ). SeatAgrees v' (n + 1) u o) (sym e) (subst (λ (z : SessionState). SeatAgrees v' (at + 1) z o) tu (subst (λ (z : Seat). SeatAgrees v' (at + 1) t' z) qo now))
-    | inr ne ↦
-        seat_stays v v' (i + 1) u o (moves.others (i + 1) (λ k. ne (omega (arith, k))))
-        (agrees.each i u o (sym (get_set_other w.sessions at i t' ne) ∙ hu) (sym (get_set_other seats at i q ne) ∙ ho))
-  ];
-  nobody = λ s out.
-      let within : at < length w.sessions = slice_get_within w.sessions at t told in
-      let out' : (s ≡ 0) ⊎ (length w.sessions < s) = elim out [ inl e ↦ inl e | inr lt ↦ inr (omega (arith, lt, length-set w.sessions at t')) ] in
-      let apart : s ≢ at + 1 = λ e. elim out' [ inl z ↦ absurd (omega (arith, e, z)) | inr lt ↦ absurd (omega (arith, e, lt, within)) ] in
-      elim (moves.others s apart) [
-        | inl e ↦ e ∙ agrees.nobody s out'
-        | inr b ↦ absurd (let k : nobody ≡ Busy b.0 = sym (agrees.nobody s out') ∙ b.2 in cc)
-      ];
-}
+-- what an event leaves of its session, and of the core for it
+pub record Turned (e : SeatEvent) (more : ℕ) (leads : SessionState → Type 0) : Type 0 where
+  pub told : SessionState
+  pub lead : leads told
+  pub moves : Moves e.seat.old.core e.seat.core (number e.seat) e.told told more
+  pub agrees : SeatAgrees e.seat.core (number e.seat) told e.seat.now
 
-pub keeps_agrees : (w : World) (v v' : CoreView) (seats : List Seat) (at : ℕ) (added : List Record) (more : ℕ) (p q : Seat) (t t' : SessionState)
-    → Agrees w (record { core = v; seats = seats }) → slice_get w.sessions at ≡ Some t → slice_get seats at ≡ Some p
-    → IsHistory v' (w.records ++ added) → Moves v v' (at + 1) t t' more → SeatAgrees v' (at + 1) t' q
-    → Agrees (with_state w (at + 1) t' added more) (record { core = v'; seats = slice_set seats at q })
-keeps_agrees w v v' seats at added more p q t t' agrees told was history moves now =
-    let P : World → Type 0 = λ z. Agrees z (record { core = v'; seats = slice_set seats at q }) in
-    subst P (sym (with_at_is w at t' added more)) (keeps_at w v v' seats at added more p q t t' agrees told was history moves now)
+keeps_at : (e : SeatEvent) {more : ℕ} {leads : SessionState → Type 0} → IsTold e → IsHistory e.seat.core (e.world.records ++ e.added) → (o : Turned e more leads)
+    → Agrees (with_at e.world e.seat.at o.told e.added more) (changed e.seat)
+keeps_at e {more = more} is history o =
+    let told = e.world.sessions in
+    let seats = e.seat.old.seats in
+    let at = e.seat.at in
+    let t = e.told in
+    let t' = o.told in
+    let p = e.seat.was in
+    let q = e.seat.now in
+    let core = e.seat.core in
+    let within : at < length told = slice_get_within told at t is.told in record {
+      history = history;
+      begun = o.moves.drawn ∙ ap (λ (n : ℕ). n + more) is.agrees.begun;
+      opened = o.moves.joins ∙ is.agrees.opened ∙ sym (length-set told at t');
+      here = omega (arith, o.moves.joined, is.agrees.here, sum_by_write here_in told at t t' is.told);
+      count = length-set seats at q ∙ is.agrees.count ∙ sym (length-set told at t');
+      each = λ i u o' hu ho. elim (cases_eq i at) [
+        | inl same ↦
+            let hu' : slice_get (slice_set told at t') at ≡ Some u = ap (λ (n : ℕ). slice_get (slice_set told at t') n) (sym same) ∙ hu in
+            let ho' : slice_get (slice_set seats at q) at ≡ Some o' = ap (λ (n : ℕ). slice_get (slice_set seats at q) n) (sym same) ∙ ho in
+            let tu : t' ≡ u = let k : slice_get (slice_set told at t') at ≡ Some t' = get_set_same told at t t' is.told in cc in
+            let qo : q ≡ o' = let k : slice_get (slice_set seats at q) at ≡ Some q = get_set_same seats at p q e.seat.stood in cc in
+            subst (λ (n : ℕ). SeatAgrees core (n + 1) u o') (sym same) (subst (λ (z : SessionState). SeatAgrees core (at + 1) z o') tu (subst (λ (z : Seat). SeatAgrees core (at + 1) t' z) qo o.agrees))
+        | inr ne ↦
+            seat_stays e.seat.old.core core (i + 1) u o' (o.moves.others (i + 1) (λ k. ne (omega (arith, k))))
+            (is.agrees.each i u o' (sym (get_set_other told at i t' ne) ∙ hu) (sym (get_set_other seats at i q ne) ∙ ho))
+      ];
+      nobody = λ s out.
+          let out' : (s ≡ 0) ⊎ (length told < s) = elim out [ inl z ↦ inl z | inr lt ↦ inr (omega (arith, lt, length-set told at t')) ] in
+          let apart : s ≢ at + 1 = λ k. elim out' [ inl z ↦ absurd (omega (arith, k, z)) | inr lt ↦ absurd (omega (arith, k, lt, within)) ] in
+          elim (o.moves.others s apart) [
+            | inl same ↦ same ∙ is.agrees.nobody s out'
+            | inr b ↦ absurd (let k : nobody ≡ Busy b.before = sym (is.agrees.nobody s out') ∙ b.was in cc)
+          ];
+    }
+
+pub keeps_agrees : (e : SeatEvent) {more : ℕ} {leads : SessionState → Type 0} → IsTold e → IsHistory e.seat.core (e.world.records ++ e.added) → (o : Turned e more leads)
+    → Agrees (with_state e.world (number e.seat) o.told e.added more) (changed e.seat)
+keeps_agrees e {more = more} is history o =
+    let P : World → Type 0 = λ z. Agrees z (changed e.seat) in
+    subst P (sym (with_at_is e.world e.seat.at o.told e.added more)) (keeps_at e is history o)
+
+-- an event that leaves the core and adds no record, after which this is told
+pub still_agrees : (s : SeatChange) (w : World) (t told : SessionState) → IsTold (record { world = w; told = t; seat = s; added = [] }) → s.core ≡ s.old.core → here_in t ≡ here_in told
+    → SeatAgrees s.old.core (number s) told s.now → Agrees (with_state w (number s) told [] 0) (changed s)
+still_agrees s w t told is same here now =
+    let e : SeatEvent = record { world = w; told = t; seat = s; added = [] } in
+    let v = s.old.core in
+    let P : List Record → Type 0 = λ h. IsHistory s.core h in
+    let history = subst P (sym (append-nil w.records)) (subst (λ (z : CoreView). IsHistory z w.records) (sym same) is.agrees.history) in
+    let o : Turned e 0 (λ t'. Unit {0}) = record {
+      told = told;
+      lead = tt;
+      moves = subst (λ (z : CoreView). Moves v z (number s) t told 0) (sym same) (moves_none v (number s) t told here);
+      agrees = subst (λ (z : CoreView). SeatAgrees z (number s) told s.now) (sym same) now;
+    } in
+    keeps_agrees e is history o

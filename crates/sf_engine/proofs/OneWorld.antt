@@ -12,7 +12,6 @@ use Rattle.sf_call.specs.declared.fault.CoreFault.{CoreFault}
 use Rattle.sf_call.specs.declared.fault.CoreFault.TheVariants as core
 use Rattle.sf_call.specs.declared.request.Request.{Request}
 use Rattle.sf_call.specs.declared.record.Record.{Record}
-use Rattle.sf_call.specs.declared.record.Record.TheVariants.{Did}
 use Rattle.sf_call.specs.Histories.{IsLegal, IsLegalAfter, IsAmong, IsOther, IsNewNumber, MayFollow}
 use Rattle.sf_call.proofs.Laws.{front_new, last_other}
 use Rattle.sf_session.specs.declared.asking.Ask.{Ask}
@@ -29,6 +28,7 @@ use Rattle.sf_engine.specs.Traces.{has_begun, IsSession, IsAtOnce, DecidesCall, 
 use Rattle.sf_engine.specs.Laws.{IsOfBytes, AreOfBytes}
 use Rattle.sf_engine.specs.Views.{EngineView}
 use Rattle.sf_engine.specs.Fits.{Fits, IsSentBy}
+use Rattle.sf_engine.proofs.Seats.{CallTold, record_of}
 use Rattle.sf_engine.proofs.Moving.{get_set_same, get_set_other}
 use Rattle.sf_engine.proofs.Orders.{leads_records}
 use Rattle.sf_engine.proofs.Reading.{new_get}
@@ -84,34 +84,34 @@ last_same (x ∷ xs) [] a b e = absurd (nil_push xs a (let w : [] ≡ xs ++ a �
 last_same (x ∷ xs) (y ∷ ys) a b e = last_same xs ys a b (let w : xs ++ a ∷ [] ≡ ys ++ b ∷ [] = cc in w)
 
 -- a later call's number is none of those before
-number_new : (n s k : ℕ) (q : Request) (given : Reply) (before rs : List Record) → IsLegalAfter before rs → IsAmong (Did n s k q given) rs → IsNewNumber n before
+number_new : (c : CallTold) (given : Reply) (before rs : List Record) → IsLegalAfter before rs → IsAmong (record_of c given) rs → IsNewNumber c.number before
 unfolding IsLegalAfter IsAmong
-number_new n s k q given before [] legal among = absurd among
-number_new n s k q given before (x ∷ rs) legal (inl e) = let here = subst (λ (y : Record). MayFollow before y) e legal.0 in here.new_number
-number_new n s k q given before (x ∷ rs) legal (inr later) = front_new n before x (number_new n s k q given (before ++ x ∷ []) rs legal.1 later)
+number_new c given before [] legal among = absurd among
+number_new c given before (x ∷ rs) legal (inl e) = let here = subst (λ (y : Record). MayFollow before y) e legal.0 in here.new_number
+number_new c given before (x ∷ rs) legal (inr later) = front_new c.number before x (number_new c given (before ++ x ∷ []) rs legal.1 later)
 
 -- so a legal order has one record of a call
-one_record : (n s k : ℕ) (q : Request) (a b : Reply) (before rs : List Record) → IsLegalAfter before rs → IsAmong (Did n s k q a) rs → IsAmong (Did n s k q b) rs → a ≡ b
+one_record : (c : CallTold) (a b : Reply) (before rs : List Record) → IsLegalAfter before rs → IsAmong (record_of c a) rs → IsAmong (record_of c b) rs → a ≡ b
 unfolding IsLegalAfter IsAmong
-one_record n s k q a b before [] legal h g = absurd h
-one_record n s k q a b before (x ∷ rs) legal (inl e) (inl f) = let w : Did n s k q a ≡ Did n s k q b = sym e ∙ f in cc
-one_record n s k q a b before (x ∷ rs) legal (inl e) (inr g) =
-    let other = subst (λ (y : Record). IsOther n y) e (last_other n before x (number_new n s k q b (before ++ x ∷ []) rs legal.1 g)) in absurd (other refl)
-one_record n s k q a b before (x ∷ rs) legal (inr h) (inl f) =
-    let other = subst (λ (y : Record). IsOther n y) f (last_other n before x (number_new n s k q a (before ++ x ∷ []) rs legal.1 h)) in absurd (other refl)
-one_record n s k q a b before (x ∷ rs) legal (inr h) (inr g) = one_record n s k q a b (before ++ x ∷ []) rs legal.1 h g
+one_record c a b before [] legal h g = absurd h
+one_record c a b before (x ∷ rs) legal (inl e) (inl f) = let w : record_of c a ≡ record_of c b = sym e ∙ f in cc
+one_record c a b before (x ∷ rs) legal (inl e) (inr g) =
+    let other = subst (λ (y : Record). IsOther c.number y) e (last_other c.number before x (number_new c b (before ++ x ∷ []) rs legal.1 g)) in absurd (other refl)
+one_record c a b before (x ∷ rs) legal (inr h) (inl f) =
+    let other = subst (λ (y : Record). IsOther c.number y) f (last_other c.number before x (number_new c a (before ++ x ∷ []) rs legal.1 h)) in absurd (other refl)
+one_record c a b before (x ∷ rs) legal (inr h) (inr g) = one_record c a b (before ++ x ∷ []) rs legal.1 h g
 
-one_legal : (n s k : ℕ) (q : Request) (a b : Reply) (h : List Record) → IsLegal h → IsAmong (Did n s k q a) h → IsAmong (Did n s k q b) h → a ≡ b
+one_legal : (c : CallTold) (a b : Reply) (h : List Record) → IsLegal h → IsAmong (record_of c a) h → IsAmong (record_of c b) h → a ≡ b
 unfolding IsLegal
-one_legal n s k q a b h legal x y = one_record n s k q a b [] h legal x y
+one_legal c a b h legal x y = one_record c a b [] h legal x y
 
-one_reply : (w : World) (s moves n k : ℕ) (q : Request) (a b : Reply) (added : List Record) → IsLegal w.records
-    → DecidesCall w s moves (Did n s k q a) added → DecidesCall w s moves (Did n s k q b) added → a ≡ b
-one_reply w s moves n k q a b added legal (inl h) (inl g) = one_legal n s k q a b w.records legal h.1 g.1
-one_reply w s moves n k q a b added legal (inl h) (inr g) = absurd (nil_push g.helped (Did n s k q b) (sym h.0 ∙ g.records))
-one_reply w s moves n k q a b added legal (inr h) (inl g) = absurd (nil_push h.helped (Did n s k q a) (sym g.0 ∙ h.records))
-one_reply w s moves n k q a b added legal (inr h) (inr g) =
-    let e : Did n s k q a ≡ Did n s k q b = last_same h.helped g.helped (Did n s k q a) (Did n s k q b) (sym h.records ∙ g.records) in cc
+one_reply : (w : World) (moves : ℕ) (c : CallTold) (a b : Reply) (added : List Record) → IsLegal w.records
+    → DecidesCall w c.session moves (record_of c a) added → DecidesCall w c.session moves (record_of c b) added → a ≡ b
+one_reply w moves c a b added legal (inl h) (inl g) = one_legal c a b w.records legal h.1 g.1
+one_reply w moves c a b added legal (inl h) (inr g) = absurd (nil_push g.helped (record_of c b) (sym h.0 ∙ g.records))
+one_reply w moves c a b added legal (inr h) (inl g) = absurd (nil_push h.helped (record_of c a) (sym g.0 ∙ h.records))
+one_reply w moves c a b added legal (inr h) (inr g) =
+    let e : record_of c a ≡ record_of c b = last_same h.helped g.helped (record_of c a) (record_of c b) (sym h.records ∙ g.records) in cc
 
 -- ---- one world after an entry
 
@@ -159,7 +159,7 @@ module _ (w : World) (legal : IsLegal w.records) where
   one_turn s m t a b (UnderWay id n k q moves) happened.Moved added bytes g h = g.2 ∙ sym h.2
   one_turn s m t a b (UnderWay id n k q moves) (happened.Blocked holder) added bytes g h = g.2 ∙ sym h.2
   one_turn s m t a b (UnderWay id n k q moves) happened.Decided added bytes g h =
-      g.2 ∙ ap (λ (z : Reply). with_phase t (Decided id n q z)) (one_reply w s moves n k q g.0 h.0 added legal g.1 h.1) ∙ sym h.2
+      g.2 ∙ ap (λ (z : Reply). with_phase t (Decided id n q z)) (one_reply w moves (record { number = n; session = s; moment = k; request = q }) g.0 h.0 added legal g.1 h.1) ∙ sym h.2
   one_turn s m t a b (UnderWay id n k q moves) (happened.Opened x) added bytes g h = absurd g
   one_turn s m t a b (UnderWay id n k q moves) happened.Fed added bytes g h = absurd g
   one_turn s m t a b (UnderWay id n k q moves) happened.Wrote added bytes g h = absurd g
@@ -305,13 +305,19 @@ one_run (e ∷ entries) w v v' h of legal g k =
 pub one_world : (trace : List TraceEntry) (w w' : World) → AreOfBytes trace → IsLegal (order trace) → ReachesWorld trace w → ReachesWorld trace w' → w ≡ w'
 one_world trace w w' of legal g k = one_run trace start w w' (record { each = λ i t at. absurd cc }) of legal g k
 
-pub one_output : (trace : List TraceEntry) (e e' : EngineView) → AreOfBytes trace → Fits e trace → Fits e' trace → (session : ℕ) (output output' : List ℕ)
-    → IsSentBy e session output → IsSentBy e' session output' → output ≡ output'
-one_output trace e e' of fits fits' session output output' sent sent' =
-    let a = sent trace fits in
-    let b = sent' trace fits' in
-    let same : fits.world ≡ fits'.world = one_world trace fits.world fits'.world of fits.legal fits.tells fits'.tells in
-    let at : IsSession fits'.world session a.0 = subst (λ (z : World). IsSession z session a.0) same a.1 in
+-- an engine that fits a trace, and what it sends a session
+pub record SentIn (trace : List TraceEntry) (session : ℕ) : Type 0 where
+  pub engine : EngineView
+  pub fits : Fits engine trace
+  pub output : List ℕ
+  pub is_sent : IsSentBy engine session output
+
+pub one_output : (trace : List TraceEntry) (session : ℕ) → AreOfBytes trace → (x y : SentIn trace session) → x.output ≡ y.output
+one_output trace session of x y =
+    let a = x.is_sent trace x.fits in
+    let b = y.is_sent trace y.fits in
+    let same : x.fits.world ≡ y.fits.world = one_world trace x.fits.world y.fits.world of x.fits.legal x.fits.tells y.fits.tells in
+    let at : IsSession y.fits.world session a.0 = subst (λ (z : World). IsSession z session a.0) same a.1 in
     let told : a.0 ≡ b.0 = let z : Some a.0 ≡ Some b.0 = sym at.1 ∙ b.1.1 in cc in
-    let both : a.0.sent ++ output ≡ a.0.sent ++ output' = sym a.2 ∙ ap (λ (z : SessionState). transcript z.answers) told ∙ b.2 ∙ ap (λ (z : SessionState). z.sent ++ output') (sym told) in
-    sym (drop-append_seam a.0.sent output) ∙ ap (λ (z : List ℕ). drop (length a.0.sent) z) both ∙ drop-append_seam a.0.sent output'
+    let both : a.0.sent ++ x.output ≡ a.0.sent ++ y.output = sym a.2 ∙ ap (λ (z : SessionState). transcript z.answers) told ∙ b.2 ∙ ap (λ (z : SessionState). z.sent ++ y.output) (sym told) in
+    sym (drop-append_seam a.0.sent x.output) ∙ ap (λ (z : List ℕ). drop (length a.0.sent) z) both ∙ drop-append_seam a.0.sent y.output

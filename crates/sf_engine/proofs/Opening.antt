@@ -23,8 +23,8 @@ use Rattle.sf_engine.specs.Views.{EngineView}
 use Rattle.sf_engine.specs.Fits.{SeatAgrees, Agrees, Fits}
 use Rattle.sf_engine.proofs.Tracing.{Steps, runs_nil}
 use Rattle.sf_engine.proofs.Moving.{here_in, seat_stays}
-use Rattle.sf_engine.proofs.Resting.{seat}
-use Rattle.sf_engine.proofs.Turning.{engine, refused_steps}
+use Rattle.sf_engine.proofs.Seats.{seat, engine}
+use Rattle.sf_engine.proofs.Turning.{refused_steps}
 
 -- what stands in a list with one more: before, or the last
 get_push : {A : Type 0} (xs : List A) (j : ℕ) (v s : A) → slice_get (xs ++ v ∷ []) j ≡ Some s → (slice_get xs j ≡ Some s) ⊎ ((j ≡ length xs) × (v ≡ s))
@@ -85,25 +85,31 @@ open_fault w v seats fault.NoSuchSession agrees h = absurd h
 open_fault w v seats fault.Ended agrees h = absurd h
 open_fault w v seats fault.NotSent agrees h = absurd h
 
-pub any_open_steps : (v v' : CoreView) (seats seats' : List Seat) (r : Result Happened EngineFault)
-    → IfOk r (λ k. OpenGives v seats k v' seats') → OnOk r ((h : List Record) → IsHistory v h → IsHistory v' h) → OnErr r ((v' ≡ v) × (seats' ≡ seats)) → IfErr r (λ f. OpenFault v f)
-    → (w : World) → Agrees w (engine v seats) → Steps (engine v seats) event.Open r (engine v' seats') w
-any_open_steps v v' seats seats' (Ok r) ok history err why w agrees =
+-- what opening gives an engine: a new session, or nothing changes
+pub record Opens (old new : EngineView) (r : Result Happened EngineFault) : Type 0 where
+  pub ok : IfOk r (λ k. OpenGives old.core old.seats k new.core new.seats)
+  pub history : OnOk r ((h : List Record) → IsHistory old.core h → IsHistory new.core h)
+  pub err : OnErr r ((new.core ≡ old.core) × (new.seats ≡ old.seats))
+  pub fault : IfErr r (λ f. OpenFault old.core f)
+
+pub any_open_steps : (old new : EngineView) (r : Result Happened EngineFault) → Opens old new r → (w : World) → Agrees w old → Steps old event.Open r new w
+any_open_steps old new (Ok r) opens w agrees =
+    let ok = opens.ok in
     let may : MayOpen w = (omega (arith, ok.core.few, agrees.here), omega (arith, ok.core.unspent, agrees.opened)) in
-    let P : List Seat → Type 0 = λ z. Agrees (record { sessions = w.sessions ++ new_state ∷ []; records = w.records; begun = w.begun }) (engine v' z) in
+    let P : List Seat → Type 0 = λ z. Agrees (record { sessions = w.sessions ++ new_state ∷ []; records = w.records; begun = w.begun }) (engine new.core z) in
     record {
       added = [];
       after = record { sessions = w.sessions ++ new_state ∷ []; records = w.records; begun = w.begun };
       leads = (ok.opened ∙ ap (λ (n : ℕ). happened.Opened (n + 1)) agrees.opened, may, refl, refl);
       records = sym (append-nil w.records);
-      agrees = subst P (sym ok.added) (opened_agrees w v v' seats agrees ok.core (history w.records agrees.history));
+      agrees = subst P (sym ok.added) (opened_agrees w old.core new.core old.seats agrees ok.core (opens.history w.records agrees.history));
       step = tt;
       work = ok.core.look_ups;
     }
-any_open_steps v v' seats seats' (Err f) ok history err why w agrees =
-    let same : engine v' seats' ≡ engine v seats = ap (λ (z : CoreView). engine z seats') err.0 ∙ ap (λ (z : List Seat). engine v z) err.1 in
-    let P : EngineView → Type 0 = λ e. Steps (engine v seats) event.Open (Err f) e w in
-    subst P (sym same) (refused_steps (engine v seats) event.Open f w agrees (open_fault w v seats f agrees why))
+any_open_steps old new (Err f) opens w agrees =
+    let same : new ≡ old = ap (λ (z : CoreView). engine z new.seats) opens.err.0 ∙ ap (λ (z : List Seat). engine old.core z) opens.err.1 in
+    let P : EngineView → Type 0 = λ e. Steps old event.Open (Err f) e w in
+    subst P (sym same) (refused_steps old event.Open f w agrees (open_fault w old.core old.seats f agrees opens.fault))
 
 -- a new core has nothing for anybody
 new_slots : (keep : Option ℕ) (store : StoreState) (s : ℕ) → lane_state (new_core keep store) s ≡ nobody

@@ -1,11 +1,10 @@
 -- What the next packet of a resting session leads to.
-use Rattle.std.proofs.Common.{◌≡◌, ℕ, List, [], ◌++◌, Bool, true, false, None, Result, IfSome, refl, sym, subst, arith, inr, append-nil}
+use Rattle.std.proofs.Common.{◌≡◌, ℕ, List, [], ◌++◌, true, false, None, Result, IfSome, refl, ap, sym, subst, arith, inr, append-nil}
 use Rattle.sf_field.specs.Fields.{packet as packet_of}
 use Rattle.sf_reply.specs.Replies.{reply_body}
 use Rattle.sf_call.specs.declared.record.Record.{Record}
 use Rattle.sf_call.specs.declared.request.Request.{Request}
 use Rattle.sf_call.specs.declared.fault.CoreFault.{CoreFault}
-use Rattle.sf_call.specs.Answers.{AnswerView as Answer}
 use Rattle.sf_session.specs.declared.session.Next.TheVariants as next
 use Rattle.sf_session.specs.Sessions.{SessionView, NextGives, refusal_of}
 use Rattle.sf_core.specs.declared.step.Step.{Step}
@@ -20,48 +19,77 @@ use Rattle.sf_engine.specs.declared.event.Happened.{Happened}
 use Rattle.sf_engine.specs.declared.event.Happened.TheVariants as happened
 use Rattle.sf_engine.specs.declared.event.EngineFault.{EngineFault}
 use Rattle.sf_engine.specs.Traces.{goes_on_at}
-use Rattle.sf_engine.specs.Turns.{PlaceGives, IsSeatState, is_resting, Stand, stand, part, new_part, IsReady, TurnGives, TurnsGive, GoesFar, finding}
-use Rattle.sf_engine.proofs.Chains.{going, begun_ready, begun_far, answered_walk, answered_placed}
+use Rattle.sf_engine.specs.Turns.{PlaceGives, IsSeatState, is_resting, Stand, stand, part, new_part, IsReady, TurnGives, TurnsGive, GoesFar, Finding, seated}
+use Rattle.sf_engine.proofs.Chains.{CameToAnswer, going, answered, begun_ready, begun_far, answered_walk, answered_placed}
 
 -- one step is a walk
 walk_of_one : (v w : CoreView) (lane lane' : LaneView) (s : Step) → StepsOn v lane s w lane' → Walks v lane 1 (came s w lane')
 unfolding TakesMoves
 walk_of_one v w lane lane' s on = record { moves = 0; mid = v; few = omega arith; moved = refl; last = on; full = λ e. refl }
 
--- it asks for a call
-module _ (a : Stand) (y : SessionView) (request : Request) (gave : NextGives a.session (next.Call request) y) (lane : LaneView) (at : a.place ≡ state.Resting lane) where
-  -- which begins
-  module _ (w : CoreView) (m : ℕ) (begins : CallBegins a.core w lane request m) (history : (h : List Record) → IsHistory a.core h → IsHistory w h) where
-    pub begun_turn : TurnGives a false m happened.Begun (going w y (begun lane w.drawn))
-    begun_turn = λ h is. (
-      [],
-      subst (λ (l : List Record). IsHistory w l) (sym (append-nil h)) (history h is),
-      subst (λ (p : SeatState). PlaceGives (part a.core h a.session false) p m happened.Begun (new_part w [] y (state.UnderWay (begun lane w.drawn)))) (sym at) (request, gave, begins, refl, refl),
-    )
+-- A packet that asks for a call: the session that rested, what it is then, the request, and the
+-- session's lane.
+pub record CallAsked : Type 0 where
+  pub from : Stand
+  pub session : SessionView
+  pub request : Request
+  pub lane : LaneView
+  pub gave : NextGives from.session (next.Call request) session
+  pub at : from.place ≡ state.Resting lane
 
-    pub can_go_on : is_resting a.place ≡ true → IsReady a → IsReady (going w y (begun lane w.drawn))
-    can_go_on rests ready = (begun_ready a.core w a.session y a.place (state.UnderWay (begun lane w.drawn)) m happened.Begun rests ready begun_turn refl).1
+-- it rested
+rests : (a : CallAsked) → is_resting a.from.place ≡ true
+rests a = ap is_resting a.at
 
-    pub goes_far : (closed : Bool) (last : Result Happened EngineFault) (end : Stand) → is_resting a.place ≡ true → GoesFar (going w y (begun lane w.drawn)) closed m last end → GoesFar a closed m last end
-    goes_far closed last end rests far = begun_far a.core w a.session y a.place (state.UnderWay (begun lane w.drawn)) closed m happened.Begun last end rests begun_turn refl far
+-- its call begins, and the core is this one then
+pub record CallBegun (a : CallAsked) (m : ℕ) : Type 0 where
+  pub core : CoreView
+  pub begins : CallBegins a.from.core core a.lane a.request m
+  pub history : (h : List Record) → IsHistory a.from.core h → IsHistory core h
 
-  -- which is refused
-  pub refused_turn : (m : ℕ) (f : CoreFault) (z : SessionView) → RefusesBegin a.core lane f → IfSome y.waiting (λ id. z ≡ record y { output = y.output ++ packet_of (reply_body id (refusal_of f)); waiting = None })
-      → TurnGives a false m happened.Wrote (stand a.core z (state.Resting lane))
-  refused_turn m f z refused wrote = λ h is. (
-    [],
-    subst (λ (l : List Record). IsHistory a.core l) (sym (append-nil h)) is,
-    subst (λ (p : SeatState). PlaceGives (part a.core h a.session false) p m happened.Wrote (new_part a.core [] z (state.Resting lane))) (sym at) (inr (request, y, f, gave, refused, wrote), refl, refl, refl),
-  )
+-- the session then
+abbrev pub begun_stand : (a : CallAsked) → CoreView → Stand
+begun_stand a w = going w a.session (begun a.lane w.drawn)
 
-  -- which is answered at once
-  module _ (m : ℕ) (given : Answer) (w : CoreView) (lane' : LaneView) (made : AnswersAtOnce a.core lane request m (came (step.Answered given) w lane')) where
-    walks : Walks made.mid (begun lane made.mid.drawn) 1 (came (step.Answered given) w lane')
-    walks = walk_of_one made.mid w (begun lane made.mid.drawn) lane' (step.Answered given) made.steps
+pub begun_turn : (a : CallAsked) (m : ℕ) (b : CallBegun a m) → TurnGives a.from false m happened.Begun (begun_stand a b.core)
+begun_turn a m b = λ h is. (
+  [],
+  subst (λ (l : List Record). IsHistory b.core l) (sym (append-nil h)) (b.history h is),
+  subst (λ (p : SeatState). PlaceGives (part a.from.core h a.from.session false) p m happened.Begun (new_part b.core [] a.session (state.UnderWay (begun a.lane b.core.drawn)))) (sym a.at) (a.request, a.gave, b.begins, refl, refl),
+)
 
-    pub placed_at_once : is_resting a.place ≡ true → IsReady a → IsSeatState w y (state.Answered lane' given)
-    placed_at_once rests ready = answered_placed made.mid w (begun lane made.mid.drawn) lane' y 1 given walks (can_go_on made.mid m made.begins made.history rests ready)
+pub can_go_on : (a : CallAsked) (m : ℕ) (b : CallBegun a m) → IsReady a.from → IsReady (begun_stand a b.core)
+can_go_on a m b ready = (begun_ready a.from m (begun_stand a b.core) (rests a) ready (begun_turn a m b)).1
 
-    pub far_at_once : (closed : Bool) (last : Result Happened EngineFault) (end : Stand) → is_resting a.place ≡ true → TurnsGive 0 (stand w y (state.Answered lane' given)) (finding closed m) last end → goes_on_at last ≡ false → GoesFar a closed m last end
-    far_at_once closed last end rests give ends =
-        goes_far made.mid m made.begins made.history closed last end rests (answered_walk made.mid w (begun lane made.mid.drawn) lane' y closed 1 given m last end walks give ends)
+pub goes_far : (a : CallAsked) (f : Finding) (b : CallBegun a f.moment) (last : Result Happened EngineFault) (end : Stand) → GoesFar (begun_stand a b.core) f.closed f.moment last end → GoesFar a.from f.closed f.moment last end
+goes_far a f b last end far = begun_far a.from f (begun_stand a b.core) last end (rests a) (begun_turn a f.moment b) far
+
+-- it is refused
+pub refused_turn : (a : CallAsked) (m : ℕ) (f : CoreFault) (z : SessionView) → RefusesBegin a.from.core a.lane f
+    → IfSome a.session.waiting (λ id. z ≡ record a.session { output = a.session.output ++ packet_of (reply_body id (refusal_of f)); waiting = None })
+    → TurnGives a.from false m happened.Wrote (stand a.from.core z (state.Resting a.lane))
+refused_turn a m f z refused wrote = λ h is. (
+  [],
+  subst (λ (l : List Record). IsHistory a.from.core l) (sym (append-nil h)) is,
+  subst (λ (p : SeatState). PlaceGives (part a.from.core h a.from.session false) p m happened.Wrote (new_part a.from.core [] z (state.Resting a.lane))) (sym a.at) (inr (a.request, a.session, f, a.gave, refused, wrote), refl, refl, refl),
+)
+
+-- it is answered at once
+abbrev pub IsAnsweredAtOnce : CallAsked → ℕ → CameToAnswer → Type 0
+IsAnsweredAtOnce a m c = AnswersAtOnce a.from.core a.lane a.request m (came (step.Answered c.answer) c.core c.lane)
+
+began : (a : CallAsked) (m : ℕ) (c : CameToAnswer) → IsAnsweredAtOnce a m c → CallBegun a m
+began a m c made = record { core = made.mid; begins = made.begins; history = made.history }
+
+walks : (a : CallAsked) (m : ℕ) (c : CameToAnswer) (made : IsAnsweredAtOnce a m c) → Walks made.mid (begun a.lane made.mid.drawn) 1 (came (step.Answered c.answer) c.core c.lane)
+walks a m c made = walk_of_one made.mid c.core (begun a.lane made.mid.drawn) c.lane (step.Answered c.answer) made.steps
+
+pub placed_at_once : (a : CallAsked) (m : ℕ) (c : CameToAnswer) → IsAnsweredAtOnce a m c → IsReady a.from → IsSeatState c.core a.session (state.Answered c.lane c.answer)
+unfolding began
+placed_at_once a m c made ready = answered_placed (seated made.mid a.session (begun a.lane made.mid.drawn)) 1 c (walks a m c made) (can_go_on a m (began a m c made) ready)
+
+pub far_at_once : (a : CallAsked) (f : Finding) (c : CameToAnswer) → IsAnsweredAtOnce a f.moment c → (last : Result Happened EngineFault) (end : Stand)
+    → TurnsGive 0 (answered c.core a.session c.lane c.answer) f last end × (goes_on_at last ≡ false) → GoesFar a.from f.closed f.moment last end
+unfolding began
+far_at_once a f c made last end give =
+    goes_far a f (began a f.moment c made) last end (answered_walk (seated made.mid a.session (begun a.lane made.mid.drawn)) f 1 c last end (walks a f.moment c made) give)

@@ -6,15 +6,13 @@ use Rattle.sf_wire.specs.declared.cutting.Cut.TheVariants as cut
 use Rattle.sf_wire.specs.Packets.{IsCut}
 use Rattle.sf_reply.specs.Replies.{reply_body}
 use Rattle.sf_call.specs.declared.request.Request.{Request}
-use Rattle.sf_call.specs.declared.record.Record.{Record}
 use Rattle.sf_call.specs.declared.record.Record.TheVariants.{Left}
 use Rattle.sf_call.specs.declared.fault.CoreFault.{CoreFault}
 use Rattle.sf_call.specs.declared.fault.CoreFault.TheVariants as core
 use Rattle.sf_session.specs.declared.asking.Ask.{Ask}
 use Rattle.sf_session.specs.declared.asking.Ask.TheVariants as ask
-use Rattle.sf_session.specs.declared.session.Next.TheVariants as next
 use Rattle.sf_session.specs.Asking.{AsksFor}
-use Rattle.sf_session.specs.Sessions.{SessionView, Begins, EndsBy, NextGives, LocalPacket, refusal_of}
+use Rattle.sf_session.specs.Sessions.{SessionView, Begins, EndsBy, LocalPacket, refusal_of}
 use Rattle.sf_core.specs.Cores.LaneState.{Idle}
 use Rattle.sf_core.specs.Lanes.{LaneView}
 use Rattle.sf_core.specs.Cores.{CoreView, lane_state, last_number}
@@ -26,21 +24,11 @@ use Rattle.sf_engine.specs.declared.event.Happened.{Happened}
 use Rattle.sf_engine.specs.declared.event.Happened.TheVariants as happened
 use Rattle.sf_engine.specs.Worlds.{Response, Version, Locally, Refused, ask_behind, packet_for, transcript, Resting, UnderWay, SessionState, World, with_phase}
 use Rattle.sf_engine.specs.Traces.{IsAtOnce, RestLeads, left_for, calls_begun}
-use Rattle.sf_engine.specs.Turns.{seated, new_part, ReadGives}
+use Rattle.sf_engine.specs.Turns.{seated, ReadGives}
 use Rattle.sf_engine.specs.Fits.{HasNoCall, SeatAgrees}
-use Rattle.sf_engine.proofs.Moving.{Moves, moves_none, here_in}
+use Rattle.sf_engine.proofs.Seats.{SeatEvent, IsTold, IsUnmoved, seat, number, in_phase, turn_to, left_by}
+use Rattle.sf_engine.proofs.Moving.{Moves, Turned, moves_none, here_in}
 use Rattle.sf_engine.proofs.Asked.{begun_push}
-
--- what an event leaves of one session, and of the core for it
-pub record Turned (v v' : CoreView) (s : ℕ) (t : SessionState) (more : ℕ) (q : Seat) (leads : SessionState → Type 0) : Type 0 where
-  pub told : SessionState
-  pub lead : leads told
-  pub moves : Moves v v' s t told more
-  pub agrees : SeatAgrees v' s told q
-
--- what an engine has for a session, by its parts
-abbrev pub seat : SessionView → SeatState → Bool → Seat
-seat x p closed = record { session = x; place = p; closed = closed }
 
 pub transcript_push : (answers : List Response) (a : Response) → transcript answers ++ packet_for a ≡ transcript (answers ++ a ∷ [])
 unfolding transcript
@@ -59,49 +47,67 @@ moves_leaves v v' s t t' l was now = record {
   others = λ i ne. inl (l.others i ne);
 }
 
--- less than a packet is unread: nothing changes
-pub stays : (w : World) (v v' : CoreView) (s m : ℕ) (t : SessionState) (x y : SessionView) (p q : SeatState) (closed : Bool) (added : List Record)
-    → SeatAgrees v s t (seat x p closed) → NextGives x next.More y → v' ≡ v → added ≡ [] → q ≡ p
-    → Turned v v' s t 0 (seat y q closed) (λ t'. RestLeads m (record { world = w; session = s; told = t; added = added; now = t' }) happened.Idle)
-stays w v v' s m t x y p q closed added h g vis none qis = record {
-  told = t;
-  lead = (subst (λ (b : List ℕ). IsCut b cut.More) h.unread g.1, none, refl);
-  moves = subst (λ (z : CoreView). Moves v z s t t 0) (sym vis) (moves_none v s t t refl);
-  agrees = subst (λ (z : CoreView). SeatAgrees z s t (seat y q closed)) (sym vis)
-      (subst (λ (z : SessionView). SeatAgrees v s t (seat z q closed)) (sym g.2) (subst (λ (z : SeatState). SeatAgrees v s t (seat x z closed)) (sym qis) h));
-}
+-- nothing changes
+pub unchanged_turned : (e : SeatEvent) (leads : SessionState → Type 0) → SeatAgrees e.seat.old.core (number e.seat) e.told e.seat.was → IsUnmoved e.seat → e.seat.now.session ≡ e.seat.was.session → leads e.told → Turned e 0 leads
+unchanged_turned e leads h stays session lead =
+    let v = e.seat.old.core in
+    let p = e.seat.was in
+    let q = e.seat.now in
+    let same : q ≡ p = ap (λ (z : SessionView). seat z q.place q.closed) session ∙ ap (λ (z : SeatState). seat p.session z q.closed) stays.place ∙ ap (λ (z : Bool). seat p.session p.place z) stays.closed in record {
+      told = e.told;
+      lead = lead;
+      moves = subst (λ (z : CoreView). Moves v z (number e.seat) e.told e.told 0) (sym stays.core) (moves_none v (number e.seat) e.told e.told refl);
+      agrees = subst (λ (z : CoreView). SeatAgrees z (number e.seat) e.told q) (sym stays.core) (subst (λ (z : Seat). SeatAgrees v (number e.seat) e.told z) (sym same) h);
+    }
 
--- a packet was answered at once, and the session rests again
-answered_at_once : (w : World) (v : CoreView) (s m : ℕ) (t : SessionState) (c : Bool) (x y : SessionView) (p q : SeatState) (added : List Record)
-    → SeatAgrees v s (with_phase t Resting) (seat x p c) → (at : HasNoCall v s x p)
-    → (body rest : List ℕ) (a : Response) → Begins x.unread body rest → AsksFor x.begun body (ask_behind a) → IsAtOnce w a
-    → y ≡ record { unread = rest; output = x.output ++ packet_for a; begun = true; waiting = None; ended = None }
-    → added ≡ [] → q ≡ p
-    → Turned v v s (with_phase t Resting) 0 (seat y q c) (λ t'. RestLeads m (record { world = w; session = s; told = (with_phase t Resting); added = added; now = t' }) happened.Wrote)
-answered_at_once w v s m t c x y p q added h at body rest a begins asks once now none qis =
-    let told : SessionState = record t { unread = rest; bodies = t.bodies ++ body ∷ []; answers = t.answers ++ a ∷ []; phase = Resting } in
-    let lane = at.lane in record {
+-- a session read a body that was answered at once, in this world
+pub record ReadsAtOnce (w : World) (x y : SessionView) : Type 0 where
+  pub body : List ℕ
+  pub rest : List ℕ
+  pub answer : Response
+  pub begins : Begins x.unread body rest
+  pub asks : AsksFor x.begun body (ask_behind answer)
+  pub at_once : IsAtOnce w answer
+  pub now : y ≡ record {
+    unread = rest;
+    output = x.output ++ packet_for answer;
+    begun = true;
+    waiting = None;
+    ended = None;
+  }
+
+-- then the session rests again
+answered_at_once : (e : SeatEvent) (m : ℕ) → IsTold (in_phase e Resting) → IsUnmoved e.seat → e.added ≡ [] → ReadsAtOnce e.world e.seat.was.session e.seat.now.session
+    → Turned (in_phase e Resting) 0 (λ t'. RestLeads m (turn_to (in_phase e Resting) t') happened.Wrote)
+answered_at_once e m is stays none o =
+    let v = e.seat.old.core in
+    let s = number e.seat in
+    let t = e.told in
+    let q = e.seat.now in
+    let h = is.seat in
+    let at : HasNoCall v s e.seat.was.session e.seat.was.place = h.at in
+    let told : SessionState = record t { unread = o.rest; bodies = t.bodies ++ o.body ∷ []; answers = t.answers ++ o.answer ∷ []; phase = Resting } in record {
       told = told;
       lead = (
         record {
-          body = body;
-          rest = rest;
-          answer = a;
-          begins = subst (λ (b : List ℕ). Begins b body rest) h.unread begins;
-          asks = subst (λ (b : Bool). AsksFor b body (ask_behind a)) h.begun asks;
-          at_once = once;
+          body = o.body;
+          rest = o.rest;
+          answer = o.answer;
+          begins = subst (λ (b : List ℕ). Begins b o.body o.rest) h.unread o.begins;
+          asks = subst (λ (b : Bool). AsksFor b o.body (ask_behind o.answer)) h.begun o.asks;
+          at_once = o.at_once;
           now = refl;
         },
         none,
       );
-      moves = moves_none v s (with_phase t Resting) told refl;
-      agrees = subst (λ (z : SessionView). SeatAgrees v s told (seat z q c)) (sym now) (record {
+      moves = subst (λ (z : CoreView). Moves v z s (with_phase t Resting) told 0) (sym stays.core) (moves_none v s (with_phase t Resting) told refl);
+      agrees = subst (λ (z : CoreView). SeatAgrees z s told q) (sym stays.core) (subst (λ (z : SessionView). SeatAgrees v s told (seat z q.place q.closed)) (sym o.now) (record {
         unread = refl;
-        output = output_push t.answers t.sent x.output a h.output;
-        begun = sym (begun_push t.bodies body);
-        closed = h.closed;
-        at = record { lane = lane; session = at.session; idle = at.idle; place_is = qis ∙ at.place_is; slot = at.slot; waiting = refl; ended = refl };
-      });
+        output = output_push t.answers t.sent e.seat.was.session.output o.answer h.output;
+        begun = sym (begun_push t.bodies o.body);
+        closed = stays.closed ∙ h.closed;
+        at = record { lane = at.lane; session = at.session; idle = at.idle; place_is = stays.place ∙ at.place_is; slot = at.slot; waiting = refl; ended = refl };
+      }));
     }
 
 -- the answer of a body that needs no call
@@ -118,42 +124,63 @@ once_refused w v lane id request core.NumbersSpent drawn idle h = sym drawn ∙ 
 once_refused w v lane id request core.Sessions drawn idle h = h
 once_refused w v lane id request core.Stranger drawn idle h = absurd (h idle)
 
-pub rest_turned : (w : World) (v v' : CoreView) (s m : ℕ) (t : SessionState) (c : Bool) (x y : SessionView) (p q : SeatState) (r : Happened) (added : List Record)
-    → v.drawn ≡ w.begun → SeatAgrees v s (with_phase t Resting) (seat x p c) → (at : HasNoCall v s x p)
-    → ReadGives (seated v x at.lane) m r (new_part v' added y q)
-    → Turned v v' s (with_phase t Resting) (calls_begun r) (seat y q c) (λ t'. RestLeads m (record { world = w; session = s; told = (with_phase t Resting); added = added; now = t' }) r)
-rest_turned w v v' s m t c x y p q happened.Idle added drawn h at g =
-    stays w v v' s m (with_phase t Resting) x y p q c added h g.0 g.1 g.2 (g.3 ∙ sym at.place_is)
-rest_turned w v v' s m t c x y p q happened.Wrote added drawn h at g =
-    let was = with_phase t Resting in
-    let P : CoreView → Type 0 = λ z. Turned v z s was 0 (seat y q c) (λ t'. RestLeads m (record { world = w; session = s; told = was; added = added; now = t' }) happened.Wrote) in
-    subst P (sym g.1) (elim g.0 [
+-- a turn of a resting session
+pub rest_turned : (e : SeatEvent) (m : ℕ) (r : Happened) → (is : IsTold (in_phase e Resting)) → e.seat.now.closed ≡ e.seat.was.closed → ReadGives (seated e.seat.old.core e.seat.was.session is.seat.at.lane) m r (left_by e)
+    → Turned (in_phase e Resting) (calls_begun r) (λ t'. RestLeads m (turn_to (in_phase e Resting) t') r)
+rest_turned e m happened.Idle is closed g =
+    let h = is.seat in
+    unchanged_turned (in_phase e Resting) (λ t'. RestLeads m (turn_to (in_phase e Resting) t') happened.Idle) h (record { core = g.1; place = g.3 ∙ sym h.at.place_is; closed = closed }) g.0.2
+    (subst (λ (b : List ℕ). IsCut b cut.More) h.unread g.0.1, g.2, refl)
+rest_turned e m happened.Wrote is closed g =
+    let x = e.seat.was.session in
+    let y = e.seat.now.session in
+    let at : HasNoCall e.seat.old.core (number e.seat) x e.seat.was.place = is.seat.at in
+    let read : ReadsAtOnce e.world x y = elim g.0 [
       | inl k ↦
           let o = k.1 in
           let a = local_answer x o.asked o.text o.local_packet in
-          answered_at_once w v s m was c x y p q added h at o.body o.rest a.0 o.begins (subst (λ (z : Ask). AsksFor x.begun o.body z) (sym a.1) o.asks) (a.3 w)
-          (o.now ∙ ap (λ (b : List ℕ). record { unread = o.rest; output = x.output ++ b; begun = true; waiting = None; ended = None }) (sym a.2)) g.2 (g.3 ∙ sym at.place_is)
+          record {
+            body = o.body;
+            rest = o.rest;
+            answer = a.0;
+            begins = o.begins;
+            asks = subst (λ (z : Ask). AsksFor x.begun o.body z) (sym a.1) o.asks;
+            at_once = a.3 e.world;
+            now = o.now ∙ ap (λ (b : List ℕ). record { unread = o.rest; output = x.output ++ b; begun = true; waiting = None; ended = None }) (sym a.2);
+          }
       | inr k ↦
-          let request = k.0 in
           let mid = k.1 in
           let fault = k.2 in
           let o = k.3.1 in
-          let idle : lane_state v at.lane.session ≡ Idle = ap (λ (n : ℕ). lane_state v n) at.session ∙ at.slot in
+          let idle : lane_state e.seat.old.core at.lane.session ≡ Idle = ap (λ (n : ℕ). lane_state e.seat.old.core n) at.session ∙ at.slot in
           let wrote = subst (λ (z : Option ℕ). IfSome z (λ id. y ≡ record mid { output = mid.output ++ packet (reply_body id (refusal_of fault)); waiting = None })) (ap (λ (z : SessionView). z.waiting) o.now) k.5 in
-          let now : y ≡ record { unread = o.rest; output = x.output ++ packet (reply_body o.id (refusal_of fault)); begun = true; waiting = None; ended = None } =
-          wrote ∙ ap (λ (z : SessionView). record { unread = z.unread; output = z.output ++ packet (reply_body o.id (refusal_of fault)); begun = z.begun; waiting = None; ended = z.ended }) o.now in
-          answered_at_once w v s m was c x y p q added h at o.body o.rest (Refused o.id request fault) o.begins o.asks (once_refused w v at.lane o.id request fault drawn idle k.4)
-          now g.2 (g.3 ∙ sym at.place_is)
-    ])
-rest_turned w v v' s m t c x y p q happened.Begun added drawn h at g =
+          record {
+            body = o.body;
+            rest = o.rest;
+            answer = Refused o.id k.0 fault;
+            begins = o.begins;
+            asks = o.asks;
+            at_once = once_refused e.world e.seat.old.core at.lane o.id k.0 fault is.agrees.begun idle k.4;
+            now = wrote ∙ ap (λ (z : SessionView). record { unread = z.unread; output = z.output ++ packet (reply_body o.id (refusal_of fault)); begun = z.begun; waiting = None; ended = z.ended }) o.now;
+          }
+    ] in
+    answered_at_once e m is (record { core = g.1; place = g.3 ∙ sym at.place_is; closed = closed }) g.2 read
+rest_turned e m happened.Begun is closed g =
+    let v' = e.seat.core in
+    let t = e.told in
+    let w = e.world in
+    let q = e.seat.now in
+    let h = is.seat in
+    let at : HasNoCall e.seat.old.core (number e.seat) e.seat.was.session e.seat.was.place = h.at in
+    let drawn = is.agrees.begun in
     let request = g.0 in
     let o = g.1.1 in
     let b = g.2 in
     let lane' : LaneView = begun at.lane v'.drawn in
     let n = w.begun + 1 in
     let told : SessionState = record t { unread = o.rest; bodies = t.bodies ++ o.body ∷ []; phase = UnderWay o.id n m request 0 } in
-    let call = new_call (v.drawn + 1) at.lane.session m request in
-    let number : v.drawn + 1 ≡ n = ap (λ (k : ℕ). k + 1) drawn in
+    let call = new_call (e.seat.old.core.drawn + 1) at.lane.session m request in
+    let number_is : e.seat.old.core.drawn + 1 ≡ n = ap (λ (k : ℕ). k + 1) drawn in
     record {
       told = told;
       lead = (
@@ -173,55 +200,59 @@ rest_turned w v v' s m t c x y p q happened.Begun added drawn h at g =
         joins = b.joins;
         drawn = b.drawn;
         joined = ap (λ (k : ℕ). k + 1) b.joined;
-        others = λ i ne. inl (b.others i (λ e. ne (e ∙ at.session)));
+        others = λ i ne. inl (b.others i (λ k. ne (k ∙ at.session)));
       };
-      agrees = subst (λ (z : SessionView). SeatAgrees v' s told (seat z q c)) (sym o.now) (record {
+      agrees = subst (λ (z : SessionView). SeatAgrees v' (number e.seat) told (seat z q.place q.closed)) (sym o.now) (record {
         unread = refl;
         output = h.output;
         begun = sym (begun_push t.bodies o.body);
-        closed = h.closed;
+        closed = closed ∙ h.closed;
         at = record {
           lane = lane';
           call = call;
           session = at.session;
-          number_is = ap (λ (k : ℕ). Some k) (b.drawn ∙ number);
+          number_is = ap (λ (k : ℕ). Some k) (b.drawn ∙ number_is);
           place_is = g.4;
           slot = ap (λ (k : ℕ). lane_state v' k) (sym at.session) ∙ b.own;
-          own = (at.session, number, refl, refl);
+          own = (at.session, number_is, refl, refl);
           few = omega (arith, b.fresh.1);
-          walked = λ e. refl;
+          walked = λ k. refl;
           waiting = refl;
           ended = refl;
         };
       });
     }
-rest_turned w v v' s m t c x y p q (happened.Ended cause) added drawn h at g =
-    let was = with_phase t Resting in
+rest_turned e m (happened.Ended cause) is closed g =
+    let v' = e.seat.core in
+    let q = e.seat.now in
+    let h = is.seat in
+    let at : HasNoCall e.seat.old.core (number e.seat) e.seat.was.session e.seat.was.place = h.at in
+    let was = with_phase e.told Resting in
     let told = left_for was cause in
-    let left : Leaves v v' s = subst (λ (n : ℕ). Leaves v v' n) at.session g.1 in
+    let left : Leaves e.seat.old.core v' (number e.seat) = subst (λ (n : ℕ). Leaves e.seat.old.core v' n) at.session g.1 in
     elim g.0 [
-      | inl k ↦ absurd (let e : None ≡ Some cause = sym at.ended ∙ k.0 in cc)
+      | inl k ↦ absurd (let none : None ≡ Some cause = sym at.ended ∙ k.0 in cc)
       | inr k ↦ record {
         told = told;
         lead = (
-          subst (λ (b : Bool). EndsBy b was.unread cause) h.begun (subst (λ (b : List ℕ). EndsBy x.begun b cause) h.unread k.1),
+          subst (λ (b : Bool). EndsBy b was.unread cause) h.begun (subst (λ (b : List ℕ). EndsBy e.seat.was.session.begun b cause) h.unread k.1),
           g.2 ∙ ap (λ (n : ℕ). Left n ∷ []) at.session,
           refl,
         );
-        moves = moves_leaves v v' s was told left refl refl;
-        agrees = subst (λ (z : SessionView). SeatAgrees v' s told (seat z q c)) (sym k.2) (record {
+        moves = moves_leaves e.seat.old.core v' (number e.seat) was told left refl refl;
+        agrees = subst (λ (z : SessionView). SeatAgrees v' (number e.seat) told (seat z q.place q.closed)) (sym k.2) (record {
           unread = refl;
           output = h.output;
           begun = h.begun;
-          closed = h.closed;
-          at = (g.3, left.own, λ (e : Some cause ≡ None). cc);
+          closed = closed ∙ h.closed;
+          at = (g.3, left.own, λ (none : Some cause ≡ None). cc);
         });
       }
     ]
-rest_turned w v v' s m t c x y p q (happened.Opened n) added drawn h at g = absurd g
-rest_turned w v v' s m t c x y p q happened.Fed added drawn h at g = absurd g
-rest_turned w v v' s m t c x y p q happened.Moved added drawn h at g = absurd g
-rest_turned w v v' s m t c x y p q (happened.Blocked n) added drawn h at g = absurd g
-rest_turned w v v' s m t c x y p q happened.Decided added drawn h at g = absurd g
-rest_turned w v v' s m t c x y p q happened.Closed added drawn h at g = absurd g
-rest_turned w v v' s m t c x y p q happened.Sent added drawn h at g = absurd g
+rest_turned e m (happened.Opened n) is closed g = absurd g
+rest_turned e m happened.Fed is closed g = absurd g
+rest_turned e m happened.Moved is closed g = absurd g
+rest_turned e m (happened.Blocked n) is closed g = absurd g
+rest_turned e m happened.Decided is closed g = absurd g
+rest_turned e m happened.Closed is closed g = absurd g
+rest_turned e m happened.Sent is closed g = absurd g

@@ -223,27 +223,37 @@ pub record HasStepped (e : EngineView) (w : World) (at : ℕ) (r : Result Happen
   pub others : (i : ℕ) → (i ≡ at → ⊥) → slice_get fits.world.sessions i ≡ slice_get w.sessions i
   pub does : StepDoes e.core (at + 1) e'.core
 
-stepped : (e e' : EngineView) (at : ℕ) (r : Result Happened EngineFault) (trace : List TraceEntry) (fits : Fits e trace) (t : SessionState) → slice_get fits.world.sessions at ≡ Some t → is_unanswered t.phase ≡ true
-    → GoesOnTrace e (event.Turn (at + 1) 0) r e' → HasStepped e fits.world at r e'
-stepped e e' at (Ok h) trace fits t told under turn =
-    let o = turn trace fits in
+-- a session whose call is under way by a trace that the engine fits
+record ToldUnderWay (e : EngineView) (at : ℕ) : Type 0 where
+  trace : List TraceEntry
+  fits : Fits e trace
+  told : SessionState
+  is_told : slice_get fits.world.sessions at ≡ Some told
+  under_way : is_unanswered told.phase ≡ true
+
+stepped : (e e' : EngineView) (at : ℕ) (r : Result Happened EngineFault) → (u : ToldUnderWay e at) → GoesOnTrace e (event.Turn (at + 1) 0) r e' → HasStepped e u.fits.world at r e'
+stepped e e' at (Ok h) u turn =
+    let fits = u.fits in
+    let t = u.told in
+    let o = turn u.trace fits in
     let l = o.2 in
     let num : at + 1 - 1 ≡ at = omega arith in
-    let same : t ≡ l.0 = let one : Some t ≡ Some l.0 = sym told ∙ sym (ap (λ (n : ℕ). slice_get fits.world.sessions n) num) ∙ l.2.1 in cc in
-    let still = sym (ap (λ (z : SessionState). is_unanswered z.phase) same) ∙ under in
+    let same : t ≡ l.0 = let one : Some t ≡ Some l.0 = sym u.is_told ∙ sym (ap (λ (n : ℕ). slice_get fits.world.sessions n) num) ∙ l.2.1 in cc in
+    let still = sym (ap (λ (z : SessionState). is_unanswered z.phase) same) ∙ u.under_way in
     record {
       happened = h;
       is = refl;
-      trace = trace ++ trace_entry (event.Turn (at + 1) 0) (Ok h) o.0 ∷ [];
+      trace = u.trace ++ trace_entry (event.Turn (at + 1) 0) (Ok h) o.0 ∷ [];
       fits = o.1;
       count = ap (λ (z : World). length z.sessions) l.4 ∙ length-set fits.world.sessions (at + 1 - 1) l.1;
       others = λ i ne. ap (λ (z : World). slice_get z.sessions i) l.4 ∙ get_set_other fits.world.sessions (at + 1 - 1) i l.1 (λ e. ne (e ∙ num));
       does = phase_does (record { world = fits.world; session = at + 1; told = l.0; added = o.0; now = l.1 }) l.0.phase (at + 1) 0 (passage e fits.world.records o.0 e') h still l.3 o.3;
     }
-stepped e e' at (Err f) trace fits t told under turn =
-    let o = turn trace fits in
+stepped e e' at (Err f) u turn =
+    let fits = u.fits in
+    let o = turn u.trace fits in
     let num : at + 1 - 1 ≡ at = omega arith in
-    absurd (never_refused fits.world (at + 1) 0 t (omega arith, ap (λ (n : ℕ). slice_get fits.world.sessions n) num ∙ told) under f o.2.0)
+    absurd (never_refused fits.world (at + 1) 0 u.told (omega arith, ap (λ (n : ℕ). slice_get fits.world.sessions n) num ∙ u.is_told) u.under_way f o.2.0)
 
 -- ---- part of a round
 -- the steps of sessions up to a number were all blocked, and no lane state is another
@@ -370,16 +380,21 @@ work_on e at e' e'' within (inr less) (inr falls) =
     let more = falls (length e.seats + 1) (omega (arith, within)) in
     inr (omega (arith, less, more))
 
-pub round_steps : (e : EngineView) (at : ℕ) (any : Bool) (e' : EngineView) → RoundSoFar e at any e' → (p : Seat) → slice_get e'.seats at ≡ Some p → is_under_way p.place ≡ true
-    → (r : Result Happened EngineFault) (e'' : EngineView) → GoesOnTrace e' (event.Turn (at + 1) 0) r e'' → RoundSoFar e (at + 1) true e''
-round_steps e at any e' k p was goes r e'' turn =
-    let o = still e at any e' k p was in
+-- a seat whose call is under way
+pub record SeatUnderWay (e : EngineView) (at : ℕ) : Type 0 where
+  pub seat : Seat
+  pub stands : slice_get e.seats at ≡ Some seat
+  pub under_way : is_under_way seat.place ≡ true
+
+pub round_steps : (e : EngineView) (at : ℕ) (any : Bool) (e' : EngineView) → RoundSoFar e at any e' → SeatUnderWay e' at → (r : Result Happened EngineFault) (e'' : EngineView) → GoesOnTrace e' (event.Turn (at + 1) 0) r e'' → RoundSoFar e (at + 1) true e''
+round_steps e at any e' k p r e'' turn =
+    let o = still e at any e' k p.seat p.stands in
     let here = slice_get_within e.seats at o.was o.here in
-    let now : is_under_way o.was.place ≡ true = o.same ∙ goes in
+    let now : is_under_way o.was.place ≡ true = o.same ∙ p.under_way in
     let list : seats_from 1 (take (at + 1) e.seats) ≡ seats_from 1 (take at e.seats) ++ (at + 1) ∷ [] =
     seats_more e.seats at o.was o.here
     ∙ ap (λ (b : Bool). seats_from 1 (take at e.seats) ++ (if b then (at + 1) ∷ [] else [])) now in
-    let d = stepped e' e'' at r k.further k.now o.told o.now (o.phase ∙ goes) turn in
+    let d = stepped e' e'' at r (record { trace = k.further; fits = k.now; told = o.told; is_told = o.now; under_way = o.phase ∙ p.under_way }) turn in
     record {
       trace = k.trace;
       first = k.first;

@@ -7,14 +7,13 @@ use Rattle.sf_core.specs.Cores.{CoreView, lane_state}
 use Rattle.sf_core.specs.Histories.{IsHistory}
 use Rattle.sf_engine.specs.declared.seat.Seat.{Seat}
 use Rattle.sf_engine.specs.declared.seat.SeatState.{SeatState}
-use Rattle.sf_engine.specs.declared.seat.SeatState.TheVariants as state
 use Rattle.sf_engine.specs.declared.event.Event.{Event}
 use Rattle.sf_engine.specs.declared.event.Event.TheVariants as event
 use Rattle.sf_engine.specs.declared.event.Happened.{Happened}
 use Rattle.sf_engine.specs.declared.event.Happened.TheVariants as happened
 use Rattle.sf_engine.specs.declared.event.EngineFault.{EngineFault}
 use Rattle.sf_engine.specs.declared.event.EngineFault.TheVariants as fault
-use Rattle.sf_engine.specs.Worlds.{Phase, Resting, UnderWay, Decided, Gone, SessionState, World, with_state, with_phase}
+use Rattle.sf_engine.specs.Worlds.{Phase, Resting, UnderWay, Decided, Gone, SessionState, World, with_state}
 use Rattle.sf_engine.specs.Traces.{TurnLeads, walking, calls_begun, IsSession, IsNoSession, MayRefuse, MayWantMemory, closed_now}
 use Rattle.sf_engine.specs.Turns.{AddsRecords, part, new_part, PlaceGives, CloseGives, IsSeatState, MayRefuseTurn}
 use Rattle.sf_engine.specs.Works.{Passage, IsStep, IsWork}
@@ -22,43 +21,34 @@ use Rattle.sf_engine.specs.Views.{EngineView}
 use Rattle.sf_engine.specs.Fits.{HasNoCall, IsGoing, HasAnswer, PlaceAgrees, SeatAgrees, Agrees, passage, reply_due}
 use Rattle.sf_engine.proofs.Tracing.{Steps}
 use Rattle.sf_engine.proofs.Working.{same_work, turn_works, close_same}
-use Rattle.sf_engine.proofs.Moving.{get_within, set_same, keeps_agrees}
-use Rattle.sf_engine.proofs.Resting.{Turned, seat, rest_turned}
+use Rattle.sf_engine.proofs.Seats.{SeatChange, SeatEvent, IsTold, engine, number, changed, in_phase, turn_to, part_of, left_by}
+use Rattle.sf_engine.proofs.Moving.{Turned, get_within, set_same, keeps_agrees}
+use Rattle.sf_engine.proofs.Resting.{rest_turned, unchanged_turned}
 use Rattle.sf_engine.proofs.TurnsUnderWay.{step_turned}
-use Rattle.sf_engine.proofs.Writing.{write_turned, gone_turned, close_turned}
-
--- an engine of a core and its seats
-abbrev pub engine : CoreView → List Seat → EngineView
-engine v seats = record { core = v; seats = seats }
+use Rattle.sf_engine.proofs.Writing.{CloseLeads, write_turned, close_turned}
 
 -- a turn of a session, by how far it is
-phase_turned : (w : World) (v v' : CoreView) (seats : List Seat) (s m : ℕ) (t : SessionState) (c : Bool) (f : Phase) (x y : SessionView) (p q : SeatState) (r : Happened) (h added : List Record)
-    → Agrees w (engine v seats) → h ≡ w.records → SeatAgrees v s (with_phase t f) (seat x p c)
-    → PlaceGives (part v h x c) p m r (new_part v' added y q)
-    → Turned v v' s (with_phase t f) (calls_begun r) (seat y q c) (λ t'. TurnLeads m (record { world = w; session = s; told = (with_phase t f); added = added; now = t' }) f r)
-phase_turned w v v' seats s m t c Resting x y p q r h added agrees hist old g =
-    let at : HasNoCall v s x p = old.at in
-    rest_turned w v v' s m t c x y p q r added agrees.begun old at (subst (λ (z : SeatState). PlaceGives (part v h x c) z m r (new_part v' added y q)) at.place_is g)
-phase_turned w v v' seats s m t c (UnderWay id n k request moves) x y p q r h added agrees hist old g =
-    let at : IsGoing v s x (walking id n k request moves) p = old.at in
-    let g' = subst (λ (z : SeatState). PlaceGives (part v h x c) z m r (new_part v' added y q)) at.place_is g in
-    let was = with_phase t (UnderWay id n k request moves) in
-    let P : SessionView → Type 0 = λ z. Turned v v' s was (calls_begun r) (seat z q c) (λ t'. TurnLeads m (record { world = w; session = s; told = was; added = added; now = t' }) (UnderWay id n k request moves) r) in
-    subst P (sym g'.1) (step_turned w v v' seats s was c x p q id n k request moves r h added agrees hist old at g'.0.0 g'.0.1)
-phase_turned w v v' seats s m t c (Decided id n request given) x y p q r h added agrees hist old g =
-    let at : HasAnswer v s x (reply_due id given) p = old.at in
-    let was = with_phase t (Decided id n request given) in
-    let old' : SeatAgrees v s was (seat x p t.closed) = subst (λ (b : Bool). SeatAgrees v s was (seat x p b)) old.closed old in
-    let g' = subst (λ (b : Bool). PlaceGives (part v h x b) (state.Answered at.lane at.answer) m r (new_part v' added y q)) old.closed (subst (λ (z : SeatState). PlaceGives (part v h x c) z m r (new_part v' added y q)) at.place_is g) in
-    let o = write_turned w v v' s m was was.closed x y p q id n request given r added old' at g'.0 g'.1 in
-    let P : Bool → Type 0 = λ b. Turned v v' s was (calls_begun r) (seat y q b) (λ t'. TurnLeads m (record { world = w; session = s; told = was; added = added; now = t' }) (Decided id n request given) r) in
-    let Q : ℕ → Type 0 = λ k. Turned v v' s was k (seat y q t.closed) (λ t'. TurnLeads m (record { world = w; session = s; told = was; added = added; now = t' }) (Decided id n request given) r) in
-    subst P (sym old.closed) (subst Q (ap calls_begun (sym g'.0)) o)
-phase_turned w v v' seats s m t c (Gone cause) x y p q r h added agrees hist old g =
-    let g' = subst (λ (z : SeatState). PlaceGives (part v h x c) z m r (new_part v' added y q)) old.at.0 g in
-    let was = with_phase t (Gone cause) in
-    let Q : ℕ → Type 0 = λ k. Turned v v' s was k (seat y q c) (λ t'. TurnLeads m (record { world = w; session = s; told = was; added = added; now = t' }) (Gone cause) r) in
-    subst Q (ap calls_begun (sym g'.0)) (gone_turned w v v' s m was x y p q c cause r added old old.at.0 g'.0 g'.1 g'.2 g'.3 g'.4)
+phase_turned : (e : SeatEvent) (f : Phase) (m : ℕ) (r : Happened) → IsTold (in_phase e f) → e.seat.now.closed ≡ e.seat.was.closed → PlaceGives (part_of e) e.seat.was.place m r (left_by e)
+    → Turned (in_phase e f) (calls_begun r) (λ t'. TurnLeads m (turn_to (in_phase e f) t') f r)
+phase_turned e Resting m r is closed g =
+    let at : HasNoCall e.seat.old.core (number e.seat) e.seat.was.session e.seat.was.place = is.seat.at in
+    rest_turned e m r is closed (subst (λ (z : SeatState). PlaceGives (part_of e) z m r (left_by e)) at.place_is g)
+phase_turned e (UnderWay id n k request moves) m r is closed g =
+    let at : IsGoing e.seat.old.core (number e.seat) e.seat.was.session (walking id n k request moves) e.seat.was.place = is.seat.at in
+    let g' = subst (λ (z : SeatState). PlaceGives (part_of e) z m r (left_by e)) at.place_is g in
+    step_turned e (walking id n k request moves) r is (record { session = g'.1; closed = closed }) g'.0.0 g'.0.1
+phase_turned e (Decided id n request given) m r is closed g =
+    let at : HasAnswer e.seat.old.core (number e.seat) e.seat.was.session (reply_due id given) e.seat.was.place = is.seat.at in
+    let g' = subst (λ (z : SeatState). PlaceGives (part_of e) z m r (left_by e)) at.place_is g in
+    let f = Decided id n request given in
+    let P : Happened → Type 0 = λ z. Turned (in_phase e f) (calls_begun z) (λ t'. TurnLeads m (turn_to (in_phase e f) t') f z) in
+    subst P (sym g'.0) (write_turned e m (record { id = id; number = n; request = request; reply = given }) is closed g'.1)
+phase_turned e (Gone cause) m r is closed g =
+    let g' = subst (λ (z : SeatState). PlaceGives (part_of e) z m r (left_by e)) is.seat.at.0 g in
+    let f = Gone cause in
+    let P : Happened → Type 0 = λ z. Turned (in_phase e f) (calls_begun z) (λ t'. TurnLeads m (turn_to (in_phase e f) t') f z) in
+    subst P (sym g'.0) (unchanged_turned (in_phase e f) (λ t'. TurnLeads m (turn_to (in_phase e f) t') f (happened.Ended cause)) is.seat
+    (record { core = g'.1; place = g'.4 ∙ sym is.seat.at.0; closed = closed }) g'.3 (refl, g'.2, refl))
 
 -- what is told of a seat's session
 pub told_at : (w : World) (v : CoreView) (seats : List Seat) (at : ℕ) (p : Seat) → Agrees w (engine v seats) → slice_get seats at ≡ Some p → (t : SessionState) × (slice_get w.sessions at ≡ Some t) × IsSession w (at + 1) t × SeatAgrees v (at + 1) t p
@@ -67,23 +57,38 @@ told_at w v seats at p agrees was =
     let num : at + 1 - 1 ≡ at = omega arith in
     (t.0, t.1, (omega arith, ap (λ (n : ℕ). slice_get w.sessions n) num ∙ t.1), agrees.each at t.0 p t.1 was)
 
+-- an event on a seat, in a world that the engine agrees with
+pub told_of : (s : SeatChange) (w : World) (added : List Record) → Agrees w s.old → (t : SessionState) × IsTold (record { world = w; told = t; seat = s; added = added })
+told_of s w added agrees =
+    let t = told_at w s.old.core s.old.seats s.at s.was agrees s.stood in
+    (t.0, record { agrees = agrees; told = t.1; session = t.2; seat = t.3 })
+
+-- the number of the session, as it is told
+pub by_number : (s : SeatChange) (ev : ℕ → Event) (r : Result Happened EngineFault) (w : World) → Steps s.old (ev (number s)) r (changed s) w → Steps s.old (ev s.session) r (changed s) w
+by_number s ev r w steps = subst (λ (k : ℕ). Steps s.old (ev k) r (changed s) w) s.number steps
+
+-- what a turn of a seat gives: records are added, or nothing changes
+pub record TurnsSeat (s : SeatChange) (m : ℕ) (r : Result Happened EngineFault) : Type 0 where
+  pub ok : IfOk r (λ k. AddsRecords s.old.core s.core (λ h added.
+      PlaceGives (part s.old.core h s.was.session s.was.closed) s.was.place m k
+      (new_part s.core added s.now.session s.now.place) × (s.now.closed ≡ s.was.closed)))
+  pub err : OnErr r ((s.core ≡ s.old.core) × (s.now ≡ s.was))
+  pub fault : IfErr r (λ f. (f ≡ fault.OutOfMemory) × MayRefuseTurn s.was.place)
+
 -- a turn that was not refused
-turn_steps : (v v' : CoreView) (seats : List Seat) (at m : ℕ) (p q : Seat) (r : Happened) → slice_get seats at ≡ Some p
-    → AddsRecords v v' (λ h added. PlaceGives (part v h p.session p.closed) p.place m r (new_part v' added q.session q.place) × (q.closed ≡ p.closed))
-    → (w : World) → Agrees w (engine v seats) → Steps (engine v seats) (event.Turn (at + 1) m) (Ok r) (engine v' (slice_set seats at q)) w
-turn_steps v v' seats at m p q r was gives w agrees =
-    let t = told_at w v seats at p agrees was in
-    let g = gives w.records agrees.history in
-    let does = turn_works (part v w.records p.session p.closed) p.place (at + 1) m t.0.phase r (new_part v' g.0 q.session q.place) t.3.at g.2.0 in
-    let T : Seat → Type 0 = λ z. Turned v v' (at + 1) t.0 (calls_begun r) z (λ t'. TurnLeads m (record { world = w; session = (at + 1); told = t.0; added = g.0; now = t' }) t.0.phase r) in
-    let same : seat q.session q.place p.closed ≡ q = ap (λ (b : Bool). seat q.session q.place b) (sym g.2.1) in
-    let o : T q = subst T same (phase_turned w v v' seats (at + 1) m t.0 p.closed t.0.phase p.session q.session p.place q.place r w.records g.0 agrees refl t.3 g.2.0) in
+turn_steps : (s : SeatChange) (m : ℕ) (r : Happened) → TurnsSeat s m (Ok r) → (w : World) → Agrees w s.old → Steps s.old (event.Turn (number s) m) (Ok r) (changed s) w
+turn_steps s m r gives w agrees =
+    let g = gives.ok w.records agrees.history in
+    let t = told_of s w g.0 agrees in
+    let e : SeatEvent = record { world = w; told = t.0; seat = s; added = g.0 } in
+    let does = turn_works (part_of e) s.was.place (number s) m t.0.phase r (left_by e) t.1.seat.at g.2.0 in
+    let o : Turned e (calls_begun r) (λ t'. TurnLeads m (turn_to e t') t.0.phase r) = phase_turned e t.0.phase m r t.1 g.2.1 g.2.0 in
     record {
       added = g.0;
-      after = with_state w (at + 1) o.told g.0 (calls_begun r);
-      leads = (t.0, o.told, t.2, o.lead, refl);
+      after = with_state w (number s) o.told g.0 (calls_begun r);
+      leads = (t.0, o.told, t.1.session, o.lead, refl);
       records = refl;
-      agrees = keeps_agrees w v v' seats at g.0 (calls_begun r) p q t.0 o.told agrees t.1 was g.1 o.moves o.agrees;
+      agrees = keeps_agrees e t.1 g.1 o;
       step = does.step;
       work = does.work;
     }
@@ -118,21 +123,23 @@ wants_memory v s x (Decided id n q given) p h may = tt
 wants_memory v s x (Gone cause) p h may = subst MayRefuseTurn h.0 may
 
 -- a seat that is written as it was
-pub same_engine : (v v' : CoreView) (seats : List Seat) (at : ℕ) (p q : Seat) → slice_get seats at ≡ Some p → v' ≡ v → q ≡ p → engine v' (slice_set seats at q) ≡ engine v seats
-same_engine v v' seats at p q was vis qis =
-    ap (λ (z : CoreView). engine z (slice_set seats at q)) vis ∙ ap (λ (z : List Seat). engine v z) (ap (λ (b : Seat). slice_set seats at b) qis ∙ set_same seats at p was)
+pub same_engine : (s : SeatChange) → s.core ≡ s.old.core → s.now ≡ s.was → changed s ≡ s.old
+same_engine s core now =
+    ap (λ (z : CoreView). engine z (slice_set s.old.seats s.at s.now)) core ∙ ap (λ (z : List Seat). engine s.old.core z) (ap (λ (b : Seat). slice_set s.old.seats s.at b) now ∙ set_same s.old.seats s.at s.was s.stood)
+
+-- a refused event on a seat
+pub refused_seat : (s : SeatChange) (ev : Event) (f : EngineFault) → s.core ≡ s.old.core → s.now ≡ s.was → (w : World) → Agrees w s.old → MayRefuse w ev f → Steps s.old ev (Err f) (changed s) w
+refused_seat s ev f core now w agrees may = subst (λ (e : EngineView). Steps s.old ev (Err f) e w) (sym (same_engine s core now)) (refused_steps s.old ev f w agrees may)
 
 -- a turn, whatever came of it
-pub any_turn_steps : (v v' : CoreView) (seats : List Seat) (at s m : ℕ) (p q : Seat) (r : Result Happened EngineFault) → at + 1 ≡ s → slice_get seats at ≡ Some p
-    → IfOk r (λ k. AddsRecords v v' (λ h added. PlaceGives (part v h p.session p.closed) p.place m k (new_part v' added q.session q.place) × (q.closed ≡ p.closed))) → OnErr r ((v' ≡ v) × (q ≡ p)) → IfErr r (λ f. (f ≡ fault.OutOfMemory) × MayRefuseTurn p.place)
-    → (w : World) → Agrees w (engine v seats) → Steps (engine v seats) (event.Turn s m) r (engine v' (slice_set seats at q)) w
-any_turn_steps v v' seats at s m p q (Ok r) num was ok err why w agrees =
-    subst (λ (k : ℕ). Steps (engine v seats) (event.Turn k m) (Ok r) (engine v' (slice_set seats at q)) w) num (turn_steps v v' seats at m p q r was ok w agrees)
-any_turn_steps v v' seats at s m p q (Err f) num was ok err why w agrees =
-    let t = told_at w v seats at p agrees was in
-    let P : EngineView → Type 0 = λ e. Steps (engine v seats) (event.Turn s m) (Err f) e w in
-    let may : MayRefuse w (event.Turn s m) fault.OutOfMemory = (t.0, subst (λ (k : ℕ). IsSession w k t.0) num t.2, wants_memory v (at + 1) p.session t.0.phase p.place t.3.at why.1) in
-    subst P (sym (same_engine v v' seats at p q was err.0 err.1)) (refused_steps (engine v seats) (event.Turn s m) f w agrees (subst (λ (g : EngineFault). MayRefuse w (event.Turn s m) g) (sym why.0) may))
+pub any_turn_steps : (s : SeatChange) (m : ℕ) (r : Result Happened EngineFault) → TurnsSeat s m r → (w : World) → Agrees w s.old → Steps s.old (event.Turn s.session m) r (changed s) w
+any_turn_steps s m (Ok r) gives w agrees = by_number s (λ k. event.Turn k m) (Ok r) w (turn_steps s m r gives w agrees)
+any_turn_steps s m (Err f) gives w agrees =
+    let t = told_of s w [] agrees in
+    let why = gives.fault in
+    let may : MayRefuse w (event.Turn (number s) m) fault.OutOfMemory = (t.0, t.1.session, wants_memory s.old.core (number s) s.was.session t.0.phase s.was.place t.1.seat.at why.1) in
+    by_number s (λ k. event.Turn k m) (Err f) w
+    (refused_seat s (event.Turn (number s) m) f gives.err.0 gives.err.1 w agrees (subst (λ (g : EngineFault). MayRefuse w (event.Turn (number s) m) g) (sym why.0) may))
 
 is_some_by : (o : Option ℕ) (n : ℕ) → o ≡ Some n → IsSome o
 is_some_by o n e = subst IsSome (sym e) refl
@@ -151,22 +158,24 @@ is_placed w v seats at p agrees was =
         (a.idle, ap (λ (k : ℕ). lane_state v k) a.session ∙ a.slot, is_some_by x.waiting id a.waiting)
     placed w v s x (Gone cause) o h a = subst (λ (z : SeatState). IsSeatState v x z) (sym a.0) tt
 
+-- what closing a seat gives
+abbrev pub ClosesSeat : SeatChange → Type 0
+ClosesSeat s = AddsRecords s.old.core s.core (λ h added. (goes_on : Bool) × CloseGives s.old.core s.was.session s.was.place (new_part s.core added s.now.session s.now.place) goes_on × (s.now.closed ≡ (s.was.closed || goes_on)))
+
 -- closing
-pub close_steps : (v v' : CoreView) (seats : List Seat) (at s : ℕ) (p q : Seat) → at + 1 ≡ s → slice_get seats at ≡ Some p
-    → AddsRecords v v' (λ h added. (goes_on : Bool) × CloseGives v p.session p.place (new_part v' added q.session q.place) goes_on × (q.closed ≡ (p.closed || goes_on)))
-    → (w : World) → Agrees w (engine v seats) → Steps (engine v seats) (event.Close s) (Ok happened.Closed) (engine v' (slice_set seats at q)) w
-close_steps v v' seats at s p q num was gives w agrees =
-    let t = told_at w v seats at p agrees was in
+pub close_steps : (s : SeatChange) → ClosesSeat s → (w : World) → Agrees w s.old → Steps s.old (event.Close s.session) (Ok happened.Closed) (changed s) w
+close_steps s gives w agrees =
     let g = gives w.records agrees.history in
-    let o = close_turned v v' (at + 1) t.0 p.closed q.closed g.2.0 t.0.phase p.session q.session p.place q.place g.0 t.3 g.2.1 g.2.2 in
-    let T : SessionState → Type 0 = λ z. Agrees (with_state w (at + 1) z g.0 0) (engine v' (slice_set seats at q)) in
-    let steps : Steps (engine v seats) (event.Close (at + 1)) (Ok happened.Closed) (engine v' (slice_set seats at q)) w = record {
+    let t = told_of s w g.0 agrees in
+    let e : SeatEvent = record { world = w; told = t.0; seat = s; added = g.0 } in
+    let o : Turned e 0 (λ t'. CloseLeads t.0 t.0.phase (number s) g.0 t') = close_turned e t.0.phase g.2.0 t.1 g.2.1 g.2.2 in
+    let T : SessionState → Type 0 = λ z. Agrees (with_state w (number s) z g.0 0) (changed s) in
+    by_number s (λ k. event.Close k) (Ok happened.Closed) w (record {
       added = g.0;
-      after = with_state w (at + 1) (closed_now t.0 t.0.phase) g.0 0;
-      leads = (refl, (t.0, t.2, o.lead.0, refl));
+      after = with_state w (number s) (closed_now t.0 t.0.phase) g.0 0;
+      leads = (refl, (t.0, t.1.session, o.lead.0, refl));
       records = refl;
-      agrees = subst T o.lead.1 (keeps_agrees w v v' seats at g.0 0 p q t.0 o.told agrees t.1 was g.1 o.moves o.agrees);
+      agrees = subst T o.lead.1 (keeps_agrees e t.1 g.1 o);
       step = tt;
-      work = close_same v p.session p.place (new_part v' g.0 q.session q.place) g.2.0 g.2.1;
-    } in
-    subst (λ (k : ℕ). Steps (engine v seats) (event.Close k) (Ok happened.Closed) (engine v' (slice_set seats at q)) w) num steps
+      work = close_same s.old.core s.was.session s.was.place (left_by e) g.2.0 g.2.1;
+    })

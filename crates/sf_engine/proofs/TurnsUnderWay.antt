@@ -1,5 +1,5 @@
 -- A turn of a session whose call is under way.
-use Rattle.std.proofs.Common.{◌≡◌, ◌≢◌, ℕ, zero, suc, ◌+◌, ◌-◌, ◌<◌, ◌≤◌, ◌⊎◌, List, [], ◌∷◌, ◌++◌, Some, None, Bool, true, false, slice_get, length, refl, ap, sym, ◌∙◌, subst, arith, inl, inr}
+use Rattle.std.proofs.Common.{◌≡◌, ◌≢◌, ℕ, zero, suc, ◌+◌, ◌-◌, ◌<◌, ◌≤◌, ◌⊎◌, List, [], ◌∷◌, ◌++◌, Some, None, true, false, slice_get, length, refl, ap, sym, ◌∙◌, subst, arith, inl, inr}
 use Rattle.std.specs.List.{AllByRecursion}
 use Rattle.std.specs.List.Sorted.{IsStrictlySortedBy}
 use Rattle.std.specs.Ordering.{nat_cmp}
@@ -29,14 +29,14 @@ use Rattle.sf_engine.specs.declared.seat.SeatState.TheVariants as state
 use Rattle.sf_engine.specs.declared.event.Happened.{Happened}
 use Rattle.sf_engine.specs.declared.event.Happened.TheVariants as happened
 use Rattle.sf_engine.specs.Worlds.{Phase, Resting, UnderWay, Decided, Gone, SessionState, World, with_phase}
-use Rattle.sf_engine.specs.Traces.{IsCallUnderWay, IsOthersCall, IsHelpedRecord, MoveAdds, DecidesCall, StepLeads, walking, calls_begun, other_call}
+use Rattle.sf_engine.specs.Traces.{IsCallUnderWay, IsOthersCall, IsHelpedRecord, MoveAdds, DecidesCall, StepLeads, Walking, calls_begun, other_call}
 use Rattle.sf_engine.specs.Turns.{StepGives, before, after_turn}
-use Rattle.sf_engine.specs.Deciding.{WalkHasStopped, WalkStops, AreSure}
+use Rattle.sf_engine.specs.Deciding.{WalkHasStopped, WalkStops}
 use Rattle.sf_engine.specs.Fits.{IsStillWalking, HasMoved, IsGoing, PlaceAgrees, SeatAgrees, Agrees}
 use Rattle.sf_engine.proofs.MovesBy.{MovesBy, moves_by}
-use Rattle.sf_engine.proofs.Moving.{Moves, OtherStays, get_within}
+use Rattle.sf_engine.proofs.Seats.{SeatEvent, IsTold, KeepsSession, seat, number, in_phase, turn_to, under_way_as}
+use Rattle.sf_engine.proofs.Moving.{Moves, Turned, OtherStays, get_within}
 use Rattle.sf_engine.proofs.Deciding.{moved_on, stops, step_sure}
-use Rattle.sf_engine.proofs.Resting.{Turned, seat}
 
 -- whose call the core has, its call is under way by the trace too
 under_way : (v : CoreView) (s : ℕ) (x : SessionView) (f : Phase) (p : SeatState) (c : Call) → lane_state v s ≡ Busy c → PlaceAgrees v s x f p → IsCallUnderWay f c.number c.moment c.request
@@ -85,45 +85,55 @@ are_helped : (w : World) (v : CoreView) (seats : List Seat) (s : ℕ) (rs : List
 are_helped w v seats s [] agrees h = tt
 are_helped w v seats s (r ∷ rs) agrees h = (helped_one w v seats s r agrees h.0, are_helped w v seats s rs agrees h.1)
 
+-- the record of a call that is under way as is told, with this reply
+abbrev pub own_did : ℕ → Walking → Reply → Record
+own_did s k given = Did k.number s k.moment k.request given
+
 -- the record of the session's call, by what is told of it
-own_record : (v : CoreView) (s : ℕ) (x : SessionView) (id n m : ℕ) (q : Request) (moves : ℕ) (p : SeatState) (c : Call) (given : Reply) → IsGoing v s x (walking id n m q moves) p → lane_state v s ≡ Busy c → did c given ≡ Did n s m q given
-own_record v s x id n m q moves p c given at here =
+own_record : (v : CoreView) (s : ℕ) (x : SessionView) (k : Walking) (p : SeatState) (c : Call) (given : Reply) → IsGoing v s x k p → lane_state v s ≡ Busy c → did c given ≡ own_did s k given
+own_record v s x k p c given at here =
     let own : at.call ≡ c = let w : Busy at.call ≡ Busy c = sym at.slot ∙ here in cc in
     ap (λ (y : Call). did y given) (sym own)
-    ∙ ap (λ (k : ℕ). Did k at.call.session at.call.moment at.call.request given) at.own.1
-    ∙ ap (λ (k : ℕ). Did n k at.call.moment at.call.request given) at.own.0
-    ∙ ap (λ (k : ℕ). Did n s k at.call.request given) at.own.2
-    ∙ ap (λ (k : Request). Did n s m k given) at.own.3
+    ∙ ap (λ (n : ℕ). Did n at.call.session at.call.moment at.call.request given) at.own.1
+    ∙ ap (λ (n : ℕ). Did k.number n at.call.moment at.call.request given) at.own.0
+    ∙ ap (λ (n : ℕ). Did k.number s n at.call.request given) at.own.2
+    ∙ ap (λ (q : Request). Did k.number s k.moment q given) at.own.3
+
+-- a session of the event whose call is under way as is told
+abbrev pub Goes : SeatEvent → Walking → Type 0
+Goes e k = IsGoing e.seat.old.core (number e.seat) e.seat.was.session k e.seat.was.place
 
 -- a call that decides has stopped
-has_stopped : (w : World) (v : CoreView) (s : ℕ) (x : SessionView) (id n m : ℕ) (q : Request) (moves : ℕ) (p : SeatState) (c : Call) (given : Reply) → IsGoing v s x (walking id n m q moves) p → lane_state v s ≡ Busy c
-    → did c given ≡ Did n s m q given → IsPosition (route_of c.request) c.stage → MayDecide (replay w.records) c.request c.stage → waiting_reply c ≡ None → WalkHasStopped (replay w.records) moves (Did n s m q given)
-has_stopped w v s x id n m q moves p c given at here is position way undecided =
+has_stopped : (e : SeatEvent) (k : Walking) (c : Call) (given : Reply) → Goes e k → lane_state e.seat.old.core (number e.seat) ≡ Busy c
+    → IsPosition (route_of c.request) c.stage → MayDecide (replay e.world.records) c.request c.stage → waiting_reply c ≡ None → WalkHasStopped (replay e.world.records) k.moves (own_did (number e.seat) k given)
+has_stopped e k c given at here position way undecided =
+    let tree = replay e.world.records in
     let own : at.call ≡ c = let z : Busy at.call ≡ Busy c = sym at.slot ∙ here in cc in
-    let moved : HasMoved c.stage moves = subst (λ (y : Call). HasMoved y.stage moves) own (at.walked (inl (ap waiting_reply own ∙ undecided))) in
-    subst (λ (r : Record). WalkHasStopped (replay w.records) moves r) is (stops (replay w.records) (route_of c.request) c.stage moves position moved way)
+    let moved : HasMoved c.stage k.moves = subst (λ (y : Call). HasMoved y.stage k.moves) own (at.walked (inl (ap waiting_reply own ∙ undecided))) in
+    subst (λ (r : Record). WalkHasStopped tree k.moves r) (own_record e.seat.old.core (number e.seat) e.seat.was.session k e.seat.was.place c given at here) (stops tree (route_of c.request) c.stage k.moves position moved way)
 
 -- the session's call was decided, and its answer waits
-decided_now : (w : World) (v v' : CoreView) (s : ℕ) (t : SessionState) (c : Bool) (x : SessionView) (p q : SeatState) (id n m : ℕ) (request : Request) (moves : ℕ)
-    (a : Answer) (added : List Record)
-    → SeatAgrees v s (with_phase t (UnderWay id n m request moves)) (seat x p c) → (at : IsGoing v s x (walking id n m request moves) p)
-    → Moves v v' s (with_phase t (UnderWay id n m request moves)) (with_phase t (Decided id n request a.reply)) 0
-    → lane_state v' s ≡ Idle → q ≡ state.Answered (at_rest at.lane) a
-    → DecidesCall w s moves (Did n s m request a.reply) added
-    → Turned v v' s (with_phase t (UnderWay id n m request moves)) 0 (seat x q c)
-    (λ t'. StepLeads (record { world = w; session = s; told = (with_phase t (UnderWay id n m request moves)); added = added; now = t' }) (walking id n m request moves) happened.Decided)
-decided_now w v v' s t c x p q id n m request moves a added h at moved idle qis decides = record {
-  told = with_phase t (Decided id n request a.reply);
-  lead = (a.reply, decides, refl);
-  moves = moved;
-  agrees = record {
-    unread = h.unread;
-    output = h.output;
-    begun = h.begun;
-    closed = h.closed;
-    at = record { lane = at_rest at.lane; answer = a; session = at.session; idle = refl; place_is = qis; reply = refl; slot = idle; waiting = at.waiting; ended = at.ended };
-  };
-}
+decided_now : (e : SeatEvent) (k : Walking) (a : Answer) → (is : IsTold (in_phase e (under_way_as k))) → KeepsSession e.seat
+    → Moves e.seat.old.core e.seat.core (number e.seat) (with_phase e.told (under_way_as k)) (with_phase e.told (Decided k.id k.number k.request a.reply)) 0
+    → lane_state e.seat.core (number e.seat) ≡ Idle → e.seat.now.place ≡ state.Answered (at_rest is.seat.at.lane) a
+    → DecidesCall e.world (number e.seat) k.moves (own_did (number e.seat) k a.reply) e.added
+    → Turned (in_phase e (under_way_as k)) 0 (λ t'. StepLeads (turn_to (in_phase e (under_way_as k)) t') k happened.Decided)
+decided_now e k a is keeps moved idle placed decides =
+    let h = is.seat in
+    let at : Goes e k = h.at in
+    let q = e.seat.now in
+    let told = with_phase e.told (Decided k.id k.number k.request a.reply) in record {
+      told = told;
+      lead = (a.reply, decides, refl);
+      moves = moved;
+      agrees = subst (λ (z : SessionView). SeatAgrees e.seat.core (number e.seat) told (seat z q.place q.closed)) (sym keeps.session) (record {
+        unread = h.unread;
+        output = h.output;
+        begun = h.begun;
+        closed = keeps.closed ∙ h.closed;
+        at = record { lane = at_rest at.lane; answer = a; session = at.session; idle = refl; place_is = placed; reply = refl; slot = idle; waiting = at.waiting; ended = at.ended };
+      });
+    }
 
 not_on_way : (c : Call) (given : Reply) → waiting_reply c ≡ Some given → c.stage ≡ stage.Fresh → IsStillWalking c → ⊥
 not_on_way c given has rests (inl none) = let k : Some given ≡ None = sym has ∙ none in cc
@@ -131,8 +141,8 @@ not_on_way c given has rests (inr copies) = subst IsCopying rests copies
 
 helped_stays : (v v' : CoreView) (s : ℕ) (helped : List Record) → (lane_state v' s ≡ lane_state v s) ⊎ IsHelpedAt v v' s helped ⊎ IsFinished v v' s helped → OtherStays v v' s
 helped_stays v v' s helped (inl e) = inl e
-helped_stays v v' s helped (inr (inl h)) = inr (h.before, h.after, h.was, h.now, h.same, h.less, not_on_way h.after h.given h.decided h.rests)
-helped_stays v v' s helped (inr (inr h)) = inr (h.before, h.after, h.was, h.now, h.same, h.less, not_on_way h.after h.given h.has h.rests)
+helped_stays v v' s helped (inr (inl h)) = inr (record { before = h.before; after = h.after; was = h.was; now = h.now; same = h.same; less = h.less; done = not_on_way h.after h.given h.decided h.rests })
+helped_stays v v' s helped (inr (inr h)) = inr (record { before = h.before; after = h.after; was = h.was; now = h.now; same = h.same; less = h.less; done = not_on_way h.after h.given h.has h.rests })
 
 -- ---- what a move adds
 copies_moved : (g : Stage) (moves : ℕ) → IsCopying g → HasMoved g moves → 0 < moves
@@ -169,176 +179,185 @@ nothing_rises : IsStrictlySortedBy nat_cmp []
 unfolding IsStrictlySortedBy
 nothing_rises = tt
 
-module _ (w : World) (v v' : CoreView) (s : ℕ) (x : SessionView) (p : SeatState) (id n m : ℕ) (q : Request) (moves : ℕ) (at : IsGoing v s x (walking id n m q moves) p) (h added : List Record) (hist : h ≡ w.records) (lane' : LaneView)
-    (k : MovesBy (before v h at.lane) (after_turn v' added lane')) where
-  here : lane_state v s ≡ Busy k.before
-  here = ap (λ (i : ℕ). lane_state v i) (sym at.session) ∙ k.own.slot
+-- a step that moved
+module _ (e : SeatEvent) (k : Walking) (is : IsTold (in_phase e (under_way_as k))) (lane' : LaneView)
+    (b : MovesBy (before e.seat.old.core e.world.records is.seat.at.lane) (after_turn e.seat.core e.added lane')) where
+  abbrev at : Goes e k
+  at = is.seat.at
 
-  own : at.call ≡ k.before
-  own = let z : Busy at.call ≡ Busy k.before = sym at.slot ∙ here in cc
+  here : lane_state e.seat.old.core (number e.seat) ≡ Busy b.before
+  here = ap (λ (i : ℕ). lane_state e.seat.old.core i) (sym at.session) ∙ b.own.slot
 
-  request_is : k.before.request ≡ q
+  own : at.call ≡ b.before
+  own = let z : Busy at.call ≡ Busy b.before = sym at.slot ∙ here in cc
+
+  request_is : b.before.request ≡ k.request
   request_is = ap (λ (y : Call). y.request) (sym own) ∙ at.own.3
 
-  moved : IsStillWalking k.before → HasMoved k.before.stage moves
-  moved way = subst (λ (y : Call). IsStillWalking y → HasMoved y.stage moves) own at.walked way
+  moved : IsStillWalking b.before → HasMoved b.before.stage k.moves
+  moved way = subst (λ (y : Call). IsStillWalking y → HasMoved y.stage k.moves) own at.walked way
 
-  move_adds : (t t' : SessionState) → MoveAdds (record { world = w; session = s; told = t; added = added; now = t' }) (walking id n m q moves)
-  move_adds t t' = elim k.kind [
-    | inl g ↦ inl (g.1.none, λ e. absurd (let z : true ≡ false = sym e ∙ ap is_write (sym request_is) ∙ g.0.no_write in cc))
+  move_adds : (t' : SessionState) → MoveAdds (turn_to (in_phase e (under_way_as k)) t') k
+  move_adds t' = elim b.kind [
+    | inl g ↦ inl (g.1.none, λ write. absurd (let z : true ≡ false = sym write ∙ ap is_write (sym request_is) ∙ g.0.no_write in cc))
     | inr other ↦ elim other [
       | inl g ↦
           let it = g.1 in
-          let is = own_record v s x id n m q moves p k.before g.0 at here in
-          let write : is_write q ≡ true = ap is_write (sym request_is) ∙ it.write in
-          let stopped = has_stopped w v s x id n m q moves p k.before g.0 at here is it.position (subst (λ (y : List Record). MayDecide (replay y) k.before.request k.before.stage) hist it.way) it.undecided in
-          let zero : moves ≡ 0 = write_stops (replay w.records) q moves write stopped in
+          let write : is_write k.request ≡ true = ap is_write (sym request_is) ∙ it.write in
+          let stopped = has_stopped e k b.before g.0 at here it.position it.way it.undecided in
+          let zero : k.moves ≡ 0 = write_stops (replay e.world.records) k.request k.moves write stopped in
           inr (
             zero,
             write,
             (
               g.0,
               record {
-                stopped = subst (λ (i : ℕ). WalkHasStopped (replay w.records) i (Did n s m q g.0)) zero stopped;
+                stopped = subst (λ (i : ℕ). WalkHasStopped (replay e.world.records) i (own_did (number e.seat) k g.0)) zero stopped;
                 helped = [];
                 of_others = tt;
                 rising = nothing_rises;
-                records = it.records ∙ ap (λ (y : Record). y ∷ []) is;
-                sure = subst (λ (y : List Record). AreSure y added) hist it.sure;
+                records = it.records ∙ ap (λ (y : Record). y ∷ []) (own_record e.seat.old.core (number e.seat) e.seat.was.session k e.seat.was.place b.before g.0 at here);
+                sure = it.sure;
               },
             ),
           )
-      | inr g ↦ inl (g.1.none, λ _. copies_moved k.before.stage moves g.0.before (moved (inr g.0.before)))
+      | inr g ↦ inl (g.1.none, λ _. copies_moved b.before.stage k.moves g.0.before (moved (inr g.0.before)))
     ]
   ]
 
-  moves_way : HasMoved k.after.stage (moves + 1)
-  moves_way = elim k.kind [
-    | inl g ↦ moved_on k.before.stage k.after.stage moves (moved (inl g.0.before)) g.0.walks
+  moves_way : HasMoved b.after.stage (k.moves + 1)
+  moves_way = elim b.kind [
+    | inl g ↦ moved_on b.before.stage b.after.stage k.moves (moved (inl g.0.before)) g.0.walks
     | inr other ↦ elim other [
-      | inl g ↦ has_copied k.after.stage (moves + 1) g.1.copies (omega arith)
-      | inr g ↦ has_copied k.after.stage (moves + 1) g.0.after (omega arith)
+      | inl g ↦ has_copied b.after.stage (k.moves + 1) g.1.copies (omega arith)
+      | inr g ↦ has_copied b.after.stage (k.moves + 1) g.0.after (omega arith)
     ]
   ]
 
-pub step_turned : (w : World) (v v' : CoreView) (seats : List Seat) (s : ℕ) (t : SessionState) (c : Bool) (x : SessionView) (p q : SeatState) (id n m : ℕ) (request : Request) (moves : ℕ)
-    (r : Happened) (h added : List Record)
-    → Agrees w (record { core = v; seats = seats }) → h ≡ w.records
-    → SeatAgrees v s (with_phase t (UnderWay id n m request moves)) (seat x p c) → (at : IsGoing v s x (walking id n m request moves) p)
-    → (lane' : LaneView) → StepGives (before v h at.lane) r (after_turn v' added lane') q
-    → Turned v v' s (with_phase t (UnderWay id n m request moves)) (calls_begun r) (seat x q c)
-    (λ t'. StepLeads (record { world = w; session = s; told = (with_phase t (UnderWay id n m request moves)); added = added; now = t' }) (walking id n m request moves) r)
-step_turned w v v' seats s t c x p q id n m request moves happened.Moved h added agrees hist old at lane' g =
-    let k = moves_by (before v h at.lane) (after_turn v' added lane') g.0 in
-    let was = with_phase t (UnderWay id n m request moves) in
-    let told = with_phase was (UnderWay id n m request (moves + 1)) in
-    let is = own w v v' s x p id n m request moves at h added hist lane' k in
-    let few : moves + 1 + left_of k.after ≤ bound_of request = let less = k.less in omega (arith, at.few, less, ap left_of is) in
+pub step_turned : (e : SeatEvent) (k : Walking) (r : Happened) → (is : IsTold (in_phase e (under_way_as k))) → KeepsSession e.seat → (lane' : LaneView)
+    → StepGives (before e.seat.old.core e.world.records is.seat.at.lane) r (after_turn e.seat.core e.added lane') e.seat.now.place
+    → Turned (in_phase e (under_way_as k)) (calls_begun r) (λ t'. StepLeads (turn_to (in_phase e (under_way_as k)) t') k r)
+step_turned e k happened.Moved is keeps lane' g =
+    let v' = e.seat.core in
+    let h = is.seat in
+    let at : Goes e k = h.at in
+    let q = e.seat.now in
+    let b = moves_by (before e.seat.old.core e.world.records at.lane) (after_turn v' e.added lane') g.0 in
+    let told = with_phase e.told (UnderWay k.id k.number k.moment k.request (k.moves + 1)) in
+    let same = own e k is lane' b in
+    let few : k.moves + 1 + left_of b.after ≤ bound_of k.request = let less = b.less in omega (arith, at.few, less, ap left_of same) in
     record {
       told = told;
-      lead = (let some = k.some in omega (arith, few, some), move_adds w v v' s x p id n m request moves at h added hist lane' k was told, refl);
+      lead = (let some = b.some in omega (arith, few, some), move_adds e k is lane' b told, refl);
       moves = record {
-        joins = k.slot.joins;
-        drawn = k.slot.drawn ∙ omega arith;
-        joined = ap (λ (i : ℕ). i + 1) k.slot.joined;
-        others = λ i ne. inl (k.slot.others i (λ e. ne (e ∙ at.session)));
+        joins = b.slot.joins;
+        drawn = b.slot.drawn ∙ omega arith;
+        joined = ap (λ (i : ℕ). i + 1) b.slot.joined;
+        others = λ i ne. inl (b.slot.others i (λ z. ne (z ∙ at.session)));
       };
-      agrees = record {
-        unread = old.unread;
-        output = old.output;
-        begun = old.begun;
-        closed = old.closed;
+      agrees = subst (λ (z : SessionView). SeatAgrees v' (number e.seat) told (seat z q.place q.closed)) (sym keeps.session) (record {
+        unread = h.unread;
+        output = h.output;
+        begun = h.begun;
+        closed = keeps.closed ∙ h.closed;
         at = record {
           lane = at.lane;
-          call = k.after;
+          call = b.after;
           session = at.session;
           number_is = at.number_is;
-          place_is = g.1 ∙ ap (λ (l : LaneView). state.UnderWay l) k.lane;
-          slot = ap (λ (i : ℕ). lane_state v' i) (sym at.session) ∙ k.slot.own;
+          place_is = g.1 ∙ ap (λ (l : LaneView). state.UnderWay l) b.lane;
+          slot = ap (λ (i : ℕ). lane_state v' i) (sym at.session) ∙ b.slot.own;
           own = (
-            k.same.session ∙ ap (λ (y : Call). y.session) (sym is) ∙ at.own.0,
-            k.same.number ∙ ap (λ (y : Call). y.number) (sym is) ∙ at.own.1,
-            k.same.moment ∙ ap (λ (y : Call). y.moment) (sym is) ∙ at.own.2,
-            k.same.request ∙ ap (λ (y : Call). y.request) (sym is) ∙ at.own.3,
+            b.same.session ∙ ap (λ (y : Call). y.session) (sym same) ∙ at.own.0,
+            b.same.number ∙ ap (λ (y : Call). y.number) (sym same) ∙ at.own.1,
+            b.same.moment ∙ ap (λ (y : Call). y.moment) (sym same) ∙ at.own.2,
+            b.same.request ∙ ap (λ (y : Call). y.request) (sym same) ∙ at.own.3,
           );
           few = few;
-          walked = λ e. moves_way w v v' s x p id n m request moves at h added hist lane' k;
+          walked = λ z. moves_way e k is lane' b;
           waiting = at.waiting;
           ended = at.ended;
         };
-      };
+      });
     }
-step_turned w v v' seats s t c x p q id n m request moves (happened.Blocked holder) h added agrees hist old at lane' g =
+step_turned e k (happened.Blocked holder) is keeps lane' g =
+    let v = e.seat.old.core in
+    let v' = e.seat.core in
+    let s = number e.seat in
+    let h = is.seat in
+    let at : Goes e k = h.at in
+    let q = e.seat.now in
     let b = g.0.1 in
-    let was = with_phase t (UnderWay id n m request moves) in
-    let call = others_call w v seats s b.other b.call agrees b.slot (λ e. b.apart (e ∙ sym at.session)) in
-    let same : lane_state v' s ≡ lane_state v s = b.looks.slots s in
+    let was = with_phase e.told (under_way_as k) in
+    let call = others_call e.world v e.seat.old.seats s b.other b.call is.agrees b.slot (λ z. b.apart (z ∙ sym at.session)) in
     record {
       told = was;
-      lead = ((b.other, b.call.moment, b.call.request, subst (λ (k : ℕ). IsOthersCall w s (other_call k b.other b.call.moment b.call.request)) b.number call), g.1.none, refl);
-      moves = record { joins = b.looks.joins; drawn = b.looks.drawn ∙ omega arith; joined = ap (λ (k : ℕ). k + 1) b.looks.joined; others = λ i ne. inl (b.looks.slots i) };
-      agrees = record {
-        unread = old.unread;
-        output = old.output;
-        begun = old.begun;
-        closed = old.closed;
+      lead = ((b.other, b.call.moment, b.call.request, subst (λ (n : ℕ). IsOthersCall e.world s (other_call n b.other b.call.moment b.call.request)) b.number call), g.1.none, refl);
+      moves = record { joins = b.looks.joins; drawn = b.looks.drawn ∙ omega arith; joined = ap (λ (i : ℕ). i + 1) b.looks.joined; others = λ i ne. inl (b.looks.slots i) };
+      agrees = subst (λ (z : SessionView). SeatAgrees v' s was (seat z q.place q.closed)) (sym keeps.session) (record {
+        unread = h.unread;
+        output = h.output;
+        begun = h.begun;
+        closed = keeps.closed ∙ h.closed;
         at = record {
           lane = at.lane;
           call = at.call;
           session = at.session;
           number_is = at.number_is;
           place_is = g.2 ∙ ap (λ (l : LaneView). state.UnderWay l) g.1.lane;
-          slot = same ∙ at.slot;
+          slot = b.looks.slots s ∙ at.slot;
           own = at.own;
           few = at.few;
           walked = at.walked;
           waiting = at.waiting;
           ended = at.ended;
         };
-      };
+      });
     }
-step_turned w v v' seats s t c x p q id n m request moves happened.Decided h added agrees hist old at lane' g =
+step_turned e k happened.Decided is keeps lane' g =
+    let v = e.seat.old.core in
+    let v' = e.seat.core in
+    let s = number e.seat in
+    let at : Goes e k = is.seat.at in
     let a = g.0 in
     let d = g.1.0 in
-    let placed : q ≡ state.Answered (at_rest at.lane) a = g.3 ∙ ap (λ (l : LaneView). state.Answered l a) g.2.lane in
+    let placed : e.seat.now.place ≡ state.Answered (at_rest at.lane) a = g.3 ∙ ap (λ (l : LaneView). state.Answered l a) g.2.lane in
     elim g.1.1 [
       | inl f ↦
-          let here : lane_state v s ≡ Busy d = ap (λ (k : ℕ). lane_state v k) (sym at.session) ∙ f.own.slot in
-          let is = own_record v s x id n m request moves p d a.reply at here in
-          decided_now w v v' s t c x p q id n m request moves a added old at
+          let here : lane_state v s ≡ Busy d = ap (λ (n : ℕ). lane_state v n) (sym at.session) ∙ f.own.slot in
+          decided_now e k a is keeps
           (record {
             joins = f.slot.joins;
             drawn = f.slot.drawn ∙ omega arith;
-            joined = ap (λ (k : ℕ). k + 1) f.slot.joined;
-            others = λ i ne. inl (f.slot.others i (λ e. ne (e ∙ at.session)));
+            joined = ap (λ (n : ℕ). n + 1) f.slot.joined;
+            others = λ i ne. inl (f.slot.others i (λ z. ne (z ∙ at.session)));
           })
-          (ap (λ (k : ℕ). lane_state v' k) (sym at.session) ∙ f.slot.own) placed
-          (inl (f.none, subst (λ (y : Record). IsAmong y w.records) is (subst (λ (y : List Record). IsAmong (did d a.reply) y) hist f.recorded)))
+          (ap (λ (n : ℕ). lane_state v' n) (sym at.session) ∙ f.slot.own) placed
+          (inl (f.none, subst (λ (y : Record). IsAmong y e.world.records) (own_record v s e.seat.was.session k e.seat.was.place d a.reply at here) f.recorded))
       | inr f ↦
-          let here : lane_state v s ≡ Busy d = ap (λ (k : ℕ). lane_state v k) (sym at.session) ∙ f.own.slot in
-          let is = own_record v s x id n m request moves p d a.reply at here in
-          decided_now w v v' s t c x p q id n m request moves a added old at
+          let here : lane_state v s ≡ Busy d = ap (λ (n : ℕ). lane_state v n) (sym at.session) ∙ f.own.slot in
+          decided_now e k a is keeps
           (record {
             joins = f.joins;
             drawn = f.drawn ∙ omega arith;
-            joined = ap (λ (k : ℕ). k + 1) f.joined;
-            others = λ i ne. helped_stays v v' i f.helped (f.others i (λ e. ne (e ∙ at.session)));
+            joined = ap (λ (n : ℕ). n + 1) f.joined;
+            others = λ i ne. helped_stays v v' i f.helped (f.others i (λ z. ne (z ∙ at.session)));
           })
-          (ap (λ (k : ℕ). lane_state v' k) (sym at.session) ∙ f.slot) placed
+          (ap (λ (n : ℕ). lane_state v' n) (sym at.session) ∙ f.slot) placed
           (inr (record {
-            stopped = has_stopped w v s x id n m request moves p d a.reply at here is f.position (subst (λ (y : List Record). MayDecide (replay y) d.request d.stage) hist f.way) f.undecided;
+            stopped = has_stopped e k d a.reply at here f.position f.way f.undecided;
             helped = f.helped;
-            of_others = are_helped w v seats s f.helped agrees (subst (λ (k : ℕ). AllByRecursion (IsOfOther v k) f.helped) at.session f.of_others);
+            of_others = are_helped e.world v e.seat.old.seats s f.helped is.agrees (subst (λ (n : ℕ). AllByRecursion (IsOfOther v n) f.helped) at.session f.of_others);
             rising = f.order.rising;
-            records = f.records ∙ ap (λ (y : Record). f.helped ++ y ∷ []) is;
-            sure = subst (λ (y : List Record). AreSure y added) hist (step_sure (before v h at.lane) (after_turn v' added lane') d a.reply f);
+            records = f.records ∙ ap (λ (y : Record). f.helped ++ y ∷ []) (own_record v s e.seat.was.session k e.seat.was.place d a.reply at here);
+            sure = step_sure (before v e.world.records at.lane) (after_turn v' e.added lane') d a.reply f;
           }))
     ]
-step_turned w v v' seats s t c x p q id n m request moves (happened.Opened k) h added agrees hist old at lane' g = absurd g
-step_turned w v v' seats s t c x p q id n m request moves happened.Fed h added agrees hist old at lane' g = absurd g
-step_turned w v v' seats s t c x p q id n m request moves happened.Wrote h added agrees hist old at lane' g = absurd g
-step_turned w v v' seats s t c x p q id n m request moves happened.Begun h added agrees hist old at lane' g = absurd g
-step_turned w v v' seats s t c x p q id n m request moves happened.Idle h added agrees hist old at lane' g = absurd g
-step_turned w v v' seats s t c x p q id n m request moves (happened.Ended k) h added agrees hist old at lane' g = absurd g
-step_turned w v v' seats s t c x p q id n m request moves happened.Closed h added agrees hist old at lane' g = absurd g
-step_turned w v v' seats s t c x p q id n m request moves happened.Sent h added agrees hist old at lane' g = absurd g
+step_turned e k (happened.Opened n) is keeps lane' g = absurd g
+step_turned e k happened.Fed is keeps lane' g = absurd g
+step_turned e k happened.Wrote is keeps lane' g = absurd g
+step_turned e k happened.Begun is keeps lane' g = absurd g
+step_turned e k happened.Idle is keeps lane' g = absurd g
+step_turned e k (happened.Ended n) is keeps lane' g = absurd g
+step_turned e k happened.Closed is keeps lane' g = absurd g
+step_turned e k happened.Sent is keeps lane' g = absurd g

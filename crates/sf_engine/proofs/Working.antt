@@ -57,48 +57,47 @@ few_helped b a c given s e d =
 pub same_work : (s m : ℕ) (p : Passage) → p.new.look_ups ≡ p.old.look_ups → IsWork (event.Turn s m) p
 same_work s m p e = (omega (arith, e), omega (arith, e))
 
-step_works : (v : CoreView) (h : List Record) (s m : ℕ) (lane lane' : LaneView) (r : Happened) (a : NewPart) → lane.session ≡ s → StepGives (before v h lane) r (after_turn a.core a.added lane') a.place → Works s m r (passing v h a.added a.core)
-step_works v h s m lane lane' happened.Moved a e g = record {
-  step = (lane, lane', e, g.0);
-  work = let m = moves_by (before v h lane) (after_turn a.core a.added lane') g.0 in let more = m.more in let few = m.few in (more, omega (arith, few));
+-- a step of a call under way
+step_works : (b : Before) (s m : ℕ) (r : Happened) (a : After) (p : SeatState) → b.lane.session ≡ s → StepGives b r a p → Works s m r (passing b.core b.history a.added a.core)
+step_works b s m happened.Moved a p e g = record {
+  step = (b.lane, a.lane, e, g.0);
+  work = let moves = moves_by b a g.0 in let more = moves.more in let few = moves.few in (more, omega (arith, few));
 }
-step_works v h s m lane lane' (happened.Blocked holder) a e g = record {
-  step = (lane, lane', e, g.0);
+step_works b s m (happened.Blocked holder) a p e g = record {
+  step = (b.lane, a.lane, e, g.0);
   work = (g.0.1.looks.more, omega (arith, g.0.1.looks.few));
 }
-step_works v h s m lane lane' happened.Decided a e g =
+step_works b s m happened.Decided a p e g =
     let c = g.1.0 in
-    let given = g.0.reply in
-    let b = before v h lane in
-    let n = after_turn a.core a.added lane' in
-    record {
-      step = (lane, lane', e, (c, given, g.1.1));
+    let given = g.0.reply in record {
+      step = (b.lane, a.lane, e, (c, given, g.1.1));
       work = elim g.1.1 [
-        | inl f ↦ same_work s m (passing v h a.added a.core) f.look_ups
-        | inr d ↦ (d.more, omega (arith, d.few, few_helped b n c given s e d))
+        | inl f ↦ same_work s m (passing b.core b.history a.added a.core) f.look_ups
+        | inr d ↦ (d.more, omega (arith, d.few, few_helped b a c given s e d))
       ];
     }
-step_works v h s m lane lane' (happened.Opened k) a e g = absurd g
-step_works v h s m lane lane' happened.Fed a e g = absurd g
-step_works v h s m lane lane' happened.Wrote a e g = absurd g
-step_works v h s m lane lane' happened.Begun a e g = absurd g
-step_works v h s m lane lane' happened.Idle a e g = absurd g
-step_works v h s m lane lane' (happened.Ended k) a e g = absurd g
-step_works v h s m lane lane' happened.Closed a e g = absurd g
-step_works v h s m lane lane' happened.Sent a e g = absurd g
+step_works b s m (happened.Opened k) a p e g = absurd g
+step_works b s m happened.Fed a p e g = absurd g
+step_works b s m happened.Wrote a p e g = absurd g
+step_works b s m happened.Begun a p e g = absurd g
+step_works b s m happened.Idle a p e g = absurd g
+step_works b s m (happened.Ended k) a p e g = absurd g
+step_works b s m happened.Closed a p e g = absurd g
+step_works b s m happened.Sent a p e g = absurd g
 
-read_works : (v : CoreView) (h : List Record) (s m : ℕ) (b : Seated) (r : Happened) (a : NewPart) → b.lane.session ≡ s → b.core ≡ v → ReadGives b m r a → Works s m r (passing v h a.added a.core)
-read_works v h s m b happened.Idle a e i g = record { step = (b.lane, b.lane, e, tt); work = same_work s m (passing v h a.added a.core) (ap (λ (z : CoreView). z.look_ups) (g.1 ∙ i)) }
-read_works v h s m b happened.Wrote a e i g = record { step = (b.lane, b.lane, e, tt); work = same_work s m (passing v h a.added a.core) (ap (λ (z : CoreView). z.look_ups) (g.1 ∙ i)) }
-read_works v h s m b happened.Begun a e i g = record { step = (b.lane, b.lane, e, tt); work = same_work s m (passing v h a.added a.core) (g.2.look_ups ∙ ap (λ (z : CoreView). z.look_ups) i) }
-read_works v h s m b (happened.Ended cause) a e i g = record { step = (b.lane, b.lane, e, tt); work = same_work s m (passing v h a.added a.core) (g.1.look_ups ∙ ap (λ (z : CoreView). z.look_ups) i) }
-read_works v h s m b (happened.Opened k) a e i g = absurd g
-read_works v h s m b happened.Fed a e i g = absurd g
-read_works v h s m b happened.Moved a e i g = absurd g
-read_works v h s m b (happened.Blocked k) a e i g = absurd g
-read_works v h s m b happened.Decided a e i g = absurd g
-read_works v h s m b happened.Closed a e i g = absurd g
-read_works v h s m b happened.Sent a e i g = absurd g
+-- a packet that a resting session reads
+read_works : (b : Seated) (h : List Record) (s m : ℕ) (r : Happened) (a : NewPart) → b.lane.session ≡ s → ReadGives b m r a → Works s m r (passing b.core h a.added a.core)
+read_works b h s m happened.Idle a e g = record { step = (b.lane, b.lane, e, tt); work = same_work s m (passing b.core h a.added a.core) (ap (λ (z : CoreView). z.look_ups) g.1) }
+read_works b h s m happened.Wrote a e g = record { step = (b.lane, b.lane, e, tt); work = same_work s m (passing b.core h a.added a.core) (ap (λ (z : CoreView). z.look_ups) g.1) }
+read_works b h s m happened.Begun a e g = record { step = (b.lane, b.lane, e, tt); work = same_work s m (passing b.core h a.added a.core) g.2.look_ups }
+read_works b h s m (happened.Ended cause) a e g = record { step = (b.lane, b.lane, e, tt); work = same_work s m (passing b.core h a.added a.core) g.1.look_ups }
+read_works b h s m (happened.Opened k) a e g = absurd g
+read_works b h s m happened.Fed a e g = absurd g
+read_works b h s m happened.Moved a e g = absurd g
+read_works b h s m (happened.Blocked k) a e g = absurd g
+read_works b h s m happened.Decided a e g = absurd g
+read_works b h s m happened.Closed a e g = absurd g
+read_works b h s m happened.Sent a e g = absurd g
 
 -- a session that rests or leaves after a reply makes no look-up
 pub settle_same : (b : Seated) (closed : Bool) (a : NewPart) → RestsOrLeaves b closed a → a.core.look_ups ≡ b.core.look_ups
@@ -108,11 +107,11 @@ settle_same b true a g = g.0.look_ups
 pub turn_works : (b : Part) (p : SeatState) (s m : ℕ) (f : Phase) (r : Happened) (a : NewPart) → PlaceAgrees b.core s b.session f p → PlaceGives b p m r a → Works s m r (passing b.core b.history a.added a.core)
 turn_works b p s m Resting r a h g =
     let at : HasNoCall b.core s b.session p = h in
-    read_works b.core b.history s m (seated b.core b.session at.lane) r a at.session refl (subst (λ (z : SeatState). PlaceGives b z m r a) at.place_is g)
+    read_works (seated b.core b.session at.lane) b.history s m r a at.session (subst (λ (z : SeatState). PlaceGives b z m r a) at.place_is g)
 turn_works b p s m (UnderWay id n k q moves) r a h g =
     let at : IsGoing b.core s b.session (walking id n k q moves) p = h in
     let g' = subst (λ (z : SeatState). PlaceGives b z m r a) at.place_is g in
-    step_works b.core b.history s m at.lane g'.0.0 r a at.session g'.0.1
+    step_works (before b.core b.history at.lane) s m r (after_turn a.core a.added g'.0.0) a.place at.session g'.0.1
 turn_works b p s m (IsDecided id n q given) r a h g =
     let at : HasAnswer b.core s b.session (reply_due id given) p = h in
     let g' = subst (λ (z : SeatState). PlaceGives b z m r a) at.place_is g in

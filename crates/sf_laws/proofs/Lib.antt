@@ -1,4 +1,5 @@
 mod LeftAlone
+mod Shapes
 mod OwnChanges
 mod Parents
 mod Refusals

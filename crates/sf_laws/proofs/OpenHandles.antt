@@ -1,5 +1,5 @@
 -- After a legal history no session has too many handles open, and each handle leads to an object.
-use Rattle.std.proofs.Common.{◌≡◌, ◌<◌, ◌≤◌, ℕ, ◌+◌, Bool, true, false, cond, not, nat_eq, nat_lt, nat_le, ◌&&◌, ◌||◌, List, [], ◌∷◌, ◌++◌, length, filter, Option, Some, None, option_and_then, IsSome, is_some, IfSome, refl, sym, ap, ◌∙◌, subst, eq-eqb, arith}
+use Rattle.std.proofs.Common.{◌≡◌, ◌<◌, ◌≤◌, ℕ, ◌+◌, Bool, true, false, cond, not, nat_eq, ◌||◌, List, [], ◌∷◌, ◌++◌, filter, Option, Some, None, option_and_then, IsSome, is_some, IfSome, refl, sym, ap, ◌∙◌, subst, eq-eqb, arith}
 use Rattle.std.proofs.lemmas.Bool.{leb-false, eqb-true}
 use Rattle.std.proofs.lemmas.List.Sums.{sum_by-cons}
 use Rattle.std.specs.List.{AllByRecursion, list_any, count_by}
@@ -10,30 +10,22 @@ use Rattle.std.specs.Map.{lookup, remove_entry, set_value}
 use Rattle.std.specs.BTreeMap.{insert_entry, is_at}
 use Rattle.sf_path.specs.Names.{Path}
 use Rattle.sf_path.specs.Order.{parent, path_cmp}
-use Rattle.sf_field.specs.declared.attrs.Attrs.{Attrs}
-use Rattle.sf_field.specs.declared.open_flags.OpenFlags.{OpenFlags}
-use Rattle.sf_reply.specs.declared.reply.Entry.{Entry}
-use Rattle.sf_call.specs.declared.limits.TheConstants.{MAX_FILE_SIZE, MAX_HANDLES}
+use Rattle.sf_call.specs.declared.limits.TheConstants.{MAX_HANDLES}
 use Rattle.sf_call.specs.declared.metadata.Metadata.{Metadata}
 use Rattle.sf_call.specs.declared.handle.Handle.{Handle}
-use Rattle.sf_call.specs.declared.lookup.Lookup.{Lookup}
-use Rattle.sf_call.specs.declared.lookup.Lookup.TheVariants.{NoWay, Absent, At}
 use Rattle.sf_call.specs.declared.request.Request.{Request}
-use Rattle.sf_call.specs.declared.request.Request.TheVariants.{Stat, SetStat, Mkdir, Rmdir, Remove, OpenDir, Open, Close, FStat, FSetStat, Read, Write, ReadDir, Rename, PosixRename, Link}
 use Rattle.sf_call.specs.declared.record.Record.{Record}
-use Rattle.sf_call.specs.Attributes.{Object, new_metadata}
-use Rattle.sf_call.specs.Attributes.Object.{Directory, File}
-use Rattle.sf_call.specs.Tree.{Tree, FoundObject, object_of, handle_of, kept, directory_at, look_up, found_object, found_place, found_at, is_empty, is_nil, with_names, with_handles}
-use Rattle.sf_call.specs.Tree.FoundObject.{Nowhere, Nothing, DirectoryAt, FileAt}
-use Rattle.sf_call.specs.Handles.{Opened, handle_in, opened, opened_by, opened_object, if_of}
-use Rattle.sf_call.specs.Handles.Opened.{NotOpen, OpenDirectory, OpenFile}
-use Rattle.sf_call.specs.Listings.{path_of, listing_of}
+use Rattle.sf_call.specs.Attributes.{Object}
+use Rattle.sf_call.specs.Tree.{Tree, object_of, handle_of, kept, directory_at, with_names, with_handles}
+use Rattle.sf_call.specs.Handles.{if_of}
 use Rattle.sf_call.specs.Moves.{moved}
 use Rattle.sf_call.specs.Changes.{changed, done, touch, touched}
 use Rattle.sf_call.specs.Changes.Change.{SetObject, NewPath, NewName, GonePath, Move, OpenHandle, SetHandle, CloseHandle}
-use Rattle.sf_call.specs.Calls.{Outcome, answer_to, leave, stat, refuses_size, sets, set_stat, make_directory, remove_directory, remove_file, has_all_handles, directory_handle, new_file_handle, open_directory, open_present, open_file, close, stat_opened, set_opened, read, start_of, write, lists, read_directory, unless_root, moves, opening, stamp}
+use Rattle.sf_call.specs.Calls.{Outcome, answer_to, leave, has_all_handles, directory_handle, new_file_handle, moves}
 use Rattle.sf_call.specs.Histories.{replay, IsLegal}
-use Rattle.sf_call.proofs.Laws.{lookup-put, object_kept, all_by, all_filtered, all_removed, all_put, all_set, found_value, holds_after, rename_cases, posix_rename_cases, link_cases, link_to_cases}
+use Rattle.sf_laws.proofs.Shapes.{Shape, shape_of}
+use Rattle.sf_laws.proofs.Shapes.Shape.{Refuses, DoesNothing, TellsAttrs, TellsData, SetsAt, SetsOpen, Writes, MakesDirectory, RemovesDirectory, RemovesFile, OpensDirectory, OpensFile, CutsFile, MakesFile, Closes, Lists, Renames, Replaces, Links}
+use Rattle.sf_call.proofs.Laws.{lookup-put, object_kept, all_by, all_filtered, all_removed, all_put, all_set, found_value, holds_after}
 
 -- the handles of a session
 abbrev pub is_of_session : ℕ → ℕ × Handle → Bool
@@ -240,146 +232,41 @@ module _ (tree : Tree) (session number moment : ℕ) (h : HandlesHold tree) wher
   abbrev pub Keeps : Outcome → Type 0
   Keeps answer = HandlesHold (done tree answer.changes)
 
-  either : (b : Bool) (this that : Outcome) → Keeps this → Keeps that → Keeps (cond b this that)
-  either true this that p q = p
-  either false this that p q = q
-
-  rooted : (path : Path) (answer : Outcome) → Keeps answer → Keeps (unless_root path answer)
-  rooted [] answer p = h
-  rooted (n ∷ path) answer p = p
-
-  told : (found : FoundObject) → Keeps (stat found)
-  told Nowhere = h
-  told Nothing = h
-  told (DirectoryAt label m) = h
-  told (FileAt label m contents) = h
-
-  parts_set : (label : ℕ) (attrs : Attrs) (object : Object) → Keeps (sets moment label attrs object)
-  parts_set label attrs object = either (refuses_size object attrs.size) _ _ h (set_holds tree label _ h)
-
-  set_found : (attrs : Attrs) (found : FoundObject) → Keeps (set_stat moment attrs found)
-  set_found attrs Nowhere = h
-  set_found attrs Nothing = h
-  set_found attrs (DirectoryAt label m) = parts_set label attrs (Directory m)
-  set_found attrs (FileAt label m contents) = parts_set label attrs (File m contents)
-
-  made : (path : Path) (attrs : Attrs) (place : Lookup) → Keeps (make_directory tree (stamp number moment) path attrs place)
-  made path attrs NoWay = h
-  made path attrs (At label) = h
-  made path attrs Absent = touch_holds _ moment (directory_at tree (parent path)) (new_holds tree path number _ h)
-
   gone : (path : Path) → HandlesHold (done tree (GonePath path ∷ touched tree moment (parent path)))
   gone path = touch_holds _ moment (directory_at tree (parent path)) (gone_holds tree path h)
-
-  directory_removed : (path : Path) (found : FoundObject) → Keeps (remove_directory tree moment path found)
-  directory_removed path Nowhere = h
-  directory_removed path Nothing = h
-  directory_removed path (FileAt label m contents) = h
-  directory_removed path (DirectoryAt label m) = either (is_empty tree.names path) _ _ (gone path) h
-
-  file_removed : (path : Path) (found : FoundObject) → Keeps (remove_file tree moment path found)
-  file_removed path Nowhere = h
-  file_removed path Nothing = h
-  file_removed path (DirectoryAt label m) = h
-  file_removed path (FileAt label m contents) = gone path
-
-  unless_true : (b : Bool) (this that : Outcome) → Keeps this → (b ≡ false → Keeps that) → Keeps (cond b this that)
-  unless_true true this that p q = p
-  unless_true false this that p q = q refl
 
   there : (label : ℕ) (object : Object) → object_of tree.objects label ≡ Some object → IsSome (object_of tree.objects label)
   there label object is = ap (λ x. is_some x) is
 
-  directory_object : (label : ℕ) (o : Option Object) → object_of tree.objects label ≡ o → Keeps (open_directory tree session number (found_object label o))
-  directory_object label None is = h
-  directory_object label (Some (File m contents)) is = h
-  directory_object label (Some (Directory m)) is =
-      unless_true (has_all_handles tree session) _ _ h (λ free. open_holds tree number (directory_handle session label) free (there label _ is) h)
-
-  directory_opened : (place : Lookup) → Keeps (open_directory tree session number (found_place tree.objects place))
-  directory_opened NoWay = h
-  directory_opened Absent = h
-  directory_opened (At label) = directory_object label (object_of tree.objects label) refl
-
-  file_object : (flags : OpenFlags) (label : ℕ) (o : Option Object) → object_of tree.objects label ≡ o → Keeps (open_present tree session (stamp number moment) flags (found_object label o))
-  file_object flags label None is = h
-  file_object flags label (Some (Directory m)) is = h
-  file_object flags label (Some (File m contents)) is =
-      unless_true (has_all_handles tree session) _ _ h (λ free.
-      let open' = open_holds tree number (new_file_handle session label flags) free (there label _ is) h in
-      either (flags.truncate && flags.write) _ _ (set_holds _ label _ open') open')
-
-  file_opened : (path : Path) (flags : OpenFlags) (attrs : Attrs) (place : Lookup) → Keeps (open_file tree session (stamp number moment) (opening path flags attrs) place)
-  file_opened path flags attrs NoWay = h
-  file_opened path flags attrs (At label) = either (flags.create && flags.exclusive) _ _ h (file_object flags label (object_of tree.objects label) refl)
-  file_opened path flags attrs Absent =
-      either (not flags.create) _ _ h (unless_true (has_all_handles tree session) _ _ h (λ free.
-      touch_holds _ moment (directory_at tree (parent path))
-      (open_holds (changed tree (NewPath path number (File (new_metadata 0o644 moment attrs) []))) number (new_file_handle session number flags) free
-      (there_put tree.objects number _) (new_holds tree path number _ h))))
-
-  closed : (handle : ℕ) (o : Option Handle) → Keeps (close handle o)
-  closed handle None = h
-  closed handle (Some opened) = close_holds tree handle h
-
-  told_opened : (o : Opened) → Keeps (stat_opened o)
-  told_opened NotOpen = h
-  told_opened (OpenDirectory handle m) = h
-  told_opened (OpenFile handle m contents) = h
-
-  set_by_handle : (attrs : Attrs) (o : Opened) → Keeps (set_opened moment attrs o)
-  set_by_handle attrs NotOpen = h
-  set_by_handle attrs (OpenDirectory handle m) = either (nat_eq handle.label 0) _ _ h (parts_set handle.label attrs (Directory m))
-  set_by_handle attrs (OpenFile handle m contents) = either (is_some attrs.size && not handle.write) _ _ h (parts_set handle.label attrs (File m contents))
-
-  was_read : (offset len : ℕ) (o : Opened) → Keeps (read offset len o)
-  was_read offset len NotOpen = h
-  was_read offset len (OpenDirectory handle m) = h
-  was_read offset len (OpenFile handle m contents) = either (not handle.read) _ _ h (either (nat_le (length contents) offset) _ _ h h)
-
-  was_written : (offset : ℕ) (bytes : List ℕ) (o : Opened) → Keeps (write moment offset bytes o)
-  was_written offset bytes NotOpen = h
-  was_written offset bytes (OpenDirectory handle m) = h
-  was_written offset bytes (OpenFile handle m contents) =
-      either (not handle.write) _ _ h (either (is_nil bytes) _ _ h
-      (either (nat_lt MAX_FILE_SIZE (start_of handle contents offset + length bytes)) _ _ h (set_holds tree handle.label _ h)))
-
-  listed : (n : ℕ) (handle : Handle) → handle_of tree.handles n ≡ Some handle → (entries : List Entry) → Keeps (lists n handle entries)
-  listed n handle is [] = h
-  listed n handle is (e ∷ es) = set_handle_holds tree n handle _ is refl refl h
-
-  directory_read : (n : ℕ) (handle : Handle) → handle_of tree.handles n ≡ Some handle → (o : Option Object) → Keeps (read_directory tree n (opened_object handle o))
-  directory_read n handle is None = h
-  directory_read n handle is (Some (File m contents)) = h
-  directory_read n handle is (Some (Directory m)) = listed n handle is (listing_of tree handle.listed (path_of tree.names handle.label))
-
-  read_by_handle : (n : ℕ) (o : Option Handle) → handle_in tree session n ≡ o → Keeps (read_directory tree n (opened_by tree o))
-  read_by_handle n None is = h
-  read_by_handle n (Some handle) is = directory_read n handle (of_session session (handle_of tree.handles n) handle is) (object_of tree.objects handle.label)
-
   moved_holds : (old new : Path) → Keeps (moves tree moment old new)
   moved_holds old new = touches_hold _ moment (directory_at tree (parent old)) (directory_at tree (parent new)) (move_holds tree old new h)
 
+  shape_holds : (r : Request) (answer : Outcome) → Shape tree session number moment r answer → Keeps answer
+  shape_holds r answer (Refuses q code) = h
+  shape_holds r answer (DoesNothing q) = h
+  shape_holds r answer (TellsAttrs q attrs) = h
+  shape_holds r answer (TellsData q bytes) = h
+  shape_holds r answer (SetsAt path attrs label object at) = set_holds tree label object h
+  shape_holds r answer (SetsOpen handle attrs o object at) = set_holds tree o.label object h
+  shape_holds r answer (Writes handle offset bytes o object at) = set_holds tree o.label object h
+  shape_holds r answer (MakesDirectory path attrs object) = touch_holds _ moment (directory_at tree (parent path)) (new_holds tree path number object h)
+  shape_holds r answer (RemovesDirectory path) = gone path
+  shape_holds r answer (RemovesFile path) = gone path
+  shape_holds r answer (OpensDirectory path label object at is free) = open_holds tree number (directory_handle session label) free (there label object is) h
+  shape_holds r answer (OpensFile path flags attrs label object at is free) = open_holds tree number (new_file_handle session label flags) free (there label object is) h
+  shape_holds r answer (CutsFile path flags attrs label object cut at is free) =
+      set_holds _ label cut (open_holds tree number (new_file_handle session label flags) free (there label object is) h)
+  shape_holds r answer (MakesFile path flags attrs object free) =
+      touch_holds _ moment (directory_at tree (parent path))
+      (open_holds (changed tree (NewPath path number object)) number (new_file_handle session number flags) free (there_put tree.objects number object) (new_holds tree path number object h))
+  shape_holds r answer (Closes handle o at) = close_holds tree handle h
+  shape_holds r answer (Lists handle o e es at) = set_handle_holds tree handle o _ (of_session session (handle_of tree.handles handle) o at) refl refl h
+  shape_holds r answer (Renames old new) = moved_holds old new
+  shape_holds r answer (Replaces old new) = moved_holds old new
+  shape_holds r answer (Links old new label) = touch_holds _ moment (directory_at tree (parent new)) (name_holds tree new label h)
+
   pub answer_holds : (request : Request) → Keeps (answer_to tree session number moment request)
-  answer_holds (Stat path) = told (found_at tree path)
-  answer_holds (SetStat path attrs) = rooted path _ (set_found attrs (found_at tree path))
-  answer_holds (Mkdir path attrs) = rooted path _ (made path attrs (look_up tree path))
-  answer_holds (Rmdir path) = rooted path _ (directory_removed path (found_at tree path))
-  answer_holds (Remove path) = rooted path _ (file_removed path (found_at tree path))
-  answer_holds (OpenDir path) = directory_opened (look_up tree path)
-  answer_holds (Open path flags attrs) = rooted path _ (file_opened path flags attrs (look_up tree path))
-  answer_holds (Close handle) = closed handle (handle_in tree session handle)
-  answer_holds (FStat handle) = told_opened (opened tree session handle)
-  answer_holds (FSetStat handle attrs) = set_by_handle attrs (opened tree session handle)
-  answer_holds (Read handle offset len) = was_read offset len (opened tree session handle)
-  answer_holds (Write handle offset bytes) = was_written offset bytes (opened tree session handle)
-  answer_holds (ReadDir handle) = read_by_handle handle (handle_in tree session handle) refl
-  answer_holds (Rename old new) = rename_cases Keeps (λ code. h) h tree moment old new (λ _ _. moved_holds old new) session number
-  answer_holds (PosixRename old new) = posix_rename_cases Keeps (λ code. h) h tree moment old new (λ _ _. moved_holds old new) session number
-  answer_holds (Link old new) =
-      link_cases Keeps (λ code. h) tree moment old new
-      (λ label _ _ _. link_to_cases Keeps (λ code. h) tree moment new label (look_up tree new) refl
-      (λ _ _. touch_holds _ moment (directory_at tree (parent new)) (name_holds tree new label h))) session number
+  answer_holds request = shape_holds request _ (shape_of tree session number moment request)
 
 pub handles_hold : (history : List Record) → IsLegal history → HandlesHold (replay history)
 handles_hold =

@@ -1,7 +1,7 @@
 -- Beginning to write into a file.
-use Rattle.std.specs.Prelude.{if◌then◌else◌, ◌≡◌, ◌≢◌, ◌<◌, ◌+◌, ℕ, true, false, List, [], ◌∷◌, length, option_map, option_and_then, Option, Some, None, refl}
+use Rattle.std.specs.Prelude.{◌≡◌, ◌≢◌, ◌<◌, ℕ, true, false, List, [], ◌∷◌, length, option_map, option_and_then, Option, Some, None, refl}
 use Rattle.std.specs.Option.{option_map_or}
-use Rattle.std.proofs.Common.{sym, ap, subst, ◌∙◌, arith, inl, inr}
+use Rattle.std.proofs.Common.{sym, ap, subst, ◌∙◌, arith, inl}
 use Rattle.sf_block.specs.Contents.{FileBytes, written, writing, blocks_of}
 use Rattle.sf_call.specs.declared.metadata.Metadata.{Metadata}
 use Rattle.sf_call.specs.Attributes.{Object, modified_at}
@@ -17,8 +17,8 @@ use Rattle.sf_inode.specs.Stores.{StoreState, node_in, bytes_of, is_file_at, blo
 use Rattle.sf_keeps.specs.Keeps.{Keeps}
 use Rattle.sf_keeps.proofs.Laws.{keeps_contents, keeps_file, keeps_left, object_again, edited_itself, edited_apart}
 use Rattle.sf_inode.specs.declared.handle.OpenHandle.{OpenHandle}
-use Rattle.sf_walk.specs.Files.{HasAllButOne, HasBlocksLeft, node_label, start_by}
-use Rattle.sf_walk.proofs.SetNodes.{stored_bytes}
+use Rattle.sf_walk.specs.Files.{HasBlocksLeft, node_label}
+use Rattle.sf_walk.proofs.SetNodes.{ShownFile, stored_bytes}
 
 pub some_blocks : (start : ℕ) (bytes : List ℕ) → 0 < length bytes → 0 < blocks_of start bytes
 some_blocks start [] some = absurd (omega (arith, some))
@@ -73,36 +73,51 @@ label_marked f g h None = refl
 label_marked f g h (Some node) = refl
 
 -- ---- the three changes
-module _ (s first second new : StoreState) (id moment k : ℕ) (f : FileBytes) (begun : first ≡ file_set s id f) (copied : second ≡ left_set first id k)
-    (marked : new ≡ edited (with_metadata (modified_at moment)) second id) where
-  node_now : node_in new.nodes id ≡ option_map (with_metadata (modified_at moment)) (option_map (with_content (with_left k)) (option_map (with_content (with_file f)) (node_in s.nodes id)))
+-- A WRITE begins in a file: it has these bytes to copy, so many blocks are left after the first one,
+-- and the file is modified; with the stores between.
+pub record WriteBegun (s new : StoreState) (node : ℕ) : Type 0 where
+  pub moment : ℕ
+  pub start : ℕ
+  pub bytes : List ℕ
+  pub left : ℕ
+  pub first : StoreState
+  pub second : StoreState
+  pub begun : first ≡ file_set s node (writing (bytes_of s.nodes node) start bytes)
+  pub copied : second ≡ left_set first node left
+  pub marked : new ≡ edited (with_metadata (modified_at moment)) second node
+
+module _ (s new : StoreState) (id : ℕ) (w : WriteBegun s new id) where
+  abbrev f : FileBytes
+  f = writing (bytes_of s.nodes id) w.start w.bytes
+
+  node_now : node_in new.nodes id ≡ option_map (with_metadata (modified_at w.moment)) (option_map (with_content (with_left w.left)) (option_map (with_content (with_file f)) (node_in s.nodes id)))
   node_now =
-      ap (λ (x : StoreState). node_in x.nodes id) marked
-      ∙ edited_itself (with_metadata (modified_at moment)) second id
-      ∙ ap (option_map (with_metadata (modified_at moment))) (ap (λ (x : StoreState). node_in x.nodes id) copied ∙ edited_itself (with_content (with_left k)) first id
-      ∙ ap (option_map (with_content (with_left k))) (ap (λ (x : StoreState). node_in x.nodes id) begun ∙ edited_itself (with_content (with_file f)) s id))
+      ap (λ (x : StoreState). node_in x.nodes id) w.marked
+      ∙ edited_itself (with_metadata (modified_at w.moment)) w.second id
+      ∙ ap (option_map (with_metadata (modified_at w.moment))) (ap (λ (x : StoreState). node_in x.nodes id) w.copied ∙ edited_itself (with_content (with_left w.left)) w.first id
+      ∙ ap (option_map (with_content (with_left w.left))) (ap (λ (x : StoreState). node_in x.nodes id) w.begun ∙ edited_itself (with_content (with_file f)) s id))
 
   pub others_now : (i : ℕ) → i ≢ id → node_in new.nodes i ≡ node_in s.nodes i
   others_now i ne =
-      ap (λ (x : StoreState). node_in x.nodes i) marked
-      ∙ edited_apart (with_metadata (modified_at moment)) second id i ne
-      ∙ ap (λ (x : StoreState). node_in x.nodes i) copied ∙ edited_apart (with_content (with_left k)) first id i ne
-      ∙ ap (λ (x : StoreState). node_in x.nodes i) begun ∙ edited_apart (with_content (with_file f)) s id i ne
+      ap (λ (x : StoreState). node_in x.nodes i) w.marked
+      ∙ edited_apart (with_metadata (modified_at w.moment)) w.second id i ne
+      ∙ ap (λ (x : StoreState). node_in x.nodes i) w.copied ∙ edited_apart (with_content (with_left w.left)) w.first id i ne
+      ∙ ap (λ (x : StoreState). node_in x.nodes i) w.begun ∙ edited_apart (with_content (with_file f)) s id i ne
 
   pub holder_now : holder_of new.nodes id ≡ holder_of s.nodes id
-  holder_now = ap (option_and_then (λ (node : Node). node.holder)) node_now ∙ holder_marked (modified_at moment) (with_left k) (with_file f) (node_in s.nodes id)
+  holder_now = ap (option_and_then (λ (node : Node). node.holder)) node_now ∙ holder_marked (modified_at w.moment) (with_left w.left) (with_file f) (node_in s.nodes id)
 
   pub label_now : node_label new.nodes id ≡ node_label s.nodes id
-  label_now = ap (option_map (λ (node : Node). node.label)) node_now ∙ label_marked (modified_at moment) (with_left k) (with_file f) (node_in s.nodes id)
+  label_now = ap (option_map (λ (node : Node). node.label)) node_now ∙ label_marked (modified_at w.moment) (with_left w.left) (with_file f) (node_in s.nodes id)
 
-  pub left_now : is_file_at s.nodes id ≡ true → blocks_left_at new.nodes id ≡ k
+  pub left_now : is_file_at s.nodes id ≡ true → blocks_left_at new.nodes id ≡ w.left
   left_now file =
       ap (λ (o : Option Node). option_map_or (λ (node : Node). blocks_left_in node.content) o 0) node_now
-      ∙ left_marked (modified_at moment) (option_map (with_content (with_left k)) (option_map (with_content (with_file f)) (node_in s.nodes id)))
-      ∙ left_by k (option_map (with_content (with_file f)) (node_in s.nodes id)) (file_filed f (node_in s.nodes id) ∙ file)
+      ∙ left_marked (modified_at w.moment) (option_map (with_content (with_left w.left)) (option_map (with_content (with_file f)) (node_in s.nodes id)))
+      ∙ left_by w.left (option_map (with_content (with_file f)) (node_in s.nodes id)) (file_filed f (node_in s.nodes id) ∙ file)
 
   pub sessions_now : new.sessions ≡ s.sessions
-  sessions_now = ap (λ (x : StoreState). x.sessions) marked ∙ ap (λ (x : StoreState). x.sessions) copied ∙ ap (λ (x : StoreState). x.sessions) begun
+  sessions_now = ap (λ (x : StoreState). x.sessions) w.marked ∙ ap (λ (x : StoreState). x.sessions) w.copied ∙ ap (λ (x : StoreState). x.sessions) w.begun
 
 -- ---- what is shown
 abbrev shown_as : ℕ → Object → Option (ℕ × Object)
@@ -123,35 +138,23 @@ filed_shown : (f : FileBytes) (k label : ℕ) (m : Metadata) (o : Option Node) (
 filed_shown f k label m None old e = absurd (let x : ⊥ = cc in x)
 filed_shown f k label m (Some node) old e = filed_content f k node.label label node.metadata m node.content old e
 
-pub start_keeps : (s first second new : StoreState) (t : Tree) (id label moment start k : ℕ) (m : Metadata) (old bytes : List ℕ) → Keeps s t → shown_of s.nodes id ≡ Some (label, File m old)
-    → first ≡ file_set s id (writing (bytes_of s.nodes id) start bytes) → second ≡ left_set first id k → new ≡ edited (with_metadata (modified_at moment)) second id
-    → Keeps new (changed t (SetObject label (File (modified_at moment m) (written old start bytes))))
-start_keeps s first second new t id label moment start k m old bytes keeps shows begun copied marked =
-    let f : FileBytes = writing (bytes_of s.nodes id) start bytes in
-    let now : List ℕ = written (bytes_of s.nodes id) start bytes in
-    let after : now ≡ written old start bytes = ap (λ (b : List ℕ). written b start bytes) (stored_bytes (node_in s.nodes id) label m old shows) in
+pub start_keeps : (s new : StoreState) (t : Tree) (f : ShownFile s) → Keeps s t → (w : WriteBegun s new f.node) → Keeps new (changed t (SetObject f.label (File (modified_at w.moment f.metadata) (written f.bytes w.start w.bytes))))
+start_keeps s new t f keeps w =
+    let id = f.node in
+    let label = f.label in
+    let m = f.metadata in
+    let file : FileBytes = writing (bytes_of s.nodes id) w.start w.bytes in
+    let now : List ℕ = written (bytes_of s.nodes id) w.start w.bytes in
+    let after : now ≡ written f.bytes w.start w.bytes = ap (λ (b : List ℕ). written b w.start w.bytes) (stored_bytes (node_in s.nodes id) label m f.bytes f.shows) in
     let one = changed t (SetObject label (File m now)) in
-    let last : Object = File (modified_at moment m) now in
-    let keeps_first : Keeps first one = subst (λ (x : StoreState). Keeps x one) (sym begun) (keeps_contents f s t id label m old keeps shows) in
-    let keeps_second : Keeps second one = subst (λ (x : StoreState). Keeps x one) (sym copied) (keeps_left k first one id keeps_first) in
-    let shows_second : shown_of second.nodes id ≡ Some (label, File m now) =
-    ap (option_map shown_node) (ap (λ (x : StoreState). node_in x.nodes id) copied ∙ edited_itself (with_content (with_left k)) first id
-    ∙ ap (option_map (with_content (with_left k))) (ap (λ (x : StoreState). node_in x.nodes id) begun ∙ edited_itself (with_content (with_file f)) s id))
-    ∙ filed_shown f k label m (node_in s.nodes id) old shows in
+    let last : Object = File (modified_at w.moment m) now in
+    let keeps_first : Keeps w.first one = subst (λ (x : StoreState). Keeps x one) (sym w.begun) (keeps_contents file s t id label m f.bytes keeps f.shows) in
+    let keeps_second : Keeps w.second one = subst (λ (x : StoreState). Keeps x one) (sym w.copied) (keeps_left w.left w.first one id keeps_first) in
+    let shows_second : shown_of w.second.nodes id ≡ Some (label, File m now) =
+    ap (option_map shown_node) (ap (λ (x : StoreState). node_in x.nodes id) w.copied ∙ edited_itself (with_content (with_left w.left)) w.first id
+    ∙ ap (option_map (with_content (with_left w.left))) (ap (λ (x : StoreState). node_in x.nodes id) w.begun ∙ edited_itself (with_content (with_file file)) s id))
+    ∙ filed_shown file w.left label m (node_in s.nodes id) f.bytes f.shows in
     let keeps_new : Keeps new (changed one (SetObject label last)) =
-    subst (λ (x : StoreState). Keeps x (changed one (SetObject label last))) (sym marked) (keeps_file (modified_at moment) second one id label m now keeps_second shows_second) in
-    subst (λ (b : List ℕ). Keeps new (changed t (SetObject label (File (modified_at moment m) b)))) after
+    subst (λ (x : StoreState). Keeps x (changed one (SetObject label last))) (sym w.marked) (keeps_file (modified_at w.moment) w.second one id label m now keeps_second shows_second) in
+    subst (λ (b : List ℕ). Keeps new (changed t (SetObject label (File (modified_at w.moment m) b)))) after
     (subst (λ (u : Tree). Keeps new u) (object_again t label (File m now) last) keeps_new)
-
--- ---- how much is left
--- the handle is the one that was found, so a write starts where it tells
-pub has_all : (s new : StoreState) (o : Option OpenHandle) (h k : OpenHandle) (offset size start : ℕ) (bytes : List ℕ) → Some k ≡ o → o ≡ Some h
-    → size ≡ length (bytes_of s.nodes k.node) → start ≡ (if k.marks.append then size else offset) → blocks_left_at new.nodes k.node + 1 ≡ blocks_of start bytes → HasAllButOne s new h offset bytes
-has_all s new o h k offset size start bytes found at sized starts left =
-    let one : k ≡ h = let e = found ∙ at in cc in
-    let begins : start ≡ start_by s k offset = starts ∙ ap (λ (n : ℕ). if k.marks.append then n else offset) sized in
-    subst (λ (x : OpenHandle). HasAllButOne s new x offset bytes) one (left ∙ ap (λ (n : ℕ). blocks_of n bytes) begins)
-
-pub has_left : (s new : StoreState) (o : Option OpenHandle) (h k : OpenHandle) (offset size start : ℕ) (bytes : List ℕ) → Some k ≡ o → o ≡ Some h
-    → size ≡ length (bytes_of s.nodes k.node) → start ≡ (if k.marks.append then size else offset) → blocks_left_at new.nodes k.node + 1 ≡ blocks_of start bytes → HasBlocksLeft s new h offset bytes
-has_left s new o h k offset size start bytes found at sized starts left = inr (has_all s new o h k offset size start bytes found at sized starts left)

@@ -26,7 +26,7 @@ use Rattle.sf_keeps.specs.Keeps.{Keeps}
 use Rattle.sf_keeps.proofs.Laws.{keeps_contents, keeps_file, object_again, edited_itself}
 use Rattle.sf_walk.specs.Served.{IsCarriedOut, is_success}
 use Rattle.sf_walk.proofs.ReplyOnly.{tells_served}
-use Rattle.sf_walk.proofs.SetNodes.{shown_stored, stored_bytes}
+use Rattle.sf_walk.proofs.SetNodes.{ShownFile, shown_stored, stored_bytes}
 use Rattle.sf_walk.proofs.OpenHandles.{IsOpen, file_is}
 
 no_file : (f : Opened → Outcome) → ((handle : Handle) (m : Metadata) → f (OpenDirectory handle m) ≡ refuses Failure) → (handle : Handle) (m : Metadata) (c : Content) → is_file_content c ≡ false
@@ -43,25 +43,33 @@ write_nothing : (moment offset : ℕ) (bytes : List ℕ) (handle : Handle) (m : 
 write_nothing moment offset bytes handle m contents w none =
     (λ i. write moment offset (none i) (OpenFile handle m contents)) ∙ (λ i. if not (w i) then refuses PermissionDenied else succeeds [])
 
-write_past : (moment offset start : ℕ) (bytes : List ℕ) (handle : Handle) (m : Metadata) (contents : List ℕ) → handle.write ≡ true → is_nil bytes ≡ false → start_of handle contents offset ≡ start
-    → nat_lt MAX_FILE_SIZE (start + length bytes) ≡ true → write moment offset bytes (OpenFile handle m contents) ≡ refuses Failure
-write_past moment offset start bytes handle m contents w some from past =
-    let ok = succeeds (SetObject handle.label (File (modified_at moment m) (written contents (start_of handle contents offset) bytes)) ∷ []) in
-    let limit : Bool = nat_lt MAX_FILE_SIZE (start_of handle contents offset + length bytes) in
-    (λ i. if not (w i) then refuses PermissionDenied else if is_nil bytes then succeeds [] else if limit then refuses Failure else ok)
-    ∙ (λ i. if some i then succeeds [] else if limit then refuses Failure else ok)
-    ∙ (λ i. if nat_lt MAX_FILE_SIZE (from i + length bytes) then refuses Failure else ok)
+-- a handle that may write, some bytes to be written by it, and where in the contents they start
+record WriteStart (handle : Handle) (contents bytes : List ℕ) : Type 0 where
+  offset : ℕ
+  start : ℕ
+  marked : handle.write ≡ true
+  some : is_nil bytes ≡ false
+  from : start_of handle contents offset ≡ start
+
+write_past : (moment : ℕ) (handle : Handle) (m : Metadata) (contents bytes : List ℕ) (w : WriteStart handle contents bytes) → nat_lt MAX_FILE_SIZE (w.start + length bytes) ≡ true
+    → write moment w.offset bytes (OpenFile handle m contents) ≡ refuses Failure
+write_past moment handle m contents bytes w past =
+    let ok = succeeds (SetObject handle.label (File (modified_at moment m) (written contents (start_of handle contents w.offset) bytes)) ∷ []) in
+    let limit : Bool = nat_lt MAX_FILE_SIZE (start_of handle contents w.offset + length bytes) in
+    (λ i. if not (w.marked i) then refuses PermissionDenied else if is_nil bytes then succeeds [] else if limit then refuses Failure else ok)
+    ∙ (λ i. if w.some i then succeeds [] else if limit then refuses Failure else ok)
+    ∙ (λ i. if nat_lt MAX_FILE_SIZE (w.from i + length bytes) then refuses Failure else ok)
     ∙ (λ i. if past i then refuses Failure else ok)
 
-write_within : (moment offset start : ℕ) (bytes : List ℕ) (handle : Handle) (m : Metadata) (contents : List ℕ) → handle.write ≡ true → is_nil bytes ≡ false → start_of handle contents offset ≡ start
-    → nat_lt MAX_FILE_SIZE (start + length bytes) ≡ false
-    → write moment offset bytes (OpenFile handle m contents) ≡ succeeds (SetObject handle.label (File (modified_at moment m) (written contents start bytes)) ∷ [])
-write_within moment offset start bytes handle m contents w some from past =
+write_within : (moment : ℕ) (handle : Handle) (m : Metadata) (contents bytes : List ℕ) (w : WriteStart handle contents bytes) → nat_lt MAX_FILE_SIZE (w.start + length bytes) ≡ false
+    → write moment w.offset bytes (OpenFile handle m contents) ≡ succeeds (SetObject handle.label (File (modified_at moment m) (written contents w.start bytes)) ∷ [])
+write_within moment handle m contents bytes w past =
     let ok = λ (k : ℕ). succeeds (SetObject handle.label (File (modified_at moment m) (written contents k bytes)) ∷ []) in
-    (λ i. if not (w i) then refuses PermissionDenied else if is_nil bytes then succeeds [] else if nat_lt MAX_FILE_SIZE (start_of handle contents offset + length bytes) then refuses Failure else ok (start_of handle contents offset))
-    ∙ (λ i. if some i then succeeds [] else if nat_lt MAX_FILE_SIZE (start_of handle contents offset + length bytes) then refuses Failure else ok (start_of handle contents offset))
-    ∙ (λ i. if nat_lt MAX_FILE_SIZE (from i + length bytes) then refuses Failure else ok (from i))
-    ∙ (λ i. if past i then refuses Failure else ok start)
+    let from = start_of handle contents w.offset in
+    (λ i. if not (w.marked i) then refuses PermissionDenied else if is_nil bytes then succeeds [] else if nat_lt MAX_FILE_SIZE (from + length bytes) then refuses Failure else ok from)
+    ∙ (λ i. if w.some i then succeeds [] else if nat_lt MAX_FILE_SIZE (from + length bytes) then refuses Failure else ok from)
+    ∙ (λ i. if nat_lt MAX_FILE_SIZE (w.from i + length bytes) then refuses Failure else ok (w.from i))
+    ∙ (λ i. if past i then refuses Failure else ok w.start)
 
 pub some_bytes : (b : Bool) (bytes : List ℕ) → (IsTrue b ↔ (bytes ≡ [])) → b ≡ false → is_nil bytes ≡ false
 some_bytes b [] h e = let t : b ≡ true = h.1 refl in cc
@@ -86,17 +94,23 @@ no_size nodes id e =
 abbrev pub IsOpenFile : List (Option Node) → ℕ → ℕ → Handle → Opened → Type 0
 IsOpenFile nodes id label handle o = (m : Metadata) × ((shown_of nodes id ≡ Some (label, File m (bytes_of nodes id))) × (o ≡ OpenFile handle m (bytes_of nodes id)))
 
-file_content : (nodes : List (Option Node)) (id l label : ℕ) (handle : Handle) (o : Opened) (m : Metadata) (c : Content) → shown_of nodes id ≡ Some (l, object_in m c) → (bytes_of nodes id) ≡ bytes_in c
-    → l ≡ label → o ≡ opened_object handle (Some (object_in m c)) → is_file_content c ≡ true → IsOpenFile nodes id label handle o
-file_content nodes id l label handle o m (content.Directory es) shows bytes e is f = absurd (let x : ⊥ = cc in x)
-file_content nodes id l label handle o m (content.File contents) shows bytes e is f = (m, (shows ∙ (λ i. Some (e i, File m (sym bytes i))), is ∙ ap (OpenFile handle m) (sym bytes)))
+file_object : (m : Metadata) (c : Content) → is_file_content c ≡ true → object_in m c ≡ File m (bytes_in c)
+file_object m (content.Directory es) f = absurd (let x : ⊥ = cc in x)
+file_object m (content.File contents) f = refl
+
+file_content : (nodes : List (Option Node)) (id : ℕ) (handle : Handle) (o : Opened) (it : Node) → node_in nodes id ≡ Some it → o ≡ opened_object handle (Some (object_in it.metadata it.content)) → is_file_content it.content ≡ true
+    → IsOpenFile nodes id it.label handle o
+file_content nodes id handle o it at is f =
+    let m = it.metadata in
+    let bytes : bytes_of nodes id ≡ bytes_in it.content = ap (λ (x : Option Node). option_map_or (λ (node : Node). bytes_in node.content) x []) at in
+    let object : object_in m it.content ≡ File m (bytes_of nodes id) = file_object m it.content f ∙ ap (File m) (sym bytes) in
+    (m, (ap (option_map shown_node) at ∙ (λ i. Some (it.label, object i)), is ∙ ap (λ (x : Object). opened_object handle (Some x)) object))
 
 -- ---- READ and WRITE
 module _ (s : StoreState) (t : Tree) (session number : ℕ) (h : OpenHandle) (o : IsOpen s t session number h) where
   open_file : is_file_at s.nodes h.node ≡ true → IsOpenFile s.nodes h.node h.label (shown_handle session h) (opened t session number)
-  open_file f =
-      file_content s.nodes h.node o.node.label h.label (shown_handle session h) (opened t session number) o.node.metadata o.node.content (ap (option_map shown_node) o.there)
-      (ap (λ (o : Option Node). (option_map_or (λ (node : Node). bytes_in node.content) o [])) o.there) o.label o.opens (sym (file_is s t session number h o) ∙ f)
+  open_file f = subst (λ (l : ℕ). IsOpenFile s.nodes h.node l (shown_handle session h) (opened t session number)) o.label
+      (file_content s.nodes h.node (shown_handle session h) (opened t session number) o.node o.there o.opens (sym (file_is s t session number h o) ∙ f))
 
   no_file_open : (f : Opened → Outcome) → ((handle : Handle) (m : Metadata) → f (OpenDirectory handle m) ≡ refuses Failure) → is_file_at s.nodes h.node ≡ false → f (opened t session number) ≡ refuses Failure
   no_file_open f law none = ap f o.opens ∙ no_file f law (shown_handle session h) o.node.metadata o.node.content (sym (file_is s t session number h o) ∙ none)
@@ -120,17 +134,20 @@ module _ (s : StoreState) (t : Tree) (session number : ℕ) (h : OpenHandle) (o 
     starts : start_of (shown_handle session h) (bytes_of s.nodes h.node) offset ≡ start
     starts = sym (from ∙ ap (λ k. if h.marks.append then k else offset) (size_is s.nodes h.node size e).1)
 
+    abbrev begins : WriteStart (shown_handle session h) (bytes_of s.nodes h.node) bytes
+    begins = record { offset = offset; start = start; marked = marked; some = some; from = starts }
+
     pub write_refused : (moment : ℕ) → true ≡ nat_lt MAX_FILE_SIZE (start + length bytes) → IsCarriedOut s t (write moment offset bytes (opened t session number)) (reply.Status Failure)
     write_refused moment past =
         let f = open_file (size_is s.nodes h.node size e).0 in
         tells_served s t (write moment offset bytes (opened t session number)) (reply.Status Failure)
-        (ap (write moment offset bytes) f.1.1 ∙ write_past moment offset start bytes (shown_handle session h) f.0 (bytes_of s.nodes h.node) marked some starts (sym past)) o.keeps
+        (ap (write moment offset bytes) f.1.1 ∙ write_past moment (shown_handle session h) f.0 (bytes_of s.nodes h.node) bytes begins (sym past)) o.keeps
 
     pub write_wants : (moment : ℕ) → false ≡ nat_lt MAX_FILE_SIZE (start + length bytes) → is_success (write moment offset bytes (opened t session number)).reply ≡ true
     write_wants moment past =
         let f = open_file (size_is s.nodes h.node size e).0 in
         ap (λ (a : Outcome). is_success a.reply)
-        (ap (write moment offset bytes) f.1.1 ∙ write_within moment offset start bytes (shown_handle session h) f.0 (bytes_of s.nodes h.node) marked some starts (sym past))
+        (ap (write moment offset bytes) f.1.1 ∙ write_within moment (shown_handle session h) f.0 (bytes_of s.nodes h.node) bytes begins (sym past))
 
     pub write_served : (new : StoreState) (moment : ℕ) → false ≡ nat_lt MAX_FILE_SIZE (start + length bytes)
         → ((u : Tree) (label : ℕ) (m : Metadata) (contents : List ℕ) → Keeps s u → shown_of s.nodes h.node ≡ Some (label, File m contents) → Keeps new (changed u (SetObject label (File (modified_at moment m) (written contents start bytes)))))
@@ -138,7 +155,7 @@ module _ (s : StoreState) (t : Tree) (session number : ℕ) (h : OpenHandle) (o 
     write_served new moment past law =
         let f = open_file (size_is s.nodes h.node size e).0 in
         subst (λ (a : Outcome). IsCarriedOut new t a (reply.Status Success))
-        (sym (ap (write moment offset bytes) f.1.1 ∙ write_within moment offset start bytes (shown_handle session h) f.0 (bytes_of s.nodes h.node) marked some starts (sym past)))
+        (sym (ap (write moment offset bytes) f.1.1 ∙ write_within moment (shown_handle session h) f.0 (bytes_of s.nodes h.node) bytes begins (sym past)))
         (record { told = refl; tree = law t h.label f.0 (bytes_of s.nodes h.node) o.keeps f.1.0 })
 
 -- ---- bytes are put into a file
@@ -146,17 +163,27 @@ shows_bytes : (s new : StoreState) (id label : ℕ) (m : Metadata) (old bytes : 
 shows_bytes s new id label m old bytes shows state =
     ap (λ (x : StoreState). shown_of x.nodes id) state ∙ ap (option_map shown_node) (edited_itself (with_content (with_bytes bytes)) s id) ∙ shown_stored (node_in s.nodes id) label m old bytes shows
 
-pub put_keeps : (s first new : StoreState) (t : Tree) (id label moment start : ℕ) (m : Metadata) (old bytes : List ℕ) → Keeps s t → shown_of s.nodes id ≡ Some (label, File m old)
-    → first ≡ bytes_set s id (written (bytes_of s.nodes id) start bytes) → new ≡ edited (with_metadata (modified_at moment)) first id
-    → Keeps new (changed t (SetObject label (File (modified_at moment m) (written old start bytes))))
-put_keeps s first new t id label moment start m old bytes keeps shows put marked =
-    let now = written (bytes_of s.nodes id) start bytes in
-    let after : now ≡ written old start bytes = ap (λ (b : List ℕ). written b start bytes) (stored_bytes (node_in s.nodes id) label m old shows) in
+-- bytes are put into a file from there on, and it is modified: with the store between
+pub record PutsBytes (s new : StoreState) (node : ℕ) : Type 0 where
+  pub moment : ℕ
+  pub start : ℕ
+  pub bytes : List ℕ
+  pub first : StoreState
+  pub put : first ≡ bytes_set s node (written (bytes_of s.nodes node) start bytes)
+  pub marked : new ≡ edited (with_metadata (modified_at moment)) first node
+
+pub put_keeps : (s new : StoreState) (t : Tree) (f : ShownFile s) → Keeps s t → (p : PutsBytes s new f.node) → Keeps new (changed t (SetObject f.label (File (modified_at p.moment f.metadata) (written f.bytes p.start p.bytes))))
+put_keeps s new t f keeps p =
+    let id = f.node in
+    let label = f.label in
+    let m = f.metadata in
+    let now = written (bytes_of s.nodes id) p.start p.bytes in
+    let after : now ≡ written f.bytes p.start p.bytes = ap (λ (b : List ℕ). written b p.start p.bytes) (stored_bytes (node_in s.nodes id) label m f.bytes f.shows) in
     let one = changed t (SetObject label (File m now)) in
-    let last : Object = File (modified_at moment m) now in
-    let keeps_first : Keeps first one = subst (λ (x : StoreState). Keeps x one) (sym put) (keeps_contents (complete now) s t id label m old keeps shows) in
-    let shows_first : shown_of first.nodes id ≡ Some (label, File m now) = shows_bytes s first id label m old now shows put in
+    let last : Object = File (modified_at p.moment m) now in
+    let keeps_first : Keeps p.first one = subst (λ (x : StoreState). Keeps x one) (sym p.put) (keeps_contents (complete now) s t id label m f.bytes keeps f.shows) in
+    let shows_first : shown_of p.first.nodes id ≡ Some (label, File m now) = shows_bytes s p.first id label m f.bytes now f.shows p.put in
     let keeps_new : Keeps new (changed one (SetObject label last)) =
-    subst (λ (x : StoreState). Keeps x (changed one (SetObject label last))) (sym marked) (keeps_file (modified_at moment) first one id label m now keeps_first shows_first) in
-    subst (λ (b : List ℕ). Keeps new (changed t (SetObject label (File (modified_at moment m) b)))) after
+    subst (λ (x : StoreState). Keeps x (changed one (SetObject label last))) (sym p.marked) (keeps_file (modified_at p.moment) p.first one id label m now keeps_first shows_first) in
+    subst (λ (b : List ℕ). Keeps new (changed t (SetObject label (File (modified_at p.moment m) b)))) after
     (subst (λ (u : Tree). Keeps new u) (object_again t label (File m now) last) keeps_new)

@@ -11,7 +11,7 @@ use Rattle.sf_inode.specs.declared.node.Content.TheVariants as content
 use Rattle.sf_inode.specs.declared.handle.OpenHandle.{OpenHandle}
 use Rattle.sf_inode.specs.declared.handle.Marks.{Marks}
 use Rattle.sf_inode.specs.Nodes.{blocks_left_in, new_content, less_content, more_content, with_content, with_bytes, with_opened, without_name, is_unused}
-use Rattle.sf_inode.specs.Stores.{StoreState, node_in, child_of, edited_by, edited, blocks_left_at, bytes_set, entry_taken, entry_put, moved_entry, relinked_from, relinked, with_nodes, released_if, released, unlinked_from, unlinked, handles_of, handles_put, handle_put, new_handle, after_open_node, after_open, handle_dropped, closed_by, closed, open_handle_at, Inserted, spot, new_entry}
+use Rattle.sf_inode.specs.Stores.{NewEntry, StoreState, node_in, child_of, edited_by, edited, blocks_left_at, bytes_set, entry_taken, entry_put, moved_entry, relinked_from, relinked, with_nodes, released_if, released, unlinked_from, unlinked, handles_of, handles_put, handle_put, new_handle, after_open_node, after_open, handle_dropped, closed_by, closed, open_handle_at, Inserted, spot}
 use Rattle.sf_keeps.proofs.Laws.{node_in-set}
 use Rattle.sf_walk.specs.Served.{IsAsBefore, KeepsRest, HoldersStay, IsAlike, LookedUp, after_look_ups}
 use Rattle.sf_walk.proofs.LookUps.{looked_nodes, looked_root}
@@ -129,16 +129,16 @@ stays_relinked {N} old s dir n to m h =
           ]
     ]
 
-pub stays_inserted : {N : Option ℕ → ℕ → Type 0} (old s new : StoreState) (dir : ℕ) (n : Name) (id : ℕ) (node : Node) → s.nodes ≡ old.nodes → Inserted s new (new_entry dir n id) node → N node.holder node.label → blocks_left_in node.content ≡ 0 → KeepsRest N old new
-stays_inserted {N} old s new dir n id node same did is_new none_of = record {
+pub stays_inserted : {N : Option ℕ → ℕ → Type 0} (old s new : StoreState) (e : NewEntry) (node : Node) → s.nodes ≡ old.nodes → Inserted s new e node → N node.holder node.label → blocks_left_in node.content ≡ 0 → KeepsRest N old new
+stays_inserted {N} old s new e node same did is_new none_of = record {
   node = λ i m at.
-      elim (nat_eq id i) as (λ b. nat_eq id i ≡ b → IsAsBefore N (node_in old.nodes i) m) [
+      elim (nat_eq e.id i) as (λ b. nat_eq e.id i ≡ b → IsAsBefore N (node_in old.nodes i) m) [
         | true ↦ λ q.
-            let is : m ≡ node = let a = did.at in let b = ap (node_in new.nodes) (eqb-true id i q) in cc in
-            let none : node_in old.nodes i ≡ None = ap (node_in old.nodes) (sym (eqb-true id i q)) ∙ ap (λ (ns : List (Option Node)). node_in ns id) (sym same) ∙ did.fresh in
+            let is : m ≡ node = let a = did.at in let b = ap (node_in new.nodes) (eqb-true e.id i q) in cc in
+            let none : node_in old.nodes i ≡ None = ap (node_in old.nodes) (sym (eqb-true e.id i q)) ∙ ap (λ (ns : List (Option Node)). node_in ns e.id) (sym same) ∙ did.fresh in
             subst (λ (o : Option Node). IsAsBefore N o m) (sym none) (marked_alike N None node m (ap (λ (x : Node). x.holder) is) (ap (λ (x : Node). x.label) is) (ap (λ (x : Node). blocks_left_in x.content) is) (is_new, none_of))
-        | false ↦ λ q. let before : KeepsRest N old (edited (with_content (more_content n id)) s dir) = stays_edited (with_content (more_content n id)) (λ x. (refl, refl, more_left n id x.content)) old s dir (stays_same old s same) in
-            before.node i m (sym (did.others i (λ e. apart id i q (sym e))) ∙ at)
+        | false ↦ λ q. let before : KeepsRest N old (edited (with_content (more_content e.name e.id)) s e.dir) = stays_edited (with_content (more_content e.name e.id)) (λ x. (refl, refl, more_left e.name e.id x.content)) old s e.dir (stays_same old s same) in
+            before.node i m (sym (did.others i (λ same'. apart e.id i q (sym same'))) ∙ at)
       ] refl;
 }
 

@@ -193,16 +193,28 @@ shown_linked s into n node =
     ∙ shown_edited (with_content (more_content n node)) s into (λ x. shown_content n node x.label x.metadata x.content) into
 
 -- ---- the name is made
-pub names_served : (s after : StoreState) (t : Tree) (k : Keeps s t) (moment : ℕ) (new : Path) (answer : Outcome) (node into : ℕ) → MakesLink s t moment new answer node into
-    → after ≡ edited (with_metadata (modified_at moment)) (linked s into (last_name_of new) node) into → IsCarriedOut after t answer (reply.Status Success)
-names_served s after t k moment new answer node into made state =
+-- a file gets a further name, whose directory is modified
+pub record NamesFile (s after : StoreState) (t : Tree) (moment : ℕ) (answer : Outcome) : Type 0 where
+  pub new : Path
+  pub node : ℕ
+  pub into : ℕ
+  pub made : MakesLink s t moment new answer node into
+  pub state : after ≡ edited (with_metadata (modified_at moment)) (linked s into (last_name_of new) node) into
+
+pub names_served : (s after : StoreState) (t : Tree) (k : Keeps s t) (moment : ℕ) (answer : Outcome) → NamesFile s after t moment answer → IsCarriedOut after t answer (reply.Status Success)
+names_served s after t k moment answer names_it =
+    let new = names_it.new in
+    let node = names_it.node in
+    let into = names_it.into in
+    let made = names_it.made in
+    let state = names_it.state in
     let m = made.may in
     let q : Path = m.beside ++ m.last ∷ [] in
     let mid = linked s into m.last node in
     let file : is_file_content m.it.content ≡ true = sym (ap (λ (o : Option Node). option_map_or (λ (x : Node). is_file_content x.content) o false) m.is_node) ∙ m.file in
     let kept : Keeps mid (changed t (NewName q m.it.label)) = keeps_linked s t k m.beside into m.last node m.it m.leads m.directory m.free m.is_node file m.fewer in
     let touched_in : Keeps (edited (with_metadata (modified_at moment)) mid into) (done (changed t (NewName q m.it.label)) (touched t moment (parent q))) =
-    touches s mid t (changed t (NewName q m.it.label)) m.beside m.last into moment k m.leads m.directory kept (shown_linked s into m.last node) in
+    touches s mid t (changed t (NewName q m.it.label)) (record { above = m.beside; name = m.last; node = into; leads = m.leads; directory = m.directory }) moment k kept (shown_linked s into m.last node) in
     let names : linked s into (last_name_of new) node ≡ mid = ap (λ (n : Name). linked s into n node) (ap last_name_of m.is_new ∙ last_is m.beside m.last) in
     subst (λ (a : Outcome). IsCarriedOut after t a (reply.Status Success)) (sym made.is)
     (record {

@@ -88,13 +88,13 @@ module _ (s : StoreState) (t : Tree) (k : Keeps s t) (moment : ℕ) (old new : P
   from_same = (relinked_alike s from m.name into m.last from other_from).0
 
   old_touched : Keeps touched_old tree_old
-  old_touched = touches s mid t (changed t (Move Old New)) m.above m.name from moment k m.leads from_is moved from_same
+  old_touched = touches s mid t (changed t (Move Old New)) (record { above = m.above; name = m.name; node = from; leads = m.leads; directory = from_is }) moment k moved from_same
 
   -- one directory for both is modified twice, with one value
   into_touched : Keeps (edited (with_metadata (modified_at moment)) touched_old into) (done tree_old (touched t moment (parent New)))
   into_touched = elim (nat_eq from into) as (λ b. nat_eq from into ≡ b → Keeps (edited (with_metadata (modified_at moment)) touched_old into) (done tree_old (touched t moment (parent New)))) [
     | false ↦ λ e.
-        touches s touched_old t tree_old m.beside m.last into moment k m.leads_new m.directory old_touched
+        touches s touched_old t tree_old (record { above = m.beside; name = m.last; node = into; leads = m.leads_new; directory = m.directory }) moment k old_touched
         (ap (option_map shown_node) (edited_apart (with_metadata (modified_at moment)) mid from into (λ h. apart from into e (sym h))) ∙ (relinked_alike s from m.name into m.last into other_into).0)
     | true ↦ λ e.
         let same : from ≡ into = eqb-true from into e in

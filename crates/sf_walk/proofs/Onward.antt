@@ -65,10 +65,10 @@ module _ (s : StoreState) (path : Path) (walked node : ℕ) (way : LeadsOnWay s 
 
   module _ (n : Name) (at : slice_get path walked ≡ Some n) where
     is_missing : child_of s.nodes node n ≡ None → way_from s.nodes s.root s.root path ≡ missing node (drop (walked + 1) path)
-    is_missing none = on_way ∙ way_lacks s.nodes node node path walked n way.short at way.directory none
+    is_missing none = on_way ∙ way_lacks s.nodes node node path (record { at = walked; name = n; within = way.short; is = at }) way.directory none
 
     goes_on : (y : ℕ) → child_of s.nodes node n ≡ Some y → way_from s.nodes s.root s.root path ≡ way_from s.nodes node y (drop (walked + 1) path)
-    goes_on y some = on_way ∙ sym (way_goes s.nodes node node y path walked n way.short at way.directory some)
+    goes_on y some = on_way ∙ sym (way_goes s.nodes node node y path (record { at = walked; name = n; within = way.short; is = at }) way.directory some)
 
     pub last_missing : child_of s.nodes node n ≡ None → walked + 1 ≡ length path → located.Missing node ≡ way_from s.nodes s.root s.root path
     last_missing none last = sym (is_missing none ∙ missing_last node path (walked + 1) (omega (arith, last)))

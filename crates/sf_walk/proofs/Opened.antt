@@ -29,13 +29,13 @@ use Rattle.sf_inode.specs.declared.handle.Marks.{Marks}
 use Rattle.sf_block.specs.Contents.{complete}
 use Rattle.sf_inode.specs.Nodes.{object_in, bytes_in, new_node, is_directory_content, with_opened, with_metadata, with_content, with_bytes}
 use Rattle.sf_keeps.specs.Steps.{walk}
-use Rattle.sf_inode.specs.Stores.{StoreState, node_in, child_of, is_directory_at, shown_node, shown_of, edited, bytes_set, handle_put, new_handle, after_open_node, after_open}
+use Rattle.sf_inode.specs.Stores.{new_entry, StoreState, node_in, child_of, is_directory_at, shown_node, shown_of, edited, bytes_set, handle_put, new_handle, after_open_node, after_open}
 use Rattle.sf_keeps.specs.Keeps.{Keeps}
 use Rattle.sf_keeps.proofs.Laws.{keeps_opened, keeps_inserted, keeps_contents, keeps_file, object_again, inserted_alike}
 use Rattle.sf_walk.specs.Ways.{missing, way_from, last_name_of, found_content, found_node}
 use Rattle.sf_walk.specs.declared.finding.Located.{Located}
 use Rattle.sf_walk.specs.declared.finding.Located.TheVariants as located
-use Rattle.sf_walk.specs.Opening.{marks_of, OpenedNew, to_open}
+use Rattle.sf_walk.specs.Opening.{ToOpen, marks_of, OpenedNew, to_open}
 use Rattle.sf_walk.specs.Served.{IsCarriedOut, ServesOutcome, IsAlike, LookedUp, KeepsRest, IsUnused, is_success}
 use Rattle.sf_walk.proofs.Holders.{put_nodes, new_left, stays_inserted, stays_opened}
 use Rattle.sf_walk.proofs.LookUps.{looked_nodes}
@@ -44,6 +44,7 @@ use Rattle.sf_walk.proofs.Undone.{edited_node, edited_itself}
 use Rattle.sf_walk.proofs.Looked.{keeps_counted, way_looked, alike_after}
 use Rattle.sf_walk.proofs.LastNames.{last_is}
 use Rattle.sf_walk.proofs.ReplyOnly.{tells_served, past_root, past_root_gives, on_err_map}
+use Rattle.sf_walk.proofs.SetNodes.{ShownFile}
 use Rattle.sf_walk.proofs.Parents.{shown_directory, touches}
 use Rattle.sf_walk.proofs.PathCalls.{node_located}
 
@@ -155,7 +156,7 @@ module _ (t : Tree) (session number moment : ℕ) (path : Path) (flags : OpenFla
       ap (λ (x : StoreState). shown_of x.nodes dir) did.state ∙ shown_opened did.mid session number did.id (marks_of flags) dir ∙ (inserted_alike s did.mid dir n did.id (new_node it) dir did.inserted other).0 in
       let u = changed made (OpenHandle number (new_file_handle session number flags)) in
       let after : Keeps (edited (with_metadata (modified_at moment)) mid dir) (done u (touched t moment (parent (front ++ n ∷ [])))) =
-      touches s mid t u front n dir moment k at d (subst (λ (x : StoreState). Keeps x u) (sym did.state) opens_it) shown in
+      touches s mid t u (record { above = front; name = n; node = dir; leads = at; directory = d }) moment k (subst (λ (x : StoreState). Keeps x u) (sym did.state) opens_it) shown in
       let complete : Keeps new (done t (OpenHandle number (new_file_handle session number flags) ∷ NewPath path number (File (new_metadata 0o644 moment attrs) []) ∷ touched t moment (parent path))) =
       subst (λ (x : StoreState). Keeps x (done t (OpenHandle number (new_file_handle session number flags) ∷ NewPath path number (File (new_metadata 0o644 moment attrs) []) ∷ touched t moment (parent path)))) (sym state)
       (subst (λ (m : Metadata). Keeps (edited (with_metadata (modified_at moment)) mid dir) (done t (OpenHandle number (new_file_handle session number flags) ∷ NewPath path number (File m []) ∷ touched t moment (parent path)))) asked
@@ -180,22 +181,25 @@ cut_shown : (o : Option Node) (label : ℕ) (m : Metadata) (bytes : List ℕ) �
 cut_shown None label m bytes e = cc
 cut_shown (Some node) label m bytes e = cut_node node.content node.label label node.metadata m bytes e
 
-pub cut_served : (s mid new : StoreState) (t : Tree) (id moment label : ℕ) (m : Metadata) (bytes : List ℕ) → Keeps s t → shown_of s.nodes id ≡ Some (label, File m bytes)
-    → mid ≡ bytes_set s id [] → new ≡ edited (with_metadata (modified_at moment)) mid id → Keeps new (changed t (SetObject label (File (modified_at moment m) [])))
-cut_served s mid new t id moment label m bytes k at is state =
-    let kept : Keeps mid (changed t (SetObject label (File m []))) = subst (λ (x : StoreState). Keeps x (changed t (SetObject label (File m [])))) (sym is) (keeps_contents (complete []) s t id label m bytes k at) in
+pub cut_served : (s mid new : StoreState) (t : Tree) (f : ShownFile s) (moment : ℕ) → Keeps s t → mid ≡ bytes_set s f.node [] → new ≡ edited (with_metadata (modified_at moment)) mid f.node
+    → Keeps new (changed t (SetObject f.label (File (modified_at moment f.metadata) [])))
+cut_served s mid new t f moment k is state =
+    let id = f.node in
+    let label = f.label in
+    let m = f.metadata in
+    let kept : Keeps mid (changed t (SetObject label (File m []))) = subst (λ (x : StoreState). Keeps x (changed t (SetObject label (File m [])))) (sym is) (keeps_contents (complete []) s t id label m f.bytes k f.shows) in
     let shown : shown_of mid.nodes id ≡ Some (label, File m []) =
     ap (λ (x : StoreState). shown_of x.nodes id) is
     ∙ ap (option_map shown_node) (edited_itself (with_content (with_bytes [])) s id)
-    ∙ cut_shown (node_in s.nodes id) label m bytes at in
+    ∙ cut_shown (node_in s.nodes id) label m f.bytes f.shows in
     subst (λ (x : StoreState). Keeps x (changed t (SetObject label (File (modified_at moment m) [])))) (sym state)
     (subst (λ (u : Tree). Keeps (edited (with_metadata (modified_at moment)) mid id) u) (object_again t label (File m []) (File (modified_at moment m) []))
     (keeps_file (modified_at moment) mid (changed t (SetObject label (File m []))) id label m [] kept shown))
 
 -- ---- what opening leaves of holders
-pub stays_opened_new : {N : Option ℕ → ℕ → Type 0} (before s new : StoreState) (session number dir : ℕ) (n : Name) (marks : Marks) (made : NewNode) → s.nodes ≡ before.nodes → OpenedNew s new (to_open session number dir n marks) made → N None made.label → KeepsRest N before new
-stays_opened_new {N} before s new session number dir n marks made same did is_new =
-    subst (KeepsRest N before) (sym did.state) (stays_opened before did.mid session number did.id marks (stays_inserted before s did.mid dir n did.id (new_node made) same did.inserted is_new (new_left made.file_type)))
+pub stays_opened_new : {N : Option ℕ → ℕ → Type 0} (before s new : StoreState) (o : ToOpen) (made : NewNode) → s.nodes ≡ before.nodes → OpenedNew s new o made → N None made.label → KeepsRest N before new
+stays_opened_new {N} before s new o made same did is_new =
+    subst (KeepsRest N before) (sym did.state) (stays_opened before did.mid o.session o.number did.id o.marks (stays_inserted before s did.mid (new_entry o.dir o.name did.id) (new_node made) same did.inserted is_new (new_left made.file_type)))
 
 pub alike_err : {A E : Type 0} (old mid new : StoreState) (most : ℕ) (r : Result A E) → LookedUp old mid most → OnErr r (new ≡ mid) → OnErr r (IsAlike old new)
 alike_err old mid new most r looked = on_err_map r (new ≡ mid) (IsAlike old new) (alike_after old mid new most looked)

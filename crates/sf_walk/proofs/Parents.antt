@@ -61,57 +61,101 @@ bare_above nodes d n =
       | Some node ↦ λ e. content_bare node.content n e
     ]
 
--- a directory that a path's last name stands in is modified, in the store and in the tree
-pub touches : (s new : StoreState) (t u : Tree) (r : Path) (n : Name) (dir moment : ℕ) → Keeps s t → walk (child_of s.nodes) s.root r ≡ Some dir → is_directory_at s.nodes dir ≡ true
-    → Keeps new u → shown_of new.nodes dir ≡ shown_of s.nodes dir → Keeps (edited (with_metadata (modified_at moment)) new dir) (done u (touched t moment (parent (r ++ n ∷ []))))
-touches s new t u r n dir moment h at d kept same =
-    let w = shown_directory s.nodes dir d in
-    let is : directory_at t (parent (r ++ n ∷ [])) ≡ Some (w.0, w.1.0) = ap (directory_at t) (parent_is r n) ∙ directory_found s t h r dir w.0 w.1.0 at w.1.1 in
-    subst (λ (o : Option (ℕ × Metadata)). Keeps (edited (with_metadata (modified_at moment)) new dir) (done u (touch moment o))) (sym is)
-    (keeps_directory (modified_at moment) new u dir w.0 w.1.0 kept (same ∙ w.1.1))
+-- a directory of a store in which a path's last name stands
+pub record ParentIn (s : StoreState) : Type 0 where
+  pub above : Path
+  pub name : Name
+  pub node : ℕ
+  pub leads : walk (child_of s.nodes) s.root above ≡ Some node
+  pub directory : is_directory_at s.nodes node ≡ true
+
+-- the path
+abbrev pub below : {s : StoreState} → ParentIn s → Path
+below p = p.above ++ p.name ∷ []
+
+-- it is modified, in the store and in the tree
+pub touches : (s new : StoreState) (t u : Tree) (p : ParentIn s) (moment : ℕ) → Keeps s t → Keeps new u → shown_of new.nodes p.node ≡ shown_of s.nodes p.node
+    → Keeps (edited (with_metadata (modified_at moment)) new p.node) (done u (touched t moment (parent (below p))))
+touches s new t u p moment h kept same =
+    let w = shown_directory s.nodes p.node p.directory in
+    let is : directory_at t (parent (below p)) ≡ Some (w.0, w.1.0) = ap (directory_at t) (parent_is p.above p.name) ∙ directory_found s t h p.above p.node w.0 w.1.0 p.leads w.1.1 in
+    subst (λ (o : Option (ℕ × Metadata)). Keeps (edited (with_metadata (modified_at moment)) new p.node) (done u (touch moment o))) (sym is)
+    (keeps_directory (modified_at moment) new u p.node w.0 w.1.0 kept (same ∙ w.1.1))
 
 -- ---- MKDIR of a missing name
-pub make_served : (old mid made new : StoreState) (t : Tree) (p : Path) (most number moment : ℕ) (attrs : Attrs) (dir id : ℕ) (it : NewNode)
-    → LookedUp old mid most → Keeps old t → object_of t.objects number ≡ None → located.Missing dir ≡ way_from old.nodes old.root old.root p
-    → Inserted mid made (new_entry dir (last_name_of p) id) (new_node it) → it.label ≡ number → object_in it.metadata (new_content it.file_type) ≡ Directory (new_metadata 0o755 moment attrs)
-    → new ≡ edited (with_metadata (modified_at moment)) made dir
-    → IsCarriedOut new t (make_directory t (stamp number moment) p attrs (look_up t p)) (reply.Status Success)
-make_served old mid made new t p most number moment attrs dir id it looked h fresh e did label object state =
-    let k = keeps_counted old mid t most looked h in
-    let f = name_missing mid t k p dir (way_looked old mid p most (located.Missing dir) looked e) in
+-- What a MKDIR does: it looks for the path's way, puts a new node under its last name, and its parent is modified.
+pub record MakesDirectory (old new : StoreState) (p : Path) (number : ℕ) : Type 0 where
+  pub mid : StoreState
+  pub made : StoreState
+  pub most : ℕ
+  pub moment : ℕ
+  pub attrs : Attrs
+  pub dir : ℕ
+  pub id : ℕ
+  pub it : NewNode
+  pub looked : LookedUp old mid most
+  pub missing : located.Missing dir ≡ way_from old.nodes old.root old.root p
+  pub inserted : Inserted mid made (new_entry dir (last_name_of p) id) (new_node it)
+  pub label : it.label ≡ number
+  pub object : object_in it.metadata (new_content it.file_type) ≡ Directory (new_metadata 0o755 moment attrs)
+  pub state : new ≡ edited (with_metadata (modified_at moment)) made dir
+
+pub make_served : (old new : StoreState) (t : Tree) (p : Path) (number : ℕ) → Keeps old t → object_of t.objects number ≡ None → (m : MakesDirectory old new p number)
+    → IsCarriedOut new t (make_directory t (stamp number m.moment) p m.attrs (look_up t p)) (reply.Status Success)
+make_served old new t p number h fresh m =
+    let mid = m.mid in
+    let made = m.made in
+    let moment = m.moment in
+    let dir = m.dir in
+    let it = m.it in
+    let object = Directory (new_metadata 0o755 moment m.attrs) in
+    let k = keeps_counted old mid t m.most m.looked h in
+    let f = name_missing mid t k p dir (way_looked old mid p m.most (located.Missing dir) m.looked m.missing) in
     let r = f.1.0 in
     let n = f.1.1 in
     let is : p ≡ r ++ n ∷ [] = f.1.2 in
-    let put = subst (λ (m : Name). Inserted mid made (new_entry dir m id) (new_node it)) (ap last_name_of is ∙ last_is r n) did in
+    let put = subst (λ (x : Name). Inserted mid made (new_entry dir x m.id) (new_node it)) (ap last_name_of is ∙ last_is r n) m.inserted in
     let u = changed t (NewPath (r ++ n ∷ []) it.label (object_in it.metadata (new_content it.file_type))) in
-    let kept : Keeps made u = keeps_inserted mid made t r dir n id it k put f.1.3 f.1.5 f.1.4 (ap (object_of t.objects) label ∙ fresh) in
-    let other : dir ≢ id = λ same. (let w = shown_directory mid.nodes dir f.1.5 in let gone = ap (node_in mid.nodes) same ∙ put.fresh in let none = ap (option_map shown_node) gone in let x : ⊥ = cc (w.1.1) in x) in
-    let after : Keeps (edited (with_metadata (modified_at moment)) made dir) (done u (touched t moment (parent (r ++ n ∷ [])))) =
-    touches mid made t u r n dir moment k f.1.3 f.1.5 kept (inserted_alike mid made dir n id (new_node it) dir put other).0 in
-    let whole : Keeps new (done t (NewPath p number (Directory (new_metadata 0o755 moment attrs)) ∷ touched t moment (parent p))) =
-    subst (λ (s : StoreState). Keeps s (done t (NewPath p number (Directory (new_metadata 0o755 moment attrs)) ∷ touched t moment (parent p)))) (sym state)
-    (subst (λ (q : Path). Keeps (edited (with_metadata (modified_at moment)) made dir) (done t (NewPath q number (Directory (new_metadata 0o755 moment attrs)) ∷ touched t moment (parent q)))) (sym is)
-    (subst (λ (o : Object). Keeps (edited (with_metadata (modified_at moment)) made dir) (done t (NewPath (r ++ n ∷ []) number o ∷ touched t moment (parent (r ++ n ∷ []))))) object
-    (subst (λ (l : ℕ). Keeps (edited (with_metadata (modified_at moment)) made dir) (done t (NewPath (r ++ n ∷ []) l (object_in it.metadata (new_content it.file_type)) ∷ touched t moment (parent (r ++ n ∷ []))))) label after))) in
-    subst (λ (a : Outcome). IsCarriedOut new t a (reply.Status Success)) (sym (ap (make_directory t (stamp number moment) p attrs) f.0)) (record { told = refl; tree = whole })
+    let kept : Keeps made u = keeps_inserted mid made t r dir n m.id it k put f.1.3 f.1.5 f.1.4 (ap (object_of t.objects) m.label ∙ fresh) in
+    let other : dir ≢ m.id = λ same. (let w = shown_directory mid.nodes dir f.1.5 in let gone = ap (node_in mid.nodes) same ∙ put.fresh in let none = ap (option_map shown_node) gone in let x : ⊥ = cc (w.1.1) in x) in
+    let touched_dir = edited (with_metadata (modified_at moment)) made dir in
+    let after : Keeps touched_dir (done u (touched t moment (parent (r ++ n ∷ [])))) =
+    touches mid made t u (record { above = r; name = n; node = dir; leads = f.1.3; directory = f.1.5 }) moment k kept (inserted_alike mid made dir n m.id (new_node it) dir put other).0 in
+    let whole : Keeps new (done t (NewPath p number object ∷ touched t moment (parent p))) =
+    subst (λ (s : StoreState). Keeps s (done t (NewPath p number object ∷ touched t moment (parent p)))) (sym m.state)
+    (subst (λ (q : Path). Keeps touched_dir (done t (NewPath q number object ∷ touched t moment (parent q)))) (sym is)
+    (subst (λ (o : Object). Keeps touched_dir (done t (NewPath (r ++ n ∷ []) number o ∷ touched t moment (parent (r ++ n ∷ []))))) m.object
+    (subst (λ (l : ℕ). Keeps touched_dir (done t (NewPath (r ++ n ∷ []) l (object_in it.metadata (new_content it.file_type)) ∷ touched t moment (parent (r ++ n ∷ []))))) m.label after))) in
+    subst (λ (a : Outcome). IsCarriedOut new t a (reply.Status Success)) (sym (ap (make_directory t (stamp number moment) p m.attrs) f.0)) (record { told = refl; tree = whole })
 
 -- ---- a path less
-pub goes_served : (s new : StoreState) (t : Tree) (p : Path) (moment dir y : ℕ)
-    → Keeps s t → 0 < length p → way_from s.nodes s.root s.root p ≡ located.At dir y → is_bare_at s.nodes y ≡ true → new ≡ edited (with_metadata (modified_at moment)) (unlinked s dir (last_name_of p)) dir
-    → IsCarriedOut new t (goes t moment p) (reply.Status Success)
-goes_served s new t p moment dir y h some e bare state = elim (node_at s t h p dir y e).1 [
-  | inl root ↦ let z = ap (λ (q : Path). length q) root in absurd (omega arith)
-  | inr f ↦
-      let r = f.0 in
-      let n = f.1 in
-      let is : p ≡ r ++ n ∷ [] = f.2 in
-      let kept : Keeps (unlinked s dir n) (changed t (GonePath (r ++ n ∷ []))) = keeps_unlinked s t r dir n y h f.3 f.4 bare in
-      let other : child_of s.nodes dir n ≢ Some dir = λ own. (let same : dir ≡ y = (let g = f.4 in cc) in let none = bare_above s.nodes dir n (ap (is_bare_at s.nodes) same ∙ bare) in let x : ⊥ = cc in x) in
-      let after : Keeps (edited (with_metadata (modified_at moment)) (unlinked s dir n) dir) (done (changed t (GonePath (r ++ n ∷ []))) (touched t moment (parent (r ++ n ∷ [])))) =
-      touches s (unlinked s dir n) t (changed t (GonePath (r ++ n ∷ []))) r n dir moment h f.3 (has_entry s.nodes dir n y f.4) kept (unlinked_alike s dir n dir other).0 in
-      let whole : Keeps new (done t (GonePath p ∷ touched t moment (parent p))) =
-      subst (λ (x : StoreState). Keeps x (done t (GonePath p ∷ touched t moment (parent p)))) (sym state)
-      (subst (λ (x : Name). Keeps (edited (with_metadata (modified_at moment)) (unlinked s dir x) dir) (done t (GonePath p ∷ touched t moment (parent p)))) (sym (ap last_name_of is ∙ last_is r n))
-      (subst (λ (q : Path). Keeps (edited (with_metadata (modified_at moment)) (unlinked s dir n) dir) (done t (GonePath q ∷ touched t moment (parent q)))) (sym is) after)) in
-      record { told = refl; tree = whole }
-]
+-- a path's last name is taken out of its directory, which is modified
+pub record TakesOut (s new : StoreState) (p : Path) : Type 0 where
+  pub moment : ℕ
+  pub dir : ℕ
+  pub node : ℕ
+  pub some : 0 < length p
+  pub way : way_from s.nodes s.root s.root p ≡ located.At dir node
+  pub bare : is_bare_at s.nodes node ≡ true
+  pub state : new ≡ edited (with_metadata (modified_at moment)) (unlinked s dir (last_name_of p)) dir
+
+pub goes_served : (s new : StoreState) (t : Tree) (p : Path) → Keeps s t → (o : TakesOut s new p) → IsCarriedOut new t (goes t o.moment p) (reply.Status Success)
+goes_served s new t p h o =
+    let moment = o.moment in
+    let dir = o.dir in
+    elim (node_at s t h p dir o.node o.way).1 [
+      | inl root ↦ let z = ap (λ (q : Path). length q) root in let some = o.some in absurd (omega (arith, z, some))
+      | inr f ↦
+          let r = f.0 in
+          let n = f.1 in
+          let is : p ≡ r ++ n ∷ [] = f.2 in
+          let kept : Keeps (unlinked s dir n) (changed t (GonePath (r ++ n ∷ []))) = keeps_unlinked s t r dir n o.node h f.3 f.4 o.bare in
+          let other : child_of s.nodes dir n ≢ Some dir = λ own. (let same : dir ≡ o.node = (let g = f.4 in cc) in let none = bare_above s.nodes dir n (ap (is_bare_at s.nodes) same ∙ o.bare) in let x : ⊥ = cc in x) in
+          let after : Keeps (edited (with_metadata (modified_at moment)) (unlinked s dir n) dir) (done (changed t (GonePath (r ++ n ∷ []))) (touched t moment (parent (r ++ n ∷ [])))) =
+          touches s (unlinked s dir n) t (changed t (GonePath (r ++ n ∷ []))) (record { above = r; name = n; node = dir; leads = f.3; directory = has_entry s.nodes dir n o.node f.4 }) moment h kept (unlinked_alike s dir n dir other).0 in
+          let whole : Keeps new (done t (GonePath p ∷ touched t moment (parent p))) =
+          subst (λ (x : StoreState). Keeps x (done t (GonePath p ∷ touched t moment (parent p)))) (sym o.state)
+          (subst (λ (x : Name). Keeps (edited (with_metadata (modified_at moment)) (unlinked s dir x) dir) (done t (GonePath p ∷ touched t moment (parent p)))) (sym (ap last_name_of is ∙ last_is r n))
+          (subst (λ (q : Path). Keeps (edited (with_metadata (modified_at moment)) (unlinked s dir n) dir) (done t (GonePath q ∷ touched t moment (parent q)))) (sym is) after)) in
+          record { told = refl; tree = whole }
+    ]

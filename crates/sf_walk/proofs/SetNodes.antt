@@ -76,48 +76,74 @@ pub stored_bytes : (o : Option Node) (l : ℕ) (m : Metadata) (old : List ℕ) �
 stored_bytes None l m old e = cc
 stored_bytes (Some node) l m old e = content_bytes l node.label m node.metadata node.content old e
 
-pub set_plain : (s new : StoreState) (t : Tree) (id moment : ℕ) (attrs : Attrs) (it : Node) → Keeps s t → node_in s.nodes id ≡ Some it → attrs.size ≡ None
-    → new ≡ edited (with_metadata (λ m. with_parts m attrs)) s id → IsCarriedOut new t (sets moment it.label attrs (object_in it.metadata it.content)) (reply.Status Success)
-set_plain s new t id moment attrs it h at none state =
-    subst (λ (x : StoreState). IsCarriedOut x t (sets moment it.label attrs (object_in it.metadata it.content)) (reply.Status Success)) (sym state)
-    (subst (λ (a : Outcome). IsCarriedOut (edited (with_metadata (λ m. with_parts m attrs)) s id) t a (reply.Status Success)) (sym (sets_plain moment it.label attrs it.metadata it.content none))
-    (record { told = refl; tree = keeps_metadata (λ m. with_parts m attrs) s t id it h at }))
+-- a file as a store shows it: its node, its label, its metadata and its bytes
+pub record ShownFile (s : StoreState) : Type 0 where
+  pub node : ℕ
+  pub label : ℕ
+  pub metadata : Metadata
+  pub bytes : List ℕ
+  pub shows : shown_of s.nodes node ≡ Some (label, File metadata bytes)
 
-set_cut : (s first second new : StoreState) (t : Tree) (id label moment size : ℕ) (attrs : Attrs) (m : Metadata) (old : List ℕ) (cut_to : List ℕ) → cut_to ≡ resized old size → Keeps s t → shown_of s.nodes id ≡ Some (label, File m old)
-    → attrs.size ≡ Some size → nat_lt MAX_FILE_SIZE size ≡ false
-    → first ≡ bytes_set s id cut_to → second ≡ edited (with_metadata (modified_at moment)) first id → new ≡ edited (with_metadata (λ k. with_parts k attrs)) second id
-    → IsCarriedOut new t (sets moment label attrs (File m old)) (reply.Status Success)
-set_cut s first second new t id label moment size attrs m old cut_to is_cut h shows some fits cut marked set =
-    let bytes = cut_to in
+-- a node's parts are set, and no size
+pub record SetsParts (s new : StoreState) (node : ℕ) : Type 0 where
+  pub moment : ℕ
+  pub attrs : Attrs
+  pub no_size : attrs.size ≡ None
+  pub set : new ≡ edited (with_metadata (λ m. with_parts m attrs)) s node
+
+pub set_plain : (s new : StoreState) (t : Tree) (node : ℕ) (it : Node) → Keeps s t → node_in s.nodes node ≡ Some it → (p : SetsParts s new node)
+    → IsCarriedOut new t (sets p.moment it.label p.attrs (object_in it.metadata it.content)) (reply.Status Success)
+set_plain s new t node it h at p =
+    subst (λ (x : StoreState). IsCarriedOut x t (sets p.moment it.label p.attrs (object_in it.metadata it.content)) (reply.Status Success)) (sym p.set)
+    (subst (λ (a : Outcome). IsCarriedOut (edited (with_metadata (λ m. with_parts m p.attrs)) s node) t a (reply.Status Success)) (sym (sets_plain p.moment it.label p.attrs it.metadata it.content p.no_size))
+    (record { told = refl; tree = keeps_metadata (λ m. with_parts m p.attrs) s t node it h at }))
+
+-- A file's size is set, the file is modified, and then its other parts are set: with the stores
+-- between.
+pub record CutsFile (s new : StoreState) (node : ℕ) : Type 0 where
+  pub moment : ℕ
+  pub size : ℕ
+  pub attrs : Attrs
+  pub first : StoreState
+  pub second : StoreState
+  pub some : attrs.size ≡ Some size
+  pub fits : nat_lt MAX_FILE_SIZE size ≡ false
+  pub cut : first ≡ bytes_set s node (resized (bytes_of s.nodes node) size)
+  pub marked : second ≡ edited (with_metadata (modified_at moment)) first node
+  pub set : new ≡ edited (with_metadata (λ k. with_parts k attrs)) second node
+
+set_cut : (s new : StoreState) (t : Tree) (f : ShownFile s) → Keeps s t → (c : CutsFile s new f.node) → IsCarriedOut new t (sets c.moment f.label c.attrs (File f.metadata f.bytes)) (reply.Status Success)
+set_cut s new t f h c =
+    let id = f.node in
+    let label = f.label in
+    let m = f.metadata in
+    let bytes = resized (bytes_of s.nodes id) c.size in
+    let is_cut : bytes ≡ resized f.bytes c.size = ap (λ (b : List ℕ). resized b c.size) (stored_bytes (node_in s.nodes id) label m f.bytes f.shows) in
     let one = changed t (SetObject label (File m bytes)) in
-    let keeps_one : Keeps first one = subst (λ (x : StoreState). Keeps x one) (sym cut) (keeps_contents (complete cut_to) s t id label m old h shows) in
-    let shows_one : shown_of first.nodes id ≡ Some (label, File m bytes) =
-    ap (λ (x : StoreState). shown_of x.nodes id) cut ∙ ap (option_map shown_node) (edited_itself (with_content (with_bytes cut_to)) s id)
-    ∙ shown_stored (node_in s.nodes id) label m old cut_to shows in
-    let two = changed one (SetObject label (File (modified_at moment m) bytes)) in
-    let keeps_two : Keeps second two = subst (λ (x : StoreState). Keeps x two) (sym marked) (keeps_file (modified_at moment) first one id label m bytes keeps_one shows_one) in
-    let shows_two : shown_of second.nodes id ≡ Some (label, File (modified_at moment m) bytes) =
-    ap (λ (x : StoreState). shown_of x.nodes id) marked ∙ ap (option_map shown_node) (edited_itself (with_metadata (modified_at moment)) first id) ∙ shown_marked (modified_at moment) (node_in first.nodes id) label m bytes shows_one in
-    let last : Object = File (with_parts (modified_at moment m) attrs) bytes in
+    let keeps_one : Keeps c.first one = subst (λ (x : StoreState). Keeps x one) (sym c.cut) (keeps_contents (complete bytes) s t id label m f.bytes h f.shows) in
+    let shows_one : shown_of c.first.nodes id ≡ Some (label, File m bytes) =
+    ap (λ (x : StoreState). shown_of x.nodes id) c.cut ∙ ap (option_map shown_node) (edited_itself (with_content (with_bytes bytes)) s id)
+    ∙ shown_stored (node_in s.nodes id) label m f.bytes bytes f.shows in
+    let two = changed one (SetObject label (File (modified_at c.moment m) bytes)) in
+    let keeps_two : Keeps c.second two = subst (λ (x : StoreState). Keeps x two) (sym c.marked) (keeps_file (modified_at c.moment) c.first one id label m bytes keeps_one shows_one) in
+    let shows_two : shown_of c.second.nodes id ≡ Some (label, File (modified_at c.moment m) bytes) =
+    ap (λ (x : StoreState). shown_of x.nodes id) c.marked ∙ ap (option_map shown_node) (edited_itself (with_metadata (modified_at c.moment)) c.first id) ∙ shown_marked (modified_at c.moment) (node_in c.first.nodes id) label m bytes shows_one in
+    let last : Object = File (with_parts (modified_at c.moment m) c.attrs) bytes in
     let keeps_new : Keeps new (changed two (SetObject label last)) =
-    subst (λ (x : StoreState). Keeps x (changed two (SetObject label last))) (sym set) (keeps_file (λ k. with_parts k attrs) second two id label (modified_at moment m) bytes keeps_two shows_two) in
-    let folded : changed two (SetObject label last) ≡ changed t (SetObject label last) = object_again one label (File (modified_at moment m) bytes) last ∙ object_again t label (File m bytes) last in
-    subst (λ (a : Outcome). IsCarriedOut new t a (reply.Status Success)) (sym (sets_cut moment label attrs m old size some fits))
-    (record { told = refl; tree = subst (λ (b : List ℕ). Keeps new (changed t (SetObject label (File (with_parts (modified_at moment m) attrs) b)))) is_cut (subst (λ (u : Tree). Keeps new u) folded keeps_new) })
+    subst (λ (x : StoreState). Keeps x (changed two (SetObject label last))) (sym c.set) (keeps_file (λ k. with_parts k c.attrs) c.second two id label (modified_at c.moment m) bytes keeps_two shows_two) in
+    let folded : changed two (SetObject label last) ≡ changed t (SetObject label last) = object_again one label (File (modified_at c.moment m) bytes) last ∙ object_again t label (File m bytes) last in
+    subst (λ (a : Outcome). IsCarriedOut new t a (reply.Status Success)) (sym (sets_cut c.moment label c.attrs m f.bytes c.size c.some c.fits))
+    (record { told = refl; tree = subst (λ (b : List ℕ). Keeps new (changed t (SetObject label (File (with_parts (modified_at c.moment m) c.attrs) b)))) is_cut (subst (λ (u : Tree). Keeps new u) folded keeps_new) })
 
-set_content_cut : (s first second new : StoreState) (t : Tree) (id label moment size : ℕ) (attrs : Attrs) (m : Metadata) (c : Content) → Keeps s t → shown_of s.nodes id ≡ Some (label, object_in m c) → is_directory_content c ≡ false
-    → attrs.size ≡ Some size → nat_lt MAX_FILE_SIZE size ≡ false
-    → first ≡ bytes_set s id (resized (bytes_of s.nodes id) size) → second ≡ edited (with_metadata (modified_at moment)) first id → new ≡ edited (with_metadata (λ k. with_parts k attrs)) second id
-    → IsCarriedOut new t (sets moment label attrs (object_in m c)) (reply.Status Success)
-set_content_cut s first second new t id label moment size attrs m (content.Directory es) h shows d some fits cut marked set = absurd (let x : ⊥ = cc in x)
-set_content_cut s first second new t id label moment size attrs m (content.File c) h shows d some fits cut marked set =
-    set_cut s first second new t id label moment size attrs m c.bytes (resized (bytes_of s.nodes id) size)
-    (ap (λ (bytes : List ℕ). resized bytes size) (stored_bytes (node_in s.nodes id) label m c.bytes shows)) h shows some fits cut marked set
+-- what is no directory is a file
+file_object : (m : Metadata) (c : Content) → is_directory_content c ≡ false → (bytes : List ℕ) × (object_in m c ≡ File m bytes)
+file_object m (content.Directory es) d = absurd (let x : ⊥ = cc in x)
+file_object m (content.File contents) d = (contents.bytes, refl)
 
-pub set_sized : (s first second new : StoreState) (t : Tree) (id moment size : ℕ) (attrs : Attrs) (it : Node) → Keeps s t → node_in s.nodes id ≡ Some it → is_directory_at s.nodes id ≡ false
-    → attrs.size ≡ Some size → nat_lt MAX_FILE_SIZE size ≡ false
-    → first ≡ bytes_set s id (resized (bytes_of s.nodes id) size) → second ≡ edited (with_metadata (modified_at moment)) first id → new ≡ edited (with_metadata (λ k. with_parts k attrs)) second id
-    → IsCarriedOut new t (sets moment it.label attrs (object_in it.metadata it.content)) (reply.Status Success)
-set_sized s first second new t id moment size attrs it h at d =
-    set_content_cut s first second new t id it.label moment size attrs it.metadata it.content h (ap (option_map shown_node) at)
-    (sym (ap (λ (o : Option Node). option_map_or (λ (node : Node). is_directory_content node.content) o false) at) ∙ d)
+pub set_sized : (s new : StoreState) (t : Tree) (node : ℕ) (it : Node) → Keeps s t → node_in s.nodes node ≡ Some it → is_directory_at s.nodes node ≡ false → (c : CutsFile s new node)
+    → IsCarriedOut new t (sets c.moment it.label c.attrs (object_in it.metadata it.content)) (reply.Status Success)
+set_sized s new t node it h at d c =
+    let file = file_object it.metadata it.content (sym (ap (λ (o : Option Node). option_map_or (λ (x : Node). is_directory_content x.content) o false) at) ∙ d) in
+    let shows : shown_of s.nodes node ≡ Some (it.label, File it.metadata file.0) = ap (option_map shown_node) at ∙ ap (λ (o : Object). Some (shown_as it.label o)) file.1 in
+    subst (λ (o : Object). IsCarriedOut new t (sets c.moment it.label c.attrs o) (reply.Status Success)) (sym file.1)
+    (set_cut s new t (record { node = node; label = it.label; metadata = it.metadata; bytes = file.0; shows = shows }) h c)

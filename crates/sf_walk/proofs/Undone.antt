@@ -122,13 +122,24 @@ module _ (old mid : StoreState) (dir : ℕ) (n : Name) (id : ℕ) (node above : 
   alike_again : (new : StoreState) → new ≡ unlinked mid dir n → IsAlike old new
   alike_again new state = subst (λ (s : StoreState). IsAlike old s) (sym (state ∙ gone)) (record { nodes = node_back; root = did.root; sessions = did.sessions })
 
-pub undone : (old mid new : StoreState) (dir : ℕ) (n : Name) (id : ℕ) (node : Node) → is_directory_at old.nodes dir ≡ true → child_of old.nodes dir n ≡ None
-    → node.opens ≡ 0 → node.names ≡ 1 → Inserted old mid (new_entry dir n id) node → new ≡ unlinked mid dir n → IsAlike old new
-undone old mid new dir n id node d none closed one did state =
-    elim (node_in old.nodes dir) as (λ o. node_in old.nodes dir ≡ o → IsAlike old new) [
-      | None ↦ λ e. let off = ap (λ (o : Option Node). option_map_or (λ (it : Node). is_directory_content it.content) o false) e in absurd (let x : ⊥ = cc in x)
-      | Some above ↦ λ e. alike_again old mid dir n id node above e
-          (sym (ap (λ (o : Option Node). option_map_or (λ (it : Node). is_directory_content it.content) o false) e) ∙ d)
-          (sym (ap (option_and_then (λ (it : Node). child_in it.content n)) e) ∙ none)
-          closed one did new state
+-- a new node was put under a name of a directory, which had no such name, and nothing opens it
+pub record NewEntryIn (old mid : StoreState) : Type 0 where
+  pub dir : ℕ
+  pub name : Name
+  pub id : ℕ
+  pub node : Node
+  pub directory : is_directory_at old.nodes dir ≡ true
+  pub free : child_of old.nodes dir name ≡ None
+  pub closed : node.opens ≡ 0
+  pub one : node.names ≡ 1
+  pub inserted : Inserted old mid (new_entry dir name id) node
+
+pub undone : (old mid new : StoreState) (e : NewEntryIn old mid) → new ≡ unlinked mid e.dir e.name → IsAlike old new
+undone old mid new e state =
+    elim (node_in old.nodes e.dir) as (λ o. node_in old.nodes e.dir ≡ o → IsAlike old new) [
+      | None ↦ λ at. let off = ap (λ (o : Option Node). option_map_or (λ (it : Node). is_directory_content it.content) o false) at in let d = e.directory in absurd (let x : ⊥ = cc in x)
+      | Some above ↦ λ at. alike_again old mid e.dir e.name e.id e.node above at
+          (sym (ap (λ (o : Option Node). option_map_or (λ (it : Node). is_directory_content it.content) o false) at) ∙ e.directory)
+          (sym (ap (option_and_then (λ (it : Node). child_in it.content e.name)) at) ∙ e.free)
+          e.closed e.one e.inserted new state
     ] refl

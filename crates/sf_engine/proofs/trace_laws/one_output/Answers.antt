@@ -5,4 +5,5 @@ pub returns-clause-world : goal.returns-clause-world
 returns-clause-world c = one_world
 
 pub returns-clause-output : goal.returns-clause-output
-returns-clause-output c = one_output
+returns-clause-output c = λ trace e e' of fits fits' session output output' sent sent'.
+    one_output trace session of (record { engine = e; fits = fits; output = output; is_sent = sent }) (record { engine = e'; fits = fits'; output = output'; is_sent = sent' })

@@ -8,10 +8,14 @@ use Rattle.sf_walk.proofs.handle_calls.put_bytes.Goals as goal
 
 pub returns-clause-tree : goal.returns-clause-tree
 returns-clause-tree c = λ t label m contents h shows.
-    put_keeps
-    c.args.store.now c.write.new.self c.touch.new.self t c.args.node label c.args.moment c.args.start m contents c.args.bytes.now h shows
-    c.in_ok-write.ensures.ok
-    c.touch.ensures
+    put_keeps c.args.store.now c.touch.new.self t (record { node = c.args.node; label = label; metadata = m; bytes = contents; shows = shows }) h (record {
+      moment = c.args.moment;
+      start = c.args.start;
+      bytes = c.args.bytes.now;
+      first = c.write.new.self;
+      put = c.in_ok-write.ensures.ok;
+      marked = c.touch.ensures;
+    })
 
 pub returns-clause-holders : goal.returns-clause-holders
 returns-clause-holders c =

@@ -12,9 +12,13 @@ use Rattle.sf_walk.proofs.links.name_anew.Goals as goal
 
 pub returns-in_ok-link_last-in-Names-clause-served : goal.returns-in_ok-link_last-in-Names-clause-served
 returns-in_ok-link_last-in-Names-clause-served c = λ t answer k is.
-    names_served c.args.store.now c.touch.new.self t k c.args.moment c.args.new.now answer c.in-Names.node c.in-Names.into
-    (subst (λ (x : LinkCourse). IsLinking c.args.store.now t c.args.moment c.args.new.now answer x) c.in-Names.is is)
-    (c.touch.ensures ∙ ap (λ (x : StoreState). edited (with_metadata (modified_at c.args.moment)) x c.in-Names.into) c.in_ok-link_last-in-Names.ensures.ok)
+    names_served c.args.store.now c.touch.new.self t k c.args.moment answer (record {
+      new = c.args.new.now;
+      node = c.in-Names.node;
+      into = c.in-Names.into;
+      made = subst (λ (x : LinkCourse). IsLinking c.args.store.now t c.args.moment c.args.new.now answer x) c.in-Names.is is;
+      state = c.touch.ensures ∙ ap (λ (x : StoreState). edited (with_metadata (modified_at c.args.moment)) x c.in-Names.into) c.in_ok-link_last-in-Names.ensures.ok;
+    })
 
 pub returns-in_ok-link_last-in-Names-clause-holders : goal.returns-in_ok-link_last-in-Names-clause-holders
 returns-in_ok-link_last-in-Names-clause-holders c =

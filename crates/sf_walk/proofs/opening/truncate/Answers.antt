@@ -8,7 +8,7 @@ use Rattle.sf_walk.proofs.opening.truncate.Goals as goal
 
 pub returns-clause-tree : goal.returns-clause-tree
 returns-clause-tree c = λ t label m bytes k at.
-    cut_served c.args.store.now c.cut.new.store c.touch.new.self t c.args.node c.args.moment label m bytes k at c.cut.ensures c.touch.ensures
+    cut_served c.args.store.now c.cut.new.store c.touch.new.self t (record { node = c.args.node; label = label; metadata = m; bytes = bytes; shows = at }) c.args.moment k c.cut.ensures c.touch.ensures
 
 pub returns-clause-holders : goal.returns-clause-holders
 returns-clause-holders c = λ before h.

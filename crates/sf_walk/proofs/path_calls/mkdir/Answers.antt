@@ -5,7 +5,7 @@ use Rattle.sf_call.specs.declared.metadata.FileType.TheVariants as file_type
 use Rattle.sf_call.specs.Attributes.{modified_at}
 use Rattle.sf_call.specs.Attributes.Object.{Directory}
 use Rattle.sf_inode.specs.Nodes.{with_metadata, new_node}
-use Rattle.sf_inode.specs.Stores.{StoreState}
+use Rattle.sf_inode.specs.Stores.{StoreState, new_entry}
 use Rattle.sf_walk.specs.Served.{NodesStay}
 use Rattle.sf_walk.specs.Ways.{last_name_of}
 use Rattle.sf_walk.proofs.LookUps.{looked_nodes}
@@ -34,13 +34,26 @@ returns-in-Ok-Taken-clause-served c = λ t h fresh.
 pub returns-in_ok-insert_last-in-Ok-Missing-clause-served : goal.returns-in_ok-insert_last-in-Ok-Missing-clause-served
 returns-in_ok-insert_last-in-Ok-Missing-clause-served c = λ t h fresh.
     past_root _ t c.args.path.now _ _ (not_root c.is_root.result c.args.path.now c.is_root.ensures c.if-is_root.false)
-    (make_served _ _ c.insert_last.new.store _ t c.args.path.now _ c.args.number c.args.moment c.args.attrs.now c.in-Ok-Missing.parent c.in_ok-insert_last-in-Ok-Missing.field-0
-    (record { label = c.args.number; file_type = file_type.Directory; metadata = c.new_object.result })
-    (looked_none c.args.store.now) h fresh.label (sym (subst (IsLastEntry c.args.located) c.in-Ok-Missing.field-0-is c.in-Ok-Missing.ensures.on_way) ∙ c.requires) c.in_ok-insert_last-in-Ok-Missing.ensures.ok refl (ap Directory c.new_object.ensures) c.touch.ensures)
+    (make_served c.args.store.now c.touch.new.self t c.args.path.now c.args.number h fresh.label (record {
+      mid = c.args.store.now;
+      made = c.insert_last.new.store;
+      most = 0;
+      moment = c.args.moment;
+      attrs = c.args.attrs.now;
+      dir = c.in-Ok-Missing.parent;
+      id = c.in_ok-insert_last-in-Ok-Missing.field-0;
+      it = record { label = c.args.number; file_type = file_type.Directory; metadata = c.new_object.result };
+      looked = looked_none c.args.store.now;
+      missing = sym (subst (IsLastEntry c.args.located) c.in-Ok-Missing.field-0-is c.in-Ok-Missing.ensures.on_way) ∙ c.requires;
+      inserted = c.in_ok-insert_last-in-Ok-Missing.ensures.ok;
+      label = refl;
+      object = ap Directory c.new_object.ensures;
+      state = c.touch.ensures;
+    }))
 
 pub returns-in_ok-insert_last-in-Ok-Missing-clause-holders : goal.returns-in_ok-insert_last-in-Ok-Missing-clause-holders
 returns-in_ok-insert_last-in-Ok-Missing-clause-holders c =
     subst (λ (x : StoreState). NodesStay c.args.number c.args.store.now x) (sym c.touch.ensures)
     (stays_edited (with_metadata (modified_at c.args.moment)) (λ node. (refl, refl, refl)) c.args.store.now c.insert_last.new.store c.in-Ok-Missing.parent
-    (stays_inserted c.args.store.now c.args.store.now c.insert_last.new.store c.in-Ok-Missing.parent (last_name_of c.args.path.now) c.in_ok-insert_last-in-Ok-Missing.field-0
+    (stays_inserted c.args.store.now c.args.store.now c.insert_last.new.store (new_entry c.in-Ok-Missing.parent (last_name_of c.args.path.now) c.in_ok-insert_last-in-Ok-Missing.field-0)
     (new_node (record { label = c.args.number; file_type = file_type.Directory; metadata = c.new_object.result })) (looked_nodes _ _ _ (looked_none c.args.store.now)) c.in_ok-insert_last-in-Ok-Missing.ensures.ok (refl, refl) refl))

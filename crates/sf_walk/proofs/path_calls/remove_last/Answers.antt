@@ -13,4 +13,4 @@ returns-clause-served c = λ t node h at bare.
     let state : c.touch.new.self ≡ edited (with_metadata (modified_at c.args.moment)) (unlinked c.args.store.now c.args.dir (last_name_of c.args.path.now)) c.args.dir =
     c.touch.ensures ∙ ap (λ (x : StoreState). edited (with_metadata (modified_at c.args.moment)) x c.args.dir)
     (c.unlink.ensures ∙ ap (λ (n : Name). unlinked c.args.store.now c.args.dir n) (last_name c.args.path.now c.len.result c.name.result.now c.name.ensures c.len.ensures)) in
-    goes_served c.args.store.now c.touch.new.self t c.args.path.now c.args.moment c.args.dir node h c.requires at bare state
+    goes_served c.args.store.now c.touch.new.self t c.args.path.now h (record { moment = c.args.moment; dir = c.args.dir; node = node; some = c.requires; way = at; bare = bare; state = state })

@@ -8,7 +8,8 @@ use Rattle.sf_walk.proofs.SetNodes.{set_plain, set_sized, not_above}
 use Rattle.sf_walk.proofs.path_calls.set_node.Goals as goal
 
 pub returns-in-None-clause-served : goal.returns-in-None-clause-served
-returns-in-None-clause-served c = λ t it h at. set_plain c.args.store.now c.set.new.self t c.args.node c.args.moment c.args.attrs.now it h at c.in-None.is c.set.ensures
+returns-in-None-clause-served c = λ t it h at.
+    set_plain c.args.store.now c.set.new.self t c.args.node it h at (record { moment = c.args.moment; attrs = c.args.attrs.now; no_size = c.in-None.is; set = c.set.ensures })
 
 pub returns-in-None-clause-holders : goal.returns-in-None-clause-holders
 returns-in-None-clause-holders c =
@@ -18,8 +19,18 @@ returns-in-None-clause-holders c =
 
 pub returns-else-size-gt-MAX_FILE_SIZE-clause-served : goal.returns-else-size-gt-MAX_FILE_SIZE-clause-served
 returns-else-size-gt-MAX_FILE_SIZE-clause-served c = λ t it h at.
-    set_sized c.args.store.now c.set_len.new.self c.touch.new.self c.set-in-Some.new.self t c.args.node c.args.moment c.in-Some.size c.args.attrs.now it h at
-    (sym c.if-is_directory.ensures) c.in-Some.is (not_above c.in-Some.size c.if-size-gt-MAX_FILE_SIZE.false) c.set_len.ensures c.touch.ensures c.set-in-Some.ensures
+    set_sized c.args.store.now c.set-in-Some.new.self t c.args.node it h at (sym c.if-is_directory.ensures) (record {
+      moment = c.args.moment;
+      size = c.in-Some.size;
+      attrs = c.args.attrs.now;
+      first = c.set_len.new.self;
+      second = c.touch.new.self;
+      some = c.in-Some.is;
+      fits = not_above c.in-Some.size c.if-size-gt-MAX_FILE_SIZE.false;
+      cut = c.set_len.ensures;
+      marked = c.touch.ensures;
+      set = c.set-in-Some.ensures;
+    })
 
 pub returns-else-size-gt-MAX_FILE_SIZE-clause-holders : goal.returns-else-size-gt-MAX_FILE_SIZE-clause-holders
 returns-else-size-gt-MAX_FILE_SIZE-clause-holders c =

@@ -4,7 +4,7 @@ use Rattle.sf_engine.specs.declared.seat.Seat.{Seat}
 use Rattle.sf_engine.specs.Turns.{is_busy}
 use Rattle.sf_engine.specs.Views.{EngineView}
 use Rattle.sf_engine.specs.Fits.{IsQuietBy}
-use Rattle.sf_engine.proofs.Turning.{engine}
+use Rattle.sf_engine.proofs.Seats.{engine}
 use Rattle.sf_engine.proofs.Quiet.{quiet_is}
 use Rattle.sf_engine.proofs.engine.Engine.is_quiet.Goals as goal
 

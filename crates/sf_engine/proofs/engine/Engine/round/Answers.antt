@@ -20,7 +20,7 @@ seats-preserved c =
     let P : Bool → EngineView → Type 0 = λ any v. RoundSoFar e (at + 1) any v in
     elim c.if-is_under_way.branch [
       | then-is_under_way w ↦
-          let so_far = round_steps e at c.seats.any now k seat.0 seat.1 (sym is ∙ w.if-is_under_way.true) w.turn-stepped.result w.turn-stepped.new.self w.turn-stepped.ensures.fits in
+          let so_far = round_steps e at c.seats.any now k (record { seat = seat.0; stands = seat.1; under_way = sym is ∙ w.if-is_under_way.true }) w.turn-stepped.result w.turn-stepped.new.self w.turn-stepped.ensures.fits in
           subst (λ (b : Bool). P b c.if-is_under_way.self) (sym w.any-is) (subst (λ (v : EngineView). P true v) (sym w.self-is) so_far)
       | else-is_under_way w ↦
           let so_far = round_skips e at c.seats.any now k seat.0 seat.1 (sym is ∙ w.if-is_under_way.false) in

@@ -2,7 +2,7 @@ use Rattle.std.proofs.Common.{◌<◌, ◌^◌, ℕ, [], sym, subst, arith, add-
 use Rattle.sf_engine.specs.Views.{EngineView}
 use Rattle.sf_engine.specs.Rounds.{AreUnderWay, HasRounds, left_to}
 use Rattle.sf_engine.proofs.Rounds.{rounds_nil, rounds_push, within_bounds, few_left}
-use Rattle.sf_engine.proofs.Turning.{engine}
+use Rattle.sf_engine.proofs.Seats.{engine}
 use Rattle.sf_engine.proofs.engine.Engine.run_all.Goals as goal
 
 pub rounds-init : goal.rounds-init

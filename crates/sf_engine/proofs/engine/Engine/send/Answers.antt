@@ -1,11 +1,12 @@
-use Rattle.std.proofs.Common.{◌≡◌, ℕ, Some, Err, refl, arith, ap, sym, subst, inl, inr, slice_get, slice_set, length}
+use Rattle.std.proofs.Common.{◌≡◌, Err, refl, arith, ap, sym, subst, inl, inr, length}
 use Rattle.std.proofs.lemmas.Option.{slice_get_read}
 use Rattle.sf_engine.specs.declared.event.Event.TheVariants as event
 use Rattle.sf_engine.specs.declared.event.EngineFault.TheVariants as fault
 use Rattle.sf_engine.specs.Views.{EngineView}
 use Rattle.sf_engine.specs.Fits.{GoesOnTrace}
 use Rattle.sf_engine.proofs.Tracing.{goes_on_trace, stays_engine}
-use Rattle.sf_engine.proofs.Turning.{engine, no_session, refused_steps}
+use Rattle.sf_engine.proofs.Seats.{SeatChange, engine, changed}
+use Rattle.sf_engine.proofs.Turning.{no_session, refused_steps}
 use Rattle.sf_engine.proofs.Sending.{any_send_steps}
 use Rattle.sf_engine.proofs.engine.Engine.send.Goals as goal
 
@@ -19,20 +20,30 @@ returns-in_default-clause-fits c =
 pub invariant_of-self : goal.invariant_of-self
 invariant_of-self c =
     let i = c.self.inside in
-    let at : ℕ = c.in-Some.at in
-    let was : slice_get i.seats.items at ≡ Some c.index_mut.result.now =
-    slice_get_read i.seats.items (length i.seats.items) at c.index_mut.result.now refl (omega (arith, c.in-Some.ensures.some.1, c.len.ensures, i.seats.ok.0)) c.index_mut.ensures.value in
-    stays_engine (engine i.core i.seats.items) (event.Sent c.args.session c.args.n) c.send_seat.result (engine i.core (slice_set i.seats.items at c.send_seat.new.seat))
-    (any_send_steps i.core i.seats.items at c.args.session c.args.n c.index_mut.result.now c.send_seat.new.seat c.send_seat.result c.in-Some.ensures.some.0 was c.send_seat.ensures.ok c.send_seat.ensures.err c.send_seat.ensures.fault)
-    c.self.invariant
+    let s : SeatChange = record {
+      old = engine i.core i.seats.items;
+      at = c.in-Some.at;
+      session = c.args.session;
+      was = c.index_mut.result.now;
+      core = i.core;
+      now = c.send_seat.new.seat;
+      number = c.in-Some.ensures.some.0;
+      stood = slice_get_read i.seats.items (length i.seats.items) c.in-Some.at c.index_mut.result.now refl (omega (arith, c.in-Some.ensures.some.1, c.len.ensures, i.seats.ok.0)) c.index_mut.ensures.value;
+    } in
+    stays_engine s.old (event.Sent c.args.session c.args.n) c.send_seat.result (changed s) (any_send_steps s c.args.n c.send_seat.result (record { core = refl; ok = c.send_seat.ensures.ok; err = c.send_seat.ensures.err; fault = c.send_seat.ensures.fault })) c.self.invariant
 
 pub returns-clause-fits : goal.returns-clause-fits
 returns-clause-fits c =
     let i = c.self.inside in
-    let at : ℕ = c.in-Some.at in
-    let was : slice_get i.seats.items at ≡ Some c.index_mut.result.now =
-    slice_get_read i.seats.items (length i.seats.items) at c.index_mut.result.now refl (omega (arith, c.in-Some.ensures.some.1, c.len.ensures, i.seats.ok.0)) c.index_mut.ensures.value in
-    let new : EngineView = engine i.core (slice_set i.seats.items at c.send_seat.new.seat) in
-    let P : EngineView → Type 0 = λ e. GoesOnTrace e (event.Sent c.args.session c.args.n) c.send_seat.result new in
-    subst P c.self.view_is (goes_on_trace (engine i.core i.seats.items) (event.Sent c.args.session c.args.n) c.send_seat.result new
-    (any_send_steps i.core i.seats.items at c.args.session c.args.n c.index_mut.result.now c.send_seat.new.seat c.send_seat.result c.in-Some.ensures.some.0 was c.send_seat.ensures.ok c.send_seat.ensures.err c.send_seat.ensures.fault))
+    let s : SeatChange = record {
+      old = engine i.core i.seats.items;
+      at = c.in-Some.at;
+      session = c.args.session;
+      was = c.index_mut.result.now;
+      core = i.core;
+      now = c.send_seat.new.seat;
+      number = c.in-Some.ensures.some.0;
+      stood = slice_get_read i.seats.items (length i.seats.items) c.in-Some.at c.index_mut.result.now refl (omega (arith, c.in-Some.ensures.some.1, c.len.ensures, i.seats.ok.0)) c.index_mut.ensures.value;
+    } in
+    let P : EngineView → Type 0 = λ e. GoesOnTrace e (event.Sent c.args.session c.args.n) c.send_seat.result (changed s) in
+    subst P c.self.view_is (goes_on_trace s.old (event.Sent c.args.session c.args.n) c.send_seat.result (changed s) (any_send_steps s c.args.n c.send_seat.result (record { core = refl; ok = c.send_seat.ensures.ok; err = c.send_seat.ensures.err; fault = c.send_seat.ensures.fault })))

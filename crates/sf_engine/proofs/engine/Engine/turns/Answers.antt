@@ -1,12 +1,13 @@
-use Rattle.std.proofs.Common.{◌≡◌, ℕ, ◌≤◌, ◌-◌, ◌^◌, true, Some, refl, arith, ap, sym, subst, inl, inr, slice_get, slice_set, length}
+use Rattle.std.proofs.Common.{◌≡◌, ℕ, ◌≤◌, ◌-◌, ◌^◌, true, Some, refl, arith, ap, sym, subst, inl, inr, slice_get, length}
 use Rattle.std.proofs.lemmas.Option.{slice_get_read}
 use Rattle.sf_engine.specs.declared.event.Event.TheVariants as event
 use Rattle.sf_engine.specs.declared.event.EngineFault.TheVariants as fault
 use Rattle.sf_engine.specs.Traces.{goes_on_at}
 use Rattle.sf_engine.specs.Views.{EngineView}
 use Rattle.sf_engine.specs.Fits.{HasTurns}
-use Rattle.sf_engine.proofs.Turning.{engine, no_session, refused_steps}
-use Rattle.sf_engine.proofs.Chains.{seat_turns, no_turns, is_ready}
+use Rattle.sf_engine.proofs.Seats.{SeatChange, engine, changed}
+use Rattle.sf_engine.proofs.Turning.{no_session, refused_steps}
+use Rattle.sf_engine.proofs.Chains.{turns_trace, no_turns, is_ready}
 use Rattle.sf_engine.proofs.engine.Engine.turns.Goals as goal
 
 pub returns-in_default : goal.returns-in_default
@@ -30,20 +31,33 @@ turns_seat-requires c =
 pub invariant_of-self : goal.invariant_of-self
 invariant_of-self c =
     let i = c.self.inside in
-    let at : ℕ = c.in-Some.at in
-    let was : slice_get i.seats.items at ≡ Some c.index_mut.result.now =
-    slice_get_read i.seats.items (length i.seats.items) at c.index_mut.result.now refl (omega (arith, c.in-Some.ensures.some.1, c.len.ensures, i.seats.ok.0)) c.index_mut.ensures.value in
-    (seat_turns i.core c.turns_seat.new.core i.seats.items at c.args.session c.args.moment c.index_mut.result.now c.turns_seat.new.seat c.turns_seat.result c.in-Some.ensures.some.0 was c.turns_seat.ensures.turns c.turns_seat.ensures.closed).1
-    c.self.invariant
+    let s : SeatChange = record {
+      old = engine i.core i.seats.items;
+      at = c.in-Some.at;
+      session = c.args.session;
+      was = c.index_mut.result.now;
+      core = c.turns_seat.new.core;
+      now = c.turns_seat.new.seat;
+      number = c.in-Some.ensures.some.0;
+      stood = slice_get_read i.seats.items (length i.seats.items) c.in-Some.at c.index_mut.result.now refl (omega (arith, c.in-Some.ensures.some.1, c.len.ensures, i.seats.ok.0)) c.index_mut.ensures.value;
+    } in
+    let k = c.turns_seat.ensures.turns in
+    (turns_trace k.turns s c.args.moment c.turns_seat.result c.turns_seat.ensures.closed k.give).1 c.self.invariant
 
 pub returns : goal.returns
 returns c =
     let i = c.self.inside in
-    let at : ℕ = c.in-Some.at in
-    let was : slice_get i.seats.items at ≡ Some c.index_mut.result.now =
-    slice_get_read i.seats.items (length i.seats.items) at c.index_mut.result.now refl (omega (arith, c.in-Some.ensures.some.1, c.len.ensures, i.seats.ok.0)) c.index_mut.ensures.value in
-    let new : EngineView = engine c.turns_seat.new.core (slice_set i.seats.items at c.turns_seat.new.seat) in
-    let P : EngineView → Type 0 = λ e. (n : ℕ) × HasTurns n e (event.Turn c.args.session c.args.moment) c.turns_seat.result new × (goes_on_at c.turns_seat.result ≡ true → 2 ^ 64 - 2 ≤ n) in
+    let s : SeatChange = record {
+      old = engine i.core i.seats.items;
+      at = c.in-Some.at;
+      session = c.args.session;
+      was = c.index_mut.result.now;
+      core = c.turns_seat.new.core;
+      now = c.turns_seat.new.seat;
+      number = c.in-Some.ensures.some.0;
+      stood = slice_get_read i.seats.items (length i.seats.items) c.in-Some.at c.index_mut.result.now refl (omega (arith, c.in-Some.ensures.some.1, c.len.ensures, i.seats.ok.0)) c.index_mut.ensures.value;
+    } in
+    let P : EngineView → Type 0 = λ e. (n : ℕ) × HasTurns n e (event.Turn c.args.session c.args.moment) c.turns_seat.result (changed s) × (goes_on_at c.turns_seat.result ≡ true → 2 ^ 64 - 2 ≤ n) in
     let k = c.turns_seat.ensures.turns in
-    let has = seat_turns i.core c.turns_seat.new.core i.seats.items at c.args.session c.args.moment c.index_mut.result.now c.turns_seat.new.seat c.turns_seat.result c.in-Some.ensures.some.0 was k c.turns_seat.ensures.closed in
+    let has = turns_trace k.turns s c.args.moment c.turns_seat.result c.turns_seat.ensures.closed k.give in
     subst P c.self.view_is (k.turns, has.0, k.far)

@@ -2,7 +2,7 @@ use Rattle.std.proofs.Common.{Ok, sym, subst}
 use Rattle.sf_engine.specs.declared.event.Happened.TheVariants as happened
 use Rattle.sf_engine.specs.declared.seat.SeatState.{SeatState}
 use Rattle.sf_engine.specs.declared.seat.SeatState.TheVariants as state
-use Rattle.sf_engine.specs.Turns.{stand, GoesFar}
+use Rattle.sf_engine.specs.Turns.{stand, GoesFar, finding}
 use Rattle.sf_engine.proofs.Chains.{answer_far, left_far}
 use Rattle.sf_engine.proofs.seat.SeatState.turns.Goals as goal
 
@@ -10,7 +10,8 @@ pub returns-in-Answered : goal.returns-in-Answered
 returns-in-Answered c =
     let old = c.args in
     let new = c.turn.new in
-    answer_far old.core.now new.core old.session.now new.session old.self.now new.self c.in-Answered.field-0 c.in-Answered.field-1 old.closed old.moment c.turn.result c.in-Answered.is c.requires c.turn.ensures.ok c.turn.ensures.err c.turn.ensures.fault
+    let g = c.turn.ensures in
+    answer_far (stand old.core.now old.session.now old.self.now) (finding old.closed old.moment) c.turn.result (stand new.core new.session new.self) c.in-Answered.field-0 c.in-Answered.field-1 c.in-Answered.is c.requires (record { ok = g.ok; err = g.err; fault = g.fault })
 
 pub returns-in-Left : goal.returns-in-Left
 returns-in-Left c =

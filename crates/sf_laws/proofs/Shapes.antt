@@ -1,0 +1,210 @@
+-- The answer to a request is a refusal or has one of a few shapes: so a law of answers is a table of
+-- these, one row each.
+use Rattle.std.proofs.Common.{◌≡◌, ℕ, Bool, true, false, cond, not, nat_eq, nat_lt, nat_le, ◌+◌, ◌&&◌, List, [], ◌∷◌, length, Option, Some, None, refl}
+use Rattle.std.specs.Option.{is_some}
+use Rattle.sf_path.specs.Names.{Path}
+use Rattle.sf_path.specs.Order.{parent}
+use Rattle.sf_field.specs.declared.attrs.Attrs.{Attrs}
+use Rattle.sf_field.specs.declared.open_flags.OpenFlags.{OpenFlags}
+use Rattle.sf_reply.specs.declared.reply.Entry.{Entry}
+use Rattle.sf_reply.specs.declared.reply.Reply.TheVariants as reply
+use Rattle.sf_reply.specs.declared.reply.StatusCode.{StatusCode}
+use Rattle.sf_reply.specs.declared.reply.StatusCode.TheVariants.{EndOfFile, NoSuchFile, PermissionDenied, Failure}
+use Rattle.sf_call.specs.declared.limits.TheConstants.{MAX_FILE_SIZE}
+use Rattle.sf_call.specs.declared.request.Request.{Request}
+use Rattle.sf_call.specs.declared.request.Request.TheVariants.{Stat, SetStat, Mkdir, Rmdir, Remove, OpenDir, Open, Close, FStat, FSetStat, Read, Write, ReadDir, Rename, PosixRename, Link}
+use Rattle.sf_call.specs.declared.lookup.Lookup.{Lookup}
+use Rattle.sf_call.specs.declared.lookup.Lookup.TheVariants.{NoWay, Absent, At}
+use Rattle.sf_call.specs.Attributes.{Object}
+use Rattle.sf_call.specs.Attributes.Object.{Directory, File}
+use Rattle.sf_call.specs.declared.handle.Handle.{Handle}
+use Rattle.sf_call.specs.Tree.{Tree, FoundObject, label_at, object_of, look_up, found_object, found_place, found_at, is_empty, is_nil}
+use Rattle.sf_call.specs.Tree.FoundObject.{Nowhere, Nothing, DirectoryAt, FileAt}
+use Rattle.sf_call.specs.Handles.{Opened, handle_in, opened, opened_by, opened_object}
+use Rattle.sf_call.specs.Handles.Opened.{NotOpen, OpenDirectory, OpenFile}
+use Rattle.sf_call.specs.Listings.{path_of, listing_of}
+use Rattle.sf_call.specs.Changes.{touched}
+use Rattle.sf_call.specs.Changes.Change.{SetObject, NewPath, NewName, CloseHandle}
+use Rattle.sf_call.specs.Calls.{Outcome, answer_to, tells, refuses, succeeds, stat, refuses_size, set_stat, make_directory, goes, remove_directory, remove_file, has_all_handles, opens, directory_handle, new_file_handle, open_directory, open_present, open_file, close, stat_opened, set_opened, read, start_of, write, lists, read_directory, unless_root, moves, opening, stamp}
+use Rattle.sf_call.proofs.Laws.{place_label, rename_cases, posix_rename_cases, link_cases, link_to_cases}
+
+-- what a request may be answered and change
+pub data Shape (tree : Tree) (session number moment : ℕ) : Request → Outcome → Type 0 where
+  Refuses : (r : Request) (code : StatusCode) → Shape tree session number moment r (refuses code)
+  DoesNothing : (r : Request) → Shape tree session number moment r (succeeds [])
+  TellsAttrs : (r : Request) (attrs : Attrs) → Shape tree session number moment r (tells (reply.Attrs attrs))
+  TellsData : (r : Request) (bytes : List ℕ) → Shape tree session number moment r (tells (reply.Data bytes))
+  SetsAt : (path : Path) (attrs : Attrs) (label : ℕ) (object : Object) → label_at tree.names path ≡ Some label
+      → Shape tree session number moment (SetStat path attrs) (succeeds (SetObject label object ∷ []))
+  SetsOpen : (handle : ℕ) (attrs : Attrs) (h : Handle) (object : Object) → handle_in tree session handle ≡ Some h
+      → Shape tree session number moment (FSetStat handle attrs) (succeeds (SetObject h.label object ∷ []))
+  Writes : (handle offset : ℕ) (bytes : List ℕ) (h : Handle) (object : Object) → handle_in tree session handle ≡ Some h
+      → Shape tree session number moment (Write handle offset bytes) (succeeds (SetObject h.label object ∷ []))
+  MakesDirectory : (path : Path) (attrs : Attrs) (object : Object)
+      → Shape tree session number moment (Mkdir path attrs) (succeeds (NewPath path number object ∷ touched tree moment (parent path)))
+  RemovesDirectory : (path : Path) → Shape tree session number moment (Rmdir path) (goes tree moment path)
+  RemovesFile : (path : Path) → Shape tree session number moment (Remove path) (goes tree moment path)
+  OpensDirectory : (path : Path) (label : ℕ) (object : Object) → label_at tree.names path ≡ Some label → object_of tree.objects label ≡ Some object → has_all_handles tree session ≡ false
+      → Shape tree session number moment (OpenDir path) (opens number (directory_handle session label) [])
+  OpensFile : (path : Path) (flags : OpenFlags) (attrs : Attrs) (label : ℕ) (object : Object) → label_at tree.names path ≡ Some label → object_of tree.objects label ≡ Some object → has_all_handles tree session ≡ false
+      → Shape tree session number moment (Open path flags attrs) (opens number (new_file_handle session label flags) [])
+  CutsFile : (path : Path) (flags : OpenFlags) (attrs : Attrs) (label : ℕ) (object cut : Object) → label_at tree.names path ≡ Some label → object_of tree.objects label ≡ Some object → has_all_handles tree session ≡ false
+      → Shape tree session number moment (Open path flags attrs) (opens number (new_file_handle session label flags) (SetObject label cut ∷ []))
+  MakesFile : (path : Path) (flags : OpenFlags) (attrs : Attrs) (object : Object) → has_all_handles tree session ≡ false
+      → Shape tree session number moment (Open path flags attrs) (opens number (new_file_handle session number flags) (NewPath path number object ∷ touched tree moment (parent path)))
+  Closes : (handle : ℕ) (h : Handle) → handle_in tree session handle ≡ Some h → Shape tree session number moment (Close handle) (succeeds (CloseHandle handle ∷ []))
+  Lists : (handle : ℕ) (h : Handle) (e : Entry) (es : List Entry) → handle_in tree session handle ≡ Some h → Shape tree session number moment (ReadDir handle) (lists handle h (e ∷ es))
+  Renames : (old new : Path) → Shape tree session number moment (Rename old new) (moves tree moment old new)
+  Replaces : (old new : Path) → Shape tree session number moment (PosixRename old new) (moves tree moment old new)
+  Links : (old new : Path) (label : ℕ) → Shape tree session number moment (Link old new) (succeeds (NewName new label ∷ touched tree moment (parent new)))
+
+module _ (tree : Tree) (session number moment : ℕ) where
+  abbrev HasShape : Request → Outcome → Type 0
+  HasShape r answer = Shape tree session number moment r answer
+
+  either : (r : Request) (b : Bool) (this that : Outcome) → HasShape r this → HasShape r that → HasShape r (cond b this that)
+  either r true this that p q = p
+  either r false this that p q = q
+
+  unless : (r : Request) (b : Bool) (this that : Outcome) → HasShape r this → (b ≡ false → HasShape r that) → HasShape r (cond b this that)
+  unless r true this that p q = p
+  unless r false this that p q = q refl
+
+  rooted : (r : Request) (path : Path) (answer : Outcome) → HasShape r answer → HasShape r (unless_root path answer)
+  rooted r [] answer p = Refuses r Failure
+  rooted r (n ∷ path) answer p = p
+
+  told : (r : Request) (found : FoundObject) → HasShape r (stat found)
+  told r Nowhere = Refuses r NoSuchFile
+  told r Nothing = Refuses r NoSuchFile
+  told r (DirectoryAt label m) = TellsAttrs r _
+  told r (FileAt label m contents) = TellsAttrs r _
+
+  told_opened : (r : Request) (o : Opened) → HasShape r (stat_opened o)
+  told_opened r NotOpen = Refuses r Failure
+  told_opened r (OpenDirectory h m) = TellsAttrs r _
+  told_opened r (OpenFile h m contents) = TellsAttrs r _
+
+  set_object : (path : Path) (attrs : Attrs) (label : ℕ) (o : Option Object) → label_at tree.names path ≡ Some label → HasShape (SetStat path attrs) (set_stat moment attrs (found_object label o))
+  set_object path attrs label None e = Refuses (SetStat path attrs) NoSuchFile
+  set_object path attrs label (Some (Directory m)) e = either (SetStat path attrs) (refuses_size (Directory m) attrs.size) _ _ (Refuses (SetStat path attrs) Failure) (SetsAt path attrs label _ e)
+  set_object path attrs label (Some (File m contents)) e = either (SetStat path attrs) (refuses_size (File m contents) attrs.size) _ _ (Refuses (SetStat path attrs) Failure) (SetsAt path attrs label _ e)
+
+  set_place : (path : Path) (attrs : Attrs) (place : Lookup) → look_up tree path ≡ place → HasShape (SetStat path attrs) (set_stat moment attrs (found_place tree.objects place))
+  set_place path attrs NoWay e = Refuses (SetStat path attrs) NoSuchFile
+  set_place path attrs Absent e = Refuses (SetStat path attrs) NoSuchFile
+  set_place path attrs (At label) e = set_object path attrs label (object_of tree.objects label) (place_label tree path label e)
+
+  made : (path : Path) (attrs : Attrs) (place : Lookup) → HasShape (Mkdir path attrs) (make_directory tree (stamp number moment) path attrs place)
+  made path attrs NoWay = Refuses (Mkdir path attrs) NoSuchFile
+  made path attrs (At label) = Refuses (Mkdir path attrs) Failure
+  made path attrs Absent = MakesDirectory path attrs _
+
+  directory_removed : (path : Path) (found : FoundObject) → HasShape (Rmdir path) (remove_directory tree moment path found)
+  directory_removed path Nowhere = Refuses (Rmdir path) NoSuchFile
+  directory_removed path Nothing = Refuses (Rmdir path) NoSuchFile
+  directory_removed path (FileAt label m contents) = Refuses (Rmdir path) Failure
+  directory_removed path (DirectoryAt label m) = either (Rmdir path) (is_empty tree.names path) _ _ (RemovesDirectory path) (Refuses (Rmdir path) Failure)
+
+  file_removed : (path : Path) (found : FoundObject) → HasShape (Remove path) (remove_file tree moment path found)
+  file_removed path Nowhere = Refuses (Remove path) NoSuchFile
+  file_removed path Nothing = Refuses (Remove path) NoSuchFile
+  file_removed path (DirectoryAt label m) = Refuses (Remove path) Failure
+  file_removed path (FileAt label m contents) = RemovesFile path
+
+  directory_object : (path : Path) (label : ℕ) (o : Option Object) → label_at tree.names path ≡ Some label → object_of tree.objects label ≡ o → HasShape (OpenDir path) (open_directory tree session number (found_object label o))
+  directory_object path label None e is = Refuses (OpenDir path) NoSuchFile
+  directory_object path label (Some (File m contents)) e is = Refuses (OpenDir path) Failure
+  directory_object path label (Some (Directory m)) e is = unless (OpenDir path) (has_all_handles tree session) _ _ (Refuses (OpenDir path) Failure) (λ free. OpensDirectory path label (Directory m) e is free)
+
+  directory_opened : (path : Path) (place : Lookup) → look_up tree path ≡ place → HasShape (OpenDir path) (open_directory tree session number (found_place tree.objects place))
+  directory_opened path NoWay e = Refuses (OpenDir path) NoSuchFile
+  directory_opened path Absent e = Refuses (OpenDir path) NoSuchFile
+  directory_opened path (At label) e = directory_object path label (object_of tree.objects label) (place_label tree path label e) refl
+
+  file_present : (path : Path) (flags : OpenFlags) (attrs : Attrs) (label : ℕ) (o : Option Object) → label_at tree.names path ≡ Some label → object_of tree.objects label ≡ o
+      → HasShape (Open path flags attrs) (open_present tree session (stamp number moment) flags (found_object label o))
+  file_present path flags attrs label None e is = Refuses (Open path flags attrs) NoSuchFile
+  file_present path flags attrs label (Some (Directory m)) e is = Refuses (Open path flags attrs) Failure
+  file_present path flags attrs label (Some (File m contents)) e is =
+      let r = Open path flags attrs in
+      unless r (has_all_handles tree session) _ _ (Refuses r Failure) (λ free.
+      either r (flags.truncate && flags.write) _ _ (CutsFile path flags attrs label (File m contents) _ e is free) (OpensFile path flags attrs label (File m contents) e is free))
+
+  file_opened : (path : Path) (flags : OpenFlags) (attrs : Attrs) (place : Lookup) → look_up tree path ≡ place → HasShape (Open path flags attrs) (open_file tree session (stamp number moment) (opening path flags attrs) place)
+  file_opened path flags attrs NoWay e = Refuses (Open path flags attrs) NoSuchFile
+  file_opened path flags attrs (At label) e =
+      let r = Open path flags attrs in
+      either r (flags.create && flags.exclusive) _ _ (Refuses r Failure) (file_present path flags attrs label (object_of tree.objects label) (place_label tree path label e) refl)
+  file_opened path flags attrs Absent e =
+      let r = Open path flags attrs in
+      either r (not flags.create) _ _ (Refuses r NoSuchFile) (unless r (has_all_handles tree session) _ _ (Refuses r Failure) (λ free. MakesFile path flags attrs _ free))
+
+  closed : (handle : ℕ) (o : Option Handle) → handle_in tree session handle ≡ o → HasShape (Close handle) (close handle o)
+  closed handle None e = Refuses (Close handle) Failure
+  closed handle (Some h) e = Closes handle h e
+
+  set_by_object : (handle : ℕ) (attrs : Attrs) (h : Handle) (o : Option Object) → handle_in tree session handle ≡ Some h → HasShape (FSetStat handle attrs) (set_opened moment attrs (opened_object h o))
+  set_by_object handle attrs h None e = Refuses (FSetStat handle attrs) Failure
+  set_by_object handle attrs h (Some (Directory m)) e =
+      let r = FSetStat handle attrs in
+      either r (nat_eq h.label 0) _ _ (Refuses r Failure) (either r (refuses_size (Directory m) attrs.size) _ _ (Refuses r Failure) (SetsOpen handle attrs h _ e))
+  set_by_object handle attrs h (Some (File m contents)) e =
+      let r = FSetStat handle attrs in
+      either r (is_some attrs.size && not h.write) _ _ (Refuses r PermissionDenied) (either r (refuses_size (File m contents) attrs.size) _ _ (Refuses r Failure) (SetsOpen handle attrs h _ e))
+
+  set_by_handle : (handle : ℕ) (attrs : Attrs) (o : Option Handle) → handle_in tree session handle ≡ o → HasShape (FSetStat handle attrs) (set_opened moment attrs (opened_by tree o))
+  set_by_handle handle attrs None e = Refuses (FSetStat handle attrs) Failure
+  set_by_handle handle attrs (Some h) e = set_by_object handle attrs h (object_of tree.objects h.label) e
+
+  was_read : (r : Request) (offset len : ℕ) (o : Opened) → HasShape r (read offset len o)
+  was_read r offset len NotOpen = Refuses r Failure
+  was_read r offset len (OpenDirectory h m) = Refuses r Failure
+  was_read r offset len (OpenFile h m contents) = either r (not h.read) _ _ (Refuses r PermissionDenied) (either r (nat_le (length contents) offset) _ _ (Refuses r EndOfFile) (TellsData r _))
+
+  written_object : (handle offset : ℕ) (bytes : List ℕ) (h : Handle) (o : Option Object) → handle_in tree session handle ≡ Some h → HasShape (Write handle offset bytes) (write moment offset bytes (opened_object h o))
+  written_object handle offset bytes h None e = Refuses (Write handle offset bytes) Failure
+  written_object handle offset bytes h (Some (Directory m)) e = Refuses (Write handle offset bytes) Failure
+  written_object handle offset bytes h (Some (File m contents)) e =
+      let r = Write handle offset bytes in
+      either r (not h.write) _ _ (Refuses r PermissionDenied) (either r (is_nil bytes) _ _ (DoesNothing r)
+      (either r (nat_lt MAX_FILE_SIZE (start_of h contents offset + length bytes)) _ _ (Refuses r Failure) (Writes handle offset bytes h _ e)))
+
+  was_written : (handle offset : ℕ) (bytes : List ℕ) (o : Option Handle) → handle_in tree session handle ≡ o → HasShape (Write handle offset bytes) (write moment offset bytes (opened_by tree o))
+  was_written handle offset bytes None e = Refuses (Write handle offset bytes) Failure
+  was_written handle offset bytes (Some h) e = written_object handle offset bytes h (object_of tree.objects h.label) e
+
+  listed : (handle : ℕ) (h : Handle) (entries : List Entry) → handle_in tree session handle ≡ Some h → HasShape (ReadDir handle) (lists handle h entries)
+  listed handle h [] e = Refuses (ReadDir handle) EndOfFile
+  listed handle h (x ∷ xs) e = Lists handle h x xs e
+
+  listed_object : (handle : ℕ) (h : Handle) (o : Option Object) → handle_in tree session handle ≡ Some h → HasShape (ReadDir handle) (read_directory tree handle (opened_object h o))
+  listed_object handle h None e = Refuses (ReadDir handle) Failure
+  listed_object handle h (Some (File m contents)) e = Refuses (ReadDir handle) Failure
+  listed_object handle h (Some (Directory m)) e = listed handle h (listing_of tree h.listed (path_of tree.names h.label)) e
+
+  directory_read : (handle : ℕ) (o : Option Handle) → handle_in tree session handle ≡ o → HasShape (ReadDir handle) (read_directory tree handle (opened_by tree o))
+  directory_read handle None e = Refuses (ReadDir handle) Failure
+  directory_read handle (Some h) e = listed_object handle h (object_of tree.objects h.label) e
+
+  pub shape_of : (r : Request) → HasShape r (answer_to tree session number moment r)
+  shape_of (Stat path) = told (Stat path) (found_at tree path)
+  shape_of (SetStat path attrs) = rooted (SetStat path attrs) path _ (set_place path attrs (look_up tree path) refl)
+  shape_of (Mkdir path attrs) = rooted (Mkdir path attrs) path _ (made path attrs (look_up tree path))
+  shape_of (Rmdir path) = rooted (Rmdir path) path _ (directory_removed path (found_at tree path))
+  shape_of (Remove path) = rooted (Remove path) path _ (file_removed path (found_at tree path))
+  shape_of (OpenDir path) = directory_opened path (look_up tree path) refl
+  shape_of (Open path flags attrs) = rooted (Open path flags attrs) path _ (file_opened path flags attrs (look_up tree path) refl)
+  shape_of (Close handle) = closed handle (handle_in tree session handle) refl
+  shape_of (FStat handle) = told_opened (FStat handle) (opened tree session handle)
+  shape_of (FSetStat handle attrs) = set_by_handle handle attrs (handle_in tree session handle) refl
+  shape_of (Read handle offset len) = was_read (Read handle offset len) offset len (opened tree session handle)
+  shape_of (Write handle offset bytes) = was_written handle offset bytes (handle_in tree session handle) refl
+  shape_of (ReadDir handle) = directory_read handle (handle_in tree session handle) refl
+  shape_of (Rename old new) =
+      rename_cases (HasShape (Rename old new)) (Refuses (Rename old new)) (DoesNothing (Rename old new)) tree moment old new (λ _ _. Renames old new) session number
+  shape_of (PosixRename old new) =
+      posix_rename_cases (HasShape (PosixRename old new)) (Refuses (PosixRename old new)) (DoesNothing (PosixRename old new)) tree moment old new (λ _ _. Replaces old new) session number
+  shape_of (Link old new) =
+      link_cases (HasShape (Link old new)) (Refuses (Link old new)) tree moment old new
+      (λ label _ _ _. link_to_cases (HasShape (Link old new)) (Refuses (Link old new)) tree moment new label (look_up tree new) refl (λ _ _. Links old new label)) session number
