@@ -89,26 +89,20 @@ rose_until start old new more (inr most) = inr most
 
 pub host_stop : (f : ServeFault) (work failed failed' : ℕ) (s : Type 0) → IsHostFault f work s → IsStop f failed failed' s
 host_stop serve.Line work failed failed' s h = absurd h
-host_stop serve.OutOfMemory work failed failed' s h = tt
 host_stop serve.Sessions work failed failed' s h = absurd h
 host_stop serve.Stranger work failed failed' s h = h
-host_stop serve.NumbersSpent work failed failed' s h = tt
+host_stop f work failed failed' s h = tt
 
 -- a fault since a later time is one since an earlier time
 pub stop_since : (f : ServeFault) (start old new : ℕ) (s : Type 0) → start ≤ old → old ≤ new → IsStop f old new s → IsStop f start new s
 stop_since serve.Line start old new s before more h = rose_since start old new before more h
-stop_since serve.OutOfMemory start old new s before more h = tt
-stop_since serve.Sessions start old new s before more h = absurd h
-stop_since serve.Stranger start old new s before more h = h
-stop_since serve.NumbersSpent start old new s before more h = tt
+stop_since f start old new s before more h = h
 
 -- and one up to a later time
 pub stop_until : (f : ServeFault) (start old new : ℕ) (s s' : Type 0) → old ≤ new → (s → s') → IsStop f start old s → IsStop f start new s'
 stop_until serve.Line start old new s s' more to h = rose_until start old new more h
-stop_until serve.OutOfMemory start old new s s' more to h = tt
-stop_until serve.Sessions start old new s s' more to h = absurd h
 stop_until serve.Stranger start old new s s' more to h = to h
-stop_until serve.NumbersSpent start old new s s' more to h = tt
+stop_until f start old new s s' more to h = h
 
 pub stranger_stop : (f : ServeFault) (failed failed' : ℕ) (s : Type 0) → f ≡ serve.Stranger → s → IsStop f failed failed' s
 stranger_stop f failed failed' s is h = subst (λ (x : ServeFault). IsStop x failed failed' s) (sym is) h
@@ -116,19 +110,13 @@ stranger_stop f failed failed' s is h = subst (λ (x : ServeFault). IsStop x fai
 -- ---- what is spent
 
 spent_for : (f : ServeFault) (w w' : ℕ) (p p' : Progress) → w' ≡ w → p'.told.stream ≡ p.told.stream → IsSpentFor f w p → IsSpentFor f w' p'
-spent_for serve.Line w w' p p' same stream h = tt
-spent_for serve.OutOfMemory w w' p p' same stream h = tt
-spent_for serve.Sessions w w' p p' same stream h = tt
-spent_for serve.Stranger w w' p p' same stream h = tt
 spent_for serve.NumbersSpent w w' p p' same stream (inl h) = inl (subst (λ (b : List ℕ). most_counted ≤ length b) (sym stream) h)
 spent_for serve.NumbersSpent w w' p p' same stream (inr h) = inr (subst (λ (k : ℕ). most_counted ≤ k) (sym same) h)
+spent_for f w w' p p' same stream h = tt
 
 host_spent : (f : ServeFault) (w : ℕ) (s : Type 0) (p : Progress) → IsHostFault f w s → IsSpentFor f w p
-host_spent serve.Line w s p h = tt
-host_spent serve.OutOfMemory w s p h = tt
-host_spent serve.Sessions w s p h = tt
-host_spent serve.Stranger w s p h = tt
 host_spent serve.NumbersSpent w s p h = inr h
+host_spent f w s p h = tt
 
 -- ---- the session goes on
 
@@ -167,7 +155,7 @@ gone T T' from now n k r goes serves =
     let further = g.2 in (
       progress g.0 p.unfed p.written,
       g.1,
-      further_serves from now p.told g.0 p.unfed p.written serves.2 further,
+      further_serves from now p.told g.0 p.unfed p.written serves.2 on.sent on.in_step further,
       record {
         fed = on.fed;
         in_step = on.in_step ∙ sym further.sent;
@@ -312,17 +300,14 @@ written_ended p h =
 
 written_for : (f : ServeFault) (failed failed' : ℕ) (s : Type 0) (p : Progress) → IsStop f failed failed' s → (f ≢ serve.Line → HasWritten p) → HasWrittenFor f failed failed' p
 written_for serve.Line failed failed' s p why h = tt
-written_for serve.OutOfMemory failed failed' s p why h = h (λ e. let no : serve.OutOfMemory ≡ serve.Line = e in cc)
 written_for serve.Sessions failed failed' s p why h = absurd why
 written_for serve.Stranger failed failed' s p why h = inr (h (λ e. let no : serve.Stranger ≡ serve.Line = e in cc))
-written_for serve.NumbersSpent failed failed' s p why h = h (λ e. let no : serve.NumbersSpent ≡ serve.Line = e in cc)
+written_for f failed failed' s p why h = h (λ e. cc)
 
 strange_for : (f : ServeFault) (failed failed' : ℕ) (s : Type 0) (p : Progress) → IsStop f failed failed' s → (f ≢ serve.Line → HasWritten p) → Rose failed failed' ⊎ HasWritten p
 strange_for serve.Line failed failed' s p why h = inl why
-strange_for serve.OutOfMemory failed failed' s p why h = inr (h (λ e. let no : serve.OutOfMemory ≡ serve.Line = e in cc))
 strange_for serve.Sessions failed failed' s p why h = absurd why
-strange_for serve.Stranger failed failed' s p why h = inr (h (λ e. let no : serve.Stranger ≡ serve.Line = e in cc))
-strange_for serve.NumbersSpent failed failed' s p why h = inr (h (λ e. let no : serve.NumbersSpent ≡ serve.Line = e in cc))
+strange_for f failed failed' s p why h = inr (h (λ e. cc))
 
 pub stops_ended : (T T' : SessionState → Type 0) (from now : LineView) (f : ServeFault) (failed failed' w w' : ℕ) (s : Type 0) → ((t : SessionState) → T t → T' (ended t)) → w' ≡ w → IsStop f failed failed' s → Serves T from now (HasStopped f w)
     → Serves T' from now (IsStopped f failed failed' w')
