@@ -3,7 +3,7 @@ use Rattle.sf_session.specs.declared.fault.ServeFault.TheVariants.{Line}
 use Rattle.sf_serving.specs.declared.host.Went.{Went}
 use Rattle.sf_serving.specs.Serving.{line_view, Serves}
 use Rattle.sf_serving.proofs.Outcomes.{if_err_at}
-use Rattle.sf_serving.proofs.Rounds.{rose_since, host_stop, gone, gone_stops, gone_sent, gone_fails, goes_spent, SentGone}
+use Rattle.sf_serving.proofs.Rounds.{rose_since, host_stop, gone, gone_stops, gone_sent, fails_so, stops_line, goes_spent, SentGone}
 use Rattle.sf_serving.proofs.serving.drain.Goals as goal
 
 pub loop-turn-init : goal.loop-turn-init
@@ -26,10 +26,10 @@ returns-in_err-went-clause-fault g c = if_err_at c.from_residual.result c.in_err
 
 pub returns-in_err-send-clause-stops : goal.returns-in_err-send-clause-stops
 returns-in_err-send-clause-stops g c = if_err_at c.from_residual-in_err-send.result Line _ c.from_residual-in_err-send.ensures.1 (λ start from n serves.
-    gone_fails _ (g.H.Host.serves start c.send.new.host c.send.new.place (g.C.Clock.told c.go_on.new.clock)) from _ _ n c.loop-turn.turn (g.H.Host.work c.send.new.host c.send.new.place) (Ok c.in_ok-went.went)
+    fails_so _ (g.H.Host.serves start c.send.new.host c.send.new.place (g.C.Clock.told c.go_on.new.clock)) from _ _ _ _
     (λ t tells. subst (λ h. g.H.Host.serves start h c.send.new.place (g.C.Clock.told c.go_on.new.clock) t) (sym c.in_err-send.ensures.same.0)
     (subst (λ d. g.H.Host.serves start c.go_on.new.self d (g.C.Clock.told c.go_on.new.clock) t) (sym c.in_err-send.ensures.same.1) tells))
-    (c.in_err-send.ensures.some start (g.C.Clock.told c.go_on.new.clock))
+    (c.in_err-send.ensures.some start (g.C.Clock.told c.go_on.new.clock)) (λ p h. h.in_step) stops_line
     (gone _ _ from _ n c.loop-turn.turn (Ok c.in_ok-went.went) (c.in_ok-went.ensures.went start) (c.loop-turn.invariant.serves start from n serves)))
 
 pub returns-in_err-send-clause-fault : goal.returns-in_err-send-clause-fault

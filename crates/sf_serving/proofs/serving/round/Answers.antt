@@ -27,8 +27,7 @@ returns-clause-rounded g c = if_ok_more c.drain.result _ _ c.drain.ensures.drain
     let bytes = take c.in_ok-n.n c.read.new.buffer in
     let told = g.C.Clock.told c.args.clock.now in
     let count : length bytes ≡ c.in_ok-n.n = omega (arith, length-take c.in_ok-n.n c.read.new.buffer, c.in_ok-n.ensures.within) in
-    let some : 0 < length bytes = omega (arith, count, c.if-n-eq0.false) in
-    drained start from (n + 1) (has_fed _ _ from _ n bytes some
+    drained start from (n + 1) (has_fed _ _ from _ n c.in_ok-n.n bytes count (omega (arith, c.if-n-eq0.false))
     (λ t tells is_open. front_read (λ (b : List ℕ). g.H.Host.serves start c.feed.new.self c.feed.new.place told (fed t b)) c.in_ok-n.n c.args.piece.now.len c.read.new.buffer c.args.piece.now.items (c.read.auto.buffer ∙ c.deref_mut.ensures.len)
     (c.in_ok-feed.ensures.fed start told t tells is_open))
     (has_read _ from _ _ _ _ n c.in_ok-n.n bytes serves c.in_ok-n.ensures.taken count
@@ -39,8 +38,7 @@ returns-clause-stops g c = if_err_more c.drain.result _ _ c.drain.ensures.stops 
     let bytes = take c.in_ok-n.n c.read.new.buffer in
     let told = g.C.Clock.told c.args.clock.now in
     let count : length bytes ≡ c.in_ok-n.n = omega (arith, length-take c.in_ok-n.n c.read.new.buffer, c.in_ok-n.ensures.within) in
-    let some : 0 < length bytes = omega (arith, count, c.if-n-eq0.false) in
-    stops start from (n + 1) (has_fed _ _ from _ n bytes some
+    stops start from (n + 1) (has_fed _ _ from _ n c.in_ok-n.n bytes count (omega (arith, c.if-n-eq0.false))
     (λ t tells is_open. front_read (λ (b : List ℕ). g.H.Host.serves start c.feed.new.self c.feed.new.place told (fed t b)) c.in_ok-n.n c.args.piece.now.len c.read.new.buffer c.args.piece.now.items (c.read.auto.buffer ∙ c.deref_mut.ensures.len)
     (c.in_ok-feed.ensures.fed start told t tells is_open))
     (has_read _ from _ _ _ _ n c.in_ok-n.n bytes serves c.in_ok-n.ensures.taken count
