@@ -1,12 +1,7 @@
 -- A stream has one reading: its bodies, what each asks for, and how it ends.
-use Rattle.std.proofs.Common.{◌≡◌, ℕ, ◌+◌, ◌<◌, ◌^◌, List, [], ◌∷◌, ◌++◌, Bool, true, length, refl, ap, sym, ◌∙◌, subst, arith, inl, inr, append_assoc, map}
-use Rattle.std.specs.Int.{w32}
+use Rattle.std.proofs.Common.{◌≡◌, ℕ, List, [], ◌∷◌, ◌++◌, Bool, true, length, refl, ap, sym, ◌∙◌, subst, inl, inr, append_assoc, map}
 use Rattle.std.specs.List.{AllByRecursion, flat_map}
-use Rattle.std.proofs.lemmas.List.{length-append}
-use Rattle.std.proofs.lemmas.Option.{some_pair_parts}
-use Rattle.sf_field.specs.Fields.{AreBytes, be32, packet}
-use Rattle.sf_field.specs.Reading.{number_at}
-use Rattle.sf_field.proofs.Laws.{reads_u32}
+use Rattle.sf_field.specs.Fields.{AreBytes, packet}
 use Rattle.sf_wire.specs.declared.cutting.Cut.TheVariants as cut
 use Rattle.sf_wire.specs.declared.cutting.BadCut.TheVariants as bad
 use Rattle.sf_wire.specs.Packets.{IsBody, IsCut}
@@ -18,7 +13,7 @@ use Rattle.sf_session.specs.declared.asking.Ask.TheVariants as ask
 use Rattle.sf_session.specs.declared.cause.Cause.{Cause}
 use Rattle.sf_session.specs.Asking.{AsksFor, ask_in}
 use Rattle.sf_session.specs.Sessions.{Begins, BeginsWrong, EndsBy}
-use Rattle.sf_engine.specs.Worlds.{Response, Version, Locally, ByCall, Refused, ask_behind}
+use Rattle.sf_engine.specs.Worlds.{Response, Version, ask_behind}
 use Rattle.sf_engine.specs.Laws.{AreAsked}
 use Rattle.sf_engine.proofs.Laws.{begun_after, begun_stays, whole_bytes, rest_bytes}
 use Rattle.sf_serving.specs.Ends.{IsEnd}

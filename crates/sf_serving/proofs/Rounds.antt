@@ -205,8 +205,11 @@ fails_so T T' from old new P Q to sends step so serves =
     let s = sends from p serves.1 serves.2 (step p serves.3) in
     (progress p.told p.unfed s.0, to p.told serves.1, s.1, so (progress p.told p.unfed s.0))
 
-pub gone_sent : (T T' : SessionState → Type 0) (from old new : LineView) (n k : ℕ) (incoming : Option (List ℕ)) (r : Went) → SendsAll T T' old new → Serves T from old (HasGone n k (Ok r)) → Serves T' from new (SentGone n k incoming r)
-gone_sent T T' from old new n k incoming r sends serves = sends_so T T' from old new _ (SentGone n k incoming r) sends (λ p h. (h.in_step, sent_gone n k incoming r p h)) serves
+-- it went on so, and all that waited was sent
+pub went_sent : (T M T' : SessionState → Type 0) (from old new : LineView) (n k : ℕ) (incoming : Option (List ℕ)) (r r' : Went) → Goes T M (Ok r) → SendsAll M T' old new → r ≡ r' → Serves T from old (GoesOnBy n k) → Serves T' from new (SentGone n k incoming r')
+went_sent T M T' from old new n k incoming r r' goes sends same serves =
+    subst (λ (w : Went). Serves T' from new (SentGone n k incoming w)) same
+    (sends_so M T' from old new _ (SentGone n k incoming r) sends (λ p h. (h.in_step, sent_gone n k incoming r p h)) (gone T M from old n k (Ok r) goes serves))
 
 pub stops_line : (p : Progress) → Stops serve.Line 0 p
 stops_line p = ((λ no. absurd (no refl)), tt)
@@ -240,8 +243,8 @@ has_read T from now i' o' c' n k bytes serves consumes count short same logs =
     )
 
 -- and then they are
-pub has_fed : (T T' : SessionState → Type 0) (from now : LineView) (n k : ℕ) (bytes : List ℕ) → length bytes ≡ k → 0 < k → ((t : SessionState) → T t → IsOpen t → T' (fed t bytes)) → Serves T from now (HasRead n bytes) → Serves T' from now (GoesOn (n + 1))
-has_fed T T' from now n k bytes count some feeds serves =
+pub has_fed : (T T' : SessionState → Type 0) (from now : LineView) (n : ℕ) (bytes : List ℕ) → 0 < length bytes → ((t : SessionState) → T t → IsOpen t → T' (fed t bytes)) → Serves T from now (HasRead n bytes) → Serves T' from now (GoesOn (n + 1))
+has_fed T T' from now n bytes some feeds serves =
     let p = serves.0 in
     let read = serves.3 in
     let S : ServedSoFar from now (progress p.told bytes p.written) = subst (λ (b : List ℕ). ServedSoFar from now (progress p.told b p.written)) read.unfed serves.2 in (
@@ -253,9 +256,17 @@ has_fed T T' from now n k bytes count some feeds serves =
         fed = refl;
         sent = read.sent;
         in_step = read.in_step;
-        long = omega (arith, read.long, some, count, length-append p.told.stream bytes);
+        long = omega (arith, read.long, some, length-append p.told.stream bytes);
       },
     )
+
+-- some bytes of a piece were read and fed
+pub was_fed : (T T' : SessionState → Type 0) (from now : LineView) (i' o' : Option (List ℕ)) (c' : Option (List LineCall)) (n k : ℕ) (buffer old : List ℕ) (len : ℕ) → Serves T from now (Rests n) → Consumes now.incoming i' (take k buffer) → k ≤ length buffer → length buffer ≡ len → len ≡ 65536
+    → o' ≡ now.outgoing → Logs now.calls c' (Read k ∷ []) → 0 < k → ((t : SessionState) → T t → IsOpen t → T' (fed t (take k (take len (buffer ++ drop (length buffer) old))))) → Serves T' from (line_view i' o' c') (GoesOn (n + 1))
+was_fed T T' from now i' o' c' n k buffer old len serves consumes within filled room same logs some feeds =
+    let count : length (take k buffer) ≡ k = omega (arith, length-take k buffer, within) in
+    has_fed T T' from (line_view i' o' c') n (take k buffer) (omega (arith, count, some)) (λ t tells is_open. front_read (λ (b : List ℕ). T' (fed t b)) k len buffer old filled (feeds t tells is_open))
+    (has_read T from now i' o' c' n k (take k buffer) serves consumes count (omega (arith, within, filled, room)) same logs)
 
 pub read_stops : (T T' : SessionState → Type 0) (from now : LineView) (n w : ℕ) (bytes : List ℕ) → ((t : SessionState) → T t → T' t) → Serves T from now (HasRead n bytes) → Serves T' from now (Stops serve.OutOfMemory w)
 read_stops T T' from now n w bytes to serves = (serves.0, to serves.0.told serves.1, serves.2, ((λ no. serves.3.in_step), tt))

@@ -1,7 +1,4 @@
 use Rattle.std.proofs.Common.{sym, subst}
-use Rattle.sf_session.specs.declared.fault.ServeFault.{ServeFault}
-use Rattle.sf_serving.specs.Serving.{line_view, Serves}
-use Rattle.sf_serving.specs.Rounds.{Stops}
 use Rattle.sf_serving.proofs.Rounds.{rose_since, stop_until, sends_so, fails_so, stopped_line, stopped_sent}
 use Rattle.sf_serving.proofs.serving.send_last.Goals as goal
 
