@@ -24,11 +24,10 @@ not_in_call f cause e h = let no : IsInCall (Left cause) = subst (λ (x : Phase)
 
 -- a session that was served to its end has left
 leaves_gone : (at : Standing) (d : DeskView) (t : SessionState) (cause : Cause) (old new : ℕ) → IsOver at d None → IsCounted at d t → IsWhole t cause → IsAdded at old new → (d.place ≡ Gone) × IsShared (length (state_calls t)) old new
-leaves_gone standing.Joined d t cause old new over counts whole added = absurd over
-leaves_gone standing.Unanswered d t cause old new over counts whole added = absurd over
 leaves_gone standing.UnderWay d t cause old new over counts whole added = absurd (not_in_call t.phase cause whole.left counts)
 leaves_gone standing.Strange d t cause old new over counts whole added = let no : None ≡ Some fault.Stranger = over.0 in absurd (cc)
 leaves_gone (standing.Left share) d t cause old new over counts whole added = (over.1, shared_by share (length (state_calls t)) old new counts added)
+leaves_gone at d t cause old new over counts whole added = absurd over
 
 pub leaves_served : (start now : DeskScene) (from line : LineView) (at : Standing) (v : SessionView) (cause : Cause) (old new : ℕ) → IsOver at now.desk None → IsAdded at old new → Serves (IsToldAt start at v now) from line (IsServed line.incoming cause)
     → Serves (NotesCalls start now) from line (λ p. ((c : Cause) × IsServed line.incoming c p) × (now.desk.place ≡ Gone) × IsShared (length (state_calls p.told)) old new)
@@ -38,36 +37,29 @@ leaves_served start now from line at v cause old new over added serves =
 
 -- after a fault it has left, too, or its call is under way
 left_none : (at : Standing) (d : DeskView) (t : SessionState) (old new : ℕ) → IsOver at d None → IsCounted at d t → IsAdded at old new → HasLeft d t old new
-left_none standing.Joined d t old new over counts added = absurd over
-left_none standing.Unanswered d t old new over counts added = absurd over
 left_none standing.UnderWay d t old new over counts added = inr (over.1, over.2, added)
 left_none standing.Strange d t old new over counts added = let no : None ≡ Some fault.Stranger = over.0 in absurd (cc)
 left_none (standing.Left share) d t old new over counts added = inl (over.1, shared_by share (length (state_calls t)) old new counts added)
+left_none at d t old new over counts added = absurd over
 
 -- ending it told no other fault than that the core doesn't know the session
 over_none : (at : Standing) (d : DeskView) (f : ServeFault) → (f ≡ fault.Stranger → ⊥) → IsLeftFor (IsOver at d) f → IsOver at d None
 over_none at d f other (inl h) = h
-over_none standing.Joined d f other (inr h) = absurd h
-over_none standing.Unanswered d f other (inr h) = absurd h
 over_none standing.UnderWay d f other (inr h) = let no : Some f ≡ None = h.0 in absurd (cc)
 over_none standing.Strange d f other (inr h) = let same : Some f ≡ Some fault.Stranger = h.0 in absurd (other (cc))
 over_none (standing.Left share) d f other (inr h) = let no : Some f ≡ None = h.0 in absurd (cc)
+over_none at d f other (inr h) = absurd h
 
 strange_left : (at : Standing) (d : DeskView) (old new : ℕ) → IsStrange at → IsLeftFor (IsOver at d) fault.Stranger → IsAdded at old new → (d.place ≡ Gone) × (new ≡ old)
-strange_left standing.Joined d old new is left added = absurd is
-strange_left standing.Unanswered d old new is left added = absurd is
-strange_left standing.UnderWay d old new is left added = absurd is
 strange_left standing.Strange d old new is (inl h) added = (h.1, added)
 strange_left standing.Strange d old new is (inr h) added = (h.1, added)
-strange_left (standing.Left share) d old new is left added = absurd is
+strange_left at d old new is left added = absurd is
 
 leaves_for : (at : Standing) (d : DeskView) (f : ServeFault) (p : Progress) (failed failed' old new : ℕ) → IsLeftFor (IsOver at d) f → IsCounted at d p.told → IsStop f failed failed' (IsStrange at) → IsSpentFor f d.steps p → IsAdded at old new → LeavesFor f d p old new
-leaves_for at d fault.Line p failed failed' old new left counts why spent added = left_none at d p.told old new (over_none at d fault.Line (λ e. let no : fault.Line ≡ fault.Stranger = e in cc) left) counts added
-leaves_for at d fault.OutOfMemory p failed failed' old new left counts why spent added = left_none at d p.told old new (over_none at d fault.OutOfMemory (λ e. let no : fault.OutOfMemory ≡ fault.Stranger = e in cc) left) counts added
 leaves_for at d fault.Sessions p failed failed' old new left counts why spent added = absurd why
 leaves_for at d fault.Stranger p failed failed' old new left counts why spent added = strange_left at d old new why left added
-leaves_for at d fault.NumbersSpent p failed failed' old new left counts why spent added =
-    (left_none at d p.told old new (over_none at d fault.NumbersSpent (λ e. let no : fault.NumbersSpent ≡ fault.Stranger = e in cc) left) counts added, spent)
+leaves_for at d fault.NumbersSpent p failed failed' old new left counts why spent added = (left_none at d p.told old new (over_none at d fault.NumbersSpent (λ e. cc) left) counts added, spent)
+leaves_for at d f p failed failed' old new left counts why spent added = left_none at d p.told old new (over_none at d f (λ e. cc) left) counts added
 
 pub leaves_stopped : (start now : DeskScene) (from line : LineView) (at : Standing) (v : SessionView) (f : ServeFault) (failed failed' old new : ℕ) → IsLeftFor (IsOver at now.desk) f → IsStop f failed failed' (IsStrange at) → IsAdded at old new
     → Serves (IsToldAt start at v now) from line (IsStopped f failed failed' now.desk.steps) → Serves (NotesCalls start now) from line (λ p. HasWrittenFor f failed failed' p × LeavesFor f now.desk p old new)
@@ -76,10 +68,7 @@ leaves_stopped start now from line at v f failed failed' old new left why added 
 
 pub desk_fault : (f : ServeFault) (failed failed' : ℕ) (s : Type 0) → IsStop f failed failed' s → IsDeskFault f failed failed'
 desk_fault fault.Line failed failed' s h = h
-desk_fault fault.OutOfMemory failed failed' s h = tt
-desk_fault fault.Sessions failed failed' s h = tt
-desk_fault fault.Stranger failed failed' s h = tt
-desk_fault fault.NumbersSpent failed failed' s h = tt
+desk_fault f failed failed' s h = tt
 
 pub join_fault : (c : CoreFault) (failed failed' : ℕ) → IsDeskFault (join_refusal c) failed failed'
 join_fault refused.OutOfMemory failed failed' = tt

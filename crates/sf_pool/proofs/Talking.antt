@@ -15,15 +15,15 @@ use Rattle.sf_session.specs.declared.cause.Cause.{Cause}
 use Rattle.sf_session.specs.declared.fault.ServeFault.{ServeFault}
 use Rattle.sf_session.specs.declared.session.Next.TheVariants as next
 use Rattle.sf_session.specs.Asking.{AsksFor}
-use Rattle.sf_session.specs.Sessions.{SessionView, NextGives, LocalPacket, EndsBy, new_session}
+use Rattle.sf_session.specs.Sessions.{SessionView, Begins, NextGives, LocalPacket, EndsBy, new_session}
 use Rattle.sf_engine.specs.Worlds.{Response, Version, Locally, ByCall, Refused, ask_behind, packet_for, transcript, Phase, Resting as AtRest, UnderWay as InCall, Decided, Gone as Left, SessionState, new_state}
 use Rattle.sf_engine.specs.Traces.{has_begun, fed, closed_now}
 use Rattle.sf_engine.specs.Laws.{pending, asks_of, AreAsked, IsRest, IsRead}
 use Rattle.sf_engine.proofs.Laws.{all_push, begun_is, begun_push, asked_push, map_push}
 use Rattle.sf_serving.specs.declared.host.Went.{Went}
 use Rattle.sf_serving.specs.declared.host.Went.TheVariants as went
-use Rattle.sf_serving.specs.Hosts.{IsOpen, IsFurther, WentTo, with_sent, ended}
-use Rattle.sf_serving.proofs.Laws.{transcript_append, none_written, front_all, rest_asked, rest_stream, ended_same, not_closed}
+use Rattle.sf_serving.specs.Hosts.{IsOpen, HasSent, HoldsFew, IsFurther, WentTo, with_sent, ended}
+use Rattle.sf_serving.proofs.Laws.{transcript_append, none_written, front_all, rest_asked, rest_stream, ended_same, not_closed, few_sent, few_more}
 use Rattle.sf_audit.specs.Audits.{CallRecord}
 use Rattle.sf_pool.specs.declared.calling.Stop.{Stop}
 use Rattle.sf_pool.specs.declared.calling.Stop.TheVariants as stop
@@ -88,11 +88,9 @@ told_new start d b v none same zero new = record {
 
 -- what a desk counts of a session is the same where the same calls were told
 counts_same : (at : Standing) (d : DeskView) (t t' : SessionState) → state_calls t' ≡ state_calls t → (IsInCall t.phase → IsInCall t'.phase) → IsCounted at d t → IsCounted at d t'
-counts_same standing.Joined d t t' same to h = h ∙ ap (λ (l : List CallRecord). share_of (length l)) (sym same)
-counts_same standing.Unanswered d t t' same to h = h ∙ ap (λ (l : List CallRecord). share_of (length l)) (sym same)
 counts_same standing.UnderWay d t t' same to h = to h
 counts_same standing.Strange d t t' same to h = tt
-counts_same (standing.Left share) d t t' same to h = h ∙ ap (λ (l : List CallRecord). share_of (length l)) (sym same)
+counts_same at d t t' same to h = h ∙ ap (λ (l : List CallRecord). share_of (length l)) (sym same)
 
 pub told_fed : (start now : DeskScene) (at : Standing) (v w : SessionView) (t : SessionState) (bytes : List ℕ) → IsToldAt start at v now t → IsOpen t → w ≡ record v { unread = v.unread ++ bytes } → IsToldAt start at w now (fed t bytes)
 told_fed start now at v w t bytes h is_open is =
@@ -133,27 +131,19 @@ told_still start at v d d' b b' tl t p q h =
 
 closed_deeds : (t : SessionState) (f : Phase) → t.phase ≡ f → state_calls (closed_now t f) ≡ state_calls t
 closed_deeds t AtRest at = ap (λ (f : Phase). flat_map response_calls t.answers ++ phase_calls f) (sym at)
-closed_deeds t (InCall id n m q moves) at = refl
-closed_deeds t (Decided id n q given) at = refl
-closed_deeds t (Left cause) at = refl
+closed_deeds t f at = refl
 
 closed_attempts : (t : SessionState) (f : Phase) → t.phase ≡ f → attempts_told (closed_now t f) ≡ attempts_told t
 closed_attempts t AtRest at = ap (λ (f : Phase). flat_map answer_attempts t.answers ++ phase_attempts f) (sym at)
-closed_attempts t (InCall id n m q moves) at = refl
-closed_attempts t (Decided id n q given) at = refl
-closed_attempts t (Left cause) at = refl
+closed_attempts t f at = refl
 
 closed_in_call : (t : SessionState) (f : Phase) → t.phase ≡ f → IsInCall t.phase → IsInCall (closed_now t f).phase
 closed_in_call t AtRest at h = absurd (let no : IsInCall AtRest = subst (λ (f : Phase). IsInCall f) at h in no)
-closed_in_call t (InCall id n m q moves) at h = h
-closed_in_call t (Decided id n q given) at h = h
-closed_in_call t (Left cause) at h = h
+closed_in_call t f at h = h
 
 never_rests : (t : SessionState) (f : Phase) → t.phase ≡ f → (closed_now t f).phase ≡ AtRest → ⊥
 never_rests t AtRest at e = cc
-never_rests t (InCall id n m q moves) at e = let no : InCall id n m q moves ≡ AtRest = sym at ∙ e in cc
-never_rests t (Decided id n q given) at e = let no : Decided id n q given ≡ AtRest = sym at ∙ e in cc
-never_rests t (Left cause) at e = let no : Left cause ≡ AtRest = sym at ∙ e in cc
+never_rests t f at e = let no : f ≡ AtRest = sym at ∙ e in cc
 
 -- it stands otherwise, or as it did
 pub told_ended : (start : DeskScene) (at at' : Standing) (v : SessionView) (d d' : DeskView) (b b' : Option (List Begin)) (tl : Option (List ℕ)) (t : SessionState) → IsToldAt start at v (desk_scene d b tl) t → d'.calls ≡ d.calls → b' ≡ b
@@ -178,19 +168,26 @@ told_ended start at at' v d d' b b' tl t h calls begins count =
 abbrev pub Goes : DeskScene → Standing → SessionView → DeskScene → Result Went ServeFault → SessionState → Type 0
 Goes start at v now r t = (t' : SessionState) × IsToldAt start at v now t' × IsFurther t t' × WentTo r t t'
 
-further_none : (t : SessionState) → IsRead t → IsFurther t t
-further_none t read = record { stream = refl; sent = refl; bodies = front_all t.bodies; answers = front_all t.answers; read = read }
+-- a session that its host lets go on
+pub record MayGo (start now : DeskScene) (v : SessionView) (t : SessionState) : Type 0 where
+  pub told : IsToldAt start standing.Joined v now t
+  pub is_open : IsOpen t
+  pub read : IsRead t
+  pub sent : HasSent t
+
+further_none : (t : SessionState) → IsRead t → HasSent t → IsFurther t t
+further_none t read sent = record { stream = refl; sent = refl; bodies = front_all t.bodies; answers = front_all t.answers; few = few_sent t sent; read = read }
 
 -- a host that stops at once
-pub goes_not : (start now : DeskScene) (at : Standing) (v w : SessionView) (f : ServeFault) (t : SessionState) → IsToldAt start at v now t → IsRead t → w ≡ v → Goes start at w now (Err f) t
-goes_not start now at v w f t h read same = (t, subst (λ (x : SessionView). IsToldAt start at x now t) (sym same) h, further_none t read, tt)
+pub goes_not : (start now : DeskScene) (at : Standing) (v w : SessionView) (f : ServeFault) (t : SessionState) → IsToldAt start at v now t → IsRead t → HasSent t → w ≡ v → Goes start at w now (Err f) t
+goes_not start now at v w f t h read sent same = (t, subst (λ (x : SessionView). IsToldAt start at x now t) (sym same) h, further_none t read sent, tt)
 
 -- no whole packet is unread
-pub goes_more : (start now : DeskScene) (at : Standing) (v w : SessionView) (t : SessionState) → IsToldAt start at v now t → IsOpen t → IsRead t → NextGives v next.More w → Goes start at w now (Ok went.Waits) t
-goes_more start now at v w t h is_open read gives = (
+pub goes_more : (start now : DeskScene) (at : Standing) (v w : SessionView) (t : SessionState) → IsToldAt start at v now t → IsOpen t → IsRead t → HasSent t → NextGives v next.More w → Goes start at w now (Ok went.Waits) t
+goes_more start now at v w t h is_open read sent gives = (
   t,
   subst (λ (x : SessionView). IsToldAt start at x now t) (sym gives.2) h,
-  further_none t read,
+  further_none t read sent,
   (is_open, subst (λ (b : List ℕ). IsCut b cut.More) (h.stands is_open.rests).unread gives.1),
 )
 
@@ -207,8 +204,9 @@ ends_output : (v w : SessionView) (cause : Cause) → NextGives v (next.Ended ca
 ends_output v w cause (inl h) = ap (λ (x : SessionView). x.output) h.1
 ends_output v w cause (inr h) = ap (λ (x : SessionView). x.output) h.2
 
-pub goes_ended : (start now : DeskScene) (v w : SessionView) (cause : Cause) (t : SessionState) → IsToldAt start standing.Joined v now t → IsOpen t → IsRead t → NextGives v (next.Ended cause) w → Goes start standing.Joined w now (Ok (went.Ended cause)) t
-goes_ended start now v w cause t h is_open read gives =
+pub goes_ended : (start now : DeskScene) (v w : SessionView) (cause : Cause) (t : SessionState) → MayGo start now v t → NextGives v (next.Ended cause) w → Goes start standing.Joined w now (Ok (went.Ended cause)) t
+goes_ended start now v w cause t go gives =
+    let record { told = h; is_open = is_open; read = read; sent = sent } = go in
     let at = is_open.rests in
     let s = h.stands at in
     let ends : EndsBy (has_begun t.bodies) t.unread cause =
@@ -232,6 +230,7 @@ goes_ended start now v w cause t h is_open read gives =
         sent = refl;
         bodies = front_all t.bodies;
         answers = front_all t.answers;
+        few = few_sent t sent;
         read = record {
           rest = t.unread;
           are_bodies = read.are_bodies;
@@ -248,14 +247,15 @@ goes_ended start now v w cause t h is_open read gives =
 
 -- ---- a packet is answered
 
+-- what a session shows, field by field
+shown : (w : SessionView) (rest output : List ℕ) (waiting : Option ℕ) → w ≡ record { unread = rest; output = output; begun = true; waiting = waiting; ended = None } → w ≡ record w { unread = rest; output = output; begun = true; ended = None }
+shown w rest output waiting is = subst (λ (x : SessionView). x ≡ record x { unread = rest; output = output; begun = true; ended = None }) (sym is) refl
+
 -- a body more was read
 bodies_pushed : (bodies : List (List ℕ)) (body rest : List ℕ) → flat_map packet (bodies ++ body ∷ []) ++ rest ≡ flat_map packet bodies ++ (packet body ++ rest)
 bodies_pushed bodies body rest =
     ap (λ (b : List ℕ). b ++ rest) (flat_map-append packet bodies (body ∷ []) ∙ ap (λ (b : List ℕ). flat_map packet bodies ++ b) (append-nil (packet body)))
     ∙ append_assoc (flat_map packet bodies) (packet body) rest
-
-abbrev answered : SessionState → List ℕ → List ℕ → Response → SessionState
-answered t body rest a = record t { unread = rest; bodies = t.bodies ++ body ∷ []; answers = t.answers ++ a ∷ [] }
 
 -- a body of the session, and what is behind it
 record Body (t : SessionState) (asked : Ask) : Type 0 where
@@ -265,75 +265,95 @@ record Body (t : SessionState) (asked : Ask) : Type 0 where
   is_body : IsBody body
   asks : AsksFor (has_begun t.bodies) body asked
 
-answered_read : (t : SessionState) (a : Response) (b : Body t (ask_behind a)) → t.phase ≡ AtRest → IsRead t → IsRead (answered t b.body b.rest a)
-answered_read t a b at read =
-    let t' = answered t b.body b.rest a in
-    let P : Phase → Type 0 = λ f. IsRest (has_begun t'.bodies) f b.rest b.rest in
-    let asked : AreAsked false t'.bodies (map ask_behind t.answers ++ ask_behind a ∷ []) =
-    asked_push false t.bodies (map ask_behind t.answers) b.body (ask_behind a) (rest_asked t at read) (subst (λ (g : Bool). AsksFor g b.body (ask_behind a)) (begun_is t.bodies) b.asks) in
-    let none : asks_of t'.answers t'.phase ≡ map ask_behind t'.answers = ap (λ (f : Phase). map ask_behind t'.answers ++ pending f) at ∙ append-nil (map ask_behind t'.answers) in
-    let same_asks : map ask_behind t.answers ++ ask_behind a ∷ [] ≡ asks_of t'.answers t'.phase = sym (map_push t.answers a) ∙ sym none in
-    record {
-      rest = b.rest;
-      are_bodies = all_push IsBody t.bodies b.body read.are_bodies b.is_body;
-      stream = rest_stream t at read ∙ ap (λ (x : List ℕ). flat_map packet t.bodies ++ x) b.whole ∙ sym (bodies_pushed t.bodies b.body b.rest);
-      left = subst P (sym at) refl;
-      asked = subst (λ (l : List Ask). AreAsked false t'.bodies l) same_asks asked;
-    }
+-- it was answered so, or its call has no reply: that is what the desk noted
+record Noted (now now' : DeskScene) (asked : Ask) (more : List Response) (f : Phase) : Type 0 where
+  asks : map ask_behind more ++ pending f ≡ asked ∷ []
+  left : (begun : Bool) (bytes : List ℕ) → IsRest begun f bytes bytes
+  noted : Notes now.desk.calls now'.desk.calls (flat_map response_calls more ++ phase_calls f)
+  begins : BeginsCalls now.told now'.told now.begins now'.begins (flat_map answer_attempts more ++ phase_attempts f)
 
-deeds_more : (t : SessionState) (a : Response) (b : Body t (ask_behind a)) → t.phase ≡ AtRest → state_calls (answered t b.body b.rest a) ≡ flat_map response_calls t.answers ++ response_calls a
-deeds_more t a b at =
-    rest_deeds (answered t b.body b.rest a) at ∙ flat_map-append response_calls t.answers (a ∷ []) ∙ ap (λ (l : List CallRecord). flat_map response_calls t.answers ++ l) (append-nil (response_calls a))
+abbrev after_body : SessionState → List ℕ → List ℕ → List Response → Phase → SessionState
+after_body t body rest more f = record t { unread = rest; bodies = t.bodies ++ body ∷ []; answers = t.answers ++ more; phase = f }
 
-attempts_more : (t : SessionState) (a : Response) (b : Body t (ask_behind a)) → t.phase ≡ AtRest → attempts_told (answered t b.body b.rest a) ≡ flat_map answer_attempts t.answers ++ answer_attempts a
-attempts_more t a b at =
-    rest_attempts (answered t b.body b.rest a) at ∙ flat_map-append answer_attempts t.answers (a ∷ []) ∙ ap (λ (l : List Attempt). flat_map answer_attempts t.answers ++ l) (append-nil (answer_attempts a))
+-- a body more was read
+goes_body : (start now now' : DeskScene) (at : Standing) (v w : SessionView) (t : SessionState) (asked : Ask) (more : List Response) (f : Phase) (r : Result Went ServeFault) → MayGo start now v t → (b : Body t asked) → Noted now now' asked more f
+    → w ≡ record w { unread = b.rest; output = v.output ++ transcript more; begun = true; ended = None } → HoldsFew (after_body t b.body b.rest more f)
+    → ((k : ℕ) → now.desk.begun ≡ share_of k → length (state_calls (after_body t b.body b.rest more f)) ≡ k + length (flat_map response_calls more ++ phase_calls f) → IsCounted at now'.desk (after_body t b.body b.rest more f))
+    → WentTo r t (after_body t b.body b.rest more f) → Goes start at w now' r t
+goes_body start now now' at v w t asked more f r go b n shows few counts to =
+    let h = go.told in
+    let rests = go.is_open.rests in
+    let t' = after_body t b.body b.rest more f in
+    let calls = flat_map response_calls t.answers in
+    let attempts = flat_map answer_attempts t.answers in
+    let same_calls : calls ++ (flat_map response_calls more ++ phase_calls f) ≡ state_calls t' =
+    sym (append_assoc calls (flat_map response_calls more) (phase_calls f)) ∙ ap (λ (l : List CallRecord). l ++ phase_calls f) (sym (flat_map-append response_calls t.answers more)) in
+    let same_attempts : attempts ++ (flat_map answer_attempts more ++ phase_attempts f) ≡ attempts_told t' =
+    sym (append_assoc attempts (flat_map answer_attempts more) (phase_attempts f)) ∙ ap (λ (l : List Attempt). l ++ phase_attempts f) (sym (flat_map-append answer_attempts t.answers more)) in
+    let same_asks : map ask_behind t.answers ++ asked ∷ [] ≡ asks_of t'.answers f =
+    ap (λ (l : List Ask). map ask_behind t.answers ++ l) (sym n.asks) ∙ sym (append_assoc (map ask_behind t.answers) (map ask_behind more) (pending f)) ∙ ap (λ (l : List Ask). l ++ pending f) (sym (map-append ask_behind t.answers more)) in
+    let are_asked : AreAsked false t'.bodies (map ask_behind t.answers ++ asked ∷ []) =
+    asked_push false t.bodies (map ask_behind t.answers) b.body asked (rest_asked t rests go.read) (subst (λ (x : Bool). AsksFor x b.body asked) (begun_is t.bodies) b.asks) in
+    let noted : Notes start.desk.calls now.desk.calls calls = subst (λ (l : List CallRecord). Notes start.desk.calls now.desk.calls l) (rest_deeds t rests) h.notes.noted in
+    let begun : BeginsCalls start.told now.told start.begins now.begins attempts = subst (λ (l : List Attempt). BeginsCalls start.told now.told start.begins now.begins l) (rest_attempts t rests) h.notes.asked in
+    let sum : length (state_calls t') ≡ length calls + length (flat_map response_calls more ++ phase_calls f) = ap (λ (l : List CallRecord). length l) (sym same_calls) ∙ length-append calls (flat_map response_calls more ++ phase_calls f) in (
+      t',
+      record {
+        notes = record {
+          noted = subst (λ (l : List CallRecord). Notes start.desk.calls now'.desk.calls l) same_calls (notes_more start.desk.calls now.desk.calls now'.desk.calls calls (flat_map response_calls more ++ phase_calls f) noted n.noted);
+          asked = subst (λ (l : List Attempt). BeginsCalls start.told now'.told start.begins now'.begins l) same_attempts
+              (begins_more start.told now.told now'.told start.begins now.begins now'.begins attempts (flat_map answer_attempts more ++ phase_attempts f) begun n.begins);
+        };
+        stands = λ e. record { unread = ap (λ (x : SessionView). x.unread) shows; begun = ap (λ (x : SessionView). x.begun) shows ∙ sym (begun_push t.bodies b.body); ended = ap (λ (x : SessionView). x.ended) shows };
+        waits = transcript_append t.answers more ∙ ap (λ (x : List ℕ). x ++ transcript more) h.waits ∙ append_assoc t.sent v.output (transcript more) ∙ ap (λ (x : SessionView). t.sent ++ x.output) (sym shows);
+        counts = counts (length calls) (h.counts ∙ ap (λ (l : List CallRecord). share_of (length l)) (rest_deeds t rests)) sum;
+      },
+      record {
+        stream = refl;
+        sent = refl;
+        bodies = (b.body ∷ [], refl);
+        answers = (more, refl);
+        few = few;
+        read = record {
+          rest = b.rest;
+          are_bodies = all_push IsBody t.bodies b.body go.read.are_bodies b.is_body;
+          stream = rest_stream t rests go.read ∙ ap (λ (x : List ℕ). flat_map packet t.bodies ++ x) b.whole ∙ sym (bodies_pushed t.bodies b.body b.rest);
+          left = n.left (has_begun t'.bodies) b.rest;
+          asked = subst (λ (l : List Ask). AreAsked false t'.bodies l) same_asks are_asked;
+        };
+      },
+      to,
+    )
 
 counted_more : (k n : ℕ) → n ≡ share_of k → counted n ≡ share_of (k + 1)
 counted_more k n e = omega (arith, e)
 
 -- one call more was counted where one was answered
 begun_more : (a : Response) (n k : ℕ) → n ≡ share_of k → begun_by a n ≡ share_of (k + length (response_calls a))
-begun_more Version n k e = omega (arith, e)
-begun_more (Locally id reply) n k e = omega (arith, e)
 begun_more (ByCall id number request reply) n k e = counted_more k n e
-begun_more (Refused id request refusal) n k e = omega (arith, e)
+begun_more a n k e = omega (arith, e)
 
 one_longer : {A : Type 0} (xs : List A) (x : A) → length xs < length (xs ++ x ∷ [])
 one_longer xs x = omega (arith, length-append xs (x ∷ []))
 
 -- a body asked for this, and was answered so: its output follows
-goes_answered : (start now : DeskScene) (d' : DeskView) (b' : Option (List Begin)) (tl' : Option (List ℕ)) (v w : SessionView) (t : SessionState) (a : Response) → IsToldAt start standing.Joined v now t → IsOpen t → IsRead t → (b : Body t (ask_behind a))
-    → w.unread ≡ b.rest → w.begun ≡ true → w.ended ≡ None → w.output ≡ v.output ++ packet_for a → Notes now.desk.calls d'.calls (response_calls a) → BeginsCalls now.told tl' now.begins b' (answer_attempts a) → d'.begun ≡ begun_by a now.desk.begun
-    → Goes start standing.Joined w (desk_scene d' b' tl') (Ok went.Answered) t
-goes_answered start now d' b' tl' v w t a h is_open read b unread begun ends output notes begins count =
-    let at = is_open.rests in
-    let t' = answered t b.body b.rest a in
-    let deeds = deeds_more t a b at in
-    let attempts = attempts_more t a b at in
-    let noted : Notes start.desk.calls now.desk.calls (flat_map response_calls t.answers) = subst (λ (l : List CallRecord). Notes start.desk.calls now.desk.calls l) (rest_deeds t at) h.notes.noted in
-    let asked : BeginsCalls start.told now.told start.begins now.begins (flat_map answer_attempts t.answers) =
-    subst (λ (l : List Attempt). BeginsCalls start.told now.told start.begins now.begins l) (rest_attempts t at) h.notes.asked in
-    let before : now.desk.begun ≡ share_of (length (flat_map response_calls t.answers)) = h.counts ∙ ap (λ (l : List CallRecord). share_of (length l)) (rest_deeds t at) in
-    let longer : length (flat_map response_calls t.answers ++ response_calls a) ≡ length (flat_map response_calls t.answers) + length (response_calls a) = length-append (flat_map response_calls t.answers) (response_calls a) in
-    let sum : d'.begun ≡ share_of (length (state_calls t')) =
-    count ∙ begun_more a now.desk.begun (length (flat_map response_calls t.answers)) before ∙ ap share_of (sym longer) ∙ ap (λ (l : List CallRecord). share_of (length l)) (sym deeds) in
-    let now_out : transcript (t.answers ++ a ∷ []) ≡ (t.sent ++ v.output) ++ packet_for a =
-    transcript_append t.answers (a ∷ []) ∙ ap (λ (x : List ℕ). transcript t.answers ++ x) (one_packet a) ∙ ap (λ (x : List ℕ). x ++ packet_for a) h.waits in (
-      t',
-      record {
-        notes = record {
-          noted = subst (λ (l : List CallRecord). Notes start.desk.calls d'.calls l) (sym deeds) (notes_more start.desk.calls now.desk.calls d'.calls (flat_map response_calls t.answers) (response_calls a) noted notes);
-          asked = subst (λ (l : List Attempt). BeginsCalls start.told tl' start.begins b' l) (sym attempts)
-              (begins_more start.told now.told tl' start.begins now.begins b' (flat_map answer_attempts t.answers) (answer_attempts a) asked begins);
-        };
-        stands = λ rests. record { unread = unread; begun = begun ∙ sym (begun_push t.bodies b.body); ended = ends };
-        waits = now_out ∙ append_assoc t.sent v.output (packet_for a) ∙ ap (λ (x : List ℕ). t.sent ++ x) (sym output);
-        counts = sum;
-      },
-      record { stream = refl; sent = refl; bodies = (b.body ∷ [], refl); answers = (a ∷ [], refl); read = answered_read t a b at read },
-      (record { rests = at; closed = is_open.closed }, one_longer t.answers a),
-    )
+goes_answered : (start now now' : DeskScene) (v w : SessionView) (t : SessionState) (a : Response) → MayGo start now v t → (b : Body t (ask_behind a)) → w ≡ record w { unread = b.rest; output = v.output ++ packet_for a; begun = true; ended = None }
+    → Notes now.desk.calls now'.desk.calls (response_calls a) → BeginsCalls now.told now'.told now.begins now'.begins (answer_attempts a) → now'.desk.begun ≡ begun_by a now.desk.begun → Goes start standing.Joined w now' (Ok went.Answered) t
+goes_answered start now now' v w t a go b shows notes begins count =
+    let t' = after_body t b.body b.rest (a ∷ []) AtRest in
+    let calls : response_calls a ≡ flat_map response_calls (a ∷ []) ++ [] = sym (append-nil (flat_map response_calls (a ∷ [])) ∙ append-nil (response_calls a)) in
+    let attempts : answer_attempts a ≡ flat_map answer_attempts (a ∷ []) ++ [] = sym (append-nil (flat_map answer_attempts (a ∷ [])) ∙ append-nil (answer_attempts a)) in
+    let n : Noted now now' (ask_behind a) (a ∷ []) AtRest = record {
+      asks = refl;
+      left = λ begun bytes. refl;
+      noted = subst (λ (l : List CallRecord). Notes now.desk.calls now'.desk.calls l) calls notes;
+      begins = subst (λ (l : List Attempt). BeginsCalls now.told now'.told now.begins now'.begins l) attempts begins;
+    } in
+    let little : length (transcript t.answers) < length t.sent + 65536 = omega (arith, ap (λ (x : List ℕ). length x) go.sent) in
+    goes_body start now now' standing.Joined v w t (ask_behind a) (a ∷ []) AtRest (Ok went.Answered) go b n (subst (λ (x : List ℕ). w ≡ record w { unread = b.rest; output = v.output ++ x; begun = true; ended = None }) (sym (one_packet a)) shows)
+    (few_more t t' a refl refl little)
+    (λ k begun sum. count ∙ begun_more a now.desk.begun k begun ∙ ap share_of (ap (λ (l : List CallRecord). k + length l) calls ∙ sym sum))
+    (record { rests = refl; closed = go.is_open.closed }, one_longer t.answers a)
 
 -- what answers a body with no call
 local_at : (asked : Ask) (text : List ℕ) → LocalPacket asked text
@@ -343,31 +363,30 @@ local_at (ask.Local id reply) text h = (Locally id reply, refl, sym h, refl, ref
 local_at (ask.Call id request) text h = absurd h
 local_at (ask.End cause) text h = absurd h
 
-pub goes_local : (start now : DeskScene) (v w : SessionView) (t : SessionState) → IsToldAt start standing.Joined v now t → IsOpen t → IsRead t → NextGives v next.Local w → Goes start standing.Joined w now (Ok went.Answered) t
-goes_local start now v w t h is_open read gives =
-    let s = h.stands is_open.rests in
+-- the body that a packet has
+abbrev body_at : (start now : DeskScene) (v : SessionView) (t : SessionState) (asked : Ask) (body rest : List ℕ) → MayGo start now v t → Begins v.unread body rest → AsksFor v.begun body asked → Body t asked
+body_at start now v t asked body rest go begins asks =
+    let s = go.told.stands go.is_open.rests in
+    record { body = body; rest = rest; whole = sym s.unread ∙ begins.whole; is_body = begins.is_body; asks = subst (λ (x : Bool). AsksFor x body asked) s.begun asks }
+
+pub goes_local : (start now : DeskScene) (v w : SessionView) (t : SessionState) → MayGo start now v t → NextGives v next.Local w → Goes start standing.Joined w now (Ok went.Answered) t
+goes_local start now v w t go gives =
     let g = gives.1 in
     let a = local_at g.asked g.text g.local_packet in
-    let asks : AsksFor (has_begun t.bodies) g.body (ask_behind a.0) =
-    subst (λ (x : Bool). AsksFor x g.body (ask_behind a.0)) s.begun (subst (λ (x : Ask). AsksFor v.begun g.body x) (sym a.1) g.asks) in
-    let b : Body t (ask_behind a.0) = record { body = g.body; rest = g.rest; whole = sym s.unread ∙ g.begins.whole; is_body = g.begins.is_body; asks = asks } in
-    goes_answered start now now.desk now.begins now.told v w t a.0 h is_open read b (ap (λ (x : SessionView). x.unread) g.now) (ap (λ (x : SessionView). x.begun) g.now) (ap (λ (x : SessionView). x.ended) g.now)
-    (ap (λ (x : SessionView). x.output) g.now ∙ ap (λ (x : List ℕ). v.output ++ x) (sym a.2))
-    (subst (λ (l : List CallRecord). Notes now.desk.calls now.desk.calls l) (sym a.4) (notes_none now.desk.calls))
-    (subst (λ (l : List Attempt). BeginsCalls now.told now.told now.begins now.begins l) (sym a.3) (begins_none now.told now.begins))
-    (sym (a.5 now.desk.begun))
+    let b = body_at start now v t (ask_behind a.0) g.body g.rest go g.begins (subst (λ (x : Ask). AsksFor v.begun g.body x) (sym a.1) g.asks) in
+    let out : w ≡ record { unread = g.rest; output = v.output ++ packet_for a.0; begun = true; waiting = None; ended = None } =
+    g.now ∙ ap (λ (x : List ℕ). record { unread = g.rest; output = v.output ++ x; begun = true; waiting = None; ended = None }) (sym a.2) in
+    goes_answered start now now v w t a.0 go b (shown w g.rest (v.output ++ packet_for a.0) None out) (subst (λ (l : List CallRecord). Notes now.desk.calls now.desk.calls l) (sym a.4) (notes_none now.desk.calls))
+    (subst (λ (l : List Attempt). BeginsCalls now.told now.told now.begins now.begins l) (sym a.3) (begins_none now.told now.begins)) (sym (a.5 now.desk.begun))
 
 -- a packet's call was made, or refused
-pub goes_called : (start : DeskScene) (d d' : DeskView) (b b' : Option (List Begin)) (tl tl' : Option (List ℕ)) (v m w : SessionView) (request : Request) (t : SessionState) → IsToldAt start standing.Joined v (desk_scene d b tl) t → IsOpen t → IsRead t
-    → NextGives v (next.Call request) m → MakesCall request (BeginsCalls tl tl' b b') (talk d m) (talk d' w) → Goes start standing.Joined w (desk_scene d' b' tl') (Ok went.Answered) t
-goes_called start d d' b b' tl tl' v m w request t h is_open read gives made =
-    let s = h.stands is_open.rests in
+pub goes_called : (start now now' : DeskScene) (v m w : SessionView) (request : Request) (t : SessionState) → MayGo start now v t → NextGives v (next.Call request) m → MakesCall request (BeginsCalls now.told now'.told now.begins now'.begins) (talk now.desk m) (talk now'.desk w)
+    → Goes start standing.Joined w now' (Ok went.Answered) t
+goes_called start now now' v m w request t go gives made =
     let g = gives.1 in
-    let a = subst (λ (x : SessionView). MakesCall request (BeginsCalls tl tl' b b') (talk d x) (talk d' w)) g.now made in
-    let asks : AsksFor (has_begun t.bodies) g.body (ask_behind a.0) =
-    subst (λ (x : Bool). AsksFor x g.body (ask_behind a.0)) s.begun (subst (λ (x : Ask). AsksFor v.begun g.body x) (sym a.1) g.asks) in
-    let y : Body t (ask_behind a.0) = record { body = g.body; rest = g.rest; whole = sym s.unread ∙ g.begins.whole; is_body = g.begins.is_body; asks = asks } in
-    goes_answered start (desk_scene d b tl) d' b' tl' v w t a.0 h is_open read y (ap (λ (x : SessionView). x.unread) a.2) (ap (λ (x : SessionView). x.begun) a.2) (ap (λ (x : SessionView). x.ended) a.2) (ap (λ (x : SessionView). x.output) a.2) a.4 a.5 a.6
+    let a = subst (λ (x : SessionView). MakesCall request (BeginsCalls now.told now'.told now.begins now'.begins) (talk now.desk x) (talk now'.desk w)) g.now made in
+    let b = body_at start now v t (ask_behind a.0) g.body g.rest go g.begins (subst (λ (x : Ask). AsksFor v.begun g.body x) (sym a.1) g.asks) in
+    goes_answered start now now' v w t a.0 go b (shown w g.rest (v.output ++ packet_for a.0) None a.2) a.4 a.5 a.6
 
 pub called_ready : (Asked : List Attempt → Type 0) (d d' : DeskView) (v m w : SessionView) (request : Request) → NextGives v (next.Call request) m → MakesCall request Asked (talk d m) (talk d' w) → IsResting d'.place × (w.waiting ≡ None)
 called_ready Asked d d' v m w request gives made =
@@ -376,64 +395,28 @@ called_ready Asked d d' v m w request gives made =
 
 -- ---- a packet's call has no reply
 
-abbrev pended : SessionState → List ℕ → List ℕ → Phase → SessionState
-pended t body rest f = record t { unread = rest; bodies = t.bodies ++ body ∷ []; phase = f }
-
 -- what its phase tells of its moment and its moves is of no account
-goes_pended : (start now : DeskScene) (at : Standing) (d' : DeskView) (b' : Option (List Begin)) (tl' : Option (List ℕ)) (v m w : SessionView) (request : Request) (t : SessionState) (f : Phase) (g : ServeFault) → IsToldAt start standing.Joined v now t → IsOpen t → IsRead t
-    → (gives : NextGives v (next.Call request) m) → w ≡ m → pending f ≡ ask.Call gives.1.id request ∷ [] → ((begun : Bool) (bytes : List ℕ) → IsRest begun f bytes bytes) → (f ≡ AtRest → ⊥)
-    → Notes now.desk.calls d'.calls (phase_calls f) → BeginsCalls now.told tl' now.begins b' (phase_attempts f)
-    → ((k : ℕ) → now.desk.begun ≡ share_of k → (t' : SessionState) → t'.phase ≡ f → length (state_calls t') ≡ k + length (phase_calls f) → IsCounted at d' t')
-    → Goes start at w (desk_scene d' b' tl') (Err g) t
-goes_pended start now at d' b' tl' v m w request t f g h is_open read gives same pend left busy notes begins count =
-    let rests = is_open.rests in
-    let s = h.stands rests in
+goes_pended : (start now now' : DeskScene) (at : Standing) (v m w : SessionView) (request : Request) (t : SessionState) (f : Phase) (g : ServeFault) → MayGo start now v t → (gives : NextGives v (next.Call request) m) → w ≡ m → Noted now now' (ask.Call gives.1.id request) [] f
+    → ((k : ℕ) (t' : SessionState) → now.desk.begun ≡ share_of k → t'.phase ≡ f → length (state_calls t') ≡ k + length (phase_calls f) → IsCounted at now'.desk t') → Goes start at w now' (Err g) t
+goes_pended start now now' at v m w request t f g go gives same n counts =
     let x = gives.1 in
-    let t' = pended t x.body x.rest f in
-    let a : Ask = ask.Call x.id request in
-    let whole : t.unread ≡ packet x.body ++ x.rest = sym s.unread ∙ x.begins.whole in
-    let asks : AsksFor (has_begun t.bodies) x.body a = subst (λ (y : Bool). AsksFor y x.body a) s.begun x.asks in
-    let asked : AreAsked false t'.bodies (map ask_behind t.answers ++ a ∷ []) =
-    asked_push false t.bodies (map ask_behind t.answers) x.body a (rest_asked t rests read) (subst (λ (y : Bool). AsksFor y x.body a) (begun_is t.bodies) asks) in
-    let same_asks : map ask_behind t.answers ++ a ∷ [] ≡ asks_of t'.answers t'.phase = ap (λ (l : List Ask). map ask_behind t.answers ++ l) (sym pend) in
-    let noted : Notes start.desk.calls now.desk.calls (flat_map response_calls t.answers) = subst (λ (l : List CallRecord). Notes start.desk.calls now.desk.calls l) (rest_deeds t rests) h.notes.noted in
-    let begun : BeginsCalls start.told now.told start.begins now.begins (flat_map answer_attempts t.answers) =
-    subst (λ (l : List Attempt). BeginsCalls start.told now.told start.begins now.begins l) (rest_attempts t rests) h.notes.asked in
-    let output : w.output ≡ v.output = ap (λ (y : SessionView). y.output) same ∙ ap (λ (y : SessionView). y.output) x.now in (
-      t',
-      record {
-        notes = record {
-          noted = notes_more start.desk.calls now.desk.calls d'.calls (flat_map response_calls t.answers) (phase_calls f) noted notes;
-          asked = begins_more start.told now.told tl' start.begins now.begins b' (flat_map answer_attempts t.answers) (phase_attempts f) begun begins;
-        };
-        stands = λ e. absurd (busy e);
-        waits = h.waits ∙ ap (λ (y : List ℕ). t.sent ++ y) (sym output);
-        counts = count (length (flat_map response_calls t.answers)) (h.counts ∙ ap (λ (l : List CallRecord). share_of (length l)) (rest_deeds t rests)) t' refl (length-append (flat_map response_calls t.answers) (phase_calls f));
-      },
-      record {
-        stream = refl;
-        sent = refl;
-        bodies = (x.body ∷ [], refl);
-        answers = front_all t.answers;
-        read = record {
-          rest = x.rest;
-          are_bodies = all_push IsBody t.bodies x.body read.are_bodies x.begins.is_body;
-          stream = rest_stream t rests read ∙ ap (λ (y : List ℕ). flat_map packet t.bodies ++ y) whole ∙ sym (bodies_pushed t.bodies x.body x.rest);
-          left = left (has_begun t'.bodies) x.rest;
-          asked = subst (λ (l : List Ask). AreAsked false t'.bodies l) same_asks asked;
-        };
-      },
-      tt,
-    )
+    let b = body_at start now v t (ask.Call x.id request) x.body x.rest go x.begins x.asks in
+    let none : t.answers ++ [] ≡ t.answers = append-nil t.answers in
+    let few : HoldsFew (after_body t x.body x.rest [] f) = λ before last e. few_sent t go.sent before last (sym none ∙ e) in
+    let out : v.output ≡ v.output ++ transcript [] = sym (ap (λ (l : List ℕ). v.output ++ l) none_written ∙ append-nil v.output) in
+    let is : w ≡ record { unread = x.rest; output = v.output ++ transcript []; begun = true; waiting = Some x.id; ended = None } =
+    same ∙ x.now ∙ ap (λ (l : List ℕ). record { unread = x.rest; output = l; begun = true; waiting = Some x.id; ended = None }) out in
+    goes_body start now now' at v w t (ask.Call x.id request) [] f (Err g) go b n (shown w x.rest (v.output ++ transcript []) (Some x.id) is) few (λ k begun sum. counts k (after_body t x.body x.rest [] f) begun refl sum) tt
 
-pub goes_stopped : (start : DeskScene) (d d' : DeskView) (b b' : Option (List Begin)) (tl tl' : Option (List ℕ)) (v m w : SessionView) (request : Request) (t : SessionState) (why : Stop) → IsToldAt start standing.Joined v (desk_scene d b tl) t → IsOpen t → IsRead t
-    → NextGives v (next.Call request) m → w ≡ m → FailsCall request why (BeginsCalls tl tl' b b') d d' → Goes start (standing_after why) w (desk_scene d' b' tl') (Err (stop_fault why)) t
-goes_stopped start d d' b b' tl tl' v m w request t stop.OutOfMemory h is_open read gives same fails =
-    goes_pended start (desk_scene d b tl) standing.Unanswered d' b' tl' v m w request t (Decided gives.1.id fails.0 request fails.1.0) (stop_fault stop.OutOfMemory) h is_open read gives same refl (λ begun bytes. refl) (λ e. cc) fails.1.2 fails.2
-    (λ k n t' phase e. fails.1.3 ∙ counted_more k d.begun n ∙ ap share_of (sym e))
-goes_stopped start d d' b b' tl tl' v m w request t stop.Stranger h is_open read gives same fails =
-    goes_pended start (desk_scene d b tl) standing.Strange d' b' tl' v m w request t (InCall gives.1.id fails.0 0 request 0) (stop_fault stop.Stranger) h is_open read gives same refl (λ begun bytes. refl) (λ e. cc)
-    (subst (λ (x : Option (List CallRecord)). Notes d.calls x []) (sym fails.1.1) (notes_none d.calls)) fails.2 (λ k n t' phase e. tt)
-goes_stopped start d d' b b' tl tl' v m w request t stop.UnderWay h is_open read gives same fails =
-    goes_pended start (desk_scene d b tl) standing.UnderWay d' b' tl' v m w request t (InCall gives.1.id fails.0 0 request 0) (stop_fault stop.UnderWay) h is_open read gives same refl (λ begun bytes. refl) (λ e. cc)
-    (subst (λ (x : Option (List CallRecord)). Notes d.calls x []) (sym fails.1.1) (notes_none d.calls)) fails.2 (λ k n t' phase e. subst (λ (f : Phase). IsInCall f) (sym phase) tt)
+pub goes_stopped : (start now now' : DeskScene) (v m w : SessionView) (request : Request) (t : SessionState) (why : Stop) → MayGo start now v t → NextGives v (next.Call request) m → w ≡ m → FailsCall request why (BeginsCalls now.told now'.told now.begins now'.begins) now.desk now'.desk
+    → Goes start (standing_after why) w now' (Err (stop_fault why)) t
+goes_stopped start now now' v m w request t stop.OutOfMemory go gives same fails =
+    goes_pended start now now' standing.Unanswered v m w request t (Decided gives.1.id fails.0 request fails.1.0) (stop_fault stop.OutOfMemory) go gives same (record { asks = refl; left = λ begun bytes. refl; noted = fails.1.2; begins = fails.2 })
+    (λ k t' n phase e. fails.1.3 ∙ counted_more k now.desk.begun n ∙ ap share_of (sym e))
+goes_stopped start now now' v m w request t stop.Stranger go gives same fails =
+    goes_pended start now now' standing.Strange v m w request t (InCall gives.1.id fails.0 0 request 0) (stop_fault stop.Stranger) go gives same
+    (record { asks = refl; left = λ begun bytes. refl; noted = subst (λ (x : Option (List CallRecord)). Notes now.desk.calls x []) (sym fails.1.1) (notes_none now.desk.calls); begins = fails.2 }) (λ k t' n phase e. tt)
+goes_stopped start now now' v m w request t stop.UnderWay go gives same fails =
+    goes_pended start now now' standing.UnderWay v m w request t (InCall gives.1.id fails.0 0 request 0) (stop_fault stop.UnderWay) go gives same
+    (record { asks = refl; left = λ begun bytes. refl; noted = subst (λ (x : Option (List CallRecord)). Notes now.desk.calls x []) (sym fails.1.1) (notes_none now.desk.calls); begins = fails.2 })
+    (λ k t' n phase e. subst (λ (f : Phase). IsInCall f) (sym phase) tt)

@@ -22,42 +22,17 @@ no_path_ends id None cause e = cc
 no_path_ends id (Some path) cause e = cc
 
 no_request_ends : (id : ℕ) (request : WireRequest) (cause : Cause) → ask.End cause ≡ request_ask id request → ⊥
-no_request_ends id (wire.Open a b c) cause e = no_call_ends id (call_of (wire.Open a b c)) cause e
-no_request_ends id (wire.Close a) cause e = no_call_ends id (call_of (wire.Close a)) cause e
-no_request_ends id (wire.Read a b c) cause e = no_call_ends id (call_of (wire.Read a b c)) cause e
-no_request_ends id (wire.Write a b c) cause e = no_call_ends id (call_of (wire.Write a b c)) cause e
-no_request_ends id (wire.LStat a) cause e = no_call_ends id (call_of (wire.LStat a)) cause e
-no_request_ends id (wire.FStat a) cause e = no_call_ends id (call_of (wire.FStat a)) cause e
-no_request_ends id (wire.SetStat a b) cause e = no_call_ends id (call_of (wire.SetStat a b)) cause e
-no_request_ends id (wire.FSetStat a b) cause e = no_call_ends id (call_of (wire.FSetStat a b)) cause e
-no_request_ends id (wire.OpenDir a) cause e = no_call_ends id (call_of (wire.OpenDir a)) cause e
-no_request_ends id (wire.ReadDir a) cause e = no_call_ends id (call_of (wire.ReadDir a)) cause e
-no_request_ends id (wire.Remove a) cause e = no_call_ends id (call_of (wire.Remove a)) cause e
-no_request_ends id (wire.Mkdir a b) cause e = no_call_ends id (call_of (wire.Mkdir a b)) cause e
-no_request_ends id (wire.Rmdir a) cause e = no_call_ends id (call_of (wire.Rmdir a)) cause e
 no_request_ends id (wire.RealPath a) cause e = no_path_ends id (path_at a) cause e
-no_request_ends id (wire.Stat a) cause e = no_call_ends id (call_of (wire.Stat a)) cause e
-no_request_ends id (wire.Rename a b) cause e = no_call_ends id (call_of (wire.Rename a b)) cause e
-no_request_ends id (wire.PosixRename a b) cause e = no_call_ends id (call_of (wire.PosixRename a b)) cause e
-no_request_ends id (wire.Link a b) cause e = no_call_ends id (call_of (wire.Link a b)) cause e
+no_request_ends id request cause e = no_call_ends id (call_of request) cause e
 
 no_version_closes : (old : Bool) → ask.End Closed ≡ (if old then ask.End OldVersion else ask.Version) → ⊥
 no_version_closes true e = cc
 no_version_closes false e = cc
 
 no_body_closes : (begun : Bool) (packet : Asked) → ask.End Closed ≡ ask_in begun packet → ⊥
-no_body_closes true (asked.Init version) e = cc
 no_body_closes true (asked.Request id request) e = no_request_ends id request Closed e
-no_body_closes true (asked.BadFields id) e = cc
-no_body_closes true (asked.Unknown id) e = cc
-no_body_closes true asked.NoVersion e = cc
-no_body_closes true asked.NoId e = cc
 no_body_closes false (asked.Init version) e = no_version_closes (nat_lt version 3) e
-no_body_closes false (asked.Request id request) e = cc
-no_body_closes false (asked.BadFields id) e = cc
-no_body_closes false (asked.Unknown id) e = cc
-no_body_closes false asked.NoVersion e = cc
-no_body_closes false asked.NoId e = cc
+no_body_closes begun packet e = cc
 
 closed_by_none : (begun : Bool) (bytes : List ℕ) → EndsBy begun bytes Closed → ⊥
 closed_by_none begun bytes (inl (inl h)) = let e : Closed ≡ ZeroLength = h.1 in cc

@@ -1,14 +1,15 @@
 -- What begins with what, and what stays prompt as a session goes further.
-use Rattle.std.proofs.Common.{◌≡◌, ◌⊎◌, ℕ, ◌+◌, List, [], ◌∷◌, ◌++◌, refl, ap, sym, ◌∙◌, subst, inl, inr, append-nil, append_assoc, arith}
-use Rattle.std.specs.List.{AllByRecursion}
+use Rattle.std.proofs.Common.{◌≡◌, ◌<◌, ◌⊎◌, ℕ, ◌+◌, length, length-append, List, [], ◌∷◌, ◌++◌, refl, ap, sym, ◌∙◌, subst, inl, inr, append-nil, append_assoc, arith}
+use Rattle.std.specs.List.{AllByRecursion, flat_map}
 use Rattle.std.proofs.lemmas.List.Concat.{flat_map-append}
 use Rattle.std.proofs.lemmas.List.Sums.{sum_by-append}
 use Rattle.sf_line.specs.declared.line_call.LineCall.{LineCall}
 use Rattle.sf_line.specs.declared.line_call.LineCall.TheVariants.{Read, Write}
 use Rattle.sf_line.specs.Lines.{given, taken, bytes_given, bytes_taken}
-use Rattle.sf_engine.specs.Worlds.{Response, packet_for, transcript}
-use Rattle.sf_serving.specs.Hosts.{IsFront}
-use Rattle.sf_serving.specs.Serving.{Progress, IsPromptAt, IsPrompt, IsPiece}
+use Rattle.sf_engine.specs.Worlds.{Response, packet_for, transcript, SessionState}
+use Rattle.sf_engine.proofs.Laws.{all_push}
+use Rattle.sf_serving.specs.Hosts.{IsFront, HasSent, HoldsFew}
+use Rattle.sf_serving.specs.Serving.{Progress, IsPromptAt, IsPrompt, IsPiece, IsBatch, Batch, IsWritten, AreBatched}
 use Rattle.sf_serving.specs.Rounds.{IsPieceWritten}
 
 pub transcript_append : (answers more : List Response) → transcript (answers ++ more) ≡ transcript answers ++ transcript more
@@ -129,3 +130,71 @@ written_pieces (Write n ∷ writes) w = (w.0, written_pieces writes w.1)
 pub all_more : {A : Type 0} (P : A → Type 0) (xs ys : List A) → AllByRecursion P xs → AllByRecursion P ys → AllByRecursion P (xs ++ ys)
 all_more P [] ys p q = q
 all_more P (x ∷ xs) ys p q = (p.0, all_more P xs ys p.1 q)
+
+-- ---- and in which batches
+
+none_last : {A : Type 0} (before : List A) (last : A) → [] ≡ before ++ last ∷ [] → ⊥
+none_last before last e = nothing_after before last [] e
+
+-- what is before the last of a list with one more at its end
+pub all_but_last : {A : Type 0} (before xs : List A) (last x : A) → xs ++ x ∷ [] ≡ before ++ last ∷ [] → before ≡ xs
+all_but_last before xs last x e = elim (cut_at before last [] xs x e) [ inl h ↦ h.1 | inr h ↦ absurd (omega (arith, ap (λ (l : List _). length l) e, ap (λ (l : List _). length l) h.1, length-append xs (x ∷ []), length-append before (last ∷ []), length-append before (last ∷ h.0))) ]
+
+pub batches_none : AreBatched [] []
+batches_none = record { written = []; waiting = []; since = []; each = tt; last = λ before last e. absurd (none_last before last e); answers_are = refl; log_is = refl }
+
+pub batches_calls : (answers : List Response) (log more : List LineCall) → AreBatched answers log → AreBatched answers (log ++ more)
+batches_calls answers log more b = record {
+  written = b.written;
+  waiting = b.waiting;
+  since = b.since ++ more;
+  each = b.each;
+  last = b.last;
+  answers_are = b.answers_are;
+  log_is = ap (λ (l : List LineCall). l ++ more) b.log_is ∙ append_assoc (flat_map (λ (x : Batch). x.calls) b.written) b.since more;
+}
+
+written_whole : (bs : List Batch) → AllByRecursion IsWritten bs → taken (flat_map (λ (b : Batch). b.calls) bs) ≡ length (transcript (flat_map (λ (b : Batch). b.answers) bs))
+written_whole [] each = sym (ap (λ (x : List ℕ). length x) none_written)
+written_whole (b ∷ bs) each =
+    let later = flat_map (λ (x : Batch). x.answers) bs in
+    let sum : length (transcript (b.answers ++ later)) ≡ length (transcript b.answers ++ transcript later) = ap (λ (x : List ℕ). length x) (transcript_append b.answers later) in
+    omega (arith, taken_more b.calls (flat_map (λ (x : Batch). x.calls) bs), each.0.1, written_whole bs each.1, sum, length-append (transcript b.answers) (transcript later))
+
+-- where all was written, a next batch begins
+pub batches_more : (answers made : List Response) (log : List LineCall) → AreBatched answers log → taken log ≡ length (transcript answers) → IsBatch made → AreBatched (answers ++ made) log
+batches_more answers made log b whole few =
+    let calls = flat_map (λ (x : Batch). x.calls) b.written in
+    let before = flat_map (λ (x : Batch). x.answers) b.written in
+    let one : Batch = record { answers = b.waiting; calls = b.since } in
+    let bytes : length (transcript answers) ≡ length (transcript before ++ transcript b.waiting) = ap (λ (x : List Response). length (transcript x)) b.answers_are ∙ ap (λ (x : List ℕ). length x) (transcript_append before b.waiting) in
+    let took : taken b.since ≡ length (transcript b.waiting) =
+    omega (arith, whole, ap taken b.log_is, taken_more calls b.since, bytes, length-append (transcript before) (transcript b.waiting), written_whole b.written b.each) in
+    record {
+      written = b.written ++ one ∷ [];
+      waiting = made;
+      since = [];
+      each = all_push IsWritten b.written one b.each (b.last, took);
+      last = few;
+      answers_are = ap (λ (x : List Response). x ++ made) (b.answers_are ∙ sym (flat_map-append (λ (x : Batch). x.answers) b.written (one ∷ []) ∙ ap (λ (x : List Response). before ++ x) (append-nil b.waiting)));
+      log_is = b.log_is ∙ sym (append-nil _ ∙ flat_map-append (λ (x : Batch). x.calls) b.written (one ∷ []) ∙ ap (λ (x : List LineCall). calls ++ x) (append-nil b.since));
+    }
+
+-- what a session at which all was sent was answered since is a batch
+pub batch_of : (t t' : SessionState) (made : List Response) → t'.answers ≡ t.answers ++ made → t'.sent ≡ t.sent → HasSent t → HoldsFew t' → IsBatch made
+batch_of t t' made more same sent few before last e =
+    let cut : t'.answers ≡ (t.answers ++ before) ++ last ∷ [] = more ∙ ap (λ (x : List Response). t.answers ++ x) e ∙ sym (append_assoc t.answers before (last ∷ [])) in
+    let bytes : length (transcript (t.answers ++ before)) ≡ length (transcript t.answers ++ transcript before) = ap (λ (x : List ℕ). length x) (transcript_append t.answers before) in
+    let waited : length t'.sent ≡ length (transcript t.answers) = ap (λ (x : List ℕ). length x) (same ∙ sent) in
+    omega (arith, few (t.answers ++ before) last cut, bytes, waited, length-append (transcript t.answers) (transcript before))
+
+-- where all was sent nothing waits, and one answer more may
+pub few_sent : (t : SessionState) → HasSent t → HoldsFew t
+few_sent t sent before last e =
+    let bytes : length (transcript t.answers) ≡ length (transcript before ++ transcript (last ∷ [])) = ap (λ (x : List Response). length (transcript x)) e ∙ ap (λ (x : List ℕ). length x) (transcript_append before (last ∷ [])) in
+    omega (arith, ap (λ (x : List ℕ). length x) sent, bytes, length-append (transcript before) (transcript (last ∷ [])))
+
+pub few_more : (t t' : SessionState) (a : Response) → t'.answers ≡ t.answers ++ a ∷ [] → t'.sent ≡ t.sent → length (transcript t.answers) < length t.sent + 65536 → HoldsFew t'
+few_more t t' a more same few before last e =
+    let all : length (transcript before) ≡ length (transcript t.answers) = ap (λ (x : List Response). length (transcript x)) (all_but_last before t.answers last a (sym more ∙ e)) in
+    omega (arith, few, all, ap (λ (x : List ℕ). length x) same)

@@ -1,27 +1,31 @@
 -- A session that an engine serves: it opens, is fed, goes on, is told what was sent, and is closed.
-use Rattle.std.proofs.Common.{◌≡◌, ◌<◌, ◌≤◌, ℕ, ◌+◌, ◌-◌, List, [], ◌∷◌, ◌++◌, Bool, true, false, Some, Option, Result, Ok, Err, slice_get, length, take, drop, refl, ap, sym, ◌∙◌, subst, inl, inr, arith}
-use Rattle.std.specs.Global.{Vec}
+use Rattle.std.proofs.Common.{◌≡◌, ◌≢◌, ◌<◌, ◌≤◌, ℕ, ◌+◌, ◌-◌, List, [], ◌∷◌, ◌++◌, Bool, true, Some, Option, Result, Ok, Err, slice_get, length, take, drop, refl, ap, sym, ◌∙◌, subst, inl, inr, length-drop, arith}
 use Rattle.std.proofs.KnownBytes.{Appends-nil}
 use Rattle.std.proofs.lemmas.List.{take_all}
+use Rattle.sf_call.specs.declared.record.Record.{Record}
 use Rattle.sf_session.specs.declared.cause.Cause.{Cause}
+use Rattle.sf_session.specs.declared.cause.Cause.TheVariants.{Closed}
 use Rattle.sf_session.specs.declared.fault.ServeFault.{ServeFault}
 use Rattle.sf_session.specs.declared.fault.ServeFault.TheVariants as serve
+use Rattle.sf_engine.specs.declared.event.Event.{Event}
 use Rattle.sf_engine.specs.declared.event.Event.TheVariants as event
 use Rattle.sf_engine.specs.declared.event.Happened.{Happened}
 use Rattle.sf_engine.specs.declared.event.Happened.TheVariants as happened
 use Rattle.sf_engine.specs.declared.event.EngineFault.{EngineFault}
 use Rattle.sf_engine.specs.declared.event.EngineFault.TheVariants as fault
-use Rattle.sf_engine.specs.Worlds.{TraceEntry, transcript, Phase, Resting, SessionState, new_state, World, unsent, is_here, with_state}
+use Rattle.sf_engine.specs.Worlds.{TraceEntry, transcript, SessionState, new_state, World, unsent, is_here_in, with_state}
 use Rattle.sf_engine.specs.Traces.{IsSession, MayRefuse, Leads, fed, sent_more}
 use Rattle.sf_engine.specs.Views.{EngineView}
 use Rattle.sf_engine.specs.Fits.{Fits, GoesOnTrace, IsSentBy, IsUnknownSession, WantsBytes, WantsBytesBy, trace_entry}
 use Rattle.sf_engine.specs.Laws.{IsRead}
 use Rattle.sf_engine.proofs.Laws.{told_of_none, told_sessions}
-use Rattle.sf_serving.specs.Hosts.{IsOpen, HasSent, IsFurther, Waits, WentTo, with_sent, ended}
+use Rattle.sf_serving.specs.Ends.{IsWhole}
+use Rattle.sf_serving.specs.Hosts.{IsOpen, HasSent, IsFurther, WentTo, with_sent, ended}
 use Rattle.sf_serving.specs.declared.host.Went.{Went}
 use Rattle.sf_serving.specs.declared.host.Went.TheVariants as went
 use Rattle.sf_serving.specs.Serving.{LineView, Progress, ServedSoFar, Serves, IsStopped, IsStop}
-use Rattle.sf_serving.specs.OnEngine.{moment_of, may_begin_after, AreTimed, IsLow, IsLowAt, RunsLow, Since, since_at, IoState, IsTold, IsToldBy, Turns, Feeds, Applies, HasOutput, HasStoppedAt, open_refusal, MayNotOpen, IsOpenFault, IsServeFault}
+use Rattle.sf_serving.specs.OnEngine.{IsOf, moment_of, may_begin_after, AreTimed, IsLow, IsLowAt, RunsLow, Since, since_at, IoState, IsTold, IsToldBy, Turns, Feeds, Applies, HasOutput, HasStoppedAt, open_refusal, MayNotOpen, IsOpenFault, IsServeFault}
+use Rattle.sf_serving.proofs.Fronts.{few_sent}
 use Rattle.sf_serving.proofs.Following.{Leading, tells_on, same_told, told_now}
 use Rattle.sf_serving.proofs.Sessions.{whole_left}
 use Rattle.sf_serving.proofs.Turning.{Turned, HasTurn, HasTurned, turned_more, since_first, turns_on}
@@ -68,70 +72,53 @@ opened_only e e' k other goes trace fits = let g = goes trace fits in other (len
 
 -- why none opened
 pub refused_open : (e e' : EngineView) (f : EngineFault) → GoesOnTrace e event.Open (Err f) e' → IsOpenFault e (open_refusal f)
-refused_open e e' fault.OutOfMemory goes = tt
-refused_open e e' fault.NoSuchSession goes = tt
 refused_open e e' fault.Sessions goes = λ trace fits. (goes trace fits).2.0
-refused_open e e' fault.Ended goes = tt
 refused_open e e' fault.NumbersSpent goes = λ trace fits. (goes trace fits).2.0.1
-refused_open e e' fault.NotSent goes = tt
+refused_open e e' f goes = tt
 
 pub not_opened : (e : EngineView) (f : ServeFault) → IsOpenFault e f → (trace : List TraceEntry) → (fits : Fits e trace) → MayNotOpen fits.world f
 not_opened e serve.Line h = absurd h
 not_opened e serve.OutOfMemory h = λ trace fits. tt
-not_opened e serve.Sessions h = h
 not_opened e serve.Stranger h = absurd h
-not_opened e serve.NumbersSpent h = h
+not_opened e f h = h
 
 pub open_fault : (e : EngineView) (f : ServeFault) (old new : ℕ) → IsOpenFault e f → IsServeFault f old new
 open_fault e serve.Line old new h = absurd h
-open_fault e serve.OutOfMemory old new h = tt
-open_fault e serve.Sessions old new h = tt
 open_fault e serve.Stranger old new h = absurd h
-open_fault e serve.NumbersSpent old new h = tt
+open_fault e f old new h = tt
 
 -- ---- it is fed
 
-fed_leads : (s : ℕ) (t : SessionState) (bytes : Vec ℕ) (r : Happened) → Leading s t (event.Feed s bytes) (Ok r) (λ t'. t' ≡ fed t bytes.items)
-fed_leads s t bytes r w w' added session leads =
-    let u = leads.2.0 in
-    let same : u ≡ t = same_told w s u t leads.2.1 session in
-    let now : w' ≡ with_state w s (fed t bytes.items) [] 0 = leads.2.3 ∙ ap (λ (z : SessionState). with_state w s (fed z bytes.items) [] 0) same in
-    (fed t bytes.items, subst (λ (z : World). IsSession z s (fed t bytes.items)) (sym now) (told_now w s t (fed t bytes.items) [] 0 session), refl)
+-- what an event does to a session
+session_now : (f : SessionState → SessionState) (w w' : World) (s : ℕ) (t u : SessionState) (added : List Record) → IsSession w s t → IsSession w s u → w' ≡ with_state w s (f u) added 0 → IsSession w' s (f t)
+session_now f w w' s t u added session other now =
+    let same : u ≡ t = same_told w s u t other session in
+    subst (λ (z : World). IsSession z s (f t)) (sym (now ∙ ap (λ (z : SessionState). with_state w s (f z) added 0) same)) (told_now w s t (f t) added 0 session)
 
 -- one event that is no turn
-event_on : (turns : ℕ) (start : Since) (s : ℕ) (e e' : EngineView) (tl : Option (List ℕ)) (t t' : SessionState) → (T : IsTold start s e tl t) → turns ≤ length T.entries
-    → (u : SessionState) × (U : IsTold start s e' tl u) × (length U.entries ≡ length T.entries + 1) × (u ≡ t') → IsToldBy turns start s e' tl t'
-event_on turns start s e e' tl t t' T few g =
-    let by : IsToldBy turns start s e' tl g.0 = (g.1, omega (arith, few, g.2)) in subst (λ (z : SessionState). IsToldBy turns start s e' tl z) g.3 by
+event_on : (turns : ℕ) (start : Since) (s : ℕ) (e e' : EngineView) (tl : Option (List ℕ)) (t t' : SessionState) (ev : Event) (r : Result Happened EngineFault) → IsToldBy turns start s e tl t → GoesOnTrace e ev r e' → IsOf s ev r → moment_of ev ≡ []
+    → ((w : World) → IsLowAt w s ev) → Leading s t ev r (λ u. u ≡ t') → IsToldBy turns start s e' tl t'
+event_on turns start s e e' tl t t' ev r T goes own none low leads =
+    let g = tells_on start s e e' tl tl t ev r (λ u. u ≡ t') [] T.0 goes own (Appends-nil tl) (λ w w' added is leads. inl (sym none)) (λ w is. low w) leads in
+    let by : IsToldBy turns start s e' tl g.0 = (g.1, omega (arith, T.1, g.2)) in subst (λ (z : SessionState). IsToldBy turns start s e' tl z) g.3 by
 
 pub fed_on : (turns : ℕ) (start : Since) (s : ℕ) (e e' : EngineView) (tl : Option (List ℕ)) (t : SessionState) (bytes : List ℕ) → IsToldBy turns start s e tl t → Feeds e s bytes e' → IsToldBy turns start s e' tl (fed t bytes)
 fed_on turns start s e e' tl t bytes T feeds =
-    let to : (u : SessionState) → u ≡ fed t feeds.0.items → u ≡ fed t bytes = λ u same. same ∙ ap (λ (b : List ℕ). fed t b) feeds.1 in
-    let g = tells_on start s e e' tl tl t (event.Feed s feeds.0) (Ok feeds.2) (λ u. u ≡ fed t feeds.0.items) [] T.0 feeds.3 refl (Appends-nil tl) (λ w w' added is leads. inl refl) (λ w is. tt) (fed_leads s t feeds.0 feeds.2) in
-    event_on turns start s e e' tl t (fed t bytes) T.0 T.1 (g.0, g.1, g.2, to g.0 g.3)
+    event_on turns start s e e' tl t (fed t bytes) (event.Feed s feeds.0) (Ok feeds.2) T feeds.3 refl refl (λ w. tt) (λ w w' added session leads.
+    (fed t feeds.0.items, session_now (λ z. fed z feeds.0.items) w w' s t leads.2.0 [] session leads.2.1 leads.2.3, ap (λ (b : List ℕ). fed t b) feeds.1))
 
 -- ---- it is closed
 
 close_not_refused : (w : World) (s : ℕ) (t : SessionState) (f : EngineFault) → IsSession w s t → MayRefuse w (event.Close s) f → ⊥
-close_not_refused w s t fault.OutOfMemory session h = h
 close_not_refused w s t fault.NoSuchSession session h = told_of_none w s t h session
-close_not_refused w s t fault.Sessions session h = h
-close_not_refused w s t fault.Ended session h = h
-close_not_refused w s t fault.NumbersSpent session h = h
-close_not_refused w s t fault.NotSent session h = h
+close_not_refused w s t f session h = h
 
 close_leads : (s : ℕ) (t : SessionState) (r : Result Happened EngineFault) → Leading s t (event.Close s) r (λ t'. t' ≡ ended t)
-close_leads s t (Ok r) w w' added session leads =
-    let u = leads.1.0 in
-    let same : u ≡ t = same_told w s u t leads.1.1 session in
-    let now : w' ≡ with_state w s (ended t) added 0 = leads.1.3 ∙ ap (λ (z : SessionState). with_state w s (ended z) added 0) same in
-    (ended t, subst (λ (z : World). IsSession z s (ended t)) (sym now) (told_now w s t (ended t) added 0 session), refl)
+close_leads s t (Ok r) w w' added session leads = (ended t, session_now ended w w' s t leads.1.0 added session leads.1.1 leads.1.3, refl)
 close_leads s t (Err f) w w' added session leads = absurd (close_not_refused w s t f session leads.0)
 
 pub closed_on : (turns : ℕ) (start : Since) (s : ℕ) (e e' : EngineView) (tl : Option (List ℕ)) (t : SessionState) → IsToldBy turns start s e tl t → Applies e (event.Close s) e' → IsToldBy turns start s e' tl (ended t)
-closed_on turns start s e e' tl t T applies =
-    event_on turns start s e e' tl t (ended t) T.0 T.1
-    (tells_on start s e e' tl tl t (event.Close s) applies.0 (λ u. u ≡ ended t) [] T.0 applies.1 refl (Appends-nil tl) (λ w w' added is leads. inl refl) (λ w is. tt) (close_leads s t applies.0))
+closed_on turns start s e e' tl t T applies = event_on turns start s e e' tl t (ended t) (event.Close s) applies.0 T applies.1 refl refl (λ w. tt) (close_leads s t applies.0)
 
 -- ---- what waits was sent
 
@@ -155,138 +142,105 @@ output_is : (t : SessionState) (output : List ℕ) → transcript t.answers ≡ 
 output_is t output waits = ap (λ (b : List ℕ). drop (length t.sent) b) waits ∙ drop_front t.sent output
 
 sent_not_refused : (w : World) (s n : ℕ) (t : SessionState) (f : EngineFault) → IsSession w s t → length (unsent t) ≡ n → MayRefuse w (event.Sent s n) f → ⊥
-sent_not_refused w s n t fault.OutOfMemory session all h = h
 sent_not_refused w s n t fault.NoSuchSession session all h = told_of_none w s t h session
-sent_not_refused w s n t fault.Sessions session all h = h
-sent_not_refused w s n t fault.Ended session all h = h
-sent_not_refused w s n t fault.NumbersSpent session all h = h
 sent_not_refused w s n t fault.NotSent session all h =
-    let same : h.0 ≡ t = same_told w s h.0 t h.1 session in
-    let count : length (unsent h.0) ≡ length (unsent t) = ap (λ (z : SessionState). length (unsent z)) same in
+    let count : length (unsent h.0) ≡ length (unsent t) = ap (λ (z : SessionState). length (unsent z)) (same_told w s h.0 t h.1 session) in
     omega (arith, count, all, h.2)
+sent_not_refused w s n t f session all h = h
 
 sent_leads : (s n : ℕ) (t : SessionState) (output : List ℕ) (r : Result Happened EngineFault) → transcript t.answers ≡ t.sent ++ output → n ≡ length output → Leading s t (event.Sent s n) r (λ t'. t' ≡ with_sent t)
 sent_leads s n t output (Ok r) waits count w w' added session leads =
-    let u = leads.2.0 in
-    let same : u ≡ t = same_told w s u t leads.2.1 session in
     let enough : length output ≤ n = omega (arith, count) in
     let cut : take n (unsent t) ≡ output = ap (λ (b : List ℕ). take n b) (output_is t output waits) ∙ take_all n output enough in
     let all : t.sent ++ take n (unsent t) ≡ transcript t.answers = ap (λ (b : List ℕ). t.sent ++ b) cut ∙ sym waits in
-    let now : w' ≡ with_state w s (sent_more t n) [] 0 = leads.2.3 ∙ ap (λ (z : SessionState). with_state w s (sent_more z n) [] 0) same in (
-      sent_more t n,
-      subst (λ (z : World). IsSession z s (sent_more t n)) (sym now) (told_now w s t (sent_more t n) [] 0 session),
-      ap (λ (b : List ℕ). record t { sent = b }) all,
-    )
+    (sent_more t n, session_now (λ z. sent_more z n) w w' s t leads.2.0 [] session leads.2.1 leads.2.3, ap (λ (b : List ℕ). record t { sent = b }) all)
 sent_leads s n t output (Err f) waits count w w' added session leads =
-    let all : length (unsent t) ≡ n = ap (λ (b : List ℕ). length b) (output_is t output waits) ∙ sym count in
-    absurd (sent_not_refused w s n t f session all leads.0)
+    absurd (sent_not_refused w s n t f session (ap (λ (b : List ℕ). length b) (output_is t output waits) ∙ sym count) leads.0)
 
 pub sent_on : (turns : ℕ) (start : Since) (s n : ℕ) (e e' : EngineView) (tl : Option (List ℕ)) (t : SessionState) (output : List ℕ) → IsToldBy turns start s e tl t → HasOutput e s output → n ≡ length output → Applies e (event.Sent s n) e'
     → IsToldBy turns start s e' tl (with_sent t)
 sent_on turns start s n e e' tl t output T waits count applies =
-    event_on turns start s e e' tl t (with_sent t) T.0 T.1
-    (tells_on start s e e' tl tl t (event.Sent s n) applies.0 (λ u. u ≡ with_sent t) [] T.0 applies.1 refl (Appends-nil tl) (λ w w' added is leads. inl refl) (λ w is. tt)
-    (sent_leads s n t output applies.0 (output_here turns start s e tl t output T waits) count))
+    event_on turns start s e e' tl t (with_sent t) (event.Sent s n) applies.0 T applies.1 refl refl (λ w. tt) (sent_leads s n t output applies.0 (output_here turns start s e tl t output T waits) count)
 
 -- ---- it goes on
 
-drop_whole : (a : List ℕ) → drop (length a) a ≡ []
-drop_whole [] = refl
-drop_whole (x ∷ a) = drop_whole a
+open_turn : (t : SessionState) → IsOpen t → IsLow t → HasTurn true t
+open_turn t is_open low = record { takes = (is_open.closed, ap is_here_in is_open.rests); low = low; may = tt }
 
 -- where all was sent, nothing waits
-low_sent : (t : SessionState) → HasSent t → IsLow t
-low_sent t e =
-    let none : unsent t ≡ [] = ap (λ (b : List ℕ). drop (length t.sent) b) (sym e) ∙ drop_whole t.sent in
-    let zero : length (unsent t) ≡ 0 = ap (λ (b : List ℕ). length b) none in
-    omega (arith, zero)
-
-pub low_output : (t : SessionState) (output : List ℕ) → transcript t.answers ≡ t.sent ++ output → length output < 65536 → IsLow t
-low_output t output waits few = let count : length (unsent t) ≡ length output = ap (λ (b : List ℕ). length b) (output_is t output waits) in omega (arith, count, few)
-
-here_at : (t : SessionState) → t.phase ≡ Resting → is_here t ≡ true
-here_at t at = ap (λ (f : Phase). is_here (record t { phase = f })) at
-
-pub open_turn : (t : SessionState) → IsOpen t → IsLow t → HasTurn true t
-open_turn t is_open low = record { takes = (is_open.closed, here_at t is_open.rests); low = low; may = tt }
-
 pub first_turn : (t : SessionState) → IsOpen t → HasSent t → HasTurn true t
-first_turn t is_open sent = open_turn t is_open (low_sent t sent)
+first_turn t is_open sent = open_turn t is_open (omega (arith, ap (λ (b : List ℕ). length b) sent, length-drop (length t.sent) (transcript t.answers)))
 
--- what is read of a session that is served
-pub read_of : (turns : ℕ) (start : Since) (s : ℕ) (e : EngineView) (tl : Option (List ℕ)) (t : SessionState) → IsToldBy turns start s e tl t → IsRead t
+-- what its host's contract asks of going on
+abbrev pub Gone : (turns : ℕ) → Since → ℕ → EngineView → Option (List ℕ) → Result Went ServeFault → SessionState → Type 0
+Gone turns start s e tl r t = (t' : SessionState) × IsToldBy turns start s e tl t' × IsFurther t t' × WentTo r t t'
+
+-- it may stop so after a turn that came to this
+abbrev pub Leaves : EngineView → ℕ → Result Happened EngineFault → Result Went ServeFault → Type 0
+Leaves e s r (Err f) = Unit {0}
+Leaves e s (Ok happened.Idle) (Ok went.Waits) = Unit {0}
+Leaves e s (Ok happened.Wrote) (Ok went.Waits) = WantsBytesBy e s true
+Leaves e s (Ok happened.Wrote) (Ok went.Answered) = Unit {0}
+Leaves e s (Ok (happened.Ended cause)) (Ok (went.Ended cause')) = cause ≡ cause'
+Leaves e s r w = ⊥
+
+read_of : (turns : ℕ) (start : Since) (s : ℕ) (e : EngineView) (tl : Option (List ℕ)) (t : SessionState) → IsToldBy turns start s e tl t → IsRead t
 read_of turns start s e tl t T = (told_sessions (start.trace ++ T.0.entries) T.0.fit.world T.0.fit.tells s t T.0.is_session).0
 
-pub further : (turns : ℕ) (start : Since) (s : ℕ) (e : EngineView) (tl : Option (List ℕ)) (t t' : SessionState) → IsToldBy turns start s e tl t' → Turned t t' → IsFurther t t'
-further turns start s e tl t t' T h = record { stream = h.stream; sent = h.sent; bodies = h.bodies; answers = h.answers; read = read_of turns start s e tl t' T }
-
--- after a reply nothing is unread but the beginning of a packet
-pub wants_more : (turns : ℕ) (start : Since) (s : ℕ) (e : EngineView) (tl : Option (List ℕ)) (t : SessionState) → IsToldBy turns start s e tl t → WantsBytesBy e s true → t.closed ≡ false → Waits t
-wants_more turns start s e tl t T wants closed =
+went_to : (turns : ℕ) (start : Since) (s : ℕ) (e : EngineView) (tl : Option (List ℕ)) (r : Result Happened EngineFault) (w : Result Went ServeFault) (t t' : SessionState) → Leaves e s r w → IsToldBy turns start s e tl t' → HasTurned r t t' → WentTo w t t'
+went_to turns start s e tl r (Err f) t t' leaves T h = tt
+went_to turns start s e tl (Ok happened.Idle) (Ok went.Waits) t t' leaves T h = (record { rests = h.1; closed = h.0.0 }, h.2)
+went_to turns start s e tl (Ok happened.Wrote) (Ok went.Waits) t t' wants T h =
     let seen = (wants (start.trace ++ T.0.entries) T.0.fit).0 refl in
-    let now : WantsBytes t = subst WantsBytes (same_told T.0.fit.world s seen.0 t seen.1 T.0.is_session) seen.2 in
-    (record { rests = now.0; closed = closed }, now.1)
+    let now : WantsBytes t' = subst WantsBytes (same_told T.0.fit.world s seen.0 t' seen.1 T.0.is_session) seen.2 in
+    (record { rests = now.0; closed = h.1 }, now.1)
+went_to turns start s e tl (Ok happened.Wrote) (Ok went.Answered) t t' leaves T h = (record { rests = h.0; closed = h.1 }, h.2)
+went_to turns start s e tl (Ok (happened.Ended cause)) (Ok (went.Ended cause')) t t' same T h =
+    subst (λ (c : Cause). IsWhole t' c × (c ≢ Closed)) same (whole_left t' cause (read_of turns start s e tl t' T) h.0 h.1, h.1)
+went_to turns start s e tl r w t t' leaves T h = absurd leaves
 
--- a turn more
-pub goes_turn : (turns : ℕ) (start : Since) (s s0 : ℕ) (e e' : EngineView) (tl tl' : Option (List ℕ)) (t t1 : SessionState) (begin : Bool) (r : Result Happened EngineFault) → s ≡ s0 → IsToldBy turns start s0 e tl t1 → Turned t t1 → HasTurn begin t1
-    → Turns s begin tl tl' e r e' → (t2 : SessionState) × IsToldBy (turns + 1) start s0 e' tl' t2 × Turned t t2 × HasTurned r t t2
-goes_turn turns start s s0 e e' tl tl' t t1 begin r same T turned has by =
-    let mine : Turns s0 begin tl tl' e r e' = subst (λ (k : ℕ). Turns k begin tl tl' e r e') same by in
-    let g = turns_on start s0 e e' tl tl' t1 begin r T.0 has mine in
-    (g.now, (g.tells, omega (arith, T.1, g.more)), turned_more t t1 g.now turned g.turned, since_first r t t1 g.now turned g.has_turned)
+-- turns so far, after which it may have one more
+abbrev pub MayTurn : (turns : ℕ) → Since → ℕ → EngineView → Option (List ℕ) → Bool → SessionState → Type 0
+MayTurn turns start s e tl begin t = (t' : SessionState) × IsToldBy turns start s e tl t' × Turned t t' × HasTurn begin t'
+
+-- one turn more
+pub goes_turn : (turns : ℕ) (start : Since) (s s0 : ℕ) (e e' : EngineView) (tl tl' : Option (List ℕ)) (t : SessionState) (begin : Bool) (r r0 : Result Happened EngineFault) → s ≡ s0 → MayTurn turns start s0 e tl begin t → Turns s begin tl tl' e r e' → r ≡ r0
+    → (t' : SessionState) × IsToldBy (turns + 1) start s0 e' tl' t' × Turned t t' × HasTurned r0 t t'
+goes_turn turns start s s0 e e' tl tl' t begin r r0 same h by is =
+    let g = turns_on start s0 e e' tl tl' h.0 begin r h.1.0 h.3 (subst (λ (k : ℕ). Turns k begin tl tl' e r e') same by) in
+    (g.now, (g.tells, omega (arith, h.1.1, g.more)), turned_more t h.0 g.now h.2 g.turned, subst (λ (z : Result Happened EngineFault). HasTurned z t g.now) is (since_first r t h.0 g.now h.2 g.has_turned))
+
+gone_at : (turns : ℕ) (start : Since) (s s0 : ℕ) (e : EngineView) (tl : Option (List ℕ)) (r : Result Happened EngineFault) (w : Result Went ServeFault) (t t' : SessionState) → s ≡ s0 → HasSent t → IsToldBy turns start s0 e tl t' → Turned t t' → HasTurned r t t' → Leaves e s r w → Gone turns start s e tl w t
+gone_at turns start s s0 e tl r w t t' same sent T turned to leaves =
+    let mine : IsToldBy turns start s e tl t' = subst (λ (k : ℕ). IsToldBy turns start k e tl t') (sym same) T in (
+      t',
+      mine,
+      record { stream = turned.stream; sent = turned.sent; bodies = turned.bodies; answers = turned.answers; few = turned.few (few_sent t sent); read = read_of turns start s e tl t' mine },
+      went_to turns start s e tl r w t t' leaves mine to,
+    )
+
+-- the last one
+pub gone : (turns : ℕ) (start : Since) (s s0 : ℕ) (e e' : EngineView) (tl tl' : Option (List ℕ)) (t : SessionState) (begin : Bool) (r r0 : Result Happened EngineFault) (w : Result Went ServeFault) → s ≡ s0 → HasSent t → MayTurn turns start s0 e tl begin t
+    → Turns s begin tl tl' e r e' → r ≡ r0 → Leaves e' s r0 w → Gone (turns + 1) start s e' tl' w t
+gone turns start s s0 e e' tl tl' t begin r r0 w same sent h by is leaves =
+    let g = goes_turn turns start s s0 e e' tl tl' t begin r r0 same h by is in gone_at (turns + 1) start s s0 e' tl' r0 w t g.0 same sent g.1 g.2 g.3 leaves
+
+-- so many turns
+pub gone_spent : (turns : ℕ) (start : Since) (s s0 : ℕ) (e : EngineView) (tl : Option (List ℕ)) (begin : Bool) (f : ServeFault) (t : SessionState) → s ≡ s0 → HasSent t → MayTurn turns start s0 e tl begin t → Gone turns start s e tl (Err f) t
+gone_spent turns start s s0 e tl begin f t same sent h = gone_at turns start s s0 e tl (Err fault.OutOfMemory) (Err f) t h.0 same sent h.1 h.2 tt tt
 
 -- a session that neither waits for bytes nor has left, and that no reply was written of, may have its next turn
 pub still_turns : (r : Happened) (t t' : SessionState) → (r ≡ happened.Idle → ⊥) → ((cause : Cause) → r ≡ happened.Ended cause → ⊥) → (r ≡ happened.Wrote → ⊥) → HasTurned (Ok r) t t' → HasTurn (may_begin_after r) t'
 still_turns happened.Idle t t' idle ended wrote h = absurd (idle refl)
 still_turns (happened.Ended cause) t t' idle ended wrote h = absurd (ended cause refl)
 still_turns happened.Wrote t t' idle ended wrote h = absurd (wrote refl)
-still_turns (happened.Opened n) t t' idle ended wrote h = h
-still_turns happened.Fed t t' idle ended wrote h = h
-still_turns happened.Moved t t' idle ended wrote h = h
-still_turns (happened.Blocked n) t t' idle ended wrote h = h
-still_turns happened.Decided t t' idle ended wrote h = h
-still_turns happened.Begun t t' idle ended wrote h = h
-still_turns happened.Closed t t' idle ended wrote h = h
-still_turns happened.Sent t t' idle ended wrote h = h
-
--- having gone on, it has what its host's contract asks
-abbrev pub Gone : (turns : ℕ) → Since → ℕ → EngineView → Option (List ℕ) → Result Went ServeFault → SessionState → Type 0
-Gone turns start s e tl r t = (t' : SessionState) × IsToldBy turns start s e tl t' × IsFurther t t' × WentTo r t t'
-
-gone_at : (turns : ℕ) (start : Since) (s s0 : ℕ) (e : EngineView) (tl : Option (List ℕ)) (r : Result Went ServeFault) (t : SessionState) → s ≡ s0 → (t' : SessionState) → IsToldBy turns start s0 e tl t' → Turned t t' → WentTo r t t' → Gone turns start s e tl r t
-gone_at turns start s s0 e tl r t same t' T turned to =
-    (t', subst (λ (k : ℕ). IsToldBy turns start k e tl t') (sym same) T, further turns start s0 e tl t t' T turned, to)
-
--- what a last turn came to
-abbrev pub TurnedBy : (turns : ℕ) → Since → ℕ → EngineView → Option (List ℕ) → Result Happened EngineFault → SessionState → Type 0
-TurnedBy turns start s e tl r t = (t' : SessionState) × IsToldBy turns start s e tl t' × Turned t t' × HasTurned r t t'
-
-pub gone_refused : (turns : ℕ) (start : Since) (s s0 : ℕ) (e : EngineView) (tl : Option (List ℕ)) (f : EngineFault) (g : ServeFault) (t : SessionState) → s ≡ s0 → TurnedBy turns start s0 e tl (Err f) t → Gone turns start s e tl (Err g) t
-gone_refused turns start s s0 e tl f g t same h = gone_at turns start s s0 e tl (Err g) t same h.0 h.1 h.2 tt
-
-pub gone_idle : (turns : ℕ) (start : Since) (s s0 : ℕ) (e : EngineView) (tl : Option (List ℕ)) (t : SessionState) → s ≡ s0 → TurnedBy turns start s0 e tl (Ok happened.Idle) t → Gone turns start s e tl (Ok went.Waits) t
-gone_idle turns start s s0 e tl t same h = gone_at turns start s s0 e tl (Ok went.Waits) t same h.0 h.1 h.2 (record { rests = h.3.1; closed = h.3.0.0 }, h.3.2)
-
-pub gone_ended : (turns : ℕ) (start : Since) (s s0 : ℕ) (e : EngineView) (tl : Option (List ℕ)) (cause : Cause) (t : SessionState) → s ≡ s0 → TurnedBy turns start s0 e tl (Ok (happened.Ended cause)) t → Gone turns start s e tl (Ok (went.Ended cause)) t
-gone_ended turns start s s0 e tl cause t same h =
-    gone_at turns start s s0 e tl (Ok (went.Ended cause)) t same h.0 h.1 h.2 (whole_left h.0 cause (read_of turns start s0 e tl h.0 h.1) h.3.0 h.3.1, h.3.1)
-
-pub gone_wants : (turns : ℕ) (start : Since) (s s0 : ℕ) (e : EngineView) (tl : Option (List ℕ)) (t : SessionState) → s ≡ s0 → WantsBytesBy e s true → TurnedBy turns start s0 e tl (Ok happened.Wrote) t → Gone turns start s e tl (Ok went.Waits) t
-gone_wants turns start s s0 e tl t same wants h =
-    gone_at turns start s s0 e tl (Ok went.Waits) t same h.0 h.1 h.2 (wants_more turns start s0 e tl h.0 h.1 (subst (λ (k : ℕ). WantsBytesBy e k true) same wants) h.3.1)
-
-pub gone_wrote : (turns : ℕ) (start : Since) (s s0 : ℕ) (e : EngineView) (tl : Option (List ℕ)) (t : SessionState) → s ≡ s0 → TurnedBy turns start s0 e tl (Ok happened.Wrote) t → Gone turns start s e tl (Ok went.Answered) t
-gone_wrote turns start s s0 e tl t same h = gone_at turns start s s0 e tl (Ok went.Answered) t same h.0 h.1 h.2 (record { rests = h.3.0; closed = h.3.1 }, h.3.2)
-
--- so many turns
-pub gone_spent : (turns : ℕ) (start : Since) (s s0 : ℕ) (e : EngineView) (tl : Option (List ℕ)) (g : ServeFault) (t t' : SessionState) → s ≡ s0 → IsToldBy turns start s0 e tl t' → Turned t t' → Gone turns start s e tl (Err g) t
-gone_spent turns start s s0 e tl g t t' same T turned = gone_at turns start s s0 e tl (Err g) t same t' T turned tt
+still_turns r t t' idle ended wrote h = h
 
 -- a reply was written, and little waits
 pub low_turn : (turns : ℕ) (start : Since) (s s0 : ℕ) (e : EngineView) (tl : Option (List ℕ)) (t t' : SessionState) (output : List ℕ) → s ≡ s0 → IsToldBy turns start s0 e tl t' → HasOutput e s output → length output < 65536 → HasTurned (Ok happened.Wrote) t t' → HasTurn true t'
 low_turn turns start s s0 e tl t t' output same T waits few h =
     let mine : HasOutput e s0 output = subst (λ (k : ℕ). HasOutput e k output) same waits in
-    open_turn t' (record { rests = h.0; closed = h.1 }) (low_output t' output (output_here turns start s0 e tl t' output T mine) few)
+    open_turn t' (record { rests = h.0; closed = h.1 }) (subst (λ (b : List ℕ). length b < 65536) (sym (output_is t' output (output_here turns start s0 e tl t' output T mine))) few)
 
 -- ---- a line
 
@@ -297,9 +251,8 @@ told_alone turns start s e tl from now P serves = (serves.0, serves.1.0, serves.
 stopped_at : (f : ServeFault) (failed failed' turns : ℕ) (p : Progress) (entries : List TraceEntry) → turns ≤ length entries → IsStop f failed failed' ⊥ → IsStopped f failed failed' turns p → HasStoppedAt f entries p
 stopped_at serve.Line failed failed' turns p entries few why h = h.closed
 stopped_at serve.OutOfMemory failed failed' turns p entries few why h = (h.written, h.closed)
-stopped_at serve.Sessions failed failed' turns p entries few why h = absurd why
-stopped_at serve.Stranger failed failed' turns p entries few why h = absurd why
 stopped_at serve.NumbersSpent failed failed' turns p entries few why h = ((h.written, h.closed), elim h.spent [ inl most ↦ inl most | inr most ↦ inr (omega (arith, most, few)) ])
+stopped_at f failed failed' turns p entries few why h = absurd why
 
 pub stops_so : (start now : IoState) (trace : List TraceEntry) (fits : Fits start.engine trace) (f : ServeFault) (failed failed' turns s : ℕ) → IsStop f failed failed' ⊥ → Serves (IsToldBy turns (since_at start trace fits) s now.engine now.told) start.line now.line (IsStopped f failed failed' turns)
     → (session : ℕ) × (p : Progress) × (tells : IsTold (since_at start trace fits) session now.engine now.told p.told) × ServedSoFar start.line now.line p × HasStoppedAt f tells.entries p
@@ -308,7 +261,5 @@ stops_so start now trace fits f failed failed' turns s why serves =
 
 pub serve_fault : (f : ServeFault) (failed failed' : ℕ) → IsStop f failed failed' ⊥ → IsServeFault f failed failed'
 serve_fault serve.Line failed failed' h = h
-serve_fault serve.OutOfMemory failed failed' h = tt
-serve_fault serve.Sessions failed failed' h = tt
 serve_fault serve.Stranger failed failed' h = h
-serve_fault serve.NumbersSpent failed failed' h = tt
+serve_fault f failed failed' h = tt

@@ -1,16 +1,11 @@
 -- A stream has one reading: its bodies, what each asks for, and how it ends.
-use Rattle.std.proofs.Common.{◌≡◌, ℕ, ◌+◌, ◌<◌, ◌^◌, List, [], ◌∷◌, ◌++◌, Bool, true, length, refl, ap, sym, ◌∙◌, subst, arith, inl, inr, append_assoc, map}
-use Rattle.std.specs.Int.{w32}
+use Rattle.std.proofs.Common.{◌≡◌, ℕ, List, [], ◌∷◌, ◌++◌, Bool, true, length, refl, ap, sym, ◌∙◌, subst, inl, inr, append_assoc, map}
 use Rattle.std.specs.List.{AllByRecursion, flat_map}
-use Rattle.std.proofs.lemmas.List.{length-append}
-use Rattle.std.proofs.lemmas.Option.{some_pair_parts}
-use Rattle.sf_field.specs.Fields.{AreBytes, be32, packet}
-use Rattle.sf_field.specs.Reading.{number_at}
-use Rattle.sf_field.proofs.Laws.{reads_u32}
+use Rattle.sf_field.specs.Fields.{AreBytes, packet}
 use Rattle.sf_wire.specs.declared.cutting.Cut.TheVariants as cut
 use Rattle.sf_wire.specs.declared.cutting.BadCut.TheVariants as bad
 use Rattle.sf_wire.specs.Packets.{IsBody, IsCut}
-use Rattle.sf_wire.proofs.Laws.{one_packet}
+use Rattle.sf_wire.proofs.Laws.{one_cut, one_packet}
 use Rattle.sf_request.specs.declared.request.Asked.{Asked}
 use Rattle.sf_request.proofs.Laws.{one_question}
 use Rattle.sf_session.specs.declared.asking.Ask.{Ask}
@@ -18,76 +13,33 @@ use Rattle.sf_session.specs.declared.asking.Ask.TheVariants as ask
 use Rattle.sf_session.specs.declared.cause.Cause.{Cause}
 use Rattle.sf_session.specs.Asking.{AsksFor, ask_in}
 use Rattle.sf_session.specs.Sessions.{Begins, BeginsWrong, EndsBy}
-use Rattle.sf_engine.specs.Worlds.{Response, Version, Locally, ByCall, Refused, ask_behind}
+use Rattle.sf_engine.specs.Worlds.{Response, Version, ask_behind}
 use Rattle.sf_engine.specs.Laws.{AreAsked}
 use Rattle.sf_engine.proofs.Laws.{begun_after, begun_stays, whole_bytes, rest_bytes}
 use Rattle.sf_serving.specs.Ends.{IsEnd}
 
 -- ---- one front
 
--- four bytes tell one number
-one_number : (n k : ℕ) (x y : List ℕ) → n < 2 ^ 32 → k < 2 ^ 32 → be32 n ++ x ≡ be32 k ++ y → (n ≡ k) × (x ≡ y)
-one_number n k x y small small' e = some_pair_parts _ _ _ _ (sym (reads_u32.again n x small) ∙ ap (number_at w32) e ∙ reads_u32.again k y small')
+begins_cut : (bytes body rest : List ℕ) → Begins bytes body rest → IsCut bytes (cut.Whole (length (packet body)))
+begins_cut bytes body rest b = (body, rest, b.is_body, b.whole, refl)
 
-abbrev IsCount : List ℕ → ℕ → Type 0
-IsCount bytes n = (rest : List ℕ) × (bytes ≡ be32 n ++ rest)
-
-four_bytes : (n : ℕ) → length (be32 n) ≡ 4
-four_bytes n = refl
-
-no_count : (bytes : List ℕ) (n : ℕ) → length bytes < 4 → IsCount bytes n → ⊥
-no_count bytes n short c = omega (arith, short, four_bytes n, ap (λ (b : List ℕ). length b) c.1, length-append (be32 n) c.0)
-
-begins_count : (bytes body rest : List ℕ) → Begins bytes body rest → IsCount bytes (length body)
-begins_count bytes body rest b = (body ++ rest, b.whole ∙ append_assoc (be32 (length body)) body rest)
-
--- less than a packet begins with no packet
+-- less than a packet begins with no packet, nor with a wrong length
 more_begins : (bytes body rest : List ℕ) → IsCut bytes cut.More → Begins bytes body rest → ⊥
-unfolding begins_count
-more_begins bytes body rest (inl short) b = no_count bytes (length body) short (begins_count bytes body rest b)
-more_begins bytes body rest (inr m) b =
-    let c = begins_count bytes body rest b in
-    let same = one_number m.0 (length body) m.1 c.0 (omega (arith, m.2)) (omega (arith, b.is_body.short)) (sym m.3 ∙ c.1) in
-    let count : length m.1 ≡ length body + length rest = ap (λ (x : List ℕ). length x) same.1 ∙ length-append body rest in
-    omega (arith, m.4, same.0, count)
-
--- nor with a wrong length
-more_zero : (bytes : List ℕ) → IsCut bytes cut.More → IsCut bytes (cut.Bad bad.ZeroLength) → ⊥
-more_zero bytes (inl short) z = no_count bytes 0 short (z.0, z.1)
-more_zero bytes (inr m) z =
-    let same = one_number m.0 0 m.1 z.0 (omega (arith, m.2)) (omega arith) (sym m.3 ∙ z.1) in omega (arith, m.4, same.0)
-
-more_long : (bytes : List ℕ) → IsCut bytes cut.More → IsCut bytes (cut.Bad bad.TooLong) → ⊥
-more_long bytes (inl short) z = no_count bytes z.0 short (z.1, z.4)
-more_long bytes (inr m) z =
-    let same = one_number m.0 z.0 m.1 z.1 (omega (arith, m.2)) z.3 (sym m.3 ∙ z.4) in omega (arith, m.2, z.2, same.0)
-
-zero_long : (bytes : List ℕ) → IsCut bytes (cut.Bad bad.ZeroLength) → IsCut bytes (cut.Bad bad.TooLong) → ⊥
-zero_long bytes y z = let same = one_number 0 z.0 y.0 z.1 (omega arith) z.3 (sym y.1 ∙ z.4) in omega (arith, z.2, same.0)
-
-zero_begins : (bytes body rest : List ℕ) → IsCut bytes (cut.Bad bad.ZeroLength) → Begins bytes body rest → ⊥
-zero_begins bytes body rest z b =
-    let c = begins_count bytes body rest b in
-    let same = one_number 0 (length body) z.0 c.0 (omega arith) (omega (arith, b.is_body.short)) (sym z.1 ∙ c.1) in omega (arith, same.0, b.is_body.some)
-
-long_begins : (bytes body rest : List ℕ) → IsCut bytes (cut.Bad bad.TooLong) → Begins bytes body rest → ⊥
-long_begins bytes body rest z b =
-    let c = begins_count bytes body rest b in
-    let same = one_number z.0 (length body) z.1 c.0 z.3 (omega (arith, b.is_body.short)) (sym z.4 ∙ c.1) in omega (arith, same.0, z.2, b.is_body.short)
-
-wrong_begins : (bytes body rest : List ℕ) (cause : Cause) → BeginsWrong bytes cause → Begins bytes body rest → ⊥
-wrong_begins bytes body rest cause (inl z) b = zero_begins bytes body rest z.0 b
-wrong_begins bytes body rest cause (inr z) b = long_begins bytes body rest z.0 b
+more_begins bytes body rest more b = let no : cut.More ≡ cut.Whole (length (packet body)) = one_cut bytes cut.More (cut.Whole (length (packet body))) more (begins_cut bytes body rest b) in cc
 
 more_wrong : (bytes : List ℕ) (cause : Cause) → IsCut bytes cut.More → BeginsWrong bytes cause → ⊥
-more_wrong bytes cause m (inl z) = more_zero bytes m z.0
-more_wrong bytes cause m (inr z) = more_long bytes m z.0
+more_wrong bytes cause more (inl z) = let no : cut.More ≡ cut.Bad bad.ZeroLength = one_cut bytes cut.More (cut.Bad bad.ZeroLength) more z.0 in cc
+more_wrong bytes cause more (inr z) = let no : cut.More ≡ cut.Bad bad.TooLong = one_cut bytes cut.More (cut.Bad bad.TooLong) more z.0 in cc
+
+wrong_begins : (bytes body rest : List ℕ) (cause : Cause) → BeginsWrong bytes cause → Begins bytes body rest → ⊥
+wrong_begins bytes body rest cause (inl z) b = let no : cut.Bad bad.ZeroLength ≡ cut.Whole (length (packet body)) = one_cut bytes (cut.Bad bad.ZeroLength) (cut.Whole (length (packet body))) z.0 (begins_cut bytes body rest b) in cc
+wrong_begins bytes body rest cause (inr z) b = let no : cut.Bad bad.TooLong ≡ cut.Whole (length (packet body)) = one_cut bytes (cut.Bad bad.TooLong) (cut.Whole (length (packet body))) z.0 (begins_cut bytes body rest b) in cc
 
 one_wrong : (bytes : List ℕ) (a b : Cause) → BeginsWrong bytes a → BeginsWrong bytes b → a ≡ b
 one_wrong bytes a b (inl x) (inl y) = x.1 ∙ sym y.1
-one_wrong bytes a b (inl x) (inr y) = absurd (zero_long bytes x.0 y.0)
-one_wrong bytes a b (inr x) (inl y) = absurd (zero_long bytes y.0 x.0)
 one_wrong bytes a b (inr x) (inr y) = x.1 ∙ sym y.1
+one_wrong bytes a b (inl x) (inr y) = let no : cut.Bad bad.ZeroLength ≡ cut.Bad bad.TooLong = one_cut bytes (cut.Bad bad.ZeroLength) (cut.Bad bad.TooLong) x.0 y.0 in absurd cc
+one_wrong bytes a b (inr x) (inl y) = let no : cut.Bad bad.TooLong ≡ cut.Bad bad.ZeroLength = one_cut bytes (cut.Bad bad.TooLong) (cut.Bad bad.ZeroLength) x.0 y.0 in absurd cc
 
 -- ---- one question of a body
 
@@ -105,9 +57,7 @@ same_ask begun bytes body rest body' rest' a b are x y h k =
 -- what was answered was no end
 no_end : (a : Response) (cause : Cause) → ask_behind a ≡ ask.End cause → ⊥
 no_end Version cause e = absurd cc
-no_end (Locally id given) cause e = absurd cc
-no_end (ByCall id n q given) cause e = absurd cc
-no_end (Refused id q fault) cause e = absurd cc
+no_end a cause e = absurd cc
 
 same_cause : (a b : Cause) → ask.End a ≡ ask.End b → a ≡ b
 same_cause a b e = cc

@@ -1,5 +1,5 @@
 -- What a session alone is answered, from where it opens.
-use Rattle.std.proofs.Common.{◌≡◌, ℕ, ◌-◌, List, [], ◌∷◌, ◌++◌, Some, Result, Ok, Err, refl, ap, sym, ◌∙◌, subst, ◌⊎◌, inl, inr, append-nil, append_assoc, map}
+use Rattle.std.proofs.Common.{◌≡◌, ℕ, List, [], ◌∷◌, ◌++◌, Some, Result, Ok, Err, refl, ap, sym, ◌∙◌, subst, ◌⊎◌, inl, inr, append-nil, append_assoc, map}
 use Rattle.std.specs.List.{AllByRecursion}
 use Rattle.sf_call.specs.declared.record.Record.{Record}
 use Rattle.sf_call.specs.Histories.{replay, IsLegal}
@@ -8,46 +8,37 @@ use Rattle.sf_engine.specs.declared.event.Event.TheVariants as event
 use Rattle.sf_engine.specs.declared.event.Happened.{Happened}
 use Rattle.sf_engine.specs.declared.event.Happened.TheVariants as happened
 use Rattle.sf_engine.specs.declared.event.EngineFault.{EngineFault}
-use Rattle.sf_engine.specs.Worlds.{TraceEntry, Response, ask_behind, Phase, Resting, UnderWay, Decided, Gone, SessionState, new_state, World, start}
+use Rattle.sf_engine.specs.Worlds.{TraceEntry, ask_behind, Resting, SessionState, new_state, World, start}
 use Rattle.sf_engine.specs.Traces.{IsSession, Happens, LeadsBy, Runs, ReachesWorld, order}
 use Rattle.sf_serving.specs.OnEngine.{IsOf, IsEntryOf}
 use Rattle.sf_serving.specs.Alone.{answers_alone, moment_begun, moments_begun, HadMemoryFor, HadMemoryAt, HadMemoryThroughout, TellsAlone}
-use Rattle.sf_serving.proofs.Standing.{lone, Stands, Owes, Reaches, from_nothing, leads_on}
+use Rattle.sf_serving.proofs.Standing.{Follows, lone, Stands, stands_alone, leads_on}
 
-all_front : {A : Type 0} (P : A → Type 0) (xs ys : List A) → AllByRecursion P (xs ++ ys) → AllByRecursion P xs
-all_front P [] ys h = tt
-all_front P (x ∷ xs) ys h = (h.0, all_front P xs ys h.1)
+all_front : {A : Type 0} (P : A → Type 0) (xs ys : List A) → AllByRecursion P (xs ++ ys) → AllByRecursion P xs × AllByRecursion P ys
+all_front P [] ys h = (tt, h)
+all_front P (x ∷ xs) ys h = let rest = all_front P xs ys h.1 in ((h.0, rest.0), rest.1)
 
-all_back : {A : Type 0} (P : A → Type 0) (xs ys : List A) → AllByRecursion P (xs ++ ys) → AllByRecursion P ys
-all_back P [] ys h = h
-all_back P (x ∷ xs) ys h = all_back P xs ys h.1
-
--- nothing more is owed where no entry is left
-owes_none : (h : List Record) (begun : ℕ) (f : Phase) → Stands f h begun → Owes h begun f [] []
-owes_none h begun Resting k = from_nothing (replay h) begun [] [] refl
-owes_none h begun (UnderWay id n m q moves) k = elim k.3 [
-  | inl low ↦ inl (low, from_nothing (replay h) (begun - 1) (m ∷ []) [] refl)
-  | inr told ↦ inr (told.1.0, told.1.1, inl refl)
-]
-owes_none h begun (Decided id n q given) k = inl refl
-owes_none h begun (Gone cause) k = refl
-
-told_last : (h : List Record) (begun : ℕ) (t t' : SessionState) (w' : World) → w' ≡ lone h begun t → IsSession w' 1 t' → t' ≡ t
-told_last h begun t t' w' e is = let same : Some t ≡ Some t' = (subst (λ (z : World). IsSession z 1 t') e is).1 in cc
-
--- where the session is there, it comes to what it is answered at the end
-pub reaches : (entries : List TraceEntry) (h : List Record) (begun : ℕ) (t : SessionState) (w' : World) (t' : SessionState) → Runs (lone h begun t) entries w' → AllByRecursion (IsEntryOf 1) entries
-    → Stands t.phase h begun → IsLegal (h ++ order entries) → AllByRecursion HadMemoryFor (order entries) → IsSession w' 1 t' → AllByRecursion HadMemoryAt t'.answers
-    → Reaches h begun t (moments_begun entries) t'.answers
+-- where the session is there, one tree answers it to the end
+pub reaches : (entries : List TraceEntry) (h : List Record) (begun : ℕ) (moments : List ℕ) (t : SessionState) (w' : World) (t' : SessionState) → Runs (lone h begun t) entries w' → AllByRecursion (IsEntryOf 1) entries → Stands t.phase h begun moments t.answers
+    → IsLegal (h ++ order entries) → AllByRecursion HadMemoryFor (order entries) → IsSession w' 1 t' → AllByRecursion HadMemoryAt t'.answers → t'.answers ≡ answers_alone (moments ++ moments_begun entries) (map ask_behind t'.answers)
 unfolding Runs
-reaches [] h begun t w' t' runs own stands legal heard is had =
-    ([], ap (λ (z : SessionState). z.answers) (told_last h begun t t' w' runs is) ∙ sym (append-nil t.answers), owes_none h begun t.phase stands)
-reaches (e ∷ entries) h begun t w' t' runs own stands legal heard is had =
-    let on = leads_on h e.added (order entries) begun t runs.0 e.event e.result stands legal (all_front HadMemoryFor e.added (order entries) heard) own.0 runs.1 in
+reaches [] h begun moments t w' t' runs own stands legal heard is had =
+    let same : Some t ≡ Some t' = (subst (λ (z : World). IsSession z 1 t') runs is).1 in
+    let last : t ≡ t' = cc in
+    let S : SessionState → Type 0 = λ z. Stands z.phase h begun moments z.answers in
+    stands_alone t'.phase h begun moments t'.answers had (subst S last stands) ∙ ap (λ (ms : List ℕ). answers_alone ms (map ask_behind t'.answers)) (sym (append-nil moments))
+reaches (e ∷ entries) h begun moments t w' t' runs own stands legal heard is had =
+    let parts = all_front HadMemoryFor e.added (order entries) heard in
+    let now = moment_begun e.event e.result in
+    let on = leads_on h e.added (order entries) begun moments t runs.0 e.event e.result stands legal parts.0 own.0 runs.1 in
     let runs' : Runs (lone (h ++ e.added) on.count on.told) entries w' = subst (λ (z : World). Runs z entries w') on.world runs.2 in
     let legal' : IsLegal ((h ++ e.added) ++ order entries) = subst IsLegal (sym (append_assoc h e.added (order entries))) legal in
-    on.goes.back (moments_begun entries) t'.answers had
-    (reaches entries (h ++ e.added) on.count on.told w' t' runs' own.1 on.goes.stands legal' (all_back HadMemoryFor e.added (order entries) heard) is had)
+    reaches entries (h ++ e.added) on.count (moments ++ now) on.told w' t' runs' own.1 on.stands legal' parts.1 is had
+    ∙ ap (λ (ms : List ℕ). answers_alone ms (map ask_behind t'.answers)) (append_assoc moments now (moments_begun entries))
+
+stands_new : Stands Resting [] 0 [] []
+unfolding replay Follows
+stands_new = (tt, (refl, refl, refl))
 
 -- ---- from the beginning
 
@@ -79,13 +70,10 @@ Comes s moments t = (s ≡ 1) × (t.answers ≡ answers_alone moments (map ask_b
 module _ (s : ℕ) (w' : World) (t' : SessionState) (is : IsSession w' s t') (had : AllByRecursion HadMemoryAt t'.answers) where
   opened : (w : World) (added : List Record) (entries : List TraceEntry) (now : List ℕ) → (s ≡ 1) × (w ≡ lone [] 0 new_state) × (added ≡ []) × (now ≡ [])
       → Runs w entries w' → AllByRecursion (IsEntryOf s) entries → IsLegal (added ++ order entries) → AllByRecursion HadMemoryFor (added ++ order entries) → Comes s (now ++ moments_begun entries) t'
-  unfolding replay
   opened w added entries now new runs own legal heard =
-      let r = reaches entries [] 0 new_state w' t' (subst (λ (z : World). Runs z entries w') new.1 runs) (subst (λ (n : ℕ). AllByRecursion (IsEntryOf n) entries) new.0 own) tt
+      let answers = reaches entries [] 0 [] new_state w' t' (subst (λ (z : World). Runs z entries w') new.1 runs) (subst (λ (n : ℕ). AllByRecursion (IsEntryOf n) entries) new.0 own) stands_new
       (subst (λ (xs : List Record). IsLegal (xs ++ order entries)) new.2 legal) (subst (λ (xs : List Record). AllByRecursion HadMemoryFor (xs ++ order entries)) new.2 heard)
       (subst (λ (n : ℕ). IsSession w' n t') new.0 is) had in
-      let answers : t'.answers ≡ answers_alone (moments_begun entries) (map ask_behind t'.answers) =
-      subst (λ (xs : List Response). xs ≡ answers_alone (moments_begun entries) (map ask_behind xs)) (sym r.1) r.2 in
       (new.0, subst (λ (m : List ℕ). t'.answers ≡ answers_alone (m ++ moments_begun entries) (map ask_behind t'.answers)) (sym new.3) answers)
 
   comes : (entries : List TraceEntry) → Runs start entries w' → AllByRecursion (IsEntryOf s) entries → IsLegal (order entries) → AllByRecursion HadMemoryFor (order entries) → Comes s (moments_begun entries) t'

@@ -89,26 +89,20 @@ rose_until start old new more (inr most) = inr most
 
 pub host_stop : (f : ServeFault) (work failed failed' : ℕ) (s : Type 0) → IsHostFault f work s → IsStop f failed failed' s
 host_stop serve.Line work failed failed' s h = absurd h
-host_stop serve.OutOfMemory work failed failed' s h = tt
 host_stop serve.Sessions work failed failed' s h = absurd h
 host_stop serve.Stranger work failed failed' s h = h
-host_stop serve.NumbersSpent work failed failed' s h = tt
+host_stop f work failed failed' s h = tt
 
 -- a fault since a later time is one since an earlier time
 pub stop_since : (f : ServeFault) (start old new : ℕ) (s : Type 0) → start ≤ old → old ≤ new → IsStop f old new s → IsStop f start new s
 stop_since serve.Line start old new s before more h = rose_since start old new before more h
-stop_since serve.OutOfMemory start old new s before more h = tt
-stop_since serve.Sessions start old new s before more h = absurd h
-stop_since serve.Stranger start old new s before more h = h
-stop_since serve.NumbersSpent start old new s before more h = tt
+stop_since f start old new s before more h = h
 
 -- and one up to a later time
 pub stop_until : (f : ServeFault) (start old new : ℕ) (s s' : Type 0) → old ≤ new → (s → s') → IsStop f start old s → IsStop f start new s'
 stop_until serve.Line start old new s s' more to h = rose_until start old new more h
-stop_until serve.OutOfMemory start old new s s' more to h = tt
-stop_until serve.Sessions start old new s s' more to h = absurd h
 stop_until serve.Stranger start old new s s' more to h = to h
-stop_until serve.NumbersSpent start old new s s' more to h = tt
+stop_until f start old new s s' more to h = h
 
 pub stranger_stop : (f : ServeFault) (failed failed' : ℕ) (s : Type 0) → f ≡ serve.Stranger → s → IsStop f failed failed' s
 stranger_stop f failed failed' s is h = subst (λ (x : ServeFault). IsStop x failed failed' s) (sym is) h
@@ -116,19 +110,13 @@ stranger_stop f failed failed' s is h = subst (λ (x : ServeFault). IsStop x fai
 -- ---- what is spent
 
 spent_for : (f : ServeFault) (w w' : ℕ) (p p' : Progress) → w' ≡ w → p'.told.stream ≡ p.told.stream → IsSpentFor f w p → IsSpentFor f w' p'
-spent_for serve.Line w w' p p' same stream h = tt
-spent_for serve.OutOfMemory w w' p p' same stream h = tt
-spent_for serve.Sessions w w' p p' same stream h = tt
-spent_for serve.Stranger w w' p p' same stream h = tt
 spent_for serve.NumbersSpent w w' p p' same stream (inl h) = inl (subst (λ (b : List ℕ). most_counted ≤ length b) (sym stream) h)
 spent_for serve.NumbersSpent w w' p p' same stream (inr h) = inr (subst (λ (k : ℕ). most_counted ≤ k) (sym same) h)
+spent_for f w w' p p' same stream h = tt
 
 host_spent : (f : ServeFault) (w : ℕ) (s : Type 0) (p : Progress) → IsHostFault f w s → IsSpentFor f w p
-host_spent serve.Line w s p h = tt
-host_spent serve.OutOfMemory w s p h = tt
-host_spent serve.Sessions w s p h = tt
-host_spent serve.Stranger w s p h = tt
 host_spent serve.NumbersSpent w s p h = inr h
+host_spent f w s p h = tt
 
 -- ---- the session goes on
 
@@ -167,7 +155,7 @@ gone T T' from now n k r goes serves =
     let further = g.2 in (
       progress g.0 p.unfed p.written,
       g.1,
-      further_serves from now p.told g.0 p.unfed p.written serves.2 further,
+      further_serves from now p.told g.0 p.unfed p.written serves.2 on.sent on.in_step further,
       record {
         fed = on.fed;
         in_step = on.in_step ∙ sym further.sent;
@@ -202,18 +190,29 @@ sent_gone n k incoming (went.Ended cause) p h = record {
   at_end = λ e. absurd (h.to.1 e);
 }
 
-pub gone_sent : (T T' : SessionState → Type 0) (from old new : LineView) (n k : ℕ) (incoming : Option (List ℕ)) (r : Went) → SendsAll T T' old new → Serves T from old (HasGone n k (Ok r)) → Serves T' from new (SentGone n k incoming r)
-gone_sent T T' from old new n k incoming r sends serves =
+-- what is so once all that waited was sent
+pub sends_so : (T T' : SessionState → Type 0) (from old new : LineView) (P Q : Progress → Type 0) → SendsAll T T' old new → ((p : Progress) → P p → IsInStep p × Q (all_sent p)) → Serves T from old P → Serves T' from new Q
+sends_so T T' from old new P Q sends so serves =
     let p = serves.0 in
-    let s = sends from p serves.1 serves.2 serves.3.in_step in
-    (all_sent p, s.0, s.1, sent_gone n k incoming r p serves.3)
+    let h = so p serves.3 in
+    let s = sends from p serves.1 serves.2 h.0 in
+    (all_sent p, s.0, s.1, h.1)
 
--- the line failed
-pub gone_fails : (T T' : SessionState → Type 0) (from old new : LineView) (n k w : ℕ) (r : Result Went ServeFault) → ((t : SessionState) → T t → T' t) → SendsSome T old new → Serves T from old (HasGone n k r) → Serves T' from new (Stops serve.Line w)
-gone_fails T T' from old new n k w r to sends serves =
+-- and where the line failed
+pub fails_so : (T T' : SessionState → Type 0) (from old new : LineView) (P Q : Progress → Type 0) → ((t : SessionState) → T t → T' t) → SendsSome T old new → ((p : Progress) → P p → IsInStep p) → ((p : Progress) → Q p) → Serves T from old P → Serves T' from new Q
+fails_so T T' from old new P Q to sends step so serves =
     let p = serves.0 in
-    let s = sends from p serves.1 serves.2 serves.3.in_step in
-    (progress p.told p.unfed s.0, to p.told serves.1, s.1, ((λ no. absurd (no refl)), tt))
+    let s = sends from p serves.1 serves.2 (step p serves.3) in
+    (progress p.told p.unfed s.0, to p.told serves.1, s.1, so (progress p.told p.unfed s.0))
+
+-- it went on so, and all that waited was sent
+pub went_sent : (T M T' : SessionState → Type 0) (from old new : LineView) (n k : ℕ) (incoming : Option (List ℕ)) (r r' : Went) → Goes T M (Ok r) → SendsAll M T' old new → r ≡ r' → Serves T from old (GoesOnBy n k) → Serves T' from new (SentGone n k incoming r')
+went_sent T M T' from old new n k incoming r r' goes sends same serves =
+    subst (λ (w : Went). Serves T' from new (SentGone n k incoming w)) same
+    (sends_so M T' from old new _ (SentGone n k incoming r) sends (λ p h. (h.in_step, sent_gone n k incoming r p h)) (gone T M from old n k (Ok r) goes serves))
+
+pub stops_line : (p : Progress) → Stops serve.Line 0 p
+stops_line p = ((λ no. absurd (no refl)), tt)
 
 -- so many answers that as many bytes were read
 pub goes_spent : (T : SessionState → Type 0) (from now : LineView) (n k w : ℕ) → most_counted ≤ k → Serves T from now (GoesOnBy n k) → Serves T from now (Stops serve.NumbersSpent w)
@@ -243,6 +242,7 @@ has_read T from now i' o' c' n k bytes serves consumes count short same logs =
       record { is_open = on.is_open; unfed = refl; sent = on.sent; in_step = on.in_step; long = on.long },
     )
 
+-- and then they are
 pub has_fed : (T T' : SessionState → Type 0) (from now : LineView) (n : ℕ) (bytes : List ℕ) → 0 < length bytes → ((t : SessionState) → T t → IsOpen t → T' (fed t bytes)) → Serves T from now (HasRead n bytes) → Serves T' from now (GoesOn (n + 1))
 has_fed T T' from now n bytes some feeds serves =
     let p = serves.0 in
@@ -259,6 +259,14 @@ has_fed T T' from now n bytes some feeds serves =
         long = omega (arith, read.long, some, length-append p.told.stream bytes);
       },
     )
+
+-- some bytes of a piece were read and fed
+pub was_fed : (T T' : SessionState → Type 0) (from now : LineView) (i' o' : Option (List ℕ)) (c' : Option (List LineCall)) (n k : ℕ) (buffer old : List ℕ) (len : ℕ) → Serves T from now (Rests n) → Consumes now.incoming i' (take k buffer) → k ≤ length buffer → length buffer ≡ len → len ≡ 65536
+    → o' ≡ now.outgoing → Logs now.calls c' (Read k ∷ []) → 0 < k → ((t : SessionState) → T t → IsOpen t → T' (fed t (take k (take len (buffer ++ drop (length buffer) old))))) → Serves T' from (line_view i' o' c') (GoesOn (n + 1))
+was_fed T T' from now i' o' c' n k buffer old len serves consumes within filled room same logs some feeds =
+    let count : length (take k buffer) ≡ k = omega (arith, length-take k buffer, within) in
+    has_fed T T' from (line_view i' o' c') n (take k buffer) (omega (arith, count, some)) (λ t tells is_open. front_read (λ (b : List ℕ). T' (fed t b)) k len buffer old filled (feeds t tells is_open))
+    (has_read T from now i' o' c' n k (take k buffer) serves consumes count (omega (arith, within, filled, room)) same logs)
 
 pub read_stops : (T T' : SessionState → Type 0) (from now : LineView) (n w : ℕ) (bytes : List ℕ) → ((t : SessionState) → T t → T' t) → Serves T from now (HasRead n bytes) → Serves T' from now (Stops serve.OutOfMemory w)
 read_stops T T' from now n w bytes to serves = (serves.0, to serves.0.told serves.1, serves.2, ((λ no. serves.3.in_step), tt))
@@ -287,20 +295,11 @@ rounds_spent T from now n w most serves =
 
 -- ---- serving stops
 
-pub last_line : (T : SessionState → Type 0) (from now : LineView) (w : ℕ) → Serves T from now (Stops serve.Line w) → Serves T from now (HasStopped serve.Line w)
-last_line T from now w serves = (serves.0, serves.1, serves.2, ((λ no. absurd (no refl)), tt))
+pub stopped_line : (p : Progress) → HasStopped serve.Line 0 p
+stopped_line p = ((λ no. absurd (no refl)), tt)
 
-pub last_sent : (T T' : SessionState → Type 0) (from old new : LineView) (f : ServeFault) (w w' : ℕ) → f ≢ serve.Line → SendsAll T T' old new → w' ≡ w → Serves T from old (Stops f w) → Serves T' from new (HasStopped f w')
-last_sent T T' from old new f w w' other sends same serves =
-    let p = serves.0 in
-    let s = sends from p serves.1 serves.2 (serves.3.0 other) in
-    (all_sent p, s.0, s.1, ((λ no. (refl, refl)), spent_for f w w' p (all_sent p) same refl serves.3.1))
-
-pub last_fails : (T T' : SessionState → Type 0) (from old new : LineView) (f : ServeFault) (w w' : ℕ) → f ≢ serve.Line → ((t : SessionState) → T t → T' t) → SendsSome T old new → Serves T from old (Stops f w) → Serves T' from new (HasStopped serve.Line w')
-last_fails T T' from old new f w w' other to sends serves =
-    let p = serves.0 in
-    let s = sends from p serves.1 serves.2 (serves.3.0 other) in
-    (progress p.told p.unfed s.0, to p.told serves.1, s.1, ((λ no. absurd (no refl)), tt))
+pub stopped_sent : (f : ServeFault) (w w' : ℕ) (p : Progress) → f ≢ serve.Line → w' ≡ w → Stops f w p → IsInStep p × HasStopped f w' (all_sent p)
+stopped_sent f w w' p other same h = (h.0 other, ((λ no. (refl, refl)), spent_for f w w' p (all_sent p) same refl h.1))
 
 -- ---- it ends
 
@@ -312,64 +311,39 @@ written_ended p h =
 
 written_for : (f : ServeFault) (failed failed' : ℕ) (s : Type 0) (p : Progress) → IsStop f failed failed' s → (f ≢ serve.Line → HasWritten p) → HasWrittenFor f failed failed' p
 written_for serve.Line failed failed' s p why h = tt
-written_for serve.OutOfMemory failed failed' s p why h = h (λ e. let no : serve.OutOfMemory ≡ serve.Line = e in cc)
 written_for serve.Sessions failed failed' s p why h = absurd why
 written_for serve.Stranger failed failed' s p why h = inr (h (λ e. let no : serve.Stranger ≡ serve.Line = e in cc))
-written_for serve.NumbersSpent failed failed' s p why h = h (λ e. let no : serve.NumbersSpent ≡ serve.Line = e in cc)
+written_for f failed failed' s p why h = h (λ e. cc)
 
 strange_for : (f : ServeFault) (failed failed' : ℕ) (s : Type 0) (p : Progress) → IsStop f failed failed' s → (f ≢ serve.Line → HasWritten p) → Rose failed failed' ⊎ HasWritten p
 strange_for serve.Line failed failed' s p why h = inl why
-strange_for serve.OutOfMemory failed failed' s p why h = inr (h (λ e. let no : serve.OutOfMemory ≡ serve.Line = e in cc))
 strange_for serve.Sessions failed failed' s p why h = absurd why
-strange_for serve.Stranger failed failed' s p why h = inr (h (λ e. let no : serve.Stranger ≡ serve.Line = e in cc))
-strange_for serve.NumbersSpent failed failed' s p why h = inr (h (λ e. let no : serve.NumbersSpent ≡ serve.Line = e in cc))
+strange_for f failed failed' s p why h = inr (h (λ e. cc))
 
-pub stops_ended : (T T' : SessionState → Type 0) (from now : LineView) (f : ServeFault) (failed failed' w w' : ℕ) (s : Type 0) → ((t : SessionState) → T t → T' (ended t)) → w' ≡ w → IsStop f failed failed' s → Serves T from now (HasStopped f w)
-    → Serves T' from now (IsStopped f failed failed' w')
-stops_ended T T' from now f failed failed' w w' s ends same why serves =
-    let p = serves.0 in
-    let p' = progress (ended p.told) p.unfed p.written in (
-      p',
-      ends p.told serves.1,
-      ended_serves from now p.told p.unfed p.written serves.2,
-      record { written = written_for f failed failed' s p' why (λ no. written_ended p (serves.3.0 no)); spent = spent_for f w w' p p' same (ended_same p.told).stream serves.3.1; closed = ended_none p.told },
-    )
+abbrev over : Progress → Progress
+over p = progress (ended p.told) p.unfed p.written
+
+-- what is so of a session that ends, from what was so before
+pub ends_so : (T T' : SessionState → Type 0) (from now : LineView) (P Q : Progress → Type 0) → ((t : SessionState) → T t → T' (ended t)) → ((p : Progress) → P p → Q (over p)) → Serves T from now P → Serves T' from now Q
+ends_so T T' from now P Q ends so serves =
+    let p = serves.0 in (over p, ends p.told serves.1, ended_serves from now p.told p.unfed p.written serves.2, so p serves.3)
+
+pub stopped_ended : (f : ServeFault) (failed failed' w w' : ℕ) (s : Type 0) (p : Progress) → w' ≡ w → IsStop f failed failed' s → HasStopped f w p → IsStopped f failed failed' w' (over p)
+stopped_ended f failed failed' w w' s p same why h =
+    record { written = written_for f failed failed' s (over p) why (λ no. written_ended p (h.0 no)); spent = spent_for f w w' p (over p) same (ended_same p.told).stream h.1; closed = ended_none p.told }
 
 -- the core doesn't know the session
-pub stops_strange : (T T' : SessionState → Type 0) (from now : LineView) (f g : ServeFault) (failed failed' w w' : ℕ) (s : Type 0) → g ≡ serve.Stranger → ((t : SessionState) → T t → T' (ended t)) → IsStop f failed failed' s → Serves T from now (HasStopped f w)
-    → Serves T' from now (IsStopped g failed failed' w')
-stops_strange T T' from now f g failed failed' w w' s is ends why serves =
-    let p = serves.0 in
-    let p' = progress (ended p.told) p.unfed p.written in
-    let stopped : IsStopped serve.Stranger failed failed' w' p' = record { written = strange_for f failed failed' s p' why (λ no. written_ended p (serves.3.0 no)); spent = tt; closed = ended_none p.told } in (
-      p',
-      ends p.told serves.1,
-      ended_serves from now p.told p.unfed p.written serves.2,
-      subst (λ (x : ServeFault). IsStopped x failed failed' w' p') (sym is) stopped,
-    )
+pub stopped_strange : (g : ServeFault) (failed failed' w : ℕ) (p : Progress) → g ≡ serve.Stranger → Rose failed failed' ⊎ HasWritten (over p) → IsStopped g failed failed' w (over p)
+stopped_strange g failed failed' w p is written = subst (λ (x : ServeFault). IsStopped x failed failed' w (over p)) (sym is) (record { written = written; spent = tt; closed = ended_none p.told })
 
-pub ends_served : (T T' : SessionState → Type 0) (from now : LineView) (incoming : Option (List ℕ)) (cause : Cause) → ((t : SessionState) → T t → T' (ended t)) → Serves T from now (EndsByCause incoming cause) → Serves T' from now (IsServed incoming cause)
-ends_served T T' from now incoming cause ends serves =
-    let p = serves.0 in
-    let h = serves.3 in
-    let w = written_ended p (h.sent, h.in_step) in (
-      progress (ended p.told) p.unfed p.written,
-      ends p.told serves.1,
-      ended_serves from now p.told p.unfed p.written serves.2,
-      record { fed = h.fed; whole = h.whole; sent = w.0; in_step = w.1; at_end = h.at_end },
-    )
+pub strange_stopped : (f : ServeFault) (failed failed' w : ℕ) (s : Type 0) (p : Progress) → IsStop f failed failed' s → HasStopped f w p → Rose failed failed' ⊎ HasWritten (over p)
+strange_stopped f failed failed' w s p why h = strange_for f failed failed' s (over p) why (λ no. written_ended p (h.0 no))
 
-pub ends_strange : (T T' : SessionState → Type 0) (from now : LineView) (incoming : Option (List ℕ)) (cause : Cause) (g : ServeFault) (failed failed' w : ℕ) → g ≡ serve.Stranger → ((t : SessionState) → T t → T' (ended t)) → Serves T from now (EndsByCause incoming cause)
-    → Serves T' from now (IsStopped g failed failed' w)
-ends_strange T T' from now incoming cause g failed failed' w is ends serves =
-    let p = serves.0 in
-    let p' = progress (ended p.told) p.unfed p.written in
-    let stopped : IsStopped serve.Stranger failed failed' w p' = record { written = inr (written_ended p (serves.3.sent, serves.3.in_step)); spent = tt; closed = ended_none p.told } in (
-      p',
-      ends p.told serves.1,
-      ended_serves from now p.told p.unfed p.written serves.2,
-      subst (λ (x : ServeFault). IsStopped x failed failed' w p') (sym is) stopped,
-    )
+pub served_over : (incoming : Option (List ℕ)) (cause : Cause) (p : Progress) → EndsByCause incoming cause p → IsServed incoming cause (over p)
+served_over incoming cause p h = let w = written_ended p (h.sent, h.in_step) in record { fed = h.fed; whole = h.whole; sent = w.0; in_step = w.1; at_end = h.at_end }
+
+pub written_over : (incoming : Option (List ℕ)) (cause : Cause) (p : Progress) → EndsByCause incoming cause p → HasWritten (over p)
+written_over incoming cause p h = written_ended p (h.sent, h.in_step)
 
 -- ---- it begins
 

@@ -14,15 +14,15 @@ use Rattle.sf_line.proofs.Laws.{logs_none, logs_more}
 use Rattle.sf_session.specs.declared.asking.Ask.{Ask}
 use Rattle.sf_session.specs.declared.cause.Cause.{Cause}
 use Rattle.sf_session.specs.declared.cause.Cause.TheVariants.{Closed}
-use Rattle.sf_engine.specs.Worlds.{Response, ask_behind, transcript, Phase, Resting, UnderWay, Decided, Gone, SessionState, new_state, is_here}
+use Rattle.sf_engine.specs.Worlds.{Response, ask_behind, transcript, Phase, Resting, Gone, SessionState, new_state, is_here}
 use Rattle.sf_engine.specs.Traces.{TakesNone, has_begun, fed, closed_now, left_for}
 use Rattle.sf_engine.specs.Laws.{pending, asks_of, AreAsked, IsRest, IsRead}
 use Rattle.sf_engine.proofs.Laws.{asked_each}
 use Rattle.sf_serving.specs.Ends.{IsEnd, IsWhole}
-use Rattle.sf_serving.specs.Hosts.{IsFront, IsOpen, Waits, IsFurther, with_sent, ended}
-use Rattle.sf_serving.specs.Serving.{LineView, line_view, Progress, progress, IsPromptAt, ServedSoFar, IsInStep, Rests}
+use Rattle.sf_serving.specs.Hosts.{IsFront, IsOpen, HasSent, Waits, IsFurther, with_sent, ended}
+use Rattle.sf_serving.specs.Serving.{LineView, line_view, Progress, progress, IsPromptAt, AreBatched, ServedSoFar, IsInStep, Rests}
 use Rattle.sf_serving.specs.Rounds.{WritesByPieces}
-use Rattle.sf_serving.proofs.Fronts.{none_written, front_all, front_same, begun_more, prompt_further, nothing_prompt, prompt_push, prompt_writes, given_more, taken_more, writes_give_none, written_pieces, all_more}
+use Rattle.sf_serving.proofs.Fronts.{none_written, front_all, front_same, begun_more, prompt_further, nothing_prompt, prompt_push, prompt_writes, given_more, taken_more, writes_give_none, written_pieces, all_more, batches_none, batches_calls, batches_more, batch_of}
 
 -- ---- a session at rest
 
@@ -96,9 +96,7 @@ read_closed t Resting at read = record {
   left = (refl, inl refl);
   asked = subst (λ (asks : List Ask). AreAsked false t.bodies asks) (sym (append-nil (map ask_behind t.answers))) (rest_asked t at read);
 }
-read_closed t (UnderWay id n m q moves) at read = record { rest = read.rest; are_bodies = read.are_bodies; stream = read.stream; left = read.left; asked = read.asked }
-read_closed t (Decided id n q given) at read = record { rest = read.rest; are_bodies = read.are_bodies; stream = read.stream; left = read.left; asked = read.asked }
-read_closed t (Gone cause) at read = read
+read_closed t f at read = record { rest = read.rest; are_bodies = read.are_bodies; stream = read.stream; left = read.left; asked = read.asked }
 
 -- ending changes nothing of what was fed, read, answered and sent
 pub record IsSame (t t' : SessionState) : Type 0 where
@@ -109,9 +107,7 @@ pub record IsSame (t t' : SessionState) : Type 0 where
 
 closed_same : (t : SessionState) (f : Phase) → IsSame t (closed_now t f)
 closed_same t Resting = record { stream = refl; bodies = refl; answers = refl; sent = refl }
-closed_same t (UnderWay id n m q moves) = record { stream = refl; bodies = refl; answers = refl; sent = refl }
-closed_same t (Decided id n q given) = record { stream = refl; bodies = refl; answers = refl; sent = refl }
-closed_same t (Gone cause) = record { stream = refl; bodies = refl; answers = refl; sent = refl }
+closed_same t f = record { stream = refl; bodies = refl; answers = refl; sent = refl }
 
 pub ended_same : (t : SessionState) → IsSame t (ended t)
 ended_same t = closed_same t t.phase
@@ -119,9 +115,8 @@ ended_same t = closed_same t t.phase
 -- a session that has ended takes no more bytes
 takes_none : (t : SessionState) (f : Phase) → t.phase ≡ f → TakesNone (closed_now t f)
 takes_none t Resting at = inr refl
-takes_none t (UnderWay id n m q moves) at = inl refl
-takes_none t (Decided id n q given) at = inl refl
 takes_none t (Gone cause) at = inr (ap (λ (f : Phase). is_here (record t { phase = f })) at)
+takes_none t f at = inl refl
 
 pub ended_none : (t : SessionState) → TakesNone (ended t)
 ended_none t = takes_none t t.phase refl
@@ -198,12 +193,13 @@ newly l = record {
   took = refl;
   pieces = tt;
   prompt = nothing_prompt (progress new_state [] []);
+  batches = batches_none;
 }
 
 -- more was fed, read or answered, and nothing moved on the line
-retold : (from now : LineView) (t t' : SessionState) (unfed unfed' written : List ℕ) → ServedSoFar from now (progress t unfed written) → IsRead t' → t'.stream ++ unfed' ≡ t.stream ++ unfed → IsFront t.stream t'.stream → IsFront t.bodies t'.bodies
-    → IsFront t.answers t'.answers → ServedSoFar from now (progress t' unfed' written)
-retold from now t t' unfed unfed' written S read same stream bodies answers = record {
+retold : (from now : LineView) (t t' : SessionState) (unfed unfed' written : List ℕ) → (S : ServedSoFar from now (progress t unfed written)) → IsRead t' → t'.stream ++ unfed' ≡ t.stream ++ unfed → IsFront t.stream t'.stream → IsFront t.bodies t'.bodies
+    → IsFront t.answers t'.answers → AreBatched t'.answers S.log → ServedSoFar from now (progress t' unfed' written)
+retold from now t t' unfed unfed' written S read same stream bodies answers batches = record {
   bodies = read;
   read = subst (λ (b : List ℕ). Consumes from.incoming now.incoming b) (sym same) S.read;
   wrote = S.wrote;
@@ -214,23 +210,29 @@ retold from now t t' unfed unfed' written S read same stream bodies answers = re
   took = S.took;
   pieces = S.pieces;
   prompt = prompt_further (progress t unfed written) (progress t' unfed' written) S.log (record { stream = stream; bodies = bodies; answers = answers; written = front_all written }) S.prompt;
+  batches = batches;
 }
 
 pub fed_serves : (from now : LineView) (t : SessionState) (bytes written : List ℕ) → ServedSoFar from now (progress t bytes written) → IsOpen t → ServedSoFar from now (progress (fed t bytes) [] written)
 fed_serves from now t bytes written S is_open =
-    retold from now t (fed t bytes) bytes [] written S (read_fed t bytes is_open.rests S.bodies) (append-nil (t.stream ++ bytes)) (bytes, refl) (front_all t.bodies) (front_all t.answers)
+    retold from now t (fed t bytes) bytes [] written S (read_fed t bytes is_open.rests S.bodies) (append-nil (t.stream ++ bytes)) (bytes, refl) (front_all t.bodies) (front_all t.answers) S.batches
 
-pub further_serves : (from now : LineView) (t t' : SessionState) (unfed written : List ℕ) → ServedSoFar from now (progress t unfed written) → IsFurther t t' → ServedSoFar from now (progress t' unfed written)
-further_serves from now t t' unfed written S further =
-    retold from now t t' unfed unfed written S further.read (ap (λ (b : List ℕ). b ++ unfed) further.stream) (front_same t.stream t'.stream further.stream) further.bodies further.answers
+pub further_serves : (from now : LineView) (t t' : SessionState) (unfed written : List ℕ) → ServedSoFar from now (progress t unfed written) → HasSent t → written ≡ t.sent → IsFurther t t' → ServedSoFar from now (progress t' unfed written)
+further_serves from now t t' unfed written S sent step further =
+    let took : taken S.log ≡ length (transcript t.answers) = S.took ∙ ap (λ (b : List ℕ). length b) (step ∙ sent) in
+    let made = further.answers in
+    let batch = batch_of t t' made.0 made.1 further.sent sent further.few in
+    let batches : AreBatched t'.answers S.log = subst (λ (a : List Response). AreBatched a S.log) (sym made.1) (batches_more t.answers made.0 S.log S.batches took batch) in
+    retold from now t t' unfed unfed written S further.read (ap (λ (b : List ℕ). b ++ unfed) further.stream) (front_same t.stream t'.stream further.stream) further.bodies further.answers batches
 
 sent_serves : (from now : LineView) (t : SessionState) (unfed written : List ℕ) → ServedSoFar from now (progress t unfed written) → ServedSoFar from now (progress (with_sent t) unfed written)
-sent_serves from now t unfed written S = retold from now t (with_sent t) unfed unfed written S (read_sent t S.bodies) refl (front_all t.stream) (front_all t.bodies) (front_all t.answers)
+sent_serves from now t unfed written S = retold from now t (with_sent t) unfed unfed written S (read_sent t S.bodies) refl (front_all t.stream) (front_all t.bodies) (front_all t.answers) S.batches
 
 pub ended_serves : (from now : LineView) (t : SessionState) (unfed written : List ℕ) → ServedSoFar from now (progress t unfed written) → ServedSoFar from now (progress (ended t) unfed written)
 ended_serves from now t unfed written S =
     let same = ended_same t in
     retold from now t (ended t) unfed unfed written S (read_closed t t.phase refl S.bodies) (ap (λ (b : List ℕ). b ++ unfed) same.stream) (front_same t.stream (ended t).stream same.stream) (front_same t.bodies (ended t).bodies same.bodies) (front_same t.answers (ended t).answers same.answers)
+    (subst (λ (a : List Response). AreBatched a S.log) (sym same.answers) S.batches)
 
 -- bytes were read, and are not fed yet
 pub read_serves : (from now : LineView) (i' o' : Option (List ℕ)) (c' : Option (List LineCall)) (k n : ℕ) (t : SessionState) (unfed written bytes : List ℕ) → ServedSoFar from now (progress t unfed written) → Rests k (progress t unfed written)
@@ -255,6 +257,7 @@ read_serves from now i' o' c' k n t unfed written bytes S rests consumes count s
       pieces = all_more _ S.log (Read n ∷ []) S.pieces (short, tt);
       prompt = prompt_further p p' (S.log ++ Read n ∷ []) (record { stream = front_all t.stream; bodies = front_all t.bodies; answers = front_all t.answers; written = front_all written })
           (prompt_push p S.log (Read n) S.prompt (prompt_now from now k p S rests));
+      batches = batches_calls t.answers S.log (Read n ∷ []) S.batches;
     }
 
 -- a line that moved no byte and told no call
@@ -270,6 +273,7 @@ still_serves from now i' o' c' p S kept same logs = record {
   took = S.took;
   pieces = S.pieces;
   prompt = S.prompt;
+  batches = S.batches;
 }
 
 -- the line took a front of what waits
@@ -292,6 +296,7 @@ wrote_serves from now now' p output sent rest S step waits whole w =
       pieces = all_more _ S.log w.writes S.pieces (written_pieces w.writes w.pieces);
       prompt = prompt_further p p' (S.log ++ w.writes) (record { stream = front_all p.told.stream; bodies = front_all p.told.bodies; answers = front_all p.told.answers; written = (sent, refl) })
           (prompt_writes p S.log w.writes S.prompt w.pieces);
+      batches = batches_calls p.told.answers S.log w.writes S.batches;
     }
 
 -- all that waited was written, and told as sent

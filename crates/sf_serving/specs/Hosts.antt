@@ -1,11 +1,11 @@
 -- What a host does to what its session was told.
-use Rattle.std.specs.Prelude.{◌≡◌, ◌≢◌, ◌<◌, ◌≤◌, ◌^◌, ◌-◌, ◌⊎◌, ℕ, List, ◌++◌, length, false, Option, Some, None, Result, Ok, Err}
+use Rattle.std.specs.Prelude.{◌≡◌, ◌≢◌, ◌<◌, ◌≤◌, ◌+◌, ◌^◌, ◌-◌, ◌⊎◌, ℕ, List, [], ◌∷◌, ◌++◌, length, false, Option, Some, None, Result, Ok, Err}
 use Rattle.sf_wire.specs.declared.cutting.Cut.TheVariants as cut
 use Rattle.sf_wire.specs.Packets.{IsCut}
 use Rattle.sf_session.specs.declared.cause.Cause.TheVariants.{Closed}
 use Rattle.sf_session.specs.declared.fault.ServeFault.{ServeFault}
 use Rattle.sf_session.specs.declared.fault.ServeFault.TheVariants as fault
-use Rattle.sf_engine.specs.Worlds.{transcript, Resting, SessionState}
+use Rattle.sf_engine.specs.Worlds.{Response, transcript, Resting, SessionState}
 use Rattle.sf_engine.specs.Traces.{closed_now}
 use Rattle.sf_engine.specs.Laws.{IsRead}
 use Rattle.sf_serving.specs.declared.host.Went.{Went}
@@ -32,12 +32,20 @@ HasSent t = t.sent ≡ transcript t.answers
 abbrev pub Waits : SessionState → Type 0
 Waits t = IsOpen t × IsCut t.unread cut.More
 
--- More bodies were read and answered, and nothing was fed or sent.
+-- Before its last answer less than 64 KiB waited to be sent: so no more waits than these and one
+-- reply.
+abbrev pub HoldsFew : SessionState → Type 0
+HoldsFew t = (before : List Response) (last : Response) → t.answers ≡ before ++ last ∷ []
+    → length (transcript before) < length t.sent + 65536
+
+-- More bodies were read and answered, and nothing was fed or sent. Before the last answer little
+-- waited.
 pub record IsFurther (t t' : SessionState) : Type 0 where
   pub stream : t'.stream ≡ t.stream
   pub sent : t'.sent ≡ t.sent
   pub bodies : IsFront t.bodies t'.bodies
   pub answers : IsFront t.answers t'.answers
+  pub few : HoldsFew t'
   pub read : IsRead t'
 
 -- Having gone on, the session waits for bytes; it was answered more; or it has left, and all of its

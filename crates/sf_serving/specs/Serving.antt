@@ -1,6 +1,6 @@
 -- How far one session on a line was served, whatever serves it.
-use Rattle.std.specs.Prelude.{◌≡◌, ◌≤◌, ◌⊎◌, ℕ, List, [], ◌∷◌, ◌++◌, length, Option}
-use Rattle.std.specs.List.{AllByRecursion}
+use Rattle.std.specs.Prelude.{◌≡◌, ◌<◌, ◌≤◌, ◌⊎◌, ℕ, List, [], ◌∷◌, ◌++◌, length, Option}
+use Rattle.std.specs.List.{AllByRecursion, flat_map}
 use Rattle.std.specs.Io.KnownBytes.{Appends, Consumes, IsAtEnd}
 use Rattle.sf_wire.specs.Packets.{More, Cuts}
 use Rattle.sf_line.specs.declared.line_call.LineCall.{LineCall}
@@ -61,9 +61,34 @@ abbrev pub IsPiece : LineCall → Type 0
 IsPiece (Read n) = n ≤ 65536
 IsPiece (Write n) = n ≤ 65536
 
+-- replies that waited together: before the last one less than 64 KiB waited
+abbrev pub IsBatch : List Response → Type 0
+IsBatch answers = (before : List Response) (last : Response) → answers ≡ before ++ last ∷ []
+    → length (transcript before) < 65536
+
+-- replies, and calls of a line
+pub record Batch : Type 0 where
+  pub answers : List Response
+  pub calls : List LineCall
+
+-- by these calls the line took the bytes of the replies, and no more
+abbrev pub IsWritten : Batch → Type 0
+IsWritten b = IsBatch b.answers × (taken b.calls ≡ length (transcript b.answers))
+
+-- The replies came in batches, one behind the other, and the line took all of a batch before the
+-- next one. The last one may wait.
+pub record AreBatched (answers : List Response) (log : List LineCall) : Type 0 where
+  pub written : List Batch
+  pub waiting : List Response
+  pub since : List LineCall
+  pub each : AllByRecursion IsWritten written
+  pub last : IsBatch waiting
+  pub answers_are : answers ≡ flat_map (λ b. b.answers) written ++ waiting
+  pub log_is : log ≡ flat_map (λ b. b.calls) written ++ since
+
 -- A session was served over a line so far. Its stream, and what is not fed yet, is what was read;
 -- what was written is a beginning of its transcript, and was written promptly, both in pieces of at
--- most 65536 bytes.
+-- most 65536 bytes. No more waited at a time than less than as many, and one reply.
 pub record ServedSoFar (start now : LineView) (p : Progress) : Type 0 where
   pub bodies : IsRead p.told
   pub read : Consumes start.incoming now.incoming (p.told.stream ++ p.unfed)
@@ -75,6 +100,7 @@ pub record ServedSoFar (start now : LineView) (p : Progress) : Type 0 where
   pub took : taken log ≡ length p.written
   pub pieces : AllByRecursion IsPiece log
   pub prompt : IsPrompt p log
+  pub batches : AreBatched p.told.answers log
 
 -- a session was served so far, and was told by its host what it was told
 abbrev pub Serves : (SessionState → Type 0) → LineView → LineView → (Progress → Type 0) → Type 0

@@ -1,9 +1,7 @@
 use Rattle.std.proofs.Common.{Ok, Err, sym, subst, arith}
 use Rattle.sf_session.specs.declared.fault.ServeFault.TheVariants.{Line}
-use Rattle.sf_serving.specs.declared.host.Went.{Went}
-use Rattle.sf_serving.specs.Serving.{line_view, Serves}
 use Rattle.sf_serving.proofs.Outcomes.{if_err_at}
-use Rattle.sf_serving.proofs.Rounds.{rose_since, host_stop, gone, gone_stops, gone_sent, gone_fails, goes_spent, SentGone}
+use Rattle.sf_serving.proofs.Rounds.{rose_since, host_stop, gone, gone_stops, went_sent, fails_so, stops_line, goes_spent}
 use Rattle.sf_serving.proofs.serving.drain.Goals as goal
 
 pub loop-turn-init : goal.loop-turn-init
@@ -26,10 +24,10 @@ returns-in_err-went-clause-fault g c = if_err_at c.from_residual.result c.in_err
 
 pub returns-in_err-send-clause-stops : goal.returns-in_err-send-clause-stops
 returns-in_err-send-clause-stops g c = if_err_at c.from_residual-in_err-send.result Line _ c.from_residual-in_err-send.ensures.1 (λ start from n serves.
-    gone_fails _ (g.H.Host.serves start c.send.new.host c.send.new.place (g.C.Clock.told c.go_on.new.clock)) from _ _ n c.loop-turn.turn (g.H.Host.work c.send.new.host c.send.new.place) (Ok c.in_ok-went.went)
+    fails_so _ (g.H.Host.serves start c.send.new.host c.send.new.place (g.C.Clock.told c.go_on.new.clock)) from _ _ _ _
     (λ t tells. subst (λ h. g.H.Host.serves start h c.send.new.place (g.C.Clock.told c.go_on.new.clock) t) (sym c.in_err-send.ensures.same.0)
     (subst (λ d. g.H.Host.serves start c.go_on.new.self d (g.C.Clock.told c.go_on.new.clock) t) (sym c.in_err-send.ensures.same.1) tells))
-    (c.in_err-send.ensures.some start (g.C.Clock.told c.go_on.new.clock))
+    (c.in_err-send.ensures.some start (g.C.Clock.told c.go_on.new.clock)) (λ p h. h.in_step) stops_line
     (gone _ _ from _ n c.loop-turn.turn (Ok c.in_ok-went.went) (c.in_ok-went.ensures.went start) (c.loop-turn.invariant.serves start from n serves)))
 
 pub returns-in_err-send-clause-fault : goal.returns-in_err-send-clause-fault
@@ -38,32 +36,17 @@ returns-in_err-send-clause-fault g c = if_err_at c.from_residual-in_err-send.res
 
 pub returns-in-Waits-clause-drained : goal.returns-in-Waits-clause-drained
 returns-in-Waits-clause-drained g c = λ start from n serves.
-    let i = g.L.Line.incoming c.send.new.line in
-    let now = line_view i (g.L.Line.outgoing c.send.new.line) (g.L.Line.calls c.send.new.line) in
-    let T = g.H.Host.serves start c.send.new.host c.send.new.place (g.C.Clock.told c.go_on.new.clock) in
-    subst (λ (w : Went). Serves T from now (SentGone n c.loop-turn.turn i w)) c.in-Waits.is
-    (gone_sent _ T from _ now n c.loop-turn.turn i c.in_ok-went.went (c.in_ok-send.ensures.sent start (g.C.Clock.told c.go_on.new.clock))
-    (gone _ _ from _ n c.loop-turn.turn (Ok c.in_ok-went.went) (c.in_ok-went.ensures.went start) (c.loop-turn.invariant.serves start from n serves)))
+    went_sent _ _ _ from _ _ n c.loop-turn.turn (g.L.Line.incoming c.send.new.line) _ _ (c.in_ok-went.ensures.went start) (c.in_ok-send.ensures.sent start (g.C.Clock.told c.go_on.new.clock)) c.in-Waits.is (c.loop-turn.invariant.serves start from n serves)
 
 pub returns-in-Ended-clause-drained : goal.returns-in-Ended-clause-drained
 returns-in-Ended-clause-drained g c = λ start from n serves.
-    let i = g.L.Line.incoming c.send.new.line in
-    let now = line_view i (g.L.Line.outgoing c.send.new.line) (g.L.Line.calls c.send.new.line) in
-    let T = g.H.Host.serves start c.send.new.host c.send.new.place (g.C.Clock.told c.go_on.new.clock) in
-    subst (λ (w : Went). Serves T from now (SentGone n c.loop-turn.turn i w)) c.in-Ended.is
-    (gone_sent _ T from _ now n c.loop-turn.turn i c.in_ok-went.went (c.in_ok-send.ensures.sent start (g.C.Clock.told c.go_on.new.clock))
-    (gone _ _ from _ n c.loop-turn.turn (Ok c.in_ok-went.went) (c.in_ok-went.ensures.went start) (c.loop-turn.invariant.serves start from n serves)))
+    went_sent _ _ _ from _ _ n c.loop-turn.turn (g.L.Line.incoming c.send.new.line) _ _ (c.in_ok-went.ensures.went start) (c.in_ok-send.ensures.sent start (g.C.Clock.told c.go_on.new.clock)) c.in-Ended.is (c.loop-turn.invariant.serves start from n serves)
 
 pub loop-turn-preserved : goal.loop-turn-preserved
 loop-turn-preserved g c = record {
   sound = c.send.ensures.sound;
   serves = λ start from n serves.
-      let i = g.L.Line.incoming c.send.new.line in
-      let now = line_view i (g.L.Line.outgoing c.send.new.line) (g.L.Line.calls c.send.new.line) in
-      let T = g.H.Host.serves start c.send.new.host c.send.new.place (g.C.Clock.told c.go_on.new.clock) in
-      subst (λ (w : Went). Serves T from now (SentGone n c.loop-turn.turn i w)) c.in-Answered.is
-      (gone_sent _ T from _ now n c.loop-turn.turn i c.in_ok-went.went (c.in_ok-send.ensures.sent start (g.C.Clock.told c.go_on.new.clock))
-      (gone _ _ from _ n c.loop-turn.turn (Ok c.in_ok-went.went) (c.in_ok-went.ensures.went start) (c.loop-turn.invariant.serves start from n serves)));
+      went_sent _ _ _ from _ _ n c.loop-turn.turn (g.L.Line.incoming c.send.new.line) _ _ (c.in_ok-went.ensures.went start) (c.in_ok-send.ensures.sent start (g.C.Clock.told c.go_on.new.clock)) c.in-Answered.is (c.loop-turn.invariant.serves start from n serves);
   failures = omega (arith, c.loop-turn.invariant.failures, c.send.ensures.failures);
 }
 

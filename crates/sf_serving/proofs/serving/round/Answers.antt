@@ -1,8 +1,7 @@
-use Rattle.std.proofs.Common.{◌≡◌, ◌<◌, ℕ, List, ◌+◌, take, length, length-take, ◌∙◌, arith}
+use Rattle.std.proofs.Common.{◌≡◌, ◌+◌, take, length, length-take, ◌∙◌, arith}
 use Rattle.sf_session.specs.declared.fault.ServeFault.TheVariants.{Line, OutOfMemory}
-use Rattle.sf_engine.specs.Traces.{fed}
 use Rattle.sf_serving.proofs.Outcomes.{if_err_at, if_ok_more, if_err_more}
-use Rattle.sf_serving.proofs.Rounds.{stop_since, front_read, has_read, has_fed, read_stops, rest_stops, read_none}
+use Rattle.sf_serving.proofs.Rounds.{stop_since, has_read, was_fed, read_stops, rest_stops, read_none}
 use Rattle.sf_serving.proofs.serving.round.Goals as goal
 
 pub returns-in_err-n-clause-stops : goal.returns-in_err-n-clause-stops
@@ -23,28 +22,14 @@ returns-in_err-feed-clause-stops g c = if_err_at c.from_residual-in_err-feed.res
     (omega (arith, c.in_ok-n.ensures.within, c.read.auto.buffer, c.deref_mut.ensures.len, c.requires.room)) c.in_ok-n.ensures.outgoing c.in_ok-n.ensures.calls))
 
 pub returns-clause-rounded : goal.returns-clause-rounded
-returns-clause-rounded g c = if_ok_more c.drain.result _ _ c.drain.ensures.drained (λ ended drained start from n serves.
-    let bytes = take c.in_ok-n.n c.read.new.buffer in
-    let told = g.C.Clock.told c.args.clock.now in
-    let count : length bytes ≡ c.in_ok-n.n = omega (arith, length-take c.in_ok-n.n c.read.new.buffer, c.in_ok-n.ensures.within) in
-    let some : 0 < length bytes = omega (arith, count, c.if-n-eq0.false) in
-    drained start from (n + 1) (has_fed _ _ from _ n bytes some
-    (λ t tells is_open. front_read (λ (b : List ℕ). g.H.Host.serves start c.feed.new.self c.feed.new.place told (fed t b)) c.in_ok-n.n c.args.piece.now.len c.read.new.buffer c.args.piece.now.items (c.read.auto.buffer ∙ c.deref_mut.ensures.len)
-    (c.in_ok-feed.ensures.fed start told t tells is_open))
-    (has_read _ from _ _ _ _ n c.in_ok-n.n bytes serves c.in_ok-n.ensures.taken count
-    (omega (arith, c.in_ok-n.ensures.within, c.read.auto.buffer, c.deref_mut.ensures.len, c.requires.room)) c.in_ok-n.ensures.outgoing c.in_ok-n.ensures.calls)))
+returns-clause-rounded g c = if_ok_more c.drain.result _ _ c.drain.ensures.drained (λ ended drained start from n serves. drained start from (n + 1)
+    (was_fed _ _ from _ _ _ _ n c.in_ok-n.n c.read.new.buffer c.args.piece.now.items c.args.piece.now.len serves c.in_ok-n.ensures.taken c.in_ok-n.ensures.within
+    (c.read.auto.buffer ∙ c.deref_mut.ensures.len) c.requires.room c.in_ok-n.ensures.outgoing c.in_ok-n.ensures.calls (omega (arith, c.if-n-eq0.false)) (λ t tells is_open. c.in_ok-feed.ensures.fed start (g.C.Clock.told c.args.clock.now) t tells is_open)))
 
 pub returns-clause-stops : goal.returns-clause-stops
-returns-clause-stops g c = if_err_more c.drain.result _ _ c.drain.ensures.stops (λ fault stops start from n serves.
-    let bytes = take c.in_ok-n.n c.read.new.buffer in
-    let told = g.C.Clock.told c.args.clock.now in
-    let count : length bytes ≡ c.in_ok-n.n = omega (arith, length-take c.in_ok-n.n c.read.new.buffer, c.in_ok-n.ensures.within) in
-    let some : 0 < length bytes = omega (arith, count, c.if-n-eq0.false) in
-    stops start from (n + 1) (has_fed _ _ from _ n bytes some
-    (λ t tells is_open. front_read (λ (b : List ℕ). g.H.Host.serves start c.feed.new.self c.feed.new.place told (fed t b)) c.in_ok-n.n c.args.piece.now.len c.read.new.buffer c.args.piece.now.items (c.read.auto.buffer ∙ c.deref_mut.ensures.len)
-    (c.in_ok-feed.ensures.fed start told t tells is_open))
-    (has_read _ from _ _ _ _ n c.in_ok-n.n bytes serves c.in_ok-n.ensures.taken count
-    (omega (arith, c.in_ok-n.ensures.within, c.read.auto.buffer, c.deref_mut.ensures.len, c.requires.room)) c.in_ok-n.ensures.outgoing c.in_ok-n.ensures.calls)))
+returns-clause-stops g c = if_err_more c.drain.result _ _ c.drain.ensures.stops (λ fault stops start from n serves. stops start from (n + 1)
+    (was_fed _ _ from _ _ _ _ n c.in_ok-n.n c.read.new.buffer c.args.piece.now.items c.args.piece.now.len serves c.in_ok-n.ensures.taken c.in_ok-n.ensures.within
+    (c.read.auto.buffer ∙ c.deref_mut.ensures.len) c.requires.room c.in_ok-n.ensures.outgoing c.in_ok-n.ensures.calls (omega (arith, c.if-n-eq0.false)) (λ t tells is_open. c.in_ok-feed.ensures.fed start (g.C.Clock.told c.args.clock.now) t tells is_open)))
 
 pub returns-clause-fault : goal.returns-clause-fault
 returns-clause-fault g c = if_err_more c.drain.result _ _ c.drain.ensures.fault (λ fault why. stop_since fault _ _ _ _ c.in_ok-n.ensures.failures c.drain.ensures.failures why)

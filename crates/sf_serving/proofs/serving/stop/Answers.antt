@@ -1,14 +1,15 @@
 use Rattle.std.proofs.Common.{inl, inr, arith}
-use Rattle.sf_serving.proofs.Rounds.{stop_until, stranger_stop, stops_ended, stops_strange}
+use Rattle.sf_serving.proofs.Rounds.{stop_until, stranger_stop, ends_so, stopped_ended, stopped_strange, strange_stopped}
 use Rattle.sf_serving.proofs.serving.stop.Goals as goal
 
 pub returns-in-Ok-clause-stopped : goal.returns-in-Ok-clause-stopped
 returns-in-Ok-clause-stopped g c = λ start told from before earlier why serves.
-    stops_ended _ _ from _ c.send_last-answered.result before _ _ _ _ (c.end.ensures.ended start told) c.end.ensures.work (c.send_last-answered.ensures.fault before earlier why) (c.send_last-answered.ensures.stopped start told from serves)
+    ends_so _ _ from _ _ _ (c.end.ensures.ended start told) (λ p h. stopped_ended c.send_last-answered.result before _ _ _ _ p c.end.ensures.work (c.send_last-answered.ensures.fault before earlier why) h) (c.send_last-answered.ensures.stopped start told from serves)
 
 pub returns-in-Err-clause-stopped : goal.returns-in-Err-clause-stopped
 returns-in-Err-clause-stopped g c = λ start told from before earlier why serves.
-    stops_strange _ _ from _ c.send_last-answered.result c.in-Err.strange before _ _ _ _ c.in-Err.ensures.fault.0 (c.end.ensures.ended start told) (c.send_last-answered.ensures.fault before earlier why) (c.send_last-answered.ensures.stopped start told from serves)
+    ends_so _ _ from _ _ _ (c.end.ensures.ended start told)
+    (λ p h. stopped_strange c.in-Err.strange before _ _ p c.in-Err.ensures.fault.0 (strange_stopped c.send_last-answered.result before _ _ _ p (c.send_last-answered.ensures.fault before earlier why) h)) (c.send_last-answered.ensures.stopped start told from serves)
 
 pub returns-in-Ok-clause-fault : goal.returns-in-Ok-clause-fault
 returns-in-Ok-clause-fault g c = λ before earlier why. stop_until c.send_last-answered.result before _ _ _ _ (omega arith) c.end.ensures.strange (c.send_last-answered.ensures.fault before earlier why)

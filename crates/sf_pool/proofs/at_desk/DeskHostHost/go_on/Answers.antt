@@ -1,5 +1,6 @@
 use Rattle.std.proofs.Common.{Ok, Err, refl, sym, ap, ◌∙◌, subst}
 use Rattle.sf_session.specs.declared.fault.ServeFault.{ServeFault}
+use Rattle.sf_session.specs.declared.fault.ServeFault.TheVariants.{OutOfMemory}
 use Rattle.sf_session.specs.declared.session.Next.{Next}
 use Rattle.sf_session.specs.Sessions.{NextGives}
 use Rattle.sf_serving.specs.declared.host.Went.{Went}
@@ -7,67 +8,57 @@ use Rattle.sf_serving.specs.declared.host.Went.TheVariants as went
 use Rattle.sf_pool.specs.declared.at_desk.Standing.TheVariants as standing
 use Rattle.sf_pool.specs.Scenes.{desk_scene}
 use Rattle.sf_pool.specs.AtDesks.{standing_after, stop_fault}
-use Rattle.sf_pool.proofs.Talking.{goes_ended, goes_local, goes_called, goes_stopped}
-use Rattle.sf_pool.proofs.Going.{joined, told_joined, goes_still}
+use Rattle.sf_pool.proofs.Talking.{goes_not, goes_more, goes_ended, goes_local, goes_called, goes_stopped}
+use Rattle.sf_pool.proofs.Going.{joined, may_go, goes_still}
 use Rattle.sf_pool.proofs.at_desk.DeskHostHost.go_on.Goals as goal
 
 pub returns-in-Ended-clause-went : goal.returns-in-Ended-clause-went
 returns-in-Ended-clause-went g c = λ start t tells is_open read sent.
-    let at = c.args.self.now.standing in
     let v = c.args.self.now.session in
     let w = c.next.new.self in
-    let d = g.D.Desk.at c.args.desk.now in
-    let b = g.D.Desk.begins c.args.desk.now in
-    let tl = g.C.Clock.told c.args.clock.now in
-    let r = Ok (went.Ended c.in-Ended.cause) in
-    let N : Next → Type 0 = λ n. NextGives v n w in
-    goes_still start standing.Joined at w w d d b b tl r r t (joined at (sym c.in_default.ensures)) refl refl refl refl
-    (goes_ended start (desk_scene d b tl) v w c.in-Ended.cause t (told_joined start (desk_scene d b tl) at v t (sym c.in_default.ensures) tells) is_open read (subst N c.in-Ended.is c.in-Ok.ensures.ok))
+    let now = desk_scene (g.D.Desk.at c.args.desk.now) (g.D.Desk.begins c.args.desk.now) (g.C.Clock.told c.args.clock.now) in
+    goes_still start standing.Joined _ w w _ _ _ _ now.told (Ok (went.Ended c.in-Ended.cause)) _ t (joined _ (sym c.in_default.ensures)) refl refl refl refl
+    (goes_ended start now v w c.in-Ended.cause t (may_go start now _ v t (sym c.in_default.ensures) tells is_open read sent) (subst (λ (n : Next). NextGives v n w) c.in-Ended.is c.in-Ok.ensures.ok))
 
 pub returns-in-Local-clause-went : goal.returns-in-Local-clause-went
 returns-in-Local-clause-went g c = λ start t tells is_open read sent.
-    let at = c.args.self.now.standing in
     let v = c.args.self.now.session in
     let w = c.next.new.self in
-    let d = g.D.Desk.at c.args.desk.now in
-    let b = g.D.Desk.begins c.args.desk.now in
-    let tl = g.C.Clock.told c.args.clock.now in
-    let N : Next → Type 0 = λ n. NextGives v n w in
-    goes_still start standing.Joined c.answered.new.self.standing w c.answered.new.self.session d (g.D.Desk.at c.answered.new.desk) b (g.D.Desk.begins c.answered.new.desk) tl (Ok went.Answered) (Ok c.answered.result) t
-    (c.answered.ensures.standing ∙ joined at (sym c.in_default.ensures)) c.answered.ensures.session c.answered.ensures.at c.answered.ensures.begins (ap (λ (x : Went). Ok x) c.answered.ensures.went)
-    (goes_local start (desk_scene d b tl) v w t (told_joined start (desk_scene d b tl) at v t (sym c.in_default.ensures) tells) is_open read (subst N c.in-Local.is c.in-Ok.ensures.ok))
+    let now = desk_scene (g.D.Desk.at c.args.desk.now) (g.D.Desk.begins c.args.desk.now) (g.C.Clock.told c.args.clock.now) in
+    goes_still start standing.Joined _ w _ _ _ _ _ now.told (Ok went.Answered) _ t (c.answered.ensures.standing ∙ joined _ (sym c.in_default.ensures)) c.answered.ensures.session c.answered.ensures.at c.answered.ensures.begins (ap (λ (x : Went). Ok x) c.answered.ensures.went)
+    (goes_local start now v w t (may_go start now _ v t (sym c.in_default.ensures) tells is_open read sent) (subst (λ (n : Next). NextGives v n w) c.in-Local.is c.in-Ok.ensures.ok))
 
 pub returns-in-Ok-make_call-clause-went : goal.returns-in-Ok-make_call-clause-went
 returns-in-Ok-make_call-clause-went g c = λ start t tells is_open read sent.
-    let at = c.args.self.now.standing in
     let v = c.args.self.now.session in
     let m = c.next.new.self in
-    let w = c.make_call.new.session in
-    let d = g.D.Desk.at c.args.desk.now in
-    let b = g.D.Desk.begins c.args.desk.now in
-    let tl = g.C.Clock.told c.args.clock.now in
-    let d1 = g.D.Desk.at c.make_call.new.desk in
-    let b1 = g.D.Desk.begins c.make_call.new.desk in
-    let tl1 = g.C.Clock.told c.make_call.new.clock in
-    let after = c.answered-in-Ok-make_call in
-    let N : Next → Type 0 = λ n. NextGives v n m in
-    goes_still start standing.Joined after.new.self.standing w after.new.self.session d1 (g.D.Desk.at after.new.desk) b1 (g.D.Desk.begins after.new.desk) tl1 (Ok went.Answered) (Ok after.result) t
-    (after.ensures.standing ∙ joined at (sym c.in_default.ensures)) after.ensures.session after.ensures.at after.ensures.begins (ap (λ (x : Went). Ok x) after.ensures.went)
-    (goes_called start d d1 b b1 tl tl1 v m w c.in-Call.request t (told_joined start (desk_scene d b tl) at v t (sym c.in_default.ensures) tells) is_open read (subst N c.in-Call.is c.in-Ok.ensures.ok) c.in-Ok-make_call.ensures.made)
+    let now = desk_scene (g.D.Desk.at c.args.desk.now) (g.D.Desk.begins c.args.desk.now) (g.C.Clock.told c.args.clock.now) in
+    let now' = desk_scene (g.D.Desk.at c.make_call.new.desk) (g.D.Desk.begins c.make_call.new.desk) (g.C.Clock.told c.make_call.new.clock) in
+    let after = c.answered-in-Ok-make_call.ensures in
+    goes_still start standing.Joined _ c.make_call.new.session _ _ _ _ _ now'.told (Ok went.Answered) _ t (after.standing ∙ joined _ (sym c.in_default.ensures)) after.session after.at after.begins (ap (λ (x : Went). Ok x) after.went)
+    (goes_called start now now' v m c.make_call.new.session c.in-Call.request t (may_go start now _ v t (sym c.in_default.ensures) tells is_open read sent) (subst (λ (n : Next). NextGives v n m) c.in-Call.is c.in-Ok.ensures.ok) c.in-Ok-make_call.ensures.made)
 
 pub returns-in-Err-clause-went : goal.returns-in-Err-clause-went
 returns-in-Err-clause-went g c = λ start t tells is_open read sent.
-    let at = c.args.self.now.standing in
     let v = c.args.self.now.session in
     let m = c.next.new.self in
     let w = c.make_call.new.session in
-    let d = g.D.Desk.at c.args.desk.now in
-    let b = g.D.Desk.begins c.args.desk.now in
-    let tl = g.C.Clock.told c.args.clock.now in
-    let d1 = g.D.Desk.at c.make_call.new.desk in
-    let b1 = g.D.Desk.begins c.make_call.new.desk in
-    let tl1 = g.C.Clock.told c.make_call.new.clock in
+    let now = desk_scene (g.D.Desk.at c.args.desk.now) (g.D.Desk.begins c.args.desk.now) (g.C.Clock.told c.args.clock.now) in
+    let now' = desk_scene (g.D.Desk.at c.make_call.new.desk) (g.D.Desk.begins c.make_call.new.desk) (g.C.Clock.told c.make_call.new.clock) in
     let why = c.in-Err.why in
-    let N : Next → Type 0 = λ n. NextGives v n m in
-    goes_still start (standing_after why) c.stand_after.new.self.standing w c.stand_after.new.self.session d1 d1 b1 b1 tl1 (Err (stop_fault why)) (Err c.stand_after.result) t c.stand_after.ensures.standing c.stand_after.ensures.session refl refl (ap (λ (x : ServeFault). Err x) c.stand_after.ensures.fault)
-    (goes_stopped start d d1 b b1 tl tl1 v m w c.in-Call.request t why (told_joined start (desk_scene d b tl) at v t (sym c.in_default.ensures) tells) is_open read (subst N c.in-Call.is c.in-Ok.ensures.ok) c.in-Err.ensures.session c.in-Err.ensures.fails)
+    let after = c.stand_after.ensures in
+    goes_still start (standing_after why) _ w _ _ _ _ _ now'.told (Err (stop_fault why)) _ t after.standing after.session refl refl (ap (λ (x : ServeFault). Err x) after.fault)
+    (goes_stopped start now now' v m w c.in-Call.request t why (may_go start now _ v t (sym c.in_default.ensures) tells is_open read sent) (subst (λ (n : Next). NextGives v n m) c.in-Call.is c.in-Ok.ensures.ok) c.in-Err.ensures.session c.in-Err.ensures.fails)
+
+pub returns-in-Some-clause-went : goal.returns-in-Some-clause-went
+returns-in-Some-clause-went g c = λ start t tells is_open read sent. goes_not start _ _ _ _ OutOfMemory t tells read sent refl
+
+pub returns-in_default-next-clause-went : goal.returns-in_default-next-clause-went
+returns-in_default-next-clause-went g c = λ start t tells is_open read sent. goes_not start _ _ _ _ OutOfMemory t tells read sent c.in_default-next.ensures.err
+
+pub returns-in-More-clause-went : goal.returns-in-More-clause-went
+returns-in-More-clause-went g c = λ start t tells is_open read sent.
+    let v = c.args.self.now.session in
+    let w = c.next.new.self in
+    goes_still start _ _ w w _ _ _ _ (g.C.Clock.told c.args.clock.now) (Ok went.Waits) (Ok went.Waits) t refl refl c.rest.ensures.at c.rest.ensures.begins refl
+    (goes_more start _ _ v w t tells is_open read sent (subst (λ (n : Next). NextGives v n w) c.in-More.is c.in-Ok.ensures.ok))
