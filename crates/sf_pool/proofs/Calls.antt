@@ -37,49 +37,31 @@ last_at : (request : Request) (number n : ℕ) (reply given : Reply) (d2 : DeskV
 last_at request number n reply given d2 placed last =
     let h : (n ≡ number) × (reply ≡ given) = subst (λ (p : DeskState). IsLastAnswer p n reply) placed last in h.1
 
-made_at : (request : Request) (Asked : List Attempt → Type 0) (d d1 d2 : DeskView) (number moment n : ℕ) (reply : Reply) (v w : SessionView) (waiting : Option ℕ) → d1.place ≡ UnderWay number request moment → d1.calls ≡ d.calls
-    → AnswersUnderWay d1.place d1.calls d2 → IsLastAnswer d2.place n reply
-    → IfSome waiting (λ id. w ≡ record v { output = v.output ++ packet (reply_body id reply); waiting = None }) → Asked (attempt request (Ok number) ∷ []) → d2.begun ≡ counted d.begun
-    → IfSome waiting (λ id. (a : Response) × (ask_behind a ≡ ask.Call id request)
-    × (w ≡ record v { output = v.output ++ packet_for a; waiting = None })
-    × IsResting d2.place × Notes d.calls d2.calls (response_calls a) × Asked (answer_attempts a) × (d2.begun ≡ begun_by a d.begun))
-made_at request Asked d d1 d2 number moment n reply v w None at calls answers last written asked begun = tt
-made_at request Asked d d1 d2 number moment n reply v w (Some id) at calls answers last written asked begun =
-    let h = answers_at request number moment d1 d2 at answers in
-    let same : reply ≡ h.0 = last_at request number n reply h.0 d2 h.1 last in (
-      ByCall id number request h.0,
-      refl,
-      written ∙ ap (λ (r : Reply). record v { output = v.output ++ packet (reply_body id r); waiting = None }) same,
-      subst (λ (p : DeskState). IsResting p) (sym h.1) tt,
-      subst (λ (c : Option (List CallRecord)). Notes c d2.calls (deed number request h.0 ∷ [])) calls h.2,
-      asked,
-      begun,
-    )
+-- the body whose call waits was answered so
+abbrev Answering : Request → (List Attempt → Type 0) → DeskView → DeskView → Response → Type 0
+Answering request Asked d d' a = Notes d.calls d'.calls (response_calls a) × Asked (answer_attempts a) × (d'.begun ≡ begun_by a d.begun)
+
+made_by : (request : Request) (Asked : List Attempt → Type 0) (d d' : DeskView) (v w : SessionView) (waiting : Option ℕ) (answer : ℕ → Response) → IsResting d'.place → ((id : ℕ) → ask_behind (answer id) ≡ ask.Call id request) → ((id : ℕ) → Answering request Asked d d' (answer id))
+    → IfSome waiting (λ id. w ≡ record v { output = v.output ++ packet_for (answer id); waiting = None })
+    → IfSome waiting (λ id. (a : Response) × (ask_behind a ≡ ask.Call id request) × (w ≡ record v { output = v.output ++ packet_for a; waiting = None })
+    × IsResting d'.place × Notes d.calls d'.calls (response_calls a) × Asked (answer_attempts a) × (d'.begun ≡ begun_by a d.begun))
+made_by request Asked d d' v w None answer rests asks noted written = tt
+made_by request Asked d d' v w (Some id) answer rests asks noted written = let (n, asked, begun) = noted id in (answer id, asks id, written, rests, n, asked, begun)
 
 pub call_made : (request : Request) (Asked : List Attempt → Type 0) (d d1 d2 : DeskView) (number moment n : ℕ) (reply : Reply) (v w : SessionView) → d1.place ≡ UnderWay number request moment → d1.calls ≡ d.calls
     → AnswersUnderWay d1.place d1.calls d2 → IsLastAnswer d2.place n reply
     → IfSome v.waiting (λ id. w ≡ record v { output = v.output ++ packet (reply_body id reply); waiting = None }) → Asked (attempt request (Ok number) ∷ []) → d2.begun ≡ counted d.begun → MakesCall request Asked (talk d v) (talk d2 w)
-call_made request Asked d d1 d2 number moment n reply v w at calls answers last written asked begun = made_at request Asked d d1 d2 number moment n reply v w v.waiting at calls answers last written asked begun
-
-refused_at : (request : Request) (Asked : List Attempt → Type 0) (d d1 : DeskView) (fault : CoreFault) (v w : SessionView) (waiting : Option ℕ) → IsResting d.place → d1 ≡ d
-    → IfSome waiting (λ id. w ≡ record v { output = v.output ++ packet (reply_body id (refusal_of fault)); waiting = None }) → Asked (attempt request (Err fault) ∷ [])
-    → IfSome waiting (λ id. (a : Response) × (ask_behind a ≡ ask.Call id request)
-    × (w ≡ record v { output = v.output ++ packet_for a; waiting = None })
-    × IsResting d1.place × Notes d.calls d1.calls (response_calls a) × Asked (answer_attempts a) × (d1.begun ≡ begun_by a d.begun))
-refused_at request Asked d d1 fault v w None rests same written asked = tt
-refused_at request Asked d d1 fault v w (Some id) rests same written asked = (
-  Refused id request fault,
-  refl,
-  written,
-  subst (λ (x : DeskView). IsResting x.place) (sym same) rests,
-  subst (λ (x : DeskView). Notes d.calls x.calls []) (sym same) (notes_none d.calls),
-  asked,
-  ap (λ (x : DeskView). x.begun) same,
-)
+call_made request Asked d d1 d2 number moment n reply v w at calls answers last written asked begun =
+    let h = answers_at request number moment d1 d2 at answers in
+    let noted : Notes d.calls d2.calls (deed number request h.0 ∷ []) = subst (λ (c : Option (List CallRecord)). Notes c d2.calls (deed number request h.0 ∷ [])) calls h.2 in
+    made_by request Asked d d2 v w v.waiting (λ id. ByCall id number request h.0) (subst (λ (p : DeskState). IsResting p) (sym h.1) tt) (λ id. refl) (λ id. (noted, asked, begun))
+    (subst (λ (r : Reply). IfSome v.waiting (λ id. w ≡ record v { output = v.output ++ packet (reply_body id r); waiting = None })) (last_at request number n reply h.0 d2 h.1 last) written)
 
 pub call_refused : (request : Request) (Asked : List Attempt → Type 0) (d d1 : DeskView) (fault : CoreFault) (v w : SessionView) → IsResting d.place → d1 ≡ d
     → IfSome v.waiting (λ id. w ≡ record v { output = v.output ++ packet (reply_body id (refusal_of fault)); waiting = None }) → Asked (attempt request (Err fault) ∷ []) → MakesCall request Asked (talk d v) (talk d1 w)
-call_refused request Asked d d1 fault v w rests same written asked = refused_at request Asked d d1 fault v w v.waiting rests same written asked
+call_refused request Asked d d1 fault v w rests same written asked =
+    subst (λ (x : DeskView). MakesCall request Asked (talk d v) (talk x w)) (sym same)
+    (made_by request Asked d d v w v.waiting (λ id. Refused id request fault) rests (λ id. refl) (λ id. (notes_none d.calls, asked, refl)) written)
 
 pub steps_failed : (request : Request) (number moment : ℕ) (why : Stop) (d d1 d2 : DeskView) → d1.place ≡ UnderWay number request moment → d1.calls ≡ d.calls → FailsSteps why d1 d2 → LacksReply request number why d d2
 steps_failed request number moment stop.Stranger d d1 d2 at calls h = (h.0, h.1 ∙ calls)

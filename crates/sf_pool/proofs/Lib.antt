@@ -1,5 +1,4 @@
 pub mod Calls
-pub mod Going
 pub mod Leaving
 pub mod Noted
 pub mod Talking

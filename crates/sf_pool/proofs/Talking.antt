@@ -16,10 +16,10 @@ use Rattle.sf_session.specs.declared.fault.ServeFault.{ServeFault}
 use Rattle.sf_session.specs.declared.session.Next.TheVariants as next
 use Rattle.sf_session.specs.Asking.{AsksFor}
 use Rattle.sf_session.specs.Sessions.{SessionView, Begins, NextGives, LocalPacket, EndsBy, new_session}
-use Rattle.sf_engine.specs.Worlds.{Response, Version, Locally, ByCall, Refused, ask_behind, packet_for, transcript, Phase, Resting as AtRest, UnderWay as InCall, Decided, Gone as Left, SessionState, new_state}
+use Rattle.sf_engine.specs.Worlds.{Response, Version, Locally, ByCall, ask_behind, packet_for, transcript, Phase, Resting as AtRest, UnderWay as InCall, Decided, Gone as Left, SessionState, new_state}
 use Rattle.sf_engine.specs.Traces.{has_begun, fed, closed_now}
 use Rattle.sf_engine.specs.Laws.{pending, asks_of, AreAsked, IsRest, IsRead}
-use Rattle.sf_engine.proofs.Laws.{all_push, begun_is, begun_push, asked_push, map_push}
+use Rattle.sf_engine.proofs.Laws.{all_push, begun_is, begun_push, asked_push}
 use Rattle.sf_serving.specs.declared.host.Went.{Went}
 use Rattle.sf_serving.specs.declared.host.Went.TheVariants as went
 use Rattle.sf_serving.specs.Hosts.{IsOpen, HasSent, HoldsFew, IsFurther, WentTo, with_sent, ended}
@@ -32,7 +32,7 @@ use Rattle.sf_pool.specs.declared.at_desk.Standing.{Standing}
 use Rattle.sf_pool.specs.declared.at_desk.Standing.TheVariants as standing
 use Rattle.sf_pool.specs.Desks.{IsResting, DeskView, Notes, counted}
 use Rattle.sf_pool.specs.Scenes.{DeskScene, desk_scene, response_calls, phase_calls, state_calls, Attempt, attempt_of, answer_attempts, phase_attempts, attempts_told, BeginsCalls}
-use Rattle.sf_pool.specs.AtDesks.{MakesCall, talk, begun_by, FailsCall, IsCounted, share_of, IsToldAt, IsInCall, standing_after, stop_fault}
+use Rattle.sf_pool.specs.AtDesks.{standing_fault, MakesCall, talk, begun_by, FailsCall, IsCounted, share_of, IsToldAt, IsInCall, standing_after, stop_fault}
 
 -- ---- lists
 
@@ -73,8 +73,8 @@ rest_attempts t at = ap (λ (f : Phase). flat_map answer_attempts t.answers ++ p
 
 -- ---- it joins
 
-pub told_new : (start : DeskScene) (d : DeskView) (b : Option (List Begin)) (v : SessionView) → b ≡ start.begins → d.calls ≡ start.desk.calls → d.begun ≡ 0 → v ≡ new_session → IsToldAt start standing.Joined v (desk_scene d b start.told) new_state
-told_new start d b v none same zero new = record {
+pub told_new : (start : DeskScene) (d : DeskView) (b : Option (List Begin)) (at : Standing) (v : SessionView) → b ≡ start.begins → d.calls ≡ start.desk.calls → d.begun ≡ 0 → v ≡ new_session → at ≡ standing.Joined → IsToldAt start at v (desk_scene d b start.told) new_state
+told_new start d b at v none same zero new joins = subst (λ (s : Standing). IsToldAt start s v (desk_scene d b start.told) new_state) (sym joins) (record {
   notes = record {
     noted = subst (λ (c : Option (List CallRecord)). Notes start.desk.calls c []) (sym same) (notes_none start.desk.calls);
     asked = subst (λ (x : Option (List Begin)). BeginsCalls start.told start.told start.begins x []) (sym none) (begins_none start.told start.begins);
@@ -82,7 +82,7 @@ told_new start d b v none same zero new = record {
   stands = λ at. record { unread = ap (λ (x : SessionView). x.unread) new; begun = ap (λ (x : SessionView). x.begun) new; ended = ap (λ (x : SessionView). x.ended) new };
   waits = none_written ∙ sym (ap (λ (x : SessionView). x.output) new);
   counts = zero;
-}
+})
 
 -- ---- it is fed, and told what was sent
 
@@ -420,3 +420,20 @@ goes_stopped start now now' v m w request t stop.UnderWay go gives same fails =
     goes_pended start now now' standing.UnderWay v m w request t (InCall gives.1.id fails.0 0 request 0) (stop_fault stop.UnderWay) go gives same
     (record { asks = refl; left = λ begun bytes. refl; noted = subst (λ (x : Option (List CallRecord)). Notes now.desk.calls x []) (sym fails.1.1) (notes_none now.desk.calls); begins = fails.2 })
     (λ k t' n phase e. subst (λ (f : Phase). IsInCall f) (sym phase) tt)
+
+-- ---- a host goes on only where it has joined
+
+pub joined : (at : Standing) → standing_fault at ≡ None → at ≡ standing.Joined
+joined standing.Joined e = refl
+joined at e = let no : standing_fault at ≡ None = e in absurd (cc)
+
+pub may_go : (start now : DeskScene) (at : Standing) (v : SessionView) (t : SessionState) → standing_fault at ≡ None → IsToldAt start at v now t → IsOpen t → IsRead t → HasSent t → MayGo start now v t
+may_go start now at v t e h is_open read sent = record { told = subst (λ (s : Standing). IsToldAt start s v now t) (joined at e) h; is_open = is_open; read = read; sent = sent }
+
+-- a host stands as it did, and its desk is where it was
+pub goes_still : (start : DeskScene) (at at' : Standing) (w w' : SessionView) (d d' : DeskView) (b b' : Option (List Begin)) (tl : Option (List ℕ)) (r r' : Result Went ServeFault) (t : SessionState)
+    → at' ≡ at → w' ≡ w → d' ≡ d → b' ≡ b → r' ≡ r → Goes start at w (desk_scene d b tl) r t → Goes start at' w' (desk_scene d' b' tl) r' t
+goes_still start at at' w w' d d' b b' tl r r' t p q e f g h =
+    subst (λ (x : Standing). Goes start x w' (desk_scene d' b' tl) r' t) (sym p) (subst (λ (x : SessionView). Goes start at x (desk_scene d' b' tl) r' t) (sym q)
+    (subst (λ (x : DeskView). Goes start at w (desk_scene x b' tl) r' t) (sym e) (subst (λ (x : Option (List Begin)). Goes start at w (desk_scene d x tl) r' t) (sym f)
+    (subst (λ (x : Result Went ServeFault). Goes start at w (desk_scene d b tl) x t) (sym g) h))))

@@ -1,12 +1,9 @@
 use Rattle.std.proofs.Common.{refl, sym, subst, inl, inr}
 use Rattle.sf_session.specs.declared.fault.ServeFault.{ServeFault}
 use Rattle.sf_session.specs.declared.fault.ServeFault.TheVariants.{OutOfMemory}
-use Rattle.sf_engine.specs.Worlds.{new_state}
 use Rattle.sf_serving.specs.Serving.{line_view}
 use Rattle.sf_serving.proofs.Laws.{if_err_at, rests_new}
-use Rattle.sf_pool.specs.declared.at_desk.Standing.{Standing}
 use Rattle.sf_pool.specs.Scenes.{desk_scene, IsDeskFault}
-use Rattle.sf_pool.specs.AtDesks.{IsToldAt}
 use Rattle.sf_pool.proofs.Talking.{told_new}
 use Rattle.sf_pool.proofs.Leaving.{leaves_served, leaves_stopped, desk_fault, join_fault}
 use Rattle.sf_pool.proofs.serving.serve.Goals as goal
@@ -27,27 +24,15 @@ pub returns-in-Ok-served-clause-served : goal.returns-in-Ok-served-clause-served
 returns-in-Ok-served-clause-served g c =
     let from = line_view (g.L.Line.incoming c.args.line.now) (g.L.Line.outgoing c.args.line.now) (g.L.Line.calls c.args.line.now) in
     let start = desk_scene (g.D.Desk.at c.args.desk.now) (g.D.Desk.begins c.args.desk.now) (g.C.Clock.told c.args.clock.now) in
-    let joined = desk_scene (g.D.Desk.at c.join.new.self) (g.D.Desk.begins c.join.new.self) (g.C.Clock.told c.args.clock.now) in
-    let host = c.new-host.result in
-    let begun : IsToldAt start host.standing host.session joined new_state = subst (λ (s : Standing). IsToldAt start s host.session joined new_state) (sym c.new-host.ensures.standing)
-    (told_new start (g.D.Desk.at c.join.new.self) (g.D.Desk.begins c.join.new.self) host.session c.join.ensures.begins c.join.ensures.calls c.in-Ok.ensures.begun c.new-host.ensures.session) in
-    let after = c.serve_session-served.new.host in
-    let now = desk_scene (g.D.Desk.at c.serve_session-served.new.place) (g.D.Desk.begins c.serve_session-served.new.place) (g.C.Clock.told c.serve_session-served.new.clock) in
-    leaves_served start now from _ after.standing after.session c.in-Ok-served.field-0 _ _ c.in-Ok-served.ensures.left c.add_share.ensures
-    (c.in-Ok-served.ensures.served start from (rests_new (IsToldAt start host.standing host.session joined) from begun))
+    leaves_served start _ from _ c.serve_session-served.new.host.standing c.serve_session-served.new.host.session c.in-Ok-served.field-0 _ _ c.in-Ok-served.ensures.left c.add_share.ensures
+    (c.in-Ok-served.ensures.served start from (rests_new _ from (told_new start _ _ _ _ c.join.ensures.begins c.join.ensures.calls c.in-Ok.ensures.begun c.new-host.ensures.session c.new-host.ensures.standing)))
 
 pub returns-clause-stopped : goal.returns-clause-stopped
 returns-clause-stopped g c =
     let from = line_view (g.L.Line.incoming c.args.line.now) (g.L.Line.outgoing c.args.line.now) (g.L.Line.calls c.args.line.now) in
     let start = desk_scene (g.D.Desk.at c.args.desk.now) (g.D.Desk.begins c.args.desk.now) (g.C.Clock.told c.args.clock.now) in
-    let joined = desk_scene (g.D.Desk.at c.join.new.self) (g.D.Desk.begins c.join.new.self) (g.C.Clock.told c.args.clock.now) in
-    let host = c.new-host.result in
-    let begun : IsToldAt start host.standing host.session joined new_state = subst (λ (s : Standing). IsToldAt start s host.session joined new_state) (sym c.new-host.ensures.standing)
-    (told_new start (g.D.Desk.at c.join.new.self) (g.D.Desk.begins c.join.new.self) host.session c.join.ensures.begins c.join.ensures.calls c.in-Ok.ensures.begun c.new-host.ensures.session) in
-    let after = c.serve_session-served.new.host in
-    let now = desk_scene (g.D.Desk.at c.serve_session-served.new.place) (g.D.Desk.begins c.serve_session-served.new.place) (g.C.Clock.told c.serve_session-served.new.clock) in
-    inr (leaves_stopped start now from _ after.standing after.session c.in-Err-served.fault _ _ _ _ c.in-Err-served.ensures.left_by c.in-Err-served.ensures.fault c.add_share.ensures
-    (c.in-Err-served.ensures.stopped start from (rests_new (IsToldAt start host.standing host.session joined) from begun)))
+    inr (leaves_stopped start _ from _ c.serve_session-served.new.host.standing c.serve_session-served.new.host.session c.in-Err-served.fault _ _ _ _ c.in-Err-served.ensures.left_by c.in-Err-served.ensures.fault c.add_share.ensures
+    (c.in-Err-served.ensures.stopped start from (rests_new _ from (told_new start _ _ _ _ c.join.ensures.begins c.join.ensures.calls c.in-Ok.ensures.begun c.new-host.ensures.session c.new-host.ensures.standing))))
 
 pub returns-clause-fault : goal.returns-clause-fault
 returns-clause-fault g c = desk_fault c.in-Err-served.fault _ _ _ c.in-Err-served.ensures.fault

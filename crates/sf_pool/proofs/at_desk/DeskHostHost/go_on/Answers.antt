@@ -8,8 +8,7 @@ use Rattle.sf_serving.specs.declared.host.Went.TheVariants as went
 use Rattle.sf_pool.specs.declared.at_desk.Standing.TheVariants as standing
 use Rattle.sf_pool.specs.Scenes.{desk_scene}
 use Rattle.sf_pool.specs.AtDesks.{standing_after, stop_fault}
-use Rattle.sf_pool.proofs.Talking.{goes_not, goes_more, goes_ended, goes_local, goes_called, goes_stopped}
-use Rattle.sf_pool.proofs.Going.{joined, may_go, goes_still}
+use Rattle.sf_pool.proofs.Talking.{goes_not, goes_more, goes_ended, goes_local, goes_called, goes_stopped, joined, may_go, goes_still}
 use Rattle.sf_pool.proofs.at_desk.DeskHostHost.go_on.Goals as goal
 
 pub returns-in-Ended-clause-went : goal.returns-in-Ended-clause-went
